@@ -29,8 +29,8 @@ fn lines(alloc: Global, bytes: usize, line: usize) -> Result<String> {
 
 /// Puts a line feed into the middle of a text, and has the index follow.
 fn edit<D: BidiData>(text: &mut Text, index: &mut Index, tables: &D) -> Result<()>
-    requires { index.old.paragraphs ≡ lengths (D.data tables.now).class text.old.edited.text }
-    ensures { OnOk result (index.new.paragraphs ≡ lengths (D.data tables.now).class text.new.edited.text) }
+    requires { index.old.paragraphs ≡ lengths (D.data tables.now) text.old.edited.text }
+    ensures { OnOk result (index.new.paragraphs ≡ lengths (D.data tables.now) text.new.edited.text) }
 {
     let len = text.len();
     let at = len / 2;
@@ -48,8 +48,8 @@ fn edit_often<D: BidiData>(
     tables: &D,
     edits: usize,
 ) -> Result<()>
-    requires { index.old.paragraphs ≡ lengths (D.data tables.now).class text.old.edited.text }
-    ensures { OnOk result (index.new.paragraphs ≡ lengths (D.data tables.now).class text.new.edited.text) }
+    requires { index.old.paragraphs ≡ lengths (D.data tables.now) text.old.edited.text }
+    ensures { OnOk result (index.new.paragraphs ≡ lengths (D.data tables.now) text.new.edited.text) }
 {
     for _ in 0..edits {
         edit(text, index, tables)?;
@@ -59,8 +59,8 @@ fn edit_often<D: BidiData>(
 
 /// Takes the whole text out, and has the index follow.
 fn clear<D: BidiData>(text: &mut Text, index: &mut Index, tables: &D) -> Result<()>
-    requires { index.old.paragraphs ≡ lengths (D.data tables.now).class text.old.edited.text }
-    ensures { OnOk result (index.new.paragraphs ≡ lengths (D.data tables.now).class text.new.edited.text) }
+    requires { index.old.paragraphs ≡ lengths (D.data tables.now) text.old.edited.text }
+    ensures { OnOk result (index.new.paragraphs ≡ lengths (D.data tables.now) text.new.edited.text) }
 {
     let len = text.len();
     index.ready(0)?;
@@ -72,8 +72,8 @@ fn clear<D: BidiData>(text: &mut Text, index: &mut Index, tables: &D) -> Result<
 
 /// Takes the latest edit back, and has the index follow.
 fn take_back<D: BidiData>(text: &mut Text, index: &mut Index, tables: &D) -> Result<()>
-    requires { index.old.paragraphs ≡ lengths (D.data tables.now).class text.old.edited.text }
-    ensures { OnOk result (index.new.paragraphs ≡ lengths (D.data tables.now).class text.new.edited.text) }
+    requires { index.old.paragraphs ≡ lengths (D.data tables.now) text.old.edited.text }
+    ensures { OnOk result (index.new.paragraphs ≡ lengths (D.data tables.now) text.new.edited.text) }
 {
     // before the index makes its room, so that what it gives back stands behind all else
     text.ready(0)?;
@@ -96,8 +96,8 @@ fn restore_often<D: BidiData>(
     tables: &D,
     edits: usize,
 ) -> Result<()>
-    requires { index.old.paragraphs ≡ lengths (D.data tables.now).class text.old.edited.text }
-    ensures { OnOk result (index.new.paragraphs ≡ lengths (D.data tables.now).class text.new.edited.text) }
+    requires { index.old.paragraphs ≡ lengths (D.data tables.now) text.old.edited.text }
+    ensures { OnOk result (index.new.paragraphs ≡ lengths (D.data tables.now) text.new.edited.text) }
 {
     for _ in 0..edits {
         clear(text, index, tables)?;
@@ -133,7 +133,7 @@ fn walked(index: &Index) -> usize {
 
 /// Does what is measured after the index was built: how many paragraphs there are in the end, or were met.
 fn follow<D: BidiData>(text: &mut Text, index: &mut Index, tables: &D, task: Task) -> Result<usize>
-    requires { index.old.paragraphs ≡ lengths (D.data tables.now).class text.old.edited.text }
+    requires { index.old.paragraphs ≡ lengths (D.data tables.now) text.old.edited.text }
 {
     match task {
         Task::Build => {}
@@ -152,7 +152,7 @@ fn ended<R: CpuClock, D: BidiData>(
     tables: &D,
     task: Task,
 ) -> Result<(usize, Duration, Duration)>
-    requires { index.old.paragraphs ≡ lengths (D.data tables.now).class text.old.edited.text }
+    requires { index.old.paragraphs ≡ lengths (D.data tables.now) text.old.edited.text }
 {
     let built = rt.thread_cpu_time()?;
     let count = follow(text, index, tables, task)?;

@@ -55,10 +55,10 @@ fn once<D: BidiData>(
     levels: &Levels,
     tables: &D,
 ) -> Result<usize>
-    requires starts { starts.now ≡ row_starts (D.data tables.now).class 80 body.now }
+    requires starts { starts.now ≡ row_starts (D.data tables.now) 80 body.now }
     requires number { number < length starts.now }
     requires stand { All (StandsIn body.now) units.now }
-    requires faces { All (HasFace (D.data tables.now).class 80 body.now) units.now }
+    requires faces { All (HasFace (D.data tables.now) 80 body.now) units.now }
     requires row { IsRowOf 80 units.now (record { start = 0; stop = length units.now }) }
     requires chars { (s : RowStart) → slice_get starts.now number ≡ Some s → 0 < length units.now → s.chars ≡ chars_before body.now units.now }
     requires each { length each.now ≡ length units.now }
@@ -92,7 +92,7 @@ fn often<D: BidiData>(
     tables: &D,
     times: usize,
 ) -> Result<u64>
-    requires starts { starts.now ≡ row_starts (D.data tables.now).class 80 body.now }
+    requires starts { starts.now ≡ row_starts (D.data tables.now) 80 body.now }
     requires number { number < length starts.now }
 {
     let units = units_of_row(alloc, body, starts, number, tables, 80)?;

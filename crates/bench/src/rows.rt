@@ -37,7 +37,7 @@ fn letters(alloc: Global, words: &str, count: usize) -> Result<String, AllocErro
 
 /// How many glyphs the rows show.
 fn page<D: BidiData>(layout: &ParagraphLayout, tables: &D) -> Result<usize>
-    requires { IsLayoutBy (D.data tables.now).class (D.data tables.now).bracket layout.now }
+    requires { IsLayoutBy (D.data tables.now) layout.now }
 {
     let mut count: usize = 0;
     for row in 0..layout.row_count() {
@@ -48,7 +48,7 @@ fn page<D: BidiData>(layout: &ParagraphLayout, tables: &D) -> Result<usize>
 
 /// How many slots the rows have.
 fn slots<D: BidiData>(layout: &ParagraphLayout, tables: &D) -> Result<usize>
-    requires { IsLayoutBy (D.data tables.now).class (D.data tables.now).bracket layout.now }
+    requires { IsLayoutBy (D.data tables.now) layout.now }
 {
     let mut count: usize = 0;
     for row in 0..layout.row_count() {
@@ -64,7 +64,7 @@ fn once<D: BidiData>(
     layout: &ParagraphLayout,
     tables: &D,
 ) -> Result<usize>
-    requires { IsLayoutBy (D.data tables.now).class (D.data tables.now).bracket layout.now }
+    requires { IsLayoutBy (D.data tables.now) layout.now }
 {
     if task == "page" {
         page(layout, tables)
@@ -85,7 +85,7 @@ fn rounds<R: CpuClock + AllocGlobal, D: BidiData>(
     tables: &D,
     times: usize,
 ) -> Result<Outcome>
-    requires { IsLayoutBy (D.data tables.now).class (D.data tables.now).bracket layout.now }
+    requires { IsLayoutBy (D.data tables.now) layout.now }
 {
     let start = rt.thread_cpu_time()?;
     let mut sum: usize = 0;

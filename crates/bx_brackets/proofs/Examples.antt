@@ -1,5 +1,6 @@
 -- The definitions, computed on small examples.
 use Rattle.std.proofs.Common.{◌≡◌, ℕ, [], ◌∷◌, ◌++◌, refl, Option, Some, None, replicate, cond, eqb, true, false}
+use Rattle.bx_ucd.specs.Data.{Data}
 use Rattle.bx_ucd.specs.declared.class.Class.TheVariants.{L, R, ON}
 use Rattle.bx_ucd.specs.declared.data.Side.{Side}
 use Rattle.bx_ucd.specs.declared.data.Side.TheVariants.{Opener, Closer}
@@ -13,30 +14,33 @@ bracket c = cond (eqb c 40) (Some (Opener, 41))
     (cond (eqb c 91) (Some (Opener, 93))
     (cond (eqb c 93) (Some (Closer, 91)) (cond (eqb c 0x2329) (Some (Opener, 0x232a)) (cond (eqb c 0x3009) (Some (Closer, 0x3008)) None)))))
 
+abbrev says : Data
+says = record { class = λ _. L; bracket = bracket; mirror = λ _. None }
+
 -- a(b]c)
-other_closer_passed : pairs bracket (97 ∷ 40 ∷ 98 ∷ 93 ∷ 99 ∷ 41 ∷ []) (replicate 6 ON) ≡ (1, 5) ∷ []
+other_closer_passed : pairs says (97 ∷ 40 ∷ 98 ∷ 93 ∷ 99 ∷ 41 ∷ []) (replicate 6 ON) ≡ (1, 5) ∷ []
 other_closer_passed = refl
 
 -- (a[b)c]
-crossing_opener_dropped : pairs bracket (40 ∷ 97 ∷ 91 ∷ 98 ∷ 41 ∷ 99 ∷ 93 ∷ []) (replicate 7 ON) ≡ (0, 4) ∷ []
+crossing_opener_dropped : pairs says (40 ∷ 97 ∷ 91 ∷ 98 ∷ 41 ∷ 99 ∷ 93 ∷ []) (replicate 7 ON) ≡ (0, 4) ∷ []
 crossing_opener_dropped = refl
 
 -- ([])()
-ordered_by_openers : pairs bracket (40 ∷ 91 ∷ 93 ∷ 41 ∷ 40 ∷ 41 ∷ []) (replicate 6 ON) ≡ (0, 3) ∷ (1, 2) ∷ (4, 5) ∷ []
+ordered_by_openers : pairs says (40 ∷ 91 ∷ 93 ∷ 41 ∷ 40 ∷ 41 ∷ []) (replicate 6 ON) ≡ (0, 3) ∷ (1, 2) ∷ (4, 5) ∷ []
 ordered_by_openers = refl
 
-brackets_of_another_type : pairs bracket (40 ∷ 41 ∷ []) (L ∷ ON ∷ []) ≡ []
+brackets_of_another_type : pairs says (40 ∷ 41 ∷ []) (L ∷ ON ∷ []) ≡ []
 brackets_of_another_type = refl
 
-canonical_equivalents : pairs bracket (0x2329 ∷ 0x3009 ∷ []) (ON ∷ ON ∷ []) ≡ (0, 1) ∷ []
+canonical_equivalents : pairs says (0x2329 ∷ 0x3009 ∷ []) (ON ∷ ON ∷ []) ≡ (0, 1) ∷ []
 canonical_equivalents = refl
 
 -- () and 63 openers, the last of them closed
-bracket_stack_limit : pairs bracket (40 ∷ 41 ∷ (replicate 63 40 ++ (41 ∷ []))) (replicate 66 ON) ≡ (0, 1) ∷ (64, 65) ∷ []
+bracket_stack_limit : pairs says (40 ∷ 41 ∷ (replicate 63 40 ++ (41 ∷ []))) (replicate 66 ON) ≡ (0, 1) ∷ (64, 65) ∷ []
 bracket_stack_limit = refl
 
 -- with a 64th opener the search ends, and the pair already found is kept
-bracket_stack_overflow : pairs bracket (40 ∷ 41 ∷ (replicate 64 40 ++ (41 ∷ []))) (replicate 67 ON) ≡ (0, 1) ∷ []
+bracket_stack_overflow : pairs says (40 ∷ 41 ∷ (replicate 64 40 ++ (41 ∷ []))) (replicate 67 ON) ≡ (0, 1) ∷ []
 bracket_stack_overflow = refl
 
 -- a B ( ( G ) A d ) from left to right: the outer pair is L, so the inner one is too

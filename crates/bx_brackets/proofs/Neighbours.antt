@@ -2,6 +2,7 @@
 use Rattle.std.proofs.Common.{◌≡◌, ◌<◌, ◌≤◌, ◌+◌, ◌∙◌, ℕ, zero, suc, List, [], ◌∷◌, ◌++◌, length, refl, ap, sym, subst, arith, Bool, true, false, Option, Some, None}
 use Rattle.std.specs.Prelude.{Contains, nat_lt, not, find, ◌==◌}
 use Rattle.std.proofs.lemmas.Bool.Decides.{nat_tests}
+use Rattle.bx_ucd.specs.Data.{Data}
 use Rattle.bx_ucd.specs.declared.class.Class.{Class}
 use Rattle.bx_ucd.specs.declared.class.Class.TheVariants.{ON}
 use Rattle.bx_ucd.specs.declared.data.Side.{Side}
@@ -48,13 +49,13 @@ after_keeps : (j c : ℕ) (b : Option (Side × ℕ)) (p : Progress) (x : ℕ × 
 after_keeps j c b p x h = elim p.is_over as (λ v. Contains (elim v as (λ w. Progress) [ true ↦ p | false ↦ turn j c b p ]).pairs x)
     [ true ↦ h | false ↦ turn_keeps j c b p x h ]
 
-search_keeps : (bracket : ℕ → Option (Side × ℕ)) (p : Progress) (j : ℕ) (cs : List ℕ) (ts : List Class) (x : ℕ × ℕ) → Contains p.pairs x
-    → Contains (pairs_after bracket p j cs ts) x
-search_keeps bracket p j [] ts x h = h
-search_keeps bracket p j (c ∷ cs) [] x h = h
-search_keeps bracket p j (c ∷ cs) (t ∷ ts) x h =
-    let b : Option (Side × ℕ) = bracket_at bracket c t in
-    search_keeps bracket (after j c b p) (j + 1) cs ts x (after_keeps j c b p x h)
+search_keeps : (says : Data) (p : Progress) (j : ℕ) (cs : List ℕ) (ts : List Class) (x : ℕ × ℕ) → Contains p.pairs x
+    → Contains (pairs_after says p j cs ts) x
+search_keeps says p j [] ts x h = h
+search_keeps says p j (c ∷ cs) [] x h = h
+search_keeps says p j (c ∷ cs) (t ∷ ts) x h =
+    let b : Option (Side × ℕ) = bracket_at says c t in
+    search_keeps says (after j c b p) (j + 1) cs ts x (after_keeps j c b p x h)
 
 -- ---- the stack has room if few characters come before
 
@@ -117,26 +118,26 @@ paired j o c m k p l h e =
     subst (λ x. Contains (after (j + 1) c (Some (Closer, k)) x).pairs (j, j + 1)) (sym first)
     (subst (λ ps. Contains ps (j, j + 1)) (sym found) (insert_has (j, j + 1) p.pairs))
 
-module _ (bracket : ℕ → Option (Side × ℕ)) (o c m k : ℕ) (opens : bracket o ≡ Some (Opener, m)) (closes : bracket c ≡ Some (Closer, k))
+module _ (says : Data) (o c m k : ℕ) (opens : says.bracket o ≡ Some (Opener, m)) (closes : says.bracket c ≡ Some (Closer, k))
     (match : canonical m ≡ canonical c) (rest : List ℕ) (ts : List Class) where
   found_from : (before : List ℕ) (us : List Class) (j n : ℕ) (p : Progress) → length us ≡ length before → n ≡ j + length before → n < bracket_room → IsRoomy j p
-      → Contains (pairs_after bracket p j (before ++ o ∷ c ∷ rest) (us ++ ON ∷ ON ∷ ts)) (n, n + 1)
+      → Contains (pairs_after says p j (before ++ o ∷ c ∷ rest) (us ++ ON ∷ ON ∷ ts)) (n, n + 1)
   found_from [] (u ∷ us) j n p e at l h = absurd (omega arith)
   found_from (d ∷ before) [] j n p e at l h = absurd (omega arith)
   found_from [] [] j n p e at l h =
-      let both : Progress = after (j + 1) c (bracket c) (after j o (bracket o) p) in
-      let has : Contains both.pairs (j, j + 1) = subst (λ x. Contains (after (j + 1) c x (after j o (bracket o) p)).pairs (j, j + 1)) (sym closes)
+      let both : Progress = after (j + 1) c (says.bracket c) (after j o (says.bracket o) p) in
+      let has : Contains both.pairs (j, j + 1) = subst (λ x. Contains (after (j + 1) c x (after j o (says.bracket o) p)).pairs (j, j + 1)) (sym closes)
       (subst (λ x. Contains (after (j + 1) c (Some (Closer, k)) (after j o x p)).pairs (j, j + 1)) (sym opens)
       (paired j o c m k p (omega arith) h match)) in
       let same : j ≡ n = omega arith in
-      subst (λ i. Contains (pairs_after bracket both (j + 1 + 1) rest ts) (i, i + 1)) same (search_keeps bracket both (j + 1 + 1) rest ts (j, j + 1) has)
+      subst (λ i. Contains (pairs_after says both (j + 1 + 1) rest ts) (i, i + 1)) same (search_keeps says both (j + 1 + 1) rest ts (j, j + 1) has)
   found_from (d ∷ before) (u ∷ us) j n p e at l h =
-      let b : Option (Side × ℕ) = bracket_at bracket d u in
+      let b : Option (Side × ℕ) = bracket_at says d u in
       let roomy : IsRoomy (j + 1) (after j d b p) = subst (IsRoomy (j + 1)) (sym (after_is j d b p h.goes_on)) (turn_roomy j d b p (omega arith) h) in
       found_from before us (j + 1) n (after j d b p) (omega arith) (omega arith) l roomy
 
 pub neighbours_are_paired : NeighboursArePaired
-neighbours_are_paired bracket before rest o c m k us ts e l opens closes match =
-    subst (λ ps. Contains ps (length before, length before + 1)) (all_found bracket (before ++ o ∷ c ∷ rest) (us ++ ON ∷ ON ∷ ts))
-    (found_from bracket o c m k opens closes match rest ts before us 0 (length before) (progress [] [] false) e (omega arith) l
+neighbours_are_paired says before rest o c m k us ts e l opens closes match =
+    subst (λ ps. Contains ps (length before, length before + 1)) (all_found says (before ++ o ∷ c ∷ rest) (us ++ ON ∷ ON ∷ ts))
+    (found_from says o c m k opens closes match rest ts before us 0 (length before) (progress [] [] false) e (omega arith) l
     (record { few = omega arith; goes_on = refl }))

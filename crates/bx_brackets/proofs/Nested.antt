@@ -4,6 +4,7 @@ use Rattle.std.specs.Prelude.{All, AllPairs, nat_lt, find}
 use Rattle.std.proofs.lemmas.Bool.Decides.{nat_tests}
 use Rattle.std.proofs.lemmas.List.Elements.{All-nil, All-cons, All-head, All-tail}
 use Rattle.std.proofs.lemmas.List.Kept.{AllPairs-cons}
+use Rattle.bx_ucd.specs.Data.{Data}
 use Rattle.bx_ucd.specs.declared.class.Class.{Class}
 use Rattle.bx_ucd.specs.declared.data.Side.{Side}
 use Rattle.bx_ucd.specs.declared.data.Side.TheVariants.{Opener, Closer}
@@ -173,15 +174,15 @@ nested j os ps h = record {
   uncrossed = all_pairs AreUncrossed (λ p q o. uncross p q o.0 o.1) ps h.ordered;
 }
 
-nested_after : (bracket : ℕ → Option (Side × ℕ)) (p : Progress) (j : ℕ) (cs : List ℕ) (ts : List Class) → AreLaid j p.openers p.pairs
-    → AreNested (pairs_after bracket p j cs ts)
-nested_after bracket p j [] ts h = nested j p.openers p.pairs h
-nested_after bracket p j (c ∷ cs) [] h = nested j p.openers p.pairs h
-nested_after bracket p j (c ∷ cs) (t ∷ ts) h =
-    let b : Option (Side × ℕ) = bracket_at bracket c t in
-    nested_after bracket (after j c b p) (j + 1) cs ts (after_laid j c b p h)
+nested_after : (says : Data) (p : Progress) (j : ℕ) (cs : List ℕ) (ts : List Class) → AreLaid j p.openers p.pairs
+    → AreNested (pairs_after says p j cs ts)
+nested_after says p j [] ts h = nested j p.openers p.pairs h
+nested_after says p j (c ∷ cs) [] h = nested j p.openers p.pairs h
+nested_after says p j (c ∷ cs) (t ∷ ts) h =
+    let b : Option (Side × ℕ) = bracket_at says c t in
+    nested_after says (after j c b p) (j + 1) cs ts (after_laid j c b p h)
 
 pub pairs_are_nested : PairsAreNested
-pairs_are_nested bracket cs ts =
+pairs_are_nested says cs ts =
     let first : AreLaid 0 [] [] = record { falling = tt; past = All-nil (IsPast 0 []); ordered = tt } in
-    subst AreNested (all_found bracket cs ts) (nested_after bracket (progress [] [] false) 0 cs ts first)
+    subst AreNested (all_found says cs ts) (nested_after says (progress [] [] false) 0 cs ts first)

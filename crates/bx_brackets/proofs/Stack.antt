@@ -4,6 +4,7 @@ use Rattle.std.proofs.Common.{sym, arith, Option, Some, None, Bool, true, false,
 use Rattle.std.proofs.lemmas.Bool.Decides.{nat_tests}
 use Rattle.std.specs.Prelude.{filter, find, not, nat_le, nat_lt, ◌&&◌, ◌==◌, ◌||◌}
 use Rattle.std.specs.List.{list_any}
+use Rattle.bx_ucd.specs.Data.{Data}
 use Rattle.bx_brackets.specs.Search.{below_first, is_for, left_by, IsFalling, Progress, progress, turn, after, pairs_after, found_by}
 use Rattle.bx_brackets.specs.Pairs.{bracket_room, Search, insert_pair, is_open, open_openers, meet, meet_opener, meet_closer, canonical, bracket_at}
 use Rattle.bx_brackets.specs.Pairs.{search_from, pairs}
@@ -157,10 +158,10 @@ stack_turn k st ps j c (Some (Opener, m)) = elim (nat_lt (length st) bracket_roo
 stack_turn k st ps j c (Some (Closer, m)) = elim (find (is_for (canonical c)) st)
     [ None ↦ k st ps | Some o ↦ k (below_first (is_for (canonical c)) st) (insert_pair (o.0, j) ps) ]
 
-abbrev pub stack_run : (ℕ → Option (Side × ℕ)) → List OpenEntry → List OpenEntry → ℕ → List ℕ → List Class → List OpenEntry
-stack_run bracket st ps j [] ts = ps
-stack_run bracket st ps j (c ∷ cs) [] = ps
-stack_run bracket st ps j (c ∷ cs) (t ∷ ts) = stack_turn (λ a b. stack_run bracket a b (j + 1) cs ts) st ps j c (bracket_at bracket c t)
+abbrev pub stack_run : Data → List OpenEntry → List OpenEntry → ℕ → List ℕ → List Class → List OpenEntry
+stack_run says st ps j [] ts = ps
+stack_run says st ps j (c ∷ cs) [] = ps
+stack_run says st ps j (c ∷ cs) (t ∷ ts) = stack_turn (λ a b. stack_run says a b (j + 1) cs ts) st ps j c (bracket_at says c t)
 
 ends_later : (i j : ℕ) (ps : List OpenEntry) → i ≤ j → EndsBelow i ps → EndsBelow j ps
 ends_later i j [] h e = tt
@@ -174,106 +175,106 @@ ends_push j (q ∷ ps) p e h =
       | false ↦ (e.0, ends_push j ps p e.1 h)
     ]
 
-search_over : (bracket : ℕ → Option (Side × ℕ)) (s : Search) (j : ℕ) (cs : List ℕ) (ts : List Class) → s.is_over ≡ true
-    → (search_from bracket s j cs ts).pairs ≡ s.pairs
-search_over bracket s j [] ts e = refl
-search_over bracket s j (c ∷ cs) [] e = refl
-search_over bracket s j (c ∷ cs) (t ∷ ts) e = rw (e, search_from)
+search_over : (says : Data) (s : Search) (j : ℕ) (cs : List ℕ) (ts : List Class) → s.is_over ≡ true
+    → (search_from says s j cs ts).pairs ≡ s.pairs
+search_over says s j [] ts e = refl
+search_over says s j (c ∷ cs) [] e = refl
+search_over says s j (c ∷ cs) (t ∷ ts) e = rw (e, search_from)
 
 -- the search and the stack agree on the rest
-abbrev Agrees : (ℕ → Option (Side × ℕ)) → ℕ → List ℕ → List Class → Type 0
-Agrees bracket j cs ts = (s : Search) → s.is_over ≡ false → IsFalling j s.openers → EndsBelow j s.pairs
-    → (search_from bracket s j cs ts).pairs ≡ stack_run bracket (open_openers s) s.pairs j cs ts
+abbrev Agrees : Data → ℕ → List ℕ → List Class → Type 0
+Agrees says j cs ts = (s : Search) → s.is_over ≡ false → IsFalling j s.openers → EndsBelow j s.pairs
+    → (search_from says s j cs ts).pairs ≡ stack_run says (open_openers s) s.pairs j cs ts
 
-module _ (bracket : ℕ → Option (Side × ℕ)) (j : ℕ) (cs : List ℕ) (ts : List Class) (c : ℕ) (ih : Agrees bracket (j + 1) cs ts) (s : Search)
+module _ (says : Data) (j : ℕ) (cs : List ℕ) (ts : List Class) (c : ℕ) (ih : Agrees says (j + 1) cs ts) (s : Search)
     (o : s.is_over ≡ false) (f : IsFalling j s.openers) (e : EndsBelow j s.pairs) where
   opener_agrees : (m : ℕ) (b : Bool) → nat_lt (length (open_openers s)) bracket_room ≡ b
-      → (search_from bracket (meet_opener s j m) (j + 1) cs ts).pairs
-      ≡ stack_turn (λ x y. stack_run bracket x y (j + 1) cs ts) (open_openers s) s.pairs j c (Some (Opener, m))
+      → (search_from says (meet_opener s j m) (j + 1) cs ts).pairs
+      ≡ stack_turn (λ x y. stack_run says x y (j + 1) cs ts) (open_openers s) s.pairs j c (Some (Opener, m))
   opener_agrees m true q =
       let u : Search = record s { openers = (j, canonical m) ∷ s.openers } in
       let m1 : meet_opener s j m ≡ u = rw (q, meet_opener) in
-      let t1 : stack_turn (λ x y. stack_run bracket x y (j + 1) cs ts) (open_openers s) s.pairs j c (Some (Opener, m))
-      ≡ stack_run bracket ((j, canonical m) ∷ open_openers s) s.pairs (j + 1) cs ts = rw (q, stack_turn) in
+      let t1 : stack_turn (λ x y. stack_run says x y (j + 1) cs ts) (open_openers s) s.pairs j c (Some (Opener, m))
+      ≡ stack_run says ((j, canonical m) ∷ open_openers s) s.pairs (j + 1) cs ts = rw (q, stack_turn) in
       let n1 : open_openers u ≡ (j, canonical m) ∷ open_openers s =
       filter_step (is_open s.pairs) (j, canonical m) s.openers true (open_new s.pairs j (canonical m) e) in
-      ap (λ (v : Search). (search_from bracket v (j + 1) cs ts).pairs) m1 ∙ ih u o (omega arith, f) (ends_later j (j + 1) s.pairs (omega arith) e)
-      ∙ ap (λ st. stack_run bracket st s.pairs (j + 1) cs ts) n1 ∙ sym t1
+      ap (λ (v : Search). (search_from says v (j + 1) cs ts).pairs) m1 ∙ ih u o (omega arith, f) (ends_later j (j + 1) s.pairs (omega arith) e)
+      ∙ ap (λ st. stack_run says st s.pairs (j + 1) cs ts) n1 ∙ sym t1
   opener_agrees m false q =
       let u : Search = record s { is_over = true } in
       let m1 : meet_opener s j m ≡ u = rw (q, meet_opener) in
-      let t1 : stack_turn (λ x y. stack_run bracket x y (j + 1) cs ts) (open_openers s) s.pairs j c (Some (Opener, m)) ≡ s.pairs = rw (q, stack_turn) in
-      ap (λ (v : Search). (search_from bracket v (j + 1) cs ts).pairs) m1 ∙ search_over bracket u (j + 1) cs ts refl ∙ sym t1
+      let t1 : stack_turn (λ x y. stack_run says x y (j + 1) cs ts) (open_openers s) s.pairs j c (Some (Opener, m)) ≡ s.pairs = rw (q, stack_turn) in
+      ap (λ (v : Search). (search_from says v (j + 1) cs ts).pairs) m1 ∙ search_over says u (j + 1) cs ts refl ∙ sym t1
 
   closer_agrees : (m : ℕ) (b : Option OpenEntry) → find (λ (x : OpenEntry). x.1 == canonical c) (open_openers s) ≡ b
-      → (search_from bracket (meet_closer s j c) (j + 1) cs ts).pairs
-      ≡ stack_turn (λ x y. stack_run bracket x y (j + 1) cs ts) (open_openers s) s.pairs j c (Some (Closer, m))
+      → (search_from says (meet_closer s j c) (j + 1) cs ts).pairs
+      ≡ stack_turn (λ x y. stack_run says x y (j + 1) cs ts) (open_openers s) s.pairs j c (Some (Closer, m))
   closer_agrees m None q =
       let m1 : meet_closer s j c ≡ s = rw (q, meet_closer) in
-      let t1 : stack_turn (λ x y. stack_run bracket x y (j + 1) cs ts) (open_openers s) s.pairs j c (Some (Closer, m))
-      ≡ stack_run bracket (open_openers s) s.pairs (j + 1) cs ts = rw (q, stack_turn) in
-      ap (λ (v : Search). (search_from bracket v (j + 1) cs ts).pairs) m1
+      let t1 : stack_turn (λ x y. stack_run says x y (j + 1) cs ts) (open_openers s) s.pairs j c (Some (Closer, m))
+      ≡ stack_run says (open_openers s) s.pairs (j + 1) cs ts = rw (q, stack_turn) in
+      ap (λ (v : Search). (search_from says v (j + 1) cs ts).pairs) m1
       ∙ ih s o (falling_later j (j + 1) s.openers (omega arith) f) (ends_later j (j + 1) s.pairs (omega arith) e) ∙ sym t1
   closer_agrees m (Some a) q =
       let u : Search = record s { pairs = insert_pair (a.0, j) s.pairs } in
       let m1 : meet_closer s j c ≡ u = rw (q, meet_closer) in
-      let t1 : stack_turn (λ x y. stack_run bracket x y (j + 1) cs ts) (open_openers s) s.pairs j c (Some (Closer, m))
-      ≡ stack_run bracket (below_first (λ x. x.1 == canonical c) (open_openers s)) (insert_pair (a.0, j) s.pairs) (j + 1) cs ts = rw (q, stack_turn) in
+      let t1 : stack_turn (λ x y. stack_run says x y (j + 1) cs ts) (open_openers s) s.pairs j c (Some (Closer, m))
+      ≡ stack_run says (below_first (λ x. x.1 == canonical c) (open_openers s)) (insert_pair (a.0, j) s.pairs) (j + 1) cs ts = rw (q, stack_turn) in
       let n1 : open_openers u ≡ below_first (λ x. x.1 == canonical c) (open_openers s) = ap open_openers (sym m1) ∙ open_after_pair s j c a f q in
-      ap (λ (v : Search). (search_from bracket v (j + 1) cs ts).pairs) m1
+      ap (λ (v : Search). (search_from says v (j + 1) cs ts).pairs) m1
       ∙ ih u o (falling_later j (j + 1) s.openers (omega arith) f)
       (ends_push (j + 1) s.pairs (a.0, j) (ends_later j (j + 1) s.pairs (omega arith) e) (omega arith))
-      ∙ ap (λ st. stack_run bracket st (insert_pair (a.0, j) s.pairs) (j + 1) cs ts) n1 ∙ sym t1
+      ∙ ap (λ st. stack_run says st (insert_pair (a.0, j) s.pairs) (j + 1) cs ts) n1 ∙ sym t1
 
-turn_agrees : (bracket : ℕ → Option (Side × ℕ)) (j : ℕ) (cs : List ℕ) (ts : List Class) (c : ℕ) → Agrees bracket (j + 1) cs ts
+turn_agrees : (says : Data) (j : ℕ) (cs : List ℕ) (ts : List Class) (c : ℕ) → Agrees says (j + 1) cs ts
     → (b : Option (Side × ℕ)) (s : Search) → s.is_over ≡ false → IsFalling j s.openers → EndsBelow j s.pairs
-    → (search_from bracket (meet s j c b) (j + 1) cs ts).pairs ≡ stack_turn (λ x y. stack_run bracket x y (j + 1) cs ts) (open_openers s) s.pairs j c b
-turn_agrees bracket j cs ts c ih None s o f e = ih s o (falling_later j (j + 1) s.openers (omega arith) f) (ends_later j (j + 1) s.pairs (omega arith) e)
-turn_agrees bracket j cs ts c ih (Some (Opener, m)) s o f e = opener_agrees bracket j cs ts c ih s o f e m (nat_lt (length (open_openers s)) bracket_room) refl
-turn_agrees bracket j cs ts c ih (Some (Closer, m)) s o f e =
-    closer_agrees bracket j cs ts c ih s o f e m (find (λ (x : OpenEntry). x.1 == canonical c) (open_openers s)) refl
+    → (search_from says (meet s j c b) (j + 1) cs ts).pairs ≡ stack_turn (λ x y. stack_run says x y (j + 1) cs ts) (open_openers s) s.pairs j c b
+turn_agrees says j cs ts c ih None s o f e = ih s o (falling_later j (j + 1) s.openers (omega arith) f) (ends_later j (j + 1) s.pairs (omega arith) e)
+turn_agrees says j cs ts c ih (Some (Opener, m)) s o f e = opener_agrees says j cs ts c ih s o f e m (nat_lt (length (open_openers s)) bracket_room) refl
+turn_agrees says j cs ts c ih (Some (Closer, m)) s o f e =
+    closer_agrees says j cs ts c ih s o f e m (find (λ (x : OpenEntry). x.1 == canonical c) (open_openers s)) refl
 
-search_is_stack : (bracket : ℕ → Option (Side × ℕ)) (j : ℕ) (cs : List ℕ) (ts : List Class) → Agrees bracket j cs ts
-search_is_stack bracket j [] ts s o f e = refl
-search_is_stack bracket j (c ∷ cs) [] s o f e = refl
-search_is_stack bracket j (c ∷ cs) (t ∷ ts) s o f e =
-    rw (o, search_from) (turn_agrees bracket j cs ts c (search_is_stack bracket (j + 1) cs ts) (bracket_at bracket c t) s o f e)
+search_is_stack : (says : Data) (j : ℕ) (cs : List ℕ) (ts : List Class) → Agrees says j cs ts
+search_is_stack says j [] ts s o f e = refl
+search_is_stack says j (c ∷ cs) [] s o f e = refl
+search_is_stack says j (c ∷ cs) (t ∷ ts) s o f e =
+    rw (o, search_from) (turn_agrees says j cs ts c (search_is_stack says (j + 1) cs ts) (bracket_at says c t) s o f e)
 
 -- a search that is over finds no more
-pub over_after : (bracket : ℕ → Option (Side × ℕ)) (p : Progress) (j : ℕ) (cs : List ℕ) (ts : List Class) → p.is_over ≡ true
-    → pairs_after bracket p j cs ts ≡ p.pairs
-over_after bracket p j [] ts e = refl
-over_after bracket p j (c ∷ cs) [] e = refl
-over_after bracket p j (c ∷ cs) (t ∷ ts) e =
-    let same : after j c (bracket_at bracket c t) p ≡ p = ap (λ x. elim x as (λ v. Progress) [ true ↦ p | false ↦ turn j c (bracket_at bracket c t) p ]) e in
-    ap (λ q. pairs_after bracket q (j + 1) cs ts) same ∙ over_after bracket p (j + 1) cs ts e
+pub over_after : (says : Data) (p : Progress) (j : ℕ) (cs : List ℕ) (ts : List Class) → p.is_over ≡ true
+    → pairs_after says p j cs ts ≡ p.pairs
+over_after says p j [] ts e = refl
+over_after says p j (c ∷ cs) [] e = refl
+over_after says p j (c ∷ cs) (t ∷ ts) e =
+    let same : after j c (bracket_at says c t) p ≡ p = ap (λ x. elim x as (λ v. Progress) [ true ↦ p | false ↦ turn j c (bracket_at says c t) p ]) e in
+    ap (λ q. pairs_after says q (j + 1) cs ts) same ∙ over_after says p (j + 1) cs ts e
 
 -- the turns and the stack agree on the rest
-abbrev AreOne : (ℕ → Option (Side × ℕ)) → ℕ → List ℕ → List Class → Type 0
-AreOne bracket j cs ts = (p : Progress) → p.is_over ≡ false → pairs_after bracket p j cs ts ≡ stack_run bracket p.openers p.pairs j cs ts
+abbrev AreOne : Data → ℕ → List ℕ → List Class → Type 0
+AreOne says j cs ts = (p : Progress) → p.is_over ≡ false → pairs_after says p j cs ts ≡ stack_run says p.openers p.pairs j cs ts
 
-module _ (bracket : ℕ → Option (Side × ℕ)) (j c : ℕ) (cs : List ℕ) (ts : List Class) (ih : AreOne bracket (j + 1) cs ts) (p : Progress)
+module _ (says : Data) (j c : ℕ) (cs : List ℕ) (ts : List Class) (ih : AreOne says (j + 1) cs ts) (p : Progress)
     (e : p.is_over ≡ false) where
   abbrev go : List OpenEntry → List OpenEntry → List OpenEntry
-  go x y = stack_run bracket x y (j + 1) cs ts
+  go x y = stack_run says x y (j + 1) cs ts
 
   opener_is_turn : (m : ℕ) (b : Bool) → nat_lt (length p.openers) bracket_room ≡ b
-      → pairs_after bracket (turn j c (Some (Opener, m)) p) (j + 1) cs ts ≡ stack_turn go p.openers p.pairs j c (Some (Opener, m))
+      → pairs_after says (turn j c (Some (Opener, m)) p) (j + 1) cs ts ≡ stack_turn go p.openers p.pairs j c (Some (Opener, m))
   opener_is_turn m true q =
       let u : Progress = record p { openers = (j, canonical m) ∷ p.openers; is_over = false } in
       let t : turn j c (Some (Opener, m)) p ≡ u =
       ap (λ b. record p { openers = elim b as (λ v. List OpenEntry) [ true ↦ (j, canonical m) ∷ p.openers | false ↦ p.openers ]; is_over = not b }) q in
       let s : stack_turn go p.openers p.pairs j c (Some (Opener, m)) ≡ go ((j, canonical m) ∷ p.openers) p.pairs = rw (q, stack_turn) in
-      ap (λ v. pairs_after bracket v (j + 1) cs ts) t ∙ ih u refl ∙ sym s
+      ap (λ v. pairs_after says v (j + 1) cs ts) t ∙ ih u refl ∙ sym s
   opener_is_turn m false q =
       let u : Progress = record p { is_over = true } in
       let t : turn j c (Some (Opener, m)) p ≡ u =
       ap (λ b. record p { openers = elim b as (λ v. List OpenEntry) [ true ↦ (j, canonical m) ∷ p.openers | false ↦ p.openers ]; is_over = not b }) q in
       let s : stack_turn go p.openers p.pairs j c (Some (Opener, m)) ≡ p.pairs = rw (q, stack_turn) in
-      ap (λ v. pairs_after bracket v (j + 1) cs ts) t ∙ over_after bracket u (j + 1) cs ts refl ∙ sym s
+      ap (λ v. pairs_after says v (j + 1) cs ts) t ∙ over_after says u (j + 1) cs ts refl ∙ sym s
 
   closer_is_turn : (m : ℕ) (b : Option OpenEntry) → find (is_for (canonical c)) p.openers ≡ b
-      → pairs_after bracket (turn j c (Some (Closer, m)) p) (j + 1) cs ts ≡ stack_turn go p.openers p.pairs j c (Some (Closer, m))
+      → pairs_after says (turn j c (Some (Closer, m)) p) (j + 1) cs ts ≡ stack_turn go p.openers p.pairs j c (Some (Closer, m))
   closer_is_turn m b q =
       let u : Progress = record p { openers = left_by b (canonical c) p.openers; pairs = found_by b j p.pairs } in
       let t : turn j c (Some (Closer, m)) p ≡ u = rw (q, turn) in
@@ -282,35 +283,35 @@ module _ (bracket : ℕ → Option (Side × ℕ)) (j c : ℕ) (cs : List ℕ) (t
         | None ↦ go p.openers p.pairs
         | Some o ↦ go (below_first (is_for (canonical c)) p.openers) (insert_pair (o.0, j) p.pairs)
       ] ≡ go (left_by x (canonical c) p.openers) (found_by x j p.pairs)) [ None ↦ refl | Some o ↦ refl ]) in
-      ap (λ v. pairs_after bracket v (j + 1) cs ts) t ∙ ih u e ∙ sym s
+      ap (λ v. pairs_after says v (j + 1) cs ts) t ∙ ih u e ∙ sym s
 
-  turn_is_one : (b : Option (Side × ℕ)) → pairs_after bracket (turn j c b p) (j + 1) cs ts ≡ stack_turn go p.openers p.pairs j c b
+  turn_is_one : (b : Option (Side × ℕ)) → pairs_after says (turn j c b p) (j + 1) cs ts ≡ stack_turn go p.openers p.pairs j c b
   turn_is_one None = ih p e
   turn_is_one (Some (Opener, m)) = opener_is_turn m (nat_lt (length p.openers) bracket_room) refl
   turn_is_one (Some (Closer, m)) = closer_is_turn m (find (is_for (canonical c)) p.openers) refl
 
-turns_are_stack : (bracket : ℕ → Option (Side × ℕ)) (j : ℕ) (cs : List ℕ) (ts : List Class) → AreOne bracket j cs ts
-turns_are_stack bracket j [] ts p e = refl
-turns_are_stack bracket j (c ∷ cs) [] p e = refl
-turns_are_stack bracket j (c ∷ cs) (t ∷ ts) p e =
-    let on : after j c (bracket_at bracket c t) p ≡ turn j c (bracket_at bracket c t) p =
-    ap (λ x. elim x as (λ v. Progress) [ true ↦ p | false ↦ turn j c (bracket_at bracket c t) p ]) e in
-    ap (λ q. pairs_after bracket q (j + 1) cs ts) on ∙ turn_is_one bracket j c cs ts (turns_are_stack bracket (j + 1) cs ts) p e (bracket_at bracket c t)
+turns_are_stack : (says : Data) (j : ℕ) (cs : List ℕ) (ts : List Class) → AreOne says j cs ts
+turns_are_stack says j [] ts p e = refl
+turns_are_stack says j (c ∷ cs) [] p e = refl
+turns_are_stack says j (c ∷ cs) (t ∷ ts) p e =
+    let on : after j c (bracket_at says c t) p ≡ turn j c (bracket_at says c t) p =
+    ap (λ x. elim x as (λ v. Progress) [ true ↦ p | false ↦ turn j c (bracket_at says c t) p ]) e in
+    ap (λ q. pairs_after says q (j + 1) cs ts) on ∙ turn_is_one says j c cs ts (turns_are_stack says (j + 1) cs ts) p e (bracket_at says c t)
 
 -- all turns together find the pairs of the definition
-pub all_found : (bracket : ℕ → Option (Side × ℕ)) (cs : List ℕ) (ts : List Class) → pairs_after bracket (progress [] [] false) 0 cs ts ≡ pairs bracket cs ts
-all_found bracket cs ts = turns_are_stack bracket 0 cs ts (progress [] [] false) refl
-    ∙ sym (search_is_stack bracket 0 cs ts (record { openers = []; pairs = []; is_over = false }) refl tt tt)
+pub all_found : (says : Data) (cs : List ℕ) (ts : List Class) → pairs_after says (progress [] [] false) 0 cs ts ≡ pairs says cs ts
+all_found says cs ts = turns_are_stack says 0 cs ts (progress [] [] false) refl
+    ∙ sym (search_is_stack says 0 cs ts (record { openers = []; pairs = []; is_over = false }) refl tt tt)
 
 -- the pairs found from index `i` on, given the progress after the turn there
-pub turn_more : (bracket : ℕ → Option (Side × ℕ)) (os ps new_os new_ps : List OpenEntry) (over : Bool) (cs : List ℕ) (ts : List Class) (i x : ℕ)
-    (b : Option (Side × ℕ)) → i < length cs → i < length ts → x ≡ get_or cs i x → b ≡ bracket_at bracket x (get_or ts i L)
+pub turn_more : (says : Data) (os ps new_os new_ps : List OpenEntry) (over : Bool) (cs : List ℕ) (ts : List Class) (i x : ℕ)
+    (b : Option (Side × ℕ)) → i < length cs → i < length ts → x ≡ get_or cs i x → b ≡ bracket_at says x (get_or ts i L)
     → progress new_os new_ps over ≡ turn i x b (progress os ps false)
-    → pairs_after bracket (progress os ps false) i (drop i cs) (drop i ts)
-    ≡ pairs_after bracket (progress new_os new_ps over) (i + 1) (drop (i + 1) cs) (drop (i + 1) ts)
-turn_more bracket os ps new_os new_ps over cs ts i x b h l at is new =
+    → pairs_after says (progress os ps false) i (drop i cs) (drop i ts)
+    ≡ pairs_after says (progress new_os new_ps over) (i + 1) (drop (i + 1) cs) (drop (i + 1) ts)
+turn_more says os ps new_os new_ps over cs ts i x b h l at is new =
     let p : Progress = progress os ps false in
-    let rest : Progress → List OpenEntry = λ q. pairs_after bracket q (i + 1) (drop (i + 1) cs) (drop (i + 1) ts) in
-    at_drop_more (λ xs. pairs_after bracket p i xs (drop i ts)) cs i x h
-    ∙ at_drop_more (λ ys. pairs_after bracket p i (get_or cs i x ∷ drop (i + 1) cs) ys) ts i L l
-    ∙ ap (λ y. rest (turn i y (bracket_at bracket y (get_or ts i L)) p)) (sym at) ∙ ap (λ y. rest (turn i x y p)) (sym is) ∙ ap rest (sym new)
+    let rest : Progress → List OpenEntry = λ q. pairs_after says q (i + 1) (drop (i + 1) cs) (drop (i + 1) ts) in
+    at_drop_more (λ xs. pairs_after says p i xs (drop i ts)) cs i x h
+    ∙ at_drop_more (λ ys. pairs_after says p i (get_or cs i x ∷ drop (i + 1) cs) ys) ts i L l
+    ∙ ap (λ y. rest (turn i y (bracket_at says y (get_or ts i L)) p)) (sym at) ∙ ap (λ y. rest (turn i x y p)) (sym is) ∙ ap rest (sym new)

@@ -1,5 +1,6 @@
 -- Laws of the bracket pairs of every sequence.
 use Rattle.std.specs.Prelude.{◌≡◌, ◌<◌, ◌⊎◌, ℕ, ◌+◌, List, ◌∷◌, ◌++◌, length, Option, Some, All, AllPairs, Contains}
+use Rattle.bx_ucd.specs.Data.{Data}
 use Rattle.bx_ucd.specs.declared.class.Class.{Class}
 use Rattle.bx_ucd.specs.declared.class.Class.TheVariants.{ON}
 use Rattle.bx_ucd.specs.declared.data.Side.{Side}
@@ -26,11 +27,11 @@ pub record AreNested (ps : List (ℕ × ℕ)) : Type 0 where
 
 -- the pairs of any sequence are nested
 abbrev pub PairsAreNested : Type 0
-PairsAreNested = (bracket : ℕ → Option (Side × ℕ)) (cs : List ℕ) (ts : List Class) → AreNested (pairs bracket cs ts)
+PairsAreNested = (says : Data) (cs : List ℕ) (ts : List Class) → AreNested (pairs says cs ts)
 
 -- an opener and its closer side by side, both of type ON, are a pair if fewer than 63 characters come before them
 abbrev pub NeighboursArePaired : Type 0
-NeighboursArePaired = (bracket : ℕ → Option (Side × ℕ)) (before after : List ℕ) (opener closer paired back : ℕ) (us ts : List Class)
+NeighboursArePaired = (says : Data) (before after : List ℕ) (opener closer paired back : ℕ) (us ts : List Class)
     → length us ≡ length before → length before < bracket_room
-    → bracket opener ≡ Some (Opener, paired) → bracket closer ≡ Some (Closer, back) → canonical paired ≡ canonical closer
-    → Contains (pairs bracket (before ++ opener ∷ closer ∷ after) (us ++ ON ∷ ON ∷ ts)) (length before, length before + 1)
+    → says.bracket opener ≡ Some (Opener, paired) → says.bracket closer ≡ Some (Closer, back) → canonical paired ≡ canonical closer
+    → Contains (pairs says (before ++ opener ∷ closer ∷ after) (us ++ ON ∷ ON ∷ ts)) (length before, length before + 1)

@@ -2,6 +2,7 @@
 use Rattle.std.specs.Prelude.{◌==◌, ℕ, ◌+◌, nat_lt, nat_le, ◌&&◌, not, Bool, true, false, List, [], ◌∷◌, Option, Some, None, length, filter, find}
 use Rattle.std.specs.Prelude.{if◌then◌else◌}
 use Rattle.std.specs.List.{list_any}
+use Rattle.bx_ucd.specs.Data.{Data}
 use Rattle.bx_ucd.specs.declared.class.Class.{Class}
 use Rattle.bx_ucd.specs.declared.class.Class.TheVariants.{ON}
 use Rattle.bx_ucd.specs.declared.data.Side.{Side}
@@ -58,17 +59,17 @@ meet s j c (Some (Opener, m)) = meet_opener s j m
 meet s j c (Some (Closer, m)) = meet_closer s j c
 
 -- BD14, BD15: a character is a bracket only if its current type is ON
-abbrev pub bracket_at : (ℕ → Option (Side × ℕ)) → ℕ → Class → Option (Side × ℕ)
-bracket_at bracket c t = elim (is_on t) [ true ↦ bracket c | false ↦ None ]
+abbrev pub bracket_at : Data → ℕ → Class → Option (Side × ℕ)
+bracket_at says c t = elim (is_on t) [ true ↦ says.bracket c | false ↦ None ]
 
-abbrev pub search_from : (ℕ → Option (Side × ℕ)) → Search → ℕ → List ℕ → List Class → Search
-search_from bracket s j [] ts = s
-search_from bracket s j (c ∷ cs) [] = s
-search_from bracket s j (c ∷ cs) (t ∷ ts) = elim (s.is_over) [
+abbrev pub search_from : Data → Search → ℕ → List ℕ → List Class → Search
+search_from says s j [] ts = s
+search_from says s j (c ∷ cs) [] = s
+search_from says s j (c ∷ cs) (t ∷ ts) = elim (s.is_over) [
   | true ↦ s
-  | false ↦ search_from bracket (meet s j c (bracket_at bracket c t)) (j + 1) cs ts
+  | false ↦ search_from says (meet s j c (bracket_at says c t)) (j + 1) cs ts
 ]
 
 -- BD16: the bracket pairs of a sequence, each the indexes of its opener and its closer
-abbrev pub pairs : (ℕ → Option (Side × ℕ)) → List ℕ → List Class → List (ℕ × ℕ)
-pairs bracket cs ts = (search_from bracket (record { openers = []; pairs = []; is_over = false }) 0 cs ts).pairs
+abbrev pub pairs : Data → List ℕ → List Class → List (ℕ × ℕ)
+pairs says cs ts = (search_from says (record { openers = []; pairs = []; is_over = false }) 0 cs ts).pairs

@@ -2,6 +2,7 @@
 use Rattle.std.specs.Prelude.{◌≡◌, ℕ, ◌+◌, ◌%◌, ◌==◌, ◌<◌, ◌≤◌, ◌⊎◌, nat_lt, not, find}
 use Rattle.std.specs.Prelude.{Bool, true, false, List, [], ◌∷◌, Option, Some, None, length, slice_set, All}
 use Rattle.std.specs.Prelude.{slice_index_or}
+use Rattle.bx_ucd.specs.Data.{Data}
 use Rattle.bx_ucd.specs.declared.data.Side.{Side}
 use Rattle.bx_ucd.specs.declared.data.Side.TheVariants.{Opener, Closer}
 use Rattle.bx_ucd.specs.declared.class.Class.{Class}
@@ -67,10 +68,10 @@ abbrev pub after : ℕ → ℕ → Option (Side × ℕ) → Progress → Progres
 after j c b p = elim p.is_over [ true ↦ p | false ↦ turn j c b p ]
 
 -- the pairs after the rest of the sequence, from index `j` on
-abbrev pub pairs_after : (ℕ → Option (Side × ℕ)) → Progress → ℕ → List ℕ → List Class → List (ℕ × ℕ)
-pairs_after bracket p j [] ts = p.pairs
-pairs_after bracket p j (c ∷ cs) [] = p.pairs
-pairs_after bracket p j (c ∷ cs) (t ∷ ts) = pairs_after bracket (after j c (bracket_at bracket c t) p) (j + 1) cs ts
+abbrev pub pairs_after : Data → Progress → ℕ → List ℕ → List Class → List (ℕ × ℕ)
+pairs_after says p j [] ts = p.pairs
+pairs_after says p j (c ∷ cs) [] = p.pairs
+pairs_after says p j (c ∷ cs) (t ∷ ts) = pairs_after says (after j c (bracket_at says c t) p) (j + 1) cs ts
 
 -- each opener is before `j`, and before the openers above it
 abbrev pub IsFalling : ℕ → List (ℕ × ℕ) → Type 0

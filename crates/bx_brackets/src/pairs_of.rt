@@ -24,7 +24,7 @@ pub fn canonical(c: char) -> char
 /// The side and counterpart of a character that is a bracket of type ON.
 #[inline(always)]
 pub fn bracket_at<D: BidiData>(tables: &D, c: char, t: Class) -> Option<(Side, char)>
-    ensures { result ≡ bracket_at (D.data tables.now).bracket c t }
+    ensures { result ≡ bracket_at (D.data tables.now) c t }
 {
     match t {
         Class::ON => tables.bracket(c),
@@ -217,7 +217,7 @@ pub fn pairs<D: BidiData>(
     tables: &D,
 ) -> Result<Vec<(usize, usize)>, BracketError>
     requires { length chars.now ≡ length types.now }
-    ensures pairs { IfOk result (λ v. v.items ≡ pairs (D.data tables.now).bracket chars.now types.now) }
+    ensures pairs { IfOk result (λ v. v.items ≡ pairs (D.data tables.now) chars.now types.now) }
     ensures within { IfOk result (λ v. All (IsPairWithin (length types.now)) v.items) }
 {
     let mut open = OpenStack::new();

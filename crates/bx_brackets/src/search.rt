@@ -1,5 +1,6 @@
 //! A search for bracket pairs that takes one character at a time.
 ghost use Rattle.std.specs.Prelude.{◌≡◌, ℕ, ◌+◌, ◌^◌, ◌<◌, ◌≤◌, ◌⊎◌, IfOk, OnOk, OnErr, IfSome, List, length, [], false, find, replicate, Option, Some};
+ghost use Rattle.bx_ucd.specs.Data.{Data};
 ghost use Rattle.bx_ucd.specs.declared.class.Class.{Class};
 ghost use Rattle.bx_ucd.specs.Class.{direction};
 ghost use Rattle.bx_ucd.specs.declared.data.Side.{Side};
@@ -168,8 +169,8 @@ impl PairSearch {
         requires small { count ≤ 2 ^ 32 }
         ensures next { self.new.next ≡ 0 }
         ensures count { self.new.count ≡ count }
-        ensures pairs { (bracket : ℕ → Option (Side × ℕ)) (cs : List ℕ) (ts : List Class) → pairs_after bracket self.new.progress 0 cs ts
-            ≡ pairs bracket cs ts }
+        ensures pairs { (says : Data) (cs : List ℕ) (ts : List Class) → pairs_after says self.new.progress 0 cs ts
+            ≡ pairs says cs ts }
     {
         self.openers.clear();
         self.closers.clear();
@@ -191,7 +192,7 @@ impl PairSearch {
     ) -> Result<(), BracketError>
         requires next { self.old.next ≤ index }
         requires within { index < self.old.count }
-        ensures progress { OnOk result (self.new.progress ≡ after index c (bracket_at (D.data tables.now).bracket c t) self.old.progress) }
+        ensures progress { OnOk result (self.new.progress ≡ after index c (bracket_at (D.data tables.now) c t) self.old.progress) }
         ensures next { self.new.next ≤ index + 1 }
         ensures count { self.new.count ≡ self.old.count }
         ensures err { OnErr result (self.new ≡ self.old) }

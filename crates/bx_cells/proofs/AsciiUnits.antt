@@ -1,5 +1,6 @@
 -- The unit of a printable byte before another one.
 use Rattle.std.proofs.Common.{◌≡◌, ℕ, ◌+◌, ◌<◌, true, false, List, [], ◌∷◌, ◌++◌, length, drop, get_or, encode_utf8, sym, ap, ◌∙◌, arith}
+use Rattle.bx_ucd.specs.Data.{Data}
 use Rattle.bx_terms.specs.Characters.{is_ascii_printable}
 use Rattle.std.specs.Str.{IsUtf8, IsCharBoundary}
 use Rattle.std.proofs.lemmas.List.{drop_more, length-drop}
@@ -37,9 +38,9 @@ module _ (body : List ℕ) (at : ℕ) (u : IsUtf8 body) (b : IsCharBoundary body
   ascii-boundary = open-boundary body at (get_or body at 0) false (drop (at + 1) body) u b open_ascii (at + 1) rest_len
 
   -- its unit is added
-  pub ascii-more : (class : ℕ → Class) (w : ℕ) (f : Face) (done new all : List Unit) → is_ascii_printable (get_or body (at + 1) 0) ≡ true
-      → f ≡ simple_face class w (get_or body at 0) false → new ≡ done ++ record { start = at; stop = at + 1; face = f } ∷ []
-      → done ++ units_from class w body at ≡ all → new ++ units_from class w body (at + 1) ≡ all
-  ascii-more class w f done new all next face pushed inv =
-      unit-more body at (get_or body at 0) false (drop (at + 1) body) u b open_ascii class w (at + 1) (get_or body (at + 1) 0) (drop ((at + 1) + 1) body)
+  pub ascii-more : (says : Data) (w : ℕ) (f : Face) (done new all : List Unit) → is_ascii_printable (get_or body (at + 1) 0) ≡ true
+      → f ≡ simple_face says w (get_or body at 0) false → new ≡ done ++ record { start = at; stop = at + 1; face = f } ∷ []
+      → done ++ units_from says w body at ≡ all → new ++ units_from says w body (at + 1) ≡ all
+  ascii-more says w f done new all next face pushed inv =
+      unit-more body at (get_or body at 0) false (drop (at + 1) body) u b open_ascii says w (at + 1) (get_or body (at + 1) 0) (drop ((at + 1) + 1) body)
       f done new all rest_len (left_at body (at + 1) less next) (begins_ascii (get_or body (at + 1) 0) next).0 face pushed inv

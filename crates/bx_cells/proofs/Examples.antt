@@ -1,8 +1,9 @@
 -- The units of small bodies, computed.
 use Rattle.std.proofs.Common.{◌≡◌, ℕ, List, [], ◌∷◌, ◌++◌, refl}
-use Rattle.std.specs.Prelude.{codes, encode_utf8_all, ◌==◌, if◌then◌else◌}
+use Rattle.std.specs.Prelude.{codes, encode_utf8_all, None, ◌==◌, if◌then◌else◌}
 use Rattle.unicode_segmentation.proofs.Computing.{unicode_segmentation}
 use Rattle.unicode_width.proofs.Computing.{unicode_width}
+use Rattle.bx_ucd.specs.Data.{Data}
 use Rattle.bx_ucd.specs.declared.class.Class.{Class}
 use Rattle.bx_ucd.specs.declared.class.Class.TheVariants.{L, LRE, RLE, PDF, LRO, RLO, LRI, RLI, FSI, PDI}
 use Rattle.bx_cells.specs.declared.unit.Face.{Face}
@@ -21,8 +22,11 @@ class = class_among ((0x202a, LRE) ∷ (0x202b, RLE) ∷ (0x202c, PDF) ∷ (0x20
   PDI,
 ) ∷ [])
 
+abbrev says : Data
+says = record { class = class; bracket = λ _. None; mirror = λ _. None }
+
 abbrev of : ℕ → List ℕ → List Unit
-of w cs = units class w (encode_utf8_all cs)
+of w cs = units says w (encode_utf8_all cs)
 
 abbrev unit : ℕ → ℕ → Face → Unit
 unit start stop face = record { start = start; stop = stop; face = face }

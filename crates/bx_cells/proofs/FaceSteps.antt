@@ -3,6 +3,7 @@ use Rattle.std.proofs.Common.{◌≡◌, ℕ, Bool, true, false, List, [], ◌�
 use Rattle.std.specs.Str.{chars}
 use Rattle.std.proofs.lemmas.Str.{chars-nil, chars_past_char, IsUtf8-past_char}
 use Rattle.std.specs.List.{list_any}
+use Rattle.bx_ucd.specs.Data.{Data}
 use Rattle.bx_ucd.specs.declared.class.Class.{Class}
 use Rattle.bx_terms.specs.Characters.{is_control}
 use Rattle.bx_cells.specs.declared.unit.Face.{Face}
@@ -21,27 +22,27 @@ abbrev pub by_tab : Face → Bool → Face
 by_tab other true = Tab
 by_tab other false = other
 
-pub steps : (class : ℕ → Class) (w : ℕ) (cs : List ℕ) (t k : Bool) (l : Option ℕ) → is_tab (only_char cs) ≡ t → list_any is_control cs ≡ k
-    → format_letter class (only_char cs) ≡ l → face_of class w cs ≡ by_tab (by_control (by_letter (sized_face w (columns_of cs)) l) k) t
-steps class w cs t k l d e f =
-    ap (λ x. by_tab (by_control (by_letter (sized_face w (columns_of cs)) (format_letter class (only_char cs))) (list_any is_control cs)) x) d
-    ∙ ap (λ x. by_tab (by_control (by_letter (sized_face w (columns_of cs)) (format_letter class (only_char cs))) x) t) e
+pub steps : (says : Data) (w : ℕ) (cs : List ℕ) (t k : Bool) (l : Option ℕ) → is_tab (only_char cs) ≡ t → list_any is_control cs ≡ k
+    → format_letter says (only_char cs) ≡ l → face_of says w cs ≡ by_tab (by_control (by_letter (sized_face w (columns_of cs)) l) k) t
+steps says w cs t k l d e f =
+    ap (λ x. by_tab (by_control (by_letter (sized_face w (columns_of cs)) (format_letter says (only_char cs))) (list_any is_control cs)) x) d
+    ∙ ap (λ x. by_tab (by_control (by_letter (sized_face w (columns_of cs)) (format_letter says (only_char cs))) x) t) e
     ∙ ap (λ x. by_tab (by_control (by_letter (sized_face w (columns_of cs)) x) k) t) f
 
-pub of_tab : (class : ℕ → Class) (w : ℕ) (cluster : List ℕ) → is_tab (only_char (chars cluster)) ≡ true → face class w cluster ≡ Tab
-of_tab class w cluster d = steps class w (chars cluster) true _ _ d refl refl
+pub of_tab : (says : Data) (w : ℕ) (cluster : List ℕ) → is_tab (only_char (chars cluster)) ≡ true → face says w cluster ≡ Tab
+of_tab says w cluster d = steps says w (chars cluster) true _ _ d refl refl
 
-pub of_control : (class : ℕ → Class) (w : ℕ) (cluster : List ℕ) → is_tab (only_char (chars cluster)) ≡ false → list_any is_control (chars cluster) ≡ true
-    → face class w cluster ≡ Mark 63
-of_control class w cluster d e = steps class w (chars cluster) false true _ d e refl
+pub of_control : (says : Data) (w : ℕ) (cluster : List ℕ) → is_tab (only_char (chars cluster)) ≡ false → list_any is_control (chars cluster) ≡ true
+    → face says w cluster ≡ Mark 63
+of_control says w cluster d e = steps says w (chars cluster) false true _ d e refl
 
-pub of_format : (class : ℕ → Class) (w : ℕ) (cluster : List ℕ) (letter : ℕ) → is_tab (only_char (chars cluster)) ≡ false
-    → list_any is_control (chars cluster) ≡ false → format_letter class (only_char (chars cluster)) ≡ Some letter → face class w cluster ≡ Mark letter
-of_format class w cluster letter d e f = steps class w (chars cluster) false false (Some letter) d e f
+pub of_format : (says : Data) (w : ℕ) (cluster : List ℕ) (letter : ℕ) → is_tab (only_char (chars cluster)) ≡ false
+    → list_any is_control (chars cluster) ≡ false → format_letter says (only_char (chars cluster)) ≡ Some letter → face says w cluster ≡ Mark letter
+of_format says w cluster letter d e f = steps says w (chars cluster) false false (Some letter) d e f
 
-pub of_sized : (class : ℕ → Class) (w : ℕ) (cluster : List ℕ) → is_tab (only_char (chars cluster)) ≡ false → list_any is_control (chars cluster) ≡ false
-    → format_letter class (only_char (chars cluster)) ≡ None → face class w cluster ≡ sized_face w (columns_of (chars cluster))
-of_sized class w cluster d e f = steps class w (chars cluster) false false None d e f
+pub of_sized : (says : Data) (w : ℕ) (cluster : List ℕ) → is_tab (only_char (chars cluster)) ≡ false → list_any is_control (chars cluster) ≡ false
+    → format_letter says (only_char (chars cluster)) ≡ None → face says w cluster ≡ sized_face w (columns_of (chars cluster))
+of_sized says w cluster d e f = steps says w (chars cluster) false false None d e f
 
 -- ---- the only character, by the first two steps over a text
 

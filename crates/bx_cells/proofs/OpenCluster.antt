@@ -7,6 +7,7 @@ use Rattle.std.proofs.lemmas.Bool.{and_parts, and_from, or_left, or_right}
 use Rattle.std.proofs.lemmas.Bool.Decides.{nat_tests}
 use Rattle.std.proofs.lemmas.List.{drop-drop, drop_at, take_at, length-drop, nil_from_length}
 use Rattle.std.proofs.lemmas.Str.{chars-nil, chars-encodes, chars_past_char, scalars-chars, encodes-append, IsUtf8-drop, IsCharBoundary-from_drop}
+use Rattle.bx_ucd.specs.Data.{Data}
 use Rattle.unicode_segmentation.specs.Grapheme.{graphemes, is_grapheme_break}
 use Rattle.unicode_segmentation.specs.Segments.{prepend, cut, segments, with_offsets}
 use Rattle.bx_ucd.specs.declared.class.Class.{Class}
@@ -38,10 +39,10 @@ marks_no_control (m ∷ ms) h =
     let p = and_parts (is_mark m) (list_all is_mark ms) h in
     ap₂ (λ x y. x || y) (shown_no_control m (IsMark-from_test m p.0).shown) (marks_no_control ms p.1)
 
-only_of_marks : (class : ℕ → Class) (c : ℕ) (ms : List ℕ) → format_letter class (only_char (c ∷ ms))
-    ≡ format_letter class (cond (is_some_mark ms) None (Some c))
-only_of_marks class c [] = refl
-only_of_marks class c (m ∷ ms) = refl
+only_of_marks : (says : Data) (c : ℕ) (ms : List ℕ) → format_letter says (only_char (c ∷ ms))
+    ≡ format_letter says (cond (is_some_mark ms) None (Some c))
+only_of_marks says c [] = refl
+only_of_marks says c (m ∷ ms) = refl
 
 only_of_open : (c : ℕ) (ms : List ℕ) → only_char (c ∷ ms) ≡ cond (is_some_mark ms) None (Some c)
 only_of_open c [] = refl
@@ -51,13 +52,13 @@ by_letter_is : (f : Face) (l : Option ℕ) → by_letter f l ≡ elim l [ Some l
 by_letter_is f (Some letter) = refl
 by_letter_is f None = refl
 
-pub face-simple : (class : ℕ → Class) (w c : ℕ) (ms : List ℕ) → begins c ≡ true → list_all is_mark ms ≡ true
-    → face_of class w (c ∷ ms) ≡ simple_face class w c (is_some_mark ms)
-face-simple class w c ms b h =
+pub face-simple : (says : Data) (w c : ℕ) (ms : List ℕ) → begins c ≡ true → list_all is_mark ms ≡ true
+    → face_of says w (c ∷ ms) ≡ simple_face says w c (is_some_mark ms)
+face-simple says w c ms b h =
     let shown = (Begins-from_test c b).shown in
     let none = ap₂ (λ x y. x || y) (shown_no_control c shown) (marks_no_control ms h) in
-    let l = format_letter class (cond (is_some_mark ms) None (Some c)) in
-    steps class w (c ∷ ms) false false l (unit_is_no_tab c ms shown) none (only_of_marks class c ms)
+    let l = format_letter says (cond (is_some_mark ms) None (Some c)) in
+    steps says w (c ∷ ms) false false l (unit_is_no_tab c ms shown) none (only_of_marks says c ms)
     ∙ ap (λ n. by_letter (sized_face w n) l) (width-unit c ms b h) ∙ by_letter_is (sized_face w (own_columns c)) l
 
 -- ---- its end
@@ -125,8 +126,8 @@ open-mark body start c k rest m more o e h = record {
 }
 
 -- the unit of an open cluster that ends at an offset
-abbrev pub open_unit : (ℕ → Class) → ℕ → ℕ → ℕ → ℕ → Bool → Unit
-open_unit class w start stop c k = record { start = start; stop = stop; face = simple_face class w c k }
+abbrev pub open_unit : Data → ℕ → ℕ → ℕ → ℕ → Bool → Unit
+open_unit says w start stop c k = record { start = start; stop = stop; face = simple_face says w c k }
 
 module _ (body : List ℕ) (start c : ℕ) (k : Bool) (rest : List ℕ) (u : IsUtf8 body) (b : IsCharBoundary body start) (o : IsOpen body start c k rest) where
   open-chars : chars (drop start body) ≡ c ∷ (o.marks ++ chars rest)
@@ -138,14 +139,14 @@ module _ (body : List ℕ) (start c : ℕ) (k : Bool) (rest : List ℕ) (u : IsU
       let within : start ≤ length body = b.0 in
       omega (arith, count, within, length-drop start body, e)
 
-  open-face : (class : ℕ → Class) (w : ℕ) → face class w (encode_utf8_all (c ∷ o.marks)) ≡ simple_face class w c k
-  open-face class w =
+  open-face : (says : Data) (w : ℕ) → face says w (encode_utf8_all (c ∷ o.marks)) ≡ simple_face says w c k
+  open-face says w =
       let valid = scalars_front (c ∷ o.marks) (chars rest) (ap all_scalars (sym open-chars) ∙ scalars-chars (drop start body) (IsUtf8-drop body start u b)) in
-      ap (face_of class w) (chars-encodes (c ∷ o.marks) valid) ∙ face-simple class w c o.marks o.begin o.all ∙ ap (simple_face class w c) (sym o.mark)
+      ap (face_of says w) (chars-encodes (c ∷ o.marks) valid) ∙ face-simple says w c o.marks o.begin o.all ∙ ap (simple_face says w c) (sym o.mark)
 
-  open-unit : (class : ℕ → Class) (w stop : ℕ) → stop + length rest ≡ length body
-      → unit_at class w (start, encode_utf8_all (c ∷ o.marks)) ≡ open_unit class w start stop c k
-  open-unit class w stop e = ap₂ (λ n f. record { start = start; stop = n; face = f }) (open-width stop e) (open-face class w)
+  open-unit : (says : Data) (w stop : ℕ) → stop + length rest ≡ length body
+      → unit_at says w (start, encode_utf8_all (c ∷ o.marks)) ≡ open_unit says w start stop c k
+  open-unit says w stop e = ap₂ (λ n f. record { start = start; stop = n; face = f }) (open-width stop e) (open-face says w)
 
   pub open-left : (stop : ℕ) → stop + length rest ≡ length body → drop stop body ≡ rest
   open-left stop e =
@@ -161,10 +162,10 @@ module _ (body : List ℕ) (start c : ℕ) (k : Bool) (rest : List ℕ) (u : IsU
   open-after stop e = let width = open-width stop e in omega (arith, width)
 
   -- the next character begins: the cluster ends before it
-  pub open-next : (class : ℕ → Class) (w stop d : ℕ) (more : List ℕ) → stop + length rest ≡ length body → rest ≡ encode_utf8 d ++ more → begins d ≡ true
-      → units_from class w body start ≡ open_unit class w start stop c k ∷ units_from class w body stop
+  pub open-next : (says : Data) (w stop d : ℕ) (more : List ℕ) → stop + length rest ≡ length body → rest ≡ encode_utf8 d ++ more → begins d ≡ true
+      → units_from says w body start ≡ open_unit says w start stop c k ∷ units_from says w body stop
   unfolding segments with_offsets
-  open-next class w stop d more e f begin =
+  open-next says w stop d more e f begin =
       let R = is_grapheme_break true in
       let first = encode_utf8_all (c ∷ o.marks) in
       let valid = IsUtf8-past_all (c ∷ o.marks) rest (drop start body) (IsUtf8-drop body start u b) o.bytes in
@@ -173,15 +174,15 @@ module _ (body : List ℕ) (start c : ℕ) (k : Bool) (rest : List ℕ) (u : IsU
       ap (λ cs. map encode_utf8_all (cut R [] cs [])) (open-chars ∙ ap (λ x. c ∷ (o.marks ++ x)) next)
       ∙ ap (map encode_utf8_all) (cut_at_begin [] c o.marks d (chars more) (begin_is_simple c o.begin) o.all begin)
       ∙ ap (λ cs. first ∷ map encode_utf8_all (cut R [] cs [])) (sym next) in
-      ap (λ gs. map (unit_at class w) (with_offsets start gs)) clusters
-      ∙ ap₂ (λ x n. x ∷ map (unit_at class w) (with_offsets n (graphemes true rest))) (open-unit class w stop e) (open-width stop e)
-      ∙ ap (λ x. open_unit class w start stop c k ∷ map (unit_at class w) (with_offsets stop (graphemes true x))) (sym (open-left stop e))
+      ap (λ gs. map (unit_at says w) (with_offsets start gs)) clusters
+      ∙ ap₂ (λ x n. x ∷ map (unit_at says w) (with_offsets n (graphemes true rest))) (open-unit says w stop e) (open-width stop e)
+      ∙ ap (λ x. open_unit says w start stop c k ∷ map (unit_at says w) (with_offsets stop (graphemes true x))) (sym (open-left stop e))
 
   -- nothing is left: the cluster ends with the body
-  pub open-last : (class : ℕ → Class) (w stop : ℕ) → stop ≡ length body → length rest ≡ 0
-      → units_from class w body start ≡ open_unit class w start stop c k ∷ []
+  pub open-last : (says : Data) (w stop : ℕ) → stop ≡ length body → length rest ≡ 0
+      → units_from says w body start ≡ open_unit says w start stop c k ∷ []
   unfolding segments with_offsets
-  open-last class w stop e z =
+  open-last says w stop e z =
       let R = is_grapheme_break true in
       let none : rest ≡ [] = nil_from_length rest z in
       let whole : stop + length rest ≡ length body = omega (arith, e, z) in
@@ -189,32 +190,32 @@ module _ (body : List ℕ) (start c : ℕ) (k : Bool) (rest : List ℕ) (u : IsU
       ap (λ cs. map encode_utf8_all (cut R [] cs [])) (open-chars ∙ ap (λ x. c ∷ (o.marks ++ chars x)) none ∙ ap (λ x. c ∷ (o.marks ++ x)) chars-nil
       ∙ append-nil (c ∷ o.marks))
       ∙ ap (map encode_utf8_all) (cut_at_end [] c o.marks (begin_is_simple c o.begin) o.all) in
-      ap (λ gs. map (unit_at class w) (with_offsets start gs)) clusters ∙ ap (λ x. x ∷ []) (open-unit class w stop whole)
+      ap (λ gs. map (unit_at says w) (with_offsets start gs)) clusters ∙ ap (λ x. x ∷ []) (open-unit says w stop whole)
 
-  pub open-none : (class : ℕ → Class) (w stop : ℕ) → stop ≡ length body → length rest ≡ 0 → units_from class w body stop ≡ []
+  pub open-none : (says : Data) (w stop : ℕ) → stop ≡ length body → length rest ≡ 0 → units_from says w body stop ≡ []
   unfolding segments with_offsets cut
-  open-none class w stop e z =
+  open-none says w stop e z =
       let none : rest ≡ [] = nil_from_length rest z in
       let whole : stop + length rest ≡ length body = omega (arith, e, z) in
-      ap (λ x. map (unit_at class w) (with_offsets stop (map encode_utf8_all (cut (is_grapheme_break true) [] (chars x) [])))) (open-left stop whole ∙ none)
-      ∙ ap (λ x. map (unit_at class w) (with_offsets stop (map encode_utf8_all (cut (is_grapheme_break true) [] x [])))) chars-nil
+      ap (λ x. map (unit_at says w) (with_offsets stop (map encode_utf8_all (cut (is_grapheme_break true) [] (chars x) [])))) (open-left stop whole ∙ none)
+      ∙ ap (λ x. map (unit_at says w) (with_offsets stop (map encode_utf8_all (cut (is_grapheme_break true) [] x [])))) chars-nil
 
   -- its unit is added
-  pub unit-more : (class : ℕ → Class) (w stop d : ℕ) (more : List ℕ) (f : Face) (done new all : List Unit) → stop + length rest ≡ length body
-      → rest ≡ encode_utf8 d ++ more → begins d ≡ true → f ≡ simple_face class w c k → new ≡ done ++ record { start = start; stop = stop; face = f } ∷ []
-      → done ++ units_from class w body start ≡ all → new ++ units_from class w body stop ≡ all
-  unit-more class w stop d more f done new all e next begin face pushed inv =
-      ap (λ x. x ++ units_from class w body stop) (pushed ∙ ap (λ x. done ++ record { start = start; stop = stop; face = x } ∷ []) face)
-      ∙ append_assoc done (open_unit class w start stop c k ∷ []) (units_from class w body stop)
-      ∙ ap (λ x. done ++ x) (sym (open-next class w stop d more e next begin)) ∙ inv
+  pub unit-more : (says : Data) (w stop d : ℕ) (more : List ℕ) (f : Face) (done new all : List Unit) → stop + length rest ≡ length body
+      → rest ≡ encode_utf8 d ++ more → begins d ≡ true → f ≡ simple_face says w c k → new ≡ done ++ record { start = start; stop = stop; face = f } ∷ []
+      → done ++ units_from says w body start ≡ all → new ++ units_from says w body stop ≡ all
+  unit-more says w stop d more f done new all e next begin face pushed inv =
+      ap (λ x. x ++ units_from says w body stop) (pushed ∙ ap (λ x. done ++ record { start = start; stop = stop; face = x } ∷ []) face)
+      ∙ append_assoc done (open_unit says w start stop c k ∷ []) (units_from says w body stop)
+      ∙ ap (λ x. done ++ x) (sym (open-next says w stop d more e next begin)) ∙ inv
 
-  pub unit-last : (class : ℕ → Class) (w stop : ℕ) (f : Face) (done new all : List Unit) → stop ≡ length body → length rest ≡ 0 → f ≡ simple_face class w c k
-      → new ≡ done ++ record { start = start; stop = stop; face = f } ∷ [] → done ++ units_from class w body start ≡ all
-      → new ++ units_from class w body stop ≡ all
-  unit-last class w stop f done new all e z face pushed inv =
-      ap₂ (λ x y. x ++ y) (pushed ∙ ap (λ x. done ++ record { start = start; stop = stop; face = x } ∷ []) face) (open-none class w stop e z)
-      ∙ append-nil (done ++ open_unit class w start stop c k ∷ [])
-      ∙ ap (λ x. done ++ x) (sym (open-last class w stop e z)) ∙ inv
+  pub unit-last : (says : Data) (w stop : ℕ) (f : Face) (done new all : List Unit) → stop ≡ length body → length rest ≡ 0 → f ≡ simple_face says w c k
+      → new ≡ done ++ record { start = start; stop = stop; face = f } ∷ [] → done ++ units_from says w body start ≡ all
+      → new ++ units_from says w body stop ≡ all
+  unit-last says w stop f done new all e z face pushed inv =
+      ap₂ (λ x y. x ++ y) (pushed ∙ ap (λ x. done ++ record { start = start; stop = stop; face = x } ∷ []) face) (open-none says w stop e z)
+      ∙ append-nil (done ++ open_unit says w start stop c k ∷ [])
+      ∙ ap (λ x. done ++ x) (sym (open-last says w stop e z)) ∙ inv
 
   open-only : (stop : ℕ) → stop + length rest ≡ length body → only_char (chars (slice_range body start stop)) ≡ cond k None (Some c)
   open-only stop e =
@@ -235,7 +236,7 @@ module _ (body : List ℕ) (start c : ℕ) (k : Bool) (rest : List ℕ) (u : IsU
   pub at-next : (stop d n : ℕ) (more : List ℕ) → stop + length rest ≡ length body → rest ≡ encode_utf8 d ++ more → begins d ≡ true → own_columns c ≡ n
       → IsSimpleAt body start (record { first = c; columns = n; is_marked = k; stop = stop })
   at-next stop d n more e f begin columns = record {
-    units = λ class w. open-next class w stop d more e f begin;
+    units = λ says w. open-next says w stop d more e f begin;
     only = open-only stop e;
     columns = columns;
     grows = open-grows stop e;
@@ -247,7 +248,7 @@ module _ (body : List ℕ) (start c : ℕ) (k : Bool) (rest : List ℕ) (u : IsU
   at-last stop n e z columns =
       let whole : stop + length rest ≡ length body = omega (arith, e, z) in
       record {
-        units = λ class w. open-last class w stop e z ∙ ap (λ x. open_unit class w start stop c k ∷ x) (sym (open-none class w stop e z));
+        units = λ says w. open-last says w stop e z ∙ ap (λ x. open_unit says w start stop c k ∷ x) (sym (open-none says w stop e z));
         only = open-only stop whole;
         columns = columns;
         grows = open-grows stop whole;

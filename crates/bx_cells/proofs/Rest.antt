@@ -3,6 +3,7 @@ use Rattle.std.proofs.Common.{◌≡◌, ℕ, zero, suc, ◌+◌, ◌<◌, ◌�
 use Rattle.std.proofs.Common.{append_assoc, append-nil, length-append, encode_utf8, encode_utf8_all}
 use Rattle.std.specs.List.{concat}
 use Rattle.std.specs.Str.{chars, IsUtf8, IsCharBoundary, all_scalars}
+use Rattle.bx_ucd.specs.Data.{Data}
 use lib.Utf8.{scalar}
 use Rattle.std.proofs.lemmas.Bool.{and_parts, and_from}
 use Rattle.std.proofs.lemmas.List.{drop-drop, drop_at, drop_all, length-drop}
@@ -86,44 +87,44 @@ no-cluster bs u h =
 -- ---- units
 
 -- the cluster at an offset of a body, and the rest after it
-pub record IsNext (class : ℕ → Class) (w : ℕ) (body : List ℕ) (at : ℕ) (p : List ℕ) (ps : List (List ℕ)) : Type 0 where
-  pub units : units_from class w body at ≡ unit_at class w (at, p) ∷ units_from class w body (at + length p)
+pub record IsNext (says : Data) (w : ℕ) (body : List ℕ) (at : ℕ) (p : List ℕ) (ps : List (List ℕ)) : Type 0 where
+  pub units : units_from says w body at ≡ unit_at says w (at, p) ∷ units_from says w body (at + length p)
   pub own : ps ≡ graphemes true (drop (at + length p) body)
   pub boundary : IsCharBoundary body (at + length p)
 
-pub next-cluster : (class : ℕ → Class) (w : ℕ) (body : List ℕ) (at : ℕ) (p : List ℕ) (ps : List (List ℕ)) → IsUtf8 body → IsCharBoundary body at
-    → graphemes true (drop at body) ≡ p ∷ ps → IsNext class w body at p ps
+pub next-cluster : (says : Data) (w : ℕ) (body : List ℕ) (at : ℕ) (p : List ℕ) (ps : List (List ℕ)) → IsUtf8 body → IsCharBoundary body at
+    → graphemes true (drop at body) ≡ p ∷ ps → IsNext says w body at p ps
 unfolding with_offsets
-next-cluster class w body at p ps u b h =
+next-cluster says w body at p ps u b h =
     let f = first-cluster (drop at body) p ps (IsUtf8-drop body at u b) h in
     let left : drop (length p) (drop at body) ≡ drop (at + length p) body = drop-drop (length p) at body in
     let own : ps ≡ graphemes true (drop (at + length p) body) = f.own ∙ ap (graphemes true) left in
     let count = ap length f.bytes ∙ length-append p (drop (length p) (drop at body)) in
     let within : at ≤ length body = b.0 in
     record {
-      units = ap (λ x. map (unit_at class w) (with_offsets at x)) h
-          ∙ ap (λ x. unit_at class w (at, p) ∷ map (unit_at class w) (with_offsets (at + length p) x)) own;
+      units = ap (λ x. map (unit_at says w) (with_offsets at x)) h
+          ∙ ap (λ x. unit_at says w (at, p) ∷ map (unit_at says w) (with_offsets (at + length p) x)) own;
       own = own;
       boundary = IsCharBoundary-from_drop body (at + length p) (omega (arith, count, within, length-drop at body)) (subst IsUtf8 left f.utf8);
     }
 
 -- nothing is left at the end
-pub none-behind : (class : ℕ → Class) (w : ℕ) (body : List ℕ) (at : ℕ) → length body ≤ at → units_from class w body at ≡ []
+pub none-behind : (says : Data) (w : ℕ) (body : List ℕ) (at : ℕ) → length body ≤ at → units_from says w body at ≡ []
 unfolding segments with_offsets cut
-none-behind class w body at h =
-    ap (λ x. map (unit_at class w) (with_offsets at (map encode_utf8_all (cut (is_grapheme_break true) [] (chars x) [])))) (drop_all at body h)
-    ∙ ap (λ x. map (unit_at class w) (with_offsets at (map encode_utf8_all (cut (is_grapheme_break true) [] x [])))) chars-nil
+none-behind says w body at h =
+    ap (λ x. map (unit_at says w) (with_offsets at (map encode_utf8_all (cut (is_grapheme_break true) [] (chars x) [])))) (drop_all at body h)
+    ∙ ap (λ x. map (unit_at says w) (with_offsets at (map encode_utf8_all (cut (is_grapheme_break true) [] x [])))) chars-nil
 
 pub past-all : (body : List ℕ) (at : ℕ) → IsUtf8 body → IsCharBoundary body at → graphemes true (drop at body) ≡ [] → length body ≤ at
 past-all body at u b h = omega (arith, ap length (no-cluster (drop at body) (IsUtf8-drop body at u b) h), length-drop at body)
 
 -- one more unit is added
-pub unit-added : (class : ℕ → Class) (w : ℕ) (body : List ℕ) (at : ℕ) (p : List ℕ) (ps : List (List ℕ)) (f : Face) (done new all : List Unit)
-    → IsNext class w body at p ps → f ≡ face class w p → new ≡ done ++ record { start = at; stop = at + length p; face = f } ∷ []
-    → done ++ units_from class w body at ≡ all → new ++ units_from class w body (at + length p) ≡ all
-unit-added class w body at p ps f done new all n e pushed inv =
-    ap (λ x. x ++ units_from class w body (at + length p)) (pushed ∙ ap (λ x. done ++ record { start = at; stop = at + length p; face = x } ∷ []) e)
-    ∙ append_assoc done (unit_at class w (at, p) ∷ []) (units_from class w body (at + length p))
+pub unit-added : (says : Data) (w : ℕ) (body : List ℕ) (at : ℕ) (p : List ℕ) (ps : List (List ℕ)) (f : Face) (done new all : List Unit)
+    → IsNext says w body at p ps → f ≡ face says w p → new ≡ done ++ record { start = at; stop = at + length p; face = f } ∷ []
+    → done ++ units_from says w body at ≡ all → new ++ units_from says w body (at + length p) ≡ all
+unit-added says w body at p ps f done new all n e pushed inv =
+    ap (λ x. x ++ units_from says w body (at + length p)) (pushed ∙ ap (λ x. done ++ record { start = at; stop = at + length p; face = x } ∷ []) e)
+    ∙ append_assoc done (unit_at says w (at, p) ∷ []) (units_from says w body (at + length p))
     ∙ ap (λ x. done ++ x) (sym n.units) ∙ inv
 
 head_some : (ps : List (List ℕ)) (p : List ℕ) (rest : List (List ℕ)) → AllPieces (λ p. 0 < length p) ps → ps ≡ p ∷ rest → 0 < length p
@@ -135,55 +136,55 @@ pub cluster-grows : (body : List ℕ) (at : ℕ) (p : List ℕ) (ps : List (List
 cluster-grows body at p ps e = head_some (graphemes true (drop at body)) p ps (segments_nonempty (is_grapheme_break true) (drop at body)) e
 
 -- the unit of the next cluster, with its face
-pub unit-next : (class : ℕ → Class) (w : ℕ) (body : List ℕ) (at : ℕ) (p : List ℕ) (ps : List (List ℕ)) (f : Face) → IsNext class w body at p ps
-    → f ≡ face class w p → units_from class w body at ≡ record { start = at; stop = at + length p; face = f } ∷ units_from class w body (at + length p)
-unit-next class w body at p ps f n e = n.units
-    ∙ ap (λ x. record { start = at; stop = at + length p; face = x } ∷ units_from class w body (at + length p)) (sym e)
+pub unit-next : (says : Data) (w : ℕ) (body : List ℕ) (at : ℕ) (p : List ℕ) (ps : List (List ℕ)) (f : Face) → IsNext says w body at p ps
+    → f ≡ face says w p → units_from says w body at ≡ record { start = at; stop = at + length p; face = f } ∷ units_from says w body (at + length p)
+unit-next says w body at p ps f n e = n.units
+    ∙ ap (λ x. record { start = at; stop = at + length p; face = x } ∷ units_from says w body (at + length p)) (sym e)
 
 -- ---- a unit among the units of the rest
 
 -- the unit is the first one from its own offset on, and `rest` are the ones after it
-pub record IsUnitAt (class : ℕ → Class) (w : ℕ) (body : List ℕ) (u : Unit) (rest : List Unit) : Type 0 where
-  pub units : units_from class w body u.start ≡ u ∷ rest
+pub record IsUnitAt (says : Data) (w : ℕ) (body : List ℕ) (u : Unit) (rest : List Unit) : Type 0 where
+  pub units : units_from says w body u.start ≡ u ∷ rest
   pub boundary : IsCharBoundary body u.start
 
-unit-first : (class : ℕ → Class) (w : ℕ) (body : List ℕ) (at : ℕ) (p : List ℕ) (ps : List (List ℕ)) (u : Unit) (rest : List Unit) → IsCharBoundary body at
-    → graphemes true (drop at body) ≡ p ∷ ps → unit_at class w (at, p) ∷ map (unit_at class w) (with_offsets (at + length p) ps) ≡ u ∷ rest
-    → IsUnitAt class w body u rest
+unit-first : (says : Data) (w : ℕ) (body : List ℕ) (at : ℕ) (p : List ℕ) (ps : List (List ℕ)) (u : Unit) (rest : List Unit) → IsCharBoundary body at
+    → graphemes true (drop at body) ≡ p ∷ ps → unit_at says w (at, p) ∷ map (unit_at says w) (with_offsets (at + length p) ps) ≡ u ∷ rest
+    → IsUnitAt says w body u rest
 unfolding with_offsets
-unit-first class w body at p ps u rest b e h =
-    let head : unit_at class w (at, p) ≡ u = cc in
+unit-first says w body at p ps u rest b e h =
+    let head : unit_at says w (at, p) ≡ u = cc in
     let start : at ≡ u.start = ap (λ x. x.start) head in
     record {
-      units = ap (units_from class w body) (sym start) ∙ ap (λ x. map (unit_at class w) (with_offsets at x)) e ∙ h;
+      units = ap (units_from says w body) (sym start) ∙ ap (λ x. map (unit_at says w) (with_offsets at x)) e ∙ h;
       boundary = subst (IsCharBoundary body) start b;
     }
 
-unit-later : (class : ℕ → Class) (w : ℕ) (body : List ℕ) → IsUtf8 body → (i : ℕ) (ps : List (List ℕ)) (at : ℕ) → IsCharBoundary body at
-    → graphemes true (drop at body) ≡ ps → (u : Unit) (rest : List Unit) → drop i (map (unit_at class w) (with_offsets at ps)) ≡ u ∷ rest
-    → IsUnitAt class w body u rest
+unit-later : (says : Data) (w : ℕ) (body : List ℕ) → IsUtf8 body → (i : ℕ) (ps : List (List ℕ)) (at : ℕ) → IsCharBoundary body at
+    → graphemes true (drop at body) ≡ ps → (u : Unit) (rest : List Unit) → drop i (map (unit_at says w) (with_offsets at ps)) ≡ u ∷ rest
+    → IsUnitAt says w body u rest
 unfolding with_offsets
-unit-later class w body valid zero [] at b e u rest h = cc
-unit-later class w body valid (suc i) [] at b e u rest h = cc
-unit-later class w body valid zero (p ∷ ps) at b e u rest h = unit-first class w body at p ps u rest b e h
-unit-later class w body valid (suc i) (p ∷ ps) at b e u rest h =
-    let n = next-cluster class w body at p ps valid b e in unit-later class w body valid i ps (at + length p) n.boundary (sym n.own) u rest h
+unit-later says w body valid zero [] at b e u rest h = cc
+unit-later says w body valid (suc i) [] at b e u rest h = cc
+unit-later says w body valid zero (p ∷ ps) at b e u rest h = unit-first says w body at p ps u rest b e h
+unit-later says w body valid (suc i) (p ∷ ps) at b e u rest h =
+    let n = next-cluster says w body at p ps valid b e in unit-later says w body valid i ps (at + length p) n.boundary (sym n.own) u rest h
 
 -- each unit of a body is such
-pub unit-behind : (class : ℕ → Class) (w : ℕ) (body : List ℕ) (i : ℕ) (u : Unit) (rest : List Unit) → IsUtf8 body
-    → drop i (units class w body) ≡ u ∷ rest → IsUnitAt class w body u rest
-unit-behind class w body i u rest valid h =
-    unit-later class w body valid i (graphemes true body) 0 (IsCharBoundary-start body valid) refl u rest h
+pub unit-behind : (says : Data) (w : ℕ) (body : List ℕ) (i : ℕ) (u : Unit) (rest : List Unit) → IsUtf8 body
+    → drop i (units says w body) ≡ u ∷ rest → IsUnitAt says w body u rest
+unit-behind says w body i u rest valid h =
+    unit-later says w body valid i (graphemes true body) 0 (IsCharBoundary-start body valid) refl u rest h
 
-few-from : (class : ℕ → Class) (w : ℕ) (body : List ℕ) → IsUtf8 body → (ps : List (List ℕ)) (at : ℕ) → IsCharBoundary body at
-    → graphemes true (drop at body) ≡ ps → at + length (map (unit_at class w) (with_offsets at ps)) ≤ length body
+few-from : (says : Data) (w : ℕ) (body : List ℕ) → IsUtf8 body → (ps : List (List ℕ)) (at : ℕ) → IsCharBoundary body at
+    → graphemes true (drop at body) ≡ ps → at + length (map (unit_at says w) (with_offsets at ps)) ≤ length body
 unfolding with_offsets
-few-from class w body valid [] at b e = let within = b.0 in omega (arith, within)
-few-from class w body valid (p ∷ ps) at b e =
-    let n = next-cluster class w body at p ps valid b e in
-    omega (arith, cluster-grows body at p ps e, few-from class w body valid ps (at + length p) n.boundary (sym n.own))
+few-from says w body valid [] at b e = let within = b.0 in omega (arith, within)
+few-from says w body valid (p ∷ ps) at b e =
+    let n = next-cluster says w body at p ps valid b e in
+    omega (arith, cluster-grows body at p ps e, few-from says w body valid ps (at + length p) n.boundary (sym n.own))
 
 -- a body has no more units than bytes
-pub few-units : (class : ℕ → Class) (w : ℕ) (body : List ℕ) → IsUtf8 body → length (units class w body) ≤ length body
-few-units class w body valid =
-    let few = few-from class w body valid (graphemes true body) 0 (IsCharBoundary-start body valid) refl in omega (arith, few)
+pub few-units : (says : Data) (w : ℕ) (body : List ℕ) → IsUtf8 body → length (units says w body) ≤ length body
+few-units says w body valid =
+    let few = few-from says w body valid (graphemes true body) 0 (IsCharBoundary-start body valid) refl in omega (arith, few)

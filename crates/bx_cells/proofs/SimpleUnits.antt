@@ -5,6 +5,7 @@ use Rattle.std.specs.List.{list_all, list_any}
 use Rattle.std.specs.Str.{all_scalars}
 use Rattle.std.proofs.lemmas.Bool.Decides.{nat_tests}
 use Rattle.std.proofs.lemmas.Str.{chars-encodes}
+use Rattle.bx_ucd.specs.Data.{Data}
 use Rattle.unicode_segmentation.specs.Grapheme.{graphemes}
 use Rattle.unicode_segmentation.specs.Segments.{segments}
 use Rattle.bx_ucd.specs.declared.class.Class.{Class}
@@ -57,19 +58,19 @@ unit_is_no_tab c [] h = no_tab c h
 unit_is_no_tab c (m ∷ ms) h = refl
 
 -- the face of one that begins and its marks
-pub most-unit : (class : ℕ → Class) (w c : ℕ) (ms : List ℕ) → begins c ≡ true → list_all is_mark ms ≡ true
-    → HasAtMost (own_columns c) (face_of class w (c ∷ ms))
-most-unit class w c ms b h =
+pub most-unit : (says : Data) (w c : ℕ) (ms : List ℕ) → begins c ≡ true → list_all is_mark ms ≡ true
+    → HasAtMost (own_columns c) (face_of says w (c ∷ ms))
+most-unit says w c ms b h =
     let begun = Begins-from_test c b in
     let n = own_columns c in
     let one = leb-true 1 n begun.some_columns in
     let size = ap (sized_face w) (width-unit c ms b h) in
     let sized : HasAtMost n (sized_face w (columns_of (c ∷ ms))) = subst (HasAtMost n) (sym size) (most-size n (n == 0) (nat_lt w n) one) in
-    let rest = by_control (by_letter (sized_face w (columns_of (c ∷ ms))) (format_letter class (only_char (c ∷ ms)))) (list_any is_control (c ∷ ms)) in
+    let rest = by_control (by_letter (sized_face w (columns_of (c ∷ ms))) (format_letter says (only_char (c ∷ ms)))) (list_any is_control (c ∷ ms)) in
     subst (λ t. HasAtMost n (by_tab rest t)) (sym (unit_is_no_tab c ms begun.shown))
-    (most-control n _ (list_any is_control (c ∷ ms)) one (most-letter n _ (format_letter class (only_char (c ∷ ms))) one sized))
+    (most-control n _ (list_any is_control (c ∷ ms)) one (most-letter n _ (format_letter says (only_char (c ∷ ms))) one sized))
 
 -- the same of its bytes
-pub most-cluster : (class : ℕ → Class) (w c : ℕ) (ms : List ℕ) → begins c ≡ true → list_all is_mark ms ≡ true → all_scalars (c ∷ ms) ≡ true
-    → HasAtMost (own_columns c) (face class w (encode_utf8_all (c ∷ ms)))
-most-cluster class w c ms b h v = subst (λ cs. HasAtMost (own_columns c) (face_of class w cs)) (sym (chars-encodes (c ∷ ms) v)) (most-unit class w c ms b h)
+pub most-cluster : (says : Data) (w c : ℕ) (ms : List ℕ) → begins c ≡ true → list_all is_mark ms ≡ true → all_scalars (c ∷ ms) ≡ true
+    → HasAtMost (own_columns c) (face says w (encode_utf8_all (c ∷ ms)))
+most-cluster says w c ms b h v = subst (λ cs. HasAtMost (own_columns c) (face_of says w cs)) (sym (chars-encodes (c ∷ ms) v)) (most-unit says w c ms b h)

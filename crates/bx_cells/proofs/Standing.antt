@@ -4,6 +4,7 @@ use Rattle.std.specs.Str.{IsCharBoundary}
 use Rattle.std.proofs.lemmas.List.{take_at}
 use Rattle.std.proofs.lemmas.List.Elements.{All-nil, All-cons, All-map, All-weaker, All-same, All-take}
 use Rattle.std.proofs.lemmas.Str.{IsUtf8-drop}
+use Rattle.bx_ucd.specs.Data.{Data}
 use Rattle.unicode_segmentation.specs.Grapheme.{graphemes, is_grapheme_break}
 use Rattle.unicode_segmentation.specs.Segments.{with_offsets}
 use Rattle.unicode_segmentation.proofs.SegmentsLemmas.{IsPieceOf, All-IsPieceOf}
@@ -13,23 +14,23 @@ use Rattle.bx_cells.specs.Faces.{face}
 use Rattle.bx_cells.specs.Units.{units, units_from, unit_at, StandsIn, HasFace}
 use Rattle.bx_cells.proofs.Rest.{next-cluster, first-cluster}
 
-pub stand-units : (class : ℕ → Class) (w : ℕ) (body : List ℕ) → IsUtf8 body → All (StandsIn body) (units class w body)
-stand-units class w body u =
-    All-map (StandsIn body) (unit_at class w) (with_offsets 0 (graphemes true body))
-    (All-weaker (IsPieceOf body) (λ x. StandsIn body (unit_at class w x)) (λ x p. (omega arith, p.start, p.end)) _
+pub stand-units : (says : Data) (w : ℕ) (body : List ℕ) → IsUtf8 body → All (StandsIn body) (units says w body)
+stand-units says w body u =
+    All-map (StandsIn body) (unit_at says w) (with_offsets 0 (graphemes true body))
+    (All-weaker (IsPieceOf body) (λ x. StandsIn body (unit_at says w x)) (λ x p. (omega arith, p.start, p.end)) _
     (All-IsPieceOf (is_grapheme_break true) body u))
 
-pub stand_if_units : (class : ℕ → Class) (w : ℕ) (body : List ℕ) (us : List Unit) → IsUtf8 body → us ≡ units class w body → All (StandsIn body) us
-stand_if_units class w body us u e = All-same (StandsIn body) us (units class w body) e (stand-units class w body u)
+pub stand_if_units : (says : Data) (w : ℕ) (body : List ℕ) (us : List Unit) → IsUtf8 body → us ≡ units says w body → All (StandsIn body) us
+stand_if_units says w body us u e = All-same (StandsIn body) us (units says w body) e (stand-units says w body u)
 
-pub faces-units : (class : ℕ → Class) (w : ℕ) (body : List ℕ) → IsUtf8 body → All (HasFace class w body) (units class w body)
-faces-units class w body u =
-    All-map (HasFace class w body) (unit_at class w) (with_offsets 0 (graphemes true body))
-    (All-weaker (IsPieceOf body) (λ x. HasFace class w body (unit_at class w x)) (λ x p. ap (face class w) p.bytes) _
+pub faces-units : (says : Data) (w : ℕ) (body : List ℕ) → IsUtf8 body → All (HasFace says w body) (units says w body)
+faces-units says w body u =
+    All-map (HasFace says w body) (unit_at says w) (with_offsets 0 (graphemes true body))
+    (All-weaker (IsPieceOf body) (λ x. HasFace says w body (unit_at says w x)) (λ x p. ap (face says w) p.bytes) _
     (All-IsPieceOf (is_grapheme_break true) body u))
 
-pub faces_if_units : (class : ℕ → Class) (w : ℕ) (body : List ℕ) (us : List Unit) → IsUtf8 body → us ≡ units class w body → All (HasFace class w body) us
-faces_if_units class w body us u e = All-same (HasFace class w body) us (units class w body) e (faces-units class w body u)
+pub faces_if_units : (says : Data) (w : ℕ) (body : List ℕ) (us : List Unit) → IsUtf8 body → us ≡ units says w body → All (HasFace says w body) us
+faces_if_units says w body us u e = All-same (HasFace says w body) us (units says w body) e (faces-units says w body u)
 
 -- ---- the units from an offset on
 
@@ -42,25 +43,25 @@ first-bytes body at p ps u b e =
     sym (ap (take (length p)) f.bytes ∙ take_at p (drop (length p) (drop at body)) (length p) refl) ∙ ap (λ n. take n (drop at body)) (sym len)
 
 -- a property of the unit of each cluster at its offset holds of all units from an offset on
-all-from : (P : Unit → Type 0) (class : ℕ → Class) (w : ℕ) (body : List ℕ) → IsUtf8 body
+all-from : (P : Unit → Type 0) (says : Data) (w : ℕ) (body : List ℕ) → IsUtf8 body
     → ((at : ℕ) (p : List ℕ) → IsCharBoundary body at → IsCharBoundary body (at + length p) → p ≡ slice_range body at (at + length p)
-    → P (unit_at class w (at, p)))
-    → (ps : List (List ℕ)) (at : ℕ) → IsCharBoundary body at → graphemes true (drop at body) ≡ ps → All P (map (unit_at class w) (with_offsets at ps))
+    → P (unit_at says w (at, p)))
+    → (ps : List (List ℕ)) (at : ℕ) → IsCharBoundary body at → graphemes true (drop at body) ≡ ps → All P (map (unit_at says w) (with_offsets at ps))
 unfolding with_offsets
-all-from P class w body u each [] at b e = All-nil P
-all-from P class w body u each (p ∷ ps) at b e =
-    let n = next-cluster class w body at p ps u b e in
-    All-cons P (unit_at class w (at, p)) (map (unit_at class w) (with_offsets (at + length p) ps)) (each at p b n.boundary (first-bytes body at p ps u b e))
-    (all-from P class w body u each ps (at + length p) n.boundary (sym n.own))
+all-from P says w body u each [] at b e = All-nil P
+all-from P says w body u each (p ∷ ps) at b e =
+    let n = next-cluster says w body at p ps u b e in
+    All-cons P (unit_at says w (at, p)) (map (unit_at says w) (with_offsets (at + length p) ps)) (each at p b n.boundary (first-bytes body at p ps u b e))
+    (all-from P says w body u each ps (at + length p) n.boundary (sym n.own))
 
-pub stand_if_taken : (class : ℕ → Class) (w n : ℕ) (body : List ℕ) (at : ℕ) (us : List Unit) → IsUtf8 body → IsCharBoundary body at
-    → us ≡ take n (units_from class w body at) → All (StandsIn body) us
-stand_if_taken class w n body at us u b e =
-    All-same (StandsIn body) us (take n (units_from class w body at)) e (All-take (StandsIn body) n (units_from class w body at)
-    (all-from (StandsIn body) class w body u (λ i p begins ends bytes. (omega arith, begins, ends)) (graphemes true (drop at body)) at b refl))
+pub stand_if_taken : (says : Data) (w n : ℕ) (body : List ℕ) (at : ℕ) (us : List Unit) → IsUtf8 body → IsCharBoundary body at
+    → us ≡ take n (units_from says w body at) → All (StandsIn body) us
+stand_if_taken says w n body at us u b e =
+    All-same (StandsIn body) us (take n (units_from says w body at)) e (All-take (StandsIn body) n (units_from says w body at)
+    (all-from (StandsIn body) says w body u (λ i p begins ends bytes. (omega arith, begins, ends)) (graphemes true (drop at body)) at b refl))
 
-pub faces_if_taken : (class : ℕ → Class) (w n : ℕ) (body : List ℕ) (at : ℕ) (us : List Unit) → IsUtf8 body → IsCharBoundary body at
-    → us ≡ take n (units_from class w body at) → All (HasFace class w body) us
-faces_if_taken class w n body at us u b e =
-    All-same (HasFace class w body) us (take n (units_from class w body at)) e (All-take (HasFace class w body) n (units_from class w body at)
-    (all-from (HasFace class w body) class w body u (λ i p begins ends bytes. ap (face class w) bytes) (graphemes true (drop at body)) at b refl))
+pub faces_if_taken : (says : Data) (w n : ℕ) (body : List ℕ) (at : ℕ) (us : List Unit) → IsUtf8 body → IsCharBoundary body at
+    → us ≡ take n (units_from says w body at) → All (HasFace says w body) us
+faces_if_taken says w n body at us u b e =
+    All-same (HasFace says w body) us (take n (units_from says w body at)) e (All-take (HasFace says w body) n (units_from says w body at)
+    (all-from (HasFace says w body) says w body u (λ i p begins ends bytes. ap (face says w) bytes) (graphemes true (drop at body)) at b refl))

@@ -1,6 +1,7 @@
 -- The face of a grapheme cluster in a window of `w` columns. A cluster is given as its bytes.
 use Rattle.std.specs.Prelude.{ℕ, ◌==◌, nat_lt, Bool, true, false, List, [], ◌∷◌, Option, Some, None, chars}
 use Rattle.std.specs.List.{list_any}
+use Rattle.bx_ucd.specs.Data.{Data}
 use Rattle.bx_ucd.specs.declared.class.Class.{Class}
 use Rattle.bx_ucd.specs.declared.class.Class.TheVariants.{LRE, RLE, LRO, RLO, PDF, LRI, RLI, FSI, PDI}
 use Rattle.bx_terms.specs.Characters.{is_control}
@@ -32,9 +33,9 @@ letter_of PDI = Some 80
 letter_of _ = None
 
 -- the letter of a cluster that is one explicit formatting character
-abbrev pub format_letter : (ℕ → Class) → Option ℕ → Option ℕ
-format_letter class None = None
-format_letter class (Some c) = letter_of (class c)
+abbrev pub format_letter : Data → Option ℕ → Option ℕ
+format_letter says None = None
+format_letter says (Some c) = letter_of (says.class c)
 
 -- the columns of a text, with ambiguous characters narrow
 abbrev pub columns_of : List ℕ → ℕ
@@ -45,12 +46,12 @@ abbrev pub sized_face : ℕ → ℕ → Face
 sized_face w n = elim (n == 0) [ true ↦ Mark 126 | false ↦ elim (nat_lt w n) [ true ↦ Mark 35 | false ↦ Own n ] ]
 
 -- the face of a cluster's characters: a tab; `?` for a control; a formatting character's letter; else by its columns
-abbrev pub face_of : (ℕ → Class) → ℕ → List ℕ → Face
-face_of class w cs = elim (is_tab (only_char cs)) [
+abbrev pub face_of : Data → ℕ → List ℕ → Face
+face_of says w cs = elim (is_tab (only_char cs)) [
   | true ↦ Tab
   | false ↦ elim (list_any is_control cs) [
     | true ↦ Mark 63
-    | false ↦ elim (format_letter class (only_char cs)) [
+    | false ↦ elim (format_letter says (only_char cs)) [
       | Some letter ↦ Mark letter
       | None ↦ sized_face w (columns_of cs)
     ]
@@ -58,5 +59,5 @@ face_of class w cs = elim (is_tab (only_char cs)) [
 ]
 
 -- the face of a cluster
-abbrev pub face : (ℕ → Class) → ℕ → List ℕ → Face
-face class w cluster = face_of class w (chars cluster)
+abbrev pub face : Data → ℕ → List ℕ → Face
+face says w cluster = face_of says w (chars cluster)

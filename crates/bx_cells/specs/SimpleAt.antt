@@ -1,6 +1,7 @@
 -- A cluster of simple characters in a body.
 use Rattle.std.specs.Prelude.{◌≡◌, ℕ, ◌<◌, cond, List, ◌∷◌, chars, slice_range, Some, None}
 use Rattle.std.specs.Str.{IsCharBoundary}
+use Rattle.bx_ucd.specs.Data.{Data}
 use Rattle.bx_ucd.specs.declared.class.Class.{Class}
 use Rattle.bx_cells.specs.declared.simple_clusters.SimpleCluster.{SimpleCluster}
 use Rattle.bx_cells.specs.Faces.{only_char}
@@ -10,8 +11,8 @@ use Rattle.bx_cells.specs.Units.{units_from}
 
 -- `s` is the first cluster of a body from an offset on
 pub record IsSimpleAt (body : List ℕ) (at : ℕ) (s : SimpleCluster) : Type 0 where
-  pub units : (class : ℕ → Class) (w : ℕ) → units_from class w body at
-      ≡ record { start = at; stop = s.stop; face = simple_face class w s.first s.is_marked } ∷ units_from class w body s.stop
+  pub units : (says : Data) (w : ℕ) → units_from says w body at
+      ≡ record { start = at; stop = s.stop; face = simple_face says w s.first s.is_marked } ∷ units_from says w body s.stop
   pub only : only_char (chars (slice_range body at s.stop)) ≡ cond s.is_marked None (Some s.first)
   pub columns : own_columns s.first ≡ s.columns
   pub grows : at < s.stop

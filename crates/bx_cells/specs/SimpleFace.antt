@@ -1,5 +1,6 @@
 -- The face of a cluster of simple characters.
 use Rattle.std.specs.Prelude.{ℕ, Bool, true, false, cond, List, [], ◌∷◌, Some, None}
+use Rattle.bx_ucd.specs.Data.{Data}
 use Rattle.bx_ucd.specs.declared.class.Class.{Class}
 use Rattle.bx_cells.specs.declared.unit.Face.{Face}
 use Rattle.bx_cells.specs.declared.unit.Face.TheVariants.{Mark}
@@ -12,8 +13,8 @@ is_some_mark [] = false
 is_some_mark (m ∷ ms) = true
 
 -- the face of a cluster that begins with the character `c`, with marks or without
-abbrev pub simple_face : (ℕ → Class) → ℕ → ℕ → Bool → Face
-simple_face class w c is_marked = elim (format_letter class (cond is_marked None (Some c))) [
+abbrev pub simple_face : Data → ℕ → ℕ → Bool → Face
+simple_face says w c is_marked = elim (format_letter says (cond is_marked None (Some c))) [
   | Some letter ↦ Mark letter
   | None ↦ sized_face w (own_columns c)
 ]

@@ -60,8 +60,8 @@ pub(crate) fn push_ascii<D: BidiData>(
 ) -> Result<usize, AllocError>
     requires { IsCharBoundary body.now at }
     ensures within { IfOk result (λ next. (at ≤ next) × IsCharBoundary body.now next) }
-    ensures units { IfOk result (λ next. units.new.items ++ units_from (D.data tables.now).class w body.now next
-        ≡ units.old.items ++ units_from (D.data tables.now).class w body.now at) }
+    ensures units { IfOk result (λ next. units.new.items ++ units_from (D.data tables.now) w body.now next
+        ≡ units.old.items ++ units_from (D.data tables.now) w body.now at) }
 {
     let bytes = body.as_bytes();
     let stop = printable_stop(bytes, at);

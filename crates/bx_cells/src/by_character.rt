@@ -33,7 +33,7 @@ pub fn simple_face<D: BidiData>(
     w: u16,
 ) -> Face
     requires { own_columns first ≡ columns }
-    ensures { result ≡ simple_face (D.data tables.now).class w first is_marked }
+    ensures { result ≡ simple_face (D.data tables.now) w first is_marked }
 {
     if is_marked {
         return small_face(w, columns);
@@ -55,8 +55,8 @@ pub(crate) fn push_simple<D: BidiData>(
 ) -> Result<usize, AllocError>
     requires { IsCharBoundary body.now at }
     ensures within { IfOk result (λ next. (at ≤ next) × IsCharBoundary body.now next) }
-    ensures units { IfOk result (λ next. units.new.items ++ units_from (D.data tables.now).class w body.now next
-        ≡ units.old.items ++ units_from (D.data tables.now).class w body.now at) }
+    ensures units { IfOk result (λ next. units.new.items ++ units_from (D.data tables.now) w body.now next
+        ≡ units.old.items ++ units_from (D.data tables.now) w body.now at) }
 {
     let Some((c, behind)) = first_char(&body[at..]) else {
         return Ok(at);

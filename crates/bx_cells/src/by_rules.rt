@@ -31,8 +31,8 @@ pub(crate) fn push_by_rules<D: BidiData>(
     requires { IsCharBoundary body.now at }
     ensures within { IfOk result (λ next. (at ≤ next) × IsCharBoundary body.now next) }
     ensures further { at < length body.now → IfOk result (λ next. at < next) }
-    ensures units { IfOk result (λ next. units.new.items ++ units_from (D.data tables.now).class w body.now next
-        ≡ units.old.items ++ units_from (D.data tables.now).class w body.now at) }
+    ensures units { IfOk result (λ next. units.new.items ++ units_from (D.data tables.now) w body.now next
+        ≡ units.old.items ++ units_from (D.data tables.now) w body.now at) }
 {
     let mut start = at;
     let mut was_simple = false;
@@ -58,7 +58,7 @@ pub fn ruled_unit<D: BidiData>(body: &str, at: usize, tables: &D, w: u16) -> Uni
     requires start { IsCharBoundary body.now at }
     requires some { at < length body.now }
     ensures start { result.start ≡ at }
-    ensures units { units_from (D.data tables.now).class w body.now at ≡ result ∷ units_from (D.data tables.now).class w body.now result.stop }
+    ensures units { units_from (D.data tables.now) w body.now at ≡ result ∷ units_from (D.data tables.now) w body.now result.stop }
     ensures stop { (at < result.stop) × IsCharBoundary body.now result.stop }
 {
     match body[at..].graphemes(true).next() {

@@ -20,7 +20,7 @@ fn listed<D: BidiData>(
     tables: &D,
     w: u16,
 ) -> Result<Vec<Unit>, CellError>
-    ensures { IfOk result (λ v. v.items ≡ units (D.data tables.now).class w body.now) }
+    ensures { IfOk result (λ v. v.items ≡ units (D.data tables.now) w body.now) }
 {
     let mut units = Vec::with_capacity(alloc, body.len().min(FIRST_ROOM))?;
     let mut at = 0;
@@ -41,9 +41,9 @@ pub fn units<D: BidiData>(
     tables: &D,
     w: u16,
 ) -> Result<Vec<Unit>, CellError>
-    ensures units { IfOk result (λ v. v.items ≡ units (D.data tables.now).class w body.now) }
+    ensures units { IfOk result (λ v. v.items ≡ units (D.data tables.now) w body.now) }
     ensures stand { IfOk result (λ v. All (StandsIn body.now) v.items) }
-    ensures faces { IfOk result (λ v. All (HasFace (D.data tables.now).class w body.now) v.items) }
+    ensures faces { IfOk result (λ v. All (HasFace (D.data tables.now) w body.now) v.items) }
 {
     let units = listed(alloc, body, tables, w)?;
     Ok(units)

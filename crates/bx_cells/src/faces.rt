@@ -116,7 +116,7 @@ fn is_tab(only: Option<char>) -> bool
 
 /// The letter of a cluster that is one explicit formatting character.
 fn format_letter<D: BidiData>(only: Option<char>, tables: &D) -> Option<u8>
-    ensures { result ≡ format_letter (D.data tables.now).class only }
+    ensures { result ≡ format_letter (D.data tables.now) only }
 {
     match only {
         Some(c) => letter_of(tables.class(c)),
@@ -127,7 +127,7 @@ fn format_letter<D: BidiData>(only: Option<char>, tables: &D) -> Option<u8>
 /// The face of a cluster in a window of `w` columns.
 #[tactic(auto, using(crate::proofs::FaceSteps::of_tab, crate::proofs::FaceSteps::of_control, crate::proofs::FaceSteps::of_format, crate::proofs::FaceSteps::of_sized))]
 pub fn face<D: BidiData>(cluster: &str, tables: &D, w: u16) -> Face
-    ensures { result ≡ face (D.data tables.now).class w cluster.now }
+    ensures { result ≡ face (D.data tables.now) w cluster.now }
 {
     let only = only_char(cluster);
     if is_tab(only) {

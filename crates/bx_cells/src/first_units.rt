@@ -16,7 +16,7 @@ use std::alloc::{AllocError, Global};
 fn unit_at<D: BidiData>(body: &str, at: usize, tables: &D, w: u16) -> Unit
     requires start { IsCharBoundary body.now at }
     requires some { at < length body.now }
-    ensures units { units_from (D.data tables.now).class w body.now at ≡ result ∷ units_from (D.data tables.now).class w body.now result.stop }
+    ensures units { units_from (D.data tables.now) w body.now at ≡ result ∷ units_from (D.data tables.now) w body.now result.stop }
     ensures stop { (at < result.stop) × IsCharBoundary body.now result.stop }
 {
     match simple_cluster(body, at) {
@@ -39,7 +39,7 @@ fn listed_from<D: BidiData>(
     w: u16,
 ) -> Result<Vec<Unit>, AllocError>
     requires { IsCharBoundary body.now at }
-    ensures { IfOk result (λ v. v.items ≡ take count (units_from (D.data tables.now).class w body.now at)) }
+    ensures { IfOk result (λ v. v.items ≡ take count (units_from (D.data tables.now) w body.now at)) }
 {
     let mut units = Vec::with_capacity(alloc, count.min(FIRST_ROOM))?;
     let mut next = at;
@@ -64,9 +64,9 @@ pub fn units_from<D: BidiData>(
     w: u16,
 ) -> Result<Vec<Unit>, CellError>
     requires { IsCharBoundary body.now at }
-    ensures units { IfOk result (λ v. v.items ≡ take count (units_from (D.data tables.now).class w body.now at)) }
+    ensures units { IfOk result (λ v. v.items ≡ take count (units_from (D.data tables.now) w body.now at)) }
     ensures stand { IfOk result (λ v. All (StandsIn body.now) v.items) }
-    ensures faces { IfOk result (λ v. All (HasFace (D.data tables.now).class w body.now) v.items) }
+    ensures faces { IfOk result (λ v. All (HasFace (D.data tables.now) w body.now) v.items) }
 {
     let units = listed_from(alloc, body, at, count, tables, w)?;
     Ok(units)

@@ -7,6 +7,7 @@ use Rattle.std.specs.Prelude.{⊤, All}
 use Rattle.std.proofs.lemmas.Bool.{and_parts}
 use Rattle.std.proofs.lemmas.Bool.Decides.{nat_tests}
 use Rattle.std.proofs.lemmas.List.Sums.{sum_by-cons}
+use Rattle.bx_ucd.specs.Data.{Data}
 use Rattle.bx_ucd.specs.declared.class.Class.{Class}
 use Rattle.bx_ucd.specs.declared.data.Side.{Side}
 use Rattle.bx_explicit.specs.declared.base.Base.{Base}
@@ -59,11 +60,11 @@ have-of text Tab h = tt
 have-of text (Mark letter) h = tt
 have-of text (Own n) h = h.2
 
-all-have : (class : ℕ → Class) (w : ℕ) (body : List ℕ) (us : List Unit) → All (HasFace class w body) us → AllHave us
-all-have class w body [] h = tt
-all-have class w body (u ∷ us) h = (
-  have-of (chars (unit_text body u)) u.face (tells-face class w (unit_text body u) u.face (h 0 u (omega arith))),
-  all-have class w body us (λ i d inside. h (suc i) d (omega (arith, inside))),
+all-have : (says : Data) (w : ℕ) (body : List ℕ) (us : List Unit) → All (HasFace says w body) us → AllHave us
+all-have says w body [] h = tt
+all-have says w body (u ∷ us) h = (
+  have-of (chars (unit_text body u)) u.face (tells-face says w (unit_text body u) u.face (h 0 u (omega arith))),
+  all-have says w body us (λ i d inside. h (suc i) d (omega (arith, inside))),
 )
 
 one-column : (w c : ℕ) (f : Face) → c < w → HasColumn f → 1 ≤ columns_at w c f
@@ -231,40 +232,40 @@ used-at w us (r ∷ rs) (suc k) h = used-at w us rs k (λ i d inside. h (suc i) 
 -- ---- of a text
 
 -- the columns of each row of a body
-module _ (class : ℕ → Class) (bracket : ℕ → Option (Side × ℕ)) (base : Base) (w : ℕ) (some : 1 ≤ w) (body : List ℕ) (utf8 : IsUtf8 body) where
+module _ (says : Data) (base : Base) (w : ℕ) (some : 1 ≤ w) (body : List ℕ) (utf8 : IsUtf8 body) where
   abbrev xs : List (List Unit)
-  xs = rows_units class w body
+  xs = rows_units says w body
 
   fits-at : (k : ℕ) → columns_used w (get_or xs k []) ≤ w
   fits-at k =
-      let us = units class w body in
-      let rs = wrap class w body us in
-      used-at w us rs k (fit_if_wrapped class w body us rs refl)
+      let us = units says w body in
+      let rs = wrap says w body us in
+      used-at w us rs k (fit_if_wrapped says w body us rs refl)
 
-  pub body-row-lie : (k : ℕ) → k < length xs → Lie w (row_slots w (row_at_body (body_rows class bracket base w body) k))
+  pub body-row-lie : (k : ℕ) → k < length xs → Lie w (row_slots w (row_at_body (body_rows says base w body) k))
   body-row-lie k h =
-      let each = levels_under class bracket base (chars body) in
-      let level = paragraph_level_under class base (chars body) in
-      let make = row_with class body level each in
+      let each = levels_under says base (chars body) in
+      let level = paragraph_level_under says base (chars body) in
+      let make = row_with says body level each in
       let us = get_or xs k [] in
       subst (λ r. Lie w (row_slots w r)) (sym (last-at make xs k h))
       (row-lie w (make (k + 1 == length xs) us) some
-      (some-at w xs k (wrapped-some (is_break class body) w (units class w body) (all-have class w body (units class w body) (faces-units class w body utf8))))
-      (fits-at k) (one_each class body level each us _ refl))
+      (some-at w xs k (wrapped-some (is_break says body) w (units says w body) (all-have says w body (units says w body) (faces-units says w body utf8))))
+      (fits-at k) (one_each says body level each us _ refl))
 
 -- the column of the cell of a place
-pub cell-inside : (class : ℕ → Class) (bracket : ℕ → Option (Side × ℕ)) (base : Base) (w : ℕ) (text : List ℕ) (place : ℕ) → 1 ≤ w → IsUtf8 text
-    → (1 ≤ cell_of w (text_rows class bracket base w text) place) × (cell_of w (text_rows class bracket base w text) place ≤ w)
-cell-inside class bracket base w text place some utf8 =
-    let number = paragraph_of (lengths class text) place in
-    let body = body_at class text number in
-    let k = row_of_body (body_rows class bracket base w body) (place - start_at class text number) in
-    let is = row-under class bracket base w some text utf8 place number k refl refl in
-    let valid = body-utf8 class text number is.paragraph utf8 in
+pub cell-inside : (says : Data) (base : Base) (w : ℕ) (text : List ℕ) (place : ℕ) → 1 ≤ w → IsUtf8 text
+    → (1 ≤ cell_of w (text_rows says base w text) place) × (cell_of w (text_rows says base w text) place ≤ w)
+cell-inside says base w text place some utf8 =
+    let number = paragraph_of (lengths says text) place in
+    let body = body_at says text number in
+    let k = row_of_body (body_rows says base w body) (place - start_at says text number) in
+    let is = row-under says base w some text utf8 place number k refl refl in
+    let valid = body-utf8 says text number is.paragraph utf8 in
     let within = is.row in
-    let count = length-with-last (row_with class body (paragraph_level_under class base (chars body)) (levels_under class bracket base (chars body)))
-    (rows_units class w body) in
-    let r = row_at_body (body_rows class bracket base w body) k in
-    let column = column-in w (row_slots w r) (place - start_at class text number) some
-    (body-row-lie class bracket base w some body valid k (omega (arith, within, count))) in
-    subst (λ c. (1 ≤ c) × (c ≤ w)) (sym (cell-is class bracket base w some text utf8 place number k refl refl)) column
+    let count = length-with-last (row_with says body (paragraph_level_under says base (chars body)) (levels_under says base (chars body)))
+    (rows_units says w body) in
+    let r = row_at_body (body_rows says base w body) k in
+    let column = column-in w (row_slots w r) (place - start_at says text number) some
+    (body-row-lie says base w some body valid k (omega (arith, within, count))) in
+    subst (λ c. (1 ≤ c) × (c ≤ w)) (sym (cell-is says base w some text utf8 place number k refl refl)) column

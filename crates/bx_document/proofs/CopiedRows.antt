@@ -41,7 +41,7 @@ kept_by d text direction k w columns h = record { columns_are = h.are ∙ ap (nu
 -- ---- as a row of the text is found, under the base direction of a layout and in its columns
 
 module _ (d : Data) (text : List ℕ) (direction base : Base) (k w width : ℕ) (r : BodyRow)
-    (told : r ≡ row_at (body_rows d.class d.bracket direction w text) k) (based : base ≡ direction) (sized : width ≡ w) where
+    (told : r ≡ row_at (body_rows d direction w text) k) (based : base ≡ direction) (sized : width ≡ w) where
   numbered : body_row_columns d w r ≡ numbered_row_columns d text base k width
   unfolding numbered_row_columns
   numbered =

@@ -41,55 +41,54 @@ splice_short text start stop new range e =
     omega (arith, most, splice_bytes text start stop new range)
 
 -- the place after an edit
-pub record IsBehind (class : ℕ → Class) (bracket : ℕ → Option (Side × ℕ)) (base : Base) (w : ℕ) (text : List ℕ) (start stop : ℕ) (new : List ℕ)
+pub record IsBehind (says : Data) (base : Base) (w : ℕ) (text : List ℕ) (start stop : ℕ) (new : List ℕ)
     (o : ℕ) : Type 0 where
-  pub place : o ≡ place_from (text_rows class bracket base w (splice text start stop new)) (start + length new)
-  pub text_place : IsTextPlace class (splice text start stop new) o
+  pub place : o ≡ place_from (text_rows says base w (splice text start stop new)) (start + length new)
+  pub text_place : IsTextPlace says (splice text start stop new) o
   pub boundary : IsCharBoundary (splice text start stop new) o
 
-pub behind : (class : ℕ → Class) (bracket : ℕ → Option (Side × ℕ)) (base : Base) (w : ℕ) (text : List ℕ) (start stop : ℕ) (new : List ℕ) (o : ℕ)
+pub behind : (says : Data) (base : Base) (w : ℕ) (text : List ℕ) (start stop : ℕ) (new : List ℕ) (o : ℕ)
     → is_side w ≡ true → IsUtf8 text → IsRange text start stop → IsUtf8 new
-    → o ≡ place_from (text_rows class bracket base w (splice text start stop new)) (start + length new)
-    → IsBehind class bracket base w text start stop new o
-behind class bracket base w text start stop new o side utf8 range new_utf8 is =
+    → o ≡ place_from (text_rows says base w (splice text start stop new)) (start + length new)
+    → IsBehind says base w text start stop new o
+behind says base w text start stop new o side utf8 range new_utf8 is =
     let some : 1 ≤ w = grind (arith, nat_tests) in
     let now = splice text start stop new in
-    let valid : IsUtf8 now = splice_utf8 class text utf8 start stop new range new_utf8 in
-    let kept : IsTextPlace class now (place_from (text_rows class bracket base w now) (start + length new)) =
-    (text-places-kept class bracket base w some now valid).from (start + length new) in
-    let own : IsTextPlace class now o = subst (IsTextPlace class now) (sym is) kept in
-    record { place = is; text_place = own; boundary = place-between class now o valid own }
+    let valid : IsUtf8 now = splice_utf8 says text utf8 start stop new range new_utf8 in
+    let kept : IsTextPlace says now (place_from (text_rows says base w now) (start + length new)) =
+    (text-places-kept says base w some now valid).from (start + length new) in
+    let own : IsTextPlace says now o = subst (IsTextPlace says now) (sym is) kept in
+    record { place = is; text_place = own; boundary = place-between says now o valid own }
 
 -- found in the touched paragraphs
-pub found : (class : ℕ → Class) (bracket : ℕ → Option (Side × ℕ)) (base : Base) (w : ℕ) (text : List ℕ) (start stop : ℕ) (new bytes : List ℕ)
-    (first offset place : ℕ) → is_side w ≡ true → IsUtf8 text → IsRange text start stop → IsUtf8 new → first ≡ touched_start class text start
-    → bytes ≡ touched class text start stop new → offset ≡ start - first + length new → place ≡ place_from (text_rows class bracket base w bytes) offset
-    → IsBehind class bracket base w text start stop new (first + place)
-found class bracket base w text start stop new bytes first offset place side utf8 range new_utf8 a b e f =
+pub found : (says : Data) (base : Base) (w : ℕ) (text : List ℕ) (start stop : ℕ) (new bytes : List ℕ)
+    (first offset place : ℕ) → is_side w ≡ true → IsUtf8 text → IsRange text start stop → IsUtf8 new → first ≡ touched_start says text start
+    → bytes ≡ touched says text start stop new → offset ≡ start - first + length new → place ≡ place_from (text_rows says base w bytes) offset
+    → IsBehind says base w text start stop new (first + place)
+found says base w text start stop new bytes first offset place side utf8 range new_utf8 a b e f =
     let some : 1 ≤ w = grind (arith, nat_tests) in
-    let same : offset ≡ start - touched_start class text start + length new = omega (arith, e, a) in
-    let is : first + place ≡ place_from (text_rows class bracket base w (splice text start stop new)) (start + length new) =
-    ap (λ n. n + place) a ∙ ap (λ n. touched_start class text start + n)
-    (f ∙ ap (λ bs. place_from (text_rows class bracket base w bs) offset) b
-    ∙ ap (place_from (text_rows class bracket base w (touched class text start stop new))) same)
-    ∙ sym (touched_place class text utf8 start stop new range new_utf8 bracket base w some) in
-    behind class bracket base w text start stop new (first + place) side utf8 range new_utf8 is
+    let same : offset ≡ start - touched_start says text start + length new = omega (arith, e, a) in
+    let is : first + place ≡ place_from (text_rows says base w (splice text start stop new)) (start + length new) =
+    ap (λ n. n + place) a ∙ ap (λ n. touched_start says text start + n)
+    (f ∙ ap (λ bs. place_from (text_rows says base w bs) offset) b
+    ∙ ap (place_from (text_rows says base w (touched says text start stop new))) same)
+    ∙ sym (touched_place says text utf8 start stop new range new_utf8 base w some) in
+    behind says base w text start stop new (first + place) side utf8 range new_utf8 is
 
 -- and as a document says it
 pub behind_by : {D : Type 0} (says : D → Data) (inner now : DocumentState D) (start stop : ℕ)
     (new : List ℕ) (o : ℕ) (base : Base) (w : ℕ) → inner ≡ now → is_side inner.document.w ≡ true → IsUtf8 inner.document.content.text
     → IsRange now.document.content.text start stop → IsUtf8 new → base ≡ inner.document.base → w ≡ inner.document.w
-    → o ≡ place_from (text_rows (says inner.tables).class (says inner.tables).bracket base w (splice inner.document.content.text start stop new))
+    → o ≡ place_from (text_rows (says inner.tables) base w (splice inner.document.content.text start stop new))
     (start + length new)
-    → IsBehind (says now.tables).class (says now.tables).bracket now.document.base now.document.w now.document.content.text start stop new o
+    → IsBehind (says now.tables) now.document.base now.document.w now.document.content.text start stop new o
 behind_by {D} says inner now start stop new o base w same side utf8 range new_utf8 same_base same_w is =
-    let class = (says inner.tables).class in
-    let bracket = (says inner.tables).bracket in
+    let by : Data = says inner.tables in
     let text = inner.document.content.text in
-    let own : o ≡ place_from (text_rows class bracket inner.document.base inner.document.w (splice text start stop new)) (start + length new) =
-    is ∙ ap (λ based. place_from (text_rows class bracket based w (splice text start stop new)) (start + length new)) same_base
-    ∙ ap (λ n. place_from (text_rows class bracket inner.document.base n (splice text start stop new)) (start + length new)) same_w in
+    let own : o ≡ place_from (text_rows by inner.document.base inner.document.w (splice text start stop new)) (start + length new) =
+    is ∙ ap (λ based. place_from (text_rows by based w (splice text start stop new)) (start + length new)) same_base
+    ∙ ap (λ n. place_from (text_rows by inner.document.base n (splice text start stop new)) (start + length new)) same_w in
     subst (λ (s : DocumentState D).
-    IsBehind (says s.tables).class (says s.tables).bracket s.document.base s.document.w s.document.content.text start stop new o) same
-    (behind class bracket inner.document.base inner.document.w text start stop new o side utf8
+    IsBehind (says s.tables) s.document.base s.document.w s.document.content.text start stop new o) same
+    (behind by inner.document.base inner.document.w text start stop new o side utf8
     (subst (λ (s : DocumentState D). IsRange s.document.content.text start stop) (sym same) range) new_utf8 own)

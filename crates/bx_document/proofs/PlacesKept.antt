@@ -11,60 +11,60 @@ use Rattle.bx_view.specs.Places.{IsTextPlace}
 use Rattle.bx_document.specs.Document.{DocumentState}
 use Rattle.bx_document.specs.Past.{HasPlaces, KeepsPlaces}
 
-module _ (class : ℕ → Class) where
+module _ (says : Data) where
   abbrev Is : Edit → Type 0
-  Is e = HasPlaces class e
+  Is e = HasPlaces says e
 
-  keeps_back : (past : List Edit) (t : Edited) → t.past ≡ past → KeepsPlaces class t → KeepsPlaces class (undone_in t past)
+  keeps_back : (past : List Edit) (t : Edited) → t.past ≡ past → KeepsPlaces says t → KeepsPlaces says (undone_in t past)
   keeps_back [] t e h = h
   keeps_back (f ∷ past) t e h =
       let all : All Is (f ∷ past) = subst (All Is) e h.past in
       record { past = All-tail Is f past all; future = All-cons Is f t.future (All-head Is f past all) h.future }
 
-  pub keeps_undone : (t u : Edited) → u ≡ undone t → KeepsPlaces class t → KeepsPlaces class u
-  keeps_undone t u e h = subst (KeepsPlaces class) (sym e) (keeps_back t.past t refl h)
+  pub keeps_undone : (t u : Edited) → u ≡ undone t → KeepsPlaces says t → KeepsPlaces says u
+  keeps_undone t u e h = subst (KeepsPlaces says) (sym e) (keeps_back t.past t refl h)
 
-  keeps_again : (future : List Edit) (t : Edited) → t.future ≡ future → KeepsPlaces class t → KeepsPlaces class (redone_in t future)
+  keeps_again : (future : List Edit) (t : Edited) → t.future ≡ future → KeepsPlaces says t → KeepsPlaces says (redone_in t future)
   keeps_again [] t e h = h
   keeps_again (f ∷ future) t e h =
       let all : All Is (f ∷ future) = subst (All Is) e h.future in
       record { past = All-cons Is f t.past (All-head Is f future all) h.past; future = All-tail Is f future all }
 
-  pub keeps_redone : (t u : Edited) → u ≡ redone t → KeepsPlaces class t → KeepsPlaces class u
-  keeps_redone t u e h = subst (KeepsPlaces class) (sym e) (keeps_again t.future t refl h)
+  pub keeps_redone : (t u : Edited) → u ≡ redone t → KeepsPlaces says t → KeepsPlaces says u
+  keeps_redone t u e h = subst (KeepsPlaces says) (sym e) (keeps_again t.future t refl h)
 
-  place_back : (past : List Edit) (t : Edited) (c : Change) → All Is past → Some c ≡ first_back past → IsTextPlace class ((undone_in t past).text) c.place
+  place_back : (past : List Edit) (t : Edited) (c : Change) → All Is past → Some c ≡ first_back past → IsTextPlace says ((undone_in t past).text) c.place
   place_back [] t c all e = absurd (none-some c (sym e))
   place_back (f ∷ past) t c all e =
       let is : c.place ≡ f.before.place = ap (λ (k : Change). k.place) (same_Some c (change_back f) e) in
-      let b : HasPlaces class f = All-head Is f past all in subst (IsTextPlace class f.before.text) (sym is) b.before
+      let b : HasPlaces says f = All-head Is f past all in subst (IsTextPlace says f.before.text) (sym is) b.before
 
   -- undo leads to a place of the text that it restores, and so does redo
-  pub place_undone : (t u : Edited) (c : Change) → u ≡ undone t → KeepsPlaces class t → Some c ≡ next_undo t → IsTextPlace class u.text c.place
-  place_undone t u c e h f = subst (λ (v : Edited). IsTextPlace class v.text c.place) (sym e) (place_back t.past t c h.past f)
+  pub place_undone : (t u : Edited) (c : Change) → u ≡ undone t → KeepsPlaces says t → Some c ≡ next_undo t → IsTextPlace says u.text c.place
+  place_undone t u c e h f = subst (λ (v : Edited). IsTextPlace says v.text c.place) (sym e) (place_back t.past t c h.past f)
 
   place_again : (future : List Edit) (t : Edited) (c : Change) → All Is future → Some c ≡ first_again future
-      → IsTextPlace class ((redone_in t future).text) c.place
+      → IsTextPlace says ((redone_in t future).text) c.place
   place_again [] t c all e = absurd (none-some c (sym e))
   place_again (f ∷ future) t c all e =
       let is : c.place ≡ f.after.place = ap (λ (k : Change). k.place) (same_Some c (change_of f) e) in
-      let b : HasPlaces class f = All-head Is f future all in subst (IsTextPlace class f.after.text) (sym is) b.after
+      let b : HasPlaces says f = All-head Is f future all in subst (IsTextPlace says f.after.text) (sym is) b.after
 
-  pub place_redone : (t u : Edited) (c : Change) → u ≡ redone t → KeepsPlaces class t → Some c ≡ next_redo t → IsTextPlace class u.text c.place
-  place_redone t u c e h f = subst (λ (v : Edited). IsTextPlace class v.text c.place) (sym e) (place_again t.future t c h.future f)
+  pub place_redone : (t u : Edited) (c : Change) → u ≡ redone t → KeepsPlaces says t → Some c ≡ next_redo t → IsTextPlace says u.text c.place
+  place_redone t u c e h f = subst (λ (v : Edited). IsTextPlace says v.text c.place) (sym e) (place_again t.future t c h.future f)
 
 -- after an edit whose places are places of both texts, in a document that is `now` and is opened as `inner`
 pub keeps_edited : {D : Type 0} (says : D → Data) (inner now : DocumentState D) (u : Edited) (start stop : ℕ) (new : List ℕ) (before after : ℕ)
-    → inner ≡ now → u ≡ replaced inner.document.content start stop new before after → KeepsPlaces (says inner.tables).class inner.document.content
-    → IsTextPlace (says now.tables).class now.document.content.text before
-    → IsTextPlace (says now.tables).class (splice now.document.content.text start stop new) after → KeepsPlaces (says inner.tables).class u
+    → inner ≡ now → u ≡ replaced inner.document.content start stop new before after → KeepsPlaces (says inner.tables) inner.document.content
+    → IsTextPlace (says now.tables) now.document.content.text before
+    → IsTextPlace (says now.tables) (splice now.document.content.text start stop new) after → KeepsPlaces (says inner.tables) u
 keeps_edited {D} says inner now u start stop new before after same e h was is =
-    let class = (says inner.tables).class in
+    let by : Data = says inner.tables in
     let t = inner.document.content in
     let edit = edit_of t.text start stop new before after in
-    let places : HasPlaces class edit = record {
-      before = subst (λ (s : DocumentState D). IsTextPlace (says s.tables).class s.document.content.text before) (sym same) was;
-      after = subst (λ (s : DocumentState D). IsTextPlace (says s.tables).class (splice s.document.content.text start stop new) after) (sym same) is;
+    let places : HasPlaces by edit = record {
+      before = subst (λ (s : DocumentState D). IsTextPlace (says s.tables) s.document.content.text before) (sym same) was;
+      after = subst (λ (s : DocumentState D). IsTextPlace (says s.tables) (splice s.document.content.text start stop new) after) (sym same) is;
     } in
-    subst (KeepsPlaces class) (sym e)
-    (record { past = All-cons (HasPlaces class) edit t.past places h.past; future = All-nil (HasPlaces class) })
+    subst (KeepsPlaces by) (sym e)
+    (record { past = All-cons (HasPlaces by) edit t.past places h.past; future = All-nil (HasPlaces by) })

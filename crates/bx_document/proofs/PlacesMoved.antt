@@ -21,13 +21,13 @@ module _ {D : Type 0} (says : D → Data) (inner now : DocumentState D) (same : 
   w = inner.document.w
 
   abbrev rows : List TextRow
-  rows = text_rows (says inner.tables).class (says inner.tables).bracket inner.document.base w inner.document.content.text
+  rows = text_rows (says inner.tables) inner.document.base w inner.document.content.text
 
   abbrev IsOf : DocumentState D → ℕ → Type 0
-  IsOf s o = IsTextPlace (says s.tables).class s.document.content.text o
+  IsOf s o = IsTextPlace (says s.tables) s.document.content.text o
 
   kept : MovesKeep w rows (IsOf inner)
-  kept = text-places-kept (says inner.tables).class (says inner.tables).bracket inner.document.base w (side-some w side) inner.document.content.text utf8
+  kept = text-places-kept (says inner.tables) inner.document.base w (side-some w side) inner.document.content.text utf8
 
   there : (o led : ℕ) → o ≡ led → IsOf inner led → IsOf now o
   there o led e h = subst (λ (s : DocumentState D). IsOf s o) same (subst (IsOf inner) (sym e) h)

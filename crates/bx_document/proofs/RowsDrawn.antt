@@ -125,22 +125,22 @@ rest-drawn d old mid w rows n count new width few e is step =
 
 -- ---- as the rows of a text are found
 
-module _ (class : ℕ → Class) (bracket : ℕ → Option (Side × ℕ)) (d : Data) (old : ViewState) (text : List ℕ) (utf8 : IsUtf8 text) (was : GridState)
+module _ (says : Data) (old : ViewState) (text : List ℕ) (utf8 : IsUtf8 text) (was : GridState)
     (width : was.width ≡ old.w) (k : ℕ) where
   abbrev pub rows : List TextRow
-  rows = rows_by class bracket old text
+  rows = rows_by says old text
 
   abbrev cols : TextRow → List Col
-  cols r = row_columns d old.w r
+  cols r = row_columns says old.w r
 
   -- the rows from number `k` on; the first `n` are drawn
   abbrev pub Drawn : ℕ → GridState → Type 0
   Drawn n grid = AreDrawn was cols (drop k rows) n grid
 
-  pub inside : (at : RowAt) (n : ℕ) → StandsOn class bracket old text at n → n < length rows
-  inside at n on = row-within class bracket old.base old.w (side-some old.w on.side) text utf8 at.paragraph at.row n on.is
+  pub inside : (at : RowAt) (n : ℕ) → StandsOn says old text at n → n < length rows
+  inside at n on = row-within says old.base old.w (side-some old.w on.side) text utf8 at.paragraph at.row n on.is
 
-  pub first-one : (at : RowAt) (new : GridState) → StandsOn class bracket old text at k → length (cols (row_at rows k)) ≡ old.w
+  pub first-one : (at : RowAt) (new : GridState) → StandsOn says old text at k → length (cols (row_at rows k)) ≡ old.w
       → new ≡ with_rows was 0 (cols (row_at rows k)) → Drawn 1 new
   first-one at new on wide step =
       let within = inside at k on in
@@ -150,34 +150,34 @@ module _ (class : ℕ → Class) (bracket : ℕ → Option (Side × ℕ)) (d : D
       (omega (arith, within, length-drop k rows)) start (wide ∙ sym width) step
 
   -- of a later state of the layout
-  module _ (v : ViewState) (keeps : Keeps class bracket old v) where
-    pub kept : rows_by class bracket v text ≡ rows
-    kept = rows-kept class bracket old v text keeps
+  module _ (v : ViewState) (keeps : Keeps says old v) where
+    pub kept : rows_by says v text ≡ rows
+    kept = rows-kept says old v text keeps
 
-    pub inside-kept : (at : RowAt) (n : ℕ) → StandsOn class bracket v text at n → n < length rows
+    pub inside-kept : (at : RowAt) (n : ℕ) → StandsOn says v text at n → n < length rows
     inside-kept at n on =
-        let within = row-within class bracket v.base v.w (side-some v.w on.side) text utf8 at.paragraph at.row n on.is in
+        let within = row-within says v.base v.w (side-some v.w on.side) text utf8 at.paragraph at.row n on.is in
         omega (arith, within, ap length kept)
 
-    pub one-more : (at : RowAt) (n : ℕ) (mid new : GridState) → StandsOn class bracket v text at (k + n) → Drawn n mid
-        → length (row_columns d v.w (row_at (rows_by class bracket v text) (k + n))) ≡ v.w
-        → new ≡ with_rows mid n (row_columns d v.w (row_at (rows_by class bracket v text) (k + n))) → Drawn (n + 1) new
+    pub one-more : (at : RowAt) (n : ℕ) (mid new : GridState) → StandsOn says v text at (k + n) → Drawn n mid
+        → length (row_columns says v.w (row_at (rows_by says v text) (k + n))) ≡ v.w
+        → new ≡ with_rows mid n (row_columns says v.w (row_at (rows_by says v text) (k + n))) → Drawn (n + 1) new
     one-more at n mid new on is wide step =
-        let r = row_at (rows_by class bracket v text) (k + n) in
+        let r = row_at (rows_by says v text) (k + n) in
         let within = inside-kept at (k + n) on in
-        let same : row_columns d v.w r ≡ cols r = ap (λ w. row_columns d w r) keeps.w in
+        let same : row_columns says v.w r ≡ cols r = ap (λ w. row_columns says w r) keeps.w in
         let here : r ≡ get_or (drop k rows) n no_text_row = ap (λ rs. row_at rs (k + n)) kept ∙ sym (get_or-drop k rows n no_text_row) in
         next-drawn was cols (drop k rows) n mid is r new (omega (arith, within, length-drop k rows)) here
         (ap length (sym same) ∙ wide ∙ keeps.w ∙ sym width) (step ∙ ap (with_rows mid n) same)
 
   abbrev Whole : ℕ → GridState → Type 0
-  Whole count grid = grid ≡ record was { columns = rows_columns d old.w count (take count (drop k rows)) ++ drop (count * was.width) was.columns }
+  Whole count grid = grid ≡ record was { columns = rows_columns says old.w count (take count (drop k rows)) ++ drop (count * was.width) was.columns }
 
   pub whole-count : (n count : ℕ) (grid : GridState) → n ≡ count → k + n ≤ length rows → Drawn n grid → Whole count grid
   whole-count n count grid e some is =
-      count-drawn d was old.w (drop k rows) count grid (omega (arith, e, some, length-drop k rows)) (subst (λ m. Drawn m grid) e is)
+      count-drawn says was old.w (drop k rows) count grid (omega (arith, e, some, length-drop k rows)) (subst (λ m. Drawn m grid) e is)
 
   pub whole-rest : (n count : ℕ) (mid grid : GridState) → k + n ≡ length rows → n ≤ count → Drawn n mid
       → grid ≡ with_rows mid n (replicate ((count - n) * mid.width) blank) → Whole count grid
   whole-rest n count mid grid e few is step =
-      rest-drawn d was mid old.w (drop k rows) n count grid width few (omega (arith, e, length-drop k rows)) is step
+      rest-drawn says was mid old.w (drop k rows) n count grid width few (omega (arith, e, length-drop k rows)) is step

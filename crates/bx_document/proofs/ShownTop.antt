@@ -14,30 +14,30 @@ use Rattle.bx_view.proofs.Walking.{row-within, rows-rise}
 use Rattle.bx_ucd.specs.Data.{Data}
 use Rattle.bx_document.specs.Drawing.{IsAmong, rows_columns}
 
-module _ (class : ℕ → Class) (bracket : ℕ → Option (Side × ℕ)) (old v : ViewState) (text : List ℕ) (utf8 : IsUtf8 text)
-    (keeps : Keeps class bracket old v) (at : RowAt) (top place t begin above : ℕ)
-    (on : StandsOn class bracket v text at (nearest_top (row_of (rows_by class bracket old text) top) (row_of (rows_by class bracket old text) place) t))
-    (begins : begin ≡ first (row_at (rows_by class bracket v text)
-    (nearest_top (row_of (rows_by class bracket old text) top) (row_of (rows_by class bracket old text) place) t)))
-    (sum : nearest_top (row_of (rows_by class bracket old text) top) (row_of (rows_by class bracket old text) place) t + above
-    ≡ row_of (rows_by class bracket old text) place) where
+module _ (says : Data) (old v : ViewState) (text : List ℕ) (utf8 : IsUtf8 text)
+    (keeps : Keeps says old v) (at : RowAt) (top place t begin above : ℕ)
+    (on : StandsOn says v text at (nearest_top (row_of (rows_by says old text) top) (row_of (rows_by says old text) place) t))
+    (begins : begin ≡ first (row_at (rows_by says v text)
+    (nearest_top (row_of (rows_by says old text) top) (row_of (rows_by says old text) place) t)))
+    (sum : nearest_top (row_of (rows_by says old text) top) (row_of (rows_by says old text) place) t + above
+    ≡ row_of (rows_by says old text) place) where
   abbrev all : List TextRow
-  all = rows_by class bracket old text
+  all = rows_by says old text
 
   abbrev k : ℕ
   k = nearest_top (row_of all top) (row_of all place) t
 
-  same : rows_by class bracket v text ≡ all
-  same = rows-kept class bracket old v text keeps
+  same : rows_by says v text ≡ all
+  same = rows-kept says old v text keeps
 
-  within : k < length (rows_by class bracket v text)
-  within = row-within class bracket v.base v.w (side-some v.w on.side) text utf8 at.paragraph at.row k on.is
+  within : k < length (rows_by says v text)
+  within = row-within says v.base v.w (side-some v.w on.side) text utf8 at.paragraph at.row k on.is
 
   -- the offset at which the top row begins falls in it
   own : row_of all begin ≡ k
   own =
-      let now = rows_by class bracket v text in
-      let rise = rows-rise class bracket v.base v.w (side-some v.w on.side) text utf8 in
+      let now = rows_by says v text in
+      let rise = rows-rise says v.base v.w (side-some v.w on.side) text utf8 in
       ap (λ rs. row_of rs begin) (sym same) ∙ ap (row_of now) begins ∙ falls-own now _ rise k within
 
   pub above-is : above ≡ row_of all place - row_of all begin
@@ -46,14 +46,14 @@ module _ (class : ℕ → Class) (bracket : ℕ → Option (Side × ℕ)) (old v
   pub among : above < t → IsAmong all begin place t
   among few = record { above = omega (arith, sum, own); below = omega (arith, sum, own, few) }
 
-  pub drawn-told : (d : Data) (was grid : GridState) (count : ℕ)
+  pub drawn-told : (was grid : GridState) (count : ℕ)
       → grid ≡ record was {
-        columns = rows_columns d v.w count (take count (drop k (rows_by class bracket v text))) ++ drop (count * was.width) was.columns;
+        columns = rows_columns says v.w count (take count (drop k (rows_by says v text))) ++ drop (count * was.width) was.columns;
       }
-      → grid ≡ record was { columns = rows_columns d old.w count (shown_rows all begin count) ++ drop (count * was.width) was.columns }
-  drawn-told d was grid count e =
+      → grid ≡ record was { columns = rows_columns says old.w count (shown_rows all begin count) ++ drop (count * was.width) was.columns }
+  drawn-told was grid count e =
       let rest = drop (count * was.width) was.columns in
       e
-      ∙ ap (λ w. record was { columns = rows_columns d w count (take count (drop k (rows_by class bracket v text))) ++ rest }) keeps.w
-      ∙ ap (λ rs. record was { columns = rows_columns d old.w count (take count (drop k rs)) ++ rest }) same
-      ∙ ap (λ m. record was { columns = rows_columns d old.w count (take count (drop m all)) ++ rest }) (sym own)
+      ∙ ap (λ w. record was { columns = rows_columns says w count (take count (drop k (rows_by says v text))) ++ rest }) keeps.w
+      ∙ ap (λ rs. record was { columns = rows_columns says old.w count (take count (drop k rs)) ++ rest }) same
+      ∙ ap (λ m. record was { columns = rows_columns says old.w count (take count (drop m all)) ++ rest }) (sym own)

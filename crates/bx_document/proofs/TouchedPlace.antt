@@ -7,6 +7,7 @@ use Rattle.std.proofs.lemmas.List.{drop_all}
 use Rattle.std.proofs.lemmas.List.{length-take-le, take_all}
 use Rattle.std.proofs.lemmas.Str.{chars-append, IsUtf8-append, IsUtf8-between, IsUtf8-drop}
 use Rattle.std.proofs.lemmas.Str.{IsUtf8-take, IsCharBoundary-end}
+use Rattle.bx_ucd.specs.Data.{Data}
 use Rattle.bx_ucd.specs.declared.class.Class.{Class}
 use Rattle.bx_ucd.specs.declared.data.Side.{Side}
 use Rattle.bx_explicit.specs.declared.base.Base.{Base}
@@ -24,20 +25,20 @@ use Rattle.bx_view.proofs.LeastPlace.{place_before_back, place_after_front}
 use Rattle.bx_view.proofs.Numbers.{falls-at, holds-of, lengths-count, some-paragraph}
 use Rattle.bx_document.specs.Touched.{touched, touched_start, touched_stop}
 
-module _ (class : ℕ → Class) (text : List ℕ) (utf8 : IsUtf8 text) where
+module _ (says : Data) (text : List ℕ) (utf8 : IsUtf8 text) where
   -- ---- where the touched paragraphs begin and end
 
   pub record IsFront (start at : ℕ) : Type 0 where
     pub bounds : IsCharBoundary text at
     pub order : at ≤ start
     pub some : (at ≡ 0) ⊎ (at < start)
-    pub parts : parts class (chars (take at text)) (chars (drop at text)) ≡ true
+    pub parts : parts says (chars (take at text)) (chars (drop at text)) ≡ true
 
-  pub front_is : (start : ℕ) → IsFront start (touched_start class text start)
+  pub front_is : (start : ℕ) → IsFront start (touched_start says text start)
   front_is start =
-      let falls = falls-at class text (start - 1) (paragraph_of (lengths class text) (start - 1)) utf8 refl in
-      let begin = begin_at class text utf8 (paragraph_of (lengths class text) (start - 1)) falls.within in
-      let at = touched_start class text start in
+      let falls = falls-at says text (start - 1) (paragraph_of (lengths says text) (start - 1)) utf8 refl in
+      let begin = begin_at says text utf8 (paragraph_of (lengths says text) (start - 1)) falls.within in
+      let at = touched_start says text start in
       record {
         bounds = begin.bounds;
         order = omega (arith, falls.order);
@@ -48,33 +49,33 @@ module _ (class : ℕ → Class) (text : List ℕ) (utf8 : IsUtf8 text) where
   pub record IsBack (stop at : ℕ) : Type 0 where
     pub bounds : IsCharBoundary text at
     pub reached : stop ≤ at
-    pub ends : (at ≡ length text) ⊎ ((stop < at) × (parts class (chars (take at text)) (chars (drop at text)) ≡ true))
+    pub ends : (at ≡ length text) ⊎ ((stop < at) × (parts says (chars (take at text)) (chars (drop at text)) ≡ true))
 
-  back_at : (stop n : ℕ) → stop ≤ length text → n ≡ paragraph_of (lengths class text) stop → IsBack stop (start_at class text (n + 1))
+  back_at : (stop n : ℕ) → stop ≤ length text → n ≡ paragraph_of (lengths says text) stop → IsBack stop (start_at says text (n + 1))
   back_at stop n inside e =
-      let ls = lengths class text in
-      let sized : length ls ≡ count class text = lengths-count class text in
-      let holds = holds-of stop ls n (omega (arith, sized, some-paragraph class text utf8)) e in
-      let at = start_at class text (n + 1) in
+      let ls = lengths says text in
+      let sized : length ls ≡ count says text = lengths-count says text in
+      let holds = holds-of stop ls n (omega (arith, sized, some-paragraph says text utf8)) e in
+      let at = start_at says text (n + 1) in
       ⊎_elim (λ more.
-      let begin = begin_at class text utf8 (n + 1) more in
+      let begin = begin_at says text utf8 (n + 1) more in
       let past : stop < at = omega (arith, holds.ended (omega (arith, more, sized))) in
       record { bounds = begin.bounds; reached = omega (arith, past); ends = inr (past, begin.parts) }) (λ none.
-      let all : at ≡ length text = ap total (take_all (n + 1) ls (omega (arith, none, sized))) ∙ total_lengths class text utf8 in
+      let all : at ≡ length text = ap total (take_all (n + 1) ls (omega (arith, none, sized))) ∙ total_lengths says text utf8 in
       record { bounds = subst (IsCharBoundary text) (sym all) (IsCharBoundary-end text); reached = omega (arith, all, inside); ends = inl all })
-      (cases_lt (n + 1) (count class text))
+      (cases_lt (n + 1) (count says text))
 
-  pub back_is : (stop : ℕ) → stop ≤ length text → IsBack stop (touched_stop class text stop)
-  back_is stop inside = back_at stop (paragraph_of (lengths class text) stop) inside refl
+  pub back_is : (stop : ℕ) → stop ≤ length text → IsBack stop (touched_stop says text stop)
+  back_is stop inside = back_at stop (paragraph_of (lengths says text) stop) inside refl
 
   -- ---- the text after an edit
 
   module _ (start stop : ℕ) (new : List ℕ) (range : IsRange text start stop) (new_utf8 : IsUtf8 new) where
     abbrev a : ℕ
-    a = touched_start class text start
+    a = touched_start says text start
 
     abbrev b : ℕ
-    b = touched_stop class text stop
+    b = touched_stop says text stop
 
     abbrev before : List ℕ
     before = take a text
@@ -89,7 +90,7 @@ module _ (class : ℕ → Class) (text : List ℕ) (utf8 : IsUtf8 text) where
     behind_all = drop b text
 
     abbrev mine : List ℕ
-    mine = touched class text start stop new
+    mine = touched says text start stop new
 
     stop_inside : stop ≤ length text
     stop_inside = let bounds : IsCharBoundary text stop = range.stop_bounds in bounds.0
@@ -138,52 +139,52 @@ module _ (class : ℕ → Class) (text : List ℕ) (utf8 : IsUtf8 text) where
     mine_bytes = omega (arith, length-append (head ++ new) tail, length-append head new, head_bytes)
 
     -- in front of them the same paragraphs end as before the edit
-    front_at : (a ≡ 0) ⊎ (a < start) → parts class (chars before) (chars (mine ++ behind_all)) ≡ true
+    front_at : (a ≡ 0) ⊎ (a < start) → parts says (chars before) (chars (mine ++ behind_all)) ≡ true
     front_at (inl none) =
         let bare : chars before ≡ [] = ap (λ n. chars (take n text)) none ∙ no_chars in
-        ap (λ cs. parts class cs (chars (mine ++ behind_all))) bare
+        ap (λ cs. parts says cs (chars (mine ++ behind_all))) bare
     front_at (inr less) =
         let rest = new ++ (tail ++ behind_all) in
         let now : mine ++ behind_all ≡ head ++ rest = append_assoc (head ++ new) tail behind_all ∙ append_assoc head new (tail ++ behind_all) in
         let was : drop a text ≡ head ++ drop start text = drop_parts a start text front.order in
         let some : 0 < length (chars head) = some_chars head (chars head) head_utf8 (omega (arith, head_bytes, less)) refl in
-        ap (parts class (chars before)) (ap chars now ∙ chars-append head rest head_utf8)
-        ∙ parts_ahead class (chars before) (chars head) (chars (drop start text)) (chars rest) some
-        (ap (parts class (chars before)) (sym (ap chars was ∙ chars-append head (drop start text) head_utf8)) ∙ front.parts)
+        ap (parts says (chars before)) (ap chars now ∙ chars-append head rest head_utf8)
+        ∙ parts_ahead says (chars before) (chars head) (chars (drop start text)) (chars rest) some
+        (ap (parts says (chars before)) (sym (ap chars was ∙ chars-append head (drop start text) head_utf8)) ∙ front.parts)
 
     -- the place at their end is the place before the bytes after them
-    back_at_end : (offset : ℕ) (bracket : ℕ → Option (Side × ℕ)) (base : Base) (w : ℕ) → 1 ≤ w → offset ≤ length mine
-        → (b ≡ length text) ⊎ ((stop < b) × (parts class (chars (take b text)) (chars (drop b text)) ≡ true))
-        → place_from (text_rows class bracket base w (mine ++ behind_all)) offset ≡ place_from (text_rows class bracket base w mine) offset
-    back_at_end offset bracket base w h within (inl all) =
+    back_at_end : (offset : ℕ) (base : Base) (w : ℕ) → 1 ≤ w → offset ≤ length mine
+        → (b ≡ length text) ⊎ ((stop < b) × (parts says (chars (take b text)) (chars (drop b text)) ≡ true))
+        → place_from (text_rows says base w (mine ++ behind_all)) offset ≡ place_from (text_rows says base w mine) offset
+    back_at_end offset base w h within (inl all) =
         let none : behind_all ≡ [] = drop_all b text (omega (arith, all)) in
-        ap (λ bs. place_from (text_rows class bracket base w (mine ++ bs)) offset) none
-        ∙ ap (λ bs. place_from (text_rows class bracket base w bs) offset) (append-nil mine)
-    back_at_end offset bracket base w h within (inr (past, p)) =
+        ap (λ bs. place_from (text_rows says base w (mine ++ bs)) offset) none
+        ∙ ap (λ bs. place_from (text_rows says base w bs) offset) (append-nil mine)
+    back_at_end offset base w h within (inr (past, p)) =
         let was : take b text ≡ take stop text ++ tail = take_parts stop b text back.reached in
         let bounds : IsCharBoundary text b = back.bounds in
         let size : length tail ≡ b - stop = length-take-le (b - stop) (drop stop text) (omega (arith, length-drop stop text, bounds.0)) in
         let some : 0 < length (chars tail) = some_chars tail (chars tail) tail_utf8 (omega (arith, size, past)) refl in
-        let q : parts class (chars mine) (chars behind_all) ≡ true =
-        ap (λ cs. parts class cs (chars behind_all)) (chars-append (head ++ new) tail head_new_utf8)
-        ∙ parts_behind class (chars (head ++ new)) (chars (take stop text)) (chars tail) (chars behind_all) some
-        (ap (λ cs. parts class cs (chars behind_all))
+        let q : parts says (chars mine) (chars behind_all) ≡ true =
+        ap (λ cs. parts says cs (chars behind_all)) (chars-append (head ++ new) tail head_new_utf8)
+        ∙ parts_behind says (chars (head ++ new)) (chars (take stop text)) (chars tail) (chars behind_all) some
+        (ap (λ cs. parts says cs (chars behind_all))
         (sym (ap chars was ∙ chars-append (take stop text) tail (IsUtf8-take text stop utf8 range.stop_bounds))) ∙ p) in
-        place_before_back class bracket base w h mine behind_all offset mine_utf8 behind_utf8 q within
+        place_before_back says base w h mine behind_all offset mine_utf8 behind_utf8 q within
 
     -- the place after an edit
-    pub touched_place : (bracket : ℕ → Option (Side × ℕ)) (base : Base) (w : ℕ) → 1 ≤ w
-        → place_from (text_rows class bracket base w (splice text start stop new)) (start + length new)
-        ≡ a + place_from (text_rows class bracket base w mine) (start - a + length new)
-    touched_place bracket base w h =
+    pub touched_place : (base : Base) (w : ℕ) → 1 ≤ w
+        → place_from (text_rows says base w (splice text start stop new)) (start + length new)
+        ≡ a + place_from (text_rows says base w mine) (start - a + length new)
+    touched_place base w h =
         let offset = start + length new in
         let inner : offset - length before ≡ start - a + length new = omega (arith, before_bytes, front.order) in
-        ap (λ bs. place_from (text_rows class bracket base w bs) offset) whole
-        ∙ place_after_front class bracket base w h before (mine ++ behind_all) offset before_utf8 (IsUtf8-append mine behind_all mine_utf8 behind_utf8)
+        ap (λ bs. place_from (text_rows says base w bs) offset) whole
+        ∙ place_after_front says base w h before (mine ++ behind_all) offset before_utf8 (IsUtf8-append mine behind_all mine_utf8 behind_utf8)
         (front_at front.some) (omega (arith, before_bytes, front.order))
-        ∙ ap (λ n. length before + place_from (text_rows class bracket base w (mine ++ behind_all)) n) inner
-        ∙ ap (λ n. n + place_from (text_rows class bracket base w (mine ++ behind_all)) (start - a + length new)) before_bytes
-        ∙ ap (λ n. a + n) (back_at_end (start - a + length new) bracket base w h (omega (arith, mine_bytes)) back.ends)
+        ∙ ap (λ n. length before + place_from (text_rows says base w (mine ++ behind_all)) n) inner
+        ∙ ap (λ n. n + place_from (text_rows says base w (mine ++ behind_all)) (start - a + length new)) before_bytes
+        ∙ ap (λ n. a + n) (back_at_end (start - a + length new) base w h (omega (arith, mine_bytes)) back.ends)
 
     pub splice_utf8 : IsUtf8 (splice text start stop new)
     splice_utf8 =

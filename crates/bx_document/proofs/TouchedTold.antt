@@ -3,6 +3,7 @@ use Rattle.std.proofs.Common.{◌≡◌, ℕ, ◌+◌, ◌-◌, ◌<◌, ◌≤�
 use Rattle.std.proofs.Common.{sym, ap, subst, ◌∙◌, arith, append_assoc}
 use Rattle.std.proofs.lemmas.List.{drop-drop}
 use Rattle.std.proofs.lemmas.Option.{same_Some, some_pair_parts}
+use Rattle.bx_ucd.specs.Data.{Data}
 use Rattle.bx_ucd.specs.declared.class.Class.{Class}
 use Rattle.bx_text.specs.Edits.{IsRange}
 use Rattle.bx_paras.specs.declared.lengths.Lengths.{Lengths}
@@ -30,14 +31,14 @@ pushed_part text was part now all at stop e f inside g =
 abbrev none : Lengths
 none = record { body = 0; separator = 0 }
 
-module _ (class : ℕ → Class) (text : List ℕ) (ls : List Lengths) (utf8 : IsUtf8 text) (same : ls ≡ lengths class text) where
+module _ (says : Data) (text : List ℕ) (ls : List Lengths) (utf8 : IsUtf8 text) (same : ls ≡ lengths says text) where
   -- there is a paragraph that an offset falls in
   pub there : (offset n : ℕ) → n ≡ paragraph_of ls offset → n < length ls
   there offset n e =
-      let falls = falls-at class text offset n utf8 (e ∙ ap (λ ks. paragraph_of ks offset) same) in
-      omega (arith, falls.within, lengths-count class text, ap length same)
+      let falls = falls-at says text offset n utf8 (e ∙ ap (λ ks. paragraph_of ks offset) same) in
+      omega (arith, falls.within, lengths-count says text, ap length same)
 
-  pub start_told : (start n : ℕ) (s : ℕ × ℕ) → n ≡ paragraph_of ls (start - 1) → slice_get (spans ls) n ≡ Some s → s.0 ≡ touched_start class text start
+  pub start_told : (start n : ℕ) (s : ℕ × ℕ) → n ≡ paragraph_of ls (start - 1) → slice_get (spans ls) n ≡ Some s → s.0 ≡ touched_start says text start
   start_told start n (a, b) e f =
       let told = span_at 0 n ls none (there (start - 1) n e) in
       let both = some_pair_parts a (0 + total (take n ls)) b (0 + total (take n ls) + (get_or ls n none).body) (sym f ∙ told) in
@@ -46,12 +47,12 @@ module _ (class : ℕ → Class) (text : List ℕ) (ls : List Lengths) (utf8 : I
   pub start_range : (start n : ℕ) (s : ℕ × ℕ) → n ≡ paragraph_of ls (start - 1) → slice_get (spans ls) n ≡ Some s → IsCharBoundary text start
       → IsRange text (s.0) start
   start_range start n s e f bounds =
-      let front = front_is class text utf8 start in
+      let front = front_is says text utf8 start in
       subst (λ a. IsRange text a start) (sym (start_told start n s e f))
       (record { start_bounds = front.bounds; stop_bounds = bounds; in_order = front.order })
 
   pub stop_told : (stop n : ℕ) (s : ℕ × ℕ) (k : ℕ) → n ≡ paragraph_of ls stop → slice_get (spans ls) n ≡ Some s → slice_get (separators ls) n ≡ Some k
-      → s.1 + k ≡ touched_stop class text stop
+      → s.1 + k ≡ touched_stop says text stop
   stop_told stop n (a, b) k e f g =
       let within = there stop n e in
       let told = span_at 0 n ls none within in
@@ -60,11 +61,11 @@ module _ (class : ℕ → Class) (text : List ℕ) (ls : List Lengths) (utf8 : I
       omega (arith, both.1, behind, total_more ls n none within) ∙ ap (λ m. total (take (m + 1) ls)) e
       ∙ ap (λ ks. total (take (paragraph_of ks stop + 1) ks)) same
 
-  pub stop_range : (stop : ℕ) → IsCharBoundary text stop → IsRange text stop (touched_stop class text stop)
+  pub stop_range : (stop : ℕ) → IsCharBoundary text stop → IsRange text stop (touched_stop says text stop)
   stop_range stop bounds =
-      let back = back_is class text utf8 stop bounds.0 in record { start_bounds = bounds; stop_bounds = back.bounds; in_order = back.reached }
+      let back = back_is says text utf8 stop bounds.0 in record { start_bounds = bounds; stop_bounds = back.bounds; in_order = back.reached }
 
-  pub stop_inside : (stop : ℕ) → IsCharBoundary text stop → touched_stop class text stop ≤ length text
+  pub stop_inside : (stop : ℕ) → IsCharBoundary text stop → touched_stop says text stop ≤ length text
   stop_inside stop bounds =
-      let range : IsRange text stop (touched_stop class text stop) = stop_range stop bounds in
-      let last : IsCharBoundary text (touched_stop class text stop) = range.stop_bounds in last.0
+      let range : IsRange text stop (touched_stop says text stop) = stop_range stop bounds in
+      let last : IsCharBoundary text (touched_stop says text stop) = range.stop_bounds in last.0

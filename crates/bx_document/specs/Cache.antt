@@ -15,7 +15,7 @@ pub record DrawnRowState : Type 0 where
 
 -- the columns of row `number` of a body, under a base direction, in a window of `w` columns
 unfoldable pub numbered_row_columns : Data → List ℕ → Base → ℕ → ℕ → List Col
-numbered_row_columns d body base number w = body_row_columns d w (row_at (body_rows d.class d.bracket base w body) number)
+numbered_row_columns d body base number w = body_row_columns d w (row_at (body_rows d base w body) number)
 
 -- a drawn row has the columns of its key, in a window of the same number of columns
 pub record IsDrawnBy (d : Data) (r : DrawnRowState) : Type 0 where

@@ -23,7 +23,7 @@ at_opening text w base = record { content = opened text; base = base; w = w }
 
 -- the rows of any text in the document's layout, and those of its own text
 abbrev pub rows_of : Data → Document → List ℕ → List TextRow
-rows_of d t text = text_rows d.class d.bracket t.base t.w text
+rows_of d t text = text_rows d t.base t.w text
 
 abbrev pub rows : Data → Document → List TextRow
 rows d t = rows_of d t t.content.text

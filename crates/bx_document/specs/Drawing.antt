@@ -13,7 +13,7 @@ side_by_side glyphs = flat_map (λ g. glyph_columns g.text g.columns g.negative)
 
 -- the columns of a row of a paragraph's body
 abbrev pub body_row_columns : Data → ℕ → BodyRow → List Col
-body_row_columns d width r = side_by_side (row_glyphs d.class d.mirror width r)
+body_row_columns d width r = side_by_side (row_glyphs d width r)
 
 -- the columns of a row of text
 abbrev pub row_columns : Data → ℕ → TextRow → List Col

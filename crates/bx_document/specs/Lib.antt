@@ -1,4 +1,3 @@
-pub mod Answers
 pub mod Cache
 pub mod Document
 pub mod Drawing

@@ -1,19 +1,20 @@
 -- The paragraphs that an edit touches, as they are after it: they determine the place after the edit.
 use Rattle.std.specs.Prelude.{ℕ, ◌+◌, ◌-◌, List, ◌++◌, slice_range}
+use Rattle.bx_ucd.specs.Data.{Data}
 use Rattle.bx_ucd.specs.declared.class.Class.{Class}
 use Rattle.bx_paras.specs.Paragraphs.{lengths}
 use Rattle.bx_paras.specs.Positions.{paragraph_of}
 use Rattle.bx_view.specs.Standing.{start_at}
 
 -- the start of the paragraph that contains the byte before an offset
-abbrev pub touched_start : (ℕ → Class) → List ℕ → ℕ → ℕ
-touched_start class text start = start_at class text (paragraph_of (lengths class text) (start - 1))
+abbrev pub touched_start : Data → List ℕ → ℕ → ℕ
+touched_start says text start = start_at says text (paragraph_of (lengths says text) (start - 1))
 
 -- the end of the paragraph that an offset falls in, its separator included
-abbrev pub touched_stop : (ℕ → Class) → List ℕ → ℕ → ℕ
-touched_stop class text stop = start_at class text (paragraph_of (lengths class text) stop + 1)
+abbrev pub touched_stop : Data → List ℕ → ℕ → ℕ
+touched_stop says text stop = start_at says text (paragraph_of (lengths says text) stop + 1)
 
 -- the bytes between them after the edit that replaces those from `start` to `stop` with `new`
-abbrev pub touched : (ℕ → Class) → List ℕ → ℕ → ℕ → List ℕ → List ℕ
-touched class text start stop new =
-    slice_range text (touched_start class text start) start ++ new ++ slice_range text stop (touched_stop class text stop)
+abbrev pub touched : Data → List ℕ → ℕ → ℕ → List ℕ → List ℕ
+touched says text start stop new =
+    slice_range text (touched_start says text start) start ++ new ++ slice_range text stop (touched_stop says text stop)

@@ -43,10 +43,10 @@ impl<D: BidiData + Drop> Model for Document<D> {
       document = record { content = d.text.edited; base = d.layout.base; w = d.layout.w };
     } };
 
-    ghost invariant = { λ d. (d.index.paragraphs ≡ lengths (D.data d.tables).class d.text.edited.text)
-        × IsViewBy (D.data d.tables).class (D.data d.tables).bracket d.layout
-        × KeepsPlaces (D.data d.tables).class d.text.edited
-        × AreDrawnBy (record { class = (D.data d.tables).class; bracket = (D.data d.tables).bracket; mirror = (D.data d.tables).mirror }) d.row_cache };
+    ghost invariant = { λ d. (d.index.paragraphs ≡ lengths (D.data d.tables) d.text.edited.text)
+        × IsViewBy (D.data d.tables) d.layout
+        × KeepsPlaces (D.data d.tables) d.text.edited
+        × AreDrawnBy (D.data d.tables) d.row_cache };
 }
 
 impl<D: BidiData + Drop> Document<D> {

@@ -1,7 +1,6 @@
 //! Drawing consecutive rows of a text into a grid.
 ghost use Rattle.std.specs.Prelude.{◌≡◌, ℕ, ◌<◌, ◌≤◌, ◌++◌, ◌*◌, IfOk, OnOk, length, drop, take};
 ghost use Rattle.bx_view.specs.Source.{IsViewBy, Keeps, OfRow, Stands, StandsOn, rows};
-ghost use Rattle.bx_document.specs.Answers.{answers};
 ghost use Rattle.bx_document.specs.Cache.{AreDrawnBy};
 ghost use Rattle.bx_document.specs.Drawing.{row_columns, rows_columns, with_rows};
 
@@ -23,7 +22,7 @@ fn draw_anew<D: BidiData>(
     at: RowAt,
 ) -> Result<OwnedRow, OutOfMemory>
     requires row { Stands source.now layout.now at }
-    ensures drawn { OfRow source.now layout.now at (λ r. IfOk result (λ row. row ≡ row_columns (answers source.now) layout.now.w r)) }
+    ensures drawn { OfRow source.now layout.now at (λ r. IfOk result (λ row. row ≡ row_columns (D.data source.now.tables.now) layout.now.w r)) }
     ensures filled { IfOk result (λ row. length row ≡ layout.now.w) }
 {
     let picture = layout.picture(source, at)?;
@@ -45,12 +44,12 @@ fn draw_row<D: BidiData>(
     requires row { Stands source.now layout.now at }
     requires inside { row < grid.old.height }
     requires width { grid.old.width ≡ layout.now.w }
-    requires cache { AreDrawnBy (answers source.now) cache.old }
+    requires cache { AreDrawnBy (D.data source.now.tables.now) cache.old }
     ensures drawn { OfRow source.now layout.now at (λ r.
-        OnOk result (grid.new ≡ with_rows grid.old row (row_columns (answers source.now) layout.now.w r))) }
+        OnOk result (grid.new ≡ with_rows grid.old row (row_columns (D.data source.now.tables.now) layout.now.w r))) }
     ensures filled { OfRow source.now layout.now at (λ r.
-        OnOk result (length (row_columns (answers source.now) layout.now.w r) ≡ layout.now.w)) }
-    ensures cache { AreDrawnBy (answers source.now) cache.new }
+        OnOk result (length (row_columns (D.data source.now.tables.now) layout.now.w r) ≡ layout.now.w)) }
+    ensures cache { AreDrawnBy (D.data source.now.tables.now) cache.new }
 {
     let (body, number) = layout.row_in_body(source, at);
     let key = RowKey {
@@ -85,14 +84,14 @@ pub(crate) fn draw_rows<D: BidiData>(
     requires some { 0 < count }
     requires inside { count ≤ grid.old.height }
     requires width { grid.old.width ≡ layout.old.w }
-    requires cache { AreDrawnBy (answers source.now) cache.old }
+    requires cache { AreDrawnBy (D.data source.now.tables.now) cache.old }
     ensures keeps { Keeps source.now layout.old layout.new }
     ensures drawn { (k : ℕ) → StandsOn source.now layout.old at k → OnOk result
         (grid.new ≡ record grid.old {
-          columns = rows_columns (answers source.now) layout.old.w count (take count (drop k (rows source.now layout.old)))
+          columns = rows_columns (D.data source.now.tables.now) layout.old.w count (take count (drop k (rows source.now layout.old)))
               ++ drop (count * grid.old.width) grid.old.columns;
         }) }
-    ensures cache { AreDrawnBy (answers source.now) cache.new }
+    ensures cache { AreDrawnBy (D.data source.now.tables.now) cache.new }
 {
     // proof only: the number of the grid's columns
     let _columns = grid.columns();

@@ -18,10 +18,10 @@ use bx_view::{HeldRange, Layout, Source};
 fn follow<D: BidiData>(index: &mut Index, text: &Text, tables: &D, change: &Change)
     requires was { (old : List ℕ)
         × IsUtf8 old
-        × (index.old.paragraphs ≡ lengths (D.data tables.now).class old)
+        × (index.old.paragraphs ≡ lengths (D.data tables.now) old)
         × Leads old change.now text.now.edited.text }
     requires room { index.old.room ≡ Some change.now.added }
-    ensures { index.new.paragraphs ≡ lengths (D.data tables.now).class text.now.edited.text }
+    ensures { index.new.paragraphs ≡ lengths (D.data tables.now) text.now.edited.text }
 {
     // proof only: the text is UTF-8
     let _utf8 = text.len();
@@ -50,8 +50,8 @@ fn follow_in_layout<D: BidiData>(
     tables: &D,
     change: &Change,
 )
-    requires data { IsViewBy (D.data tables.now).class (D.data tables.now).bracket layout.old }
-    ensures keeps { Keeps (D.data tables.now).class (D.data tables.now).bracket layout.old layout.new }
+    requires data { IsViewBy (D.data tables.now) layout.old }
+    ensures keeps { Keeps (D.data tables.now) layout.old layout.new }
 {
     let Some(range) = held else {
         return;
@@ -72,7 +72,7 @@ impl<D: BidiData + Drop> Document<D> {
         requires fits { fits self.old.document.content.text start stop new.now ≡ true }
         ensures same { self.new ≡ self.old }
         ensures place { IfOk result (λ o. o ≡ place_after (D.data self.old.tables) self.old.document start stop new.now) }
-        ensures text_place { IfOk result (IsTextPlace (D.data self.old.tables).class (splice self.old.document.content.text start stop new.now)) }
+        ensures text_place { IfOk result (IsTextPlace (D.data self.old.tables) (splice self.old.document.content.text start stop new.now)) }
     {
         // proof only: the text is UTF-8, and the width is within its limits
         let _utf8 = self.text.len();
@@ -94,7 +94,7 @@ impl<D: BidiData + Drop> Document<D> {
     ///
     /// Errors: `OutOfMemory`, and nothing has changed.
     pub fn insert(&mut self, place: usize, new: &str) -> Result<Option<usize>, OutOfMemory>
-        requires text_place { IsTextPlace (D.data self.old.tables).class self.old.document.content.text place }
+        requires text_place { IsTextPlace (D.data self.old.tables) self.old.document.content.text place }
         ensures ok { IfOk result (λ after. MatchOption after
             ((fits self.old.document.content.text place place new.now ≡ false) × (self.new ≡ self.old))
             (λ o. (fits self.old.document.content.text place place new.now ≡ true)
@@ -102,7 +102,7 @@ impl<D: BidiData + Drop> Document<D> {
               document = after_insertion (D.data self.old.tables) self.old.document place new.now;
             })
             × (o ≡ place_after (D.data self.old.tables) self.old.document place place new.now))) }
-        ensures text_place { IfOk result (λ after. IfSome after (IsTextPlace (D.data self.new.tables).class self.new.document.content.text)) }
+        ensures text_place { IfOk result (λ after. IfSome after (IsTextPlace (D.data self.new.tables) self.new.document.content.text)) }
         ensures err { OnErr result (self.new ≡ self.old) }
     {
         if new.len() > LARGEST_TEXT - self.text.len() {
@@ -122,12 +122,12 @@ impl<D: BidiData + Drop> Document<D> {
     /// Errors: `OutOfMemory`, and nothing has changed.
     pub fn remove(&mut self, start: usize, stop: usize, place: usize) -> Result<usize, OutOfMemory>
         requires range { IsRange self.old.document.content.text start stop }
-        requires text_place { IsTextPlace (D.data self.old.tables).class self.old.document.content.text place }
+        requires text_place { IsTextPlace (D.data self.old.tables) self.old.document.content.text place }
         ensures ok { OnOk result (self.new ≡ record self.old {
           document = after_removal (D.data self.old.tables) self.old.document start stop place;
         }) }
         ensures place { IfOk result (λ o. o ≡ place_after (D.data self.old.tables) self.old.document start stop []) }
-        ensures text_place { IfOk result (IsTextPlace (D.data self.new.tables).class self.new.document.content.text) }
+        ensures text_place { IfOk result (IsTextPlace (D.data self.new.tables) self.new.document.content.text) }
         ensures err { OnErr result (self.new ≡ self.old) }
     {
         // proof only: the text is within its limit
@@ -147,7 +147,7 @@ impl<D: BidiData + Drop> Document<D> {
     pub fn undo(&mut self) -> Result<Option<usize>, OutOfMemory>
         ensures ok { OnOk result (self.new ≡ record self.old { document = record self.old.document { content = undone self.old.document.content } }) }
         ensures place { IfOk result (λ o. o ≡ option_map (λ c. c.place) (next_undo self.old.document.content)) }
-        ensures text_place { IfOk result (λ place. IfSome place (IsTextPlace (D.data self.new.tables).class self.new.document.content.text)) }
+        ensures text_place { IfOk result (λ place. IfSome place (IsTextPlace (D.data self.new.tables) self.new.document.content.text)) }
         ensures err { OnErr result (self.new ≡ self.old) }
     {
         // proof only: the text is UTF-8
@@ -176,7 +176,7 @@ impl<D: BidiData + Drop> Document<D> {
     pub fn redo(&mut self) -> Result<Option<usize>, OutOfMemory>
         ensures ok { OnOk result (self.new ≡ record self.old { document = record self.old.document { content = redone self.old.document.content } }) }
         ensures place { IfOk result (λ o. o ≡ option_map (λ c. c.place) (next_redo self.old.document.content)) }
-        ensures text_place { IfOk result (λ place. IfSome place (IsTextPlace (D.data self.new.tables).class self.new.document.content.text)) }
+        ensures text_place { IfOk result (λ place. IfSome place (IsTextPlace (D.data self.new.tables) self.new.document.content.text)) }
         ensures err { OnErr result (self.new ≡ self.old) }
     {
         // proof only: the text is UTF-8

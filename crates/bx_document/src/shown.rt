@@ -48,7 +48,7 @@ impl<D: BidiData + Drop> Document<D> {
         }) }
         ensures row { IfOk result (λ s. s.row ≡ rows_above (D.data self.old.tables) self.old.document s.top place) }
         ensures few { IfOk result (λ s. s.row < count) }
-        ensures position { IfOk result (λ s. IsPosition (D.data self.old.tables).class self.old.document.w self.old.document.content.text
+        ensures position { IfOk result (λ s. IsPosition (D.data self.old.tables) self.old.document.w self.old.document.content.text
             (rows (D.data self.old.tables) self.old.document) place s.position) }
         ensures inside { IfOk result (λ s. (1 ≤ s.position.column) × (s.position.column ≤ self.old.document.w)) }
     {

@@ -18,7 +18,7 @@ use std::ops::Range;
 /// The start of the paragraph that contains the byte before an offset. No memory.
 fn start_before<D: BidiData>(source: &Source<'_, D>, start: usize) -> usize
     requires bounds { IsCharBoundary (bytes source.now) start }
-    ensures start { result ≡ touched_start (D.data source.now.tables.now).class (bytes source.now) start }
+    ensures start { result ≡ touched_start (D.data source.now.tables.now) (bytes source.now) start }
     ensures range { IsRange (bytes source.now) result start }
 {
     let number = source.index.paragraph_of(start.saturating_sub(1));
@@ -28,7 +28,7 @@ fn start_before<D: BidiData>(source: &Source<'_, D>, start: usize) -> usize
 /// The end of the paragraph that an offset falls in, its separator included. No memory.
 fn stop_after<D: BidiData>(source: &Source<'_, D>, stop: usize) -> usize
     requires bounds { IsCharBoundary (bytes source.now) stop }
-    ensures stop { result ≡ touched_stop (D.data source.now.tables.now).class (bytes source.now) stop }
+    ensures stop { result ≡ touched_stop (D.data source.now.tables.now) (bytes source.now) stop }
     ensures range { IsRange (bytes source.now) stop result }
 {
     let number = source.index.paragraph_of(stop);
@@ -64,9 +64,9 @@ fn touched<D: BidiData>(
 ) -> Result<(usize, String), AllocError>
     requires range { IsRange (bytes source.now) start stop }
     requires fits { fits (bytes source.now) start stop new.now ≡ true }
-    ensures start { IfOk result (λ w. w.0 ≡ touched_start (D.data source.now.tables.now).class (bytes source.now) start) }
+    ensures start { IfOk result (λ w. w.0 ≡ touched_start (D.data source.now.tables.now) (bytes source.now) start) }
     ensures order { IfOk result (λ w. w.0 ≤ start) }
-    ensures text { IfOk result (λ w. string_bytes w.1 ≡ touched (D.data source.now.tables.now).class (bytes source.now) start stop new.now) }
+    ensures text { IfOk result (λ w. string_bytes w.1 ≡ touched (D.data source.now.tables.now) (bytes source.now) start stop new.now) }
 {
     let first = start_before(source, start);
     let last = stop_after(source, stop);
@@ -88,10 +88,10 @@ fn place_in<D: BidiData>(
     layout: &mut Layout,
     offset: usize,
 ) -> Result<usize, OutOfMemory>
-    requires data { IsViewBy (D.data tables.now).class (D.data tables.now).bracket layout.old }
-    ensures keeps { Keeps (D.data tables.now).class (D.data tables.now).bracket layout.old layout.new }
+    requires data { IsViewBy (D.data tables.now) layout.old }
+    ensures keeps { Keeps (D.data tables.now) layout.old layout.new }
     ensures place { IfOk result (λ o. o ≡ place_from
-        (rows_by (D.data tables.now).class (D.data tables.now).bracket layout.old (string_bytes characters)) offset) }
+        (rows_by (D.data tables.now) layout.old (string_bytes characters)) offset) }
 {
     let Ok(text) = Text::open(alloc, characters) else {
         return Err(OutOfMemory);
@@ -112,12 +112,12 @@ pub(crate) fn place_in_touched<D: BidiData>(
     range: Range<usize>,
     new: &str,
 ) -> Result<usize, OutOfMemory>
-    requires data { IsViewBy (D.data source.now.tables.now).class (D.data source.now.tables.now).bracket layout.old }
+    requires data { IsViewBy (D.data source.now.tables.now) layout.old }
     requires range { IsRange (bytes source.now) range.start range.end }
     requires fits { fits (bytes source.now) range.start range.end new.now ≡ true }
-    ensures keeps { Keeps (D.data source.now.tables.now).class (D.data source.now.tables.now).bracket layout.old layout.new }
+    ensures keeps { Keeps (D.data source.now.tables.now) layout.old layout.new }
     ensures place { IfOk result (λ o. o ≡ place_from
-        (rows_by (D.data source.now.tables.now).class (D.data source.now.tables.now).bracket layout.old
+        (rows_by (D.data source.now.tables.now) layout.old
         (splice (bytes source.now) range.start range.end new.now)) (range.start + length new.now)) }
 {
     // proof only: the width is within its limits

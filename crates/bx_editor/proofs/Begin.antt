@@ -1,6 +1,7 @@
 -- The start of a text is a place.
 use Rattle.std.proofs.Common.{ℕ, List, [], ◌∷◌, refl, arith}
 use Rattle.std.specs.Prelude.{Contains}
+use Rattle.bx_ucd.specs.Data.{Data}
 use Rattle.bx_ucd.specs.declared.class.Class.{Class}
 use Rattle.bx_view.specs.Places.{IsTextPlace, boundaries, pieces}
 
@@ -8,5 +9,5 @@ begin-in : (gs : List (List ℕ)) → Contains (boundaries 0 gs) 0
 begin-in [] = (0, omega arith, refl)
 begin-in (g ∷ gs) = (0, omega arith, refl)
 
-pub begin-is-place : (class : ℕ → Class) (text : List ℕ) → IsTextPlace class text 0
-begin-is-place class text = begin-in (pieces class text)
+pub begin-is-place : (says : Data) (text : List ℕ) → IsTextPlace says text 0
+begin-is-place says text = begin-in (pieces says text)

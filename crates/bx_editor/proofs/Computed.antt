@@ -1,8 +1,7 @@
 -- An editor computed with the small tables.
 use Rattle.std.proofs.Common.{ℕ, true, false, List, [], ◌∷◌, map}
 use Rattle.std.specs.Prelude.{encode_utf8_all}
-use Rattle.bx_resolve.specs.TestTables.{class, bracket}
-use Rattle.bx_rows.proofs.Computed.{mirror}
+use Rattle.bx_resolve.specs.TestTables.{small}
 use Rattle.bx_explicit.specs.declared.base.Base.TheVariants.{Auto}
 use Rattle.bx_keys.specs.declared.key.Key.{Key}
 use Rattle.bx_keys.specs.declared.key.Key.TheVariants.{Insert}
@@ -14,7 +13,7 @@ use Rattle.bx_editor.specs.Keys.{after_keys}
 use Rattle.bx_editor.specs.Picture.{picture, next_top}
 
 abbrev pub tables : Data
-tables = record { class = class; bracket = bracket; mirror = mirror }
+tables = small
 
 -- an editor of a text of these characters, and after keys; each Save succeeds
 abbrev pub start : List ℕ → ℕ → ℕ → Editor

@@ -12,16 +12,16 @@ use Rattle.bx_editor.specs.Data.{Data}
 use Rattle.bx_editor.specs.Editor.{Editor, rows, text_height}
 use Rattle.bx_editor.specs.Picture.{StandsOnItsCell, text_picture}
 
-pub stands : (d : Data) (e : Editor) (top : ℕ) (p : PictureState) → 1 ≤ e.width → IsUtf8 e.content.text → IsTextPlace d.class e.content.text e.place
+pub stands : (d : Data) (e : Editor) (top : ℕ) (p : PictureState) → 1 ≤ e.width → IsUtf8 e.content.text → IsTextPlace d e.content.text e.place
     → IsAmong (rows d e) top e.place (text_height e.height) → p ≡ text_picture d e top (rows d e) → StandsOnItsCell d e top p
 stands d e top p some utf8 place shown is =
-    let there : IsPlace (rows d e) e.place = place-in-window d.class d.bracket e.base e.width some e.content.text utf8 e.place place in
-    let inside = cell-inside d.class d.bracket e.base e.width e.content.text e.place some utf8 in
+    let there : IsPlace (rows d e) e.place = place-in-window d e.base e.width some e.content.text utf8 e.place place in
+    let inside = cell-inside d e.base e.width e.content.text e.place some utf8 in
     let row : p.row ≡ row_of (rows d e) e.place - row_of (rows d e) top = ap (λ (q : PictureState). q.row) is in
     let column : p.column ≡ cell_of e.width (rows d e) e.place - 1 = ap (λ (q : PictureState). q.column) is in record {
       place = there;
-      slot = one-slot d.class d.bracket e.base e.width some e.content.text utf8 e.place there;
-      cell = has-cell d.class d.bracket e.base e.width some e.content.text utf8 e.place there;
+      slot = one-slot d e.base e.width some e.content.text utf8 e.place there;
+      cell = has-cell d e.base e.width some e.content.text utf8 e.place there;
       shown = shown;
       row = omega (arith, row, shown.above);
       column = omega (arith, column, inside.0);

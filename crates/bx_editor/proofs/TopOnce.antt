@@ -23,6 +23,6 @@ once false top F stays = stays
 
 pub top-stays : TopStays
 top-stays d e top has =
-    let least : MovesLeast (rows d e) = text-moves-least d.class d.bracket e.base e.width e.content.text (side-some e.width has.columns) has.text in
+    let least : MovesLeast (rows d e) = text-moves-least d e.base e.width e.content.text (side-some e.width has.columns) has.text in
     let F : ℕ → ℕ = λ t. follow (rows d e) t e.place (text_height e.height) in
     once e.ended top F (least.stays top e.place (text_height e.height) (height-some e.height))

@@ -46,7 +46,7 @@ at_start text height width base = record {
 
 -- the rows of any text in the editor's layout, and those of its own text
 abbrev pub rows_of : Data → Editor → List ℕ → List TextRow
-rows_of d e text = text_rows d.class d.bracket e.base e.width text
+rows_of d e text = text_rows d e.base e.width text
 
 abbrev pub rows : Data → Editor → List TextRow
 rows d e = rows_of d e e.content.text

@@ -38,7 +38,7 @@ next_top d e top = if e.ended then top else follow (rows d e) top e.place (text_
 pub record StandsOnItsCell (d : Data) (e : Editor) (top : ℕ) (p : PictureState) : Type 0 where
   pub place : IsPlace (rows d e) e.place
   pub slot : HasOneSlot e.width (rows d e) e.place
-  pub cell : HasCell d.class e.width (rows d e) e.place
+  pub cell : HasCell d e.width (rows d e) e.place
   pub shown : IsAmong (rows d e) top e.place (text_height e.height)
   pub row : row_of (rows d e) top + p.row ≡ row_of (rows d e) e.place
   pub column : p.column + 1 ≡ cell_of e.width (rows d e) e.place

@@ -49,7 +49,7 @@ impl<D: BidiData + Drop> Model for Editor<D> {
       };
     } };
 
-    ghost invariant = { λ e. IsTextPlace (D.data e.document.tables).class e.document.document.content.text e.place × (is_side e.height ≡ true) };
+    ghost invariant = { λ e. IsTextPlace (D.data e.document.tables) e.document.document.content.text e.place × (is_side e.height ≡ true) };
 }
 
 impl<D: BidiData + Drop> Editor<D> {

@@ -13,7 +13,7 @@ use bx_view::Move;
 impl<D: BidiData + Drop> Editor<D> {
     /// Moves the cursor to a place.
     fn stand_at(&mut self, place: usize)
-        requires text_place { IsTextPlace (D.data self.old.tables).class self.old.editor.content.text place }
+        requires text_place { IsTextPlace (D.data self.old.tables) self.old.editor.content.text place }
         ensures { self.new ≡ record self.old { editor = with_place (without_message self.old.editor) place } }
     {
         self.place = place;

@@ -36,7 +36,7 @@ impl<D: BidiData + Drop> Editor<D> {
     ) -> Result<(), OutOfMemory>
         requires height { page.old.height ≡ self.now.editor.height }
         requires width { page.old.width ≡ self.now.editor.width }
-        requires position { IsPosition (D.data self.now.tables).class self.now.editor.width self.now.editor.content.text
+        requires position { IsPosition (D.data self.now.tables) self.now.editor.width self.now.editor.content.text
             (rows (D.data self.now.tables) self.now.editor) self.now.editor.place position }
         ensures status { OnOk result (page.new ≡ record page.old {
           columns = take (text_height self.now.editor.height * self.now.editor.width) page.old.columns

@@ -4,6 +4,7 @@ use Rattle.std.specs.List.{list_all, list_any}
 use Rattle.std.proofs.lemmas.Bool.{and_parts, and_from, not-true}
 use Rattle.std.proofs.lemmas.List.{map-append}
 use Rattle.std.proofs.lemmas.List.Folds.{list_all-append}
+use Rattle.bx_ucd.specs.Data.{Data}
 use Rattle.bx_ucd.specs.declared.class.Class.{Class}
 use Rattle.bx_ucd.specs.declared.class.Class.TheVariants.{L, R, AL, EN, ES, ET, AN, CS, NSM, B, S, WS, ON}
 use Rattle.bx_ucd.specs.declared.data.Side.{Side}
@@ -57,48 +58,48 @@ each-unformatted : (way : Way) (ts : List Class) → Each (is_of_way way) ts →
 each-unformatted way [] h = tt
 each-unformatted way (t ∷ ts) h = (way-unformatted way t h.0, each-unformatted way ts h.1)
 
-module _ (class : ℕ → Class) (bracket : ℕ → Option (Side × ℕ)) where
-  each-of-way : (way : Way) (cs : List ℕ) → list_all (is_bare class bracket way) cs ≡ true → Each (is_of_way way) (map class cs)
+module _ (says : Data) where
+  each-of-way : (way : Way) (cs : List ℕ) → list_all (is_bare says way) cs ≡ true → Each (is_of_way way) (map says.class cs)
   each-of-way way [] h = tt
   each-of-way way (c ∷ cs) h =
-      let p = and_parts (is_bare class bracket way c) (list_all (is_bare class bracket way) cs) h in
-      ((and_parts (is_of_way way (class c)) (not (is_listed bracket c)) p.0).0, each-of-way way cs p.1)
+      let p = and_parts (is_bare says way c) (list_all (is_bare says way) cs) h in
+      ((and_parts (is_of_way way (says.class c)) (not (is_listed says c)) p.0).0, each-of-way way cs p.1)
 
   -- all are of the way
-  pub bare-way : (way : Way) (cs : List ℕ) → list_all (is_bare class bracket way) cs ≡ true → all_pass (is_of_way way) (map class cs) ≡ true
-  bare-way way cs h = pass_each (is_of_way way) (map class cs) (each-of-way way cs h)
+  pub bare-way : (way : Way) (cs : List ℕ) → list_all (is_bare says way) cs ≡ true → all_pass (is_of_way way) (map says.class cs) ≡ true
+  bare-way way cs h = pass_each (is_of_way way) (map says.class cs) (each-of-way way cs h)
 
   -- none is a formatting character
-  pub bare-unformatted : (way : Way) (cs : List ℕ) → list_all (is_bare class bracket way) cs ≡ true → HasNoFormatting class cs
-  bare-unformatted way cs h = pass_each is_unformatted (map class cs) (each-unformatted way (map class cs) (each-of-way way cs h))
+  pub bare-unformatted : (way : Way) (cs : List ℕ) → list_all (is_bare says way) cs ≡ true → HasNoFormatting says cs
+  bare-unformatted way cs h = pass_each is_unformatted (map says.class cs) (each-unformatted way (map says.class cs) (each-of-way way cs h))
 
   -- none is a bracket
-  pub bare-unlisted : (way : Way) (cs : List ℕ) → list_all (is_bare class bracket way) cs ≡ true → list_any (is_listed bracket) cs ≡ false
+  pub bare-unlisted : (way : Way) (cs : List ℕ) → list_all (is_bare says way) cs ≡ true → list_any (is_listed says) cs ≡ false
   bare-unlisted way [] h = refl
   bare-unlisted way (c ∷ cs) h =
-      let p = and_parts (is_bare class bracket way c) (list_all (is_bare class bracket way) cs) h in
-      ap₂ (λ x y. x || y) (not-true _ (and_parts (is_of_way way (class c)) (not (is_listed bracket c)) p.0).1) (bare-unlisted way cs p.1)
+      let p = and_parts (is_bare says way c) (list_all (is_bare says way) cs) h in
+      ap₂ (λ x y. x || y) (not-true _ (and_parts (is_of_way way (says.class c)) (not (is_listed says c)) p.0).1) (bare-unlisted way cs p.1)
 
   -- the same of a text that is known to have none
-  pub unlisted : (cs : List ℕ) → list_all (λ c. not (is_listed bracket c)) cs ≡ true → list_any (is_listed bracket) cs ≡ false
+  pub unlisted : (cs : List ℕ) → list_all (λ c. not (is_listed says c)) cs ≡ true → list_any (is_listed says) cs ≡ false
   unlisted [] h = refl
   unlisted (c ∷ cs) h =
-      let p = and_parts (not (is_listed bracket c)) (list_all (λ c. not (is_listed bracket c)) cs) h in
+      let p = and_parts (not (is_listed says c)) (list_all (λ c. not (is_listed says c)) cs) h in
       ap₂ (λ x y. x || y) (not-true _ p.0) (unlisted cs p.1)
 
-  pub unlisted-append : (xs ys : List ℕ) → list_all (λ c. not (is_listed bracket c)) xs ≡ true → list_all (λ c. not (is_listed bracket c)) ys ≡ true
-      → list_any (is_listed bracket) (xs ++ ys) ≡ false
-  unlisted-append xs ys h k = unlisted (xs ++ ys) (list_all-append (λ c. not (is_listed bracket c)) xs ys ∙ and_from _ _ h k)
+  pub unlisted-append : (xs ys : List ℕ) → list_all (λ c. not (is_listed says c)) xs ≡ true → list_all (λ c. not (is_listed says c)) ys ≡ true
+      → list_any (is_listed says) (xs ++ ys) ≡ false
+  unlisted-append xs ys h k = unlisted (xs ++ ys) (list_all-append (λ c. not (is_listed says c)) xs ys ∙ and_from _ _ h k)
 
-  pub bare-append : (way : Way) (xs ys : List ℕ) → list_all (is_bare class bracket way) xs ≡ true → list_all (is_bare class bracket way) ys ≡ true
-      → list_all (is_bare class bracket way) (xs ++ ys) ≡ true
-  bare-append way xs ys h k = list_all-append (is_bare class bracket way) xs ys ∙ and_from _ _ h k
+  pub bare-append : (way : Way) (xs ys : List ℕ) → list_all (is_bare says way) xs ≡ true → list_all (is_bare says way) ys ≡ true
+      → list_all (is_bare says way) (xs ++ ys) ≡ true
+  bare-append way xs ys h k = list_all-append (is_bare says way) xs ys ∙ and_from _ _ h k
 
-  pub bare-three : (way : Way) (xs ys zs : List ℕ) → list_all (is_bare class bracket way) xs ≡ true → list_all (is_bare class bracket way) ys ≡ true
-      → list_all (is_bare class bracket way) zs ≡ true → list_all (is_bare class bracket way) (xs ++ (ys ++ zs)) ≡ true
+  pub bare-three : (way : Way) (xs ys zs : List ℕ) → list_all (is_bare says way) xs ≡ true → list_all (is_bare says way) ys ≡ true
+      → list_all (is_bare says way) zs ≡ true → list_all (is_bare says way) (xs ++ (ys ++ zs)) ≡ true
   bare-three way xs ys zs h k l = bare-append way xs (ys ++ zs) h (bare-append way ys zs k l)
 
   -- texts without formatting characters
-  pub plain-append : (xs ys : List ℕ) → HasNoFormatting class xs → HasNoFormatting class ys → HasNoFormatting class (xs ++ ys)
-  plain-append xs ys h k = pass_each is_unformatted (map class (xs ++ ys)) (subst (Each is_unformatted) (sym (map-append class xs ys))
-      (each_append is_unformatted (map class xs) (map class ys) (each_pass is_unformatted (map class xs) h) (each_pass is_unformatted (map class ys) k)))
+  pub plain-append : (xs ys : List ℕ) → HasNoFormatting says xs → HasNoFormatting says ys → HasNoFormatting says (xs ++ ys)
+  plain-append xs ys h k = pass_each is_unformatted (map says.class (xs ++ ys)) (subst (Each is_unformatted) (sym (map-append says.class xs ys))
+      (each_append is_unformatted (map says.class xs) (map says.class ys) (each_pass is_unformatted (map says.class xs) h) (each_pass is_unformatted (map says.class ys) k)))

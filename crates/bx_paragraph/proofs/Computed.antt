@@ -1,8 +1,7 @@
 -- The rows of a body, computed, by the small tables.
 use Rattle.std.proofs.Common.{ℕ, List, map}
 use Rattle.std.specs.Prelude.{flat_map, chars, encode_utf8_all}
-use Rattle.bx_resolve.specs.TestTables.{class, bracket}
-use Rattle.bx_rows.proofs.Computed.{mirror}
+use Rattle.bx_resolve.specs.TestTables.{small}
 use Rattle.bx_explicit.specs.declared.base.Base.{Base}
 use Rattle.bx_explicit.specs.declared.base.Base.TheVariants.{Auto}
 use Rattle.bx_paragraph.specs.BodyRows.{BodyRow, body_rows, row_glyphs}
@@ -10,7 +9,7 @@ use Rattle.bx_paragraph.specs.Slots.{row_slots}
 
 -- the rows of a body of these characters
 abbrev pub rows_under : Base → ℕ → List ℕ → List BodyRow
-rows_under base w cs = body_rows class bracket base w (encode_utf8_all cs)
+rows_under base w cs = body_rows small base w (encode_utf8_all cs)
 
 abbrev pub rows : ℕ → List ℕ → List BodyRow
 rows w cs = rows_under Auto w cs
@@ -21,4 +20,4 @@ slots w rs = map (λ r. map (λ s. (s.offset, s.column, s.columns)) (row_slots w
 
 -- the characters of the glyphs of each row, from left to right
 abbrev pub pictures : ℕ → List BodyRow → List (List ℕ)
-pictures w rs = map (λ r. flat_map (λ g. chars g.text) (row_glyphs class mirror w r)) rs
+pictures w rs = map (λ r. flat_map (λ g. chars g.text) (row_glyphs small w r)) rs

@@ -6,6 +6,7 @@ use Rattle.std.specs.List.{list_all, list_any}
 use Rattle.std.proofs.lemmas.List.{get_or-append-add}
 use Rattle.std.proofs.lemmas.Str.{chars-append, IsUtf8-drop}
 use Rattle.std.proofs.Math.Seq.{drop-append-add, take-append-add}
+use Rattle.bx_ucd.specs.Data.{Data}
 use Rattle.bx_ucd.specs.declared.class.Class.{Class}
 use Rattle.bx_ucd.specs.declared.data.Side.{Side}
 use Rattle.bx_ucd.specs.Class.{is_strong}
@@ -22,7 +23,7 @@ use Rattle.bx_paragraph.specs.declared.text_edit.TextEdit.{TextEdit}
 use Rattle.bx_paragraph.proofs.Bare.{bare-three, bare-unformatted, bare-unlisted, bare-way, of-one-way, unlisted, unlisted-append}
 use Rattle.bx_paragraph.proofs.Places.{chars-before}
 
-module _ (class : ℕ → Class) (bracket : ℕ → Option (Side × ℕ)) (t : TextEdit) (x : Strong) (at_x : IsStrongIn class t.near.now x) (i : ℕ)
+module _ (says : Data) (t : TextEdit) (x : Strong) (at_x : IsStrongIn says t.near.now x) (i : ℕ)
     (i_is : i ≡ length (chars t.front.now) + x.index) where
   abbrev front : List ℕ
   front = chars t.front.now
@@ -42,16 +43,16 @@ module _ (class : ℕ → Class) (bracket : ℕ → Option (Side × ℕ)) (t : T
   inside-x : i < length (front ++ near)
   inside-x = omega (arith, i_is, at_x.inside, length-append front near)
 
-  class-x : x.class ≡ class (get_or (front ++ near) i 0)
-  class-x = at_x.class_is ∙ ap class (sym (ap (λ k. get_or (front ++ near) k 0) i_is ∙ get_or-append-add front near x.index 0))
+  class-x : x.class ≡ says.class (get_or (front ++ near) i 0)
+  class-x = at_x.class_is ∙ ap says.class (sym (ap (λ k. get_or (front ++ near) k 0) i_is ∙ get_or-append-add front near x.index 0))
 
-  strong-x : is_strong (class (get_or (front ++ near) i 0)) ≡ true
+  strong-x : is_strong (says.class (get_or (front ++ near) i 0)) ≡ true
   strong-x = subst (λ c. is_strong c ≡ true) class-x at_x.strong
 
   -- ---- up to another one
 
-  module _ (y : Strong) (at_y : IsStrongIn class t.behind.now y) (utf8 : IsUtf8 t.behind.now) where
-    strong-y : is_strong (class (get_or (chars t.behind.now) y.index 0)) ≡ true
+  module _ (y : Strong) (at_y : IsStrongIn says t.behind.now y) (utf8 : IsUtf8 t.behind.now) where
+    strong-y : is_strong (says.class (get_or (chars t.behind.now) y.index 0)) ≡ true
     strong-y = subst (λ c. is_strong c ≡ true) at_y.class_is at_y.strong
 
     up-to-y : take y.index (chars t.behind.now) ≡ chars (take y.start t.behind.now)
@@ -69,37 +70,37 @@ module _ (class : ℕ → Class) (bracket : ℕ → Option (Side × ℕ)) (t : T
 
     -- no bracket pair around both strong characters sees the text between them
     abbrev IsOut : List Class → Type 0
-    IsOut m = (one_way x.class y.class m ≡ true) ⊎ ((list_any (is_listed bracket) (take i (front ++ near)) ≡ false)
-        ⊎ (list_any (is_listed bracket) (drop (y.index + 1) (chars t.behind.now)) ≡ false))
+    IsOut m = (one_way x.class y.class m ≡ true) ⊎ ((list_any (is_listed says) (take i (front ++ near)) ≡ false)
+        ⊎ (list_any (is_listed says) (drop (y.index + 1) (chars t.behind.now)) ≡ false))
 
-    module _ (way : Way) (bare : IsBareEdit class bracket way t (drop x.stop t.near.now) (take y.start t.behind.now))
+    module _ (way : Way) (bare : IsBareEdit says way t (drop x.stop t.near.now) (take y.start t.behind.now))
         (out : (m : List Class) → all_pass (is_of_way way) m ≡ true → IsOut m) where
-      bare-between : (s : List ℕ) → list_all (is_bare class bracket way) s ≡ true
-          → list_all (is_bare class bracket way) (between (front ++ near) i s (chars t.behind.now) y.index) ≡ true
+      bare-between : (s : List ℕ) → list_all (is_bare says way) s ≡ true
+          → list_all (is_bare says way) (between (front ++ near) i s (chars t.behind.now) y.index) ≡ true
       bare-between s h =
-          ap₂ (λ a b. list_all (is_bare class bracket way) (a ++ (s ++ b))) behind-x up-to-y
-          ∙ bare-three class bracket way (chars (drop x.stop t.near.now)) s (chars (take y.start t.behind.now)) bare.left_is h bare.right_is
+          ap₂ (λ a b. list_all (is_bare says way) (a ++ (s ++ b))) behind-x up-to-y
+          ∙ bare-three says way (chars (drop x.stop t.near.now)) s (chars (take y.start t.behind.now)) bare.left_is h bare.right_is
 
-      safe : (s : List ℕ) → list_all (is_bare class bracket way) s ≡ true → IsSafe class bracket (front ++ near) i s (chars t.behind.now) y.index
+      safe : (s : List ℕ) → list_all (is_bare says way) s ≡ true → IsSafe says (front ++ near) i s (chars t.behind.now) y.index
       safe s h =
           let m = between (front ++ near) i s (chars t.behind.now) y.index in
           let whole = bare-between s h in
-          let none_before = list_any (is_listed bracket) (take i (front ++ near)) ≡ false in
-          let none_behind = list_any (is_listed bracket) (drop (y.index + 1) (chars t.behind.now)) ≡ false in (
-            bare-unlisted class bracket way m whole,
-            subst (λ d. (one_way (class (get_or (front ++ near) i 0)) d (map class m) ≡ true) ⊎ (none_before ⊎ none_behind)) at_y.class_is
-                (subst (λ c. (one_way c y.class (map class m) ≡ true) ⊎ (none_before ⊎ none_behind)) class-x
-                (out (map class m) (bare-way class bracket way m whole))),
+          let none_before = list_any (is_listed says) (take i (front ++ near)) ≡ false in
+          let none_behind = list_any (is_listed says) (drop (y.index + 1) (chars t.behind.now)) ≡ false in (
+            bare-unlisted says way m whole,
+            subst (λ d. (one_way (says.class (get_or (front ++ near) i 0)) d (map says.class m) ≡ true) ⊎ (none_before ⊎ none_behind)) at_y.class_is
+                (subst (λ c. (one_way c y.class (map says.class m) ≡ true) ⊎ (none_before ⊎ none_behind)) class-x
+                (out (map says.class m) (bare-way says way m whole))),
           )
 
-      cut-between : HasNoFormatting class (old_text (edit_of t)) → IsCutBetween class bracket (edit_of t) i y.index
+      cut-between : HasNoFormatting says (old_text (edit_of t)) → IsCutBetween says (edit_of t) i y.index
       cut-between old = record {
         in_before = inside-x;
         in_behind = at_y.inside;
         strong_before = strong-x;
         strong_behind = strong-y;
         old_unformatted = old;
-        new_unformatted = bare-unformatted class bracket way (chars t.inserted.now) bare.inserted_is;
+        new_unformatted = bare-unformatted says way (chars t.inserted.now) bare.inserted_is;
         old_safe = safe (chars t.removed.now) bare.removed_is;
         new_safe = safe (chars t.inserted.now) bare.inserted_is;
       }
@@ -107,56 +108,56 @@ module _ (class : ℕ → Class) (bracket : ℕ → Option (Side × ℕ)) (t : T
       follows-by : (was now : Levels) (last : ℕ) (text : List ℕ) → IsUtf8 t.near.now → IsUtf8 t.inserted.now
           → text ≡ drop x.start t.near.now ++ (t.inserted.now ++ take y.stop t.behind.now)
           → last ≡ length front + (length near + (length (chars t.removed.now) + (y.index + 1)))
-          → FollowsBetween class bracket (chars text) i last was now → FollowsEdit class bracket t was now
+          → FollowsBetween says (chars text) i last was now → FollowsEdit says t was now
       follows-by was now last text un ui e l law base old levels =
           let at : last ≡ old_index (edit_of t) y.index = omega (arith, l, length-append front near) in
           law base (edit_of t) y.index (cut-between old) (piece-between text un ui e) at levels
 
-    none-before : IsUtf8 t.near.now → has_no_bracket bracket t.front.now ≡ true → has_no_bracket bracket (take x.start t.near.now) ≡ true
-        → list_any (is_listed bracket) (take i (front ++ near)) ≡ false
+    none-before : IsUtf8 t.near.now → has_no_bracket says t.front.now ≡ true → has_no_bracket says (take x.start t.near.now) ≡ true
+        → list_any (is_listed says) (take i (front ++ near)) ≡ false
     none-before un h k =
         let up_to_x = chars-before t.near.now x.index x.start un at_x.start (omega (arith, at_x.inside)) in
-        ap (λ n. list_any (is_listed bracket) (take n (front ++ near))) i_is
-        ∙ ap (list_any (is_listed bracket)) (take-append-add front near x.index ∙ ap (λ xs. front ++ xs) (sym up_to_x))
-        ∙ unlisted-append class bracket front (chars (take x.start t.near.now)) h k
+        ap (λ n. list_any (is_listed says) (take n (front ++ near))) i_is
+        ∙ ap (list_any (is_listed says)) (take-append-add front near x.index ∙ ap (λ xs. front ++ xs) (sym up_to_x))
+        ∙ unlisted-append says front (chars (take x.start t.near.now)) h k
 
-    none-behind : has_no_bracket bracket (drop y.stop t.behind.now) ≡ true → list_any (is_listed bracket) (drop (y.index + 1) (chars t.behind.now)) ≡ false
-    none-behind h = ap (list_any (is_listed bracket)) (sym at_y.stop.rest) ∙ unlisted class bracket (chars (drop y.stop t.behind.now)) h
+    none-behind : has_no_bracket says (drop y.stop t.behind.now) ≡ true → list_any (is_listed says) (drop (y.index + 1) (chars t.behind.now)) ≡ false
+    none-behind h = ap (list_any (is_listed says)) (sym at_y.stop.rest) ∙ unlisted says (chars (drop y.stop t.behind.now)) h
 
-    out-open : IsUtf8 t.near.now → IsOpenEdit bracket t x y → (m : List Class) → IsOut m
+    out-open : IsUtf8 t.near.now → IsOpenEdit says t x y → (m : List Class) → IsOut m
     out-open un (inl ahead) m = inr (inl (none-before un ahead.0 ahead.1))
     out-open un (inr behind) m = inr (inr (none-behind behind))
 
     pub follows-within : (was now : Levels) (last : ℕ) (text : List ℕ) → IsUtf8 t.near.now → IsUtf8 t.inserted.now
         → text ≡ drop x.start t.near.now ++ (t.inserted.now ++ take y.stop t.behind.now)
         → last ≡ length front + (length near + (length (chars t.removed.now) + (y.index + 1)))
-        → FollowsBetween class bracket (chars text) i last was now → IsCutOffEdit class bracket t x y → FollowsEdit class bracket t was now
+        → FollowsBetween says (chars text) i last was now → IsCutOffEdit says t x y → FollowsEdit says t was now
     follows-within was now last text un ui e l law (inl bare) =
         follows-by (way_between x.class y.class) bare (λ m pass. inl (of-one-way x.class y.class m at_x.strong at_y.strong pass)) was now last text un ui e l law
     follows-within was now last text un ui e l law (inr cut) =
         follows-by Either cut.0 (λ m pass. out-open un cut.1 m) was now last text un ui e l law
 
     -- the inserted text has no formatting characters
-    pub cut-unformatted : IsCutOffEdit class bracket t x y → HasNoFormatting class (chars t.inserted.now)
-    cut-unformatted (inl bare) = bare-unformatted class bracket (way_between x.class y.class) (chars t.inserted.now) bare.inserted_is
-    cut-unformatted (inr cut) = bare-unformatted class bracket Either (chars t.inserted.now) cut.0.inserted_is
+    pub cut-unformatted : IsCutOffEdit says t x y → HasNoFormatting says (chars t.inserted.now)
+    cut-unformatted (inl bare) = bare-unformatted says (way_between x.class y.class) (chars t.inserted.now) bare.inserted_is
+    cut-unformatted (inr cut) = bare-unformatted says Either (chars t.inserted.now) cut.0.inserted_is
 
   -- ---- up to the end of the text
 
-  module _ (bare : IsBareEdit class bracket Either t (drop x.stop t.near.now) t.behind.now) where
-    unlisted-from : (s : List ℕ) → list_all (is_bare class bracket Either) s ≡ true
-        → list_any (is_listed bracket) (drop (i + 1) (front ++ near) ++ (s ++ chars t.behind.now)) ≡ false
+  module _ (bare : IsBareEdit says Either t (drop x.stop t.near.now) t.behind.now) where
+    unlisted-from : (s : List ℕ) → list_all (is_bare says Either) s ≡ true
+        → list_any (is_listed says) (drop (i + 1) (front ++ near) ++ (s ++ chars t.behind.now)) ≡ false
     unlisted-from s h =
-        ap (λ a. list_any (is_listed bracket) (a ++ (s ++ chars t.behind.now))) behind-x
-        ∙ bare-unlisted class bracket Either (chars (drop x.stop t.near.now) ++ (s ++ chars t.behind.now))
-        (bare-three class bracket Either (chars (drop x.stop t.near.now)) s (chars t.behind.now) bare.left_is h bare.right_is)
+        ap (λ a. list_any (is_listed says) (a ++ (s ++ chars t.behind.now))) behind-x
+        ∙ bare-unlisted says Either (chars (drop x.stop t.near.now) ++ (s ++ chars t.behind.now))
+        (bare-three says Either (chars (drop x.stop t.near.now)) s (chars t.behind.now) bare.left_is h bare.right_is)
 
-    cut-to-end : HasNoFormatting class (old_text (edit_of t)) → IsCutToEnd class bracket (edit_of t) i
+    cut-to-end : HasNoFormatting says (old_text (edit_of t)) → IsCutToEnd says (edit_of t) i
     cut-to-end old = record {
       in_before = inside-x;
       strong_before = strong-x;
       old_unformatted = old;
-      new_unformatted = bare-unformatted class bracket Either (chars t.inserted.now) bare.inserted_is;
+      new_unformatted = bare-unformatted says Either (chars t.inserted.now) bare.inserted_is;
       old_bare = unlisted-from (chars t.removed.now) bare.removed_is;
       new_bare = unlisted-from (chars t.inserted.now) bare.inserted_is;
     }
@@ -169,13 +170,13 @@ module _ (class : ℕ → Class) (bracket : ℕ → Option (Side × ℕ)) (t : T
 
     pub follows-behind : (was now : Levels) (text : List ℕ) → IsUtf8 t.near.now → IsUtf8 t.inserted.now
         → text ≡ drop x.start t.near.now ++ (t.inserted.now ++ t.behind.now)
-        → FollowsToEnd class bracket (chars text) i was now → FollowsEdit class bracket t was now
+        → FollowsToEnd says (chars text) i was now → FollowsEdit says t was now
     follows-behind was now text un ui e law base old levels =
         law base (edit_of t) (cut-to-end old) (piece-to-end text un ui e) levels
 
 -- the same between equal texts
-pub bare-same : (class : ℕ → Class) (bracket : ℕ → Option (Side × ℕ)) (way other : Way) (t : TextEdit) (left left_is right right_is : List ℕ) → way ≡ other
-    → left ≡ left_is → right ≡ right_is → IsBareEdit class bracket way t left right → IsBareEdit class bracket other t left_is right_is
-bare-same class bracket way other t left left_is right right_is e f h bare =
-    subst (λ y. IsBareEdit class bracket y t left_is right_is) e
-    (subst (λ xs. IsBareEdit class bracket way t xs right_is) f (subst (λ xs. IsBareEdit class bracket way t left xs) h bare))
+pub bare-same : (says : Data) (way other : Way) (t : TextEdit) (left left_is right right_is : List ℕ) → way ≡ other
+    → left ≡ left_is → right ≡ right_is → IsBareEdit says way t left right → IsBareEdit says other t left_is right_is
+bare-same says way other t left left_is right right_is e f h bare =
+    subst (λ y. IsBareEdit says y t left_is right_is) e
+    (subst (λ xs. IsBareEdit says way t xs right_is) f (subst (λ xs. IsBareEdit says way t left xs) h bare))

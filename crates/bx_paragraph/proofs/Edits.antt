@@ -6,6 +6,7 @@ use Rattle.std.specs.List.{list_all}
 use Rattle.std.proofs.lemmas.Bool.{and_parts}
 use Rattle.std.proofs.lemmas.List.{get_or-map, length-map, take-append-drop}
 use Rattle.std.proofs.lemmas.Str.{chars-append, IsUtf8-between, IsUtf8-take}
+use Rattle.bx_ucd.specs.Data.{Data}
 use Rattle.unicode_segmentation.proofs.TextLemmas.{take_split}
 use Rattle.bx_ucd.specs.declared.class.Class.{Class}
 use Rattle.bx_ucd.specs.declared.data.Side.{Side}
@@ -71,18 +72,18 @@ module _ (old new : List ℕ) (t : TextEdit) (e : IsEditOf old new t) where
   new-chars : chars new ≡ new_text (edit_of t)
   new-chars = ap chars e.after ∙ joined-chars t.front.now t.near.now t.inserted.now t.behind.now e.front_is e.near_is e.inserted_is
 
-  module _ (class : ℕ → Class) (bracket : ℕ → Option (Side × ℕ)) where
+  module _ (says : Data) where
     -- as many levels as characters
-    levels-count : (base : Base) → HasNoFormatting class (chars old) → length (levels_under class bracket base (chars old)) ≡ length (chars old)
+    levels-count : (base : Base) → HasNoFormatting says (chars old) → length (levels_under says base (chars old)) ≡ length (chars old)
     levels-count base h =
-        let level = paragraph_level_under class base (chars old) in
+        let level = paragraph_level_under says base (chars old) in
         let side = direction level in
-        let cs = map class (chars old) in
-        ap length (unformatted_levels class bracket level (chars old) h)
-        ∙ length-map (sequence_levels bracket level side side (chars old) cs) found
-        ∙ levels_length bracket level side side (chars old) cs ∙ length-map (chars old) class
+        let cs = map says.class (chars old) in
+        ap length (unformatted_levels says level (chars old) h)
+        ∙ length-map (sequence_levels says level side side (chars old) cs) found
+        ∙ levels_length says level side side (chars old) cs ∙ length-map (chars old) says.class
 
-    pub whole-count : (base : Base) (each : List (Option ℕ)) → HasNoFormatting class (chars old) → each ≡ levels_under class bracket base (chars old)
+    pub whole-count : (base : Base) (each : List (Option ℕ)) → HasNoFormatting says (chars old) → each ≡ levels_under says base (chars old)
         → length each ≡ t.ahead + (length (chars t.near.now) + (length (chars t.removed.now) + length (chars t.behind.now)))
     whole-count base each h is =
         let near = chars t.near.now in
@@ -99,42 +100,42 @@ module _ (old new : List ℕ) (t : TextEdit) (e : IsEditOf old new t) where
         )
 
     -- the levels that follow
-    pub levels-follow : (base : Base) (was now : Levels) → HasNoFormatting class (chars old) → FollowsEdit class bracket t was now
-        → AreLevelsOf class bracket base (chars old) was → AreLevelsOf class bracket base (chars new) now
+    pub levels-follow : (base : Base) (was now : Levels) → HasNoFormatting says (chars old) → FollowsEdit says t was now
+        → AreLevelsOf says base (chars old) was → AreLevelsOf says base (chars new) now
     levels-follow base was now h law levels =
-        subst (λ cs. AreLevelsOf class bracket base cs now) (sym new-chars)
-        (law base (subst (HasNoFormatting class) old-chars h)
-        (subst (λ cs. AreLevelsOf class bracket base cs was) old-chars levels))
+        subst (λ cs. AreLevelsOf says base cs now) (sym new-chars)
+        (law base (subst (HasNoFormatting says) old-chars h)
+        (subst (λ cs. AreLevelsOf says base cs was) old-chars levels))
 
     -- no formatting characters come
-    pub stays-plain : HasNoFormatting class (chars old) → HasNoFormatting class (chars t.inserted.now) → HasNoFormatting class (chars new)
+    pub stays-plain : HasNoFormatting says (chars old) → HasNoFormatting says (chars t.inserted.now) → HasNoFormatting says (chars new)
     stays-plain h k =
         let front = chars t.front.now ++ chars t.near.now in
         let behind = chars t.behind.now in
-        let all = each_pass is_unformatted (map class (old_text (edit_of t))) (subst (HasNoFormatting class) old-chars h) in
-        let before = less_front class bracket 0 front (chars t.removed.now ++ behind) all in
-        let after = less_back class bracket 0 (chars t.removed.now) behind (less_back class bracket 0 front (chars t.removed.now ++ behind) all) in
-        subst (HasNoFormatting class) (sym new-chars)
-        (plain-append class bracket front (chars t.inserted.now ++ behind) (pass_each is_unformatted (map class front) before)
-        (plain-append class bracket (chars t.inserted.now) behind k (pass_each is_unformatted (map class behind) after)))
+        let all = each_pass is_unformatted (map says.class (old_text (edit_of t))) (subst (HasNoFormatting says) old-chars h) in
+        let before = less_front says 0 front (chars t.removed.now ++ behind) all in
+        let after = less_back says 0 (chars t.removed.now) behind (less_back says 0 front (chars t.removed.now ++ behind) all) in
+        subst (HasNoFormatting says) (sym new-chars)
+        (plain-append says front (chars t.inserted.now ++ behind) (pass_each is_unformatted (map says.class front) before)
+        (plain-append says (chars t.inserted.now) behind k (pass_each is_unformatted (map says.class behind) after)))
 
-plain-each : (class : ℕ → Class) (cs : List ℕ) → list_all (λ c. is_of_way Either (class c)) cs ≡ true → Each is_unformatted (map class cs)
-plain-each class [] h = tt
-plain-each class (c ∷ cs) h =
-    let p = and_parts (is_of_way Either (class c)) (list_all (λ c. is_of_way Either (class c)) cs) h in (p.0, plain-each class cs p.1)
+plain-each : (says : Data) (cs : List ℕ) → list_all (λ c. is_of_way Either (says.class c)) cs ≡ true → Each is_unformatted (map says.class cs)
+plain-each says [] h = tt
+plain-each says (c ∷ cs) h =
+    let p = and_parts (is_of_way Either (says.class c)) (list_all (λ c. is_of_way Either (says.class c)) cs) h in (p.0, plain-each says cs p.1)
 
 -- a text that passes the test has none
-pub plain-if : (class : ℕ → Class) (cs : List ℕ) → list_all (λ c. is_of_way Either (class c)) cs ≡ true → HasNoFormatting class cs
-plain-if class cs h = pass_each is_unformatted (map class cs) (plain-each class cs h)
+pub plain-if : (says : Data) (cs : List ℕ) → list_all (λ c. is_of_way Either (says.class c)) cs ≡ true → HasNoFormatting says cs
+plain-if says cs h = pass_each is_unformatted (map says.class cs) (plain-each says cs h)
 
 -- ---- rows
 
 -- the characters before each row of a layout are counted
-pub counted : (class : ℕ → Class) (bracket : ℕ → Option (Side × ℕ)) (l : LayoutState) → IsLayoutBy class bracket l → (body : List ℕ)
+pub counted : (says : Data) (l : LayoutState) → IsLayoutBy says l → (body : List ℕ)
     (starts : List RowStart) → body ≡ l.body → starts ≡ l.starts → All (IsCounted body) starts
-counted class bracket l is body starts e f k d h =
-    let us = units class l.w l.body in
-    let rows = wrap class l.w l.body us in
+counted says l is body starts e f k d h =
+    let us = units says l.w l.body in
+    let rows = wrap says l.w l.body us in
     let none : Row = record { start = 0; stop = 0 } in
     let size : length starts ≡ length rows = ap length (f ∙ is.starts) ∙ length-map rows (start_of l.body us) in
     let at = ap (λ xs. get_or xs k d) (f ∙ is.starts) ∙ get_or-map (start_of l.body us) rows k none d (omega (arith, h, size)) in

@@ -7,7 +7,7 @@ use Rattle.unicode_segmentation.proofs.Computing.{unicode_segmentation}
 use Rattle.unicode_width.proofs.Computing.{unicode_width}
 use Rattle.bx_explicit.specs.declared.base.Base.TheVariants.{Ltr, Rtl}
 use Rattle.bx_paragraph.specs.declared.moves.Visual.TheVariants.{Right}
-use Rattle.bx_resolve.specs.TestTables.{class}
+use Rattle.bx_resolve.specs.TestTables.{small}
 use Rattle.bx_rows.specs.RowStarts.{row_starts}
 use Rattle.bx_rows.specs.declared.start_search.RowStart.{RowStart}
 use Rattle.bx_paragraph.specs.Laws.{RowsBeforeStay}
@@ -167,7 +167,7 @@ before_last = IsCharBoundary-from_drop (codes "abcdef") 5 (omega arith) (codes "
 
 -- in a window of one column the first two rows behind `abcde` are those of a and b, whatever comes behind
 rows_before_stay : RowsBeforeStay → (new : List ℕ) → IsUtf8 new → IsCharBoundary new 5 → codes "abcde" ≡ take 5 new
-    → take 2 (row_starts class 1 new) ≡ start 0 ∷ start 1 ∷ []
+    → take 2 (row_starts small 1 new) ≡ start 0 ∷ start 1 ∷ []
 unfolding unicode_segmentation unicode_width
 rows_before_stay law new valid boundary same =
-    law class 1 (codes "abcdef") new 5 1 4 (start 1) (start 4) (omega arith) letters valid before_last boundary same refl refl (omega arith) (omega arith)
+    law small 1 (codes "abcdef") new 5 1 4 (start 1) (start 4) (omega arith) letters valid before_last boundary same refl refl (omega arith) (omega arith)

@@ -7,6 +7,7 @@ use Rattle.std.proofs.lemmas.List.{at_drop_more, drop_at, take-append-drop}
 use Rattle.std.proofs.lemmas.Str.{chars-append, chars_past_char, len_utf8_bounds, length-encode, IsCharBoundary-from_drop, IsCharBoundary-start, IsUtf8-drop}
 use Rattle.std.proofs.lemmas.Str.{IsUtf8-past_char, IsUtf8-take}
 use Rattle.std.proofs.Math.Seq.{take-append_seam}
+use Rattle.bx_ucd.specs.Data.{Data}
 use Rattle.bx_ucd.specs.declared.class.Class.{Class}
 use Rattle.bx_ucd.specs.Class.{is_strong}
 use Rattle.bx_resolve.specs.Body.{IsOffset}
@@ -46,10 +47,10 @@ char-at text i at c next p b e =
     record { inside = inside; char_is = cc; place = record { boundary = b; rest = cc } }
 
 -- a strong one
-pub strong-at : (class : ℕ → Class) (text : List ℕ) (s : Strong) (c : ℕ) → IsOffset text s.index s.start → IsCharAt text s.index c s.stop
-    → s.class ≡ class c → is_strong s.class ≡ true → IsStrongIn class text s
-strong-at class text s c p h e strong =
-    record { inside = h.inside; class_is = e ∙ ap class h.char_is; strong = strong; start = p; stop = h.place }
+pub strong-at : (says : Data) (text : List ℕ) (s : Strong) (c : ℕ) → IsOffset text s.index s.start → IsCharAt text s.index c s.stop
+    → s.class ≡ says.class c → is_strong s.class ≡ true → IsStrongIn says text s
+strong-at says text s c p h e strong =
+    record { inside = h.inside; class_is = e ∙ ap says.class h.char_is; strong = strong; start = p; stop = h.place }
 
 -- the rest of a text from an offset at which a character begins
 pub next-char : (text rest : List ℕ) (at c : ℕ) → IsUtf8 text → IsCharBoundary text at → drop at text ≡ encode_utf8 c ++ rest
@@ -71,8 +72,8 @@ next-char text rest at c u b e =
     )
 
 -- the later of two strong characters
-pub later-strong : (class : ℕ → Class) (text : List ℕ) (found : Option Strong) (s : Strong) (c : ℕ) (b : Bool) (r : Option Strong) → is_strong s.class ≡ b
-    → r ≡ elim b [ true ↦ Some s | false ↦ found ] → IfSome found (IsStrongIn class text) → IsOffset text s.index s.start → IsCharAt text s.index c s.stop
-    → s.class ≡ class c → IfSome r (IsStrongIn class text)
-later-strong class text found s c true r k e h p at f = subst (λ o. IfSome o (IsStrongIn class text)) (sym e) (strong-at class text s c p at f k)
-later-strong class text found s c false r k e h p at f = subst (λ o. IfSome o (IsStrongIn class text)) (sym e) h
+pub later-strong : (says : Data) (text : List ℕ) (found : Option Strong) (s : Strong) (c : ℕ) (b : Bool) (r : Option Strong) → is_strong s.class ≡ b
+    → r ≡ elim b [ true ↦ Some s | false ↦ found ] → IfSome found (IsStrongIn says text) → IsOffset text s.index s.start → IsCharAt text s.index c s.stop
+    → s.class ≡ says.class c → IfSome r (IsStrongIn says text)
+later-strong says text found s c true r k e h p at f = subst (λ o. IfSome o (IsStrongIn says text)) (sym e) (strong-at says text s c p at f k)
+later-strong says text found s c false r k e h p at f = subst (λ o. IfSome o (IsStrongIn says text)) (sym e) h

@@ -7,6 +7,7 @@ use Rattle.std.proofs.lemmas.Bool.{and_parts}
 use Rattle.std.proofs.lemmas.Bool.Decides.{leb_tells}
 use Rattle.std.proofs.lemmas.List.{get_or-map, length-map}
 use Rattle.std.proofs.Math.ListN.{get_or-map as get_or-map-all}
+use Rattle.bx_ucd.specs.Data.{Data}
 use Rattle.unicode_segmentation.specs.Grapheme.{graphemes}
 use Rattle.unicode_segmentation.specs.Segments.{with_offsets}
 use Rattle.bx_terms.specs.Characters.{is_control}
@@ -50,20 +51,20 @@ tab-fits : (w n : ℕ) (a b : Bool) (o : Option ℕ) → 1 ≤ w → columns_at 
 tab-fits w n true b o h = omega arith
 tab-fits w n false b o h = control-fits w n b o h
 
-pub face-fits : (class : ℕ → Class) (w : ℕ) (cs : List ℕ) → 1 ≤ w → columns_at w 0 (face_of class w cs) ≤ w
-face-fits class w cs h = tab-fits w (columns_of cs) (is_tab (only_char cs)) (list_any is_control cs) (format_letter class (only_char cs)) h
+pub face-fits : (says : Data) (w : ℕ) (cs : List ℕ) → 1 ≤ w → columns_at w 0 (face_of says w cs) ≤ w
+face-fits says w cs h = tab-fits w (columns_of cs) (is_tab (only_char cs)) (list_any is_control cs) (format_letter says (only_char cs)) h
 
 abbrev pub AllFit : ℕ → List Unit → Type 0
 AllFit w [] = ⊤
 AllFit w (u ∷ us) = (columns_at w 0 u.face ≤ w) × AllFit w us
 
-all-fit : (class : ℕ → Class) (w at : ℕ) (gs : List (List ℕ)) → 1 ≤ w → AllFit w (map (unit_at class w) (with_offsets at gs))
+all-fit : (says : Data) (w at : ℕ) (gs : List (List ℕ)) → 1 ≤ w → AllFit w (map (unit_at says w) (with_offsets at gs))
 unfolding with_offsets
-all-fit class w at [] h = tt
-all-fit class w at (g ∷ gs) h = (face-fits class w (chars g) h, all-fit class w (at + length g) gs h)
+all-fit says w at [] h = tt
+all-fit says w at (g ∷ gs) h = (face-fits says w (chars g) h, all-fit says w (at + length g) gs h)
 
-pub units-fit : (class : ℕ → Class) (w : ℕ) (body : List ℕ) → 1 ≤ w → AllFit w (units class w body)
-units-fit class w body h = all-fit class w 0 (graphemes true body) h
+pub units-fit : (says : Data) (w : ℕ) (body : List ℕ) → 1 ≤ w → AllFit w (units says w body)
+units-fit says w body h = all-fit says w 0 (graphemes true body) h
 
 -- ---- so each row has a unit
 
@@ -105,51 +106,51 @@ firsts-of : (p : Unit → Bool) (w : ℕ) (body : List ℕ) (us : List Unit) →
 firsts-of p w body [] h fit = refl
 firsts-of p w body (u ∷ us) h fit = firsts-from p w 0 0 body (u ∷ us) (u ∷ us) h fit
 
-firsts-last : (class : ℕ → Class) (body : List ℕ) (paragraph : ℕ) (each : List (Option ℕ)) (xs : List (List Unit))
-    → map first_of (with_last (row_with class body paragraph each) xs) ≡ map first_offset xs
-firsts-last class body paragraph each [] = refl
-firsts-last class body paragraph each (us ∷ []) = refl
-firsts-last class body paragraph each (us ∷ vs ∷ rest) = ap (λ os. first_offset us ∷ os) (firsts-last class body paragraph each (vs ∷ rest))
+firsts-last : (says : Data) (body : List ℕ) (paragraph : ℕ) (each : List (Option ℕ)) (xs : List (List Unit))
+    → map first_of (with_last (row_with says body paragraph each) xs) ≡ map first_offset xs
+firsts-last says body paragraph each [] = refl
+firsts-last says body paragraph each (us ∷ []) = refl
+firsts-last says body paragraph each (us ∷ vs ∷ rest) = ap (λ os. first_offset us ∷ os) (firsts-last says body paragraph each (vs ∷ rest))
 
 -- the rows of a body begin at its row starts
-pub firsts : (class : ℕ → Class) (bracket : ℕ → Option (Side × ℕ)) (base : Base) (w : ℕ) (body : List ℕ) → 1 ≤ w
-    → map first_of (body_rows class bracket base w body) ≡ map (λ s. s.offset) (row_starts class w body)
-firsts class bracket base w body h =
-    let us = units class w body in
-    firsts-last class body (paragraph_level_under class base (chars body)) (levels_under class bracket base (chars body)) (map (row_units us)
-    (wrap class w body us))
-    ∙ firsts-of (is_break class body) w body us h (units-fit class w body h)
+pub firsts : (says : Data) (base : Base) (w : ℕ) (body : List ℕ) → 1 ≤ w
+    → map first_of (body_rows says base w body) ≡ map (λ s. s.offset) (row_starts says w body)
+firsts says base w body h =
+    let us = units says w body in
+    firsts-last says body (paragraph_level_under says base (chars body)) (levels_under says base (chars body)) (map (row_units us)
+    (wrap says w body us))
+    ∙ firsts-of (is_break says body) w body us h (units-fit says w body h)
 
 -- ---- the same of a layout
 
 pub side-some : (w : ℕ) → is_side w ≡ true → 1 ≤ w
 side-some w e = leb-true 1 w (and_parts (nat_le 1 w) (nat_le w largest_side) e).0
 
-pub firsts-by : (l : LayoutState) (class : ℕ → Class) (bracket : ℕ → Option (Side × ℕ)) → IsLayoutBy class bracket l → is_side l.w ≡ true
-    → map first_of (rows_by class bracket l) ≡ map (λ s. s.offset) l.starts
-firsts-by l class bracket is side =
-    firsts class bracket l.base l.w l.body (side-some l.w side) ∙ ap (map (λ s. s.offset)) (sym is.starts)
+pub firsts-by : (l : LayoutState) (says : Data) → IsLayoutBy says l → is_side l.w ≡ true
+    → map first_of (rows_by says l) ≡ map (λ s. s.offset) l.starts
+firsts-by l says is side =
+    firsts says l.base l.w l.body (side-some l.w side) ∙ ap (map (λ s. s.offset)) (sym is.starts)
 
 pub row_count : (l : LayoutState) → is_side l.w ≡ true → OfRows l (λ rows. length l.starts ≡ length rows)
-row_count l side class bracket is =
-    sym (length-map l.starts (λ s. s.offset)) ∙ ap length (sym (firsts-by l class bracket is side)) ∙ length-map (rows_by class bracket l) first_of
+row_count l side says is =
+    sym (length-map l.starts (λ s. s.offset)) ∙ ap length (sym (firsts-by l says is side)) ∙ length-map (rows_by says l) first_of
 
 pub row_falls : (l : LayoutState) (offset : ℕ) → is_side l.w ≡ true → OfRows l (λ rows. falls_in (map (λ s. s.offset) l.starts) offset ≡ row_of rows offset)
-row_falls l offset side class bracket is = ap (λ os. falls_in os offset) (sym (firsts-by l class bracket is side))
+row_falls l offset side says is = ap (λ os. falls_in os offset) (sym (firsts-by l says is side))
 
 pub first_is : (l : LayoutState) (k : ℕ) (d : RowStart) → is_side l.w ≡ true → k < length l.starts
     → OfRows l (λ rows. (get_or l.starts k d).offset ≡ first_of (row_at rows k))
-first_is l k d side within class bracket is =
-    sym (get_or-map (λ s. s.offset) l.starts k d 0 within) ∙ ap (λ os. get_or os k 0) (sym (firsts-by l class bracket is side))
-    ∙ get_or-map-all first_of (rows_by class bracket l) k no_row
+first_is l k d side within says is =
+    sym (get_or-map (λ s. s.offset) l.starts k d 0 within) ∙ ap (λ os. get_or os k 0) (sym (firsts-by l says is side))
+    ∙ get_or-map-all first_of (rows_by says l) k no_row
 
 some-rows : (p : Unit → Bool) (w : ℕ) (us : List Unit) → 0 < length (rows_of p w us)
 some-rows p w [] = omega arith
 some-rows p w (u ∷ us) = omega arith
 
 -- a body has a row at least
-pub some_start : (class : ℕ → Class) (w : ℕ) (body : List ℕ) (starts : List RowStart) → starts ≡ row_starts class w body → 0 < length starts
-some_start class w body starts e =
-    let us = units class w body in
-    let count = ap length e ∙ length-map (wrap class w body us) (start_of body us) in
-    omega (arith, count, some-rows (is_break class body) w us)
+pub some_start : (says : Data) (w : ℕ) (body : List ℕ) (starts : List RowStart) → starts ≡ row_starts says w body → 0 < length starts
+some_start says w body starts e =
+    let us = units says w body in
+    let count = ap length e ∙ length-map (wrap says w body us) (start_of body us) in
+    omega (arith, count, some-rows (is_break says body) w us)

@@ -1,5 +1,6 @@
 -- The rows of a paragraph's body in a window of `w` columns, numbered from 0. Offsets count bytes of the body.
 use Rattle.std.specs.Prelude.{ℕ, ◌-◌, nat_le, Bool, true, false, List, [], ◌∷◌, ◌++◌, map, length, count_by, slice_index_or, Option, chars}
+use Rattle.bx_ucd.specs.Data.{Data}
 use Rattle.bx_ucd.specs.declared.class.Class.{Class}
 use Rattle.bx_ucd.specs.declared.data.Side.{Side}
 use Rattle.bx_explicit.specs.declared.base.Base.{Base}
@@ -19,9 +20,9 @@ pub record BodyRow : Type 0 where
   pub is_last : Bool
 
 -- the row of some units, in a paragraph of the level `paragraph` whose characters have the levels `each`
-abbrev pub row_with : (ℕ → Class) → List ℕ → ℕ → List (Option ℕ) → Bool → List Unit → BodyRow
-row_with class body paragraph each is_last us =
-    record { body = body; paragraph = paragraph; units = us; levels = row_levels class body paragraph each us; is_last = is_last }
+abbrev pub row_with : Data → List ℕ → ℕ → List (Option ℕ) → Bool → List Unit → BodyRow
+row_with says body paragraph each is_last us =
+    record { body = body; paragraph = paragraph; units = us; levels = row_levels says body paragraph each us; is_last = is_last }
 
 -- rows in order, the last one marked as last
 abbrev pub with_last : (Bool → List Unit → BodyRow) → List (List Unit) → List BodyRow
@@ -30,15 +31,15 @@ with_last row (us ∷ []) = row true us ∷ []
 with_last row (us ∷ vs ∷ rest) = row false us ∷ with_last row (vs ∷ rest)
 
 -- the units of each row of a body
-abbrev pub rows_units : (ℕ → Class) → ℕ → List ℕ → List (List Unit)
-rows_units class w body = let us = units class w body in map (row_units us) (wrap class w body us)
+abbrev pub rows_units : Data → ℕ → List ℕ → List (List Unit)
+rows_units says w body = let us = units says w body in map (row_units us) (wrap says w body us)
 
 -- the rows of a body
-abbrev pub body_rows : (ℕ → Class) → (ℕ → Option (Side × ℕ)) → Base → ℕ → List ℕ → List BodyRow
-body_rows class bracket base w body =
-    let paragraph = paragraph_level_under class base (chars body) in
-    let each = levels_under class bracket base (chars body) in
-    with_last (row_with class body paragraph each) (rows_units class w body)
+abbrev pub body_rows : Data → Base → ℕ → List ℕ → List BodyRow
+body_rows says base w body =
+    let paragraph = paragraph_level_under says base (chars body) in
+    let each = levels_under says base (chars body) in
+    with_last (row_with says body paragraph each) (rows_units says w body)
 
 -- the offset at which a row begins
 abbrev pub first_of : BodyRow → ℕ
@@ -75,5 +76,5 @@ abbrev pub row_at : List BodyRow → ℕ → BodyRow
 row_at rows k = slice_index_or rows k no_row
 
 -- the glyphs of a row from left to right
-abbrev pub row_glyphs : (ℕ → Class) → (ℕ → Option ℕ) → ℕ → BodyRow → List Glyph
-row_glyphs class mirror w r = draw class mirror w r.body r.paragraph r.units r.levels
+abbrev pub row_glyphs : Data → ℕ → BodyRow → List Glyph
+row_glyphs says w r = draw says w r.body r.paragraph r.units r.levels

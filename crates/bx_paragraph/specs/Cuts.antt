@@ -2,6 +2,7 @@
 use Rattle.std.specs.Prelude.{◌≡◌, ◌⊎◌, ◌<◌, ◌+◌, ◌&&◌, ℕ, Bool, true, not, List, ◌++◌, Option, chars, drop, length, slice_index_or, take}
 use Rattle.std.specs.List.{list_all}
 use Rattle.std.specs.Str.{IsUtf8}
+use Rattle.bx_ucd.specs.Data.{Data}
 use Rattle.bx_ucd.specs.declared.class.Class.{Class}
 use Rattle.bx_ucd.specs.declared.class.Class.TheVariants.{L}
 use Rattle.bx_ucd.specs.declared.data.Side.{Side}
@@ -18,9 +19,9 @@ use Rattle.bx_paragraph.specs.declared.way.Way.TheVariants.{Either, FromLeft, Fr
 use Rattle.bx_paragraph.specs.declared.text_edit.TextEdit.{TextEdit}
 
 -- a strong character of a text
-pub record IsStrongIn (class : ℕ → Class) (text : List ℕ) (s : Strong) : Type 0 where
+pub record IsStrongIn (says : Data) (text : List ℕ) (s : Strong) : Type 0 where
   pub inside : s.index < length (chars text)
-  pub class_is : s.class ≡ class (slice_index_or (chars text) s.index 0)
+  pub class_is : s.class ≡ says.class (slice_index_or (chars text) s.index 0)
   pub strong : is_strong s.class ≡ true
   pub start : IsOffset text s.index s.start
   pub stop : IsOffset text (s.index + 1) s.stop
@@ -39,37 +40,37 @@ way_between _ L = Either
 way_between _ _ = FromRight
 
 -- a character of a way that is no bracket
-abbrev pub is_bare : (ℕ → Class) → (ℕ → Option (Side × ℕ)) → Way → ℕ → Bool
-is_bare class bracket way c = is_of_way way (class c) && not (is_listed bracket c)
+abbrev pub is_bare : Data → Way → ℕ → Bool
+is_bare says way c = is_of_way way (says.class c) && not (is_listed says c)
 
 -- all characters of a text are bare
-abbrev pub are_bare : (ℕ → Class) → (ℕ → Option (Side × ℕ)) → Way → List ℕ → Bool
-are_bare class bracket way text = list_all (is_bare class bracket way) (chars text)
+abbrev pub are_bare : Data → Way → List ℕ → Bool
+are_bare says way text = list_all (is_bare says way) (chars text)
 
 -- no character of a text is a formatting character
-abbrev pub are_unformatted : (ℕ → Class) → List ℕ → Bool
-are_unformatted class text = list_all (λ c. is_of_way Either (class c)) (chars text)
+abbrev pub are_unformatted : Data → List ℕ → Bool
+are_unformatted says text = list_all (λ c. is_of_way Either (says.class c)) (chars text)
 
 -- an edit between two texts; all characters of its own texts and of these are bare
-pub record IsBareEdit (class : ℕ → Class) (bracket : ℕ → Option (Side × ℕ)) (way : Way) (t : TextEdit) (left right : List ℕ) : Type 0 where
-  pub left_is : are_bare class bracket way left ≡ true
-  pub removed_is : are_bare class bracket way t.removed.now ≡ true
-  pub inserted_is : are_bare class bracket way t.inserted.now ≡ true
-  pub right_is : are_bare class bracket way right ≡ true
+pub record IsBareEdit (says : Data) (way : Way) (t : TextEdit) (left right : List ℕ) : Type 0 where
+  pub left_is : are_bare says way left ≡ true
+  pub removed_is : are_bare says way t.removed.now ≡ true
+  pub inserted_is : are_bare says way t.inserted.now ≡ true
+  pub right_is : are_bare says way right ≡ true
 
 -- no character of a text is a bracket
-abbrev pub has_no_bracket : (ℕ → Option (Side × ℕ)) → List ℕ → Bool
-has_no_bracket bracket text = list_all (λ c. not (is_listed bracket c)) (chars text)
+abbrev pub has_no_bracket : Data → List ℕ → Bool
+has_no_bracket says text = list_all (λ c. not (is_listed says c)) (chars text)
 
 -- an edit with no bracket before the strong character `x` before it, or none after the strong character `y` after it
-abbrev pub IsOpenEdit : (ℕ → Option (Side × ℕ)) → TextEdit → Strong → Strong → Type 0
-IsOpenEdit bracket t x y = ((has_no_bracket bracket t.front.now ≡ true) × (has_no_bracket bracket (take x.start t.near.now) ≡ true))
-    ⊎ (has_no_bracket bracket (drop y.stop t.behind.now) ≡ true)
+abbrev pub IsOpenEdit : Data → TextEdit → Strong → Strong → Type 0
+IsOpenEdit says t x y = ((has_no_bracket says t.front.now ≡ true) × (has_no_bracket says (take x.start t.near.now) ≡ true))
+    ⊎ (has_no_bracket says (drop y.stop t.behind.now) ≡ true)
 
 -- all characters between these two are of their way, or of any way if one side outside them has no brackets
-abbrev pub IsCutOffEdit : (ℕ → Class) → (ℕ → Option (Side × ℕ)) → TextEdit → Strong → Strong → Type 0
-IsCutOffEdit class bracket t x y = IsBareEdit class bracket (way_between x.class y.class) t (drop x.stop t.near.now) (take y.start t.behind.now)
-    ⊎ (IsBareEdit class bracket Either t (drop x.stop t.near.now) (take y.start t.behind.now) × IsOpenEdit bracket t x y)
+abbrev pub IsCutOffEdit : Data → TextEdit → Strong → Strong → Type 0
+IsCutOffEdit says t x y = IsBareEdit says (way_between x.class y.class) t (drop x.stop t.near.now) (take y.start t.behind.now)
+    ⊎ (IsBareEdit says Either t (drop x.stop t.near.now) (take y.start t.behind.now) × IsOpenEdit says t x y)
 
 -- the edit's characters
 abbrev pub edit_of : TextEdit → Edit
@@ -100,6 +101,6 @@ pub record AreAsBefore (was now : Levels) : Type 0 where
   pub each_is : now.each.items ≡ was.each.items
 
 -- if `was` are the levels of the text before an edit, `now` are those of the text after it
-abbrev pub FollowsEdit : (ℕ → Class) → (ℕ → Option (Side × ℕ)) → TextEdit → Levels → Levels → Type 0
-FollowsEdit class bracket t was now = (base : Base) → HasNoFormatting class (old_text (edit_of t)) → AreLevelsOf class bracket base (old_text (edit_of t)) was
-    → AreLevelsOf class bracket base (new_text (edit_of t)) now
+abbrev pub FollowsEdit : Data → TextEdit → Levels → Levels → Type 0
+FollowsEdit says t was now = (base : Base) → HasNoFormatting says (old_text (edit_of t)) → AreLevelsOf says base (old_text (edit_of t)) was
+    → AreLevelsOf says base (new_text (edit_of t)) now

@@ -1,5 +1,6 @@
 -- The model of a paragraph's layout, and its rows.
 use Rattle.std.specs.Prelude.{◌≡◌, ℕ, Bool, true, List, Option, chars}
+use Rattle.bx_ucd.specs.Data.{Data}
 use Rattle.bx_ucd.specs.declared.class.Class.{Class}
 use Rattle.bx_ucd.specs.declared.data.Side.{Side}
 use Rattle.bx_explicit.specs.declared.base.Base.{Base}
@@ -21,20 +22,20 @@ pub record LayoutState : Type 0 where
   pub is_unformatted : Bool
 
 -- the levels and the row starts are those that the definitions give for the data
-pub record IsLayoutBy (class : ℕ → Class) (bracket : ℕ → Option (Side × ℕ)) (l : LayoutState) : Type 0 where
-  pub paragraph : l.paragraph ≡ paragraph_level_under class l.base (chars l.body)
-  pub each : l.each ≡ levels_under class bracket l.base (chars l.body)
-  pub starts : l.starts ≡ row_starts class l.w l.body
-  pub unformatted : l.is_unformatted ≡ true → HasNoFormatting class (chars l.body)
+pub record IsLayoutBy (says : Data) (l : LayoutState) : Type 0 where
+  pub paragraph : l.paragraph ≡ paragraph_level_under says l.base (chars l.body)
+  pub each : l.each ≡ levels_under says l.base (chars l.body)
+  pub starts : l.starts ≡ row_starts says l.w l.body
+  pub unformatted : l.is_unformatted ≡ true → HasNoFormatting says (chars l.body)
 
 -- the rows of the layout's body
-abbrev pub rows_by : (ℕ → Class) → (ℕ → Option (Side × ℕ)) → LayoutState → List BodyRow
-rows_by class bracket l = body_rows class bracket l.base l.w l.body
+abbrev pub rows_by : Data → LayoutState → List BodyRow
+rows_by says l = body_rows says l.base l.w l.body
 
 -- row `k` of the layout
-abbrev pub row_by : (ℕ → Class) → (ℕ → Option (Side × ℕ)) → LayoutState → ℕ → BodyRow
-row_by class bracket l k = row_at (rows_by class bracket l) k
+abbrev pub row_by : Data → LayoutState → ℕ → BodyRow
+row_by says l k = row_at (rows_by says l) k
 
 -- a property of the layout's rows, whatever the data
 abbrev pub OfRows : LayoutState → (List BodyRow → Type 0) → Type 0
-OfRows l P = (class : ℕ → Class) (bracket : ℕ → Option (Side × ℕ)) → IsLayoutBy class bracket l → P (rows_by class bracket l)
+OfRows l P = (says : Data) → IsLayoutBy says l → P (rows_by says l)

@@ -64,9 +64,9 @@ impl ParagraphLayout {
     ///
     /// Errors: `OutOfMemory`.
     pub fn offsets<D: BidiData>(&self, row: usize, tables: &D) -> Result<Vec<usize>, OutOfMemory>
-        requires data { IsLayoutBy (D.data tables.now).class (D.data tables.now).bracket self.now }
+        requires data { IsLayoutBy (D.data tables.now) self.now }
         requires row { row < length self.now.starts }
-        ensures { IfOk result (λ v. v.items ≡ offsets_of (row_by (D.data tables.now).class (D.data tables.now).bracket self.now row)) }
+        ensures { IfOk result (λ v. v.items ≡ offsets_of (row_by (D.data tables.now) self.now row)) }
     {
         // the places of a row do not depend on its levels
         let alloc = *self.starts.allocator();
@@ -81,9 +81,9 @@ impl ParagraphLayout {
     ///
     /// Errors: `OutOfMemory`.
     pub fn last<D: BidiData>(&self, row: usize, tables: &D) -> Result<usize, OutOfMemory>
-        requires data { IsLayoutBy (D.data tables.now).class (D.data tables.now).bracket self.now }
+        requires data { IsLayoutBy (D.data tables.now) self.now }
         requires row { row < length self.now.starts }
-        ensures { IfOk result (λ o. o ≡ last_of (row_by (D.data tables.now).class (D.data tables.now).bracket self.now row)) }
+        ensures { IfOk result (λ o. o ≡ last_of (row_by (D.data tables.now) self.now row)) }
     {
         let offsets = self.offsets(row, tables)?;
         Ok(last_offset(&offsets))
@@ -96,10 +96,10 @@ impl ParagraphLayout {
         side: Visual,
         tables: &D,
     ) -> Result<Vec<usize>, OutOfMemory>
-        requires data { IsLayoutBy (D.data tables.now).class (D.data tables.now).bracket self.now }
+        requires data { IsLayoutBy (D.data tables.now) self.now }
         requires row { row < length self.now.starts }
         ensures { IfOk result (λ v. v.items
-            ≡ toward side (slot_offsets self.now.w (row_by (D.data tables.now).class (D.data tables.now).bracket self.now row))) }
+            ≡ toward side (slot_offsets self.now.w (row_by (D.data tables.now) self.now row))) }
     {
         let slots = self.slots(row, tables)?;
         let offsets = offsets_toward(*slots.allocator(), &slots, side)?;
@@ -116,9 +116,9 @@ impl ParagraphLayout {
         offset: usize,
         tables: &D,
     ) -> Result<Option<usize>, OutOfMemory>
-        requires data { IsLayoutBy (D.data tables.now).class (D.data tables.now).bracket self.now }
+        requires data { IsLayoutBy (D.data tables.now) self.now }
         requires row { row < length self.now.starts }
-        ensures { IfOk result (λ o. o ≡ beside self.now.w (row_by (D.data tables.now).class (D.data tables.now).bracket self.now row) side offset) }
+        ensures { IfOk result (λ o. o ≡ beside self.now.w (row_by (D.data tables.now) self.now row) side offset) }
     {
         let offsets = self.toward(row, side, tables)?;
         Ok(next_in(&offsets, offset))
@@ -133,9 +133,9 @@ impl ParagraphLayout {
         row: usize,
         tables: &D,
     ) -> Result<Option<usize>, OutOfMemory>
-        requires data { IsLayoutBy (D.data tables.now).class (D.data tables.now).bracket self.now }
+        requires data { IsLayoutBy (D.data tables.now) self.now }
         requires row { row < length self.now.starts }
-        ensures { IfOk result (λ o. o ≡ reading_start self.now.w (row_by (D.data tables.now).class (D.data tables.now).bracket self.now row)) }
+        ensures { IfOk result (λ o. o ≡ reading_start self.now.w (row_by (D.data tables.now) self.now row)) }
     {
         let offsets = self.toward(row, reading_side(self.level()), tables)?;
         Ok(first_in(&offsets))
@@ -150,9 +150,9 @@ impl ParagraphLayout {
         row: usize,
         tables: &D,
     ) -> Result<Option<usize>, OutOfMemory>
-        requires data { IsLayoutBy (D.data tables.now).class (D.data tables.now).bracket self.now }
+        requires data { IsLayoutBy (D.data tables.now) self.now }
         requires row { row < length self.now.starts }
-        ensures { IfOk result (λ o. o ≡ reading_end self.now.w (row_by (D.data tables.now).class (D.data tables.now).bracket self.now row)) }
+        ensures { IfOk result (λ o. o ≡ reading_end self.now.w (row_by (D.data tables.now) self.now row)) }
     {
         let side = opposite(reading_side(self.level()));
         let offsets = self.toward(row, side, tables)?;
@@ -169,9 +169,9 @@ impl ParagraphLayout {
         column: u16,
         tables: &D,
     ) -> Result<Option<usize>, OutOfMemory>
-        requires data { IsLayoutBy (D.data tables.now).class (D.data tables.now).bracket self.now }
+        requires data { IsLayoutBy (D.data tables.now) self.now }
         requires row { row < length self.now.starts }
-        ensures { IfOk result (λ o. o ≡ entry self.now.w (row_by (D.data tables.now).class (D.data tables.now).bracket self.now row) column) }
+        ensures { IfOk result (λ o. o ≡ entry self.now.w (row_by (D.data tables.now) self.now row) column) }
     {
         let slots = self.slots(row, tables)?;
         if let Some(offset) = covering_in(&slots, column) {

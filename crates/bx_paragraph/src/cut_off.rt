@@ -16,7 +16,7 @@ pub(crate) fn is_bare_edit<D: BidiData>(
     way: Way,
     tables: &D,
 ) -> bool
-    ensures { result ≡ true → IsBareEdit (D.data tables.now).class (D.data tables.now).bracket way edit.now left.now right.now }
+    ensures { result ≡ true → IsBareEdit (D.data tables.now) way edit.now left.now right.now }
 {
     if !are_bare(left, way, tables) || !are_bare(right, way, tables) {
         return false;
@@ -29,9 +29,9 @@ pub(crate) fn is_bare_edit<D: BidiData>(
 
 /// Whether no bracket precedes the strong character before an edit.
 fn is_open_before<D: BidiData>(edit: &TextEdit<'_>, before: Strong, tables: &D) -> bool
-    requires { IsStrongIn (D.data tables.now).class edit.now.near.now before }
-    ensures { result ≡ true → (has_no_bracket (D.data tables.now).bracket edit.now.front.now ≡ true)
-        × (has_no_bracket (D.data tables.now).bracket (take before.start edit.now.near.now) ≡ true) }
+    requires { IsStrongIn (D.data tables.now) edit.now.near.now before }
+    ensures { result ≡ true → (has_no_bracket (D.data tables.now) edit.now.front.now ≡ true)
+        × (has_no_bracket (D.data tables.now) (take before.start edit.now.near.now) ≡ true) }
 {
     if !has_no_bracket(&edit.near[..before.start], tables) {
         return false;
@@ -41,9 +41,9 @@ fn is_open_before<D: BidiData>(edit: &TextEdit<'_>, before: Strong, tables: &D) 
 
 /// Whether no bracket precedes the first strong character, or none follows the second. Checks the shorter side first.
 fn is_open<D: BidiData>(edit: &TextEdit<'_>, before: Strong, behind: Strong, tables: &D) -> bool
-    requires before { IsStrongIn (D.data tables.now).class edit.now.near.now before }
-    requires behind { IsStrongIn (D.data tables.now).class edit.now.behind.now behind }
-    ensures { result ≡ true → IsOpenEdit (D.data tables.now).bracket edit.now before behind }
+    requires before { IsStrongIn (D.data tables.now) edit.now.near.now before }
+    requires behind { IsStrongIn (D.data tables.now) edit.now.behind.now behind }
+    ensures { result ≡ true → IsOpenEdit (D.data tables.now) edit.now before behind }
 {
     if edit.front.len() < edit.behind.len() && is_open_before(edit, before, tables) {
         return true;
@@ -62,9 +62,9 @@ pub(crate) fn is_cut_off<D: BidiData>(
     behind: Strong,
     tables: &D,
 ) -> bool
-    requires before { IsStrongIn (D.data tables.now).class edit.now.near.now before }
-    requires behind { IsStrongIn (D.data tables.now).class edit.now.behind.now behind }
-    ensures { result ≡ true → IsCutOffEdit (D.data tables.now).class (D.data tables.now).bracket edit.now before behind }
+    requires before { IsStrongIn (D.data tables.now) edit.now.near.now before }
+    requires behind { IsStrongIn (D.data tables.now) edit.now.behind.now behind }
+    ensures { result ≡ true → IsCutOffEdit (D.data tables.now) edit.now before behind }
 {
     let left = &edit.near[before.stop..];
     let right = &edit.behind[..behind.start];

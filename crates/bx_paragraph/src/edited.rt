@@ -60,8 +60,8 @@ fn text_edit<'t>(
 
 /// Whether a body has no formatting characters. Checks them unless it is known.
 fn has_none<D: BidiData>(is_unformatted: bool, body: &str, tables: &D) -> bool
-    requires { is_unformatted ≡ true → HasNoFormatting (D.data tables.now).class (chars body.now) }
-    ensures { result ≡ true → HasNoFormatting (D.data tables.now).class (chars body.now) }
+    requires { is_unformatted ≡ true → HasNoFormatting (D.data tables.now) (chars body.now) }
+    ensures { result ≡ true → HasNoFormatting (D.data tables.now) (chars body.now) }
 {
     if is_unformatted {
         return true;
@@ -83,10 +83,10 @@ fn edit_levels<D: BidiData>(
     requires edit { IsEdit edit.now }
     requires some { 0 < length edit.now.starts.now }
     requires counted { All (IsCounted edit.now.body.now) edit.now.starts.now }
-    requires levels { AreLevelsOf (D.data tables.now).class (D.data tables.now).bracket base (chars edit.now.body.now) levels.old }
-    requires unformatted { is_unformatted ≡ true → HasNoFormatting (D.data tables.now).class (chars edit.now.body.now) }
-    ensures levels { OnOk result (AreLevelsOf (D.data tables.now).class (D.data tables.now).bracket base (chars (changed edit.now)) levels.new) }
-    ensures unformatted { IfOk result (λ b. b ≡ true → HasNoFormatting (D.data tables.now).class (chars (changed edit.now))) }
+    requires levels { AreLevelsOf (D.data tables.now) base (chars edit.now.body.now) levels.old }
+    requires unformatted { is_unformatted ≡ true → HasNoFormatting (D.data tables.now) (chars edit.now.body.now) }
+    ensures levels { OnOk result (AreLevelsOf (D.data tables.now) base (chars (changed edit.now)) levels.new) }
+    ensures unformatted { IfOk result (λ b. b ≡ true → HasNoFormatting (D.data tables.now) (chars (changed edit.now))) }
     ensures err { OnErr result (AreAsBefore levels.old levels.new) }
 {
     let text = text_edit(edit.body, edit.starts, edit.start, edit.stop, edit.inserted);
@@ -113,14 +113,14 @@ impl ParagraphLayout {
         inserted: &str,
         tables: &D,
     ) -> Result<(), OutOfMemory>
-        requires data { IsLayoutBy (D.data tables.now).class (D.data tables.now).bracket self.old }
+        requires data { IsLayoutBy (D.data tables.now) self.old }
         requires start { IsCharBoundary self.old.body start }
         requires stop { IsCharBoundary self.old.body stop }
         requires order { start ≤ stop }
         ensures body { OnOk result (self.new.body ≡ splice self.old.body start stop inserted.now) }
         ensures base { self.new.base ≡ self.old.base }
         ensures w { self.new.w ≡ self.old.w }
-        ensures rows { IsLayoutBy (D.data tables.now).class (D.data tables.now).bracket self.new }
+        ensures rows { IsLayoutBy (D.data tables.now) self.new }
         ensures err { OnErr result (self.new ≡ self.old) }
     {
         make_room(&mut self.body, inserted.len())?;

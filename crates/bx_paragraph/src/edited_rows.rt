@@ -54,13 +54,13 @@ fn push_rest<D: BidiData>(
     tables: &D,
 ) -> Result<(), OutOfMemory>
     requires side { is_side edit.now.w ≡ true }
-    requires starts { edit.now.starts.now ≡ row_starts (D.data tables.now).class edit.now.w edit.now.body.now }
+    requires starts { edit.now.starts.now ≡ row_starts (D.data tables.now) edit.now.w edit.now.body.now }
     requires edit { IsEdit edit.now }
     requires first { IsCharBoundary edit.now.body.now first.offset }
     requires before { first.offset ≤ edit.now.start }
-    requires room { All (λ s. HasRoom (behind first s)) (row_starts (D.data tables.now).class edit.now.w (drop first.offset (changed edit.now))) }
+    requires room { All (λ s. HasRoom (behind first s)) (row_starts (D.data tables.now) edit.now.w (drop first.offset (changed edit.now))) }
     ensures { OnOk result (starts.new.items ≡ starts.old.items
-        ++ map (behind first) (row_starts (D.data tables.now).class edit.now.w (drop first.offset (changed edit.now)))) }
+        ++ map (behind first) (row_starts (D.data tables.now) edit.now.w (drop first.offset (changed edit.now)))) }
 {
     let alloc = *starts.allocator();
     let before = &edit.body[first.offset..edit.start];
@@ -95,10 +95,10 @@ pub(crate) fn edited_starts<D: BidiData>(
     tables: &D,
 ) -> Result<(), OutOfMemory>
     requires side { is_side edit.now.w ≡ true }
-    requires starts { edit.now.starts.now ≡ row_starts (D.data tables.now).class edit.now.w edit.now.body.now }
+    requires starts { edit.now.starts.now ≡ row_starts (D.data tables.now) edit.now.w edit.now.body.now }
     requires edit { IsEdit edit.now }
     requires short { length edit.now.body.now + length edit.now.inserted.now < 2 ^ 64 }
-    ensures { OnOk result (starts.new.items ≡ row_starts (D.data tables.now).class edit.now.w (changed edit.now)) }
+    ensures { OnOk result (starts.new.items ≡ row_starts (D.data tables.now) edit.now.w (changed edit.now)) }
 {
     starts.clear();
     if let Some(row) = well_before(edit.starts, edit.start, edit.w) {

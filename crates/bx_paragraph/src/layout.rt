@@ -74,7 +74,7 @@ impl ParagraphLayout {
         ensures body { IfOk result (λ l. l.body ≡ string_bytes body) }
         ensures base { IfOk result (λ l. l.base ≡ base) }
         ensures w { IfOk result (λ l. l.w ≡ w) }
-        ensures rows { IfOk result (λ l. IsLayoutBy (D.data tables.now).class (D.data tables.now).bracket l) }
+        ensures rows { IfOk result (λ l. IsLayoutBy (D.data tables.now) l) }
     {
         let levels = levels(alloc, body.as_str(), tables, base)?;
         let starts = row_starts(alloc, body.as_str(), tables, w)?;
@@ -117,11 +117,11 @@ impl ParagraphLayout {
     #[tactic(auto, using(crate::proofs::Starts::some_start))]
     pub fn set_width<D: BidiData>(&mut self, tables: &D, w: u16) -> Result<(), OutOfMemory>
         requires side { is_side w ≡ true }
-        requires data { IsLayoutBy (D.data tables.now).class (D.data tables.now).bracket self.old }
+        requires data { IsLayoutBy (D.data tables.now) self.old }
         ensures body { self.new.body ≡ self.old.body }
         ensures base { self.new.base ≡ self.old.base }
         ensures w { OnOk result (self.new.w ≡ w) }
-        ensures rows { IsLayoutBy (D.data tables.now).class (D.data tables.now).bracket self.new }
+        ensures rows { IsLayoutBy (D.data tables.now) self.new }
         ensures err { OnErr result (self.new ≡ self.old) }
     {
         let alloc = *self.starts.allocator();
@@ -175,11 +175,11 @@ impl ParagraphLayout {
 
     /// The units of a row with their levels.
     pub(crate) fn row<D: BidiData>(&self, row: usize, tables: &D) -> Result<RowParts, OutOfMemory>
-        requires data { IsLayoutBy (D.data tables.now).class (D.data tables.now).bracket self.now }
+        requires data { IsLayoutBy (D.data tables.now) self.now }
         requires row { row < length self.now.starts }
-        ensures row { IfOk result (λ r. row_of_parts self.now r ≡ row_by (D.data tables.now).class (D.data tables.now).bracket self.now row) }
+        ensures row { IfOk result (λ r. row_of_parts self.now r ≡ row_by (D.data tables.now) self.now row) }
         ensures stand { IfOk result (λ r. All (StandsIn self.now.body) r.units.items) }
-        ensures faces { IfOk result (λ r. All (HasFace (D.data tables.now).class self.now.w self.now.body) r.units.items) }
+        ensures faces { IfOk result (λ r. All (HasFace (D.data tables.now) self.now.w self.now.body) r.units.items) }
         ensures fits { IfOk result (λ r. columns_used self.now.w r.units.items ≤ self.now.w) }
         ensures levels { IfOk result (λ r. length r.levels.items ≡ length r.units.items) }
     {
@@ -218,11 +218,11 @@ impl ParagraphLayout {
     ///
     /// Errors: `OutOfMemory`.
     pub fn slots<D: BidiData>(&self, row: usize, tables: &D) -> Result<Vec<Slot>, OutOfMemory>
-        requires data { IsLayoutBy (D.data tables.now).class (D.data tables.now).bracket self.now }
+        requires data { IsLayoutBy (D.data tables.now) self.now }
         requires row { row < length self.now.starts }
-        ensures slots { IfOk result (λ v. v.items ≡ row_slots self.now.w (row_by (D.data tables.now).class (D.data tables.now).bracket self.now row)) }
+        ensures slots { IfOk result (λ v. v.items ≡ row_slots self.now.w (row_by (D.data tables.now) self.now row)) }
         ensures once { IfOk result (λ v. AreReordered (map (λ s. s.offset) v.items)
-            (offsets_of (row_by (D.data tables.now).class (D.data tables.now).bracket self.now row))) }
+            (offsets_of (row_by (D.data tables.now) self.now row))) }
     {
         let parts = self.row(row, tables)?;
         let slots = self.slots_of(&parts)?;
@@ -237,10 +237,10 @@ impl ParagraphLayout {
         row: usize,
         tables: &D,
     ) -> Result<RowPicture<'_>, OutOfMemory>
-        requires data { IsLayoutBy (D.data tables.now).class (D.data tables.now).bracket self.now }
+        requires data { IsLayoutBy (D.data tables.now) self.now }
         requires row { row < length self.now.starts }
-        ensures picture { IfOk result (λ p. map glyph_of p.glyphs.items ≡ row_glyphs (D.data tables.now).class (D.data tables.now).mirror self.now.w
-            (row_by (D.data tables.now).class (D.data tables.now).bracket self.now row)) }
+        ensures picture { IfOk result (λ p. map glyph_of p.glyphs.items ≡ row_glyphs (D.data tables.now) self.now.w
+            (row_by (D.data tables.now) self.now row)) }
         ensures glyphs { IfOk result (λ p. All (λ g. is_one_glyph (cow_str_bytes g.text) ≡ true) p.glyphs.items) }
         ensures widths { IfOk result (λ p. All (λ g. run_width (cow_str_bytes g.text) ≡ g.columns) p.glyphs.items) }
         ensures columns { IfOk result (λ p. sum_by (λ g. g.columns) p.glyphs.items ≡ self.now.w) }

@@ -35,12 +35,12 @@ impl ParagraphLayout {
         offset: usize,
         tables: &D,
     ) -> Result<Standing, OutOfMemory>
-        requires data { IsLayoutBy (D.data tables.now).class (D.data tables.now).bracket self.now }
+        requires data { IsLayoutBy (D.data tables.now) self.now }
         requires row { row < length self.now.starts }
         ensures column { IfOk result (λ s. s.column
-            ≡ column_of self.now.w (row_by (D.data tables.now).class (D.data tables.now).bracket self.now row) offset) }
+            ≡ column_of self.now.w (row_by (D.data tables.now) self.now row) offset) }
         ensures units { IfOk result (λ s. s.units_before
-            ≡ count_by (λ u. nat_lt u.start offset) (row_by (D.data tables.now).class (D.data tables.now).bracket self.now row).units) }
+            ≡ count_by (λ u. nat_lt u.start offset) (row_by (D.data tables.now) self.now row).units) }
     {
         let parts = self.row(row, tables)?;
         let slots = self.slots_of(&parts)?;

@@ -43,7 +43,7 @@ fn later(found: Option<Strong>, character: Strong) -> Option<Strong>
 
 /// The last strong character of a text.
 pub(crate) fn last_strong<D: BidiData>(text: &str, tables: &D) -> Option<Strong>
-    ensures { IfSome result (IsStrongIn (D.data tables.now).class text.now) }
+    ensures { IfSome result (IsStrongIn (D.data tables.now) text.now) }
 {
     let mut found = None;
     let mut index = 0;
@@ -64,7 +64,7 @@ pub(crate) fn last_strong<D: BidiData>(text: &str, tables: &D) -> Option<Strong>
 
 /// The first strong character of a text.
 pub(crate) fn first_strong<D: BidiData>(text: &str, tables: &D) -> Option<Strong>
-    ensures { IfSome result (IsStrongIn (D.data tables.now).class text.now) }
+    ensures { IfSome result (IsStrongIn (D.data tables.now) text.now) }
 {
     let mut index = 0;
     let mut start = 0;

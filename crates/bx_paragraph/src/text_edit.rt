@@ -56,13 +56,13 @@ fn follow_within<D: BidiData>(
     behind: Strong,
 ) -> Result<bool, OutOfMemory>
     requires low { levels.old.paragraph ≤ 1 }
-    requires before { IsStrongIn (D.data tables.now).class edit.now.near.now before }
-    requires behind { IsStrongIn (D.data tables.now).class edit.now.behind.now behind }
+    requires before { IsStrongIn (D.data tables.now) edit.now.near.now before }
+    requires behind { IsStrongIn (D.data tables.now) edit.now.behind.now behind }
     requires ahead { edit.now.ahead ≡ length (chars edit.now.front.now) }
     requires whole { length levels.old.each.items ≡ edit.now.ahead
         + (length (chars edit.now.near.now) + (length (chars edit.now.removed.now) + length (chars edit.now.behind.now))) }
-    ensures follows { IfOk result (λ b. b ≡ true → FollowsEdit (D.data tables.now).class (D.data tables.now).bracket edit.now levels.old levels.new) }
-    ensures unformatted { IfOk result (λ b. b ≡ true → HasNoFormatting (D.data tables.now).class (chars edit.now.inserted.now)) }
+    ensures follows { IfOk result (λ b. b ≡ true → FollowsEdit (D.data tables.now) edit.now levels.old levels.new) }
+    ensures unformatted { IfOk result (λ b. b ≡ true → HasNoFormatting (D.data tables.now) (chars edit.now.inserted.now)) }
     ensures none { IfOk result (λ b. b ≡ false → AreAsBefore levels.old levels.new) }
     ensures err { OnErr result (AreAsBefore levels.old levels.new) }
 {
@@ -87,12 +87,12 @@ fn follow_behind<D: BidiData>(
     before: Strong,
 ) -> Result<bool, OutOfMemory>
     requires low { levels.old.paragraph ≤ 1 }
-    requires before { IsStrongIn (D.data tables.now).class edit.now.near.now before }
+    requires before { IsStrongIn (D.data tables.now) edit.now.near.now before }
     requires ahead { edit.now.ahead ≡ length (chars edit.now.front.now) }
     requires whole { length levels.old.each.items ≡ edit.now.ahead
         + (length (chars edit.now.near.now) + (length (chars edit.now.removed.now) + length (chars edit.now.behind.now))) }
-    ensures follows { IfOk result (λ b. b ≡ true → FollowsEdit (D.data tables.now).class (D.data tables.now).bracket edit.now levels.old levels.new) }
-    ensures unformatted { IfOk result (λ b. b ≡ true → HasNoFormatting (D.data tables.now).class (chars edit.now.inserted.now)) }
+    ensures follows { IfOk result (λ b. b ≡ true → FollowsEdit (D.data tables.now) edit.now levels.old levels.new) }
+    ensures unformatted { IfOk result (λ b. b ≡ true → HasNoFormatting (D.data tables.now) (chars edit.now.inserted.now)) }
     ensures none { IfOk result (λ b. b ≡ false → AreAsBefore levels.old levels.new) }
     ensures err { OnErr result (AreAsBefore levels.old levels.new) }
 {
@@ -118,8 +118,8 @@ pub(crate) fn follow<D: BidiData>(
     requires ahead { edit.now.ahead ≡ length (chars edit.now.front.now) }
     requires whole { length levels.old.each.items ≡ edit.now.ahead
         + (length (chars edit.now.near.now) + (length (chars edit.now.removed.now) + length (chars edit.now.behind.now))) }
-    ensures follows { IfOk result (λ b. b ≡ true → FollowsEdit (D.data tables.now).class (D.data tables.now).bracket edit.now levels.old levels.new) }
-    ensures unformatted { IfOk result (λ b. b ≡ true → HasNoFormatting (D.data tables.now).class (chars edit.now.inserted.now)) }
+    ensures follows { IfOk result (λ b. b ≡ true → FollowsEdit (D.data tables.now) edit.now levels.old levels.new) }
+    ensures unformatted { IfOk result (λ b. b ≡ true → HasNoFormatting (D.data tables.now) (chars edit.now.inserted.now)) }
     ensures none { IfOk result (λ b. b ≡ false → AreAsBefore levels.old levels.new) }
     ensures err { OnErr result (AreAsBefore levels.old levels.new) }
 {

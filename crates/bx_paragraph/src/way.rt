@@ -46,28 +46,28 @@ fn is_of_way(way: Way, class: Class) -> bool
 
 /// Whether a character is of a way and no bracket.
 fn is_bare<D: BidiData>(c: char, way: Way, tables: &D) -> bool
-    ensures { result ≡ is_bare (D.data tables.now).class (D.data tables.now).bracket way c }
+    ensures { result ≡ is_bare (D.data tables.now) way c }
 {
     is_of_way(way, tables.class(c)) && tables.bracket(c).is_none()
 }
 
 /// Whether all characters of a text are of a way, and none is a bracket.
 pub(crate) fn are_bare<D: BidiData>(text: &str, way: Way, tables: &D) -> bool
-    ensures { result ≡ are_bare (D.data tables.now).class (D.data tables.now).bracket way text.now }
+    ensures { result ≡ are_bare (D.data tables.now) way text.now }
 {
     text.chars().all(|c| is_bare(c, way, tables))
 }
 
 /// Whether a character is no bracket.
 fn is_no_bracket<D: BidiData>(c: char, tables: &D) -> bool
-    ensures { result ≡ not (is_listed (D.data tables.now).bracket c) }
+    ensures { result ≡ not (is_listed (D.data tables.now) c) }
 {
     tables.bracket(c).is_none()
 }
 
 /// Whether a text has no brackets.
 pub(crate) fn has_no_bracket<D: BidiData>(text: &str, tables: &D) -> bool
-    ensures { result ≡ has_no_bracket (D.data tables.now).bracket text.now }
+    ensures { result ≡ has_no_bracket (D.data tables.now) text.now }
 {
     text.chars().all(|c| is_no_bracket(c, tables))
 }
@@ -81,7 +81,7 @@ fn is_unformatted<D: BidiData>(c: char, tables: &D) -> bool
 
 /// Whether a text has no formatting characters.
 pub(crate) fn are_unformatted<D: BidiData>(text: &str, tables: &D) -> bool
-    ensures { result ≡ are_unformatted (D.data tables.now).class text.now }
+    ensures { result ≡ are_unformatted (D.data tables.now) text.now }
 {
     text.chars().all(|c| is_unformatted(c, tables))
 }

@@ -2,6 +2,7 @@
 use Rattle.std.proofs.Common.{◌≡◌, ◌<◌, ◌≤◌, ◌+◌, ◌-◌, ◌∙◌, ◌⊎◌, inl, inr, ℕ, Bool, true, false, min, List, [], ◌∷◌, ◌++◌, drop, chars, IsUtf8}
 use Rattle.std.proofs.Common.{IsCharBoundary, refl, ap, sym, subst, arith, append_assoc}
 use Rattle.std.proofs.lemmas.Bool.Decides.{nat_tests}
+use Rattle.bx_ucd.specs.Data.{Data}
 use Rattle.bx_ucd.specs.declared.class.Class.{Class}
 use Rattle.bx_text.specs.declared.change.Change.{Change}
 use Rattle.bx_paras.specs.declared.lengths.Lengths.{Lengths}
@@ -17,12 +18,12 @@ use Rattle.bx_paras.proofs.Edits.{shorter}
 use Rattle.bx_paras.proofs.Firsts.{first_behind, first_grown, first_at, one_byte, same_lengths}
 use Rattle.bx_paras.proofs.Seams.{seam}
 
-module _ (class : ℕ → Class) where
-  first_plain : (c : ℕ) (cs : List ℕ) → ends class c ≡ false → first (lens class (c ∷ cs)) ≡ further (width c) (first (lens class cs))
-  first_plain c cs e = ap first (lens_plain class c cs e) ∙ first_grown (width c) (lens class cs) (count_is_some class cs)
+module _ (says : Data) where
+  first_plain : (c : ℕ) (cs : List ℕ) → ends says c ≡ false → first (lens says (c ∷ cs)) ≡ further (width c) (first (lens says cs))
+  first_plain c cs e = ap first (lens_plain says c cs e) ∙ first_grown (width c) (lens says cs) (count_is_some says cs)
 
-  no_body : (c : ℕ) (cs : List ℕ) → ends class c ≡ true → (first (lens class (c ∷ cs))).body ≡ 0
-  no_body c cs e = ap (λ (l : Lengths). l.body) (first_at class c cs (is_paired class c cs) e refl)
+  no_body : (c : ℕ) (cs : List ℕ) → ends says c ≡ true → (first (lens says (c ∷ cs))).body ≡ 0
+  no_body c cs e = ap (λ (l : Lengths). l.body) (first_at says c cs (is_paired says c cs) e refl)
 
   -- ---- the characters in the first paragraph's body
 
@@ -30,10 +31,10 @@ module _ (class : ℕ → Class) where
     pub body : List ℕ
     pub others : List ℕ
     pub whole : h ≡ body ++ others
-    pub bytes : widths body ≡ min (widths h) (first (lens class (h ++ r))).body
-    pub none : HasNone class body
+    pub bytes : widths body ≡ min (widths h) (first (lens says (h ++ r))).body
+    pub none : HasNone says body
 
-  quiet_at : (c : ℕ) (h r : List ℕ) (ended : Bool) → ends class c ≡ ended → IsQuiet h r → IsQuiet (c ∷ h) r
+  quiet_at : (c : ℕ) (h r : List ℕ) (ended : Bool) → ends says c ≡ ended → IsQuiet h r → IsQuiet (c ∷ h) r
   quiet_at c h r false e q = record {
     body = c ∷ q.body;
     others = q.others;
@@ -51,7 +52,7 @@ module _ (class : ℕ → Class) where
 
   pub quiet : (h r : List ℕ) → IsQuiet h r
   quiet [] r = record { body = []; others = []; whole = refl; bytes = omega arith; none = tt }
-  quiet (c ∷ h) r = quiet_at c h r (ends class c) refl (quiet h r)
+  quiet (c ∷ h) r = quiet_at c h r (ends says c) refl (quiet h r)
 
   -- ---- the rest after some characters of the first paragraph
 
@@ -73,8 +74,8 @@ module _ (class : ℕ → Class) where
   none_held n p (inl h) e f g = omega arith
   none_held n p (inr h) e f g = omega arith
 
-  rest_paired : (c : ℕ) (h r : List ℕ) → ends class c ≡ true → is_paired class c (h ++ r) ≡ true
-      → HoldsAll (widths (c ∷ h)) (first (lens class (c ∷ h ++ r))) → first (lens class r) ≡ rest_of (widths (c ∷ h)) (first (lens class (c ∷ h ++ r)))
+  rest_paired : (c : ℕ) (h r : List ℕ) → ends says c ≡ true → is_paired says c (h ++ r) ≡ true
+      → HoldsAll (widths (c ∷ h)) (first (lens says (c ∷ h ++ r))) → first (lens says r) ≡ rest_of (widths (c ∷ h)) (first (lens says (c ∷ h ++ r)))
   rest_paired c [] [] e p k = absurd (grind (arith, nat_tests))
   rest_paired c [] (d ∷ cs) e p k =
       let cr : c ≡ 13 = grind (arith, nat_tests) in
@@ -82,34 +83,34 @@ module _ (class : ℕ → Class) where
       let one : width c ≡ 1 = one_byte c (omega arith) in
       let two : width d ≡ 1 = one_byte d (omega arith) in
       let len : widths (c ∷ []) ≡ 1 = one_width c ∙ one in
-      let here = first_at class c (d ∷ cs) true e p in
-      ap first (paired_ends class c d cs p) ∙ ap (λ n. record { body = 0; separator = n }) two
+      let here = first_at says c (d ∷ cs) true e p in
+      ap first (paired_ends says c d cs p) ∙ ap (λ n. record { body = 0; separator = n }) two
       ∙ ap (λ n. rest_of n (record { body = 0; separator = 2 })) (sym len) ∙ ap (rest_of (widths (c ∷ []))) (sym here)
   rest_paired c (d ∷ h) r e p k =
-      let here = first_at class c (d ∷ h ++ r) true e p in
-      absurd (none_held (widths (c ∷ d ∷ h)) (first (lens class (c ∷ d ∷ h ++ r))) k (ap (λ (q : Lengths). q.body) here)
+      let here = first_at says c (d ∷ h ++ r) true e p in
+      absurd (none_held (widths (c ∷ d ∷ h)) (first (lens says (c ∷ d ∷ h ++ r))) k (ap (λ (q : Lengths). q.body) here)
       (omega (arith, ap (λ (q : Lengths). q.separator) here, widths_more c (d ∷ h), widths_more d h, width_is_some c, width_is_some d))
       (omega (arith, widths_more c (d ∷ h), width_is_some c)))
 
-  rest_at : (c : ℕ) (h r : List ℕ) (ended paired : Bool) → ends class c ≡ ended → is_paired class c (h ++ r) ≡ paired
-      → HoldsAll (widths (c ∷ h)) (first (lens class (c ∷ h ++ r)))
-      → (HoldsAll (widths h) (first (lens class (h ++ r))) → first (lens class r) ≡ rest_of (widths h) (first (lens class (h ++ r))))
-      → first (lens class r) ≡ rest_of (widths (c ∷ h)) (first (lens class (c ∷ h ++ r)))
+  rest_at : (c : ℕ) (h r : List ℕ) (ended paired : Bool) → ends says c ≡ ended → is_paired says c (h ++ r) ≡ paired
+      → HoldsAll (widths (c ∷ h)) (first (lens says (c ∷ h ++ r)))
+      → (HoldsAll (widths h) (first (lens says (h ++ r))) → first (lens says r) ≡ rest_of (widths h) (first (lens says (h ++ r))))
+      → first (lens says r) ≡ rest_of (widths (c ∷ h)) (first (lens says (c ∷ h ++ r)))
   rest_at c h r false paired e p k more =
       let f = first_plain c (h ++ r) e in
       let n : width c + widths h ≡ widths (c ∷ h) = sym (widths_more c h) in
-      more (holds_further (width c) (widths h) (widths (c ∷ h)) (first (lens class (h ++ r))) (first (lens class (c ∷ h ++ r))) n f k)
-      ∙ rest_further (width c) (widths h) (widths (c ∷ h)) (first (lens class (h ++ r))) n ∙ ap (rest_of (widths (c ∷ h))) (sym f)
+      more (holds_further (width c) (widths h) (widths (c ∷ h)) (first (lens says (h ++ r))) (first (lens says (c ∷ h ++ r))) n f k)
+      ∙ rest_further (width c) (widths h) (widths (c ∷ h)) (first (lens says (h ++ r))) n ∙ ap (rest_of (widths (c ∷ h))) (sym f)
   rest_at c h r true false e p k more =
-      let here = first_at class c (h ++ r) false e p in
-      absurd (none_held (widths (c ∷ h)) (first (lens class (c ∷ h ++ r))) k (ap (λ (q : Lengths). q.body) here)
+      let here = first_at says c (h ++ r) false e p in
+      absurd (none_held (widths (c ∷ h)) (first (lens says (c ∷ h ++ r))) k (ap (λ (q : Lengths). q.body) here)
       (omega (arith, ap (λ (q : Lengths). q.separator) here, widths_more c h))
       (omega (arith, widths_more c h, width_is_some c)))
   rest_at c h r true true e p k more = rest_paired c h r e p k
 
-  pub rest_is : (h r : List ℕ) → HoldsAll (widths h) (first (lens class (h ++ r))) → first (lens class r) ≡ rest_of (widths h) (first (lens class (h ++ r)))
-  rest_is [] r k = rest_none (first (lens class r))
-  rest_is (c ∷ h) r k = rest_at c h r (ends class c) (is_paired class c (h ++ r)) refl refl k (rest_is h r)
+  pub rest_is : (h r : List ℕ) → HoldsAll (widths h) (first (lens says (h ++ r))) → first (lens says r) ≡ rest_of (widths h) (first (lens says (h ++ r)))
+  rest_is [] r k = rest_none (first (lens says r))
+  rest_is (c ∷ h) r k = rest_at c h r (ends says c) (is_paired says c (h ++ r)) refl refl k (rest_is h r)
 
   -- ---- a change of a text
 
@@ -118,16 +119,16 @@ module _ (class : ℕ → Class) where
     pub record GoesOn (at from : ℕ) : Type 0 where
       pub bounds : IsCharBoundary new from
       pub start_before : at ≤ from
-      pub goes_on : first (lengths class (drop at new)) ≡ further (from - at) (first (lengths class (drop from new)))
+      pub goes_on : first (lengths says (drop at new)) ≡ further (from - at) (first (lengths says (drop from new)))
 
-    pub goes_on_in_body : (front : List Lengths) (l : Lengths) (back : List Lengths) (from : ℕ) → lengths class old ≡ front ++ l ∷ back
+    pub goes_on_in_body : (front : List Lengths) (l : Lengths) (back : List Lengths) (from : ℕ) → lengths says old ≡ front ++ l ∷ back
         → total front ≤ c.start → from ≡ min c.start (total front + l.body) → GoesOn (total front) from
     goes_on_in_body front l back from e start_before w =
-        let (x, m, s) = seam class (a ++ (o ++ d)) front l back (ap (lens class) (sym k.old_chars) ∙ e) in
+        let (x, m, s) = seam says (a ++ (o ++ d)) front l back (ap (lens says) (sym k.old_chars) ∙ e) in
         let (h, f, g) = shorter x m a (o ++ d) (sym s.whole) (omega (arith, s.bytes, k.before)) in
         let q = quiet h (o ++ d) in
-        let l_body : (first (lens class (h ++ (o ++ d)))).body ≡ l.body =
-        ap (λ cs. (first (lens class cs)).body) (sym g) ∙ ap (λ ls. (first ls).body) s.rest in
+        let l_body : (first (lens says (h ++ (o ++ d)))).body ≡ l.body =
+        ap (λ cs. (first (lens says cs)).body) (sym g) ∙ ap (λ ls. (first ls).body) s.rest in
         let to_change : widths a ≡ widths x + widths h = ap widths f ∙ widths_append x h in
         let len : total front + widths q.body ≡ from = omega (arith, w, q.bytes, l_body, to_change, s.bytes, k.before) in
         let more : List ℕ = q.others ++ (n ++ d) in
@@ -141,19 +142,19 @@ module _ (class : ℕ → Class) where
         record {
           bounds = there.bounds;
           start_before = omega (arith, len);
-          goes_on = ap (λ cs. first (lens class cs)) here.rest ∙ first_behind class q.body more q.none
-              ∙ ap (λ i. further i (first (lens class more))) between
-              ∙ ap (λ cs. further (from - total front) (first (lens class cs))) (sym there.rest);
+          goes_on = ap (λ cs. first (lens says cs)) here.rest ∙ first_behind says q.body more q.none
+              ∙ ap (λ i. further i (first (lens says more))) between
+              ∙ ap (λ cs. further (from - total front) (first (lens says cs))) (sym there.rest);
         }
 
-    pub rest_behind : (front : List Lengths) (l : Lengths) (back : List Lengths) → lengths class old ≡ front ++ l ∷ back
+    pub rest_behind : (front : List Lengths) (l : Lengths) (back : List Lengths) → lengths says old ≡ front ++ l ∷ back
         → total front ≤ c.start + c.removed → HoldsAll (c.start + c.removed - total front) l
-        → first (lens class d) ≡ rest_of (c.start + c.removed - total front) l
+        → first (lens says d) ≡ rest_of (c.start + c.removed - total front) l
     rest_behind front l back e start_before holds =
-        let (x, m, s) = seam class ((a ++ o) ++ d) front l back (ap (lens class) (append_assoc a o d ∙ sym k.old_chars) ∙ e) in
+        let (x, m, s) = seam says ((a ++ o) ++ d) front l back (ap (lens says) (append_assoc a o d ∙ sym k.old_chars) ∙ e) in
         let gone : widths (a ++ o) ≡ c.start + c.removed = omega (arith, widths_append a o, k.before, k.gone) in
         let (h, f, g) = shorter x m (a ++ o) d (sym s.whole) (omega (arith, s.bytes, gone)) in
         let len : widths h ≡ c.start + c.removed - total front = omega (arith, ap widths f, widths_append x h, s.bytes, gone) in
-        let whole : first (lens class (h ++ d)) ≡ l = ap (λ cs. first (lens class cs)) (sym g) ∙ ap first s.rest in
+        let whole : first (lens says (h ++ d)) ≡ l = ap (λ cs. first (lens says cs)) (sym g) ∙ ap first s.rest in
         rest_is h d (subst (HoldsAll (widths h)) (sym whole) (subst (λ i. HoldsAll i l) (sym len) holds))
         ∙ ap (rest_of (widths h)) whole ∙ ap (λ i. rest_of i l) len

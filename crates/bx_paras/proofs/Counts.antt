@@ -1,6 +1,7 @@
 -- The number of paragraphs of some characters, and of their bytes.
 use Rattle.std.proofs.Common.{◌≡◌, ◌<◌, ◌≤◌, ◌+◌, ◌∙◌, ℕ, Bool, true, false, ◌==◌, List, [], ◌∷◌, ◌++◌, length, refl, ap, sym, subst, arith, length-append}
 use Rattle.std.proofs.lemmas.Bool.Decides.{nat_tests}
+use Rattle.bx_ucd.specs.Data.{Data}
 use Rattle.bx_ucd.specs.declared.class.Class.{Class}
 use Rattle.bx_paras.specs.declared.lengths.Lengths.{Lengths}
 use Rattle.bx_paras.specs.Positions.{total}
@@ -39,47 +40,47 @@ cut_joined : (w : ℕ) (ls front : List Lengths) (l : Lengths) (last : ℕ) → 
 cut_joined w ls front l last e s h =
     record { front = record l { separator = w + l.separator } ∷ front; last = last; is = ap (joined w) e; are_ended = (omega arith, h) }
 
-module _ (class : ℕ → Class) where
+module _ (says : Data) where
   -- how many paragraphs there are
   abbrev pub count : List ℕ → ℕ
-  count cs = length (lens class cs)
+  count cs = length (lens says cs)
 
   -- a pair of separators is CR and LF, and the LF ends the paragraph
-  pub paired_ends : (c d : ℕ) (cs : List ℕ) → is_paired class c (d ∷ cs) ≡ true → lens class (d ∷ cs) ≡ record { body = 0; separator = width d } ∷ lens class cs
+  pub paired_ends : (c d : ℕ) (cs : List ℕ) → is_paired says c (d ∷ cs) ≡ true → lens says (d ∷ cs) ≡ record { body = 0; separator = width d } ∷ lens says cs
   paired_ends c d cs p =
-      let f : ends class d ≡ true = grind (arith, nat_tests) in
+      let f : ends says d ≡ true = grind (arith, nat_tests) in
       let lf : (d == 13) ≡ false = grind (arith, nat_tests) in
-      let single : is_paired class d cs ≡ false = grind (arith, nat_tests) in
-      lens_ended class d cs f single
+      let single : is_paired says d cs ≡ false = grind (arith, nat_tests) in
+      lens_ended says d cs f single
 
-  not_paired_alone : (c : ℕ) → is_paired class c [] ≡ false
+  not_paired_alone : (c : ℕ) → is_paired says c [] ≡ false
   not_paired_alone c = grind (arith, nat_tests)
 
   -- ---- where the paragraphs that end give way to the last
 
-  cut_pair : (c d : ℕ) (cs : List ℕ) (front : List Lengths) (last : ℕ) → ends class c ≡ true → is_paired class c (d ∷ cs) ≡ true
-      → lens class (d ∷ cs) ≡ front ++ unended last ∷ [] → AreEnded front → IsCut (lens class (c ∷ d ∷ cs))
+  cut_pair : (c d : ℕ) (cs : List ℕ) (front : List Lengths) (last : ℕ) → ends says c ≡ true → is_paired says c (d ∷ cs) ≡ true
+      → lens says (d ∷ cs) ≡ front ++ unended last ∷ [] → AreEnded front → IsCut (lens says (c ∷ d ∷ cs))
   cut_pair c d cs [] r e p f a =
-      let both : record { body = 0; separator = width d } ∷ lens class cs ≡ unended r ∷ [] = sym (paired_ends c d cs p) ∙ f in
+      let both : record { body = 0; separator = width d } ∷ lens says cs ≡ unended r ∷ [] = sym (paired_ends c d cs p) ∙ f in
       let none : width d ≡ 0 = ap first_separator both in
       absurd (omega (arith, width_is_some d))
-  cut_pair c d cs (l ∷ ls) r e p f a = subst IsCut (sym (lens_paired class c (d ∷ cs) e p)) (cut_joined (width 13) (lens class (d ∷ cs)) ls l r f a.0 a.1)
+  cut_pair c d cs (l ∷ ls) r e p f a = subst IsCut (sym (lens_paired says c (d ∷ cs) e p)) (cut_joined (width 13) (lens says (d ∷ cs)) ls l r f a.0 a.1)
 
-  cut_at : (c : ℕ) (cs : List ℕ) (ended paired : Bool) → ends class c ≡ ended → is_paired class c cs ≡ paired → IsCut (lens class cs)
-      → IsCut (lens class (c ∷ cs))
-  cut_at c cs false paired e p h = subst IsCut (sym (lens_plain class c cs e)) (cut_grown (width c) (lens class cs) h.front h.last h.is h.are_ended)
+  cut_at : (c : ℕ) (cs : List ℕ) (ended paired : Bool) → ends says c ≡ ended → is_paired says c cs ≡ paired → IsCut (lens says cs)
+      → IsCut (lens says (c ∷ cs))
+  cut_at c cs false paired e p h = subst IsCut (sym (lens_plain says c cs e)) (cut_grown (width c) (lens says cs) h.front h.last h.is h.are_ended)
   cut_at c cs true false e p h = record {
     front = record { body = 0; separator = width c } ∷ h.front;
     last = h.last;
-    is = lens_ended class c cs e p ∙ ap (λ ls. record { body = 0; separator = width c } ∷ ls) h.is;
+    is = lens_ended says c cs e p ∙ ap (λ ls. record { body = 0; separator = width c } ∷ ls) h.is;
     are_ended = (width_is_some c, h.are_ended);
   }
   cut_at c [] true true e p h = absurd (grind (arith, nat_tests, not_paired_alone c))
   cut_at c (d ∷ cs) true true e p h = cut_pair c d cs h.front h.last e p h.is h.are_ended
 
-  pub cut_of : (cs : List ℕ) → IsCut (lens class cs)
+  pub cut_of : (cs : List ℕ) → IsCut (lens says cs)
   cut_of [] = record { front = []; last = 0; is = refl; are_ended = tt }
-  cut_of (c ∷ cs) = cut_at c cs (ends class c) (is_paired class c cs) refl refl (cut_of cs)
+  cut_of (c ∷ cs) = cut_at c cs (ends says c) (is_paired says c cs) refl refl (cut_of cs)
 
   -- ---- bytes
 
@@ -94,32 +95,32 @@ module _ (class : ℕ → Class) where
   pub count_is_some : (cs : List ℕ) → 0 < count cs
   count_is_some cs = let h = cut_of cs in omega (arith, ap length h.is, length-append h.front (unended h.last ∷ []))
 
-  total_at : (c : ℕ) (cs : List ℕ) (ended paired : Bool) → ends class c ≡ ended → is_paired class c cs ≡ paired → total (lens class cs) ≡ widths cs
-      → total (lens class (c ∷ cs)) ≡ widths (c ∷ cs)
-  total_at c cs false paired e p h = ap total (lens_plain class c cs e) ∙ total_grown (width c) (lens class cs) (count_is_some cs) ∙ ap (λ n. width c + n) h
+  total_at : (c : ℕ) (cs : List ℕ) (ended paired : Bool) → ends says c ≡ ended → is_paired says c cs ≡ paired → total (lens says cs) ≡ widths cs
+      → total (lens says (c ∷ cs)) ≡ widths (c ∷ cs)
+  total_at c cs false paired e p h = ap total (lens_plain says c cs e) ∙ total_grown (width c) (lens says cs) (count_is_some cs) ∙ ap (λ n. width c + n) h
       ∙ sym (widths_more c cs)
   total_at c cs true true e p h =
       let cr : c ≡ 13 = grind (arith, nat_tests) in
-      ap total (lens_paired class c cs e p) ∙ total_joined (width 13) (lens class cs) (count_is_some cs) ∙ ap (λ n. width n + total (lens class cs)) (sym cr)
+      ap total (lens_paired says c cs e p) ∙ total_joined (width 13) (lens says cs) (count_is_some cs) ∙ ap (λ n. width n + total (lens says cs)) (sym cr)
       ∙ ap (λ n. width c + n) h ∙ sym (widths_more c cs)
-  total_at c cs true false e p h = omega (arith, ap total (lens_ended class c cs e p), h, widths_more c cs)
+  total_at c cs true false e p h = omega (arith, ap total (lens_ended says c cs e p), h, widths_more c cs)
 
-  pub total_lens : (cs : List ℕ) → total (lens class cs) ≡ widths cs
+  pub total_lens : (cs : List ℕ) → total (lens says cs) ≡ widths cs
   total_lens [] = refl
-  total_lens (c ∷ cs) = total_at c cs (ends class c) (is_paired class c cs) refl refl (total_lens cs)
+  total_lens (c ∷ cs) = total_at c cs (ends says c) (is_paired says c cs) refl refl (total_lens cs)
 
   -- ---- more characters have more paragraphs
 
-  count_plain : (c : ℕ) (cs : List ℕ) → ends class c ≡ false → count (c ∷ cs) ≡ count cs
-  count_plain c cs e = ap length (lens_plain class c cs e) ∙ length_grown (width c) (lens class cs)
+  count_plain : (c : ℕ) (cs : List ℕ) → ends says c ≡ false → count (c ∷ cs) ≡ count cs
+  count_plain c cs e = ap length (lens_plain says c cs e) ∙ length_grown (width c) (lens says cs)
 
-  count_paired : (c : ℕ) (cs : List ℕ) → ends class c ≡ true → is_paired class c cs ≡ true → count (c ∷ cs) ≡ count cs
-  count_paired c cs e p = ap length (lens_paired class c cs e p) ∙ length_joined (width 13) (lens class cs)
+  count_paired : (c : ℕ) (cs : List ℕ) → ends says c ≡ true → is_paired says c cs ≡ true → count (c ∷ cs) ≡ count cs
+  count_paired c cs e p = ap length (lens_paired says c cs e p) ∙ length_joined (width 13) (lens says cs)
 
-  count_ended : (c : ℕ) (cs : List ℕ) → ends class c ≡ true → is_paired class c cs ≡ false → count (c ∷ cs) ≡ 1 + count cs
-  count_ended c cs e p = omega (arith, ap length (lens_ended class c cs e p))
+  count_ended : (c : ℕ) (cs : List ℕ) → ends says c ≡ true → is_paired says c cs ≡ false → count (c ∷ cs) ≡ 1 + count cs
+  count_ended c cs e p = omega (arith, ap length (lens_ended says c cs e p))
 
-  count_alone : (c : ℕ) → ends class c ≡ true → count (c ∷ []) ≡ 2
+  count_alone : (c : ℕ) → ends says c ≡ true → count (c ∷ []) ≡ 2
   count_alone c e = count_ended c [] e (not_paired_alone c)
 
   -- a character adds at most one paragraph, and takes none away
@@ -127,13 +128,13 @@ module _ (class : ℕ → Class) where
     some : count cs ≤ count (c ∷ cs)
     few : count (c ∷ cs) ≤ 1 + count cs
 
-  next_at : (c : ℕ) (cs : List ℕ) (ended paired : Bool) → ends class c ≡ ended → is_paired class c cs ≡ paired → IsNext c cs
+  next_at : (c : ℕ) (cs : List ℕ) (ended paired : Bool) → ends says c ≡ ended → is_paired says c cs ≡ paired → IsNext c cs
   next_at c cs false paired e p = record { some = omega (arith, count_plain c cs e); few = omega (arith, count_plain c cs e) }
   next_at c cs true true e p = record { some = omega (arith, count_paired c cs e p); few = omega (arith, count_paired c cs e p) }
   next_at c cs true false e p = record { some = omega (arith, count_ended c cs e p); few = omega (arith, count_ended c cs e p) }
 
   next : (c : ℕ) (cs : List ℕ) → IsNext c cs
-  next c cs = next_at c cs (ends class c) (is_paired class c cs) refl refl
+  next c cs = next_at c cs (ends says c) (is_paired says c cs) refl refl
 
   pub count_back : (cs ds : List ℕ) → count ds ≤ count (cs ++ ds)
   count_back [] ds = omega arith
@@ -144,7 +145,7 @@ module _ (class : ℕ → Class) where
   count_few (c ∷ cs) = omega (arith, count_few cs, (next c cs).few)
 
   -- CR and LF at a seam
-  pair_is_two : (c : ℕ) (ds : List ℕ) → is_paired class c ds ≡ true → 2 ≤ count ds
+  pair_is_two : (c : ℕ) (ds : List ℕ) → is_paired says c ds ≡ true → 2 ≤ count ds
   pair_is_two c [] p = absurd (grind (arith, nat_tests, not_paired_alone c))
   pair_is_two c (d ∷ ds) p = omega (arith, ap length (paired_ends c d ds p), count_is_some ds)
 
@@ -153,7 +154,7 @@ module _ (class : ℕ → Class) where
     front : count cs ≤ count (cs ++ ds)
     together : count (cs ++ ds) + 1 ≤ count cs + count ds
 
-  seam_at : (c : ℕ) (ds : List ℕ) (ended paired : Bool) → ends class c ≡ ended → is_paired class c ds ≡ paired → AreCounted (c ∷ []) ds
+  seam_at : (c : ℕ) (ds : List ℕ) (ended paired : Bool) → ends says c ≡ ended → is_paired says c ds ≡ paired → AreCounted (c ∷ []) ds
   seam_at c ds false paired e p =
       record {
         front = omega (arith, count_plain c [] e, count_plain c ds e, count_is_some ds);
@@ -168,7 +169,7 @@ module _ (class : ℕ → Class) where
     together = omega (arith, count_alone c e, count_ended c ds e p);
   }
 
-  counted_at : (c d : ℕ) (cs ds : List ℕ) (ended paired : Bool) → ends class c ≡ ended → is_paired class c (d ∷ cs) ≡ paired → AreCounted (d ∷ cs) ds
+  counted_at : (c d : ℕ) (cs ds : List ℕ) (ended paired : Bool) → ends says c ≡ ended → is_paired says c (d ∷ cs) ≡ paired → AreCounted (d ∷ cs) ds
       → AreCounted (c ∷ d ∷ cs) ds
   counted_at c d cs ds false paired e p h = record {
     front = omega (arith, count_plain c (d ∷ cs) e, count_plain c (d ∷ cs ++ ds) e, h.front);
@@ -185,8 +186,8 @@ module _ (class : ℕ → Class) where
 
   counted : (cs ds : List ℕ) → AreCounted cs ds
   counted [] ds = record { front = omega (arith, count_is_some ds); together = omega arith }
-  counted (c ∷ []) ds = seam_at c ds (ends class c) (is_paired class c ds) refl refl
-  counted (c ∷ d ∷ cs) ds = counted_at c d cs ds (ends class c) (is_paired class c (d ∷ cs)) refl refl (counted (d ∷ cs) ds)
+  counted (c ∷ []) ds = seam_at c ds (ends says c) (is_paired says c ds) refl refl
+  counted (c ∷ d ∷ cs) ds = counted_at c d cs ds (ends says c) (is_paired says c (d ∷ cs)) refl refl (counted (d ∷ cs) ds)
 
   pub count_front : (cs ds : List ℕ) → count cs ≤ count (cs ++ ds)
   count_front cs ds = (counted cs ds).front

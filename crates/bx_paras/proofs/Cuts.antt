@@ -3,6 +3,7 @@ use Rattle.std.proofs.Common.{◌≡◌, ◌<◌, ◌+◌, ◌∙◌, ◌⊎◌,
 use Rattle.std.proofs.Common.{encode_utf8_all, refl, ap, sym, arith, length-append, append-nil}
 use Rattle.std.proofs.lemmas.Bool.Decides.{nat_tests}
 use Rattle.std.proofs.lemmas.Str.{length-encode, len_utf8_bounds, encodes-append}
+use Rattle.bx_ucd.specs.Data.{Data}
 use Rattle.bx_ucd.specs.declared.class.Class.{Class}
 use Rattle.bx_paras.specs.declared.lengths.Lengths.{Lengths}
 use Rattle.bx_paras.specs.Paragraphs.{Paragraph, is_separator, begins_with_lf, after_character, after_cr, cut, lengths_of}
@@ -42,17 +43,17 @@ abbrev pub joined : ℕ → List Lengths → List Lengths
 joined w [] = []
 joined w (l ∷ ls) = record l { separator = w + l.separator } ∷ ls
 
-module _ (class : ℕ → Class) where
+module _ (says : Data) where
   -- how many bytes the paragraphs of characters have
   abbrev pub lens : List ℕ → List Lengths
-  lens cs = map lengths_of (cut class cs)
+  lens cs = map lengths_of (cut says cs)
 
   -- a character is a separator, and CR before an LF that is one goes with it
   abbrev pub ends : ℕ → Bool
-  ends c = is_separator (class c)
+  ends c = is_separator (says.class c)
 
   abbrev pub is_paired : ℕ → List ℕ → Bool
-  is_paired c cs = (c == 13) && begins_with_lf class cs
+  is_paired c cs = (c == 13) && begins_with_lf says cs
 
   map_after_character : (c : ℕ) (ps : List Paragraph) → map lengths_of (after_character c ps) ≡ grown (width c) (map lengths_of ps)
   map_after_character c [] = refl
@@ -63,10 +64,10 @@ module _ (class : ℕ → Class) where
   map_after_cr (p ∷ ps) = ap (λ n. record { body = length p.body; separator = n } ∷ map lengths_of ps) (length-append (encode_utf8 13) p.separator)
 
   pub lens_plain : (c : ℕ) (cs : List ℕ) → ends c ≡ false → lens (c ∷ cs) ≡ grown (width c) (lens cs)
-  lens_plain c cs e = rw (e, cut) (map_after_character c (cut class cs))
+  lens_plain c cs e = rw (e, cut) (map_after_character c (cut says cs))
 
   pub lens_paired : (c : ℕ) (cs : List ℕ) → ends c ≡ true → is_paired c cs ≡ true → lens (c ∷ cs) ≡ joined (width 13) (lens cs)
-  lens_paired c cs e p = rw (e, p, cut) (map_after_cr (cut class cs))
+  lens_paired c cs e p = rw (e, p, cut) (map_after_cr (cut says cs))
 
   pub lens_ended : (c : ℕ) (cs : List ℕ) → ends c ≡ true → is_paired c cs ≡ false → lens (c ∷ cs) ≡ record { body = 0; separator = width c } ∷ lens cs
   lens_ended c cs e p = rw (e, p, cut) refl
@@ -79,7 +80,7 @@ module _ (class : ℕ → Class) where
   parts (c ∷ []) ds = ends c && not (is_paired c ds)
   parts (c ∷ d ∷ cs) ds = parts (d ∷ cs) ds
 
-  pub parts_same : (cs ds es : List ℕ) → begins_with_lf class ds ≡ begins_with_lf class es → parts cs ds ≡ parts cs es
+  pub parts_same : (cs ds es : List ℕ) → begins_with_lf says ds ≡ begins_with_lf says es → parts cs ds ≡ parts cs es
   parts_same [] ds es h = refl
   parts_same (c ∷ []) ds es h = ap (λ b. ends c && not ((c == 13) && b)) h
   parts_same (c ∷ d ∷ cs) ds es h = parts_same (d ∷ cs) ds es h

@@ -4,6 +4,7 @@ use Rattle.std.proofs.Common.{refl, ap, sym, subst, arith, append_assoc, if◌th
 use Rattle.std.proofs.lemmas.Bool.Decides.{nat_tests}
 use Rattle.std.proofs.lemmas.List.{take-append-drop, drop-drop, drop_all}
 use Rattle.std.proofs.lemmas.Str.{chars-append, chars-nil, length-encode, len_utf8_ascii, IsUtf8-take}
+use Rattle.bx_ucd.specs.Data.{Data}
 use Rattle.bx_ucd.specs.declared.class.Class.{Class}
 use Rattle.bx_paras.specs.declared.lengths.Lengths.{Lengths}
 use Rattle.bx_paras.specs.Paragraphs.{begins_with_lf, lengths}
@@ -31,27 +32,27 @@ first_grown w (l ∷ ls) h = refl
 pub one_byte : (c : ℕ) → c < 128 → width c ≡ 1
 one_byte c h = length-encode c ∙ len_utf8_ascii c h
 
-module _ (class : ℕ → Class) where
+module _ (says : Data) where
   -- characters with no separator in front of others
-  pub first_behind : (cs ds : List ℕ) → HasNone class cs → first (lens class (cs ++ ds)) ≡ further (widths cs) (first (lens class ds))
-  first_behind [] ds h = further_none (first (lens class ds))
+  pub first_behind : (cs ds : List ℕ) → HasNone says cs → first (lens says (cs ++ ds)) ≡ further (widths cs) (first (lens says ds))
+  first_behind [] ds h = further_none (first (lens says ds))
   first_behind (c ∷ cs) ds h =
-      ap first (lens_plain class c (cs ++ ds) h.0)
-      ∙ first_grown (width c) (lens class (cs ++ ds)) (count_is_some class (cs ++ ds))
+      ap first (lens_plain says c (cs ++ ds) h.0)
+      ∙ first_grown (width c) (lens says (cs ++ ds)) (count_is_some says (cs ++ ds))
       ∙ ap (further (width c)) (first_behind cs ds h.1)
-      ∙ further_more (width c) (widths cs) (widths (c ∷ cs)) (first (lens class ds)) (sym (widths_more c cs))
+      ∙ further_more (width c) (widths cs) (widths (c ∷ cs)) (first (lens says ds)) (sym (widths_more c cs))
 
   -- a separator in front of others
-  first_pair : (c d : ℕ) (cs : List ℕ) → ends class c ≡ true → is_paired class c (d ∷ cs) ≡ true
-      → first (lens class (c ∷ d ∷ cs)) ≡ record { body = 0; separator = 2 }
+  first_pair : (c d : ℕ) (cs : List ℕ) → ends says c ≡ true → is_paired says c (d ∷ cs) ≡ true
+      → first (lens says (c ∷ d ∷ cs)) ≡ record { body = 0; separator = 2 }
   first_pair c d cs e p =
       let lf : d ≡ 10 = grind (arith, nat_tests) in
       let two : width 13 + width d ≡ 2 = omega (arith, one_byte 13 (omega arith), one_byte d (omega arith)) in
-      ap first (lens_paired class c (d ∷ cs) e p ∙ ap (joined (width 13)) (paired_ends class c d cs p)) ∙ ap (λ n. record { body = 0; separator = n }) two
+      ap first (lens_paired says c (d ∷ cs) e p ∙ ap (joined (width 13)) (paired_ends says c d cs p)) ∙ ap (λ n. record { body = 0; separator = n }) two
 
-  pub first_at : (c : ℕ) (cs : List ℕ) (paired : Bool) → ends class c ≡ true → is_paired class c cs ≡ paired
-      → first (lens class (c ∷ cs)) ≡ record { body = 0; separator = if paired then 2 else width c }
-  first_at c cs false e p = ap first (lens_ended class c cs e p)
+  pub first_at : (c : ℕ) (cs : List ℕ) (paired : Bool) → ends says c ≡ true → is_paired says c cs ≡ paired
+      → first (lens says (c ∷ cs)) ≡ record { body = 0; separator = if paired then 2 else width c }
+  first_at c cs false e p = ap first (lens_ended says c cs e p)
   first_at c [] true e p = absurd (grind (arith, nat_tests))
   first_at c (d ∷ cs) true e p = first_pair c d cs e p
 
@@ -76,19 +77,19 @@ module _ (class : ℕ → Class) where
     whole = ap chars (sym (take-append-drop at text)) ∙ chars-append (take at text) (drop at text) (IsUtf8-take text at utf8 bounds)
 
     -- a piece with no separator
-    pub past_piece : HasNone class (chars s) → first (lengths class (drop at text)) ≡ further (length s) (first (lengths class (drop (at + length s) text)))
+    pub past_piece : HasNone says (chars s) → first (lengths says (drop at text)) ≡ further (length s) (first (lengths says (drop (at + length s) text)))
     past_piece none =
-        ap (λ cs. first (lens class cs)) here ∙ first_behind (chars s) behind none
-        ∙ ap (λ n. further n (first (lens class behind))) (spelt s piece_utf8)
+        ap (λ cs. first (lens says cs)) here ∙ first_behind (chars s) behind none
+        ∙ ap (λ n. further n (first (lens says behind))) (spelt s piece_utf8)
 
     -- the first separator of a piece
     pub record IsFound (before c : ℕ) : Type 0 where
       pub ends_between : IsCharBoundary text (at + before + width c)
       pub inside : at + before + width c ≤ length text
-      pub is : first (lengths class (drop at text))
-          ≡ record { body = before; separator = if (c == 13) && begins_with_lf class (chars (drop (at + before + width c) text)) then 2 else width c }
+      pub is : first (lengths says (drop at text))
+          ≡ record { body = before; separator = if (c == 13) && begins_with_lf says (chars (drop (at + before + width c) text)) then 2 else width c }
 
-    pub found_in_piece : (before c : ℕ) → IsAt class (chars s) before c → IsFound before c
+    pub found_in_piece : (before c : ℕ) → IsAt says (chars s) before c → IsFound before c
     found_in_piece before c f =
         let more : List ℕ = f.rest ++ behind in
         let split : chars (drop at text) ≡ f.front ++ c ∷ more = here ∙ ap (λ cs. cs ++ behind) f.whole ∙ append_assoc f.front (c ∷ f.rest) behind in
@@ -109,12 +110,12 @@ module _ (class : ℕ → Class) where
         record {
           ends_between = k.bounds;
           inside = omega (arith, k.bytes);
-          is = ap (λ cs. first (lens class cs)) split ∙ first_behind f.front (c ∷ more) f.none
-              ∙ ap (further (widths f.front)) (first_at c more (is_paired class c more) f.separates refl)
-              ∙ ap (λ n. record { body = n; separator = if is_paired class c more then 2 else width c }) (omega (arith, f.bytes))
-              ∙ ap (λ cs. record { body = before; separator = if (c == 13) && begins_with_lf class cs then 2 else width c }) (sym k.rest);
+          is = ap (λ cs. first (lens says cs)) split ∙ first_behind f.front (c ∷ more) f.none
+              ∙ ap (further (widths f.front)) (first_at c more (is_paired says c more) f.separates refl)
+              ∙ ap (λ n. record { body = n; separator = if is_paired says c more then 2 else width c }) (omega (arith, f.bytes))
+              ∙ ap (λ cs. record { body = before; separator = if (c == 13) && begins_with_lf says cs then 2 else width c }) (sym k.rest);
         }
 
   -- no character is left
-  pub first_at_end : (text : List ℕ) (at : ℕ) → length text ≤ at → first (lengths class (drop at text)) ≡ record { body = 0; separator = 0 }
-  first_at_end text at h = ap (λ bs. first (lengths class bs)) (drop_all at text h) ∙ ap (λ cs. first (lens class cs)) chars-nil
+  pub first_at_end : (text : List ℕ) (at : ℕ) → length text ≤ at → first (lengths says (drop at text)) ≡ record { body = 0; separator = 0 }
+  first_at_end text at h = ap (λ bs. first (lengths says bs)) (drop_all at text h) ∙ ap (λ cs. first (lens says cs)) chars-nil

@@ -2,7 +2,7 @@
 use Rattle.std.proofs.Common.{◌≡◌, ◌≤◌, ◌+◌, ◌-◌, ◌∙◌, inl, inr, ℕ, min, List, [], ◌∷◌, ◌++◌, length, take, drop, chars, get_or, Option, Some, None}
 use Rattle.std.proofs.Common.{MatchOption, IsCharBoundary, refl, ap, sym, subst, arith}
 use Rattle.std.proofs.lemmas.List.{take_all}
-use Rattle.bx_ucd.specs.declared.class.Class.{Class}
+use Rattle.bx_ucd.specs.Data.{Data}
 use Rattle.bx_text.specs.declared.change.Change.{Change}
 use Rattle.bx_paras.specs.declared.lengths.Lengths.{Lengths}
 use Rattle.bx_paras.specs.declared.position.Position.{Position}
@@ -19,8 +19,8 @@ use Rattle.bx_paras.proofs.Firsts.{same_lengths}
 use Rattle.bx_paras.proofs.Followed.{has_end, no_end, parted_at, start_inside, old_bytes}
 use Rattle.bx_paras.proofs.Totals.{total_more, total_push}
 
-module _ {class : ℕ → Class} {old : List ℕ} {c : Change} {new : List ℕ} {ps : List Lengths} {last : ℕ} {p q : Position}
-    (touched : IsTouched class old c new ps (unended last) p q) where
+module _ {says : Data} {old : List ℕ} {c : Change} {new : List ℕ} {ps : List Lengths} {last : ℕ} {p q : Position}
+    (touched : IsTouched says old c new ps (unended last) p q) where
   abbrev nothing : Lengths
   nothing = record { body = 0; separator = 0 }
 
@@ -33,10 +33,10 @@ module _ {class : ℕ → Class} {old : List ℕ} {c : Change} {new : List ℕ} 
 
   -- the offset goes on from where the first paragraph begins
   abbrev pub From : ℕ → ℕ → Type 0
-  From at from = GoesOn class old c new touched.new_utf8 (chars (take c.start old)) (chars (take c.removed (drop c.start old)))
+  From at from = GoesOn says old c new touched.new_utf8 (chars (take c.start old)) (chars (take c.removed (drop c.start old)))
       (chars (take c.added (drop c.start new))) behind_change around_change at from
 
-  last_whole : (n : ℕ) → n ≡ length ps → lengths class old ≡ take n ps ++ unended last ∷ []
+  last_whole : (n : ℕ) → n ≡ length ps → lengths says old ≡ take n ps ++ unended last ∷ []
   last_whole n e = sym touched.were ∙ ap (λ ls. ls ++ unended last ∷ []) (sym (take_all n ps (omega (arith, e))))
 
   all_bytes : length old ≡ total ps + last
@@ -45,10 +45,10 @@ module _ {class : ℕ → Class} {old : List ℕ} {c : Change} {new : List ℕ} 
   start_before : total (take p.number ps) ≤ c.start
   start_before = omega (arith, touched.first_is.start, touched.first_is.start_before)
 
-  from_at : (l : Lengths) (back : List Lengths) (from : ℕ) → lengths class old ≡ take p.number ps ++ l ∷ back
+  from_at : (l : Lengths) (back : List Lengths) (from : ℕ) → lengths says old ≡ take p.number ps ++ l ∷ back
       → from ≡ min c.start (total (take p.number ps) + l.body) → From p.start from
   from_at l back from e w = subst (λ at. From at from) (sym touched.first_is.start)
-      (goes_on_in_body class old c new touched.new_utf8 _ _ _ _ around_change (take p.number ps) l back from e start_before w)
+      (goes_on_in_body says old c new touched.new_utf8 _ _ _ _ around_change (take p.number ps) l back from e start_before w)
 
   pub from_is : (end : Option ℕ) (from : ℕ) → p.end ≡ end → MatchOption end (from ≡ c.start) (λ e. from ≡ min c.start (e - p.separator)) → From p.start from
   from_is None from e w =
@@ -63,18 +63,18 @@ module _ {class : ℕ → Class} {old : List ℕ} {c : Change} {new : List ℕ} 
 
   -- ---- what follows
 
-  rest_at : (l : Lengths) (back : List Lengths) → lengths class old ≡ take q.number ps ++ l ∷ back → HoldsAll class (c.start + c.removed - q.start) l
-      → first (lengths class (drop (c.start + c.added) new)) ≡ rest_of (c.start + c.removed - q.start) l
+  rest_at : (l : Lengths) (back : List Lengths) → lengths says old ≡ take q.number ps ++ l ∷ back → HoldsAll says (c.start + c.removed - q.start) l
+      → first (lengths says (drop (c.start + c.added) new)) ≡ rest_of (c.start + c.removed - q.start) l
   rest_at l back e holds =
       let at : q.start ≡ total (take q.number ps) = touched.last_is.start in
-      ap (λ bs. first (lengths class bs)) touched.leads.same_after
-      ∙ subst (λ s. first (lens class behind_change) ≡ rest_of (c.start + c.removed - s) l) (sym at)
-      (rest_behind class old c new touched.new_utf8 _ _ _ _ around_change (take q.number ps) l back e (omega (arith, at, touched.last_is.start_before))
-      (subst (λ s. HoldsAll class (c.start + c.removed - s) l) at holds))
+      ap (λ bs. first (lengths says bs)) touched.leads.same_after
+      ∙ subst (λ s. first (lens says behind_change) ≡ rest_of (c.start + c.removed - s) l) (sym at)
+      (rest_behind says old c new touched.new_utf8 _ _ _ _ around_change (take q.number ps) l back e (omega (arith, at, touched.last_is.start_before))
+      (subst (λ s. HoldsAll says (c.start + c.removed - s) l) at holds))
 
   pub rest_is : (end : Option ℕ) (left : ℕ) (r : ℕ × ℕ) → left ≡ length new - (c.start + c.added) → q.end ≡ end
       → MatchOption end (r ≡ (left, 0)) (λ e. r ≡ (e - q.separator - (c.start + c.removed), min q.separator (e - (c.start + c.removed))))
-      → first (lengths class (drop (c.start + c.added) new)) ≡ record { body = r.0; separator = r.1 }
+      → first (lengths says (drop (c.start + c.added) new)) ≡ record { body = r.0; separator = r.1 }
   rest_is None left r k e w =
       let n : q.number ≡ length ps = no_end ps (c.start + c.removed) q touched.last_is e in
       let all : total (take q.number ps) ≡ total ps = ap total (take_all q.number ps (omega (arith, n))) in
@@ -105,7 +105,7 @@ module _ {class : ℕ → Class} {old : List ℕ} {c : Change} {new : List ℕ} 
   pub window_is : (w : Window) (left : ℕ) (r : ℕ × ℕ) → MatchOption p.end (w.start ≡ c.start) (λ e. w.start ≡ min c.start (e - p.separator))
       → w.stop ≡ c.start + c.added → w.body ≡ r.0 → w.separator ≡ r.1 → left ≡ length new - (c.start + c.added)
       → MatchOption q.end (r ≡ (left, 0)) (λ e. r ≡ (e - q.separator - (c.start + c.removed), min q.separator (e - (c.start + c.removed))))
-      → IsWindow class new p.start w
+      → IsWindow says new p.start w
   window_is w left r a b d e f g =
       let k = from_is p.end w.start refl a in
       record {
@@ -113,5 +113,5 @@ module _ {class : ℕ → Class} {old : List ℕ} {c : Change} {new : List ℕ} 
         stop_bounds = subst (IsCharBoundary new) (sym b) touched.leads.came.stop_bounds;
         start_before = k.start_before;
         goes_on = k.goes_on;
-        behind = ap (λ s. first (lengths class (drop s new))) b ∙ rest_is q.end left r f refl g ∙ same_lengths r.0 w.body r.1 w.separator (sym d) (sym e);
+        behind = ap (λ s. first (lengths says (drop s new))) b ∙ rest_is q.end left r f refl g ∙ same_lengths r.0 w.body r.1 w.separator (sym d) (sym e);
       }

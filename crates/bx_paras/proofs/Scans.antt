@@ -6,6 +6,7 @@ use Rattle.std.proofs.lemmas.Bool.Decides.{nat_tests}
 use Rattle.std.proofs.lemmas.Str.{chars-nil, chars-append, encodes-chars, encodes-append}
 use Rattle.std.proofs.lemmas.Str.{scalars-chars, byte_from_char, char_from_byte, IsUtf8-take, IsUtf8-drop}
 use Rattle.std.proofs.lemmas.List.{take-append-drop, length-take, get_or-take, drop_all, get_or_append_left, get_or-append-add}
+use Rattle.bx_ucd.specs.Data.{Data}
 use lib.Utf8.{scalar, scalars}
 use Rattle.bx_ucd.specs.declared.class.Class.{Class}
 use Rattle.bx_paras.specs.Paragraphs.{is_separator, begins_with_lf}
@@ -16,13 +17,13 @@ use Rattle.bx_paras.proofs.Cuts.{width_is_some, widths, widths_more, widths_appe
 
 -- ---- the character at an offset
 
-module _ (class : ℕ → Class) (text : List ℕ) (utf8 : IsUtf8 text) where
-  none_next_at : (n : ℕ) → NoneBefore class text n → NoneAt class text n → (front : List ℕ) (c : ℕ) (rest : List ℕ) → chars text ≡ front ++ c ∷ rest
-      → widths front < n + 1 → (less : Bool) → nat_lt (widths front) n ≡ less → is_separator (class c) ≡ false
+module _ (says : Data) (text : List ℕ) (utf8 : IsUtf8 text) where
+  none_next_at : (n : ℕ) → NoneBefore says text n → NoneAt says text n → (front : List ℕ) (c : ℕ) (rest : List ℕ) → chars text ≡ front ++ c ∷ rest
+      → widths front < n + 1 → (less : Bool) → nat_lt (widths front) n ≡ less → is_separator (says.class c) ≡ false
   none_next_at n h k front c rest e l true f = h front c rest e (grind (arith, nat_tests))
   none_next_at n h k front c rest e l false f = k front c rest e (grind (arith, nat_tests))
 
-  pub none_next : (n : ℕ) → NoneBefore class text n → NoneAt class text n → NoneBefore class text (n + 1)
+  pub none_next : (n : ℕ) → NoneBefore says text n → NoneAt says text n → NoneBefore says text (n + 1)
   none_next n h k front c rest e l = none_next_at n h k front c rest e l (nat_lt (widths front) n) refl
 
   -- the byte there begins the character
@@ -41,40 +42,40 @@ module _ (class : ℕ → Class) (text : List ℕ) (utf8 : IsUtf8 text) where
       grind (arith, nat_tests)
 
   -- a byte that begins no separator
-  unflagged_at : (c lead : ℕ) (flags : List Bool) (separates : Bool) → is_separator (class c) ≡ separates
-      → (is_separator (class c) ≡ true → get_or flags lead false ≡ true) → get_or flags lead false ≡ false → is_separator (class c) ≡ false
+  unflagged_at : (c lead : ℕ) (flags : List Bool) (separates : Bool) → is_separator (says.class c) ≡ separates
+      → (is_separator (says.class c) ≡ true → get_or flags lead false ≡ true) → get_or flags lead false ≡ false → is_separator (says.class c) ≡ false
   unflagged_at c lead flags false e tells f = e
   unflagged_at c lead flags true e tells f = let g : get_or flags lead false ≡ true = tells e in absurd (cc)
 
-  unflagged : (flags : List Bool) (n : ℕ) → TellLeads class flags → get_or flags (get_or text n 0) false ≡ false → NoneAt class text n
+  unflagged : (flags : List Bool) (n : ℕ) → TellLeads says flags → get_or flags (get_or text n 0) false ≡ false → NoneAt says text n
   unflagged flags n tells f front c rest e w =
       let lead : get_or text n 0 ≡ lead_of c = ap (λ i. get_or text i 0) (sym w) ∙ byte_at front c rest e in
-      unflagged_at c (lead_of c) flags (is_separator (class c)) refl (λ s. tells c (scalar_there front c rest e) s)
+      unflagged_at c (lead_of c) flags (is_separator (says.class c)) refl (λ s. tells c (scalar_there front c rest e) s)
       (ap (λ b. get_or flags b false) (sym lead) ∙ f)
 
-  unflagged_from_at : (flags : List Bool) (n m : ℕ) → TellLeads class flags → NoneBefore class text n
+  unflagged_from_at : (flags : List Bool) (n m : ℕ) → TellLeads says flags → NoneBefore says text n
       → ((i : ℕ) → n ≤ i → i < m → get_or flags (get_or text i 0) false ≡ false) → (front : List ℕ) (c : ℕ) (rest : List ℕ)
-      → chars text ≡ front ++ c ∷ rest → widths front < m → (less : Bool) → nat_lt (widths front) n ≡ less → is_separator (class c) ≡ false
+      → chars text ≡ front ++ c ∷ rest → widths front < m → (less : Bool) → nat_lt (widths front) n ≡ less → is_separator (says.class c) ≡ false
   unflagged_from_at flags n m tells h k front c rest e l true f = h front c rest e (grind (arith, nat_tests))
   unflagged_from_at flags n m tells h k front c rest e l false f =
       let behind : n ≤ widths front = grind (arith, nat_tests) in
       unflagged flags (widths front) tells (k (widths front) behind l) front c rest e refl
 
-  pub unflagged_from : (flags : List Bool) (n m : ℕ) → TellLeads class flags → NoneBefore class text n
-      → ((i : ℕ) → n ≤ i → i < m → get_or flags (get_or text i 0) false ≡ false) → NoneBefore class text m
+  pub unflagged_from : (flags : List Bool) (n m : ℕ) → TellLeads says flags → NoneBefore says text n
+      → ((i : ℕ) → n ≤ i → i < m → get_or flags (get_or text i 0) false ≡ false) → NoneBefore says text m
   unflagged_from flags n m tells h k front c rest e l = unflagged_from_at flags n m tells h k front c rest e l (nat_lt (widths front) n) refl
 
   -- no character begins there, or another does
-  pub within_character : (n : ℕ) → ¬ (IsCharBoundary text n) → NoneAt class text n
+  pub within_character : (n : ℕ) → ¬ (IsCharBoundary text n) → NoneAt says text n
   within_character n h front c rest e w = absurd (h (cut_at text front (c ∷ rest) n utf8 e w).bounds)
 
-  pub other_there : (n d : ℕ) (ds : List ℕ) → chars (drop n text) ≡ d ∷ ds → is_separator (class d) ≡ false → NoneAt class text n
+  pub other_there : (n d : ℕ) (ds : List ℕ) → chars (drop n text) ≡ d ∷ ds → is_separator (says.class d) ≡ false → NoneAt says text n
   other_there n d ds h f front c rest e w =
       let both : c ∷ rest ≡ d ∷ ds = sym (cut_at text front (c ∷ rest) n utf8 e w).rest ∙ h in
       let same : c ≡ d = cc in
-      ap (λ k. is_separator (class k)) same ∙ f
+      ap (λ k. is_separator (says.class k)) same ∙ f
 
-  pub end_there : (n : ℕ) → chars (drop n text) ≡ [] → NoneAt class text n
+  pub end_there : (n : ℕ) → chars (drop n text) ≡ [] → NoneAt says text n
   end_there n h front c rest e w = let none : c ∷ rest ≡ [] = sym (cut_at text front (c ∷ rest) n utf8 e w).rest ∙ h in absurd (cc)
 
   first_some : (cs : List ℕ) (c : ℕ) → slice_get cs 0 ≡ Some c → (ds : List ℕ) × (cs ≡ c ∷ ds)
@@ -85,17 +86,17 @@ module _ (class : ℕ → Class) (text : List ℕ) (utf8 : IsUtf8 text) where
   first_none [] e = refl
   first_none (d ∷ ds) e = absurd (cc)
 
-  pub begins_there : (n c : ℕ) → IsCharBoundary text n → slice_get (chars (drop n text)) 0 ≡ Some c → is_separator (class c) ≡ true → BeginsAt class text n c
+  pub begins_there : (n c : ℕ) → IsCharBoundary text n → slice_get (chars (drop n text)) 0 ≡ Some c → is_separator (says.class c) ≡ true → BeginsAt says text n c
   begins_there n c b e f = let (ds, g) = first_some (chars (drop n text)) c e in record { bounds = b; rest = ds; begins = g; separates = f }
 
-  pub none_found : (n : ℕ) (o : Option ℕ) → o ≡ slice_get (chars (drop n text)) 0 → ((c : ℕ) → o ≡ Some c → is_separator (class c) ≡ false)
-      → NoneAt class text n
+  pub none_found : (n : ℕ) (o : Option ℕ) → o ≡ slice_get (chars (drop n text)) 0 → ((c : ℕ) → o ≡ Some c → is_separator (says.class c) ≡ false)
+      → NoneAt says text n
   none_found n None e h = end_there n (first_none (chars (drop n text)) (sym e))
   none_found n (Some c) e h = let (ds, g) = first_some (chars (drop n text)) c (sym e) in other_there n c ds g (h c refl)
 
   -- ---- the first separator
 
-  none_of : (pre x m : List ℕ) (n : ℕ) → chars text ≡ pre ++ (x ++ m) → widths pre + widths x ≤ n → NoneBefore class text n → HasNone class x
+  none_of : (pre x m : List ℕ) (n : ℕ) → chars text ≡ pre ++ (x ++ m) → widths pre + widths x ≤ n → NoneBefore says text n → HasNone says x
   none_of pre [] m n e l h = tt
   none_of pre (c ∷ x) m n e l h = (
     h pre c (x ++ m) e (omega (arith, widths_more c x, width_is_some c)),
@@ -103,7 +104,7 @@ module _ (class : ℕ → Class) (text : List ℕ) (utf8 : IsUtf8 text) where
         (omega (arith, widths_append pre (c ∷ []), one_width c, widths_more c x)) h,
   )
 
-  pub found_there : (n c : ℕ) → BeginsAt class text n c → NoneBefore class text n → IsAt class (chars text) n c
+  pub found_there : (n c : ℕ) → BeginsAt says text n c → NoneBefore says text n → IsAt says (chars text) n c
   found_there n c b h =
       let halves : chars text ≡ chars (take n text) ++ chars (drop n text) =
       ap chars (sym (take-append-drop n text)) ∙ chars-append (take n text) (drop n text) (IsUtf8-take text n utf8 b.bounds) in
@@ -117,15 +118,15 @@ module _ (class : ℕ → Class) (text : List ℕ) (utf8 : IsUtf8 text) where
         separates = b.separates;
       }
 
-  pub none_there : (n : ℕ) → length text ≤ n → NoneBefore class text n → HasNone class (chars text)
+  pub none_there : (n : ℕ) → length text ≤ n → NoneBefore says text n → HasNone says (chars text)
   none_there n l h = none_of [] (chars text) [] n (sym (append-nil (chars text))) (omega (arith, spelt text utf8)) h
 
 -- ---- LF after CR
 
-module _ (class : ℕ → Class) where
+module _ (says : Data) where
   lf_at : (b c : ℕ) (cs : List ℕ) (is_lf : Bool) → (c == 10) ≡ is_lf → (b == 10) ≡ is_lf
-      → begins_with_lf class (c ∷ cs) ≡ ((b == 10) && is_separator (class 10))
-  lf_at b c cs true e f = let lf : c ≡ 10 = grind (arith, nat_tests) in rw (e, f) (ap (λ d. is_separator (class d)) lf)
+      → begins_with_lf says (c ∷ cs) ≡ ((b == 10) && is_separator (says.class 10))
+  lf_at b c cs true e f = let lf : c ≡ 10 = grind (arith, nat_tests) in rw (e, f) (ap (λ d. is_separator (says.class d)) lf)
   lf_at b c cs false e f = rw (e, f) refl
 
   not_lf : (b c : ℕ) (is_lf : Bool) → (b == 10) ≡ is_lf → (c == 10) ≡ false → (b < 128 → c ≡ b) → (b == 10) ≡ false
@@ -141,18 +142,18 @@ module _ (class : ℕ → Class) where
       let char : get_or bs 0 0 < 128 → c ≡ get_or bs 0 0 = λ l. char_from_byte bs rest c e l h in
       not_lf (get_or bs 0 0) c (get_or bs 0 0 == 10) refl f char
 
-  lf_of : (cs bs : List ℕ) → bs ≡ encode_utf8_all cs → 0 < length bs → begins_with_lf class cs ≡ ((get_or bs 0 0 == 10) && is_separator (class 10))
+  lf_of : (cs bs : List ℕ) → bs ≡ encode_utf8_all cs → 0 < length bs → begins_with_lf says cs ≡ ((get_or bs 0 0 == 10) && is_separator (says.class 10))
   lf_of [] bs e h = absurd (omega (arith, ap length e))
   lf_of (c ∷ cs) bs e h = lf_at (get_or bs 0 0) c cs (c == 10) refl (lf_same bs (encode_utf8_all cs) c (c == 10) e h refl)
 
   -- the piece at an offset tells whether LF is there
   pub lf_in_text : (text s : List ℕ) (at : ℕ) → IsUtf8 text → IsCharBoundary text at → take (length s) (drop at text) ≡ s → 0 < length s
-      → begins_with_lf class (chars (drop at text)) ≡ ((get_or s 0 0 == 10) && is_separator (class 10))
+      → begins_with_lf says (chars (drop at text)) ≡ ((get_or s 0 0 == 10) && is_separator (says.class 10))
   lf_in_text text s at utf8 b e some =
       let bs : List ℕ = drop at text in
       let byte : get_or s 0 0 ≡ get_or bs 0 0 = ap (λ xs. get_or xs 0 0) (sym e) ∙ get_or-take (length s) bs 0 0 some in
       let long : 0 < length bs = omega (arith, ap length e, length-take (length s) bs) in
-      lf_of (chars bs) bs (sym (encodes-chars bs (IsUtf8-drop text at utf8 b))) long ∙ ap (λ n. (n == 10) && is_separator (class 10)) (sym byte)
+      lf_of (chars bs) bs (sym (encodes-chars bs (IsUtf8-drop text at utf8 b))) long ∙ ap (λ n. (n == 10) && is_separator (says.class 10)) (sym byte)
 
-  pub no_lf_at_end : (text : List ℕ) (at : ℕ) → length text ≤ at → begins_with_lf class (chars (drop at text)) ≡ false
-  no_lf_at_end text at h = ap (λ bs. begins_with_lf class (chars bs)) (drop_all at text h) ∙ ap (begins_with_lf class) chars-nil
+  pub no_lf_at_end : (text : List ℕ) (at : ℕ) → length text ≤ at → begins_with_lf says (chars (drop at text)) ≡ false
+  no_lf_at_end text at h = ap (λ bs. begins_with_lf says (chars bs)) (drop_all at text h) ∙ ap (begins_with_lf says) chars-nil

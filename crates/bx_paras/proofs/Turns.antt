@@ -4,6 +4,7 @@ use Rattle.std.proofs.Common.{IsCharBoundary, refl, ap, sym, subst, arith, appen
 use Rattle.std.proofs.lemmas.Bool.Decides.{nat_tests}
 use Rattle.std.proofs.lemmas.List.{take-append-drop, drop_all, length-drop}
 use Rattle.std.proofs.lemmas.Str.{chars-append, chars-nil, length-le-encodes, IsUtf8-take, IsUtf8-drop}
+use Rattle.bx_ucd.specs.Data.{Data}
 use Rattle.bx_ucd.specs.declared.class.Class.{Class}
 use Rattle.bx_paras.specs.declared.lengths.Lengths.{Lengths}
 use Rattle.bx_paras.specs.Paragraphs.{lengths}
@@ -17,23 +18,23 @@ use Rattle.bx_paras.proofs.Cuts.{widths, widths_append, unended, lens, IsFirst, 
 use Rattle.bx_paras.proofs.Edits.{ended_in_none}
 use Rattle.bx_paras.proofs.Firsts.{further_none}
 
-module _ (class : ℕ → Class) where
+module _ (says : Data) where
   -- how many bytes the paragraphs of a text have, and how many there are
-  pub total_lengths : (text : List ℕ) → IsUtf8 text → total (lengths class text) ≡ length text
-  total_lengths text utf8 = total_lens class (chars text) ∙ spelt text utf8
+  pub total_lengths : (text : List ℕ) → IsUtf8 text → total (lengths says text) ≡ length text
+  total_lengths text utf8 = total_lens says (chars text) ∙ spelt text utf8
 
-  pub few_lengths : (text : List ℕ) → IsUtf8 text → length (lengths class text) ≤ length text + 1
-  few_lengths text utf8 = omega (arith, count_few class (chars text), length-le-encodes (chars text), spelt text utf8)
+  pub few_lengths : (text : List ℕ) → IsUtf8 text → length (lengths says text) ≤ length text + 1
+  few_lengths text utf8 = omega (arith, count_few says (chars text), length-le-encodes (chars text), spelt text utf8)
 
   -- after an offset follow a paragraph that ends and others, or one that does not end
   pub record IsTurn (text : List ℕ) (at : ℕ) (p : Lengths) : Type 0 where
-    pub more : lengths class (drop at text) ≡ p ∷ lengths class (drop (at + bytes_of p) text)
+    pub more : lengths says (drop at text) ≡ p ∷ lengths says (drop (at + bytes_of p) text)
     pub ends_between : IsCharBoundary text (at + bytes_of p)
 
   module _ (text : List ℕ) (at : ℕ) (utf8 : IsUtf8 text) (bounds : IsCharBoundary text at) where
-    turn_at : (p : Lengths) → p ≡ first (lengths class (drop at text)) → 0 < p.separator
-        → (lens class (chars (drop at text)) ≡ unended (widths (chars (drop at text))) ∷ [])
-        ⊎ ((l : Lengths) × (w : List ℕ) × (z : List ℕ) × IsFirst class (chars (drop at text)) l w z)
+    turn_at : (p : Lengths) → p ≡ first (lengths says (drop at text)) → 0 < p.separator
+        → (lens says (chars (drop at text)) ≡ unended (widths (chars (drop at text))) ∷ [])
+        ⊎ ((l : Lengths) × (w : List ℕ) × (z : List ℕ) × IsFirst says (chars (drop at text)) l w z)
         → IsTurn text at p
     turn_at p e some (inl one) = let none : p.separator ≡ 0 = ap (λ (l : Lengths). l.separator) (e ∙ ap first one) in absurd (omega arith)
     turn_at p e some (inr (l, w, z, h)) =
@@ -46,41 +47,41 @@ module _ (class : ℕ → Class) where
         omega (arith, widths_append (chars (take at text)) w, front_len text at utf8 bounds, h.bytes, ap bytes_of same) in
         let cut = cut_at text x z (at + bytes_of p) utf8 whole len in
         record {
-          more = h.first ∙ ap (λ q. q ∷ lens class z) (sym same) ∙ ap (λ cs. p ∷ lens class cs) (sym cut.rest);
+          more = h.first ∙ ap (λ q. q ∷ lens says z) (sym same) ∙ ap (λ cs. p ∷ lens says cs) (sym cut.rest);
           ends_between = cut.bounds;
         }
 
-    pub turn : (p : Lengths) → p ≡ first (lengths class (drop at text)) → 0 < p.separator → IsTurn text at p
-    turn p e some = turn_at p e some (beginning class (chars (drop at text)))
+    pub turn : (p : Lengths) → p ≡ first (lengths says (drop at text)) → 0 < p.separator → IsTurn text at p
+    turn p e some = turn_at p e some (beginning says (chars (drop at text)))
 
     -- the same, where the bytes are counted
     pub record IsNext (p : Lengths) (r : ℕ) : Type 0 where
-      pub more : lengths class (drop at text) ≡ p ∷ lengths class (drop (at + r) text)
+      pub more : lengths says (drop at text) ≡ p ∷ lengths says (drop (at + r) text)
       pub ends_between : IsCharBoundary text (at + r)
 
-    pub next : (p : Lengths) (r : ℕ) → p ≡ first (lengths class (drop at text)) → 0 < p.separator → r ≡ bytes_of p → IsNext p r
+    pub next : (p : Lengths) (r : ℕ) → p ≡ first (lengths says (drop at text)) → 0 < p.separator → r ≡ bytes_of p → IsNext p r
     next p r e some n =
         let t = turn p e some in
         record {
-          more = t.more ∙ ap (λ m. p ∷ lengths class (drop (at + m) text)) (sym n);
+          more = t.more ∙ ap (λ m. p ∷ lengths says (drop (at + m) text)) (sym n);
           ends_between = subst (λ m. IsCharBoundary text (at + m)) (sym n) t.ends_between;
         }
 
-    last_at : (p : Lengths) → p ≡ first (lengths class (drop at text)) → p.separator ≡ 0
-        → (lens class (chars (drop at text)) ≡ unended (widths (chars (drop at text))) ∷ [])
-        ⊎ ((l : Lengths) × (w : List ℕ) × (z : List ℕ) × IsFirst class (chars (drop at text)) l w z)
-        → lengths class (drop at text) ≡ unended p.body ∷ []
+    last_at : (p : Lengths) → p ≡ first (lengths says (drop at text)) → p.separator ≡ 0
+        → (lens says (chars (drop at text)) ≡ unended (widths (chars (drop at text))) ∷ [])
+        ⊎ ((l : Lengths) × (w : List ℕ) × (z : List ℕ) × IsFirst says (chars (drop at text)) l w z)
+        → lengths says (drop at text) ≡ unended p.body ∷ []
     last_at p e none (inl one) = one ∙ ap (λ n. unended n ∷ []) (sym (ap (λ (l : Lengths). l.body) (e ∙ ap first one)))
     last_at p e none (inr (l, w, z, h)) = let some : p.separator ≡ l.separator =
         ap (λ (k : Lengths). k.separator) (e ∙ ap first h.first) in absurd (omega (arith, h.has_separator))
 
-    pub last : (p : Lengths) → p ≡ first (lengths class (drop at text)) → p.separator ≡ 0 → lengths class (drop at text) ≡ unended p.body ∷ []
-    last p e none = last_at p e none (beginning class (chars (drop at text)))
+    pub last : (p : Lengths) → p ≡ first (lengths says (drop at text)) → p.separator ≡ 0 → lengths says (drop at text) ≡ unended p.body ∷ []
+    last p e none = last_at p e none (beginning says (chars (drop at text)))
 
     -- ---- those that end within some bytes
 
-    pub within_more : (p : Lengths) (k : ℕ) → p ≡ first (lengths class (drop at text)) → 0 < p.separator → bytes_of p ≤ k
-        → ended_within k (lengths class (drop at text)) ≡ p ∷ ended_within (k - bytes_of p) (lengths class (drop (at + bytes_of p) text))
+    pub within_more : (p : Lengths) (k : ℕ) → p ≡ first (lengths says (drop at text)) → 0 < p.separator → bytes_of p ≤ k
+        → ended_within k (lengths says (drop at text)) ≡ p ∷ ended_within (k - bytes_of p) (lengths says (drop (at + bytes_of p) text))
     within_more p k e some fits =
         let t = turn p e some in
         let a : (p.separator == 0) ≡ false = grind (arith, nat_tests) in
@@ -89,26 +90,26 @@ module _ (class : ℕ → Class) where
 
     -- one of them put in
     pub record IsStep (p : Lengths) (stop r : ℕ) : Type 0 where
-      pub left : ended_within (stop - at) (lengths class (drop at text)) ≡ p ∷ ended_within (stop - (at + r)) (lengths class (drop (at + r) text))
+      pub left : ended_within (stop - at) (lengths says (drop at text)) ≡ p ∷ ended_within (stop - (at + r)) (lengths says (drop (at + r) text))
       pub ends_between : IsCharBoundary text (at + r)
 
-    pub step : (p : Lengths) (stop r : ℕ) → p ≡ first (lengths class (drop at text)) → 0 < p.separator → r ≡ bytes_of p → r ≤ stop - at → IsStep p stop r
+    pub step : (p : Lengths) (stop r : ℕ) → p ≡ first (lengths says (drop at text)) → 0 < p.separator → r ≡ bytes_of p → r ≤ stop - at → IsStep p stop r
     step p stop r e some n fits =
         let k : stop - at - bytes_of p ≡ stop - (at + r) = omega (arith, n) in
         record {
-          left = within_more p (stop - at) e some (omega (arith, n)) ∙ ap (λ m. p ∷ ended_within m (lengths class (drop (at + bytes_of p) text))) k
-              ∙ ap (λ m. p ∷ ended_within (stop - (at + r)) (lengths class (drop (at + m) text))) (sym n);
+          left = within_more p (stop - at) e some (omega (arith, n)) ∙ ap (λ m. p ∷ ended_within m (lengths says (drop (at + bytes_of p) text))) k
+              ∙ ap (λ m. p ∷ ended_within (stop - (at + r)) (lengths says (drop (at + m) text))) (sym n);
           ends_between = subst (λ m. IsCharBoundary text (at + m)) (sym n) (turn p e some).ends_between;
         }
 
   -- the last paragraph, of no bytes, where the text ends
-  pub end_lengths : (text : List ℕ) (at : ℕ) → length text ≤ at → lengths class (drop at text) ≡ unended 0 ∷ []
-  end_lengths text at h = ap (λ bs. lengths class bs) (drop_all at text h) ∙ ap (lens class) chars-nil
+  pub end_lengths : (text : List ℕ) (at : ℕ) → length text ≤ at → lengths says (drop at text) ≡ unended 0 ∷ []
+  end_lengths text at h = ap (λ bs. lengths says bs) (drop_all at text h) ∙ ap (lens says) chars-nil
 
   -- none is left where the offset is reached
-  pub none_left : (text : List ℕ) (at stop : ℕ) → stop ≤ at → ended_within (stop - at) (lengths class (drop at text)) ≡ []
-  none_left text at stop h = let none : stop - at ≡ 0 = omega arith in ap (λ k. ended_within k (lengths class (drop at text))) none
-      ∙ ended_in_none (lengths class (drop at text))
+  pub none_left : (text : List ℕ) (at stop : ℕ) → stop ≤ at → ended_within (stop - at) (lengths says (drop at text)) ≡ []
+  none_left text at stop h = let none : stop - at ≡ 0 = omega arith in ap (λ k. ended_within k (lengths says (drop at text))) none
+      ∙ ended_in_none (lengths says (drop at text))
 
 -- the paragraphs inserted and those left are together all
 pub still_all : (f g w left all : List Lengths) (p : Lengths) → g ≡ f ++ p ∷ [] → w ≡ p ∷ left → f ++ w ≡ all → g ++ left ≡ all
@@ -123,29 +124,29 @@ pub bytes_of_first : (ls : List Lengths) → bytes_of (first ls) ≤ total ls
 bytes_of_first [] = omega arith
 bytes_of_first (l ∷ ls) = omega arith
 
-module _ (class : ℕ → Class) (text : List ℕ) where
+module _ (says : Data) (text : List ℕ) where
   -- the first paragraph from an offset on is within the text
-  pub first_within : (at : ℕ) → IsUtf8 text → IsCharBoundary text at → bytes_of (first (lengths class (drop at text))) ≤ length text - at
+  pub first_within : (at : ℕ) → IsUtf8 text → IsCharBoundary text at → bytes_of (first (lengths says (drop at text))) ≤ length text - at
   first_within at utf8 b = omega (
     arith,
-    bytes_of_first (lengths class (drop at text)),
-    total_lengths class (drop at text) (IsUtf8-drop text at utf8 b),
+    bytes_of_first (lengths says (drop at text)),
+    total_lengths says (drop at text) (IsUtf8-drop text at utf8 b),
     length-drop at text,
   )
 
   -- a window that begins where a paragraph does
-  pub moved : (at to : ℕ) (w : Window) → IsWindow class text at w → IsCharBoundary text to → IsWindow class text to (record w { start = to })
+  pub moved : (at to : ℕ) (w : Window) → IsWindow says text at w → IsCharBoundary text to → IsWindow says text to (record w { start = to })
   moved at to w h b =
       let none : 0 ≡ to - to = omega arith in
       record {
         start_bounds = b;
         stop_bounds = h.stop_bounds;
         start_before = omega arith;
-        goes_on = further_none (first (lengths class (drop to text))) ∙ ap (λ n. further n (first (lengths class (drop to text)))) none;
+        goes_on = further_none (first (lengths says (drop to text))) ∙ ap (λ n. further n (first (lengths says (drop to text)))) none;
         behind = h.behind;
       }
 
-  pub stop_within : (start at : ℕ) (w : Window) → IsWindow class text start w → IsUtf8 text → IsCharBoundary text at → at ≡ w.stop
+  pub stop_within : (start at : ℕ) (w : Window) → IsWindow says text start w → IsUtf8 text → IsCharBoundary text at → at ≡ w.stop
       → at + w.body + w.separator ≤ length text
   stop_within start at w h utf8 b e =
       let inside : at ≤ length text = b.0 in

@@ -1,5 +1,6 @@
 -- The paragraphs that end in the first bytes of a text.
 use Rattle.std.specs.Prelude.{ℕ, ◌+◌, ◌-◌, ◌==◌, nat_le, List, drop, [], ◌∷◌, if◌then◌else◌}
+use Rattle.bx_ucd.specs.Data.{Data}
 use Rattle.bx_paras.specs.declared.lengths.Lengths.{Lengths}
 use Rattle.bx_paras.specs.Paragraphs.{lengths}
 use Rattle.bx_paras.specs.Positions.{bytes_of}
@@ -11,8 +12,8 @@ ended_within k [] = []
 ended_within k (p ∷ ps) = if p.separator == 0 then [] else if nat_le (bytes_of p) k then p ∷ ended_within (k - bytes_of p) ps else []
 
 -- the paragraphs of a text from one offset on that end with a separator at or before another
-abbrev pub ended_between : (ℕ → Class) → List ℕ → ℕ → ℕ → List Lengths
-ended_between class text start stop = ended_within (stop - start) (lengths class (drop start text))
+abbrev pub ended_between : Data → List ℕ → ℕ → ℕ → List Lengths
+ended_between says text start stop = ended_within (stop - start) (lengths says (drop start text))
 
 -- the first of some paragraphs
 abbrev pub first : List Lengths → Lengths

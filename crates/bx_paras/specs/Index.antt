@@ -1,5 +1,6 @@
 -- The model of an index: the lengths of each paragraph in bytes, and the room made for the next edit.
 use Rattle.std.specs.Prelude.{ℕ, ◌+◌, ◌*◌, ◌≤◌, min, List, [], ◌∷◌, ◌++◌, length, Option, IfSome, IsUtf8}
+use Rattle.bx_ucd.specs.Data.{Data}
 use Rattle.bx_ucd.specs.declared.class.Class.{Class}
 use Rattle.bx_text.specs.Edits.{largest_text}
 use Rattle.bx_text.specs.Text.{HasRoomFor}
@@ -29,4 +30,4 @@ pub record IsIndex (i : Inside) : Type 0 where
 
 -- a room covers the separators of each text of at most `bytes` bytes
 abbrev pub CoversBytes : Option ℕ → ℕ → Type 0
-CoversBytes room bytes = (class : ℕ → Class) (text : List ℕ) → IsUtf8 text → length text ≤ bytes → HasRoomFor room (separator_count class text)
+CoversBytes room bytes = (says : Data) (text : List ℕ) → IsUtf8 text → length text ≤ bytes → HasRoomFor room (separator_count says text)

@@ -1,6 +1,7 @@
 -- The first bytes of paragraph separators in UTF-8.
 use Rattle.std.specs.Prelude.{◌≡◌, ℕ, Bool, true, false, List, get_or, encode_utf8}
 use Rattle.std.specs.Char.{IsScalar}
+use Rattle.bx_ucd.specs.Data.{Data}
 use Rattle.bx_ucd.specs.declared.class.Class.{Class}
 use Rattle.bx_paras.specs.Paragraphs.{is_separator}
 
@@ -9,5 +10,5 @@ abbrev pub lead_of : ℕ → ℕ
 lead_of c = get_or (encode_utf8 c) 0 0
 
 -- the flag of each separator's first byte is set
-abbrev pub TellLeads : (ℕ → Class) → List Bool → Type 0
-TellLeads class flags = (c : ℕ) → IsScalar c → is_separator (class c) ≡ true → get_or flags (lead_of c) false ≡ true
+abbrev pub TellLeads : Data → List Bool → Type 0
+TellLeads says flags = (c : ℕ) → IsScalar c → is_separator (says.class c) ≡ true → get_or flags (lead_of c) false ≡ true

@@ -1,5 +1,6 @@
 -- The paragraphs of the old text that a change touches.
 use Rattle.std.specs.Prelude.{◌≡◌, ℕ, ◌+◌, ◌-◌, List, [], ◌∷◌, ◌++◌, IsUtf8}
+use Rattle.bx_ucd.specs.Data.{Data}
 use Rattle.bx_ucd.specs.declared.class.Class.{Class}
 use Rattle.bx_text.specs.declared.change.Change.{Change}
 use Rattle.bx_text.specs.Edits.{Leads}
@@ -10,11 +11,11 @@ use Rattle.bx_paras.specs.Flat.{IsPosition}
 
 -- The paragraphs of the old text are `front`, each of which ends with a separator, and then `behind`. The byte before the
 -- change is in the paragraph `first`, and the text after the change begins in the paragraph `last`.
-pub record IsTouched (class : ℕ → Class) (old : List ℕ) (change : Change) (new : List ℕ) (front : List Lengths) (behind : Lengths)
+pub record IsTouched (says : Data) (old : List ℕ) (change : Change) (new : List ℕ) (front : List Lengths) (behind : Lengths)
     (first last : Position) : Type 0 where
   pub old_utf8 : IsUtf8 old
   pub new_utf8 : IsUtf8 new
   pub leads : Leads old change new
-  pub were : front ++ behind ∷ [] ≡ lengths class old
+  pub were : front ++ behind ∷ [] ≡ lengths says old
   pub first_is : IsPosition front (change.start - 1) first
   pub last_is : IsPosition front (change.start + change.removed) last

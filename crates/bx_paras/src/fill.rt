@@ -29,17 +29,17 @@ fn fill<D: BidiData>(
     window: Window,
 ) -> (usize, usize)
     requires bounds { IsCharBoundary text.now.edited.text start }
-    requires leads { TellLeads (D.data tables.now).class leads.now.may_separate }
-    requires window { IsWindow (D.data tables.now).class text.now.edited.text start window }
+    requires leads { TellLeads (D.data tables.now) leads.now.may_separate }
+    requires window { IsWindow (D.data tables.now) text.now.edited.text start window }
     requires position { position ≤ length blocks.old.blocks }
-    requires room { length (ended_between (D.data tables.now).class text.now.edited.text start stop) ≤ room_at blocks.old position }
-    requires short { total (flat blocks.old.blocks) + total (ended_between (D.data tables.now).class text.now.edited.text start stop) < 2 ^ 64 }
-    requires few { length (flat blocks.old.blocks) + length (ended_between (D.data tables.now).class text.now.edited.text start stop) < 2 ^ 64 }
+    requires room { length (ended_between (D.data tables.now) text.now.edited.text start stop) ≤ room_at blocks.old position }
+    requires short { total (flat blocks.old.blocks) + total (ended_between (D.data tables.now) text.now.edited.text start stop) < 2 ^ 64 }
+    requires few { length (flat blocks.old.blocks) + length (ended_between (D.data tables.now) text.now.edited.text start stop) < 2 ^ 64 }
     ensures position { result.0 ≤ length blocks.new.blocks }
     ensures front { flat (take result.0 blocks.new.blocks)
-        ≡ flat (take position blocks.old.blocks) ++ ended_between (D.data tables.now).class text.now.edited.text start stop }
+        ≡ flat (take position blocks.old.blocks) ++ ended_between (D.data tables.now) text.now.edited.text start stop }
     ensures back { flat (drop result.0 blocks.new.blocks) ≡ flat (drop position blocks.old.blocks) }
-    ensures stop { result.1 ≡ start + total (ended_between (D.data tables.now).class text.now.edited.text start stop) }
+    ensures stop { result.1 ≡ start + total (ended_between (D.data tables.now) text.now.edited.text start stop) }
 {
     let mut position = position;
     let mut at = start;
@@ -69,18 +69,18 @@ pub fn replace<D: BidiData>(
     window: Window,
 ) -> usize
     requires bounds { IsCharBoundary text.now.edited.text from.start }
-    requires leads { TellLeads (D.data tables.now).class leads.now.may_separate }
-    requires window { IsWindow (D.data tables.now).class text.now.edited.text from.start window }
+    requires leads { TellLeads (D.data tables.now) leads.now.may_separate }
+    requires window { IsWindow (D.data tables.now) text.now.edited.text from.start window }
     requires order { from.number ≤ to }
     requires inside { to ≤ length (flat blocks.old.blocks) }
-    requires room { 2 * block_capacity + length (ended_between (D.data tables.now).class text.now.edited.text from.start stop)
+    requires room { 2 * block_capacity + length (ended_between (D.data tables.now) text.now.edited.text from.start stop)
         ≤ block_capacity * blocks.old.spares }
-    requires short { total (flat blocks.old.blocks) + total (ended_between (D.data tables.now).class text.now.edited.text from.start stop) < 2 ^ 64 }
-    requires few { length (flat blocks.old.blocks) + length (ended_between (D.data tables.now).class text.now.edited.text from.start stop) < 2 ^ 64 }
+    requires short { total (flat blocks.old.blocks) + total (ended_between (D.data tables.now) text.now.edited.text from.start stop) < 2 ^ 64 }
+    requires few { length (flat blocks.old.blocks) + length (ended_between (D.data tables.now) text.now.edited.text from.start stop) < 2 ^ 64 }
     ensures paragraphs { flat blocks.new.blocks
         ≡ take from.number (flat blocks.old.blocks)
-        ++ (ended_between (D.data tables.now).class text.now.edited.text from.start stop ++ drop to (flat blocks.old.blocks)) }
-    ensures stop { result ≡ from.start + total (ended_between (D.data tables.now).class text.now.edited.text from.start stop) }
+        ++ (ended_between (D.data tables.now) text.now.edited.text from.start stop ++ drop to (flat blocks.old.blocks)) }
+    ensures stop { result ≡ from.start + total (ended_between (D.data tables.now) text.now.edited.text from.start stop) }
 {
     let position = blocks.take_out(from.number, to);
     let (position, at) = fill(

@@ -57,11 +57,11 @@ fn touched<D: BidiData>(
 ) -> (Position, Position)
     requires was { (old : List ℕ)
         × IsUtf8 old
-        × (closed front.now.blocks last ≡ lengths (D.data tables.now).class old)
+        × (closed front.now.blocks last ≡ lengths (D.data tables.now) old)
         × Leads old change.now text.now.edited.text }
     requires short { total (closed front.now.blocks last) ≤ largest_text }
     ensures { (old : List ℕ)
-        × IsTouched (D.data tables.now).class old change.now text.now.edited.text (flat front.now.blocks)
+        × IsTouched (D.data tables.now) old change.now text.now.edited.text (flat front.now.blocks)
         (record { body = last; separator = 0 }) result.0 result.1 }
 {
     // used by the contract alone
@@ -107,10 +107,10 @@ fn window_of<D: BidiData>(
     reached: (Position, Position),
 ) -> Window
     requires touched { (old : List ℕ)
-        × IsTouched (D.data tables.now).class old change.now text.now.edited.text (flat front.now.blocks)
+        × IsTouched (D.data tables.now) old change.now text.now.edited.text (flat front.now.blocks)
         (record { body = last; separator = 0 }) reached.0 reached.1 }
     requires short { total (closed front.now.blocks last) ≤ largest_text }
-    ensures { IsWindow (D.data tables.now).class text.now.edited.text reached.0.start result }
+    ensures { IsWindow (D.data tables.now) text.now.edited.text reached.0.start result }
 {
     // used by the contract alone
     let _ = front;
@@ -132,7 +132,7 @@ impl Index {
     ///
     /// Errors: `OutOfMemory`.
     pub fn build<D: BidiData>(alloc: Global, text: &Text, tables: &D) -> Result<Index, OutOfMemory>
-        ensures { IfOk result (λ i. i ≡ record { paragraphs = lengths (D.data tables.now).class text.now.edited.text; room = None }) }
+        ensures { IfOk result (λ i. i ≡ record { paragraphs = lengths (D.data tables.now) text.now.edited.text; room = None }) }
     {
         let len = text.len();
         let mut front = Blocks::new(alloc);
@@ -184,11 +184,11 @@ impl Index {
     pub fn edited<D: BidiData>(&mut self, text: &Text, tables: &D, change: &Change)
         requires was { (old : List ℕ)
             × IsUtf8 old
-            × (self.old.paragraphs ≡ lengths (D.data tables.now).class old)
+            × (self.old.paragraphs ≡ lengths (D.data tables.now) old)
             × Leads old change.now text.now.edited.text }
         requires room { HasRoomFor self.old.room
-            (separator_count (D.data tables.now).class (take change.now.added (drop change.now.start text.now.edited.text))) }
-        ensures { self.new ≡ record { paragraphs = lengths (D.data tables.now).class text.now.edited.text; room = None } }
+            (separator_count (D.data tables.now) (take change.now.added (drop change.now.start text.now.edited.text))) }
+        ensures { self.new ≡ record { paragraphs = lengths (D.data tables.now) text.now.edited.text; room = None } }
     {
         let len = text.len();
         let reached = touched(&self.front, self.last, text, tables, change);

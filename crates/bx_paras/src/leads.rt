@@ -60,7 +60,7 @@ fn mark<D: BidiData>(flags: &mut [bool; 256], tables: &D, code: u32)
 
 /// The possible first bytes of separators, for a scan of `bytes` bytes.
 pub fn leads_of<D: BidiData>(tables: &D, bytes: usize) -> Leads
-    ensures { TellLeads (D.data tables.now).class result.may_separate }
+    ensures { TellLeads (D.data tables.now) result.may_separate }
 {
     let limit = asked_below(bytes);
     let mut may_separate = [false; 256];

@@ -38,7 +38,7 @@ fn char_at(text: &str, at: usize) -> Option<char>
 
 /// The separator that begins at an offset of a piece of text, if one does.
 fn separator_at<D: BidiData>(piece: &str, tables: &D, at: usize) -> Option<char>
-    ensures { MatchOption result (NoneAt (D.data tables.now).class piece.now at) (λ c. BeginsAt (D.data tables.now).class piece.now at c) }
+    ensures { MatchOption result (NoneAt (D.data tables.now) piece.now at) (λ c. BeginsAt (D.data tables.now) piece.now at c) }
 {
     if !piece.is_char_boundary(at) {
         return None;
@@ -65,8 +65,8 @@ fn next_lead(bytes: &[u8], leads: &Leads, from: usize) -> usize
 
 /// The offset of the first paragraph separator of a piece of text, and the separator.
 fn separator_in<D: BidiData>(piece: &str, tables: &D, leads: &Leads) -> Option<(usize, char)>
-    requires { TellLeads (D.data tables.now).class leads.now.may_separate }
-    ensures { MatchOption result (HasNone (D.data tables.now).class (chars piece.now)) (λ found. IsAt (D.data tables.now).class (chars piece.now) found.0 found.1) }
+    requires { TellLeads (D.data tables.now) leads.now.may_separate }
+    ensures { MatchOption result (HasNone (D.data tables.now) (chars piece.now)) (λ found. IsAt (D.data tables.now) (chars piece.now) found.0 found.1) }
 {
     let bytes = piece.as_bytes();
     let mut at = next_lead(bytes, leads, 0);
@@ -82,7 +82,7 @@ fn separator_in<D: BidiData>(piece: &str, tables: &D, leads: &Leads) -> Option<(
 /// Whether a text has, at an offset, an LF that is a separator.
 fn goes_on_with_lf<D: BidiData>(text: &Text, tables: &D, at: usize) -> bool
     requires { IsCharBoundary text.now.edited.text at }
-    ensures { result ≡ begins_with_lf (D.data tables.now).class (chars (drop at text.now.edited.text)) }
+    ensures { result ≡ begins_with_lf (D.data tables.now) (chars (drop at text.now.edited.text)) }
 {
     match text.piece_at(at) {
         None => false,
@@ -93,7 +93,7 @@ fn goes_on_with_lf<D: BidiData>(text: &Text, tables: &D, at: usize) -> bool
 /// Length in bytes of the separator that begins with a character: two if that is CR and an LF follows.
 fn separator_bytes<D: BidiData>(text: &Text, tables: &D, c: char, after: usize) -> u32
     requires { IsCharBoundary text.now.edited.text after }
-    ensures { result ≡ (if (c == 13) && begins_with_lf (D.data tables.now).class (chars (drop after text.now.edited.text)) then 2 else length (encode_utf8 c)) }
+    ensures { result ≡ (if (c == 13) && begins_with_lf (D.data tables.now) (chars (drop after text.now.edited.text)) then 2 else length (encode_utf8 c)) }
 {
     if c == '\r' && goes_on_with_lf(text, tables, after) {
         2
@@ -127,9 +127,9 @@ pub fn paragraph_from<D: BidiData>(
     start: usize,
     window: Window,
 ) -> Lengths
-    requires leads { TellLeads (D.data tables.now).class leads.now.may_separate }
-    requires window { IsWindow (D.data tables.now).class text.now.edited.text start window }
-    ensures first { result ≡ first (lengths (D.data tables.now).class (drop start text.now.edited.text)) }
+    requires leads { TellLeads (D.data tables.now) leads.now.may_separate }
+    requires window { IsWindow (D.data tables.now) text.now.edited.text start window }
+    ensures first { result ≡ first (lengths (D.data tables.now) (drop start text.now.edited.text)) }
     ensures utf8 { IsUtf8 text.now.edited.text }
 {
     let len = text.len();

@@ -1,6 +1,7 @@
 //! The part of a text that a scan for paragraphs reads.
 
 ghost use Rattle.std.specs.Prelude.{ℕ, IsCharBoundary};
+ghost use Rattle.bx_ucd.specs.Data.{Data};
 ghost use Rattle.bx_ucd.specs.declared.class.Class.{Class};
 ghost use Rattle.bx_paras.specs.Windows.{IsWindow};
 
@@ -22,7 +23,7 @@ pub struct Window {
 /// The window from an offset to the text's end.
 pub fn window_to_end(text: &Text, at: usize) -> Window
     requires { IsCharBoundary text.now.edited.text at }
-    ensures { (class : ℕ → Class) → IsWindow class text.now.edited.text at result }
+    ensures { (says : Data) → IsWindow says text.now.edited.text at result }
 {
     Window {
         start: at,

@@ -1,5 +1,6 @@
 -- The lines of one paragraph's rows, each after a line feed.
 use Rattle.std.specs.Prelude.{ℕ, List, ◌∷◌, flat_map, Option}
+use Rattle.bx_ucd.specs.Data.{Data}
 use Rattle.bx_ucd.specs.declared.class.Class.{Class}
 use Rattle.bx_ucd.specs.declared.data.Side.{Side}
 use Rattle.bx_explicit.specs.declared.base.Base.{Base}
@@ -8,9 +9,9 @@ use Rattle.bx_print.specs.declared.marks.Marks.{Marks}
 use Rattle.bx_print.specs.Page.{line}
 
 -- the line of a row of a body, after a line feed
-abbrev pub body_line : (ℕ → Class) → (ℕ → Option ℕ) → Marks → ℕ → BodyRow → List ℕ
-body_line class mirror marks w r = 10 ∷ line marks (row_glyphs class mirror w r)
+abbrev pub body_line : Data → Marks → ℕ → BodyRow → List ℕ
+body_line says marks w r = 10 ∷ line marks (row_glyphs says w r)
 
 -- the lines of all rows of a body
-abbrev pub body_lines : (ℕ → Class) → (ℕ → Option (Side × ℕ)) → (ℕ → Option ℕ) → Marks → Base → ℕ → List ℕ → List ℕ
-body_lines class bracket mirror marks base w body = flat_map (body_line class mirror marks w) (body_rows class bracket base w body)
+abbrev pub body_lines : Data → Marks → Base → ℕ → List ℕ → List ℕ
+body_lines says marks base w body = flat_map (body_line says marks w) (body_rows says base w body)

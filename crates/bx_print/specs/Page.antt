@@ -1,6 +1,7 @@
 -- A printed text: its rows of `w` columns, each as a line of plain bytes.
 use Rattle.std.specs.Prelude.{ℕ, ◌==◌, true, false, List, [], ◌∷◌, ◌++◌, if◌then◌else◌, flat_map, Option}
 use Rattle.std.specs.List.{join_by}
+use Rattle.bx_ucd.specs.Data.{Data}
 use Rattle.bx_ucd.specs.declared.class.Class.{Class}
 use Rattle.bx_ucd.specs.declared.data.Side.{Side}
 use Rattle.bx_explicit.specs.declared.base.Base.{Base}
@@ -33,6 +34,6 @@ abbrev pub line : Marks → List Glyph → List ℕ
 line marks glyphs = trimmed (flat_map (glyph_bytes marks) glyphs)
 
 -- the lines of a text's rows, separated by line feeds
-abbrev pub page : (ℕ → Class) → (ℕ → Option (Side × ℕ)) → (ℕ → Option ℕ) → Marks → Base → ℕ → List ℕ → List ℕ
-page class bracket mirror marks base w text =
-    join_by (λ r. line marks (text_row_glyphs class mirror w r)) (10 ∷ []) (text_rows class bracket base w text)
+abbrev pub page : Data → Marks → Base → ℕ → List ℕ → List ℕ
+page says marks base w text =
+    join_by (λ r. line marks (text_row_glyphs says w r)) (10 ∷ []) (text_rows says base w text)

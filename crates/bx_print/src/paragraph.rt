@@ -19,9 +19,9 @@ fn push_rows<D: BidiData>(
     tables: &D,
     marks: Marks,
 ) -> Result<(), PrintError>
-    requires { IsLayoutBy (D.data tables.now).class (D.data tables.now).bracket layout.now }
+    requires { IsLayoutBy (D.data tables.now) layout.now }
     ensures lines { OnOk result (page.new.items ≡ page.old.items
-        ++ body_lines (D.data tables.now).class (D.data tables.now).bracket (D.data tables.now).mirror marks layout.now.base layout.now.w layout.now.body) }
+        ++ body_lines (D.data tables.now) marks layout.now.base layout.now.w layout.now.body) }
     ensures some { OnOk result (length page.old.items < length page.new.items) }
     ensures memory { OnErr result (result ≡ Err PrintError.OutOfMemory) }
 {
@@ -42,7 +42,7 @@ pub(crate) fn push_paragraph<D: BidiData>(
 ) -> Result<(), PrintError>
     requires number { number < count source.now }
     ensures lines { OnOk result (page.new.items ≡ page.old.items
-        ++ body_lines (D.data source.now.tables.now).class (D.data source.now.tables.now).bracket (D.data source.now.tables.now).mirror
+        ++ body_lines (D.data source.now.tables.now)
         style.marks style.base style.columns (body_at source.now number)) }
     ensures some { OnOk result (length page.old.items < length page.new.items) }
     ensures memory { OnErr result (result ≡ Err PrintError.OutOfMemory) }

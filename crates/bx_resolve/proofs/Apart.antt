@@ -3,6 +3,7 @@ use Rattle.std.proofs.Common.{◌≡◌, ◌≢◌, ◌<◌, ◌≤◌, ◌∙�
 use Rattle.std.specs.Prelude.{All}
 use Rattle.std.proofs.lemmas.List.{set_comm}
 use Rattle.std.proofs.lemmas.List.Elements.{All-head, All-tail}
+use Rattle.bx_ucd.specs.Data.{Data}
 use Rattle.bx_ucd.specs.declared.data.Side.{Side}
 use Rattle.bx_explicit.specs.declared.entry.Kept.{Kept}
 use Rattle.bx_explicit.specs.Sequences.{RunSequence}
@@ -29,27 +30,27 @@ levels_comm low high ps ls (q ∷ qs) (m ∷ ms) each a b = levels_comm low high
     ∙ ap (with_levels qs ms) (set_first low high q m ps ls each (All-head (IsOut low high) q qs b) a)
 
 -- so one of several sequences may be written first
-module _ (bracket : ℕ → Option (Side × ℕ)) (chars : List ℕ) (kept : List (Option Kept)) (low high : ℕ) where
+module _ (says : Data) (chars : List ℕ) (kept : List (Option Kept)) (low high : ℕ) where
   written_first : (ss rest : List RunSequence) (s : RunSequence) (each : List (Option ℕ)) → All (λ (u : RunSequence). All (IsOut low high) u.indexes) ss
-      → All (IsIn low high) s.indexes → with_sequences bracket chars kept (ss ++ s ∷ rest) each
-      ≡ with_sequences bracket chars kept (ss ++ rest) (with_levels s.indexes (levels_in bracket chars kept s) each)
+      → All (IsIn low high) s.indexes → with_sequences says chars kept (ss ++ s ∷ rest) each
+      ≡ with_sequences says chars kept (ss ++ rest) (with_levels s.indexes (levels_in says chars kept s) each)
   written_first [] rest s each o a = refl
   written_first (u ∷ ss) rest s each o a =
       let outs : RunSequence → Type 0 = λ (x : RunSequence). All (IsOut low high) x.indexes in
-      written_first ss rest s (with_levels u.indexes (levels_in bracket chars kept u) each) (All-tail outs u ss o) a
-      ∙ ap (with_sequences bracket chars kept (ss ++ rest))
-      (levels_comm low high s.indexes (levels_in bracket chars kept s) u.indexes (levels_in bracket chars kept u) each a (All-head outs u ss o))
+      written_first ss rest s (with_levels u.indexes (levels_in says chars kept u) each) (All-tail outs u ss o) a
+      ∙ ap (with_sequences says chars kept (ss ++ rest))
+      (levels_comm low high s.indexes (levels_in says chars kept s) u.indexes (levels_in says chars kept u) each a (All-head outs u ss o))
 
 -- the sequences in the order in which they are given write the same
-module _ (bracket : ℕ → Option (Side × ℕ)) (chars : List ℕ) (kept : List (Option Kept)) where
+module _ (says : Data) (chars : List ℕ) (kept : List (Option Kept)) where
   pub given_written : (given all : List RunSequence) (each : List (Option ℕ)) → AreGiven given all
-      → with_sequences bracket chars kept all each ≡ with_sequences bracket chars kept given each
-  given_written [] all each a = ap (λ ss. with_sequences bracket chars kept ss each) a
+      → with_sequences says chars kept all each ≡ with_sequences says chars kept given each
+  given_written [] all each a = ap (λ ss. with_sequences says chars kept ss each) a
   given_written (s ∷ given) all each a =
       let before : List RunSequence = a.0 in
       let after : List RunSequence = a.1 in
       let v : IsApart s before = a.3 in
-      let now : List (Option ℕ) = with_levels s.indexes (levels_in bracket chars kept s) each in
-      ap (λ ss. with_sequences bracket chars kept ss each) a.2
-      ∙ written_first bracket chars kept v.low v.high before after s each v.outside v.inside
+      let now : List (Option ℕ) = with_levels s.indexes (levels_in says chars kept s) each in
+      ap (λ ss. with_sequences says chars kept ss each) a.2
+      ∙ written_first says chars kept v.low v.high before after s each v.outside v.inside
       ∙ given_written given (before ++ after) now a.4

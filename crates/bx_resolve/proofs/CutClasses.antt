@@ -5,6 +5,7 @@ use Rattle.std.specs.Prelude.{◌||◌}
 use Rattle.std.specs.List.{list_any}
 use Rattle.std.proofs.lemmas.List.{length-take-le}
 use Rattle.std.proofs.lemmas.List.Folds.{list_any-append}
+use Rattle.bx_ucd.specs.Data.{Data}
 use Rattle.bx_ucd.specs.declared.class.Class.{Class}
 use Rattle.bx_ucd.specs.declared.class.Class.TheVariants.{L, R, AL}
 use Rattle.bx_ucd.specs.declared.data.Side.{Side}
@@ -101,47 +102,47 @@ unlisted_at : (b : Option (Side × ℕ)) → b ≡ None → (on : Bool) → elim
 unlisted_at b e true = e
 unlisted_at b e false = refl
 
-pub none_listed : (bracket : ℕ → Option (Side × ℕ)) (cs : List ℕ) (ts : List Class) → list_any (is_listed bracket) cs ≡ false → HasNoBracket bracket cs ts
-none_listed bracket [] ts e = tt
-none_listed bracket (c ∷ cs) [] e = tt
-none_listed bracket (c ∷ cs) (t ∷ ts) e = (elim (is_listed bracket c) as (λ b. is_listed bracket c ≡ b → (b || list_any (is_listed bracket) cs) ≡ false
-    → (bracket_at bracket c t ≡ None) × HasNoBracket bracket cs ts) [
+pub none_listed : (says : Data) (cs : List ℕ) (ts : List Class) → list_any (is_listed says) cs ≡ false → HasNoBracket says cs ts
+none_listed says [] ts e = tt
+none_listed says (c ∷ cs) [] e = tt
+none_listed says (c ∷ cs) (t ∷ ts) e = (elim (is_listed says c) as (λ b. is_listed says c ≡ b → (b || list_any (is_listed says) cs) ≡ false
+    → (bracket_at says c t ≡ None) × HasNoBracket says cs ts) [
       | true ↦ λ q h. absurd (cc)
-      | false ↦ λ q h. (unlisted_at (bracket c) (unlisted (bracket c) q) (is_on t), none_listed bracket cs ts h)
+      | false ↦ λ q h. (unlisted_at (says.bracket c) (unlisted (says.bracket c) q) (is_on t), none_listed says cs ts h)
     ]) refl e
 
-uncrossed : (bracket : ℕ → Option (Side × ℕ)) (cf cb : List ℕ) (front back : List Class) (same : Type 0) (way : Bool) → (way ≡ true → same)
-    → (way ≡ true) ⊎ ((list_any (is_listed bracket) cf ≡ false) ⊎ (list_any (is_listed bracket) cb ≡ false)) → Uncrossed bracket cf front cb back same
-uncrossed bracket cf cb front back same way h (inl e) = inl (h e)
-uncrossed bracket cf cb front back same way h (inr (inl e)) = inr (inl (none_listed bracket cf front e))
-uncrossed bracket cf cb front back same way h (inr (inr e)) = inr (inr (none_listed bracket cb back e))
+uncrossed : (says : Data) (cf cb : List ℕ) (front back : List Class) (same : Type 0) (way : Bool) → (way ≡ true → same)
+    → (way ≡ true) ⊎ ((list_any (is_listed says) cf ≡ false) ⊎ (list_any (is_listed says) cb ≡ false)) → Uncrossed says cf front cb back same
+uncrossed says cf cb front back same way h (inl e) = inl (h e)
+uncrossed says cf cb front back same way h (inr (inl e)) = inr (inl (none_listed says cf front e))
+uncrossed says cf cb front back same way h (inr (inr e)) = inr (inr (none_listed says cb back e))
 
-module _ (bracket : ℕ → Option (Side × ℕ)) (level : ℕ) (sos eos x y : Class) (x_is : is_strong x ≡ true) (y_is : is_strong y ≡ true)
+module _ (says : Data) (level : ℕ) (sos eos x y : Class) (x_is : is_strong x ≡ true) (y_is : is_strong y ≡ true)
     (cf : List ℕ) (cx : ℕ) (cy : ℕ) (cb : List ℕ) (u v : List Class) (cf_is : length cf ≡ length u) (cb_is : length cb ≡ length v) where
   abbrev pub levels_of : List ℕ → List Class → List ℕ
-  levels_of cm m = sequence_levels bracket level sos eos (cf ++ (cx ∷ (cm ++ cy ∷ cb))) (u ++ (x ∷ (m ++ y ∷ v)))
+  levels_of cm m = sequence_levels says level sos eos (cf ++ (cx ∷ (cm ++ cy ∷ cb))) (u ++ (x ∷ (m ++ y ∷ v)))
 
   abbrev pub levels_inside : List ℕ → List Class → List ℕ
-  levels_inside cm m = sequence_levels bracket level sos eos (cx ∷ (cm ++ cy ∷ [])) (x ∷ (m ++ y ∷ []))
+  levels_inside cm m = sequence_levels says level sos eos (cx ∷ (cm ++ cy ∷ [])) (x ∷ (m ++ y ∷ []))
 
-  pub cut_off : (cm : List ℕ) (m : List Class) → length cm ≡ length m → IsCutOff bracket cf x cm m y cb
+  pub cut_off : (cm : List ℕ) (m : List Class) → length cm ≡ length m → IsCutOff says cf x cm m y cb
       → levels_of cm m ≡ take (length u) (levels_of [] []) ++ (levels_inside cm m ++ drop (length u + 2) (levels_of [] []))
   cut_off cm m cm_is h =
-      cut_levels bracket level sos eos x y x_is y_is cf cx cm cy cb u m v cf_is cm_is cb_is (none_listed bracket cm (weak_mid sos x y m) h.0)
-      (uncrossed bracket cf cb (weak_front sos x u) (weak_back sos y v)
+      cut_levels says level sos eos x y x_is y_is cf cx cm cy cb u m v cf_is cm_is cb_is (none_listed says cm (weak_mid sos x y m) h.0)
+      (uncrossed says cf cb (weak_front sos x u) (weak_back sos y v)
       (HasSame (w3_at x ∷ (weak_mid sos x y m ++ w3_at y ∷ [])) (w3_at x ∷ w3_at y ∷ []))
       (one_way x y m) (same_by_classes sos x y x_is y_is m) h.1)
 
   base_length : length (levels_of [] []) ≡ length u + (2 + length v)
-  base_length = levels_length bracket level sos eos (cf ++ (cx ∷ cy ∷ cb)) (u ++ (x ∷ y ∷ v)) ∙ length-append u (x ∷ y ∷ v) ∙ omega arith
+  base_length = levels_length says level sos eos (cf ++ (cx ∷ cy ∷ cb)) (u ++ (x ∷ y ∷ v)) ∙ length-append u (x ∷ y ∷ v) ∙ omega arith
 
   inside_length : (cm : List ℕ) (m : List Class) → length (levels_inside cm m) ≡ length m + 2
-  inside_length cm m = levels_length bracket level sos eos (cx ∷ (cm ++ cy ∷ [])) (x ∷ (m ++ y ∷ []))
+  inside_length cm m = levels_length says level sos eos (cx ∷ (cm ++ cy ∷ [])) (x ∷ (m ++ y ∷ []))
       ∙ ap (λ n. suc n) (length-append m (y ∷ [])) ∙ omega arith
 
   -- an edit between the two types: the levels before and after stay, and the text between is resolved alone
-  pub cut_edit : (cm cn : List ℕ) (m k : List Class) → length cm ≡ length m → length cn ≡ length k → IsCutOff bracket cf x cm m y cb
-      → IsCutOff bracket cf x cn k y cb
+  pub cut_edit : (cm cn : List ℕ) (m k : List Class) → length cm ≡ length m → length cn ≡ length k → IsCutOff says cf x cm m y cb
+      → IsCutOff says cf x cn k y cb
       → levels_of cn k ≡ take (length u) (levels_of cm m) ++ (levels_inside cn k ++ drop (length u + (length m + 2)) (levels_of cm m))
   cut_edit cm cn m k cm_is cn_is old new =
       let base : List ℕ = levels_of [] [] in

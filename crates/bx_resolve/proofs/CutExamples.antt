@@ -1,5 +1,6 @@
 -- Why the condition on brackets is needed, computed.
 use Rattle.std.proofs.Common.{◌≡◌, ℕ, [], ◌∷◌, refl, Option, Some, None, cond, eqb, true, false}
+use Rattle.bx_ucd.specs.Data.{Data}
 use Rattle.bx_ucd.specs.declared.class.Class.{Class}
 use Rattle.bx_ucd.specs.declared.class.Class.TheVariants.{L, R, ON}
 use Rattle.bx_ucd.specs.declared.data.Side.{Side}
@@ -14,11 +15,14 @@ bracket c = cond (eqb c 40) (Some (Opener, 41)) (cond (eqb c 41) (Some (Closer, 
 abbrev class : ℕ → Class
 class c = cond (eqb c 40) ON (cond (eqb c 41) ON (cond (eqb c 100) R L))
 
+abbrev says : Data
+says = record { class = class; bracket = bracket; mirror = λ _. None }
+
 -- a(aa) at level 1: the pair takes L only where nothing inside is R
-without : paragraph_levels class bracket 1 (97 ∷ 40 ∷ 97 ∷ 97 ∷ 41 ∷ []) ≡ Some 2 ∷ Some 2 ∷ Some 2 ∷ Some 2 ∷ Some 2 ∷ []
+without : paragraph_levels says 1 (97 ∷ 40 ∷ 97 ∷ 97 ∷ 41 ∷ []) ≡ Some 2 ∷ Some 2 ∷ Some 2 ∷ Some 2 ∷ Some 2 ∷ []
 without = refl
 
-with_one : paragraph_levels class bracket 1 (97 ∷ 40 ∷ 97 ∷ 100 ∷ 97 ∷ 41 ∷ []) ≡ Some 2 ∷ Some 1 ∷ Some 2 ∷ Some 1 ∷ Some 2 ∷ Some 1 ∷ []
+with_one : paragraph_levels says 1 (97 ∷ 40 ∷ 97 ∷ 100 ∷ 97 ∷ 41 ∷ []) ≡ Some 2 ∷ Some 1 ∷ Some 2 ∷ Some 1 ∷ Some 2 ∷ Some 1 ∷ []
 with_one = refl
 
 refused : one_way L L (R ∷ []) ≡ false
@@ -28,8 +32,8 @@ refused = refl
 two_ways : one_way L R (R ∷ []) ≡ true
 two_ways = refl
 
-around_two_ways : paragraph_levels class bracket 1 (97 ∷ 40 ∷ 97 ∷ 100 ∷ 41 ∷ []) ≡ Some 2 ∷ Some 1 ∷ Some 2 ∷ Some 1 ∷ Some 1 ∷ []
+around_two_ways : paragraph_levels says 1 (97 ∷ 40 ∷ 97 ∷ 100 ∷ 41 ∷ []) ≡ Some 2 ∷ Some 1 ∷ Some 2 ∷ Some 1 ∷ Some 1 ∷ []
 around_two_ways = refl
 
-around_two_ways_more : paragraph_levels class bracket 1 (97 ∷ 40 ∷ 97 ∷ 100 ∷ 100 ∷ 41 ∷ []) ≡ Some 2 ∷ Some 1 ∷ Some 2 ∷ Some 1 ∷ Some 1 ∷ Some 1 ∷ []
+around_two_ways_more : paragraph_levels says 1 (97 ∷ 40 ∷ 97 ∷ 100 ∷ 100 ∷ 41 ∷ []) ≡ Some 2 ∷ Some 1 ∷ Some 2 ∷ Some 1 ∷ Some 1 ∷ Some 1 ∷ []
 around_two_ways_more = refl

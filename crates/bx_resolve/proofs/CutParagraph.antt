@@ -5,6 +5,7 @@ use Rattle.std.proofs.Common.{false, arith, Option, Some, length-append}
 use Rattle.std.specs.List.{list_any}
 use Rattle.std.specs.Prelude.{◌%◌}
 use Rattle.std.proofs.lemmas.List.{map-append, length-map, take-map, drop-map, length-take-le}
+use Rattle.bx_ucd.specs.Data.{Data}
 use Rattle.bx_ucd.specs.declared.class.Class.{Class}
 use Rattle.bx_ucd.specs.declared.class.Class.TheVariants.{L, R, AL, LRI, RLI, FSI}
 use Rattle.bx_ucd.specs.declared.data.Side.{Side}
@@ -58,123 +59,123 @@ found_parts n k old mid =
     map-append found (take n old) (mid ++ drop k old)
     ∙ ap₂ (λ xs ys. xs ++ ys) (sym (take-map found n old)) (map-append found mid (drop k old) ∙ ap (λ ys. map found mid ++ ys) (sym (drop-map found k old)))
 
-module _ (class : ℕ → Class) (bracket : ℕ → Option (Side × ℕ)) (level : ℕ) where
+module _ (says : Data) (level : ℕ) where
   abbrev pub levels : List ℕ → List (Option ℕ)
-  levels chars = paragraph_levels class bracket level chars
+  levels chars = paragraph_levels says level chars
 
   abbrev of_types : List ℕ → List Class → List ℕ
-  of_types chars ts = sequence_levels bracket level (direction level) (direction level) chars ts
+  of_types chars ts = sequence_levels says level (direction level) (direction level) chars ts
 
   abbrev pub IsUnformatted : List ℕ → Type 0
-  IsUnformatted chars = Each is_unformatted (map class chars)
+  IsUnformatted chars = Each is_unformatted (map says.class chars)
 
-  by_types : (chars : List ℕ) (ts : List Class) → IsUnformatted chars → map class chars ≡ ts → levels chars ≡ map found (of_types chars ts)
-  by_types chars ts h e = unformatted_levels class bracket level chars (pass_each is_unformatted (map class chars) h)
+  by_types : (chars : List ℕ) (ts : List Class) → IsUnformatted chars → map says.class chars ≡ ts → levels chars ≡ map found (of_types chars ts)
+  by_types chars ts h e = unformatted_levels says level chars (pass_each is_unformatted (map says.class chars) h)
       ∙ ap (λ zs. map found (of_types chars zs)) e
 
   pub more : (xs ys : List ℕ) → IsUnformatted xs → IsUnformatted ys → IsUnformatted (xs ++ ys)
-  more xs ys h k = subst (Each is_unformatted) (sym (map-append class xs ys)) (each_append is_unformatted (map class xs) (map class ys) h k)
+  more xs ys h k = subst (Each is_unformatted) (sym (map-append says.class xs ys)) (each_append is_unformatted (map says.class xs) (map says.class ys) h k)
 
   pub less_front : (xs ys : List ℕ) → IsUnformatted (xs ++ ys) → IsUnformatted xs
-  less_front xs ys h = each_front is_unformatted (map class xs) (map class ys) (subst (Each is_unformatted) (map-append class xs ys) h)
+  less_front xs ys h = each_front is_unformatted (map says.class xs) (map says.class ys) (subst (Each is_unformatted) (map-append says.class xs ys) h)
 
   pub less_back : (xs ys : List ℕ) → IsUnformatted (xs ++ ys) → IsUnformatted ys
-  less_back xs ys h = each_back is_unformatted (map class xs) (map class ys) (subst (Each is_unformatted) (map-append class xs ys) h)
+  less_back xs ys h = each_back is_unformatted (map says.class xs) (map says.class ys) (subst (Each is_unformatted) (map-append says.class xs ys) h)
 
   classes : (cf : List ℕ) (cx : ℕ) (cm : List ℕ) (cy : ℕ) (cb : List ℕ)
-      → map class (cf ++ (cx ∷ (cm ++ cy ∷ cb))) ≡ map class cf ++ (class cx ∷ (map class cm ++ class cy ∷ map class cb))
-  classes cf cx cm cy cb = map-append class cf (cx ∷ (cm ++ cy ∷ cb)) ∙ ap (λ ts. map class cf ++ (class cx ∷ ts)) (map-append class cm (cy ∷ cb))
+      → map says.class (cf ++ (cx ∷ (cm ++ cy ∷ cb))) ≡ map says.class cf ++ (says.class cx ∷ (map says.class cm ++ says.class cy ∷ map says.class cb))
+  classes cf cx cm cy cb = map-append says.class cf (cx ∷ (cm ++ cy ∷ cb)) ∙ ap (λ ts. map says.class cf ++ (says.class cx ∷ ts)) (map-append says.class cm (cy ∷ cb))
 
   -- an edit between two strong characters
-  pub edit_levels : (cf : List ℕ) (cx : ℕ) (cm cn : List ℕ) (cy : ℕ) (cb : List ℕ) → is_strong (class cx) ≡ true → is_strong (class cy) ≡ true
-      → all_pass is_unformatted (map class (cf ++ (cx ∷ (cm ++ cy ∷ cb)))) ≡ true → all_pass is_unformatted (map class cn) ≡ true
-      → IsCutOff bracket cf (class cx) cm (map class cm) (class cy) cb → IsCutOff bracket cf (class cx) cn (map class cn) (class cy) cb
+  pub edit_levels : (cf : List ℕ) (cx : ℕ) (cm cn : List ℕ) (cy : ℕ) (cb : List ℕ) → is_strong (says.class cx) ≡ true → is_strong (says.class cy) ≡ true
+      → all_pass is_unformatted (map says.class (cf ++ (cx ∷ (cm ++ cy ∷ cb)))) ≡ true → all_pass is_unformatted (map says.class cn) ≡ true
+      → IsCutOff says cf (says.class cx) cm (map says.class cm) (says.class cy) cb → IsCutOff says cf (says.class cx) cn (map says.class cn) (says.class cy) cb
       → levels (cf ++ (cx ∷ (cn ++ cy ∷ cb))) ≡ take (length cf) (levels (cf ++ (cx ∷ (cm ++ cy ∷ cb))))
       ++ (levels (cx ∷ (cn ++ cy ∷ [])) ++ drop (length cf + (length cm + 2)) (levels (cf ++ (cx ∷ (cm ++ cy ∷ cb)))))
   edit_levels cf cx cm cn cy cb x_is y_is old new cut_old cut_new =
       let whole : List ℕ = cf ++ (cx ∷ (cm ++ cy ∷ cb)) in
-      let u : List Class = map class cf in
-      let v : List Class = map class cb in
-      let hw : IsUnformatted whole = each_pass is_unformatted (map class whole) old in
+      let u : List Class = map says.class cf in
+      let v : List Class = map says.class cb in
+      let hw : IsUnformatted whole = each_pass is_unformatted (map says.class whole) old in
       let hf : IsUnformatted cf = less_front cf (cx ∷ (cm ++ cy ∷ cb)) hw in
       let hr : IsUnformatted (cx ∷ (cm ++ cy ∷ cb)) = less_back cf (cx ∷ (cm ++ cy ∷ cb)) hw in
       let hb : IsUnformatted (cy ∷ cb) = less_back cm (cy ∷ cb) hr.1 in
-      let hn : IsUnformatted cn = each_pass is_unformatted (map class cn) new in
-      let x_un : is_unformatted (class cx) ≡ true = strong_unformatted (class cx) x_is in
-      let y_un : is_unformatted (class cy) ≡ true = strong_unformatted (class cy) y_is in
+      let hn : IsUnformatted cn = each_pass is_unformatted (map says.class cn) new in
+      let x_un : is_unformatted (says.class cx) ≡ true = strong_unformatted (says.class cx) x_is in
+      let y_un : is_unformatted (says.class cy) ≡ true = strong_unformatted (says.class cy) y_is in
       let n_whole : IsUnformatted (cf ++ (cx ∷ (cn ++ cy ∷ cb))) = more cf (cx ∷ (cn ++ cy ∷ cb)) hf (x_un, more cn (cy ∷ cb) hn hb) in
       let n_mid : IsUnformatted (cx ∷ (cn ++ cy ∷ [])) = (x_un, more cn (cy ∷ []) hn (y_un, tt)) in
-      let was : levels whole ≡ map found (of_types whole (u ++ (class cx ∷ (map class cm ++ class cy ∷ v)))) =
-      by_types whole (u ++ (class cx ∷ (map class cm ++ class cy ∷ v))) hw (classes cf cx cm cy cb) in
-      let mid : levels (cx ∷ (cn ++ cy ∷ [])) ≡ map found (of_types (cx ∷ (cn ++ cy ∷ [])) (class cx ∷ (map class cn ++ class cy ∷ []))) =
-      by_types (cx ∷ (cn ++ cy ∷ [])) (class cx ∷ (map class cn ++ class cy ∷ [])) n_mid (classes [] cx cn cy []) in
-      let l : length cf ≡ length u = sym (length-map cf class) in
-      let k : length cm ≡ length (map class cm) = sym (length-map cm class) in
-      by_types (cf ++ (cx ∷ (cn ++ cy ∷ cb))) (u ++ (class cx ∷ (map class cn ++ class cy ∷ v))) n_whole (classes cf cx cn cy cb)
-      ∙ ap (map found) (cut_edit bracket level (direction level) (direction level) (class cx) (class cy) x_is y_is cf cx cy cb u v l
-      (sym (length-map cb class)) cm cn (map class cm) (map class cn) k (sym (length-map cn class)) cut_old cut_new)
-      ∙ found_parts (length u) (length u + (length (map class cm) + 2)) (of_types whole (u ++ (class cx ∷ (map class cm ++ class cy ∷ v))))
-      (of_types (cx ∷ (cn ++ cy ∷ [])) (class cx ∷ (map class cn ++ class cy ∷ [])))
-      ∙ ap₂ (λ xs ys. take (length u) xs ++ (ys ++ drop (length u + (length (map class cm) + 2)) xs)) (sym was) (sym mid)
+      let was : levels whole ≡ map found (of_types whole (u ++ (says.class cx ∷ (map says.class cm ++ says.class cy ∷ v)))) =
+      by_types whole (u ++ (says.class cx ∷ (map says.class cm ++ says.class cy ∷ v))) hw (classes cf cx cm cy cb) in
+      let mid : levels (cx ∷ (cn ++ cy ∷ [])) ≡ map found (of_types (cx ∷ (cn ++ cy ∷ [])) (says.class cx ∷ (map says.class cn ++ says.class cy ∷ []))) =
+      by_types (cx ∷ (cn ++ cy ∷ [])) (says.class cx ∷ (map says.class cn ++ says.class cy ∷ [])) n_mid (classes [] cx cn cy []) in
+      let l : length cf ≡ length u = sym (length-map cf says.class) in
+      let k : length cm ≡ length (map says.class cm) = sym (length-map cm says.class) in
+      by_types (cf ++ (cx ∷ (cn ++ cy ∷ cb))) (u ++ (says.class cx ∷ (map says.class cn ++ says.class cy ∷ v))) n_whole (classes cf cx cn cy cb)
+      ∙ ap (map found) (cut_edit says level (direction level) (direction level) (says.class cx) (says.class cy) x_is y_is cf cx cy cb u v l
+      (sym (length-map cb says.class)) cm cn (map says.class cm) (map says.class cn) k (sym (length-map cn says.class)) cut_old cut_new)
+      ∙ found_parts (length u) (length u + (length (map says.class cm) + 2)) (of_types whole (u ++ (says.class cx ∷ (map says.class cm ++ says.class cy ∷ v))))
+      (of_types (cx ∷ (cn ++ cy ∷ [])) (says.class cx ∷ (map says.class cn ++ says.class cy ∷ [])))
+      ∙ ap₂ (λ xs ys. take (length u) xs ++ (ys ++ drop (length u + (length (map says.class cm) + 2)) xs)) (sym was) (sym mid)
       ∙ ap₂ (λ a b. take a (levels whole) ++ (levels (cx ∷ (cn ++ cy ∷ [])) ++ drop (a + (b + 2)) (levels whole))) (sym l) (sym k)
 
   -- an edit before the first strong character
-  pub edit_start_levels : (cm cn : List ℕ) (cy : ℕ) (cb : List ℕ) → is_strong (class cy) ≡ true
-      → all_pass is_unformatted (map class (cm ++ cy ∷ cb)) ≡ true → all_pass is_unformatted (map class cn) ≡ true
-      → list_any (is_listed bracket) cm ≡ false → list_any (is_listed bracket) cn ≡ false
+  pub edit_start_levels : (cm cn : List ℕ) (cy : ℕ) (cb : List ℕ) → is_strong (says.class cy) ≡ true
+      → all_pass is_unformatted (map says.class (cm ++ cy ∷ cb)) ≡ true → all_pass is_unformatted (map says.class cn) ≡ true
+      → list_any (is_listed says) cm ≡ false → list_any (is_listed says) cn ≡ false
       → levels (cn ++ cy ∷ cb) ≡ levels (cn ++ cy ∷ []) ++ drop (length cm + 1) (levels (cm ++ cy ∷ cb))
   edit_start_levels cm cn cy cb y_is old new none_old none_new =
       let d : Class = direction level in
-      let v : List Class = map class cb in
-      let y : Class = class cy in
-      let hw : IsUnformatted (cm ++ cy ∷ cb) = each_pass is_unformatted (map class (cm ++ cy ∷ cb)) old in
+      let v : List Class = map says.class cb in
+      let y : Class = says.class cy in
+      let hw : IsUnformatted (cm ++ cy ∷ cb) = each_pass is_unformatted (map says.class (cm ++ cy ∷ cb)) old in
       let hb : IsUnformatted (cy ∷ cb) = less_back cm (cy ∷ cb) hw in
-      let hn : IsUnformatted cn = each_pass is_unformatted (map class cn) new in
+      let hn : IsUnformatted cn = each_pass is_unformatted (map says.class cn) new in
       let y_un : is_unformatted y ≡ true = strong_unformatted y y_is in
       let back : List ℕ = drop 1 (of_types (cy ∷ cb) (y ∷ v)) in
-      let bl : length cb ≡ length v = sym (length-map cb class) in
-      let front : (cs : List ℕ) → List ℕ = λ cs. of_types (cs ++ cy ∷ []) (map class cs ++ y ∷ []) in
-      let cut : (cs : List ℕ) → list_any (is_listed bracket) cs ≡ false → of_types (cs ++ cy ∷ cb) (map class cs ++ y ∷ v) ≡ front cs ++ back =
-      λ cs none. cut_off_start bracket level d d y (direction_is level) y_is cs cy cb (map class cs) v (sym (length-map cs class)) bl none in
-      let fl : length (front cm) ≡ length cm + 1 = levels_length bracket level d d (cm ++ cy ∷ []) (map class cm ++ y ∷ [])
-      ∙ length-append (map class cm) (y ∷ []) ∙ ap (λ n. n + 1) (length-map cm class) in
+      let bl : length cb ≡ length v = sym (length-map cb says.class) in
+      let front : (cs : List ℕ) → List ℕ = λ cs. of_types (cs ++ cy ∷ []) (map says.class cs ++ y ∷ []) in
+      let cut : (cs : List ℕ) → list_any (is_listed says) cs ≡ false → of_types (cs ++ cy ∷ cb) (map says.class cs ++ y ∷ v) ≡ front cs ++ back =
+      λ cs none. cut_off_start says level d d y (direction_is level) y_is cs cy cb (map says.class cs) v (sym (length-map cs says.class)) bl none in
+      let fl : length (front cm) ≡ length cm + 1 = levels_length says level d d (cm ++ cy ∷ []) (map says.class cm ++ y ∷ [])
+      ∙ length-append (map says.class cm) (y ∷ []) ∙ ap (λ n. n + 1) (length-map cm says.class) in
       let was : levels (cm ++ cy ∷ cb) ≡ map found (front cm ++ back) =
-      by_types (cm ++ cy ∷ cb) (map class cm ++ y ∷ v) hw (map-append class cm (cy ∷ cb)) ∙ ap (map found) (cut cm none_old) in
+      by_types (cm ++ cy ∷ cb) (map says.class cm ++ y ∷ v) hw (map-append says.class cm (cy ∷ cb)) ∙ ap (map found) (cut cm none_old) in
       let mid : levels (cn ++ cy ∷ []) ≡ map found (front cn) =
-      by_types (cn ++ cy ∷ []) (map class cn ++ y ∷ []) (more cn (cy ∷ []) hn (y_un, tt)) (map-append class cn (cy ∷ [])) in
+      by_types (cn ++ cy ∷ []) (map says.class cn ++ y ∷ []) (more cn (cy ∷ []) hn (y_un, tt)) (map-append says.class cn (cy ∷ [])) in
       let rest : drop (length cm + 1) (levels (cm ++ cy ∷ cb)) ≡ map found back =
       ap (drop (length cm + 1)) was ∙ drop-map found (length cm + 1) (front cm ++ back) ∙ ap (map found) (drop_front (front cm) back (length cm + 1) fl) in
-      by_types (cn ++ cy ∷ cb) (map class cn ++ y ∷ v) (more cn (cy ∷ cb) hn hb) (map-append class cn (cy ∷ cb)) ∙ ap (map found) (cut cn none_new)
+      by_types (cn ++ cy ∷ cb) (map says.class cn ++ y ∷ v) (more cn (cy ∷ cb) hn hb) (map-append says.class cn (cy ∷ cb)) ∙ ap (map found) (cut cn none_new)
       ∙ map-append found (front cn) back ∙ ap₂ (λ xs ys. xs ++ ys) (sym mid) (sym rest)
 
   -- an edit after the last one
-  pub edit_end_levels : (cf : List ℕ) (cx : ℕ) (cm cn : List ℕ) → is_strong (class cx) ≡ true
-      → all_pass is_unformatted (map class (cf ++ (cx ∷ cm))) ≡ true → all_pass is_unformatted (map class cn) ≡ true
-      → list_any (is_listed bracket) cm ≡ false → list_any (is_listed bracket) cn ≡ false
+  pub edit_end_levels : (cf : List ℕ) (cx : ℕ) (cm cn : List ℕ) → is_strong (says.class cx) ≡ true
+      → all_pass is_unformatted (map says.class (cf ++ (cx ∷ cm))) ≡ true → all_pass is_unformatted (map says.class cn) ≡ true
+      → list_any (is_listed says) cm ≡ false → list_any (is_listed says) cn ≡ false
       → levels (cf ++ (cx ∷ cn)) ≡ take (length cf) (levels (cf ++ (cx ∷ cm))) ++ levels (cx ∷ cn)
   edit_end_levels cf cx cm cn x_is old new none_old none_new =
       let d : Class = direction level in
-      let u : List Class = map class cf in
-      let x : Class = class cx in
-      let hw : IsUnformatted (cf ++ (cx ∷ cm)) = each_pass is_unformatted (map class (cf ++ (cx ∷ cm))) old in
+      let u : List Class = map says.class cf in
+      let x : Class = says.class cx in
+      let hw : IsUnformatted (cf ++ (cx ∷ cm)) = each_pass is_unformatted (map says.class (cf ++ (cx ∷ cm))) old in
       let hf : IsUnformatted cf = less_front cf (cx ∷ cm) hw in
-      let hn : IsUnformatted cn = each_pass is_unformatted (map class cn) new in
+      let hn : IsUnformatted cn = each_pass is_unformatted (map says.class cn) new in
       let x_un : is_unformatted x ≡ true = strong_unformatted x x_is in
       let n : ℕ = length u in
-      let l : length cf ≡ n = sym (length-map cf class) in
+      let l : length cf ≡ n = sym (length-map cf says.class) in
       let base : List ℕ = of_types (cf ++ cx ∷ []) (u ++ x ∷ []) in
       let front : List ℕ = take n base in
-      let bl : length base ≡ n + 1 = levels_length bracket level d d (cf ++ cx ∷ []) (u ++ x ∷ []) ∙ length-append u (x ∷ []) in
+      let bl : length base ≡ n + 1 = levels_length says level d d (cf ++ cx ∷ []) (u ++ x ∷ []) ∙ length-append u (x ∷ []) in
       let fl : length front ≡ n = length-take-le n base (omega arith) in
-      let back : (cs : List ℕ) → List ℕ = λ cs. of_types (cx ∷ cs) (x ∷ map class cs) in
-      let cut : (cs : List ℕ) → list_any (is_listed bracket) cs ≡ false → of_types (cf ++ (cx ∷ cs)) (u ++ (x ∷ map class cs)) ≡ front ++ back cs =
-      λ cs none. cut_off_end bracket level d d x (direction_is level) x_is cf cx cs u (map class cs) l (sym (length-map cs class)) none in
+      let back : (cs : List ℕ) → List ℕ = λ cs. of_types (cx ∷ cs) (x ∷ map says.class cs) in
+      let cut : (cs : List ℕ) → list_any (is_listed says) cs ≡ false → of_types (cf ++ (cx ∷ cs)) (u ++ (x ∷ map says.class cs)) ≡ front ++ back cs =
+      λ cs none. cut_off_end says level d d x (direction_is level) x_is cf cx cs u (map says.class cs) l (sym (length-map cs says.class)) none in
       let was : levels (cf ++ (cx ∷ cm)) ≡ map found (front ++ back cm) =
-      by_types (cf ++ (cx ∷ cm)) (u ++ (x ∷ map class cm)) hw (map-append class cf (cx ∷ cm)) ∙ ap (map found) (cut cm none_old) in
-      let mid : levels (cx ∷ cn) ≡ map found (back cn) = by_types (cx ∷ cn) (x ∷ map class cn) (x_un, hn) refl in
+      by_types (cf ++ (cx ∷ cm)) (u ++ (x ∷ map says.class cm)) hw (map-append says.class cf (cx ∷ cm)) ∙ ap (map found) (cut cm none_old) in
+      let mid : levels (cx ∷ cn) ≡ map found (back cn) = by_types (cx ∷ cn) (x ∷ map says.class cn) (x_un, hn) refl in
       let rest : take (length cf) (levels (cf ++ (cx ∷ cm))) ≡ map found front =
       ap₂ take l was ∙ take-map found n (front ++ back cm) ∙ ap (map found) (take_front front (back cm) n fl) in
-      by_types (cf ++ (cx ∷ cn)) (u ++ (x ∷ map class cn)) (more cf (cx ∷ cn) hf (x_un, hn)) (map-append class cf (cx ∷ cn)) ∙ ap (map found) (cut cn none_new)
+      by_types (cf ++ (cx ∷ cn)) (u ++ (x ∷ map says.class cn)) (more cf (cx ∷ cn) hf (x_un, hn)) (map-append says.class cf (cx ∷ cn)) ∙ ap (map found) (cut cn none_new)
       ∙ map-append found front (back cn) ∙ ap₂ (λ xs ys. xs ++ ys) (sym rest) (sym mid)
 
 -- the paragraph level follows from its first strong character, for any text after that

@@ -3,6 +3,7 @@ use Rattle.std.proofs.Common.{append_assoc, ◌≡◌, ◌<◌, ◌+◌, ◌-◌
 use Rattle.std.proofs.Common.{ap₂, sym, subst, arith, true, false, Option, length-append, length-drop}
 use Rattle.std.specs.List.{list_any}
 use Rattle.std.proofs.lemmas.List.{at_drop_more, take_more, take-append-drop, length-take-le, map-append}
+use Rattle.bx_ucd.specs.Data.{Data}
 use Rattle.bx_ucd.specs.declared.class.Class.{Class}
 use Rattle.bx_ucd.specs.declared.data.Side.{Side}
 use Rattle.bx_ucd.specs.Class.{is_strong}
@@ -25,14 +26,14 @@ seam a b s cf ma mb cb cx cy e f =
     ap₂ (λ xs ys. xs ++ (s ++ ys)) e f ∙ append_assoc cf (cx ∷ ma) (s ++ (mb ++ cy ∷ cb))
     ∙ ap (λ xs. cf ++ (cx ∷ xs)) (ap (λ ys. ma ++ ys) (sym (append_assoc s mb (cy ∷ cb))) ∙ sym (append_assoc ma (s ++ mb) (cy ∷ cb)))
 
-module _ (class : ℕ → Class) (bracket : ℕ → Option (Side × ℕ)) where
-  each_of : (chars : List ℕ) → HasNoFormatting class chars → Each is_unformatted (map class chars)
-  each_of chars h = each_pass is_unformatted (map class chars) h
+module _ (says : Data) where
+  each_of : (chars : List ℕ) → HasNoFormatting says chars → Each is_unformatted (map says.class chars)
+  each_of chars h = each_pass is_unformatted (map says.class chars) h
 
   module _ (level : ℕ) (a removed inserted b : List ℕ) (i j : ℕ) (in_a : i < length a) (in_b : j < length b)
-      (x_is : is_strong (class (get_or a i 0)) ≡ true) (y_is : is_strong (class (get_or b j 0)) ≡ true)
-      (old : HasNoFormatting class (a ++ (removed ++ b))) (new : HasNoFormatting class inserted)
-      (safe_old : IsSafe class bracket a i removed b j) (safe_new : IsSafe class bracket a i inserted b j) where
+      (x_is : is_strong (says.class (get_or a i 0)) ≡ true) (y_is : is_strong (says.class (get_or b j 0)) ≡ true)
+      (old : HasNoFormatting says (a ++ (removed ++ b))) (new : HasNoFormatting says inserted)
+      (safe_old : IsSafe says a i removed b j) (safe_new : IsSafe says a i inserted b j) where
     piece_is : piece a i inserted b j ≡ get_or a i 0 ∷ (between a i inserted b j ++ get_or b j 0 ∷ [])
     piece_is =
         let cy : ℕ = get_or b j 0 in
@@ -40,12 +41,12 @@ module _ (class : ℕ → Class) (bracket : ℕ → Option (Side × ℕ)) where
         ∙ ap (λ xs. get_or a i 0 ∷ xs) (ap (λ ys. drop (i + 1) a ++ ys) (sym (append_assoc inserted (take j b) (cy ∷ [])))
         ∙ sym (append_assoc (drop (i + 1) a) (inserted ++ take j b) (cy ∷ [])))
 
-    pub edited_levels : paragraph_levels class bracket level (a ++ (inserted ++ b))
-        ≡ take i (paragraph_levels class bracket level (a ++ (removed ++ b)))
-        ++ (paragraph_levels class bracket level (piece a i inserted b j)
-        ++ drop (length a + length removed + (j + 1)) (paragraph_levels class bracket level (a ++ (removed ++ b))))
+    pub edited_levels : paragraph_levels says level (a ++ (inserted ++ b))
+        ≡ take i (paragraph_levels says level (a ++ (removed ++ b)))
+        ++ (paragraph_levels says level (piece a i inserted b j)
+        ++ drop (length a + length removed + (j + 1)) (paragraph_levels says level (a ++ (removed ++ b))))
     edited_levels =
-        let levels : List ℕ → List (Option ℕ) = paragraph_levels class bracket level in
+        let levels : List ℕ → List (Option ℕ) = paragraph_levels says level in
         let cf : List ℕ = take i a in
         let ma : List ℕ = drop (i + 1) a in
         let mb : List ℕ = take j b in
@@ -56,15 +57,15 @@ module _ (class : ℕ → Class) (bracket : ℕ → Option (Side × ℕ)) where
         let sb : b ≡ mb ++ cy ∷ cb = split_at b j in_b in
         let was : a ++ (removed ++ b) ≡ cf ++ (cx ∷ ((ma ++ (removed ++ mb)) ++ cy ∷ cb)) = seam a b removed cf ma mb cb cx cy sa sb in
         let now : a ++ (inserted ++ b) ≡ cf ++ (cx ∷ ((ma ++ (inserted ++ mb)) ++ cy ∷ cb)) = seam a b inserted cf ma mb cb cx cy sa sb in
-        let old_is : HasNoFormatting class (cf ++ (cx ∷ ((ma ++ (removed ++ mb)) ++ cy ∷ cb))) = subst (HasNoFormatting class) was old in
-        let ua : Each is_unformatted (map class a) = less_front class bracket level a (removed ++ b) (each_of (a ++ (removed ++ b)) old) in
-        let ub : Each is_unformatted (map class b) =
-        less_back class bracket level removed b (less_back class bracket level a (removed ++ b) (each_of (a ++ (removed ++ b)) old)) in
-        let um : Each is_unformatted (map class (cx ∷ ma)) =
-        less_back class bracket level cf (cx ∷ ma) (subst (λ xs. Each is_unformatted (map class xs)) sa ua) in
-        let un : Each is_unformatted (map class mb) = less_front class bracket level mb (cy ∷ cb) (subst (λ xs. Each is_unformatted (map class xs)) sb ub) in
-        let new_is : HasNoFormatting class (ma ++ (inserted ++ mb)) = pass_each is_unformatted (map class (ma ++ (inserted ++ mb)))
-        (more class bracket level ma (inserted ++ mb) um.1 (more class bracket level inserted mb (each_of inserted new) un)) in
+        let old_is : HasNoFormatting says (cf ++ (cx ∷ ((ma ++ (removed ++ mb)) ++ cy ∷ cb))) = subst (HasNoFormatting says) was old in
+        let ua : Each is_unformatted (map says.class a) = less_front says level a (removed ++ b) (each_of (a ++ (removed ++ b)) old) in
+        let ub : Each is_unformatted (map says.class b) =
+        less_back says level removed b (less_back says level a (removed ++ b) (each_of (a ++ (removed ++ b)) old)) in
+        let um : Each is_unformatted (map says.class (cx ∷ ma)) =
+        less_back says level cf (cx ∷ ma) (subst (λ xs. Each is_unformatted (map says.class xs)) sa ua) in
+        let un : Each is_unformatted (map says.class mb) = less_front says level mb (cy ∷ cb) (subst (λ xs. Each is_unformatted (map says.class xs)) sb ub) in
+        let new_is : HasNoFormatting says (ma ++ (inserted ++ mb)) = pass_each is_unformatted (map says.class (ma ++ (inserted ++ mb)))
+        (more says level ma (inserted ++ mb) um.1 (more says level inserted mb (each_of inserted new) un)) in
         let lf : length cf ≡ i = length-take-le i a (omega arith) in
         let la : length ma ≡ length a - (i + 1) = length-drop (i + 1) a in
         let lb : length mb ≡ j = length-take-le j b (omega arith) in
@@ -72,152 +73,152 @@ module _ (class : ℕ → Class) (bracket : ℕ → Option (Side × ℕ)) where
         length-append ma (removed ++ mb) ∙ ap (λ n. length ma + n) (length-append removed mb) in
         let n : length cf + (length (ma ++ (removed ++ mb)) + 2) ≡ length a + length removed + (j + 1) = omega arith in
         ap levels now
-        ∙ edit_levels class bracket level cf cx (ma ++ (removed ++ mb)) (ma ++ (inserted ++ mb)) cy cb x_is y_is old_is new_is safe_old safe_new
+        ∙ edit_levels says level cf cx (ma ++ (removed ++ mb)) (ma ++ (inserted ++ mb)) cy cb x_is y_is old_is new_is safe_old safe_new
         ∙ ap₂ (λ k xs. take k (levels xs) ++ (levels (cx ∷ ((ma ++ (inserted ++ mb)) ++ cy ∷ [])) ++ drop (length cf + (length (ma ++ (removed ++ mb)) + 2)) (levels xs)))
         lf (sym was)
         ∙ ap₂ (λ xs k. take i (levels (a ++ (removed ++ b))) ++ (levels xs ++ drop k (levels (a ++ (removed ++ b))))) (sym piece_is) n
 
   -- under a base: the paragraph level stays, too
-  level_stays : (base : Base) (a s t : List ℕ) (i : ℕ) → i < length a → is_strong (class (get_or a i 0)) ≡ true → HasNoFormatting class (take i a)
-      → paragraph_level_under class base (a ++ s) ≡ paragraph_level_under class base (a ++ t)
+  level_stays : (base : Base) (a s t : List ℕ) (i : ℕ) → i < length a → is_strong (says.class (get_or a i 0)) ≡ true → HasNoFormatting says (take i a)
+      → paragraph_level_under says base (a ++ s) ≡ paragraph_level_under says base (a ++ t)
   level_stays base a s t i h x_is u =
       let cf : List ℕ = take i a in
       let cx : ℕ = get_or a i 0 in
       let ma : List ℕ = drop (i + 1) a in
-      let by : (r : List ℕ) → map class (a ++ r) ≡ map class cf ++ (class cx ∷ map class (ma ++ r)) =
-      λ r. ap (λ xs. map class (xs ++ r)) (split_at a i h) ∙ ap (map class) (append_assoc cf (cx ∷ ma) r) ∙ map-append class cf (cx ∷ (ma ++ r)) in
-      ap (base_level base) (by s) ∙ base_stays base (map class cf) (class cx) (map class (ma ++ s)) (map class (ma ++ t)) u x_is
+      let by : (r : List ℕ) → map says.class (a ++ r) ≡ map says.class cf ++ (says.class cx ∷ map says.class (ma ++ r)) =
+      λ r. ap (λ xs. map says.class (xs ++ r)) (split_at a i h) ∙ ap (map says.class) (append_assoc cf (cx ∷ ma) r) ∙ map-append says.class cf (cx ∷ (ma ++ r)) in
+      ap (base_level base) (by s) ∙ base_stays base (map says.class cf) (says.class cx) (map says.class (ma ++ s)) (map says.class (ma ++ t)) u x_is
       ∙ ap (base_level base) (sym (by t))
 
   module _ (base : Base) (a removed inserted b : List ℕ) (i j : ℕ) (in_a : i < length a) (in_b : j < length b)
-      (x_is : is_strong (class (get_or a i 0)) ≡ true) (y_is : is_strong (class (get_or b j 0)) ≡ true)
-      (old : HasNoFormatting class (a ++ (removed ++ b))) (new : HasNoFormatting class inserted)
-      (safe_old : IsSafe class bracket a i removed b j) (safe_new : IsSafe class bracket a i inserted b j) where
-    pub edited_paragraph_level : paragraph_level_under class base (a ++ (inserted ++ b)) ≡ paragraph_level_under class base (a ++ (removed ++ b))
+      (x_is : is_strong (says.class (get_or a i 0)) ≡ true) (y_is : is_strong (says.class (get_or b j 0)) ≡ true)
+      (old : HasNoFormatting says (a ++ (removed ++ b))) (new : HasNoFormatting says inserted)
+      (safe_old : IsSafe says a i removed b j) (safe_new : IsSafe says a i inserted b j) where
+    pub edited_paragraph_level : paragraph_level_under says base (a ++ (inserted ++ b)) ≡ paragraph_level_under says base (a ++ (removed ++ b))
     edited_paragraph_level =
-        let ua : Each is_unformatted (map class a) = less_front class bracket 0 a (removed ++ b) (each_of (a ++ (removed ++ b)) old) in
-        let uf : Each is_unformatted (map class (take i a)) = less_front class bracket 0 (take i a) (drop i a)
-        (subst (λ xs. Each is_unformatted (map class xs)) (sym (take-append-drop i a)) ua) in
-        level_stays base a (inserted ++ b) (removed ++ b) i in_a x_is (pass_each is_unformatted (map class (take i a)) uf)
+        let ua : Each is_unformatted (map says.class a) = less_front says 0 a (removed ++ b) (each_of (a ++ (removed ++ b)) old) in
+        let uf : Each is_unformatted (map says.class (take i a)) = less_front says 0 (take i a) (drop i a)
+        (subst (λ xs. Each is_unformatted (map says.class xs)) (sym (take-append-drop i a)) ua) in
+        level_stays base a (inserted ++ b) (removed ++ b) i in_a x_is (pass_each is_unformatted (map says.class (take i a)) uf)
 
     -- all levels after the edit, from the levels before it and the levels of the piece
-    pub edited_under : levels_under class bracket base (a ++ (inserted ++ b))
-        ≡ take i (levels_under class bracket base (a ++ (removed ++ b)))
-        ++ (paragraph_levels class bracket (paragraph_level_under class base (a ++ (removed ++ b))) (piece a i inserted b j)
-        ++ drop (length a + length removed + (j + 1)) (levels_under class bracket base (a ++ (removed ++ b))))
+    pub edited_under : levels_under says base (a ++ (inserted ++ b))
+        ≡ take i (levels_under says base (a ++ (removed ++ b)))
+        ++ (paragraph_levels says (paragraph_level_under says base (a ++ (removed ++ b))) (piece a i inserted b j)
+        ++ drop (length a + length removed + (j + 1)) (levels_under says base (a ++ (removed ++ b))))
     edited_under =
-        ap (λ l. paragraph_levels class bracket l (a ++ (inserted ++ b))) edited_paragraph_level
-        ∙ edited_levels (paragraph_level_under class base (a ++ (removed ++ b))) a removed inserted b i j in_a in_b x_is y_is old new safe_old safe_new
+        ap (λ l. paragraph_levels says l (a ++ (inserted ++ b))) edited_paragraph_level
+        ∙ edited_levels (paragraph_level_under says base (a ++ (removed ++ b))) a removed inserted b i j in_a in_b x_is y_is old new safe_old safe_new
 
   -- no strong character before the edit, or none after it
   join_back : (s b : List ℕ) (j : ℕ) → j < length b → s ++ b ≡ (s ++ take j b) ++ (get_or b j 0 ∷ drop (j + 1) b)
   join_back s b j h = ap (λ xs. s ++ xs) (split_at b j h) ∙ sym (append_assoc s (take j b) (get_or b j 0 ∷ drop (j + 1) b))
 
-  module _ (base : Base) (removed inserted b : List ℕ) (j : ℕ) (in_b : j < length b) (y_is : is_strong (class (get_or b j 0)) ≡ true)
-      (old : HasNoFormatting class (removed ++ b)) (new : HasNoFormatting class inserted)
-      (safe_old : list_any (is_listed bracket) (removed ++ take j b) ≡ false) (safe_new : list_any (is_listed bracket) (inserted ++ take j b) ≡ false)
-      (same : paragraph_level_under class base (inserted ++ b) ≡ paragraph_level_under class base (removed ++ b)) where
-    pub edited_start_under : levels_under class bracket base (inserted ++ b)
-        ≡ paragraph_levels class bracket (paragraph_level_under class base (removed ++ b)) (inserted ++ take (j + 1) b)
-        ++ drop (length removed + (j + 1)) (levels_under class bracket base (removed ++ b))
+  module _ (base : Base) (removed inserted b : List ℕ) (j : ℕ) (in_b : j < length b) (y_is : is_strong (says.class (get_or b j 0)) ≡ true)
+      (old : HasNoFormatting says (removed ++ b)) (new : HasNoFormatting says inserted)
+      (safe_old : list_any (is_listed says) (removed ++ take j b) ≡ false) (safe_new : list_any (is_listed says) (inserted ++ take j b) ≡ false)
+      (same : paragraph_level_under says base (inserted ++ b) ≡ paragraph_level_under says base (removed ++ b)) where
+    pub edited_start_under : levels_under says base (inserted ++ b)
+        ≡ paragraph_levels says (paragraph_level_under says base (removed ++ b)) (inserted ++ take (j + 1) b)
+        ++ drop (length removed + (j + 1)) (levels_under says base (removed ++ b))
     edited_start_under =
-        let level : ℕ = paragraph_level_under class base (removed ++ b) in
-        let levels : List ℕ → List (Option ℕ) = paragraph_levels class bracket level in
+        let level : ℕ = paragraph_level_under says base (removed ++ b) in
+        let levels : List ℕ → List (Option ℕ) = paragraph_levels says level in
         let mb : List ℕ = take j b in
         let cb : List ℕ = drop (j + 1) b in
         let cy : ℕ = get_or b j 0 in
         let was : removed ++ b ≡ (removed ++ mb) ++ cy ∷ cb = join_back removed b j in_b in
         let now : inserted ++ b ≡ (inserted ++ mb) ++ cy ∷ cb = join_back inserted b j in_b in
-        let ub : Each is_unformatted (map class b) = less_back class bracket 0 removed b (each_of (removed ++ b) old) in
-        let um : Each is_unformatted (map class mb) =
-        less_front class bracket 0 mb (cy ∷ cb) (subst (λ xs. Each is_unformatted (map class xs)) (split_at b j in_b) ub) in
-        let new_is : HasNoFormatting class (inserted ++ mb) =
-        pass_each is_unformatted (map class (inserted ++ mb)) (more class bracket 0 inserted mb (each_of inserted new) um) in
+        let ub : Each is_unformatted (map says.class b) = less_back says 0 removed b (each_of (removed ++ b) old) in
+        let um : Each is_unformatted (map says.class mb) =
+        less_front says 0 mb (cy ∷ cb) (subst (λ xs. Each is_unformatted (map says.class xs)) (split_at b j in_b) ub) in
+        let new_is : HasNoFormatting says (inserted ++ mb) =
+        pass_each is_unformatted (map says.class (inserted ++ mb)) (more says 0 inserted mb (each_of inserted new) um) in
         let lb : length mb ≡ j = length-take-le j b (omega arith) in
         let n : length (removed ++ mb) + 1 ≡ length removed + (j + 1) = ap (λ k. k + 1) (length-append removed mb) ∙ omega arith in
         let p : inserted ++ take (j + 1) b ≡ (inserted ++ mb) ++ cy ∷ [] =
         ap (λ xs. inserted ++ xs) (take_more b j 0 in_b) ∙ sym (append_assoc inserted mb (cy ∷ [])) in
-        ap (λ l. paragraph_levels class bracket l (inserted ++ b)) same ∙ ap levels now
-        ∙ edit_start_levels class bracket level (removed ++ mb) (inserted ++ mb) cy cb y_is (subst (HasNoFormatting class) was old) new_is safe_old safe_new
+        ap (λ l. paragraph_levels says l (inserted ++ b)) same ∙ ap levels now
+        ∙ edit_start_levels says level (removed ++ mb) (inserted ++ mb) cy cb y_is (subst (HasNoFormatting says) was old) new_is safe_old safe_new
         ∙ ap₂ (λ xs k. levels xs ++ drop k (levels ((removed ++ mb) ++ cy ∷ cb))) (sym p) n
         ∙ ap (λ xs. levels (inserted ++ take (j + 1) b) ++ drop (length removed + (j + 1)) (levels xs)) (sym was)
 
   join_front : (a s : List ℕ) (i : ℕ) → i < length a → a ++ s ≡ take i a ++ (get_or a i 0 ∷ (drop (i + 1) a ++ s))
   join_front a s i h = ap (λ xs. xs ++ s) (split_at a i h) ∙ append_assoc (take i a) (get_or a i 0 ∷ drop (i + 1) a) s
 
-  module _ (base : Base) (a removed inserted : List ℕ) (i : ℕ) (in_a : i < length a) (x_is : is_strong (class (get_or a i 0)) ≡ true)
-      (old : HasNoFormatting class (a ++ removed)) (new : HasNoFormatting class inserted)
-      (safe_old : list_any (is_listed bracket) (drop (i + 1) a ++ removed) ≡ false)
-      (safe_new : list_any (is_listed bracket) (drop (i + 1) a ++ inserted) ≡ false) where
-    pub edited_end_under : levels_under class bracket base (a ++ inserted)
-        ≡ take i (levels_under class bracket base (a ++ removed))
-        ++ paragraph_levels class bracket (paragraph_level_under class base (a ++ removed)) (drop i a ++ inserted)
+  module _ (base : Base) (a removed inserted : List ℕ) (i : ℕ) (in_a : i < length a) (x_is : is_strong (says.class (get_or a i 0)) ≡ true)
+      (old : HasNoFormatting says (a ++ removed)) (new : HasNoFormatting says inserted)
+      (safe_old : list_any (is_listed says) (drop (i + 1) a ++ removed) ≡ false)
+      (safe_new : list_any (is_listed says) (drop (i + 1) a ++ inserted) ≡ false) where
+    pub edited_end_under : levels_under says base (a ++ inserted)
+        ≡ take i (levels_under says base (a ++ removed))
+        ++ paragraph_levels says (paragraph_level_under says base (a ++ removed)) (drop i a ++ inserted)
     edited_end_under =
-        let level : ℕ = paragraph_level_under class base (a ++ removed) in
-        let levels : List ℕ → List (Option ℕ) = paragraph_levels class bracket level in
+        let level : ℕ = paragraph_level_under says base (a ++ removed) in
+        let levels : List ℕ → List (Option ℕ) = paragraph_levels says level in
         let cf : List ℕ = take i a in
         let ma : List ℕ = drop (i + 1) a in
         let cx : ℕ = get_or a i 0 in
         let was : a ++ removed ≡ cf ++ (cx ∷ (ma ++ removed)) = join_front a removed i in_a in
         let now : a ++ inserted ≡ cf ++ (cx ∷ (ma ++ inserted)) = join_front a inserted i in_a in
-        let ua : Each is_unformatted (map class a) = less_front class bracket 0 a removed (each_of (a ++ removed) old) in
-        let us : Each is_unformatted (map class (cf ++ (cx ∷ ma))) = subst (λ xs. Each is_unformatted (map class xs)) (split_at a i in_a) ua in
-        let uf : Each is_unformatted (map class cf) = less_front class bracket 0 cf (cx ∷ ma) us in
-        let um : Each is_unformatted (map class (cx ∷ ma)) = less_back class bracket 0 cf (cx ∷ ma) us in
-        let new_is : HasNoFormatting class (ma ++ inserted) =
-        pass_each is_unformatted (map class (ma ++ inserted)) (more class bracket 0 ma inserted um.1 (each_of inserted new)) in
+        let ua : Each is_unformatted (map says.class a) = less_front says 0 a removed (each_of (a ++ removed) old) in
+        let us : Each is_unformatted (map says.class (cf ++ (cx ∷ ma))) = subst (λ xs. Each is_unformatted (map says.class xs)) (split_at a i in_a) ua in
+        let uf : Each is_unformatted (map says.class cf) = less_front says 0 cf (cx ∷ ma) us in
+        let um : Each is_unformatted (map says.class (cx ∷ ma)) = less_back says 0 cf (cx ∷ ma) us in
+        let new_is : HasNoFormatting says (ma ++ inserted) =
+        pass_each is_unformatted (map says.class (ma ++ inserted)) (more says 0 ma inserted um.1 (each_of inserted new)) in
         let lf : length cf ≡ i = length-take-le i a (omega arith) in
-        ap (λ l. paragraph_levels class bracket l (a ++ inserted))
-        (level_stays base a inserted removed i in_a x_is (pass_each is_unformatted (map class cf) uf))
+        ap (λ l. paragraph_levels says l (a ++ inserted))
+        (level_stays base a inserted removed i in_a x_is (pass_each is_unformatted (map says.class cf) uf))
         ∙ ap levels now
-        ∙ edit_end_levels class bracket level cf cx (ma ++ removed) (ma ++ inserted) x_is (subst (HasNoFormatting class) was old) new_is safe_old safe_new
+        ∙ edit_end_levels says level cf cx (ma ++ removed) (ma ++ inserted) x_is (subst (HasNoFormatting says) was old) new_is safe_old safe_new
         ∙ ap₂ (λ k xs. take k (levels xs) ++ levels (cx ∷ (ma ++ inserted))) lf (sym was)
         ∙ ap (λ xs. take i (levels (a ++ removed)) ++ levels (xs ++ inserted)) (sym (at_drop_more (λ xs. xs) a i 0 in_a))
 
   -- the same with an unchanged text before the edit, or after it
-  module _ (base : Base) (a removed inserted b : List ℕ) (j : ℕ) (in_b : j < length b) (y_is : is_strong (class (get_or b j 0)) ≡ true)
-      (old : HasNoFormatting class (a ++ (removed ++ b))) (new : HasNoFormatting class inserted)
-      (safe_old : list_any (is_listed bracket) (a ++ (removed ++ take j b)) ≡ false)
-      (safe_new : list_any (is_listed bracket) (a ++ (inserted ++ take j b)) ≡ false)
-      (same : paragraph_level_under class base (a ++ (inserted ++ b)) ≡ paragraph_level_under class base (a ++ (removed ++ b))) where
-    pub edited_from_start : levels_under class bracket base (a ++ (inserted ++ b))
-        ≡ paragraph_levels class bracket (paragraph_level_under class base (a ++ (removed ++ b))) (start_piece a inserted b j)
-        ++ drop (length a + length removed + (j + 1)) (levels_under class bracket base (a ++ (removed ++ b)))
+  module _ (base : Base) (a removed inserted b : List ℕ) (j : ℕ) (in_b : j < length b) (y_is : is_strong (says.class (get_or b j 0)) ≡ true)
+      (old : HasNoFormatting says (a ++ (removed ++ b))) (new : HasNoFormatting says inserted)
+      (safe_old : list_any (is_listed says) (a ++ (removed ++ take j b)) ≡ false)
+      (safe_new : list_any (is_listed says) (a ++ (inserted ++ take j b)) ≡ false)
+      (same : paragraph_level_under says base (a ++ (inserted ++ b)) ≡ paragraph_level_under says base (a ++ (removed ++ b))) where
+    pub edited_from_start : levels_under says base (a ++ (inserted ++ b))
+        ≡ paragraph_levels says (paragraph_level_under says base (a ++ (removed ++ b))) (start_piece a inserted b j)
+        ++ drop (length a + length removed + (j + 1)) (levels_under says base (a ++ (removed ++ b)))
     edited_from_start =
         let was : (a ++ removed) ++ b ≡ a ++ (removed ++ b) = append_assoc a removed b in
         let now : (a ++ inserted) ++ b ≡ a ++ (inserted ++ b) = append_assoc a inserted b in
-        let of_a : Each is_unformatted (map class a) = less_front class bracket 0 a (removed ++ b) (each_of (a ++ (removed ++ b)) old) in
-        let of_new : HasNoFormatting class (a ++ inserted) =
-        pass_each is_unformatted (map class (a ++ inserted)) (more class bracket 0 a inserted of_a (each_of inserted new)) in
-        let none : (s : List ℕ) → list_any (is_listed bracket) (a ++ (s ++ take j b)) ≡ false
-        → list_any (is_listed bracket) ((a ++ s) ++ take j b) ≡ false = λ s e. ap (list_any (is_listed bracket)) (append_assoc a s (take j b)) ∙ e in
-        let level : List ℕ → ℕ = λ xs. paragraph_level_under class base xs in
-        let levels : List ℕ → List (Option ℕ) = λ xs. levels_under class bracket base xs in
+        let of_a : Each is_unformatted (map says.class a) = less_front says 0 a (removed ++ b) (each_of (a ++ (removed ++ b)) old) in
+        let of_new : HasNoFormatting says (a ++ inserted) =
+        pass_each is_unformatted (map says.class (a ++ inserted)) (more says 0 a inserted of_a (each_of inserted new)) in
+        let none : (s : List ℕ) → list_any (is_listed says) (a ++ (s ++ take j b)) ≡ false
+        → list_any (is_listed says) ((a ++ s) ++ take j b) ≡ false = λ s e. ap (list_any (is_listed says)) (append_assoc a s (take j b)) ∙ e in
+        let level : List ℕ → ℕ = λ xs. paragraph_level_under says base xs in
+        let levels : List ℕ → List (Option ℕ) = λ xs. levels_under says base xs in
         ap levels (sym now)
-        ∙ edited_start_under base (a ++ removed) (a ++ inserted) b j in_b y_is (subst (HasNoFormatting class) (sym was) old) of_new
+        ∙ edited_start_under base (a ++ removed) (a ++ inserted) b j in_b y_is (subst (HasNoFormatting says) (sym was) old) of_new
         (none removed safe_old) (none inserted safe_new) (ap level now ∙ same ∙ ap level (sym was))
-        ∙ ap₂ (λ xs cs. paragraph_levels class bracket (level xs) cs ++ drop (length (a ++ removed) + (j + 1)) (levels xs)) was
+        ∙ ap₂ (λ xs cs. paragraph_levels says (level xs) cs ++ drop (length (a ++ removed) + (j + 1)) (levels xs)) was
         (append_assoc a inserted (take (j + 1) b))
-        ∙ ap (λ n. paragraph_levels class bracket (level (a ++ (removed ++ b))) (start_piece a inserted b j)
+        ∙ ap (λ n. paragraph_levels says (level (a ++ (removed ++ b))) (start_piece a inserted b j)
         ++ drop (n + (j + 1)) (levels (a ++ (removed ++ b)))) (length-append a removed)
 
-  module _ (base : Base) (a removed inserted b : List ℕ) (i : ℕ) (in_a : i < length a) (x_is : is_strong (class (get_or a i 0)) ≡ true)
-      (old : HasNoFormatting class (a ++ (removed ++ b))) (new : HasNoFormatting class inserted)
-      (safe_old : list_any (is_listed bracket) (drop (i + 1) a ++ (removed ++ b)) ≡ false)
-      (safe_new : list_any (is_listed bracket) (drop (i + 1) a ++ (inserted ++ b)) ≡ false) where
-    pub level_to_end : paragraph_level_under class base (a ++ (inserted ++ b)) ≡ paragraph_level_under class base (a ++ (removed ++ b))
+  module _ (base : Base) (a removed inserted b : List ℕ) (i : ℕ) (in_a : i < length a) (x_is : is_strong (says.class (get_or a i 0)) ≡ true)
+      (old : HasNoFormatting says (a ++ (removed ++ b))) (new : HasNoFormatting says inserted)
+      (safe_old : list_any (is_listed says) (drop (i + 1) a ++ (removed ++ b)) ≡ false)
+      (safe_new : list_any (is_listed says) (drop (i + 1) a ++ (inserted ++ b)) ≡ false) where
+    pub level_to_end : paragraph_level_under says base (a ++ (inserted ++ b)) ≡ paragraph_level_under says base (a ++ (removed ++ b))
     level_to_end =
-        let of_a : Each is_unformatted (map class a) = less_front class bracket 0 a (removed ++ b) (each_of (a ++ (removed ++ b)) old) in
-        let of_front : Each is_unformatted (map class (take i a)) = less_front class bracket 0 (take i a) (drop i a)
-        (subst (λ xs. Each is_unformatted (map class xs)) (sym (take-append-drop i a)) of_a) in
-        level_stays base a (inserted ++ b) (removed ++ b) i in_a x_is (pass_each is_unformatted (map class (take i a)) of_front)
+        let of_a : Each is_unformatted (map says.class a) = less_front says 0 a (removed ++ b) (each_of (a ++ (removed ++ b)) old) in
+        let of_front : Each is_unformatted (map says.class (take i a)) = less_front says 0 (take i a) (drop i a)
+        (subst (λ xs. Each is_unformatted (map says.class xs)) (sym (take-append-drop i a)) of_a) in
+        level_stays base a (inserted ++ b) (removed ++ b) i in_a x_is (pass_each is_unformatted (map says.class (take i a)) of_front)
 
-    pub edited_to_end : levels_under class bracket base (a ++ (inserted ++ b))
-        ≡ take i (levels_under class bracket base (a ++ (removed ++ b)))
-        ++ paragraph_levels class bracket (paragraph_level_under class base (a ++ (removed ++ b))) (end_piece a i inserted b)
+    pub edited_to_end : levels_under says base (a ++ (inserted ++ b))
+        ≡ take i (levels_under says base (a ++ (removed ++ b)))
+        ++ paragraph_levels says (paragraph_level_under says base (a ++ (removed ++ b))) (end_piece a i inserted b)
     edited_to_end =
-        let of_b : Each is_unformatted (map class b) = less_back class bracket 0 removed b
-        (less_back class bracket 0 a (removed ++ b) (each_of (a ++ (removed ++ b)) old)) in
-        let of_new : HasNoFormatting class (inserted ++ b) =
-        pass_each is_unformatted (map class (inserted ++ b)) (more class bracket 0 inserted b (each_of inserted new) of_b) in
+        let of_b : Each is_unformatted (map says.class b) = less_back says 0 removed b
+        (less_back says 0 a (removed ++ b) (each_of (a ++ (removed ++ b)) old)) in
+        let of_new : HasNoFormatting says (inserted ++ b) =
+        pass_each is_unformatted (map says.class (inserted ++ b)) (more says 0 inserted b (each_of inserted new) of_b) in
         edited_end_under base a (removed ++ b) (inserted ++ b) i in_a x_is old of_new safe_old safe_new

@@ -3,10 +3,10 @@ use Rattle.std.proofs.Common.{◌≡◌, ℕ, List, [], ◌∷◌, ◌++◌, ref
 use Rattle.bx_explicit.specs.declared.base.Base.{Base}
 use Rattle.bx_explicit.specs.declared.base.Base.TheVariants.{Auto, Ltr, Rtl}
 use Rattle.bx_resolve.specs.Levels.{levels_under, paragraph_level_under}
-use Rattle.bx_resolve.specs.TestTables.{class, bracket}
+use Rattle.bx_resolve.specs.TestTables.{small}
 
 abbrev levels : Base → List ℕ → List (Option ℕ)
-levels base chars = levels_under class bracket base chars
+levels base chars = levels_under small base chars
 
 abbrev all : List ℕ → List (Option ℕ)
 all chars = levels Auto chars
@@ -89,7 +89,7 @@ isolates_nest_from_the_right = refl
 no_characters : all [] ≡ []
 no_characters = refl
 
-no_characters_level : paragraph_level_under class Auto [] ≡ 0
+no_characters_level : paragraph_level_under small Auto [] ≡ 0
 no_characters_level = refl
 
 -- an Arabic number before a blank counts as R

@@ -1,5 +1,6 @@
 -- The levels updated after an edit are the levels of the new text.
 use Rattle.std.proofs.Common.{◌≡◌, ◌∙◌, ℕ, List, ◌++◌, take, drop, ap, ap₂, sym, Option}
+use Rattle.bx_ucd.specs.Data.{Data}
 use Rattle.bx_ucd.specs.declared.class.Class.{Class}
 use Rattle.bx_ucd.specs.declared.data.Side.{Side}
 use Rattle.bx_resolve.specs.declared.paragraph.Levels.{Levels}
@@ -8,48 +9,48 @@ use Rattle.bx_resolve.specs.Edited.{FollowsBetween, FollowsFromStart, FollowsToE
 use Rattle.bx_resolve.specs.Edited.{old_index, old_text}
 use Rattle.bx_resolve.proofs.EditedLevels.{edited_paragraph_level, edited_under, edited_from_start, level_to_end, edited_to_end}
 
-module _ (class : ℕ → Class) (bracket : ℕ → Option (Side × ℕ)) (chars : List ℕ) (was now : Levels) (level : now.paragraph ≡ was.paragraph) where
+module _ (says : Data) (chars : List ℕ) (was now : Levels) (level : now.paragraph ≡ was.paragraph) where
   alone : List (Option ℕ)
-  alone = paragraph_levels class bracket was.paragraph chars
+  alone = paragraph_levels says was.paragraph chars
 
   pub follows_between : (first last : ℕ)
-      → now.each.items ≡ take first was.each.items ++ (paragraph_levels class bracket was.paragraph chars ++ drop last was.each.items)
-      → FollowsBetween class bracket chars first last was now
+      → now.each.items ≡ take first was.each.items ++ (paragraph_levels says was.paragraph chars ++ drop last was.each.items)
+      → FollowsBetween says chars first last was now
   follows_between first last n base e j h c l o =
-      let old : List (Option ℕ) = levels_under class bracket base (old_text e) in
+      let old : List (Option ℕ) = levels_under says base (old_text e) in
       record {
-        paragraph_is = level ∙ o.paragraph_is ∙ sym (edited_paragraph_level class bracket base e.before e.removed e.inserted e.behind first j
+        paragraph_is = level ∙ o.paragraph_is ∙ sym (edited_paragraph_level says base e.before e.removed e.inserted e.behind first j
             h.in_before h.in_behind h.strong_before h.strong_behind h.old_unformatted h.new_unformatted h.old_safe h.new_safe);
         each_is = n
-            ∙ ap₂ (λ ls k. take first ls ++ (paragraph_levels class bracket was.paragraph chars ++ drop k ls)) o.each_is l
-            ∙ ap₂ (λ p cs. take first old ++ (paragraph_levels class bracket p cs ++ drop (old_index e j) old)) o.paragraph_is c
-            ∙ sym (edited_under class bracket base e.before e.removed e.inserted e.behind first j
+            ∙ ap₂ (λ ls k. take first ls ++ (paragraph_levels says was.paragraph chars ++ drop k ls)) o.each_is l
+            ∙ ap₂ (λ p cs. take first old ++ (paragraph_levels says p cs ++ drop (old_index e j) old)) o.paragraph_is c
+            ∙ sym (edited_under says base e.before e.removed e.inserted e.behind first j
             h.in_before h.in_behind h.strong_before h.strong_behind h.old_unformatted h.new_unformatted h.old_safe h.new_safe);
       }
 
-  pub follows_from_start : (last : ℕ) → now.each.items ≡ paragraph_levels class bracket was.paragraph chars ++ drop last was.each.items
-      → FollowsFromStart class bracket chars last was now
+  pub follows_from_start : (last : ℕ) → now.each.items ≡ paragraph_levels says was.paragraph chars ++ drop last was.each.items
+      → FollowsFromStart says chars last was now
   follows_from_start last n base e j h c l o =
-      let old : List (Option ℕ) = levels_under class bracket base (old_text e) in
+      let old : List (Option ℕ) = levels_under says base (old_text e) in
       record {
         paragraph_is = level ∙ o.paragraph_is ∙ sym h.same_level;
         each_is = n
-            ∙ ap₂ (λ ls k. paragraph_levels class bracket was.paragraph chars ++ drop k ls) o.each_is l
-            ∙ ap₂ (λ p cs. paragraph_levels class bracket p cs ++ drop (old_index e j) old) o.paragraph_is c
-            ∙ sym (edited_from_start class bracket base e.before e.removed e.inserted e.behind j
+            ∙ ap₂ (λ ls k. paragraph_levels says was.paragraph chars ++ drop k ls) o.each_is l
+            ∙ ap₂ (λ p cs. paragraph_levels says p cs ++ drop (old_index e j) old) o.paragraph_is c
+            ∙ sym (edited_from_start says base e.before e.removed e.inserted e.behind j
             h.in_behind h.strong_behind h.old_unformatted h.new_unformatted h.old_bare h.new_bare h.same_level);
       }
 
-  pub follows_to_end : (first : ℕ) → now.each.items ≡ take first was.each.items ++ paragraph_levels class bracket was.paragraph chars
-      → FollowsToEnd class bracket chars first was now
+  pub follows_to_end : (first : ℕ) → now.each.items ≡ take first was.each.items ++ paragraph_levels says was.paragraph chars
+      → FollowsToEnd says chars first was now
   follows_to_end first n base e h c o =
-      let old : List (Option ℕ) = levels_under class bracket base (old_text e) in
+      let old : List (Option ℕ) = levels_under says base (old_text e) in
       record {
-        paragraph_is = level ∙ o.paragraph_is ∙ sym (level_to_end class bracket base e.before e.removed e.inserted e.behind first
+        paragraph_is = level ∙ o.paragraph_is ∙ sym (level_to_end says base e.before e.removed e.inserted e.behind first
             h.in_before h.strong_before h.old_unformatted h.new_unformatted h.old_bare h.new_bare);
         each_is = n
-            ∙ ap (λ ls. take first ls ++ paragraph_levels class bracket was.paragraph chars) o.each_is
-            ∙ ap₂ (λ p cs. take first old ++ paragraph_levels class bracket p cs) o.paragraph_is c
-            ∙ sym (edited_to_end class bracket base e.before e.removed e.inserted e.behind first
+            ∙ ap (λ ls. take first ls ++ paragraph_levels says was.paragraph chars) o.each_is
+            ∙ ap₂ (λ p cs. take first old ++ paragraph_levels says p cs) o.paragraph_is c
+            ∙ sym (edited_to_end says base e.before e.removed e.inserted e.behind first
             h.in_before h.strong_before h.old_unformatted h.new_unformatted h.old_bare h.new_bare);
       }

@@ -8,6 +8,7 @@ use Rattle.std.proofs.lemmas.Bool.Decides.{nat_tests}
 use Rattle.std.proofs.lemmas.List.{length-map, map-set}
 use Rattle.std.proofs.lemmas.List.Elements.{All-cons, All-nil, All-head, All-tail, All-replicate, All-set}
 use Rattle.std.proofs.lemmas.List.Sorted.{IsPermutation-sym, list_any-IsPermutation}
+use Rattle.bx_ucd.specs.Data.{Data}
 use Rattle.bx_ucd.specs.declared.class.Class.{Class}
 use Rattle.bx_ucd.specs.declared.class.Class.TheVariants.{L, R, AL, EN, ES, ET, AN, CS, NSM, BN, B, S, WS, ON, LRE, LRO, RLE, RLO, PDF, LRI, RLI, FSI, PDI}
 use Rattle.bx_ucd.specs.declared.data.Side.{Side}
@@ -176,42 +177,42 @@ with_low (p ∷ ps) [] each a b = b
 with_low (p ∷ ps) (l ∷ ls) each a b = with_low ps ls (set each p (Some l)) (All-tail (λ n. n ≤ max_level) l ls a)
     (All-set IsLowLevel each p (Some l) (All-head (λ n. n ≤ max_level) l ls a) b)
 
-module _ (bracket : ℕ → Option (Side × ℕ)) (chars : List ℕ) (kept : List (Option Kept)) where
+module _ (says : Data) (chars : List ℕ) (kept : List (Option Kept)) where
   sequences_raise : (ss : List RunSequence) (each : List (Option ℕ))
-      → map is_some (with_sequences bracket chars kept ss each) ≡ raised (all_indexes ss) (map is_some each)
+      → map is_some (with_sequences says chars kept ss each) ≡ raised (all_indexes ss) (map is_some each)
   sequences_raise [] each = refl
   sequences_raise (s ∷ ss) each =
-      let ls : List ℕ = levels_in bracket chars kept s in
-      let l : length ls ≡ length s.indexes = levels_length bracket s.level s.sos s.eos (chars_at chars s.indexes) (types_at kept s.indexes)
+      let ls : List ℕ = levels_in says chars kept s in
+      let l : length ls ≡ length s.indexes = levels_length says s.level s.sos s.eos (chars_at chars s.indexes) (types_at kept s.indexes)
       ∙ length-map s.indexes _ in
       sequences_raise ss (with_levels s.indexes ls each) ∙ ap (raised (all_indexes ss)) (levels_raise s.indexes ls each l)
       ∙ sym (raised_append s.indexes (all_indexes ss) (map is_some each))
 
   sequences_stay_low : (ss : List RunSequence) (each : List (Option ℕ)) → All (λ (s : RunSequence). s.level ≤ max_depth) ss → All IsLowLevel each
-      → All IsLowLevel (with_sequences bracket chars kept ss each)
+      → All IsLowLevel (with_sequences says chars kept ss each)
   sequences_stay_low [] each a b = b
   sequences_stay_low (s ∷ ss) each a b =
       let lows : RunSequence → Type 0 = λ (u : RunSequence). u.level ≤ max_depth in
-      sequences_stay_low ss (with_levels s.indexes (levels_in bracket chars kept s) each) (All-tail lows s ss a)
-      (with_low s.indexes (levels_in bracket chars kept s) each (all_low s.level _ (All-head lows s ss a)) b)
+      sequences_stay_low ss (with_levels s.indexes (levels_in says chars kept s) each) (All-tail lows s ss a)
+      (with_low s.indexes (levels_in says chars kept s) each (all_low s.level _ (All-head lows s ss a)) b)
 
-module _ (class : ℕ → Class) (bracket : ℕ → Option (Side × ℕ)) where
-  paragraph_kept : (level : ℕ) (chars : List ℕ) → level ≤ 1 → map is_some (paragraph_levels class bracket level chars) ≡ map is_kept (map class chars)
+module _ (says : Data) where
+  paragraph_kept : (level : ℕ) (chars : List ℕ) → level ≤ 1 → map is_some (paragraph_levels says level chars) ≡ map is_kept (map says.class chars)
   paragraph_kept level chars low =
-      let cs : List Class = map class chars in
+      let cs : List Class = map says.class chars in
       let kept : List (Option Kept) = explicit_levels level cs in
       let all : List ℕ = all_indexes (sequences level cs kept) in
-      let n : length chars ≡ length kept = sym (explicit_length (start level) cs ∙ length-map chars class) in
-      sequences_raise bracket chars kept (sequences level cs kept) (replicate (length chars) None)
+      let n : length chars ≡ length kept = sym (explicit_length (start level) cs ∙ length-map chars says.class) in
+      sequences_raise says chars kept (sequences level cs kept) (replicate (length chars) None)
       ∙ ap (raised all) (none_found (length chars) ∙ ap (λ k. replicate k false) n) ∙ raised_is all (replicate (length kept) false)
       ∙ flagged_same 0 all (kept_indexes 0 kept) (replicate (length kept) false) (IsPermutation-sym (kept_indexes 0 kept) all (each_once level cs low))
       ∙ flagged_kept 0 kept ∙ kept_each (start level) cs
 
-  paragraph_low : (level : ℕ) (chars : List ℕ) → level ≤ 1 → All IsLowLevel (paragraph_levels class bracket level chars)
+  paragraph_low : (level : ℕ) (chars : List ℕ) → level ≤ 1 → All IsLowLevel (paragraph_levels says level chars)
   paragraph_low level chars low =
-      let cs : List Class = map class chars in
+      let cs : List Class = map says.class chars in
       let kept : List (Option Kept) = explicit_levels level cs in
-      sequences_stay_low bracket chars kept (sequences level cs kept) (replicate (length chars) None)
+      sequences_stay_low says chars kept (sequences level cs kept) (replicate (length chars) None)
       (sequences_low level cs kept (levels_low level cs (omega arith))) (All-replicate IsLowLevel (length chars) None tt)
 
 strong_low : (c : Class) → level_of_strong c ≤ 1
@@ -228,12 +229,12 @@ base_low Auto cs = found_low (first_strong 0 cs)
 base_low Ltr cs = omega arith
 base_low Rtl cs = omega arith
 
-pub levels_kept : (class : ℕ → Class) (bracket : ℕ → Option (Side × ℕ)) (base : Base) (chars : List ℕ) (each : List (Option ℕ))
-    → each ≡ levels_under class bracket base chars → map is_some each ≡ map is_kept (map class chars)
-levels_kept class bracket base chars each e = ap (map is_some) e
-    ∙ paragraph_kept class bracket (base_level base (map class chars)) chars (base_low base (map class chars))
+pub levels_kept : (says : Data) (base : Base) (chars : List ℕ) (each : List (Option ℕ))
+    → each ≡ levels_under says base chars → map is_some each ≡ map is_kept (map says.class chars)
+levels_kept says base chars each e = ap (map is_some) e
+    ∙ paragraph_kept says (base_level base (map says.class chars)) chars (base_low base (map says.class chars))
 
-pub levels_stay_low : (class : ℕ → Class) (bracket : ℕ → Option (Side × ℕ)) (base : Base) (chars : List ℕ) (each : List (Option ℕ))
-    → each ≡ levels_under class bracket base chars → All (λ l. IfSome l (λ n. n ≤ max_level)) each
-levels_stay_low class bracket base chars each e = subst (All IsLowLevel) (sym e)
-    (paragraph_low class bracket (base_level base (map class chars)) chars (base_low base (map class chars)))
+pub levels_stay_low : (says : Data) (base : Base) (chars : List ℕ) (each : List (Option ℕ))
+    → each ≡ levels_under says base chars → All (λ l. IfSome l (λ n. n ≤ max_level)) each
+levels_stay_low says base chars each e = subst (All IsLowLevel) (sym e)
+    (paragraph_low says (base_level base (map says.class chars)) chars (base_low base (map says.class chars)))

@@ -3,6 +3,7 @@ use Rattle.std.proofs.Common.{◌≡◌, ◌∙◌, ℕ, zero, suc, List, [], �
 use Rattle.std.specs.Prelude.{All}
 use Rattle.std.specs.List.{list_any}
 use Rattle.std.proofs.lemmas.List.Elements.{All-head, All-tail}
+use Rattle.bx_ucd.specs.Data.{Data}
 use Rattle.bx_ucd.specs.declared.class.Class.{Class}
 use Rattle.bx_ucd.specs.declared.class.Class.TheVariants.{L}
 use Rattle.bx_ucd.specs.declared.data.Side.{Side}
@@ -48,14 +49,14 @@ no_neutral : (n : ℕ) → list_any is_on (lefts n) ≡ false
 no_neutral zero = refl
 no_neutral (suc n) = no_neutral n
 
-sequence_lefts : (bracket : ℕ → Option (Side × ℕ)) (level : ℕ) (sos eos : Class) (chars : List ℕ) (n : ℕ)
-    → sequence_levels bracket level sos eos chars (lefts n) ≡ replicate n (implicit_at level L)
-sequence_lefts bracket level sos eos chars n =
+sequence_lefts : (says : Data) (level : ℕ) (sos eos : Class) (chars : List ℕ) (n : ℕ)
+    → sequence_levels says level sos eos chars (lefts n) ≡ replicate n (implicit_at level L)
+sequence_lefts says level sos eos chars n =
     let d : Class = direction level in
     let was : List Bool = map is_nsm (lefts n) in
     let rest : List Class → List ℕ = λ ts. implicit level (n2 d (n1 sos eos ts)) in
-    ap (λ ts. rest (resolve_pairs d sos was (pairs bracket chars ts) ts)) (weak_lefts sos n)
-    ∙ ap (λ ps. rest (resolve_pairs d sos was ps (lefts n))) (no_pairs bracket chars (lefts n) (no_neutral n))
+    ap (λ ts. rest (resolve_pairs d sos was (pairs says chars ts) ts)) (weak_lefts sos n)
+    ∙ ap (λ ps. rest (resolve_pairs d sos was ps (lefts n))) (no_pairs says chars (lefts n) (no_neutral n))
     ∙ ap (λ ts. implicit level (n2 d ts)) (lefts_by_rule (n1_at sos eos) (λ b a. refl) [] n)
     ∙ ap (implicit level) (map_lefts (n2_at d) n)
     ∙ map_lefts (implicit_at level) n
@@ -68,26 +69,26 @@ lefts_unformatted : (n : ℕ) → all_pass is_unformatted (lefts n) ≡ true
 lefts_unformatted zero = refl
 lefts_unformatted (suc n) = lefts_unformatted n
 
-classes_are : (class : ℕ → Class) (chars : List ℕ) → All (λ c. class c ≡ L) chars → map class chars ≡ lefts (length chars)
-classes_are class [] h = refl
-classes_are class (c ∷ cs) h = ap (λ t. t ∷ map class cs) (All-head (λ x. class x ≡ L) c cs h)
-    ∙ ap (λ ts. L ∷ ts) (classes_are class cs (All-tail (λ x. class x ≡ L) c cs h))
+classes_are : (says : Data) (chars : List ℕ) → All (λ c. says.class c ≡ L) chars → map says.class chars ≡ lefts (length chars)
+classes_are says [] h = refl
+classes_are says (c ∷ cs) h = ap (λ t. t ∷ map says.class cs) (All-head (λ x. says.class x ≡ L) c cs h)
+    ∙ ap (λ ts. L ∷ ts) (classes_are says cs (All-tail (λ x. says.class x ≡ L) c cs h))
 
-paragraph_lefts : (class : ℕ → Class) (bracket : ℕ → Option (Side × ℕ)) (paragraph : ℕ) (chars : List ℕ) → All (λ c. class c ≡ L) chars
-    → paragraph_levels class bracket paragraph chars ≡ replicate (length chars) (Some (implicit_at paragraph L))
-paragraph_lefts class bracket paragraph chars h =
+paragraph_lefts : (says : Data) (paragraph : ℕ) (chars : List ℕ) → All (λ c. says.class c ≡ L) chars
+    → paragraph_levels says paragraph chars ≡ replicate (length chars) (Some (implicit_at paragraph L))
+paragraph_lefts says paragraph chars h =
     let n : ℕ = length chars in
     let d : Class = direction paragraph in
-    let is : map class chars ≡ lefts n = classes_are class chars h in
-    unformatted_levels class bracket paragraph chars (ap (all_pass is_unformatted) is ∙ lefts_unformatted n)
-    ∙ ap (λ ts. map found (sequence_levels bracket paragraph d d chars ts)) is
-    ∙ ap (map found) (sequence_lefts bracket paragraph d d chars n)
+    let is : map says.class chars ≡ lefts n = classes_are says chars h in
+    unformatted_levels says paragraph chars (ap (all_pass is_unformatted) is ∙ lefts_unformatted n)
+    ∙ ap (λ ts. map found (sequence_levels says paragraph d d chars ts)) is
+    ∙ ap (map found) (sequence_lefts says paragraph d d chars n)
     ∙ found_lefts (implicit_at paragraph L) n
 
 left_texts_have : (base : Base) (paragraph : ℕ) → ((n : ℕ) → base_level base (lefts n) ≡ paragraph) → LeftTextsHave base paragraph (implicit_at paragraph L)
-left_texts_have base paragraph by class bracket chars h =
-    let level : paragraph_level_under class base chars ≡ paragraph = ap (base_level base) (classes_are class chars h) ∙ by (length chars) in
-    (level, ap (λ p. paragraph_levels class bracket p chars) level ∙ paragraph_lefts class bracket paragraph chars h)
+left_texts_have base paragraph by says chars h =
+    let level : paragraph_level_under says base chars ≡ paragraph = ap (base_level base) (classes_are says chars h) ∙ by (length chars) in
+    (level, ap (λ p. paragraph_levels says p chars) level ∙ paragraph_lefts says paragraph chars h)
 
 found_left : (n : ℕ) → paragraph_level (lefts n) ≡ 0
 found_left zero = refl

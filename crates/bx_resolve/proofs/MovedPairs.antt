@@ -6,6 +6,7 @@ use Rattle.std.specs.List.{list_any}
 use Rattle.std.proofs.lemmas.Bool.Decides.{nat_tests}
 use Rattle.std.proofs.lemmas.List.{length-map}
 use Rattle.std.proofs.lemmas.Bool.{cases_lt}
+use Rattle.bx_ucd.specs.Data.{Data}
 use Rattle.bx_ucd.specs.declared.class.Class.{Class}
 use Rattle.bx_ucd.specs.declared.data.Side.{Side}
 use Rattle.bx_ucd.specs.declared.data.Side.TheVariants.{Opener, Closer}
@@ -94,21 +95,21 @@ module _ (f : ℕ → ℕ) (lt_same : (a b : ℕ) → nat_lt (f a) (f b) ≡ nat
   meet_moved s j c (Some (Opener, m)) = opener_moved s j m
   meet_moved s j c (Some (Closer, m)) = closer_moved s j c
 
-  pub search_moved : (bracket : ℕ → Option (Side × ℕ)) (s : Search) (j : ℕ) (cs : List ℕ) (ts : List Class) → ((k : ℕ) → j ≤ k → f (k + 1) ≡ f k + 1)
-      → search_from bracket (moved f s) (f j) cs ts ≡ moved f (search_from bracket s j cs ts)
-  search_moved bracket s j [] ts h = refl
-  search_moved bracket s j (c ∷ cs) [] h = refl
-  search_moved bracket s j (c ∷ cs) (t ∷ ts) h =
-      let b : Option (Side × ℕ) = bracket_at bracket c t in
+  pub search_moved : (says : Data) (s : Search) (j : ℕ) (cs : List ℕ) (ts : List Class) → ((k : ℕ) → j ≤ k → f (k + 1) ≡ f k + 1)
+      → search_from says (moved f s) (f j) cs ts ≡ moved f (search_from says s j cs ts)
+  search_moved says s j [] ts h = refl
+  search_moved says s j (c ∷ cs) [] h = refl
+  search_moved says s j (c ∷ cs) (t ∷ ts) h =
+      let b : Option (Side × ℕ) = bracket_at says c t in
       let m : meet (moved f s) (f j) c b ≡ moved f (meet s j c b) = meet_moved s j c b in
       let one : f (j + 1) ≡ f j + 1 = h j (omega arith) in
       let later : (k : ℕ) → j + 1 ≤ k → f (k + 1) ≡ f k + 1 = λ k l. h k (omega arith) in
-      let ih : search_from bracket (moved f (meet s j c b)) (f (j + 1)) cs ts ≡ moved f (search_from bracket (meet s j c b) (j + 1) cs ts) =
-      search_moved bracket (meet s j c b) (j + 1) cs ts later in
-      elim (s.is_over) as (λ v. elim v as (λ x. Search) [ true ↦ moved f s | false ↦ search_from bracket (meet (moved f s) (f j) c b) (f j + 1) cs ts ]
-      ≡ moved f (elim v as (λ x. Search) [ true ↦ s | false ↦ search_from bracket (meet s j c b) (j + 1) cs ts ])) [
+      let ih : search_from says (moved f (meet s j c b)) (f (j + 1)) cs ts ≡ moved f (search_from says (meet s j c b) (j + 1) cs ts) =
+      search_moved says (meet s j c b) (j + 1) cs ts later in
+      elim (s.is_over) as (λ v. elim v as (λ x. Search) [ true ↦ moved f s | false ↦ search_from says (meet (moved f s) (f j) c b) (f j + 1) cs ts ]
+      ≡ moved f (elim v as (λ x. Search) [ true ↦ s | false ↦ search_from says (meet s j c b) (j + 1) cs ts ])) [
         | true ↦ refl
-        | false ↦ ap (λ u. search_from bracket u (f j + 1) cs ts) m ∙ ap (λ i. search_from bracket (moved f (meet s j c b)) i cs ts) (sym one) ∙ ih
+        | false ↦ ap (λ u. search_from says u (f j + 1) cs ts) m ∙ ap (λ i. search_from says (moved f (meet s j c b)) i cs ts) (sym one) ∙ ih
       ]
 
 -- `m` more at `n`
@@ -184,62 +185,62 @@ search_stays : (n m : ℕ) (s : Search) → IsSound n s → moved (shift n m) s 
 search_stays n m s h = ap₂ (λ os ps. record s { openers = os; pairs = ps }) (openers_stay n m n s.openers (omega arith) h.falling) (pairs_stay n m s.pairs h.inside)
 
 -- no character of a list is a bracket
-abbrev pub HasNoBracket : (ℕ → Option (Side × ℕ)) → List ℕ → List Class → Type 0
-HasNoBracket bracket [] ts = Unit {0}
-HasNoBracket bracket (c ∷ cs) [] = Unit {0}
-HasNoBracket bracket (c ∷ cs) (t ∷ ts) = (bracket_at bracket c t ≡ None) × HasNoBracket bracket cs ts
+abbrev pub HasNoBracket : Data → List ℕ → List Class → Type 0
+HasNoBracket says [] ts = Unit {0}
+HasNoBracket says (c ∷ cs) [] = Unit {0}
+HasNoBracket says (c ∷ cs) (t ∷ ts) = (bracket_at says c t ≡ None) × HasNoBracket says cs ts
 
-over_stays : (bracket : ℕ → Option (Side × ℕ)) (s : Search) (j : ℕ) (cs : List ℕ) (ts : List Class) → s.is_over ≡ true → search_from bracket s j cs ts ≡ s
-over_stays bracket s j [] ts e = refl
-over_stays bracket s j (c ∷ cs) [] e = refl
-over_stays bracket s j (c ∷ cs) (t ∷ ts) e =
-    ap (λ v. elim v as (λ x. Search) [ true ↦ s | false ↦ search_from bracket (meet s j c (bracket_at bracket c t)) (j + 1) cs ts ]) e
+over_stays : (says : Data) (s : Search) (j : ℕ) (cs : List ℕ) (ts : List Class) → s.is_over ≡ true → search_from says s j cs ts ≡ s
+over_stays says s j [] ts e = refl
+over_stays says s j (c ∷ cs) [] e = refl
+over_stays says s j (c ∷ cs) (t ∷ ts) e =
+    ap (λ v. elim v as (λ x. Search) [ true ↦ s | false ↦ search_from says (meet s j c (bracket_at says c t)) (j + 1) cs ts ]) e
 
-pub none_met : (bracket : ℕ → Option (Side × ℕ)) (s : Search) (j : ℕ) (cs : List ℕ) (ts : List Class) → HasNoBracket bracket cs ts
-    → search_from bracket s j cs ts ≡ s
-none_met bracket s j [] ts h = refl
-none_met bracket s j (c ∷ cs) [] h = refl
-none_met bracket s j (c ∷ cs) (t ∷ ts) h =
-    let e : search_from bracket (meet s j c (bracket_at bracket c t)) (j + 1) cs ts ≡ s =
-    ap (λ b. search_from bracket (meet s j c b) (j + 1) cs ts) h.0 ∙ none_met bracket s (j + 1) cs ts h.1 in
-    elim (s.is_over) as (λ v. elim v as (λ x. Search) [ true ↦ s | false ↦ search_from bracket (meet s j c (bracket_at bracket c t)) (j + 1) cs ts ] ≡ s)
+pub none_met : (says : Data) (s : Search) (j : ℕ) (cs : List ℕ) (ts : List Class) → HasNoBracket says cs ts
+    → search_from says s j cs ts ≡ s
+none_met says s j [] ts h = refl
+none_met says s j (c ∷ cs) [] h = refl
+none_met says s j (c ∷ cs) (t ∷ ts) h =
+    let e : search_from says (meet s j c (bracket_at says c t)) (j + 1) cs ts ≡ s =
+    ap (λ b. search_from says (meet s j c b) (j + 1) cs ts) h.0 ∙ none_met says s (j + 1) cs ts h.1 in
+    elim (s.is_over) as (λ v. elim v as (λ x. Search) [ true ↦ s | false ↦ search_from says (meet s j c (bracket_at says c t)) (j + 1) cs ts ] ≡ s)
     [ true ↦ refl | false ↦ e ]
 
 -- a search goes on where the one before it ended
-pub search_more : (bracket : ℕ → Option (Side × ℕ)) (s : Search) (j : ℕ) (cs ds : List ℕ) (ts us : List Class) → length cs ≡ length ts
-    → search_from bracket s j (cs ++ ds) (ts ++ us) ≡ search_from bracket (search_from bracket s j cs ts) (j + length ts) ds us
-search_more bracket s j [] ds [] us e = let z : j ≡ j + 0 = omega arith in ap (λ i. search_from bracket s i ds us) z
-search_more bracket s j [] ds (t ∷ ts) us e = absurd (omega arith)
-search_more bracket s j (c ∷ cs) ds [] us e = absurd (omega arith)
-search_more bracket s j (c ∷ cs) ds (t ∷ ts) us e =
-    let u : Search = meet s j c (bracket_at bracket c t) in
+pub search_more : (says : Data) (s : Search) (j : ℕ) (cs ds : List ℕ) (ts us : List Class) → length cs ≡ length ts
+    → search_from says s j (cs ++ ds) (ts ++ us) ≡ search_from says (search_from says s j cs ts) (j + length ts) ds us
+search_more says s j [] ds [] us e = let z : j ≡ j + 0 = omega arith in ap (λ i. search_from says s i ds us) z
+search_more says s j [] ds (t ∷ ts) us e = absurd (omega arith)
+search_more says s j (c ∷ cs) ds [] us e = absurd (omega arith)
+search_more says s j (c ∷ cs) ds (t ∷ ts) us e =
+    let u : Search = meet s j c (bracket_at says c t) in
     let n : j + 1 + length ts ≡ j + suc (length ts) = omega arith in
-    let ih : search_from bracket u (j + 1) (cs ++ ds) (ts ++ us) ≡ search_from bracket (search_from bracket u (j + 1) cs ts) (j + suc (length ts)) ds us =
-    search_more bracket u (j + 1) cs ds ts us (omega arith) ∙ ap (λ i. search_from bracket (search_from bracket u (j + 1) cs ts) i ds us) n in
-    (elim (s.is_over) as (λ v. s.is_over ≡ v → elim v as (λ x. Search) [ true ↦ s | false ↦ search_from bracket u (j + 1) (cs ++ ds) (ts ++ us) ]
-    ≡ search_from bracket (elim v as (λ x. Search) [ true ↦ s | false ↦ search_from bracket u (j + 1) cs ts ]) (j + suc (length ts)) ds us) [
-      | true ↦ λ o. sym (over_stays bracket s (j + suc (length ts)) ds us o)
+    let ih : search_from says u (j + 1) (cs ++ ds) (ts ++ us) ≡ search_from says (search_from says u (j + 1) cs ts) (j + suc (length ts)) ds us =
+    search_more says u (j + 1) cs ds ts us (omega arith) ∙ ap (λ i. search_from says (search_from says u (j + 1) cs ts) i ds us) n in
+    (elim (s.is_over) as (λ v. s.is_over ≡ v → elim v as (λ x. Search) [ true ↦ s | false ↦ search_from says u (j + 1) (cs ++ ds) (ts ++ us) ]
+    ≡ search_from says (elim v as (λ x. Search) [ true ↦ s | false ↦ search_from says u (j + 1) cs ts ]) (j + suc (length ts)) ds us) [
+      | true ↦ λ o. sym (over_stays says s (j + suc (length ts)) ds us o)
       | false ↦ λ o. ih
     ]) refl
 
 -- with more in the middle that has no bracket, each pair is the same, moved
-pub pairs_moved : (bracket : ℕ → Option (Side × ℕ)) (cu cm cv : List ℕ) (us ms vs : List Class) → length cu ≡ length us → length cm ≡ length ms
-    → HasNoBracket bracket cm ms
-    → pairs bracket (cu ++ (cm ++ cv)) (us ++ (ms ++ vs)) ≡ map (moved_pair (shift (length us) (length ms))) (pairs bracket (cu ++ cv) (us ++ vs))
-pairs_moved bracket cu cm cv us ms vs a b h =
+pub pairs_moved : (says : Data) (cu cm cv : List ℕ) (us ms vs : List Class) → length cu ≡ length us → length cm ≡ length ms
+    → HasNoBracket says cm ms
+    → pairs says (cu ++ (cm ++ cv)) (us ++ (ms ++ vs)) ≡ map (moved_pair (shift (length us) (length ms))) (pairs says (cu ++ cv) (us ++ vs))
+pairs_moved says cu cm cv us ms vs a b h =
     let n : ℕ = length us in
     let m : ℕ = length ms in
     let f : ℕ → ℕ = shift n m in
     let start : Search = record { openers = []; pairs = []; is_over = false } in
-    let s : Search = search_from bracket start 0 cu us in
+    let s : Search = search_from says start 0 cu us in
     let z : 0 + length us ≡ n = omega arith in
-    let sound : IsSound n s = search_sound bracket n 0 cu us start (omega arith) (record { falling = tt; inside = tt }) in
-    let whole : search_from bracket start 0 (cu ++ (cm ++ cv)) (us ++ (ms ++ vs)) ≡ search_from bracket s (n + m) cv vs =
-    search_more bracket start 0 cu (cm ++ cv) us (ms ++ vs) a ∙ ap (λ i. search_from bracket s i (cm ++ cv) (ms ++ vs)) z
-    ∙ search_more bracket s n cm cv ms vs b ∙ ap (λ u. search_from bracket u (n + m) cv vs) (none_met bracket s n cm ms h) in
-    let short : search_from bracket start 0 (cu ++ cv) (us ++ vs) ≡ search_from bracket s n cv vs =
-    search_more bracket start 0 cu cv us vs a ∙ ap (λ i. search_from bracket s i cv vs) z in
-    let same : search_from bracket s (n + m) cv vs ≡ moved f (search_from bracket s n cv vs) =
-    ap₂ (λ u i. search_from bracket u i cv vs) (sym (search_stays n m s sound)) (sym (shift_from n m n (omega arith)))
-    ∙ search_moved f (shift_lt_same n m) (shift_le_same n m) bracket s n cv vs (shift_step n m) in
+    let sound : IsSound n s = search_sound says n 0 cu us start (omega arith) (record { falling = tt; inside = tt }) in
+    let whole : search_from says start 0 (cu ++ (cm ++ cv)) (us ++ (ms ++ vs)) ≡ search_from says s (n + m) cv vs =
+    search_more says start 0 cu (cm ++ cv) us (ms ++ vs) a ∙ ap (λ i. search_from says s i (cm ++ cv) (ms ++ vs)) z
+    ∙ search_more says s n cm cv ms vs b ∙ ap (λ u. search_from says u (n + m) cv vs) (none_met says s n cm ms h) in
+    let short : search_from says start 0 (cu ++ cv) (us ++ vs) ≡ search_from says s n cv vs =
+    search_more says start 0 cu cv us vs a ∙ ap (λ i. search_from says s i cv vs) z in
+    let same : search_from says s (n + m) cv vs ≡ moved f (search_from says s n cv vs) =
+    ap₂ (λ u i. search_from says u i cv vs) (sym (search_stays n m s sound)) (sym (shift_from n m n (omega arith)))
+    ∙ search_moved f (shift_lt_same n m) (shift_le_same n m) says s n cv vs (shift_step n m) in
     ap (λ (r : Search). r.pairs) (whole ∙ same ∙ ap (moved f) (sym short))

@@ -2,6 +2,7 @@
 use Rattle.std.proofs.Common.{◌≡◌, ◌+◌, ℕ, List, [], ◌∷◌, refl, ap, true, false, Option, None}
 use Rattle.std.specs.Prelude.{◌||◌}
 use Rattle.std.specs.List.{list_any}
+use Rattle.bx_ucd.specs.Data.{Data}
 use Rattle.bx_ucd.specs.declared.class.Class.{Class}
 use Rattle.bx_ucd.specs.declared.data.Side.{Side}
 use Rattle.bx_brackets.specs.Pairs.{is_on, meet, Search, search_from, pairs}
@@ -10,15 +11,15 @@ use Rattle.bx_brackets.specs.Pairs.{is_on, meet, Search, search_from, pairs}
 abbrev start : Search
 start = record { openers = []; pairs = []; is_over = false }
 
-none_found : (bracket : ℕ → Option (Side × ℕ)) (j : ℕ) (cs : List ℕ) (ts : List Class) → list_any is_on ts ≡ false → search_from bracket start j cs ts ≡ start
-none_found bracket j [] ts e = refl
-none_found bracket j (c ∷ cs) [] e = refl
-none_found bracket j (c ∷ cs) (t ∷ ts) e =
+none_found : (says : Data) (j : ℕ) (cs : List ℕ) (ts : List Class) → list_any is_on ts ≡ false → search_from says start j cs ts ≡ start
+none_found says j [] ts e = refl
+none_found says j (c ∷ cs) [] e = refl
+none_found says j (c ∷ cs) (t ∷ ts) e =
     (elim (is_on t) as (λ b. (b || list_any is_on ts) ≡ false
-    → search_from bracket (meet start j c (elim b as (λ x. Option (Side × ℕ)) [ true ↦ bracket c | false ↦ None ])) (j + 1) cs ts ≡ start) [
+    → search_from says (meet start j c (elim b as (λ x. Option (Side × ℕ)) [ true ↦ says.bracket c | false ↦ None ])) (j + 1) cs ts ≡ start) [
       | true ↦ λ k. absurd (cc)
-      | false ↦ λ k. none_found bracket (j + 1) cs ts k
+      | false ↦ λ k. none_found says (j + 1) cs ts k
     ]) e
 
-pub no_pairs : (bracket : ℕ → Option (Side × ℕ)) (cs : List ℕ) (ts : List Class) → list_any is_on ts ≡ false → pairs bracket cs ts ≡ []
-no_pairs bracket cs ts e = ap (λ (s : Search). s.pairs) (none_found bracket 0 cs ts e)
+pub no_pairs : (says : Data) (cs : List ℕ) (ts : List Class) → list_any is_on ts ≡ false → pairs says cs ts ≡ []
+no_pairs says cs ts e = ap (λ (s : Search). s.pairs) (none_found says 0 cs ts e)

@@ -1,6 +1,7 @@
 -- A property of each index with type ON holds at both ends of each bracket pair.
 use Rattle.std.proofs.Common.{◌≡◌, ◌+◌, ℕ, List, [], ◌∷◌, length, refl, subst, Bool, true, false, Option, Some, None}
 use Rattle.std.specs.Prelude.{find, filter, cond, nat_lt, ◌==◌}
+use Rattle.bx_ucd.specs.Data.{Data}
 use Rattle.bx_ucd.specs.declared.class.Class.{Class}
 use Rattle.bx_ucd.specs.declared.data.Side.{Side}
 use Rattle.bx_ucd.specs.declared.data.Side.TheVariants.{Opener, Closer}
@@ -68,24 +69,24 @@ module _ (P : ℕ → Type 0) where
   at_bracket j c s (Some (Opener, m)) here h = at_opener j m s here h
   at_bracket j c s (Some (Closer, m)) here h = closer_by j c s (find (λ (o : ℕ × ℕ). o.1 == canonical c) (open_openers s)) refl here h
 
-  at_type : (bracket : ℕ → Option (Side × ℕ)) (j c : ℕ) (s : Search) (t : Class) → (is_on t ≡ true → P j) → IsOfBrackets P s
-      → IsOfBrackets P (meet s j c (bracket_at bracket c t))
-  at_type bracket j c s t here h =
-      (elim (is_on t) as (λ b. (b ≡ true → P j) → IsOfBrackets P (meet s j c (elim b as (λ x. Option (Side × ℕ)) [ true ↦ bracket c | false ↦ None ]))) [
-        | true ↦ λ k. at_bracket j c s (bracket c) (k refl) h
+  at_type : (says : Data) (j c : ℕ) (s : Search) (t : Class) → (is_on t ≡ true → P j) → IsOfBrackets P s
+      → IsOfBrackets P (meet s j c (bracket_at says c t))
+  at_type says j c s t here h =
+      (elim (is_on t) as (λ b. (b ≡ true → P j) → IsOfBrackets P (meet s j c (elim b as (λ x. Option (Side × ℕ)) [ true ↦ says.bracket c | false ↦ None ]))) [
+        | true ↦ λ k. at_bracket j c s (says.bracket c) (k refl) h
         | false ↦ λ k. h
       ]) here
 
-  search_ends : (bracket : ℕ → Option (Side × ℕ)) (j : ℕ) (cs : List ℕ) (ts : List Class) (s : Search) → AreOn P j ts → IsOfBrackets P s
-      → HaveEnds P (search_from bracket s j cs ts).pairs
-  search_ends bracket j [] ts s a h = h.pairs
-  search_ends bracket j (c ∷ cs) [] s a h = h.pairs
-  search_ends bracket j (c ∷ cs) (t ∷ ts) s a h =
-      let u : Search = meet s j c (bracket_at bracket c t) in
-      elim (s.is_over) as (λ b. HaveEnds P (elim b as (λ x. Search) [ true ↦ s | false ↦ search_from bracket u (j + 1) cs ts ]).pairs) [
+  search_ends : (says : Data) (j : ℕ) (cs : List ℕ) (ts : List Class) (s : Search) → AreOn P j ts → IsOfBrackets P s
+      → HaveEnds P (search_from says s j cs ts).pairs
+  search_ends says j [] ts s a h = h.pairs
+  search_ends says j (c ∷ cs) [] s a h = h.pairs
+  search_ends says j (c ∷ cs) (t ∷ ts) s a h =
+      let u : Search = meet s j c (bracket_at says c t) in
+      elim (s.is_over) as (λ b. HaveEnds P (elim b as (λ x. Search) [ true ↦ s | false ↦ search_from says u (j + 1) cs ts ]).pairs) [
         | true ↦ h.pairs
-        | false ↦ search_ends bracket (j + 1) cs ts u a.1 (at_type bracket j c s t a.0 h)
+        | false ↦ search_ends says (j + 1) cs ts u a.1 (at_type says j c s t a.0 h)
       ]
 
-  pub pairs_ends : (bracket : ℕ → Option (Side × ℕ)) (cs : List ℕ) (ts : List Class) → AreOn P 0 ts → HaveEnds P (pairs bracket cs ts)
-  pairs_ends bracket cs ts a = search_ends bracket 0 cs ts (record { openers = []; pairs = []; is_over = false }) a (record { openers = tt; pairs = tt })
+  pub pairs_ends : (says : Data) (cs : List ℕ) (ts : List Class) → AreOn P 0 ts → HaveEnds P (pairs says cs ts)
+  pairs_ends says cs ts a = search_ends says 0 cs ts (record { openers = []; pairs = []; is_over = false }) a (record { openers = tt; pairs = tt })

@@ -3,6 +3,7 @@ use Rattle.std.proofs.Common.{◌≡◌, ◌<◌, ◌≤◌, ◌+◌, ◌∙◌,
 use Rattle.std.proofs.Common.{length, get_or, drop, refl, ap, sym, arith, Option, Some, None, true, rules}
 use Rattle.std.specs.Prelude.{◌==◌}
 use Rattle.std.proofs.lemmas.List.{drop_all, at_drop_more}
+use Rattle.bx_ucd.specs.Data.{Data}
 use Rattle.bx_ucd.specs.declared.class.Class.{Class}
 use Rattle.bx_ucd.specs.declared.class.Class.TheVariants.{L}
 use Rattle.bx_ucd.specs.declared.data.Side.{Side}
@@ -12,13 +13,13 @@ use Rattle.bx_explicit.specs.declared.entry.Kept.{Kept}
 use Rattle.bx_explicit.specs.LevelIndexes.{level_indexes}
 use Rattle.bx_resolve.specs.Levels.{chars_at}
 
-no_types : (bracket : ℕ → Option (Side × ℕ)) (p : Progress) (j : ℕ) (cs : List ℕ) → pairs_after bracket p j cs [] ≡ p.pairs
-no_types bracket p j [] = refl
-no_types bracket p j (c ∷ cs) = refl
+no_types : (says : Data) (p : Progress) (j : ℕ) (cs : List ℕ) → pairs_after says p j cs [] ≡ p.pairs
+no_types says p j [] = refl
+no_types says p j (c ∷ cs) = refl
 
-pub types_out : (bracket : ℕ → Option (Side × ℕ)) (p : Progress) (j n : ℕ) (cs : List ℕ) (ts : List Class) → length ts ≤ n
-    → pairs_after bracket p j cs (drop n ts) ≡ p.pairs
-types_out bracket p j n cs ts h = ap (pairs_after bracket p j cs) (drop_all n ts h) ∙ no_types bracket p j cs
+pub types_out : (says : Data) (p : Progress) (j n : ℕ) (cs : List ℕ) (ts : List Class) → length ts ≤ n
+    → pairs_after says p j cs (drop n ts) ≡ p.pairs
+types_out says p j n cs ts h = ap (pairs_after says p j cs) (drop_all n ts h) ∙ no_types says p j cs
 
 -- the first of the characters that are left
 pub char_here : (k c : ℕ) (all xs : List ℕ) → drop k all ≡ c ∷ xs → c ≡ get_or all k 0
@@ -53,21 +54,21 @@ pub run_removed : (level k : ℕ) (kept : List (Option Kept)) → k < length kep
 run_removed level k kept h e = at_drop_more (level_indexes level k) kept k None h ∙ ap (λ x. level_indexes level k (x ∷ drop (k + 1) kept)) e
 
 -- the pairs that a search finds after it
-module _ (bracket : ℕ → Option (Side × ℕ)) (all : List ℕ) (kept : List (Option Kept)) (ts : List Class) (level k met : ℕ) (p : Progress) (h : k < length kept)
+module _ (says : Data) (all : List ℕ) (kept : List (Option Kept)) (ts : List Class) (level k met : ℕ) (p : Progress) (h : k < length kept)
     (more : List ℕ) where
   pub kept_left : (c : ℕ) (g : Kept) (q : Progress) → get_or kept k None ≡ Some g → g.level ≡ level → met < length ts → c ≡ get_or all k 0
-      → q ≡ after met c (bracket_at bracket c (get_or ts met L)) p
-      → pairs_after bracket p met (chars_at all (level_indexes level k (drop k kept) ++ more)) (drop met ts)
-      ≡ pairs_after bracket q (met + 1) (chars_at all (level_indexes level (k + 1) (drop (k + 1) kept) ++ more)) (drop (met + 1) ts)
+      → q ≡ after met c (bracket_at says c (get_or ts met L)) p
+      → pairs_after says p met (chars_at all (level_indexes level k (drop k kept) ++ more)) (drop met ts)
+      ≡ pairs_after says q (met + 1) (chars_at all (level_indexes level (k + 1) (drop (k + 1) kept) ++ more)) (drop (met + 1) ts)
   kept_left c g q e s m at new =
       let ps : List ℕ = level_indexes level (k + 1) (drop (k + 1) kept) in
       let us : List Class = drop (met + 1) ts in
-      ap (λ xs. pairs_after bracket p met (chars_at all (xs ++ more)) (drop met ts)) (run_kept level k g kept h e s)
-      ∙ at_drop_more (λ ys. pairs_after bracket p met (chars_at all (k ∷ (ps ++ more))) ys) ts met L m
-      ∙ ap (λ x. pairs_after bracket (after met x (bracket_at bracket x (get_or ts met L)) p) (met + 1) (chars_at all (ps ++ more)) us) (sym at)
-      ∙ ap (λ r. pairs_after bracket r (met + 1) (chars_at all (ps ++ more)) us) (sym new)
+      ap (λ xs. pairs_after says p met (chars_at all (xs ++ more)) (drop met ts)) (run_kept level k g kept h e s)
+      ∙ at_drop_more (λ ys. pairs_after says p met (chars_at all (k ∷ (ps ++ more))) ys) ts met L m
+      ∙ ap (λ x. pairs_after says (after met x (bracket_at says x (get_or ts met L)) p) (met + 1) (chars_at all (ps ++ more)) us) (sym at)
+      ∙ ap (λ r. pairs_after says r (met + 1) (chars_at all (ps ++ more)) us) (sym new)
 
   pub removed_left : get_or kept k None ≡ None
-      → pairs_after bracket p met (chars_at all (level_indexes level k (drop k kept) ++ more)) (drop met ts)
-      ≡ pairs_after bracket p met (chars_at all (level_indexes level (k + 1) (drop (k + 1) kept) ++ more)) (drop met ts)
-  removed_left e = ap (λ xs. pairs_after bracket p met (chars_at all (xs ++ more)) (drop met ts)) (run_removed level k kept h e)
+      → pairs_after says p met (chars_at all (level_indexes level k (drop k kept) ++ more)) (drop met ts)
+      ≡ pairs_after says p met (chars_at all (level_indexes level (k + 1) (drop (k + 1) kept) ++ more)) (drop met ts)
+  removed_left e = ap (λ xs. pairs_after says p met (chars_at all (xs ++ more)) (drop met ts)) (run_removed level k kept h e)

@@ -1,6 +1,7 @@
 -- A sequence has as many levels as types.
 use Rattle.std.proofs.Common.{◌≡◌, ◌<◌, ◌+◌, ◌-◌, ◌∙◌, ℕ, suc, List, [], ◌∷◌, length, drop, take, map, refl, ap, arith, Bool, Option, Some, None}
 use Rattle.std.proofs.lemmas.List.{length-map}
+use Rattle.bx_ucd.specs.Data.{Data}
 use Rattle.bx_ucd.specs.declared.class.Class.{Class}
 use Rattle.bx_ucd.specs.declared.data.Side.{Side}
 use Rattle.bx_brackets.specs.Pairs.{pairs}
@@ -45,12 +46,12 @@ pairs_length n e sos was (p ∷ ps) ts i l =
     pairs_length n e sos was ps (resolve_in e context was p ts) i.2
     (by_length was p ts (pair_direction e context (take (p.1 - p.0 - 1) (drop (p.0 + 1) ts))) low (omega arith) ∙ l)
 
-pub levels_length : (bracket : ℕ → Option (Side × ℕ)) (level : ℕ) (sos eos : Class) (chars : List ℕ) (ts : List Class)
-    → length (sequence_levels bracket level sos eos chars ts) ≡ length ts
-levels_length bracket level sos eos chars ts =
+pub levels_length : (says : Data) (level : ℕ) (sos eos : Class) (chars : List ℕ) (ts : List Class)
+    → length (sequence_levels says level sos eos chars ts) ≡ length ts
+levels_length says level sos eos chars ts =
     let weak_types : List Class = weak sos ts in
-    let paired : List Class = resolve_pairs (direction level) sos (map is_nsm ts) (pairs bracket chars weak_types) weak_types in
-    let l : length paired ≡ length weak_types = pairs_length (length weak_types) (direction level) sos (map is_nsm ts) (pairs bracket chars weak_types)
-    weak_types (pairs_inside bracket chars weak_types) refl in
+    let paired : List Class = resolve_pairs (direction level) sos (map is_nsm ts) (pairs says chars weak_types) weak_types in
+    let l : length paired ≡ length weak_types = pairs_length (length weak_types) (direction level) sos (map is_nsm ts) (pairs says chars weak_types)
+    weak_types (pairs_inside says chars weak_types) refl in
     length-map (n2 (direction level) (n1 sos eos paired)) (implicit_at level) ∙ length-map (n1 sos eos paired) (n2_at (direction level))
     ∙ at_each_length (n1_at sos eos) [] paired ∙ l ∙ weak_length sos ts

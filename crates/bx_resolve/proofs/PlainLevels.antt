@@ -4,6 +4,7 @@ use Rattle.std.proofs.Common.{true, false, Option, Some, None}
 use Rattle.std.specs.Prelude.{◌&&◌}
 use Rattle.std.proofs.lemmas.List.{at_drop_more, length-map}
 use Rattle.std.proofs.Math.Seq.{drop-length}
+use Rattle.bx_ucd.specs.Data.{Data}
 use Rattle.bx_ucd.specs.declared.class.Class.{Class}
 use Rattle.bx_ucd.specs.declared.class.Class.TheVariants.{L, R, AL, EN, AN, ES, ET, CS, NSM, B, S, WS, ON}
 use Rattle.bx_ucd.specs.declared.data.Side.{Side}
@@ -50,27 +51,27 @@ write_all (l ∷ ls) ys k e =
     ap (with_levels (indexes_from (k + 1) (length ls)) ls) (set_seam ys None (found l) rest k e ∙ append_one ys (found l) rest)
     ∙ write_all ls (ys ++ found l ∷ []) (k + 1) (one_longer ys (found l) k e) ∙ sym (append_one ys (found l) (map found ls))
 
-levels_whole : (bracket : ℕ → Option (Side × ℕ)) (p : ℕ) (chars : List ℕ) (cs : List Class) (n : ℕ) → length chars ≡ n → length cs ≡ n
-    → levels_in bracket chars (map (kept_as p) cs) (whole p n) ≡ sequence_levels bracket p (direction p) (direction p) chars cs
-levels_whole bracket p chars cs n e f = ap (λ xs. sequence_levels bracket p (direction p) (direction p) xs (types_at (map (kept_as p) cs) (indexes_from 0 n)))
-    (chars_whole chars n e) ∙ ap (sequence_levels bracket p (direction p) (direction p) chars) (types_whole p cs n f)
+levels_whole : (says : Data) (p : ℕ) (chars : List ℕ) (cs : List Class) (n : ℕ) → length chars ≡ n → length cs ≡ n
+    → levels_in says chars (map (kept_as p) cs) (whole p n) ≡ sequence_levels says p (direction p) (direction p) chars cs
+levels_whole says p chars cs n e f = ap (λ xs. sequence_levels says p (direction p) (direction p) xs (types_at (map (kept_as p) cs) (indexes_from 0 n)))
+    (chars_whole chars n e) ∙ ap (sequence_levels says p (direction p) (direction p) chars) (types_whole p cs n f)
 
 levels_at_all : (n : ℕ) (ls : List ℕ) → length ls ≡ n → with_levels (indexes_from 0 n) ls (replicate n None) ≡ map found ls
 levels_at_all n ls e = ap (λ k. with_levels (indexes_from 0 k) ls (replicate k None)) (sym e) ∙ write_all ls [] 0 refl
 
-by_classes : (bracket : ℕ → Option (Side × ℕ)) (p : ℕ) (chars : List ℕ) (cs : List Class) (n : ℕ) → length chars ≡ n → length cs ≡ n
-    → with_sequences bracket chars (map (kept_as p) cs) (sequences p cs (map (kept_as p) cs)) (replicate n None)
-    ≡ map found (sequence_levels bracket p (direction p) (direction p) chars cs)
-by_classes bracket p [] [] zero e f = refl
-by_classes bracket p (c ∷ chars) [] zero e f = absurd (omega arith)
-by_classes bracket p chars [] (suc n) e f = absurd (omega arith)
-by_classes bracket p chars (c ∷ cs) n e f =
+by_classes : (says : Data) (p : ℕ) (chars : List ℕ) (cs : List Class) (n : ℕ) → length chars ≡ n → length cs ≡ n
+    → with_sequences says chars (map (kept_as p) cs) (sequences p cs (map (kept_as p) cs)) (replicate n None)
+    ≡ map found (sequence_levels says p (direction p) (direction p) chars cs)
+by_classes says p [] [] zero e f = refl
+by_classes says p (c ∷ chars) [] zero e f = absurd (omega arith)
+by_classes says p chars [] (suc n) e f = absurd (omega arith)
+by_classes says p chars (c ∷ cs) n e f =
     let kept : List (Option Kept) = map (kept_as p) (c ∷ cs) in
-    let levels : List ℕ = sequence_levels bracket p (direction p) (direction p) chars (c ∷ cs) in
+    let levels : List ℕ = sequence_levels says p (direction p) (direction p) chars (c ∷ cs) in
     let s : sequences p (c ∷ cs) kept ≡ whole p n ∷ [] = sequences_plain p c cs ∙ ap (λ k. whole p k ∷ []) f in
-    ap (λ ss. with_sequences bracket chars kept ss (replicate n None)) s
-    ∙ ap (λ ls. with_levels (indexes_from 0 n) ls (replicate n None)) (levels_whole bracket p chars (c ∷ cs) n e f)
-    ∙ levels_at_all n levels (levels_length bracket p (direction p) (direction p) chars (c ∷ cs) ∙ f)
+    ap (λ ss. with_sequences says chars kept ss (replicate n None)) s
+    ∙ ap (λ ls. with_levels (indexes_from 0 n) ls (replicate n None)) (levels_whole says p chars (c ∷ cs) n e f)
+    ∙ levels_at_all n levels (levels_length says p (direction p) (direction p) chars (c ∷ cs) ∙ f)
 
 pub each_pass : (p : Class → Bool) (cs : List Class) → all_pass p cs ≡ true → Each p cs
 each_pass p [] e = tt
@@ -84,23 +85,23 @@ pass_at p c cs true e = rw (e, all_pass)
 pass_at p c cs false e = rw (e, all_pass)
 
 -- with no formatting characters the paragraph is one sequence
-pub unformatted_levels : (class : ℕ → Class) (bracket : ℕ → Option (Side × ℕ)) (paragraph : ℕ) (chars : List ℕ)
-    → all_pass is_unformatted (map class chars) ≡ true → paragraph_levels class bracket paragraph chars
-    ≡ map found (sequence_levels bracket paragraph (direction paragraph) (direction paragraph) chars (map class chars))
-unformatted_levels class bracket paragraph chars e =
-    let cs : List Class = map class chars in
+pub unformatted_levels : (says : Data) (paragraph : ℕ) (chars : List ℕ)
+    → all_pass is_unformatted (map says.class chars) ≡ true → paragraph_levels says paragraph chars
+    ≡ map found (sequence_levels says paragraph (direction paragraph) (direction paragraph) chars (map says.class chars))
+unformatted_levels says paragraph chars e =
+    let cs : List Class = map says.class chars in
     let h : Each is_unformatted cs = each_pass is_unformatted cs e in
-    let l : length cs ≡ length chars = length-map chars class in
-    ap (λ ks. with_sequences bracket chars ks (sequences paragraph cs ks) (replicate (length chars) None)) (explicit_plain paragraph cs h)
-    ∙ by_classes bracket paragraph chars cs (length chars) refl l
+    let l : length cs ≡ length chars = length-map chars says.class in
+    ap (λ ks. with_sequences says chars ks (sequences paragraph cs ks) (replicate (length chars) None)) (explicit_plain paragraph cs h)
+    ∙ by_classes says paragraph chars cs (length chars) refl l
 
-unformatted_from : (class : ℕ → Class) (bracket : ℕ → Option (Side × ℕ)) (paragraph : ℕ) (chars : List ℕ) (cs : List Class) (side : Class) (ls : List ℕ)
-    (each : List (Option ℕ)) → cs ≡ map class chars → all_pass is_unformatted cs ≡ true → side ≡ direction paragraph
-    → ls ≡ sequence_levels bracket paragraph side side chars cs → each ≡ map found ls → each ≡ paragraph_levels class bracket paragraph chars
-unformatted_from class bracket paragraph chars cs side ls each c e s l m =
-    let p : all_pass is_unformatted (map class chars) ≡ true = ap (all_pass is_unformatted) (sym c) ∙ e in
-    m ∙ ap (map found) (l ∙ ap (λ d. sequence_levels bracket paragraph d d chars cs) s
-    ∙ ap (sequence_levels bracket paragraph (direction paragraph) (direction paragraph) chars) c) ∙ sym (unformatted_levels class bracket paragraph chars p)
+unformatted_from : (says : Data) (paragraph : ℕ) (chars : List ℕ) (cs : List Class) (side : Class) (ls : List ℕ)
+    (each : List (Option ℕ)) → cs ≡ map says.class chars → all_pass is_unformatted cs ≡ true → side ≡ direction paragraph
+    → ls ≡ sequence_levels says paragraph side side chars cs → each ≡ map found ls → each ≡ paragraph_levels says paragraph chars
+unformatted_from says paragraph chars cs side ls each c e s l m =
+    let p : all_pass is_unformatted (map says.class chars) ≡ true = ap (all_pass is_unformatted) (sym c) ∙ e in
+    m ∙ ap (map found) (l ∙ ap (λ d. sequence_levels says paragraph d d chars cs) s
+    ∙ ap (sequence_levels says paragraph (direction paragraph) (direction paragraph) chars) c) ∙ sym (unformatted_levels says paragraph chars p)
 
 plain_passes : (c : Class) → is_plain c ≡ true → is_unformatted c ≡ true
 plain_passes L e = refl
@@ -124,13 +125,13 @@ map_zeros zero = refl
 map_zeros (suc n) = ap (λ ws. found 0 ∷ ws) (map_zeros n)
 
 -- the levels of a paragraph of level 0 whose classes are plain
-pub plain_levels : (class : ℕ → Class) (bracket : ℕ → Option (Side × ℕ)) (paragraph : ℕ) (chars : List ℕ) → paragraph ≡ 0
-    → all_pass is_plain (map class chars) ≡ true → paragraph_levels class bracket paragraph chars ≡ replicate (length (map class chars)) (Some 0)
-plain_levels class bracket paragraph chars z e =
-    let cs : List Class = map class chars in
+pub plain_levels : (says : Data) (paragraph : ℕ) (chars : List ℕ) → paragraph ≡ 0
+    → all_pass is_plain (map says.class chars) ≡ true → paragraph_levels says paragraph chars ≡ replicate (length (map says.class chars)) (Some 0)
+plain_levels says paragraph chars z e =
+    let cs : List Class = map says.class chars in
     let h : Each is_plain cs = each_pass is_plain cs e in
-    ap (λ p. paragraph_levels class bracket p chars) z ∙ unformatted_levels class bracket 0 chars (all_unformatted cs h)
-    ∙ ap (map found) (plain_sequence bracket chars cs h) ∙ map_zeros (length cs)
+    ap (λ p. paragraph_levels says p chars) z ∙ unformatted_levels says 0 chars (all_unformatted cs h)
+    ∙ ap (map found) (plain_sequence says chars cs h) ∙ map_zeros (length cs)
 
 right_passes : (c : Class) → is_plain_right c ≡ true → is_unformatted c ≡ true
 right_passes R e = refl
@@ -154,14 +155,14 @@ map_ones zero = refl
 map_ones (suc n) = ap (λ ws. found 1 ∷ ws) (map_ones n)
 
 -- the same of level 1
-pub plain_right_levels : (class : ℕ → Class) (bracket : ℕ → Option (Side × ℕ)) (paragraph : ℕ) (chars : List ℕ) → paragraph ≡ 1
-    → all_pass is_plain_right (map class chars) ≡ true → paragraph_levels class bracket paragraph chars ≡ replicate (length (map class chars)) (Some 1)
-plain_right_levels class bracket paragraph chars z e =
-    let cs : List Class = map class chars in
+pub plain_right_levels : (says : Data) (paragraph : ℕ) (chars : List ℕ) → paragraph ≡ 1
+    → all_pass is_plain_right (map says.class chars) ≡ true → paragraph_levels says paragraph chars ≡ replicate (length (map says.class chars)) (Some 1)
+plain_right_levels says paragraph chars z e =
+    let cs : List Class = map says.class chars in
     let h : Each is_plain_right cs = each_pass is_plain_right cs e in
-    ap (λ p. paragraph_levels class bracket p chars) z
-    ∙ unformatted_levels class bracket 1 chars (right_unformatted cs h)
-    ∙ ap (map found) (plain_right_sequence bracket chars cs h)
+    ap (λ p. paragraph_levels says p chars) z
+    ∙ unformatted_levels says 1 chars (right_unformatted cs h)
+    ∙ ap (map found) (plain_right_sequence says chars cs h)
     ∙ map_ones (length cs)
 
 module _ (p : Class → Bool) where
@@ -194,23 +195,23 @@ map_both f g [] = refl
 map_both f g (x ∷ xs) = ap (λ ws. g (f x) ∷ ws) (map_both f g xs)
 
 -- the types that rule after rule gives
-pub types_from : (bracket : ℕ → Option (Side × ℕ)) (level : ℕ) (sos eos : Class) (chars : List ℕ) (ts ws ps us : List Class) (marks : List Bool)
+pub types_from : (says : Data) (level : ℕ) (sos eos : Class) (chars : List ℕ) (ts ws ps us : List Class) (marks : List Bool)
     → ws ≡ weak sos ts → marks ≡ map is_nsm ts
-    → ps ≡ resolve_pairs (direction level) sos marks (pairs bracket chars ws) ws → us ≡ n2 (direction level) (n1 sos eos ps)
-    → us ≡ sequence_types bracket level sos eos chars ts
-types_from bracket level sos eos chars ts ws ps us marks w m p u =
+    → ps ≡ resolve_pairs (direction level) sos marks (pairs says chars ws) ws → us ≡ n2 (direction level) (n1 sos eos ps)
+    → us ≡ sequence_types says level sos eos chars ts
+types_from says level sos eos chars ts ws ps us marks w m p u =
     let d : Class = direction level in
-    let first : ps ≡ resolve_pairs d sos (map is_nsm ts) (pairs bracket chars ws) ws = p ∙ ap (λ x. resolve_pairs d sos x (pairs bracket chars ws) ws) m in
-    let second : ps ≡ resolve_pairs d sos (map is_nsm ts) (pairs bracket chars (weak sos ts)) (weak sos ts) = first
-    ∙ ap (λ x. resolve_pairs d sos (map is_nsm ts) (pairs bracket chars x) x) w in
+    let first : ps ≡ resolve_pairs d sos (map is_nsm ts) (pairs says chars ws) ws = p ∙ ap (λ x. resolve_pairs d sos x (pairs says chars ws) ws) m in
+    let second : ps ≡ resolve_pairs d sos (map is_nsm ts) (pairs says chars (weak sos ts)) (weak sos ts) = first
+    ∙ ap (λ x. resolve_pairs d sos (map is_nsm ts) (pairs says chars x) x) w in
     u ∙ ap (λ x. n2 d (n1 sos eos x)) second
 
-pub found_from : (class : ℕ → Class) (bracket : ℕ → Option (Side × ℕ)) (paragraph : ℕ) (chars : List ℕ) (cs ts : List Class) (side : Class)
-    (each : List (Option ℕ)) → cs ≡ map class chars → all_pass is_unformatted cs ≡ true
-    → side ≡ direction paragraph → ts ≡ sequence_types bracket paragraph side side chars cs → each ≡ map (λ t. Some (implicit_at paragraph t)) ts
-    → each ≡ paragraph_levels class bracket paragraph chars
-found_from class bracket paragraph chars cs ts side each c e s t m =
-    unformatted_from class bracket paragraph chars cs side (map (implicit_at paragraph) ts) each c e s (ap (map (implicit_at paragraph)) t)
+pub found_from : (says : Data) (paragraph : ℕ) (chars : List ℕ) (cs ts : List Class) (side : Class)
+    (each : List (Option ℕ)) → cs ≡ map says.class chars → all_pass is_unformatted cs ≡ true
+    → side ≡ direction paragraph → ts ≡ sequence_types says paragraph side side chars cs → each ≡ map (λ t. Some (implicit_at paragraph t)) ts
+    → each ≡ paragraph_levels says paragraph chars
+found_from says paragraph chars cs ts side each c e s t m =
+    unformatted_from says paragraph chars cs side (map (implicit_at paragraph) ts) each c e s (ap (map (implicit_at paragraph)) t)
     (m ∙ map_both (implicit_at paragraph) found ts)
 
 from_right_passes : (c : Class) → is_from_right c ≡ true → is_unformatted c ≡ true
@@ -233,13 +234,13 @@ from_right_unformatted [] h = refl
 from_right_unformatted (c ∷ cs) h = pass_at is_unformatted c cs true (from_right_passes c h.0) ∙ from_right_unformatted cs h.1
 
 -- and without L: the types after W7 tell the levels
-pub from_right_levels : (class : ℕ → Class) (bracket : ℕ → Option (Side × ℕ)) (paragraph : ℕ) (chars : List ℕ) → paragraph ≡ 1
-    → all_pass is_from_right (map class chars) ≡ true
-    → paragraph_levels class bracket paragraph chars ≡ map (λ t. Some (implicit_at 1 t)) (weak R (map class chars))
-from_right_levels class bracket paragraph chars z e =
-    let cs : List Class = map class chars in
+pub from_right_levels : (says : Data) (paragraph : ℕ) (chars : List ℕ) → paragraph ≡ 1
+    → all_pass is_from_right (map says.class chars) ≡ true
+    → paragraph_levels says paragraph chars ≡ map (λ t. Some (implicit_at 1 t)) (weak R (map says.class chars))
+from_right_levels says paragraph chars z e =
+    let cs : List Class = map says.class chars in
     let h : Each is_from_right cs = each_pass is_from_right cs e in
-    ap (λ p. paragraph_levels class bracket p chars) z
-    ∙ unformatted_levels class bracket 1 chars (from_right_unformatted cs h)
-    ∙ ap (map found) (right_sequence bracket chars cs h)
+    ap (λ p. paragraph_levels says p chars) z
+    ∙ unformatted_levels says 1 chars (from_right_unformatted cs h)
+    ∙ ap (map found) (right_sequence says chars cs h)
     ∙ sym (map_both (implicit_at 1) found (weak R cs))

@@ -1,6 +1,7 @@
 -- The bracket pairs of any list lie inside it.
 use Rattle.std.proofs.Common.{◌≡◌, ◌<◌, ◌≤◌, ◌+◌, ℕ, List, [], ◌∷◌, length, arith, true, false, Option, Some, None, refl}
 use Rattle.std.specs.Prelude.{find, nat_lt, ◌==◌}
+use Rattle.bx_ucd.specs.Data.{Data}
 use Rattle.bx_ucd.specs.declared.class.Class.{Class}
 use Rattle.bx_ucd.specs.declared.data.Side.{Side}
 use Rattle.bx_ucd.specs.declared.data.Side.TheVariants.{Opener, Closer}
@@ -58,31 +59,31 @@ meet_sound j c s None h = record {
 meet_sound j c s (Some (Opener, m)) h = opener_sound j m s h
 meet_sound j c s (Some (Closer, m)) h = closer_by j c s (find (λ (o : ℕ × ℕ). o.1 == canonical c) (open_openers s)) refl h
 
-search_inside : (bracket : ℕ → Option (Side × ℕ)) (n j : ℕ) (cs : List ℕ) (ts : List Class) (s : Search) → j + length ts ≤ n → IsSound j s
-    → AreInside n (search_from bracket s j cs ts).pairs
-search_inside bracket n j [] ts s l h = inside_later j n s.pairs (omega arith) h.inside
-search_inside bracket n j (c ∷ cs) [] s l h = inside_later j n s.pairs (omega arith) h.inside
-search_inside bracket n j (c ∷ cs) (t ∷ ts) s l h =
-    let u : Search = meet s j c (bracket_at bracket c t) in
-    elim (s.is_over) as (λ b. AreInside n (elim b as (λ x. Search) [ true ↦ s | false ↦ search_from bracket u (j + 1) cs ts ]).pairs) [
+search_inside : (says : Data) (n j : ℕ) (cs : List ℕ) (ts : List Class) (s : Search) → j + length ts ≤ n → IsSound j s
+    → AreInside n (search_from says s j cs ts).pairs
+search_inside says n j [] ts s l h = inside_later j n s.pairs (omega arith) h.inside
+search_inside says n j (c ∷ cs) [] s l h = inside_later j n s.pairs (omega arith) h.inside
+search_inside says n j (c ∷ cs) (t ∷ ts) s l h =
+    let u : Search = meet s j c (bracket_at says c t) in
+    elim (s.is_over) as (λ b. AreInside n (elim b as (λ x. Search) [ true ↦ s | false ↦ search_from says u (j + 1) cs ts ]).pairs) [
       | true ↦ inside_later j n s.pairs (omega arith) h.inside
-      | false ↦ search_inside bracket n (j + 1) cs ts u (omega arith) (meet_sound j c s (bracket_at bracket c t) h)
+      | false ↦ search_inside says n (j + 1) cs ts u (omega arith) (meet_sound j c s (bracket_at says c t) h)
     ]
 
-pub pairs_inside : (bracket : ℕ → Option (Side × ℕ)) (cs : List ℕ) (ts : List Class) → AreInside (length ts) (pairs bracket cs ts)
-pairs_inside bracket cs ts = search_inside bracket (length ts) 0 cs ts (record { openers = []; pairs = []; is_over = false }) (omega arith)
+pub pairs_inside : (says : Data) (cs : List ℕ) (ts : List Class) → AreInside (length ts) (pairs says cs ts)
+pairs_inside says cs ts = search_inside says (length ts) 0 cs ts (record { openers = []; pairs = []; is_over = false }) (omega arith)
     (record { falling = tt; inside = tt })
 
 pub sound_later : (m n : ℕ) (s : Search) → m ≤ n → IsSound m s → IsSound n s
 sound_later m n s l h = record { falling = falling_later m n s.openers l h.falling; inside = inside_later m n s.pairs l h.inside }
 
-pub search_sound : (bracket : ℕ → Option (Side × ℕ)) (n j : ℕ) (cs : List ℕ) (ts : List Class) (s : Search) → j + length ts ≤ n → IsSound j s
-    → IsSound n (search_from bracket s j cs ts)
-search_sound bracket n j [] ts s l h = sound_later j n s (omega arith) h
-search_sound bracket n j (c ∷ cs) [] s l h = sound_later j n s (omega arith) h
-search_sound bracket n j (c ∷ cs) (t ∷ ts) s l h =
-    let u : Search = meet s j c (bracket_at bracket c t) in
-    elim (s.is_over) as (λ b. IsSound n (elim b as (λ x. Search) [ true ↦ s | false ↦ search_from bracket u (j + 1) cs ts ])) [
+pub search_sound : (says : Data) (n j : ℕ) (cs : List ℕ) (ts : List Class) (s : Search) → j + length ts ≤ n → IsSound j s
+    → IsSound n (search_from says s j cs ts)
+search_sound says n j [] ts s l h = sound_later j n s (omega arith) h
+search_sound says n j (c ∷ cs) [] s l h = sound_later j n s (omega arith) h
+search_sound says n j (c ∷ cs) (t ∷ ts) s l h =
+    let u : Search = meet s j c (bracket_at says c t) in
+    elim (s.is_over) as (λ b. IsSound n (elim b as (λ x. Search) [ true ↦ s | false ↦ search_from says u (j + 1) cs ts ])) [
       | true ↦ sound_later j n s (omega arith) h
-      | false ↦ search_sound bracket n (j + 1) cs ts u (omega arith) (meet_sound j c s (bracket_at bracket c t) h)
+      | false ↦ search_sound says n (j + 1) cs ts u (omega arith) (meet_sound j c s (bracket_at says c t) h)
     ]

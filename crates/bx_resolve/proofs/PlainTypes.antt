@@ -3,6 +3,7 @@ use Rattle.std.proofs.Common.{◌≡◌, ◌<◌, ◌+◌, ◌-◌, ◌∙◌, �
 use Rattle.std.proofs.Common.{true, false, Option, Some, None, ◌⊎◌, inl, inr}
 use Rattle.std.specs.Prelude.{◌&&◌}
 use Rattle.std.specs.List.{list_any}
+use Rattle.bx_ucd.specs.Data.{Data}
 use Rattle.bx_ucd.specs.declared.class.Class.{Class}
 use Rattle.bx_ucd.specs.declared.class.Class.TheVariants.{L, R, AN, EN, ES, ET, CS, NSM, B, S, WS, ON}
 use Rattle.bx_ucd.specs.declared.data.Side.{Side}
@@ -336,14 +337,14 @@ levels_l [] h = refl
 levels_l (L ∷ ts) h = ap (λ ls. 0 ∷ ls) (levels_l ts h.1)
 levels_l (t ∷ ts) h = let e : is_l t ≡ true = h.0 in absurd (cc)
 
-pub plain_sequence : (bracket : ℕ → Option (Side × ℕ)) (chars : List ℕ) (ts : List Class) → Each is_plain ts
-    → sequence_levels bracket 0 L L chars ts ≡ replicate (length ts) 0
-plain_sequence bracket chars ts h =
+pub plain_sequence : (says : Data) (chars : List ℕ) (ts : List Class) → Each is_plain ts
+    → sequence_levels says 0 L L chars ts ≡ replicate (length ts) 0
+plain_sequence says chars ts h =
     let weak_types : List Class = weak L ts in
     let was : List Bool = map is_nsm ts in
-    let r : IsRest (length weak_types) (resolve_pairs L L was (pairs bracket chars weak_types) weak_types) =
-    pairs_rest (length weak_types) was (pairs bracket chars weak_types) weak_types (pairs_inside bracket chars weak_types)
+    let r : IsRest (length weak_types) (resolve_pairs L L was (pairs says chars weak_types) weak_types) =
+    pairs_rest (length weak_types) was (pairs says chars weak_types) weak_types (pairs_inside says chars weak_types)
     (record { each = weak_plain ts h; as_long = refl }) in
-    let paired : List Class = resolve_pairs L L was (pairs bracket chars weak_types) weak_types in
+    let paired : List Class = resolve_pairs L L was (pairs says chars weak_types) weak_types in
     let l : Each is_l (n1 L L paired) = each_by_rule is_rest is_l (n1_at L L) n1_turns [] paired tt r.each in
     levels_l (n1 L L paired) l ∙ ap (λ n. replicate n 0) (at_each_length (n1_at L L) [] paired ∙ r.as_long ∙ weak_length L ts)

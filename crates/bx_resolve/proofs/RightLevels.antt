@@ -4,6 +4,7 @@ use Rattle.std.proofs.Common.{append_assoc, Bool, true, false, Option, Some, Non
 use Rattle.std.proofs.lemmas.List.{drop_all, drop_more, drop-map, length-map, get_or-map, get_or_at, length_push, map-append, take-append-drop}
 use Rattle.std.specs.Prelude.{◌&&◌}
 use Rattle.std.specs.List.{list_any}
+use Rattle.bx_ucd.specs.Data.{Data}
 use Rattle.bx_ucd.specs.declared.class.Class.{Class}
 use Rattle.bx_ucd.specs.declared.class.Class.TheVariants.{L, R, AL, AN, EN, ES, ET, CS, NSM, B, S, WS, ON}
 use Rattle.bx_ucd.specs.declared.data.Side.{Side}
@@ -378,16 +379,16 @@ by_rises [] = refl
 by_rises (t ∷ ts) = ap (λ ls. implicit_at 1 t ∷ ls) (by_rises ts)
 
 -- the levels of a sequence without L at level 1 follow from the types after W7
-pub right_sequence : (bracket : ℕ → Option (Side × ℕ)) (chars : List ℕ) (ts : List Class) → Each is_from_right ts
-    → sequence_levels bracket 1 R R chars ts ≡ implicit 1 (weak R ts)
-right_sequence bracket chars ts h =
+pub right_sequence : (says : Data) (chars : List ℕ) (ts : List Class) → Each is_from_right ts
+    → sequence_levels says 1 R R chars ts ≡ implicit 1 (weak R ts)
+right_sequence says chars ts h =
     let ws : List Class = weak R ts in
     let was : List Bool = map is_nsm ts in
     let rs : List ℕ = rises ws in
-    let found : List (ℕ × ℕ) = pairs bracket chars ws in
+    let found : List (ℕ × ℕ) = pairs says chars ws in
     let paired : List Class = resolve_pairs R R was found ws in
     let long : length ws ≡ length rs = sym (length-map ws rise_odd) in
-    let inside : AreInside (length rs) found = subst (λ n. AreInside n found) long (pairs_inside bracket chars ws) in
-    let ends : HaveEnds (λ n. get_or rs n 1 ≡ 0) found = pairs_ends (λ n. get_or rs n 1 ≡ 0) bracket chars ws (are_on ws [] 0 rs refl refl) in
+    let inside : AreInside (length rs) found = subst (λ n. AreInside n found) long (pairs_inside says chars ws) in
+    let ends : HaveEnds (λ n. get_or rs n 1 ≡ 0) found = pairs_ends (λ n. get_or rs n 1 ≡ 0) says chars ws (are_on ws [] 0 rs refl refl) in
     let r : IsRest was rs paired = pairs_rest was rs found ws (weak_low R ts) inside ends (record { each = weak_rest ts h; rise = refl }) in
     same_levels [] paired tt r.each ∙ by_rises paired ∙ ap (map (λ n. 1 + n)) r.rise ∙ sym (by_rises ws)

@@ -2,6 +2,7 @@
 use Rattle.std.proofs.Common.{◌≡◌, ◌∙◌, ℕ, List, [], ◌∷◌, length, replicate, refl, ap, Bool, true, false}
 use Rattle.std.proofs.Common.{Option}
 use Rattle.std.specs.Prelude.{◌&&◌}
+use Rattle.bx_ucd.specs.Data.{Data}
 use Rattle.bx_ucd.specs.declared.class.Class.{Class}
 use Rattle.bx_ucd.specs.declared.class.Class.TheVariants.{R, AL, AN, EN, ES, ET, CS, NSM, B, S, WS, ON}
 use Rattle.bx_ucd.specs.declared.data.Side.{Side}
@@ -225,7 +226,7 @@ all_from_right : (ts : List Class) → Each is_plain_right ts → Each is_from_r
 all_from_right [] h = tt
 all_from_right (t ∷ ts) h = (from_right t h.0, all_from_right ts h.1)
 
-pub plain_right_sequence : (bracket : ℕ → Option (Side × ℕ)) (chars : List ℕ) (ts : List Class) → Each is_plain_right ts
-    → sequence_levels bracket 1 R R chars ts ≡ replicate (length ts) 1
-plain_right_sequence bracket chars ts h =
-    right_sequence bracket chars ts (all_from_right ts h) ∙ level_one (weak R ts) (weak_plain ts h) ∙ ap (λ n. replicate n 1) (weak_length R ts)
+pub plain_right_sequence : (says : Data) (chars : List ℕ) (ts : List Class) → Each is_plain_right ts
+    → sequence_levels says 1 R R chars ts ≡ replicate (length ts) 1
+plain_right_sequence says chars ts h =
+    right_sequence says chars ts (all_from_right ts h) ∙ level_one (weak R ts) (weak_plain ts h) ∙ ap (λ n. replicate n 1) (weak_length R ts)

@@ -3,6 +3,7 @@ use Rattle.std.proofs.Common.{◌≡◌, ◌<◌, ◌≤◌, ◌+◌, ◌∙◌,
 use Rattle.std.proofs.Common.{Some}
 use Rattle.std.proofs.lemmas.List.{at_drop_more, drop_all}
 use Rattle.std.proofs.Math.ListN.{length-set}
+use Rattle.bx_ucd.specs.Data.{Data}
 use Rattle.bx_ucd.specs.declared.data.Side.{Side}
 use Rattle.bx_explicit.specs.declared.entry.Kept.{Kept}
 use Rattle.bx_ucd.specs.declared.class.Class.{Class}
@@ -36,11 +37,11 @@ levels_length [] ls each = refl
 levels_length (p ∷ ps) [] each = refl
 levels_length (p ∷ ps) (l ∷ ls) each = levels_length ps ls (set each p (Some l)) ∙ length-set each p (Some l)
 
-module _ (bracket : ℕ → Option (Side × ℕ)) (chars : List ℕ) (kept : List (Option Kept)) where
+module _ (says : Data) (chars : List ℕ) (kept : List (Option Kept)) where
   pub sequences_more : (ss : List RunSequence) (each : List (Option ℕ)) (i : ℕ) (d : RunSequence) → i < length ss
-      → with_sequences bracket chars kept (drop i ss) each
-      ≡ with_sequences bracket chars kept (drop (i + 1) ss) (with_levels (get_or ss i d).indexes (levels_in bracket chars kept (get_or ss i d)) each)
-  sequences_more ss each i d h = at_drop_more (λ xs. with_sequences bracket chars kept xs each) ss i d h
+      → with_sequences says chars kept (drop i ss) each
+      ≡ with_sequences says chars kept (drop (i + 1) ss) (with_levels (get_or ss i d).indexes (levels_in says chars kept (get_or ss i d)) each)
+  sequences_more ss each i d h = at_drop_more (λ xs. with_sequences says chars kept xs each) ss i d h
 
 written_all : (level : ℕ) (ps : List ℕ) (ts : List Class) (i : ℕ) (each : List (Option ℕ)) → length ts ≤ i
     → with_levels ps (implicit level (drop i ts)) each ≡ each

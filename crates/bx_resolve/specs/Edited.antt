@@ -2,6 +2,7 @@
 use Rattle.std.specs.Prelude.{◌≡◌, ◌⊎◌, ◌<◌, ℕ, ◌+◌, Bool, true, false, List, ◌++◌, Option, Some, None}
 use Rattle.std.specs.Prelude.{length, take, drop, map, slice_index_or}
 use Rattle.std.specs.List.{list_any}
+use Rattle.bx_ucd.specs.Data.{Data}
 use Rattle.bx_ucd.specs.declared.class.Class.{Class}
 use Rattle.bx_ucd.specs.declared.data.Side.{Side}
 use Rattle.bx_ucd.specs.Class.{is_strong}
@@ -25,16 +26,16 @@ abbrev pub new_text : Edit → List ℕ
 new_text e = e.before ++ (e.inserted ++ e.behind)
 
 -- no character is of a formatting class, nor BN
-abbrev pub HasNoFormatting : (ℕ → Class) → List ℕ → Type 0
-HasNoFormatting class chars = all_pass is_unformatted (map class chars) ≡ true
+abbrev pub HasNoFormatting : Data → List ℕ → Type 0
+HasNoFormatting says chars = all_pass is_unformatted (map says.class chars) ≡ true
 
 -- a character that the tables list as a bracket
 abbrev pub is_listed_as : Option (Side × ℕ) → Bool
 is_listed_as None = false
 is_listed_as (Some b) = true
 
-abbrev pub is_listed : (ℕ → Option (Side × ℕ)) → ℕ → Bool
-is_listed bracket c = is_listed_as (bracket c)
+abbrev pub is_listed : Data → ℕ → Bool
+is_listed says c = is_listed_as (says.bracket c)
 
 -- `m`, between two types of one direction, has no type that is or becomes of the other direction: a number counts as L after
 -- L, else as R
@@ -46,9 +47,9 @@ one_way x y m = elim (is_left x) [
 
 -- the text between `x` and `y` has no bracket, and no pair of brackets around it sees it: it is of one direction, or no bracket is before
 -- `x`, or none is after `y`
-abbrev pub IsCutOff : (ℕ → Option (Side × ℕ)) → List ℕ → Class → List ℕ → List Class → Class → List ℕ → Type 0
-IsCutOff bracket before x chars m y behind = (list_any (is_listed bracket) chars ≡ false)
-    × ((one_way x y m ≡ true) ⊎ ((list_any (is_listed bracket) before ≡ false) ⊎ (list_any (is_listed bracket) behind ≡ false)))
+abbrev pub IsCutOff : Data → List ℕ → Class → List ℕ → List Class → Class → List ℕ → Type 0
+IsCutOff says before x chars m y behind = (list_any (is_listed says) chars ≡ false)
+    × ((one_way x y m ≡ true) ⊎ ((list_any (is_listed says) before ≡ false) ⊎ (list_any (is_listed says) behind ≡ false)))
 
 -- of the text `a`, `s`, `b`, with `s` at the edit: the piece from the character at index `i` of `a` through the one at index `j` of `b`
 abbrev pub piece : List ℕ → ℕ → List ℕ → List ℕ → ℕ → List ℕ
@@ -66,44 +67,44 @@ abbrev pub end_piece : List ℕ → ℕ → List ℕ → List ℕ → List ℕ
 end_piece a i s b = drop i a ++ (s ++ b)
 
 -- the text between the two characters is cut off
-abbrev pub IsSafe : (ℕ → Class) → (ℕ → Option (Side × ℕ)) → List ℕ → ℕ → List ℕ → List ℕ → ℕ → Type 0
-IsSafe class bracket a i s b j = IsCutOff bracket (take i a) (class (slice_index_or a i 0)) (between a i s b j) (map class (between a i s b j))
-    (class (slice_index_or b j 0)) (drop (j + 1) b)
+abbrev pub IsSafe : Data → List ℕ → ℕ → List ℕ → List ℕ → ℕ → Type 0
+IsSafe says a i s b j = IsCutOff says (take i a) (says.class (slice_index_or a i 0)) (between a i s b j) (map says.class (between a i s b j))
+    (says.class (slice_index_or b j 0)) (drop (j + 1) b)
 
 -- an edit cut off by two strong characters: at index `i` of the text before it and at index `j` of the text after it
-pub record IsCutBetween (class : ℕ → Class) (bracket : ℕ → Option (Side × ℕ)) (e : Edit) (i j : ℕ) : Type 0 where
+pub record IsCutBetween (says : Data) (e : Edit) (i j : ℕ) : Type 0 where
   pub in_before : i < length e.before
   pub in_behind : j < length e.behind
-  pub strong_before : is_strong (class (slice_index_or e.before i 0)) ≡ true
-  pub strong_behind : is_strong (class (slice_index_or e.behind j 0)) ≡ true
-  pub old_unformatted : HasNoFormatting class (old_text e)
-  pub new_unformatted : HasNoFormatting class e.inserted
-  pub old_safe : IsSafe class bracket e.before i e.removed e.behind j
-  pub new_safe : IsSafe class bracket e.before i e.inserted e.behind j
+  pub strong_before : is_strong (says.class (slice_index_or e.before i 0)) ≡ true
+  pub strong_behind : is_strong (says.class (slice_index_or e.behind j 0)) ≡ true
+  pub old_unformatted : HasNoFormatting says (old_text e)
+  pub new_unformatted : HasNoFormatting says e.inserted
+  pub old_safe : IsSafe says e.before i e.removed e.behind j
+  pub new_safe : IsSafe says e.before i e.inserted e.behind j
 
 -- an edit without brackets between the start of the text and the strong character at index `j` after it, which keeps the paragraph level
-pub record IsCutFromStart (class : ℕ → Class) (bracket : ℕ → Option (Side × ℕ)) (base : Base) (e : Edit) (j : ℕ) : Type 0 where
+pub record IsCutFromStart (says : Data) (base : Base) (e : Edit) (j : ℕ) : Type 0 where
   pub in_behind : j < length e.behind
-  pub strong_behind : is_strong (class (slice_index_or e.behind j 0)) ≡ true
-  pub old_unformatted : HasNoFormatting class (old_text e)
-  pub new_unformatted : HasNoFormatting class e.inserted
-  pub old_bare : list_any (is_listed bracket) (e.before ++ (e.removed ++ take j e.behind)) ≡ false
-  pub new_bare : list_any (is_listed bracket) (e.before ++ (e.inserted ++ take j e.behind)) ≡ false
-  pub same_level : paragraph_level_under class base (new_text e) ≡ paragraph_level_under class base (old_text e)
+  pub strong_behind : is_strong (says.class (slice_index_or e.behind j 0)) ≡ true
+  pub old_unformatted : HasNoFormatting says (old_text e)
+  pub new_unformatted : HasNoFormatting says e.inserted
+  pub old_bare : list_any (is_listed says) (e.before ++ (e.removed ++ take j e.behind)) ≡ false
+  pub new_bare : list_any (is_listed says) (e.before ++ (e.inserted ++ take j e.behind)) ≡ false
+  pub same_level : paragraph_level_under says base (new_text e) ≡ paragraph_level_under says base (old_text e)
 
 -- an edit without brackets between the strong character at index `i` before it and the end of the text
-pub record IsCutToEnd (class : ℕ → Class) (bracket : ℕ → Option (Side × ℕ)) (e : Edit) (i : ℕ) : Type 0 where
+pub record IsCutToEnd (says : Data) (e : Edit) (i : ℕ) : Type 0 where
   pub in_before : i < length e.before
-  pub strong_before : is_strong (class (slice_index_or e.before i 0)) ≡ true
-  pub old_unformatted : HasNoFormatting class (old_text e)
-  pub new_unformatted : HasNoFormatting class e.inserted
-  pub old_bare : list_any (is_listed bracket) (drop (i + 1) e.before ++ (e.removed ++ e.behind)) ≡ false
-  pub new_bare : list_any (is_listed bracket) (drop (i + 1) e.before ++ (e.inserted ++ e.behind)) ≡ false
+  pub strong_before : is_strong (says.class (slice_index_or e.before i 0)) ≡ true
+  pub old_unformatted : HasNoFormatting says (old_text e)
+  pub new_unformatted : HasNoFormatting says e.inserted
+  pub old_bare : list_any (is_listed says) (drop (i + 1) e.before ++ (e.removed ++ e.behind)) ≡ false
+  pub new_bare : list_any (is_listed says) (drop (i + 1) e.before ++ (e.inserted ++ e.behind)) ≡ false
 
 -- `levels` are the levels of a text under a base direction
-pub record AreLevelsOf (class : ℕ → Class) (bracket : ℕ → Option (Side × ℕ)) (base : Base) (chars : List ℕ) (levels : Levels) : Type 0 where
-  pub paragraph_is : levels.paragraph ≡ paragraph_level_under class base chars
-  pub each_is : levels.each.items ≡ levels_under class bracket base chars
+pub record AreLevelsOf (says : Data) (base : Base) (chars : List ℕ) (levels : Levels) : Type 0 where
+  pub paragraph_is : levels.paragraph ≡ paragraph_level_under says base chars
+  pub each_is : levels.each.items ≡ levels_under says base chars
 
 -- the index in the old text after the character at index `j` of the text after the edit
 abbrev pub old_index : Edit → ℕ → ℕ
@@ -111,19 +112,19 @@ old_index e j = length e.before + length e.removed + (j + 1)
 
 -- if `was` are the levels of the old text, `now` are the levels of the new one, for any edit that puts `chars` in the place of the old text
 -- from the strong character at index `first` through the one before index `last`
-abbrev pub FollowsBetween : (ℕ → Class) → (ℕ → Option (Side × ℕ)) → List ℕ → ℕ → ℕ → Levels → Levels → Type 0
-FollowsBetween class bracket chars first last was now = (base : Base) (e : Edit) (j : ℕ) → IsCutBetween class bracket e first j
+abbrev pub FollowsBetween : Data → List ℕ → ℕ → ℕ → Levels → Levels → Type 0
+FollowsBetween says chars first last was now = (base : Base) (e : Edit) (j : ℕ) → IsCutBetween says e first j
     → chars ≡ piece e.before first e.inserted e.behind j → last ≡ old_index e j
-    → AreLevelsOf class bracket base (old_text e) was → AreLevelsOf class bracket base (new_text e) now
+    → AreLevelsOf says base (old_text e) was → AreLevelsOf says base (new_text e) now
 
 -- the same from the start of the text
-abbrev pub FollowsFromStart : (ℕ → Class) → (ℕ → Option (Side × ℕ)) → List ℕ → ℕ → Levels → Levels → Type 0
-FollowsFromStart class bracket chars last was now = (base : Base) (e : Edit) (j : ℕ) → IsCutFromStart class bracket base e j
+abbrev pub FollowsFromStart : Data → List ℕ → ℕ → Levels → Levels → Type 0
+FollowsFromStart says chars last was now = (base : Base) (e : Edit) (j : ℕ) → IsCutFromStart says base e j
     → chars ≡ start_piece e.before e.inserted e.behind j → last ≡ old_index e j
-    → AreLevelsOf class bracket base (old_text e) was → AreLevelsOf class bracket base (new_text e) now
+    → AreLevelsOf says base (old_text e) was → AreLevelsOf says base (new_text e) now
 
 -- the same to the end of the text
-abbrev pub FollowsToEnd : (ℕ → Class) → (ℕ → Option (Side × ℕ)) → List ℕ → ℕ → Levels → Levels → Type 0
-FollowsToEnd class bracket chars first was now = (base : Base) (e : Edit) → IsCutToEnd class bracket e first
+abbrev pub FollowsToEnd : Data → List ℕ → ℕ → Levels → Levels → Type 0
+FollowsToEnd says chars first was now = (base : Base) (e : Edit) → IsCutToEnd says e first
     → chars ≡ end_piece e.before first e.inserted e.behind
-    → AreLevelsOf class bracket base (old_text e) was → AreLevelsOf class bracket base (new_text e) now
+    → AreLevelsOf says base (old_text e) was → AreLevelsOf says base (new_text e) now

@@ -1,6 +1,7 @@
 -- Laws of the isolating run sequences of every text, and of the levels of a text of class L.
 use Rattle.std.specs.Prelude.{◌≡◌, ◌≤◌, ℕ, List, [], ◌∷◌, ◌++◌, All, Option, Some, length, replicate}
 use Rattle.std.specs.List.Sorted.{IsPermutation}
+use Rattle.bx_ucd.specs.Data.{Data}
 use Rattle.bx_ucd.specs.declared.class.Class.{Class}
 use Rattle.bx_ucd.specs.declared.class.Class.TheVariants.{L}
 use Rattle.bx_ucd.specs.declared.data.Side.{Side}
@@ -22,5 +23,5 @@ HaveEachOnce = (level : ℕ) (cs : List Class) → level ≤ 1
 
 -- under the base direction, a text of class L alone has the given paragraph level, and each character the given level
 abbrev pub LeftTextsHave : Base → ℕ → ℕ → Type 0
-LeftTextsHave base paragraph level = (class : ℕ → Class) (bracket : ℕ → Option (Side × ℕ)) (chars : List ℕ) → All (λ c. class c ≡ L) chars
-    → (paragraph_level_under class base chars ≡ paragraph) × (levels_under class bracket base chars ≡ replicate (length chars) (Some level))
+LeftTextsHave base paragraph level = (says : Data) (chars : List ℕ) → All (λ c. says.class c ≡ L) chars
+    → (paragraph_level_under says base chars ≡ paragraph) × (levels_under says base chars ≡ replicate (length chars) (Some level))

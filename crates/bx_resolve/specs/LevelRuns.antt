@@ -1,5 +1,6 @@
 -- Steps over the indexes of a level run, before the rest of its sequence.
 use Rattle.std.specs.Prelude.{◌≡◌, ℕ, List, ◌++◌, Option, drop}
+use Rattle.bx_ucd.specs.Data.{Data}
 use Rattle.bx_ucd.specs.declared.class.Class.{Class}
 use Rattle.bx_ucd.specs.declared.data.Side.{Side}
 use Rattle.bx_brackets.specs.Search.{Progress, pairs_after}
@@ -10,6 +11,6 @@ abbrev pub WritesRun : List ℕ → List ℕ → List (Option ℕ) → List ℕ 
 WritesRun ps levels each left new_each = (rest : List ℕ) → with_levels (ps ++ rest) levels each ≡ with_levels rest left new_each
 
 -- after the characters at the indexes `ps` are passed to a search, it continues with the rest
-abbrev pub MeetsRun : (ℕ → Option (Side × ℕ)) → List ℕ → List Class → List ℕ → Progress → ℕ → Progress → ℕ → Type 0
-MeetsRun bracket chars ts ps before met after new_met = (rest : List ℕ)
-    → pairs_after bracket before met (chars_at chars (ps ++ rest)) (drop met ts) ≡ pairs_after bracket after new_met (chars_at chars rest) (drop new_met ts)
+abbrev pub MeetsRun : Data → List ℕ → List Class → List ℕ → Progress → ℕ → Progress → ℕ → Type 0
+MeetsRun says chars ts ps before met after new_met = (rest : List ℕ)
+    → pairs_after says before met (chars_at chars (ps ++ rest)) (drop met ts) ≡ pairs_after says after new_met (chars_at chars rest) (drop new_met ts)

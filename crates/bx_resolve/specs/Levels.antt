@@ -1,5 +1,6 @@
 -- The levels of a paragraph, by all rules in order.
 use Rattle.std.specs.Prelude.{ℕ, ◌+◌, Bool, true, false, List, [], ◌∷◌, Option, Some, None, length, map, replicate, slice_index_or, slice_set}
+use Rattle.bx_ucd.specs.Data.{Data}
 use Rattle.bx_ucd.specs.declared.class.Class.{Class}
 use Rattle.bx_ucd.specs.declared.class.Class.TheVariants.{BN, LRE, LRO, ON, PDF, RLE, RLO}
 use Rattle.bx_ucd.specs.declared.data.Side.{Side}
@@ -26,20 +27,20 @@ abbrev pub types_at : List (Option Kept) → List ℕ → List Class
 types_at kept ps = map (λ p. type_of (slice_index_or kept p None)) ps
 
 -- the resolved types of a sequence, from its characters and types: W1 to W7, N0, N1 and N2
-abbrev pub sequence_types : (ℕ → Option (Side × ℕ)) → ℕ → Class → Class → List ℕ → List Class → List Class
-sequence_types bracket level sos eos chars ts =
+abbrev pub sequence_types : Data → ℕ → Class → Class → List ℕ → List Class → List Class
+sequence_types says level sos eos chars ts =
     let embedding = direction level in
     let weak_types = weak sos ts in
-    let paired = resolve_pairs embedding sos (map is_nsm ts) (pairs bracket chars weak_types) weak_types in
+    let paired = resolve_pairs embedding sos (map is_nsm ts) (pairs says chars weak_types) weak_types in
     n2 embedding (n1 sos eos paired)
 
 -- the levels of a sequence, by I1 and I2
-abbrev pub sequence_levels : (ℕ → Option (Side × ℕ)) → ℕ → Class → Class → List ℕ → List Class → List ℕ
-sequence_levels bracket level sos eos chars ts = implicit level (sequence_types bracket level sos eos chars ts)
+abbrev pub sequence_levels : Data → ℕ → Class → Class → List ℕ → List Class → List ℕ
+sequence_levels says level sos eos chars ts = implicit level (sequence_types says level sos eos chars ts)
 
 -- the same for a sequence of a paragraph
-abbrev pub levels_in : (ℕ → Option (Side × ℕ)) → List ℕ → List (Option Kept) → RunSequence → List ℕ
-levels_in bracket chars kept s = sequence_levels bracket s.level s.sos s.eos (chars_at chars s.indexes) (types_at kept s.indexes)
+abbrev pub levels_in : Data → List ℕ → List (Option Kept) → RunSequence → List ℕ
+levels_in says chars kept s = sequence_levels says s.level s.sos s.eos (chars_at chars s.indexes) (types_at kept s.indexes)
 
 -- each level written at its index
 abbrev pub with_levels : List ℕ → List ℕ → List (Option ℕ) → List (Option ℕ)
@@ -48,23 +49,23 @@ with_levels (p ∷ ps) [] each = each
 with_levels (p ∷ ps) (l ∷ ls) each = with_levels ps ls (slice_set each p (Some l))
 
 -- the levels of all sequences written
-abbrev pub with_sequences : (ℕ → Option (Side × ℕ)) → List ℕ → List (Option Kept) → List RunSequence → List (Option ℕ) → List (Option ℕ)
-with_sequences bracket chars kept [] each = each
-with_sequences bracket chars kept (s ∷ ss) each = with_sequences bracket chars kept ss (with_levels s.indexes (levels_in bracket chars kept s) each)
+abbrev pub with_sequences : Data → List ℕ → List (Option Kept) → List RunSequence → List (Option ℕ) → List (Option ℕ)
+with_sequences says chars kept [] each = each
+with_sequences says chars kept (s ∷ ss) each = with_sequences says chars kept ss (with_levels s.indexes (levels_in says chars kept s) each)
 
 -- the level of each character, or nothing where X9 removes it, given the paragraph level
-abbrev pub paragraph_levels : (ℕ → Class) → (ℕ → Option (Side × ℕ)) → ℕ → List ℕ → List (Option ℕ)
-paragraph_levels class bracket paragraph chars =
-    let cs = map class chars in
+abbrev pub paragraph_levels : Data → ℕ → List ℕ → List (Option ℕ)
+paragraph_levels says paragraph chars =
+    let cs = map says.class chars in
     let kept = explicit_levels paragraph cs in
-    with_sequences bracket chars kept (sequences paragraph cs kept) (replicate (length chars) None)
+    with_sequences says chars kept (sequences paragraph cs kept) (replicate (length chars) None)
 
 -- the paragraph level under a base direction, and the level of each character
-abbrev pub paragraph_level_under : (ℕ → Class) → Base → List ℕ → ℕ
-paragraph_level_under class base chars = base_level base (map class chars)
+abbrev pub paragraph_level_under : Data → Base → List ℕ → ℕ
+paragraph_level_under says base chars = base_level base (map says.class chars)
 
-abbrev pub levels_under : (ℕ → Class) → (ℕ → Option (Side × ℕ)) → Base → List ℕ → List (Option ℕ)
-levels_under class bracket base chars = paragraph_levels class bracket (paragraph_level_under class base chars) chars
+abbrev pub levels_under : Data → Base → List ℕ → List (Option ℕ)
+levels_under says base chars = paragraph_levels says (paragraph_level_under says base chars) chars
 
 -- X9 keeps characters of the class, which then have a level
 abbrev pub is_kept : Class → Bool

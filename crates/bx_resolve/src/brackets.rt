@@ -24,7 +24,7 @@ fn meet_text<D: BidiData>(
 ) -> Result<(), BracketError>
     requires next { search.old.next ≡ 0 }
     requires count { search.old.count ≡ length types.now }
-    ensures pairs { OnOk result (search.new.progress.pairs ≡ pairs_after (D.data tables.now).bracket search.old.progress 0 (chars text.now) types.now) }
+    ensures pairs { OnOk result (search.new.progress.pairs ≡ pairs_after (D.data tables.now) search.old.progress 0 (chars text.now) types.now) }
     ensures count { search.new.count ≡ search.old.count }
 {
     let mut rest = text;
@@ -53,7 +53,7 @@ fn meet_run<D: BidiData>(
     requires as_long { length body.now ≡ length kept.now }
     requires next { search.old.next ≤ met }
     requires count { search.old.count ≡ length types.now }
-    ensures met { IfOk result (λ m. MeetsRun (D.data tables.now).bracket body.now types.now (level_indexes level first (drop first kept.now))
+    ensures met { IfOk result (λ m. MeetsRun (D.data tables.now) body.now types.now (level_indexes level first (drop first kept.now))
         search.old.progress met search.new.progress m) }
     ensures next { IfOk result (λ m. search.new.next ≤ m) }
     ensures count { search.new.count ≡ search.old.count }
@@ -96,7 +96,7 @@ fn meet_sequence<D: BidiData>(
     requires next { search.old.next ≡ 0 }
     requires count { search.old.count ≡ length types.now }
     ensures pairs { OnOk result (search.new.progress.pairs
-        ≡ pairs_after (D.data tables.now).bracket search.old.progress 0 (chars_at body.now (indexes_from level kept.now firsts.now)) types.now) }
+        ≡ pairs_after (D.data tables.now) search.old.progress 0 (chars_at body.now (indexes_from level kept.now firsts.now)) types.now) }
     ensures count { search.new.count ≡ search.old.count }
 {
     let mut met = 0;
@@ -119,7 +119,7 @@ pub fn resolve_brackets_of<D: BidiData>(
     requires small { length types.old ≤ 2 ^ 32 }
     requires marks { length scratch.old.marks.items ≡ length types.old }
     ensures { OnOk result (types.new ≡ resolve_pairs (direction ends.level) ends.sos scratch.old.marks.items
-        (pairs (D.data tables.now).bracket (chars body.now) types.old) types.old) }
+        (pairs (D.data tables.now) (chars body.now) types.old) types.old) }
 {
     if !may_have_brackets(types) {
         return Ok(());
@@ -145,7 +145,7 @@ pub fn resolve_brackets_in<D: BidiData>(
     requires small { length types.old ≤ 2 ^ 32 }
     requires marks { length scratch.old.marks.items ≡ length types.old }
     ensures types { OnOk result (types.new ≡ resolve_pairs (direction ends.level) ends.sos scratch.old.marks.items
-        (pairs (D.data tables.now).bracket (chars_at body.old (indexes_from ends.level kept.now firsts.now)) types.old) types.old) }
+        (pairs (D.data tables.now) (chars_at body.old (indexes_from ends.level kept.now firsts.now)) types.old) types.old) }
     ensures body { body.new ≡ body.old }
 {
     if !may_have_brackets(types) {

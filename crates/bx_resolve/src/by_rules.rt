@@ -27,7 +27,7 @@ fn levels_in<D: BidiData>(
     requires low { sequence.now.level ≤ max_depth }
     requires within { All (λ p. p < length kept.now) sequence.now.indexes }
     requires as_long { length chars.now ≡ length kept.now }
-    ensures levels { IfOk result (λ v. v.items ≡ levels_in (D.data tables.now).bracket chars.now kept.now sequence.now) }
+    ensures levels { IfOk result (λ v. v.items ≡ levels_in (D.data tables.now) chars.now kept.now sequence.now) }
     ensures low { IfOk result (λ v. All (λ n. n ≤ max_level) v.items) }
 {
     let (level, sos, eos) = (sequence.level(), sequence.sos(), sequence.eos());
@@ -55,8 +55,8 @@ pub fn levels_by_rules<D: BidiData>(
     tables: &D,
     base: Base,
 ) -> Result<Levels, ResolveError>
-    ensures paragraph { IfOk result (λ v. v.paragraph ≡ paragraph_level_under (D.data tables.now).class base (chars body.now)) }
-    ensures each { IfOk result (λ v. v.each.items ≡ levels_under (D.data tables.now).class (D.data tables.now).bracket base (chars body.now)) }
+    ensures paragraph { IfOk result (λ v. v.paragraph ≡ paragraph_level_under (D.data tables.now) base (chars body.now)) }
+    ensures each { IfOk result (λ v. v.each.items ≡ levels_under (D.data tables.now) base (chars body.now)) }
 {
     let chars = chars_of(alloc, body)?;
     let classes = classes_of(alloc, body, tables)?;

@@ -21,7 +21,7 @@ fn piece_levels<D: BidiData>(
     paragraph: u8,
 ) -> Result<Vec<Level>, ResolveError>
     requires { paragraph ≤ 1 }
-    ensures { IfOk result (λ v. v.items ≡ paragraph_levels (D.data tables.now).class (D.data tables.now).bracket paragraph (chars piece.now)) }
+    ensures { IfOk result (λ v. v.items ≡ paragraph_levels (D.data tables.now) paragraph (chars piece.now)) }
 {
     if paragraph == 0 {
         let levels = levels(alloc, piece, tables, Base::Ltr)?;
@@ -43,7 +43,7 @@ fn resolve_span<D: BidiData>(
     requires inside { span.last ≤ length levels.old.each.items }
     ensures paragraph { levels.new.paragraph ≡ levels.old.paragraph }
     ensures each { OnOk result (levels.new.each.items ≡ splice levels.old.each.items span.first span.last
-        (paragraph_levels (D.data tables.now).class (D.data tables.now).bracket levels.old.paragraph (chars piece.now))) }
+        (paragraph_levels (D.data tables.now) levels.old.paragraph (chars piece.now))) }
     ensures err { OnErr result (levels.new.each.items ≡ levels.old.each.items) }
 {
     let alloc = *levels.each.allocator();
@@ -67,8 +67,8 @@ pub fn follow_between<D: BidiData>(
     requires inside { span.last ≤ length levels.old.each.items }
     ensures paragraph { levels.new.paragraph ≡ levels.old.paragraph }
     ensures each { OnOk result (levels.new.each.items ≡ splice levels.old.each.items span.first span.last
-        (paragraph_levels (D.data tables.now).class (D.data tables.now).bracket levels.old.paragraph (chars piece.now))) }
-    ensures law { OnOk result (FollowsBetween (D.data tables.now).class (D.data tables.now).bracket (chars piece.now) span.first span.last
+        (paragraph_levels (D.data tables.now) levels.old.paragraph (chars piece.now))) }
+    ensures law { OnOk result (FollowsBetween (D.data tables.now) (chars piece.now) span.first span.last
         levels.old levels.new) }
     ensures err { OnErr result (levels.new.each.items ≡ levels.old.each.items) }
 {
@@ -89,9 +89,9 @@ pub fn follow_from_start<D: BidiData>(
     requires low { levels.old.paragraph ≤ 1 }
     requires inside { last ≤ length levels.old.each.items }
     ensures paragraph { levels.new.paragraph ≡ levels.old.paragraph }
-    ensures each { OnOk result (levels.new.each.items ≡ paragraph_levels (D.data tables.now).class (D.data tables.now).bracket levels.old.paragraph
+    ensures each { OnOk result (levels.new.each.items ≡ paragraph_levels (D.data tables.now) levels.old.paragraph
         (chars piece.now) ++ drop last levels.old.each.items) }
-    ensures law { OnOk result (FollowsFromStart (D.data tables.now).class (D.data tables.now).bracket (chars piece.now) last levels.old levels.new) }
+    ensures law { OnOk result (FollowsFromStart (D.data tables.now) (chars piece.now) last levels.old levels.new) }
     ensures err { OnErr result (levels.new.each.items ≡ levels.old.each.items) }
 {
     resolve_span(levels, tables, piece, Span { first: 0, last })?;
@@ -113,8 +113,8 @@ pub fn follow_to_end<D: BidiData>(
     requires inside { first ≤ length levels.old.each.items }
     ensures paragraph { levels.new.paragraph ≡ levels.old.paragraph }
     ensures each { OnOk result (levels.new.each.items ≡ take first levels.old.each.items
-        ++ paragraph_levels (D.data tables.now).class (D.data tables.now).bracket levels.old.paragraph (chars piece.now)) }
-    ensures law { OnOk result (FollowsToEnd (D.data tables.now).class (D.data tables.now).bracket (chars piece.now) first levels.old levels.new) }
+        ++ paragraph_levels (D.data tables.now) levels.old.paragraph (chars piece.now)) }
+    ensures law { OnOk result (FollowsToEnd (D.data tables.now) (chars piece.now) first levels.old levels.new) }
     ensures err { OnErr result (levels.new.each.items ≡ levels.old.each.items) }
 {
     let last = levels.each.len();

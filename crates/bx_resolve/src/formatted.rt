@@ -134,7 +134,7 @@ fn write_sequence<D: BidiData>(
     requires types { types.old ≡ types_at kept.now walk.now.current.indexes }
     requires all { length each.old.items ≡ length kept.now }
     ensures written { OnOk result (each.new.items ≡ with_levels walk.now.current.indexes
-        (levels_in (D.data tables.now).bracket body.old kept.now walk.now.current) each.old.items) }
+        (levels_in (D.data tables.now) body.old kept.now walk.now.current) each.old.items) }
     ensures body { body.new ≡ body.old }
 {
     let ends = Ends {
@@ -172,7 +172,7 @@ fn write_lent<D: BidiData>(
     requires as_long { length room.old.body ≡ length kept.now }
     requires all { length each.old.items ≡ length kept.now }
     ensures written { OnOk result (each.new.items ≡ with_levels walk.now.current.indexes
-        (levels_in (D.data tables.now).bracket room.old.body kept.now walk.now.current) each.old.items) }
+        (levels_in (D.data tables.now) room.old.body kept.now walk.now.current) each.old.items) }
     ensures body { room.new.body ≡ room.old.body }
 {
     sequence_types(&mut room.types, kept, walk.firsts(), walk.level())?;
@@ -197,7 +197,7 @@ fn each_level<D: BidiData>(
 ) -> Result<Vec<Level>, ResolveError>
     requires small { length body.now < 2 ^ 32 }
     requires as_long { length (chars body.now) ≡ length explicit.now.classes.items }
-    ensures { IfOk result (λ v. v.items ≡ with_sequences (D.data tables.now).bracket (chars body.now) explicit.now.kept.items
+    ensures { IfOk result (λ v. v.items ≡ with_sequences (D.data tables.now) (chars body.now) explicit.now.kept.items
         (sequences explicit.now.level explicit.now.classes.items explicit.now.kept.items) (replicate (length (chars body.now)) None)) }
 {
     let mut each = vec![in alloc; Level::none(); explicit.kept.len()]?;
@@ -225,7 +225,7 @@ pub fn formatted_levels<D: BidiData>(
     requires low { paragraph ≤ 1 }
     requires small { length body.now < 2 ^ 32 }
     ensures paragraph { IfOk result (λ v. v.paragraph ≡ paragraph) }
-    ensures each { IfOk result (λ v. v.each.items ≡ paragraph_levels (D.data tables.now).class (D.data tables.now).bracket paragraph (chars body.now)) }
+    ensures each { IfOk result (λ v. v.each.items ≡ paragraph_levels (D.data tables.now) paragraph (chars body.now)) }
 {
     let explicit = explicit(alloc, &classes, paragraph)?;
     drop(classes);

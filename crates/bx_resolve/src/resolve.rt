@@ -66,7 +66,7 @@ fn unformatted_levels<D: BidiData>(
     requires small { length body.now < 2 ^ 32 }
     requires unformatted { all_pass is_unformatted classes.old ≡ true }
     ensures paragraph { IfOk result (λ v. v.paragraph ≡ paragraph) }
-    ensures each { IfOk result (λ v. v.each.items ≡ paragraph_levels (D.data tables.now).class (D.data tables.now).bracket paragraph (chars body.now)) }
+    ensures each { IfOk result (λ v. v.each.items ≡ paragraph_levels (D.data tables.now) paragraph (chars body.now)) }
 {
     let side = direction(paragraph);
     let ends = Ends {
@@ -92,8 +92,8 @@ fn resolved_levels<D: BidiData>(
     tables: &D,
     base: Base,
 ) -> Result<Levels, ResolveError>
-    ensures paragraph { IfOk result (λ v. v.paragraph ≡ paragraph_level_under (D.data tables.now).class base (chars body.now)) }
-    ensures each { IfOk result (λ v. v.each.items ≡ levels_under (D.data tables.now).class (D.data tables.now).bracket base (chars body.now)) }
+    ensures paragraph { IfOk result (λ v. v.paragraph ≡ paragraph_level_under (D.data tables.now) base (chars body.now)) }
+    ensures each { IfOk result (λ v. v.each.items ≡ levels_under (D.data tables.now) base (chars body.now)) }
 {
     if body.len() > u32::MAX as usize {
         return levels_by_rules(alloc, body, tables, base);
@@ -125,8 +125,8 @@ pub fn levels<D: BidiData>(
     tables: &D,
     base: Base,
 ) -> Result<Levels, ResolveError>
-    ensures paragraph { IfOk result (λ v. v.paragraph ≡ paragraph_level_under (D.data tables.now).class base (chars body.now)) }
-    ensures each { IfOk result (λ v. v.each.items ≡ levels_under (D.data tables.now).class (D.data tables.now).bracket base (chars body.now)) }
+    ensures paragraph { IfOk result (λ v. v.paragraph ≡ paragraph_level_under (D.data tables.now) base (chars body.now)) }
+    ensures each { IfOk result (λ v. v.each.items ≡ levels_under (D.data tables.now) base (chars body.now)) }
     ensures kept { IfOk result (λ v. map is_some v.each.items ≡ map is_kept (map (D.data tables.now).class (chars body.now))) }
     ensures low { IfOk result (λ v. All (λ l. IfSome l (λ n. n ≤ max_level)) v.each.items) }
 {

@@ -1,8 +1,9 @@
 -- A whole body, computed: its rows, the levels of their units, and their pictures.
 use Rattle.std.proofs.Common.{ℕ, Bool, List, map, Option}
 use Rattle.std.specs.Prelude.{flat_map, chars, encode_utf8_all, Some, None, ◌==◌, if◌then◌else◌}
+use Rattle.bx_ucd.specs.Data.{Data}
 pub use Rattle.bx_ucd.specs.SmallTables.{mirror}
-use Rattle.bx_resolve.specs.TestTables.{class, bracket}
+use Rattle.bx_resolve.specs.TestTables.{small}
 use Rattle.bx_explicit.specs.declared.base.Base.{Base}
 use Rattle.bx_explicit.specs.declared.base.Base.TheVariants.{Auto}
 use Rattle.bx_resolve.specs.Levels.{paragraph_level_under, levels_under}
@@ -25,18 +26,18 @@ narrow_mirror c = if c == 0x4e16 then Some 0x61 else (if c == 0x301 then Some 0x
 abbrev pub rows_units : ℕ → List ℕ → List (List Unit)
 rows_units w cs =
     let body = encode_utf8_all cs in
-    let us = units class w body in
-    map (row_units us) (wrap class w body us)
+    let us = units small w body in
+    map (row_units us) (wrap small w body us)
 
 -- the rows, each from unit to unit
 abbrev pub rows : ℕ → List ℕ → List (ℕ × ℕ)
-rows w cs = let body = encode_utf8_all cs in map (λ r. (r.start, r.stop)) (wrap class w body (units class w body))
+rows w cs = let body = encode_utf8_all cs in map (λ r. (r.start, r.stop)) (wrap small w body (units small w body))
 
 -- the levels of the units of each row
 abbrev pub levels_under_base : Base → ℕ → List ℕ → List (List ℕ)
 levels_under_base base w cs =
-    let each = levels_under class bracket base cs in
-    map (row_levels class (encode_utf8_all cs) (paragraph_level_under class base cs) each) (rows_units w cs)
+    let each = levels_under small base cs in
+    map (row_levels small (encode_utf8_all cs) (paragraph_level_under small base cs) each) (rows_units w cs)
 
 abbrev pub levels : ℕ → List ℕ → List (List ℕ)
 levels w cs = levels_under_base Auto w cs
@@ -49,9 +50,10 @@ orders w cs = map visual (levels w cs)
 abbrev pub drawn : (ℕ → Option ℕ) → Base → ℕ → List ℕ → List (List Glyph)
 drawn mirrors base w cs =
     let body = encode_utf8_all cs in
-    let paragraph = paragraph_level_under class base cs in
-    let each = levels_under class bracket base cs in
-    map (λ us. draw class mirrors w body paragraph us (row_levels class body paragraph each us)) (rows_units w cs)
+    let says : Data = record { class = small.class; bracket = small.bracket; mirror = mirrors } in
+    let paragraph = paragraph_level_under says base cs in
+    let each = levels_under says base cs in
+    map (λ us. draw says w body paragraph us (row_levels says body paragraph each us)) (rows_units w cs)
 
 -- the characters of a row's glyphs from left to right
 abbrev pub texts : List (List Glyph) → List (List ℕ)

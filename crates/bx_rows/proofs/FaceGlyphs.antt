@@ -9,6 +9,7 @@ use Rattle.std.proofs.lemmas.List.Elements.{All-map, All-cons, All-nil, All-repl
 use Rattle.std.proofs.lemmas.List.Sums.{sum_by-cons}
 use Rattle.std.proofs.lemmas.List.Folds.{sum_by-replicate}
 use Rattle.std.proofs.lemmas.Str.{chars-IsAscii}
+use Rattle.bx_ucd.specs.Data.{Data}
 use Rattle.unicode_width.specs.Width.{str_width}
 use Rattle.unicode_width.proofs.Rules.{str_width-printable}
 use Rattle.bx_terms.specs.Characters.{are_ascii_printable, are_printable, is_ascii_glyph, is_ascii_printable, is_control}
@@ -60,9 +61,9 @@ letter-of_class RLI = refl
 letter-of_class FSI = refl
 letter-of_class PDI = refl
 
-letter-of_only : (class : ℕ → Class) (only : Option ℕ) → IsLetter (format_letter class only)
-letter-of_only class None = tt
-letter-of_only class (Some c) = letter-of_class (class c)
+letter-of_only : (says : Data) (only : Option ℕ) → IsLetter (format_letter says only)
+letter-of_only says None = tt
+letter-of_only says (Some c) = letter-of_class (says.class c)
 
 some-columns : (n : ℕ) → (n == 0) ≡ false → 1 ≤ n
 some-columns n d = grind (arith, nat_tests)
@@ -80,20 +81,20 @@ tells-by w cs false true l d m = refl
 tells-by w cs false false (Some x) d m = m
 tells-by w cs false false None d m = tells-sized cs (columns_of cs == 0) (nat_lt w (columns_of cs)) refl d
 
-pub tells : (class : ℕ → Class) (w : ℕ) (cs : List ℕ) → Tells cs (face_of class w cs)
-tells class w cs = tells-by w cs (is_tab (only_char cs)) (list_any is_control cs) (format_letter class (only_char cs)) refl
-    (letter-of_only class (only_char cs))
+pub tells : (says : Data) (w : ℕ) (cs : List ℕ) → Tells cs (face_of says w cs)
+tells says w cs = tells-by w cs (is_tab (only_char cs)) (list_any is_control cs) (format_letter says (only_char cs)) refl
+    (letter-of_only says (only_char cs))
 
 letter-from_tells : (cs : List ℕ) (f : Face) → Tells cs f → HasLetter f
 letter-from_tells cs Tab h = tt
 letter-from_tells cs (Mark letter) h = h
 letter-from_tells cs (Own n) h = tt
 
-pub tells-face : (class : ℕ → Class) (w : ℕ) (text : List ℕ) (f : Face) → f ≡ face class w text → Tells (chars text) f
-tells-face class w text f e = subst (Tells (chars text)) (sym e) (tells class w (chars text))
+pub tells-face : (says : Data) (w : ℕ) (text : List ℕ) (f : Face) → f ≡ face says w text → Tells (chars text) f
+tells-face says w text f e = subst (Tells (chars text)) (sym e) (tells says w (chars text))
 
-pub letter-face : (class : ℕ → Class) (w : ℕ) (text : List ℕ) (f : Face) → f ≡ face class w text → HasLetter f
-letter-face class w text f e = letter-from_tells (chars text) f (tells-face class w text f e)
+pub letter-face : (says : Data) (w : ℕ) (text : List ℕ) (f : Face) → f ≡ face says w text → HasLetter f
+letter-face says w text f e = letter-from_tells (chars text) f (tells-face says w text f e)
 
 -- ---- the text that is shown at a level
 
@@ -102,15 +103,15 @@ own-from cs n Tab h e = absurd (cc)
 own-from cs n (Mark letter) h e = absurd (cc)
 own-from cs n (Own m) h e = let same : m ≡ n = grind (arith, nat_tests) in subst (λ k. Tells cs (Own k)) same h
 
-tells-either : (class : ℕ → Class) (w n : ℕ) (text other : List ℕ) (b : Bool) → is_own n (face class w other) ≡ b → Tells (chars text) (Own n)
+tells-either : (says : Data) (w n : ℕ) (text other : List ℕ) (b : Bool) → is_own n (face says w other) ≡ b → Tells (chars text) (Own n)
     → Tells (chars (elim b [ true ↦ other | false ↦ text ])) (Own n)
-tells-either class w n text other true e h = own-from (chars other) n (face class w other) (tells class w (chars other)) e
-tells-either class w n text other false e h = h
+tells-either says w n text other true e h = own-from (chars other) n (face says w other) (tells says w (chars other)) e
+tells-either says w n text other false e h = h
 
-pub tells-shown : (class : ℕ → Class) (mirror : ℕ → Option ℕ) (w n odd : ℕ) (text : List ℕ) → Tells (chars text) (Own n)
-    → Tells (chars (elim odd [ zero ↦ text | suc _ ↦ mirror_image_within class mirror w n text ])) (Own n)
-tells-shown class mirror w n zero text h = h
-tells-shown class mirror w n (suc k) text h = tells-either class w n text (mirror_image mirror text) (is_own n (face class w (mirror_image mirror text))) refl h
+pub tells-shown : (says : Data) (w n odd : ℕ) (text : List ℕ) → Tells (chars text) (Own n)
+    → Tells (chars (elim odd [ zero ↦ text | suc _ ↦ mirror_image_within says w n text ])) (Own n)
+tells-shown says w n zero text h = h
+tells-shown says w n (suc k) text h = tells-either says w n text (mirror_image says text) (is_own n (face says w (mirror_image says text))) refl h
 
 -- ---- the glyphs of own text
 
@@ -161,19 +162,19 @@ text-sum text n false e h = sum_by-cons (λ g. g.columns) (glyph text n false) [
 
 -- ---- the glyphs of a face
 
-pub face-one : (class : ℕ → Class) (mirror : ℕ → Option ℕ) (w columns level : ℕ) (text : List ℕ) (f : Face) → Tells (chars text) f
-    → All IsOneGlyph (face_glyphs class mirror w text f columns level)
-face-one class mirror w columns level text Tab h = All-replicate IsOneGlyph columns blank (refl, refl)
-face-one class mirror w columns level text (Mark letter) h =
+pub face-one : (says : Data) (w columns level : ℕ) (text : List ℕ) (f : Face) → Tells (chars text) f
+    → All IsOneGlyph (face_glyphs says w text f columns level)
+face-one says w columns level text Tab h = All-replicate IsOneGlyph columns blank (refl, refl)
+face-one says w columns level text (Mark letter) h =
     All-cons IsOneGlyph (glyph (letter ∷ []) 1 true) [] (letter-one letter true h) (All-nil IsOneGlyph)
-face-one class mirror w columns level text (Own n) h =
-    let own = shown_text class mirror w n level text in
-    text-one own n (are_ascii_printable own) refl (tells-shown class mirror w n (level % 2) text h)
+face-one says w columns level text (Own n) h =
+    let own = shown_text says w n level text in
+    text-one own n (are_ascii_printable own) refl (tells-shown says w n (level % 2) text h)
 
-pub face-sum : (class : ℕ → Class) (mirror : ℕ → Option ℕ) (w c level : ℕ) (text : List ℕ) (f : Face) → Tells (chars text) f
-    → sum_by (λ g. g.columns) (face_glyphs class mirror w text f (columns_at w c f) level) ≡ columns_at w c f
-face-sum class mirror w c level text Tab h = sum_by-replicate (λ g. g.columns) (columns_at w c Tab) blank ∙ omega arith
-face-sum class mirror w c level text (Mark letter) h = sum_by-cons (λ g. g.columns) (glyph (letter ∷ []) 1 true) [] ∙ omega arith
-face-sum class mirror w c level text (Own n) h =
-    let own = shown_text class mirror w n level text in
-    text-sum own n (are_ascii_printable own) refl (tells-shown class mirror w n (level % 2) text h)
+pub face-sum : (says : Data) (w c level : ℕ) (text : List ℕ) (f : Face) → Tells (chars text) f
+    → sum_by (λ g. g.columns) (face_glyphs says w text f (columns_at w c f) level) ≡ columns_at w c f
+face-sum says w c level text Tab h = sum_by-replicate (λ g. g.columns) (columns_at w c Tab) blank ∙ omega arith
+face-sum says w c level text (Mark letter) h = sum_by-cons (λ g. g.columns) (glyph (letter ∷ []) 1 true) [] ∙ omega arith
+face-sum says w c level text (Own n) h =
+    let own = shown_text says w n level text in
+    text-sum own n (are_ascii_printable own) refl (tells-shown says w n (level % 2) text h)

@@ -6,6 +6,7 @@ use Rattle.std.specs.Str.{IsUtf8, IsCharBoundary}
 use Rattle.std.proofs.lemmas.List.Elements.{All-tail}
 use Rattle.std.proofs.lemmas.Str.{IsCharBoundary-start, IsUtf8-drop}
 use Rattle.std.proofs.Math.Seq.{drop-nil}
+use Rattle.bx_ucd.specs.Data.{Data}
 use Rattle.unicode_segmentation.specs.Grapheme.{graphemes}
 use Rattle.unicode_segmentation.specs.Segments.{with_offsets}
 use Rattle.bx_ucd.specs.declared.class.Class.{Class}
@@ -25,31 +26,31 @@ text-here body at n =
     let count : at + n - at ≡ n = omega arith in
     ap₂ (λ x y. x ++ y) (ap (λ k. take k (drop at body)) count) (sym (drop-drop n at body)) ∙ take-append-drop n (drop at body)
 
-units-joined : (class : ℕ → Class) (w : ℕ) (body : List ℕ) → IsUtf8 body → (ps : List (List ℕ)) (at : ℕ) → IsCharBoundary body at
-    → graphemes true (drop at body) ≡ ps → flat_map (unit_text body) (map (unit_at class w) (with_offsets at ps)) ≡ drop at body
+units-joined : (says : Data) (w : ℕ) (body : List ℕ) → IsUtf8 body → (ps : List (List ℕ)) (at : ℕ) → IsCharBoundary body at
+    → graphemes true (drop at body) ≡ ps → flat_map (unit_text body) (map (unit_at says w) (with_offsets at ps)) ≡ drop at body
 unfolding with_offsets
-units-joined class w body valid [] at b e = sym (no-cluster (drop at body) (IsUtf8-drop body at valid b) e)
-units-joined class w body valid (p ∷ ps) at b e =
-    let n = next-cluster class w body at p ps valid b e in
-    ap (λ x. slice_range body at (at + length p) ++ x) (units-joined class w body valid ps (at + length p) n.boundary (sym n.own))
+units-joined says w body valid [] at b e = sym (no-cluster (drop at body) (IsUtf8-drop body at valid b) e)
+units-joined says w body valid (p ∷ ps) at b e =
+    let n = next-cluster says w body at p ps valid b e in
+    ap (λ x. slice_range body at (at + length p) ++ x) (units-joined says w body valid ps (at + length p) n.boundary (sym n.own))
     ∙ text-here body at (length p)
 
-pub units-make-body : (class : ℕ → Class) (w : ℕ) (body : List ℕ) → IsUtf8 body → flat_map (unit_text body) (units class w body) ≡ body
-units-make-body class w body valid = units-joined class w body valid (graphemes true body) 0 (IsCharBoundary-start body valid) refl
+pub units-make-body : (says : Data) (w : ℕ) (body : List ℕ) → IsUtf8 body → flat_map (unit_text body) (units says w body) ≡ body
+units-make-body says w body valid = units-joined says w body valid (graphemes true body) 0 (IsCharBoundary-start body valid) refl
 
-units-in-turn : (class : ℕ → Class) (w : ℕ) (body : List ℕ) → IsUtf8 body → (ps : List (List ℕ)) (at : ℕ) → IsCharBoundary body at
+units-in-turn : (says : Data) (w : ℕ) (body : List ℕ) → IsUtf8 body → (ps : List (List ℕ)) (at : ℕ) → IsCharBoundary body at
     → graphemes true (drop at body) ≡ ps
-    → StandInTurn at (map (λ u. (u.start, u.stop)) (map (unit_at class w) (with_offsets at ps))) (length body)
+    → StandInTurn at (map (λ u. (u.start, u.stop)) (map (unit_at says w) (with_offsets at ps))) (length body)
 unfolding with_offsets
-units-in-turn class w body valid [] at b e =
+units-in-turn says w body valid [] at b e =
     let within : at ≤ length body = b.0 in omega (arith, within, past-all body at valid b e)
-units-in-turn class w body valid (p ∷ ps) at b e =
-    let n = next-cluster class w body at p ps valid b e in
-    (refl, omega (arith, cluster-grows body at p ps e), units-in-turn class w body valid ps (at + length p) n.boundary (sym n.own))
+units-in-turn says w body valid (p ∷ ps) at b e =
+    let n = next-cluster says w body at p ps valid b e in
+    (refl, omega (arith, cluster-grows body at p ps e), units-in-turn says w body valid ps (at + length p) n.boundary (sym n.own))
 
-pub units-stand-in-turn : (class : ℕ → Class) (w : ℕ) (body : List ℕ) → IsUtf8 body
-    → StandInTurn 0 (map (λ u. (u.start, u.stop)) (units class w body)) (length body)
-units-stand-in-turn class w body valid = units-in-turn class w body valid (graphemes true body) 0 (IsCharBoundary-start body valid) refl
+pub units-stand-in-turn : (says : Data) (w : ℕ) (body : List ℕ) → IsUtf8 body
+    → StandInTurn 0 (map (λ u. (u.start, u.stop)) (units says w body)) (length body)
+units-stand-in-turn says w body valid = units-in-turn says w body valid (graphemes true body) 0 (IsCharBoundary-start body valid) refl
 
 -- ---- rows
 
@@ -112,15 +113,15 @@ one-of : (p : Unit → Bool) (w : ℕ) (us : List Unit) → length us ≡ 0 → 
 one-of p w [] none = refl
 one-of p w (u ∷ us) none = absurd (omega (arith, none))
 
-pub rows-cut : (class : ℕ → Class) (w : ℕ) (body : List ℕ) (us : List Unit) → 1 ≤ w → All (λ u. FitsWindow w u.face) us
-    → CutUnits w us (wrap class w body us)
-rows-cut class w body us h fit = record {
-  joined = joined-of (is_break class body) w us h fit;
-  in_turn = in-turn-of (is_break class body) w us h fit;
-  fit = fit_if_wrapped class w body us (wrap class w body us) refl;
-  one = one-of (is_break class body) w us;
+pub rows-cut : (says : Data) (w : ℕ) (body : List ℕ) (us : List Unit) → 1 ≤ w → All (λ u. FitsWindow w u.face) us
+    → CutUnits w us (wrap says w body us)
+rows-cut says w body us h fit = record {
+  joined = joined-of (is_break says body) w us h fit;
+  in_turn = in-turn-of (is_break says body) w us h fit;
+  fit = fit_if_wrapped says w body us (wrap says w body us) refl;
+  one = one-of (is_break says body) w us;
 }
 
-pub cut_if_wrapped : (class : ℕ → Class) (w : ℕ) (body : List ℕ) (us : List Unit) (rows : List Row) → 1 ≤ w → All (λ u. FitsWindow w u.face) us
-    → rows ≡ wrap class w body us → CutUnits w us rows
-cut_if_wrapped class w body us rows h fit e = subst (CutUnits w us) (sym e) (rows-cut class w body us h fit)
+pub cut_if_wrapped : (says : Data) (w : ℕ) (body : List ℕ) (us : List Unit) (rows : List Row) → 1 ≤ w → All (λ u. FitsWindow w u.face) us
+    → rows ≡ wrap says w body us → CutUnits w us rows
+cut_if_wrapped says w body us rows h fit e = subst (CutUnits w us) (sym e) (rows-cut says w body us h fit)

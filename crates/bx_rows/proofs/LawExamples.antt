@@ -6,9 +6,10 @@ use Rattle.std.specs.Str.{IsUtf8}
 use Rattle.std.proofs.lemmas.Bool.{cases_eq}
 use Rattle.std.proofs.lemmas.List.Elements.{All-cons, All-nil, All-weaker}
 use Rattle.std.proofs.lemmas.List.Sorted.{length_permutation, sum_by-IsPermutation}
+use Rattle.bx_ucd.specs.Data.{Data}
 use Rattle.unicode_segmentation.proofs.Computing.{unicode_segmentation}
 use Rattle.unicode_width.proofs.Computing.{unicode_width}
-use Rattle.bx_ucd.specs.declared.class.Class.{Class}
+use Rattle.bx_resolve.specs.TestTables.{small}
 use Rattle.bx_cells.specs.declared.unit.Face.{Face}
 use Rattle.bx_cells.specs.declared.unit.Face.TheVariants.{Tab, Mark, Own}
 use Rattle.bx_cells.specs.declared.unit.Unit.{Unit}
@@ -44,16 +45,16 @@ one-step (s ∷ []) t = ap (λ x. (x, s.1) ∷ []) t.0 ∙ ap (λ x. (0, x) ∷ 
 one-step (s ∷ r ∷ ss) t = let some = t.1 in let more = t.2.1 in absurd (omega (arith, some, more, goes-on r.1 1 ss t.2.2))
 
 -- a body of one byte has one unit, from 0 to 1
-one-unit : UnitsStandInTurn → (class : ℕ → Class) (w : ℕ) → map {B = ℕ × ℕ} (λ u. (u.start, u.stop)) (units class w (codes "a")) ≡ (0, 1) ∷ []
-one-unit law class w = one-step (map {B = ℕ × ℕ} (λ u. (u.start, u.stop)) (units class w (codes "a"))) (law class w (codes "a") one-byte)
+one-unit : UnitsStandInTurn → (says : Data) (w : ℕ) → map {B = ℕ × ℕ} (λ u. (u.start, u.stop)) (units says w (codes "a")) ≡ (0, 1) ∷ []
+one-unit law says w = one-step (map {B = ℕ × ℕ} (λ u. (u.start, u.stop)) (units says w (codes "a"))) (law says w (codes "a") one-byte)
 
 some-unit : (us : List Unit) → flat_map (unit_text (codes "ab")) us ≡ codes "ab" → 0 < length us
 some-unit [] e = absurd cc
 some-unit (u ∷ us) e = omega arith
 
 -- a body that is not empty has a unit
-some-units : UnitsMakeBody → (class : ℕ → Class) (w : ℕ) → 0 < length (units class w (codes "ab"))
-some-units law class w = some-unit (units class w (codes "ab")) (law class w (codes "ab") ab)
+some-units : UnitsMakeBody → (says : Data) (w : ℕ) → 0 < length (units says w (codes "ab"))
+some-units law says w = some-unit (units says w (codes "ab")) (law says w (codes "ab") ab)
 
 one-column : (f : Face) → FitsWindow 1 f → columns_at 1 0 f ≡ 1
 one-column Tab h = omega arith
@@ -61,9 +62,9 @@ one-column (Mark x) h = refl
 one-column (Own n) h = omega (arith, h)
 
 -- in a window of one column each unit has one
-one-column-each : UnitsFitWindow → (class : ℕ → Class) → All (λ u. columns_at 1 0 u.face ≡ 1) (units class 1 (codes "ab"))
-one-column-each law class =
-    All-weaker (λ u. FitsWindow 1 u.face) (λ u. columns_at 1 0 u.face ≡ 1) (λ u h. one-column u.face h) (units class 1 (codes "ab")) (law class 1 (codes "ab") ab)
+one-column-each : UnitsFitWindow → (says : Data) → All (λ u. columns_at 1 0 u.face ≡ 1) (units says 1 (codes "ab"))
+one-column-each law says =
+    All-weaker (λ u. FitsWindow 1 u.face) (λ u. columns_at 1 0 u.face ≡ 1) (λ u h. one-column u.face h) (units says 1 (codes "ab")) (law says 1 (codes "ab") ab)
 
 -- ---- rows of units
 
@@ -108,20 +109,20 @@ too-wide (r ∷ rows) e a =
     let fits : columns_used 1 (row_units letters r) ≤ 1 = here.2 in omega (arith, wide, fits)
 
 -- in a window of one column two letters are in two rows
-two-rows : RowsCutUnits → (class : ℕ → Class) (body : List ℕ) → map {B = ℕ × ℕ} (λ r. (r.start, r.stop)) (wrap class 1 body letters) ≡ (0, 1) ∷ (1, 2) ∷ []
-two-rows law class body =
-    let cut = law class 1 body letters (omega arith) letters-fit in
-    let rows = wrap class 1 body letters in
+two-rows : RowsCutUnits → (says : Data) (body : List ℕ) → map {B = ℕ × ℕ} (λ r. (r.start, r.stop)) (wrap says 1 body letters) ≡ (0, 1) ∷ (1, 2) ∷ []
+two-rows law says body =
+    let cut = law says 1 body letters (omega arith) letters-fit in
+    let rows = wrap says 1 body letters in
     let spans : List (ℕ × ℕ) = map {B = ℕ × ℕ} (λ r. (r.start, r.stop)) rows in
     elim (two-steps spans (cut.in_turn (omega arith))) as (λ _. spans ≡ (0, 1) ∷ (1, 2) ∷ []) [
       | inl e ↦ absurd (too-wide rows e cut.fit)
       | inr e ↦ e
     ]
 
-too-short : (class : ℕ → Class) (body : List ℕ) (rows : List Row) → map {B = ℕ × ℕ} (λ r. (r.start, r.stop)) rows ≡ (0, 1) ∷ (1, 2) ∷ []
-    → All (EndsWell class 5 body letters) rows → ⊥
-too-short class body [] e a = cc
-too-short class body (r ∷ rows) e a =
+too-short : (says : Data) (body : List ℕ) (rows : List Row) → map {B = ℕ × ℕ} (λ r. (r.start, r.stop)) rows ≡ (0, 1) ∷ (1, 2) ∷ []
+    → All (EndsWell says 5 body letters) rows → ⊥
+too-short says body [] e a = cc
+too-short says body (r ∷ rows) e a =
     let start : r.start ≡ 0 = ap (λ (ss : List (ℕ × ℕ)). (get_or ss 0 (0, 0)).0) e in
     let stop : r.stop ≡ 1 = ap (λ (ss : List (ℕ × ℕ)). (get_or ss 0 (0, 0)).1) e in
     let here = a 0 r (omega arith) in
@@ -130,27 +131,24 @@ too-short class body (r ∷ rows) e a =
     elim full as (λ _. ⊥) [ inl h ↦ omega (arith, h) | inr h ↦ omega (arith, h) ]
 
 -- in a window of five columns they are in one row, wherever rows may end
-one-row : RowsCutUnits → RowsEndWell → (class : ℕ → Class) (body : List ℕ)
-    → map {B = ℕ × ℕ} (λ r. (r.start, r.stop)) (wrap class 5 body letters) ≡ (0, 2) ∷ []
-one-row cuts ends class body =
+one-row : RowsCutUnits → RowsEndWell → (says : Data) (body : List ℕ)
+    → map {B = ℕ × ℕ} (λ r. (r.start, r.stop)) (wrap says 5 body letters) ≡ (0, 2) ∷ []
+one-row cuts ends says body =
     let fit : All (λ u. FitsWindow 5 u.face) letters =
     All-weaker (λ u. FitsWindow 1 u.face) (λ u. FitsWindow 5 u.face) (λ u h. wider u.face h) letters letters-fit in
-    let cut = cuts class 5 body letters (omega arith) fit in
-    let rows = wrap class 5 body letters in
+    let cut = cuts says 5 body letters (omega arith) fit in
+    let rows = wrap says 5 body letters in
     let spans : List (ℕ × ℕ) = map (λ r. (r.start, r.stop)) rows in
     elim (two-steps spans (cut.in_turn (omega arith))) as (λ _. spans ≡ (0, 2) ∷ []) [
       | inl e ↦ e
-      | inr e ↦ absurd (too-short class body rows e (ends class 5 body letters (omega arith) fit))
+      | inr e ↦ absurd (too-short says body rows e (ends says 5 body letters (omega arith) fit))
     ]
 
 -- no units have one row
-no-units : RowsCutUnits → (class : ℕ → Class) (w : ℕ) (body : List ℕ) → 1 ≤ w → length (wrap class w body []) ≡ 1
-no-units law class w body h = let cut = law class w body [] h (All-nil (λ u. FitsWindow w u.face)) in cut.one refl
+no-units : RowsCutUnits → (says : Data) (w : ℕ) (body : List ℕ) → 1 ≤ w → length (wrap says w body []) ≡ 1
+no-units law says w body h = let cut = law says w body [] h (All-nil (λ u. FitsWindow w u.face)) in cut.one refl
 
 -- ---- rows of bodies
-
-abbrev small : ℕ → Class
-small = Rattle.bx_resolve.specs.TestTables.class
 
 abbrev start : ℕ → RowStart
 start n = record { offset = n; units = n; chars = n }
@@ -249,14 +247,14 @@ abbrev shown : ℕ → Glyph
 shown x = glyph (x ∷ []) 1 true
 
 -- three columns show two marks and one blank, whatever their levels
-marks-and-blank : PicturesShowUnits → (class : ℕ → Class) (mirror : ℕ → Option ℕ) (body : List ℕ) (paragraph x y a b : ℕ)
-    → IsPermutation (shown x ∷ shown y ∷ blank ∷ []) (draw class mirror 3 body paragraph (mark x ∷ mark y ∷ []) (a ∷ b ∷ []))
-marks-and-blank law class mirror body paragraph x y a b =
-    let s = law class mirror 3 body paragraph (mark x ∷ mark y ∷ []) (a ∷ b ∷ []) refl in s.glyphs
+marks-and-blank : PicturesShowUnits → (says : Data) (body : List ℕ) (paragraph x y a b : ℕ)
+    → IsPermutation (shown x ∷ shown y ∷ blank ∷ []) (draw says 3 body paragraph (mark x ∷ mark y ∷ []) (a ∷ b ∷ []))
+marks-and-blank law says body paragraph x y a b =
+    let s = law says 3 body paragraph (mark x ∷ mark y ∷ []) (a ∷ b ∷ []) refl in s.glyphs
 
 -- at an odd level the second mark is shown left of the first
-marks-turned : PicturesGoByLevels → (class : ℕ → Class) (mirror : ℕ → Option ℕ) (body : List ℕ) (paragraph x y n : ℕ) → n % 2 ≡ 1
-    → ShowsLeft (draw class mirror 3 body paragraph (mark x ∷ mark y ∷ []) (n ∷ n ∷ [])) (shown y ∷ []) (shown x ∷ [])
-marks-turned law class mirror body paragraph x y n e =
-    let s = law class mirror 3 body paragraph (mark x ∷ mark y ∷ []) (n ∷ n ∷ []) 0 1 n refl (omega arith) (omega arith)
+marks-turned : PicturesGoByLevels → (says : Data) (body : List ℕ) (paragraph x y n : ℕ) → n % 2 ≡ 1
+    → ShowsLeft (draw says 3 body paragraph (mark x ∷ mark y ∷ []) (n ∷ n ∷ [])) (shown y ∷ []) (shown x ∷ [])
+marks-turned law says body paragraph x y n e =
+    let s = law says 3 body paragraph (mark x ∷ mark y ∷ []) (n ∷ n ∷ []) 0 1 n refl (omega arith) (omega arith)
     (first-lowest n (n ∷ []) (and-least n n [] (omega arith) (All-nil (λ x. n ≤ x)))) in s.odd e

@@ -4,6 +4,7 @@ use Rattle.std.specs.Prelude.{IfSome}
 use Rattle.std.specs.Str.{IsUtf8}
 use Rattle.std.proofs.lemmas.List.{get_or-map, length-map, take_at}
 use Rattle.std.proofs.lemmas.List.Elements.{All-rest}
+use Rattle.bx_ucd.specs.Data.{Data}
 use Rattle.bx_ucd.specs.declared.class.Class.{Class}
 use Rattle.bx_cells.specs.declared.unit.Unit.{Unit}
 use Rattle.bx_cells.specs.Units.{HasFace, units_from}
@@ -21,45 +22,45 @@ use Rattle.bx_rows.proofs.NumbersBelow.{below_if_visual}
 use Rattle.bx_rows.proofs.PlainPictures.{columns-single, single-draw}
 
 -- the glyphs are as many as the characters
-singles-count : (class : ℕ → Class) (w : ℕ) (body : List ℕ) (at count : ℕ) (first : List Drawn) (s : AreSingle class w body at count first)
+singles-count : (says : Data) (w : ℕ) (body : List ℕ) (at count : ℕ) (first : List Drawn) (s : AreSingle says w body at count first)
     → length first ≡ length s.cs
-singles-count class w body at count first s = sym (length-map first glyph_of) ∙ ap length s.shown ∙ length-map s.cs single_glyph
+singles-count says w body at count first s = sym (length-map first glyph_of) ∙ ap length s.shown ∙ length-map s.cs single_glyph
 
-module _ (class : ℕ → Class) (w : ℕ) (body : List ℕ) (k count : ℕ) (start : RowStart) (next : Option RowStart) (us : List Unit) (u : IsUtf8 body)
-    (part : IsRowPart class w body us (units_of_row class w body k) start next) (many : count ≡ most_units w body start next) where
-  pub taken : take count (units_from class w body start.offset) ≡ units_of_row class w body k
-  taken = ap (λ n. take n (units_from class w body start.offset)) many ∙ part.units
+module _ (says : Data) (w : ℕ) (body : List ℕ) (k count : ℕ) (start : RowStart) (next : Option RowStart) (us : List Unit) (u : IsUtf8 body)
+    (part : IsRowPart says w body us (units_of_row says w body k) start next) (many : count ≡ most_units w body start next) where
+  pub taken : take count (units_from says w body start.offset) ≡ units_of_row says w body k
+  taken = ap (λ n. take n (units_from says w body start.offset)) many ∙ part.units
 
-  pub faces : All (HasFace class w body) (units_of_row class w body k)
-  faces = faces_if_taken class w count body start.offset (units_of_row class w body k) u part.boundary (sym taken)
+  pub faces : All (HasFace says w body) (units_of_row says w body k)
+  faces = faces_if_taken says w count body start.offset (units_of_row says w body k) u part.boundary (sym taken)
 
-  pub fits : columns_used w (units_of_row class w body k) ≤ w
+  pub fits : columns_used w (units_of_row says w body k) ≤ w
   fits =
-      let here = units_of_row class w body k in
-      subst (λ x. columns_used w x ≤ w) (whole here) (row-alone class w body k here refl).2
+      let here = units_of_row says w body k in
+      subst (λ x. columns_used w x ≤ w) (whole here) (row-alone says w body k here refl).2
 
-  pub single-fits : (first : List Drawn) → AreSingle class w body start.offset count first → length first ≤ w
+  pub single-fits : (first : List Drawn) → AreSingle says w body start.offset count first → length first ≤ w
   single-fits first s =
       let within = fits in
       let same = ap (columns_used w) (sym taken ∙ s.units) ∙ columns-single w start.offset s.cs in
-      omega (arith, within, same, singles-count class w body start.offset count first s)
+      omega (arith, within, same, singles-count says w body start.offset count first s)
 
   -- the result of the steps is the row's picture
-  pub drawn-single : (mirror : ℕ → Option ℕ) (paragraph n : ℕ) (each : List (Option ℕ)) (first : List Drawn) (two all : List Glyph) (found : List ℕ)
-      → AreSingle class w body start.offset count first → length found ≡ length first
-      → found ≡ row_levels class body paragraph each (units_of_row class w body k)
+  pub drawn-single : (paragraph n : ℕ) (each : List (Option ℕ)) (first : List Drawn) (two all : List Glyph) (found : List ℕ)
+      → AreSingle says w body start.offset count first → length found ≡ length first
+      → found ≡ row_levels says body paragraph each (units_of_row says w body k)
       → ((cs : List ℕ) → map glyph_of first ≡ map single_glyph cs
-      → two ≡ map (λ j. get_or (leveled_glyphs class mirror w cs found) j blank) (visual found))
+      → two ≡ map (λ j. get_or (leveled_glyphs says w cs found) j blank) (visual found))
       → n ≡ length first → all ≡ with_blanks paragraph (w - n) two
-      → all ≡ draw class mirror w body paragraph (units_of_row class w body k) (row_levels class body paragraph each (units_of_row class w body k))
-  drawn-single mirror paragraph n each first two all found s count_is levels ordered length_is blanks =
-      let here = units_of_row class w body k in
+      → all ≡ draw says w body paragraph (units_of_row says w body k) (row_levels says body paragraph each (units_of_row says w body k))
+  drawn-single paragraph n each first two all found s count_is levels ordered length_is blanks =
+      let here = units_of_row says w body k in
       let own : here ≡ single_units start.offset s.cs = sym taken ∙ s.units in
-      let many_are = singles-count class w body start.offset count first s in
+      let many_are = singles-count says w body start.offset count first s in
       blanks ∙ ap₂ (λ m xs. with_blanks paragraph (w - m) xs) (length_is ∙ many_are) (ordered s.cs s.shown)
-      ∙ sym (single-draw class mirror w body paragraph start.offset s.cs s.rest found s.bytes (subst (All (HasFace class w body)) own faces)
+      ∙ sym (single-draw says w body paragraph start.offset s.cs s.rest found s.bytes (subst (All (HasFace says w body)) own faces)
       (count_is ∙ many_are))
-      ∙ ap₂ (draw class mirror w body paragraph) (sym own) levels
+      ∙ ap₂ (draw says w body paragraph) (sym own) levels
 
 -- a list that is written back over one as long
 pub written : {A : Type 0} (n : ℕ) (new old : List A) → length new ≡ n → take n (new ++ drop (length new) old) ≡ new
@@ -83,11 +84,11 @@ shown-ordered (d ∷ ds) new levels e f ordered =
     ∙ shown-chosen (d ∷ ds) d (visual levels) (λ i j h. omega (arith, below_if_visual levels (visual levels) refl i j h, e))
 
 -- the glyphs at their levels, put into visual order
-pub arranged-are : (class : ℕ → Class) (mirror : ℕ → Option ℕ) (w : ℕ) (cs levels : List ℕ) (one two : List Drawn) → length one ≡ length levels
-    → length two ≡ length one → map glyph_of one ≡ leveled_glyphs class mirror w cs levels
+pub arranged-are : (says : Data) (w : ℕ) (cs levels : List ℕ) (one two : List Drawn) → length one ≡ length levels
+    → length two ≡ length one → map glyph_of one ≡ leveled_glyphs says w cs levels
     → ((d : Drawn) → two ≡ map (λ k. get_or one k d) (visual levels))
-    → map glyph_of two ≡ map (λ k. get_or (leveled_glyphs class mirror w cs levels) k blank) (visual levels)
-arranged-are class mirror w cs levels one two e f first ordered =
+    → map glyph_of two ≡ map (λ k. get_or (leveled_glyphs says w cs levels) k blank) (visual levels)
+arranged-are says w cs levels one two e f first ordered =
     shown-ordered one two levels e f ordered ∙ ap (λ gs. map (λ k. get_or gs k blank) (visual levels)) first
 
 -- a clause about a value that is present

@@ -7,6 +7,7 @@ use Rattle.std.proofs.lemmas.List.{get_or-map, drop-drop}
 use Rattle.std.proofs.lemmas.List.Elements.{All-rest}
 use Rattle.std.proofs.lemmas.List.Sums.{sum_by-cons}
 use Rattle.std.proofs.lemmas.Str.{chars-IsAscii}
+use Rattle.bx_ucd.specs.Data.{Data}
 use Rattle.unicode_width.specs.Width.{str_width}
 use Rattle.unicode_width.proofs.Rules.{str_width-printable}
 use Rattle.bx_terms.specs.Characters.{are_ascii_printable}
@@ -24,11 +25,11 @@ use Rattle.bx_rows.proofs.NumbersBelow.{below_if_visual}
 -- ---- the glyphs by themselves
 
 -- a glyph for each level
-pub leveled-length : (class : ℕ → Class) (mirror : ℕ → Option ℕ) (w : ℕ) (cs levels : List ℕ) → length levels ≡ length cs
-    → length (leveled_glyphs class mirror w cs levels) ≡ length levels
-leveled-length class mirror w [] levels e = sym e
-leveled-length class mirror w (c ∷ cs) [] e = refl
-leveled-length class mirror w (c ∷ cs) (l ∷ ls) e = ap suc (leveled-length class mirror w cs ls (omega arith))
+pub leveled-length : (says : Data) (w : ℕ) (cs levels : List ℕ) → length levels ≡ length cs
+    → length (leveled_glyphs says w cs levels) ≡ length levels
+leveled-length says w [] levels e = sym e
+leveled-length says w (c ∷ cs) [] e = refl
+leveled-length says w (c ∷ cs) (l ∷ ls) e = ap suc (leveled-length says w cs ls (omega arith))
 
 -- pieces of one glyph each, chosen by their numbers
 singles-chosen : (gs : List Glyph) (ks : List ℕ) → All (λ k. k < length gs) ks
@@ -77,42 +78,42 @@ first-text body at c more e =
     ap (λ k. take k (drop at body)) whole ∙ ap (take n) e ∙ take-append_seam (encode_utf8 c) more
 
 -- the glyphs of the units, each by itself
-pieces-single : (class : ℕ → Class) (mirror : ℕ → Option ℕ) (w taken : ℕ) (body : List ℕ) (at : ℕ) (cs rest levels : List ℕ)
-    → drop at body ≡ encode_utf8_all cs ++ rest → All (HasFace class w body) (single_units at cs) → length levels ≡ length cs
-    → unit_glyphs class mirror w body (single_units at cs) (unit_columns w taken (single_units at cs)) levels
-    ≡ map (λ g. g ∷ []) (leveled_glyphs class mirror w cs levels)
-pieces-single class mirror w taken body at [] rest levels bytes a e = refl
-pieces-single class mirror w taken body at (c ∷ cs) rest [] bytes a e = refl
-pieces-single class mirror w taken body at (c ∷ cs) rest (l ∷ ls) bytes a e =
+pieces-single : (says : Data) (w taken : ℕ) (body : List ℕ) (at : ℕ) (cs rest levels : List ℕ)
+    → drop at body ≡ encode_utf8_all cs ++ rest → All (HasFace says w body) (single_units at cs) → length levels ≡ length cs
+    → unit_glyphs says w body (single_units at cs) (unit_columns w taken (single_units at cs)) levels
+    ≡ map (λ g. g ∷ []) (leveled_glyphs says w cs levels)
+pieces-single says w taken body at [] rest levels bytes a e = refl
+pieces-single says w taken body at (c ∷ cs) rest [] bytes a e = refl
+pieces-single says w taken body at (c ∷ cs) rest (l ∷ ls) bytes a e =
     let n = length (encode_utf8 c) in
     let u : Unit = record { start = at; stop = at + n; face = Own 1 } in
     let us = single_units (at + n) cs in
     let more = encode_utf8_all cs ++ rest in
     let split : drop at body ≡ encode_utf8 c ++ more = bytes ∙ append_assoc (encode_utf8 c) (encode_utf8_all cs) rest in
     let text : unit_text body u ≡ encode_utf8 c = first-text body at c more split in
-    let told = tells-shown class mirror w 1 (l % 2) (unit_text body u) (tells-face class w (unit_text body u) (Own 1) (a 0 u (omega arith))) in
-    let here : text_glyphs 1 (shown_text class mirror w 1 l (unit_text body u)) ≡ leveled_glyph class mirror w c l ∷ [] =
-    one-glyph (shown_text class mirror w 1 l (unit_text body u)) told
-    ∙ ap (λ t. glyph (shown_text class mirror w 1 l t) 1 false ∷ []) text in
+    let told = tells-shown says w 1 (l % 2) (unit_text body u) (tells-face says w (unit_text body u) (Own 1) (a 0 u (omega arith))) in
+    let here : text_glyphs 1 (shown_text says w 1 l (unit_text body u)) ≡ leveled_glyph says w c l ∷ [] =
+    one-glyph (shown_text says w 1 l (unit_text body u)) told
+    ∙ ap (λ t. glyph (shown_text says w 1 l t) 1 false ∷ []) text in
     let behind : drop (at + n) body ≡ more = sym (drop-drop n at body) ∙ ap (drop n) split ∙ drop-append_seam (encode_utf8 c) more in
-    ap (λ xs. xs ∷ unit_glyphs class mirror w body us (unit_columns w (taken + 1) us) ls) here
-    ∙ ap (λ xs. (leveled_glyph class mirror w c l ∷ []) ∷ xs)
-    (pieces-single class mirror w (taken + 1) body (at + n) cs rest ls behind (All-rest (HasFace class w body) u us (u ∷ us) refl a) (omega arith))
+    ap (λ xs. xs ∷ unit_glyphs says w body us (unit_columns w (taken + 1) us) ls) here
+    ∙ ap (λ xs. (leveled_glyph says w c l ∷ []) ∷ xs)
+    (pieces-single says w (taken + 1) body (at + n) cs rest ls behind (All-rest (HasFace says w body) u us (u ∷ us) refl a) (omega arith))
 
 -- ---- the row
 
 -- the glyphs of the characters at their levels in visual order, and the blanks
-pub single-draw : (class : ℕ → Class) (mirror : ℕ → Option ℕ) (w : ℕ) (body : List ℕ) (paragraph at : ℕ) (cs rest levels : List ℕ)
-    → drop at body ≡ encode_utf8_all cs ++ rest → All (HasFace class w body) (single_units at cs) → length levels ≡ length cs
-    → draw class mirror w body paragraph (single_units at cs) levels
-    ≡ with_blanks paragraph (w - length cs) (map (λ k. get_or (leveled_glyphs class mirror w cs levels) k blank) (visual levels))
-single-draw class mirror w body paragraph at cs rest levels bytes a e =
+pub single-draw : (says : Data) (w : ℕ) (body : List ℕ) (paragraph at : ℕ) (cs rest levels : List ℕ)
+    → drop at body ≡ encode_utf8_all cs ++ rest → All (HasFace says w body) (single_units at cs) → length levels ≡ length cs
+    → draw says w body paragraph (single_units at cs) levels
+    ≡ with_blanks paragraph (w - length cs) (map (λ k. get_or (leveled_glyphs says w cs levels) k blank) (visual levels))
+single-draw says w body paragraph at cs rest levels bytes a e =
     let us = single_units at cs in
-    let gs = leveled_glyphs class mirror w cs levels in
+    let gs = leveled_glyphs says w cs levels in
     let below : All (λ k. k < length gs) (visual levels) =
-    λ i d h. omega (arith, below_if_visual levels (visual levels) refl i d h, leveled-length class mirror w cs levels e) in
-    ap (λ n. with_blanks paragraph (w - n) (flat_map (λ k. get_or (unit_glyphs class mirror w body us (unit_columns w 0 us) levels) k []) (visual levels)))
+    λ i d h. omega (arith, below_if_visual levels (visual levels) refl i d h, leveled-length says w cs levels e) in
+    ap (λ n. with_blanks paragraph (w - n) (flat_map (λ k. get_or (unit_glyphs says w body us (unit_columns w 0 us) levels) k []) (visual levels)))
     (columns-single w at cs)
     ∙ ap (λ pieces. with_blanks paragraph (w - length cs) (flat_map (λ k. get_or pieces k []) (visual levels)))
-    (pieces-single class mirror w 0 body at cs rest levels bytes a e)
+    (pieces-single says w 0 body at cs rest levels bytes a e)
     ∙ ap (with_blanks paragraph (w - length cs)) (singles-chosen gs (visual levels) below)

@@ -3,6 +3,7 @@ use Rattle.std.proofs.Common.{◌≡◌, ℕ, ◌+◌, ◌<◌, ◌≤◌, Bool,
 use Rattle.std.proofs.Common.{slice_range, Option, Some, None, refl, ap, ◌∙◌, arith}
 use Rattle.std.specs.Str.{chars, IsUtf8, IsCharBoundary}
 use Rattle.std.proofs.lemmas.Str.{chars-nil, chars-append, IsUtf8-take}
+use Rattle.bx_ucd.specs.Data.{Data}
 use Rattle.unicode_segmentation.proofs.TextLemmas.{take_split}
 use Rattle.unicode_segmentation.specs.Grapheme.{graphemes}
 use Rattle.unicode_segmentation.specs.Segments.{with_offsets}
@@ -28,32 +29,32 @@ one_of (Some letter) w c = refl
 one_of None w c = one_sized w c (nat_lt w 1)
 
 -- simple characters of one column take one, whatever their class
-pub one-column : (class : ℕ → Class) (w first : ℕ) (k : Bool) → own_columns first ≡ 1 → (c : ℕ) → columns_at w c (simple_face class w first k) ≡ 1
-one-column class w first k e c =
-    let o = format_letter class (Rattle.std.proofs.Common.cond k None (Some first)) in
+pub one-column : (says : Data) (w first : ℕ) (k : Bool) → own_columns first ≡ 1 → (c : ℕ) → columns_at w c (simple_face says w first k) ≡ 1
+one-column says w first k e c =
+    let o = format_letter says (Rattle.std.proofs.Common.cond k None (Some first)) in
     ap (λ n. columns_at w c (elim o [ Some letter ↦ Mark letter | None ↦ sized_face w n ])) e ∙ one_of o w c
 
 rows_are : (p : Unit → Bool) (w : ℕ) (us : List Unit) → (us ≡ [] → ⊥) → rows_from p w 0 0 us ≡ rows_of p w us
 rows_are p w [] h = absurd (h refl)
 rows_are p w (u ∷ us) h = refl
 
-no_units : (class : ℕ → Class) (w : ℕ) (gs : List (List ℕ)) → map (unit_at class w) (with_offsets 0 gs) ≡ [] → gs ≡ []
+no_units : (says : Data) (w : ℕ) (gs : List (List ℕ)) → map (unit_at says w) (with_offsets 0 gs) ≡ [] → gs ≡ []
 unfolding with_offsets
-no_units class w [] h = refl
-no_units class w (g ∷ gs) h = cc
+no_units says w [] h = refl
+no_units says w (g ∷ gs) h = cc
 
 -- the rows of a body that is not empty
-pub starts-of-some : (class : ℕ → Class) (w : ℕ) (body : List ℕ) (starts : List RowStart) → IsUtf8 body → 0 < length body
-    → starts ≡ map (start_of body (units class w body)) (rows_from (is_break class body) w 0 0 (units class w body)) → starts ≡ row_starts class w body
-starts-of-some class w body starts u some e =
-    e ∙ ap (map (start_of body (units class w body))) (rows_are (is_break class body) w (units class w body)
-    (λ none. omega (arith, some, ap length (no-cluster body u (no_units class w (graphemes true body) none)))))
+pub starts-of-some : (says : Data) (w : ℕ) (body : List ℕ) (starts : List RowStart) → IsUtf8 body → 0 < length body
+    → starts ≡ map (start_of body (units says w body)) (rows_from (is_break says body) w 0 0 (units says w body)) → starts ≡ row_starts says w body
+starts-of-some says w body starts u some e =
+    e ∙ ap (map (start_of body (units says w body))) (rows_are (is_break says body) w (units says w body)
+    (λ none. omega (arith, some, ap length (no-cluster body u (no_units says w (graphemes true body) none)))))
 
 -- a body of no characters has one row
-pub starts-of-none : (class : ℕ → Class) (w : ℕ) (body : List ℕ) → length body ≡ 0 → row_starts class w body ≡ record { offset = 0; units = 0; chars = 0 } ∷ []
-starts-of-none class w body e =
-    let none : units class w body ≡ [] = none-behind class w body 0 (omega (arith, e)) in
-    ap (λ us. map (start_of body us) (rows_of (is_break class body) w us)) none
+pub starts-of-none : (says : Data) (w : ℕ) (body : List ℕ) → length body ≡ 0 → row_starts says w body ≡ record { offset = 0; units = 0; chars = 0 } ∷ []
+starts-of-none says w body e =
+    let none : units says w body ≡ [] = none-behind says w body 0 (omega (arith, e)) in
+    ap (λ us. map (start_of body us) (rows_of (is_break says body) w us)) none
     ∙ ap (λ n. record { offset = 0; units = 0; chars = n } ∷ []) (ap length chars-nil)
 
 -- ---- characters

@@ -8,6 +8,7 @@ use Rattle.std.proofs.lemmas.Grind.{flat_map-append}
 use Rattle.std.proofs.lemmas.List.Folds.{flat_map-map}
 use Rattle.std.proofs.lemmas.List.FromFn.{get_or-map-range_with_len, length-map-range_with_len}
 use Rattle.std.proofs.lemmas.List.Sorted.{IsPermutation-append_comm, IsPermutation-append_left, IsPermutation-map, IsPermutation-trans}
+use Rattle.bx_ucd.specs.Data.{Data}
 use Rattle.bx_ucd.specs.declared.class.Class.{Class}
 use Rattle.bx_cells.specs.declared.unit.Unit.{Unit}
 use Rattle.bx_rows.specs.OrderLaws.{PicturesGoByLevels, ShowsEachOnce, ShowsLeft, StandsLeft, joined}
@@ -54,12 +55,12 @@ shows-pieces paragraph n pieces levels e =
           (subst (λ gs. IsPermutation gs (flat_map piece (visual levels))) all (made-permutes piece levels));
     }
 
-pub shows-units : (class : ℕ → Class) (mirror : ℕ → Option ℕ) (w : ℕ) (body : List ℕ) (paragraph : ℕ) (us : List Unit) (levels : List ℕ)
-    → length levels ≡ length us → ShowsEachOnce paragraph (w - columns_used w us) (unit_glyphs class mirror w body us (unit_columns w 0 us) levels)
-    (draw class mirror w body paragraph us levels)
-shows-units class mirror w body paragraph us levels e =
-    let pieces = unit_glyphs class mirror w body us (unit_columns w 0 us) levels in
-    shows-pieces paragraph (w - columns_used w us) pieces levels (e ∙ sym (pieces-length class mirror w body us (unit_columns w 0 us) levels (columns-length w 0 us) e))
+pub shows-units : (says : Data) (w : ℕ) (body : List ℕ) (paragraph : ℕ) (us : List Unit) (levels : List ℕ)
+    → length levels ≡ length us → ShowsEachOnce paragraph (w - columns_used w us) (unit_glyphs says w body us (unit_columns w 0 us) levels)
+    (draw says w body paragraph us levels)
+shows-units says w body paragraph us levels e =
+    let pieces = unit_glyphs says w body us (unit_columns w 0 us) levels in
+    shows-pieces paragraph (w - columns_used w us) pieces levels (e ∙ sym (pieces-length says w body us (unit_columns w 0 us) levels (columns-length w 0 us) e))
 
 -- ---- the order of two units
 
@@ -99,8 +100,8 @@ left-shown paragraph n f order a b s =
     })
 
 pub shows-by-levels : PicturesGoByLevels
-shows-by-levels class mirror w body paragraph us levels i j lowest e h k l =
-    let piece : ℕ → List Glyph = λ n. get_or (unit_glyphs class mirror w body us (unit_columns w 0 us) levels) n [] in
+shows-by-levels says w body paragraph us levels i j lowest e h k l =
+    let piece : ℕ → List Glyph = λ n. get_or (unit_glyphs says w body us (unit_columns w 0 us) levels) n [] in
     let n = w - columns_used w us in
     let by = lowest-order levels i j lowest h (omega (arith, e, k)) l in
     record {

@@ -1,6 +1,7 @@
 -- Runs of units of one column each, at any column of a row.
 use Rattle.std.specs.Prelude.{◌≡◌, ℕ, ◌+◌, ◌≤◌, Bool, true, false, ⊤, List, [], ◌∷◌, ◌++◌, length, drop}
 use Rattle.std.specs.Str.{IsCharBoundary}
+use Rattle.bx_ucd.specs.Data.{Data}
 use Rattle.bx_ucd.specs.declared.class.Class.{Class}
 use Rattle.bx_cells.specs.declared.unit.Unit.{Unit}
 use Rattle.bx_cells.specs.Units.{units_from}
@@ -13,13 +14,13 @@ AreNarrow w [] = ⊤
 AreNarrow w (u ∷ us) = ((c : ℕ) → columns_at w c u.face ≡ 1) × AreNarrow w us
 
 -- the run consists of the units of a body from an offset on
-pub record IsNarrowRun (class : ℕ → Class) (w : ℕ) (body : List ℕ) (at : ℕ) (r : NarrowRun) : Type 0 where
+pub record IsNarrowRun (says : Data) (w : ℕ) (body : List ℕ) (at : ℕ) (r : NarrowRun) : Type 0 where
   pub us : List Unit
-  pub units : units_from class w body at ≡ us ++ units_from class w body r.stop
+  pub units : units_from says w body at ≡ us ++ units_from says w body r.stop
   pub narrow : AreNarrow w us
   pub count_is : length us ≡ r.count
-  pub last_is : up_to_last (is_break class body) us ≡ r.last
-  pub next_is : units_from class w body r.next ≡ drop r.last us ++ units_from class w body r.stop
+  pub last_is : up_to_last (is_break says body) us ≡ r.last
+  pub next_is : units_from says w body r.next ≡ drop r.last us ++ units_from says w body r.stop
 
 -- the bounds of a run in a body from an offset on
 pub record IsRunIn (body : List ℕ) (at : ℕ) (r : NarrowRun) : Type 0 where

@@ -1,6 +1,7 @@
 -- Rows in which each unit is one character of one column, shown as itself.
 use Rattle.std.specs.Prelude.{◌≡◌, ◌⊎◌, ℕ, ◌+◌, true, false, List, [], ◌∷◌, ◌++◌, map, length, take, drop, encode_utf8, encode_utf8_all, Option}
 use Rattle.std.specs.List.{zip}
+use Rattle.bx_ucd.specs.Data.{Data}
 use Rattle.bx_ucd.specs.declared.class.Class.{Class}
 use Rattle.bx_cells.specs.declared.unit.Face.TheVariants.{Own}
 use Rattle.bx_cells.specs.declared.unit.Unit.{Unit}
@@ -26,17 +27,17 @@ abbrev pub single_glyph : ℕ → Glyph
 single_glyph c = glyph (encode_utf8 c) 1 false
 
 -- the glyph of a character at a level, mirrored at an odd one
-abbrev pub leveled_glyph : (ℕ → Class) → (ℕ → Option ℕ) → ℕ → ℕ → ℕ → Glyph
-leveled_glyph class mirror w c level = glyph (shown_text class mirror w 1 level (encode_utf8 c)) 1 false
+abbrev pub leveled_glyph : Data → ℕ → ℕ → ℕ → Glyph
+leveled_glyph says w c level = glyph (shown_text says w 1 level (encode_utf8 c)) 1 false
 
 -- the glyphs of characters at their levels, in text order
-abbrev pub leveled_glyphs : (ℕ → Class) → (ℕ → Option ℕ) → ℕ → List ℕ → List ℕ → List Glyph
-leveled_glyphs class mirror w cs levels = map (λ (c, level). leveled_glyph class mirror w c level) (zip cs levels)
+abbrev pub leveled_glyphs : Data → ℕ → List ℕ → List ℕ → List Glyph
+leveled_glyphs says w cs levels = map (λ (c, level). leveled_glyph says w c level) (zip cs levels)
 
 -- the glyphs are those of the first `count` units of a body, or all, from an offset on
-pub record AreSingle (class : ℕ → Class) (w : ℕ) (body : List ℕ) (at count : ℕ) (glyphs : List Drawn) : Type 0 where
+pub record AreSingle (says : Data) (w : ℕ) (body : List ℕ) (at count : ℕ) (glyphs : List Drawn) : Type 0 where
   pub cs : List ℕ
   pub rest : List ℕ
   pub bytes : drop at body ≡ encode_utf8_all cs ++ rest
-  pub units : take count (units_from class w body at) ≡ single_units at cs
+  pub units : take count (units_from says w body at) ≡ single_units at cs
   pub shown : map glyph_of glyphs ≡ map single_glyph cs

@@ -1,6 +1,7 @@
 -- The levels of a row's units: L1 on the row's characters, and then one level for each unit.
 use Rattle.std.specs.Prelude.{ℕ, ◌&&◌, Bool, true, false, List, [], ◌∷◌, map, flat_map, length, take, drop, Option, Some, None, unwrap_or, chars}
 use Rattle.std.specs.List.{zip}
+use Rattle.bx_ucd.specs.Data.{Data}
 use Rattle.bx_ucd.specs.declared.class.Class.{Class}
 use Rattle.bx_ucd.specs.declared.class.Class.TheVariants.{S, WS, FSI, LRI, RLI, PDI}
 use Rattle.bx_cells.specs.declared.unit.Unit.{Unit}
@@ -66,10 +67,10 @@ chars_before body [] = 0
 chars_before body (u ∷ us) = length (chars (take u.start body))
 
 -- the characters of a row's units, with their levels among the levels `each` of the body's characters
-abbrev pub row_chars : (ℕ → Class) → List ℕ → List (Option ℕ) → List Unit → List CharLevel
-row_chars class body each us = zip (map class (flat_map (unit_chars body) us)) (drop (chars_before body us) each)
+abbrev pub row_chars : Data → List ℕ → List (Option ℕ) → List Unit → List CharLevel
+row_chars says body each us = zip (map says.class (flat_map (unit_chars body) us)) (drop (chars_before body us) each)
 
 -- the levels of a row's units, in a paragraph of the level `paragraph` whose characters have the levels `each`
-abbrev pub row_levels : (ℕ → Class) → List ℕ → ℕ → List (Option ℕ) → List Unit → List ℕ
-row_levels class body paragraph each us =
-    levels_or_before paragraph (unit_levels (map (λ u. length (unit_chars body u)) us) (l1 paragraph (row_chars class body each us)))
+abbrev pub row_levels : Data → List ℕ → ℕ → List (Option ℕ) → List Unit → List ℕ
+row_levels says body paragraph each us =
+    levels_or_before paragraph (unit_levels (map (λ u. length (unit_chars body u)) us) (l1 paragraph (row_chars says body each us)))

@@ -2,6 +2,7 @@
 use Rattle.std.specs.Prelude.{ℕ, zero, suc, ◌+◌, ◌-◌, ◌%◌, ◌==◌, Bool, true, false, List, [], ◌∷◌, ◌++◌, map, sum, flat_map, replicate, slice_index_or, Option}
 use Rattle.std.specs.Prelude.{unwrap_or, chars, encode_utf8_all}
 use Rattle.std.specs.List.{zip}
+use Rattle.bx_ucd.specs.Data.{Data}
 use Rattle.bx_terms.specs.Characters.{are_ascii_printable}
 use Rattle.bx_ucd.specs.declared.class.Class.{Class}
 use Rattle.bx_cells.specs.declared.unit.Face.{Face}
@@ -29,8 +30,8 @@ abbrev pub text_glyphs : ℕ → List ℕ → List Glyph
 text_glyphs n text = elim (are_ascii_printable text) [ true ↦ map (λ b. glyph (b ∷ []) 1 false) text | false ↦ glyph text n false ∷ [] ]
 
 -- a text with its characters mirrored; characters without a mirror stay
-abbrev pub mirror_image : (ℕ → Option ℕ) → List ℕ → List ℕ
-mirror_image mirror text = encode_utf8_all (map (λ c. unwrap_or (mirror c) c) (chars text))
+abbrev pub mirror_image : Data → List ℕ → List ℕ
+mirror_image says text = encode_utf8_all (map (λ c. unwrap_or (says.mirror c) c) (chars text))
 
 -- the face shows its own text in n columns
 abbrev pub is_own : ℕ → Face → Bool
@@ -38,18 +39,18 @@ is_own n (Own m) = m == n
 is_own n _ = false
 
 -- the mirrored text if it is shown as itself in `n` columns, else the text
-abbrev pub mirror_image_within : (ℕ → Class) → (ℕ → Option ℕ) → ℕ → ℕ → List ℕ → List ℕ
-mirror_image_within class mirror w n text = let other = mirror_image mirror text in elim (is_own n (face class w other)) [ true ↦ other | false ↦ text ]
+abbrev pub mirror_image_within : Data → ℕ → ℕ → List ℕ → List ℕ
+mirror_image_within says w n text = let other = mirror_image says text in elim (is_own n (face says w other)) [ true ↦ other | false ↦ text ]
 
 -- the text shown at a level: mirrored if the level is odd
-abbrev pub shown_text : (ℕ → Class) → (ℕ → Option ℕ) → ℕ → ℕ → ℕ → List ℕ → List ℕ
-shown_text class mirror w n level text = elim (level % 2) [ zero ↦ text | suc _ ↦ mirror_image_within class mirror w n text ]
+abbrev pub shown_text : Data → ℕ → ℕ → ℕ → List ℕ → List ℕ
+shown_text says w n level text = elim (level % 2) [ zero ↦ text | suc _ ↦ mirror_image_within says w n text ]
 
 -- the glyphs of a face in its columns, with the unit's own text at a level
-abbrev pub face_glyphs : (ℕ → Class) → (ℕ → Option ℕ) → ℕ → List ℕ → Face → ℕ → ℕ → List Glyph
-face_glyphs class mirror w text Tab columns level = replicate columns blank
-face_glyphs class mirror w text (Mark letter) columns level = glyph (letter ∷ []) 1 true ∷ []
-face_glyphs class mirror w text (Own n) columns level = text_glyphs n (shown_text class mirror w n level text)
+abbrev pub face_glyphs : Data → ℕ → List ℕ → Face → ℕ → ℕ → List Glyph
+face_glyphs says w text Tab columns level = replicate columns blank
+face_glyphs says w text (Mark letter) columns level = glyph (letter ∷ []) 1 true ∷ []
+face_glyphs says w text (Own n) columns level = text_glyphs n (shown_text says w n level text)
 
 -- the columns of each unit of a row with `c` columns taken
 abbrev pub unit_columns : ℕ → ℕ → List Unit → List ℕ
@@ -61,16 +62,16 @@ abbrev pub columns_used : ℕ → List Unit → ℕ
 columns_used w us = sum (unit_columns w 0 us)
 
 -- the glyphs of each unit of a row, given the columns and levels of its units
-abbrev pub unit_glyphs : (ℕ → Class) → (ℕ → Option ℕ) → ℕ → List ℕ → List Unit → List ℕ → List ℕ → List (List Glyph)
-unit_glyphs class mirror w body us columns levels =
-    map (λ (u, at). face_glyphs class mirror w (unit_text body u) u.face at.0 at.1) (zip us (zip columns levels))
+abbrev pub unit_glyphs : Data → ℕ → List ℕ → List Unit → List ℕ → List ℕ → List (List Glyph)
+unit_glyphs says w body us columns levels =
+    map (λ (u, at). face_glyphs says w (unit_text body u) u.face at.0 at.1) (zip us (zip columns levels))
 
 -- the blanks of a row are at its end: right in a paragraph of even level, left in one of odd level
 abbrev pub with_blanks : ℕ → ℕ → List Glyph → List Glyph
 with_blanks paragraph n glyphs = elim (paragraph % 2) [ zero ↦ glyphs ++ replicate n blank | suc _ ↦ replicate n blank ++ glyphs ]
 
 -- a row from left to right: the glyphs of its units in visual order, and the blanks
-abbrev pub draw : (ℕ → Class) → (ℕ → Option ℕ) → ℕ → List ℕ → ℕ → List Unit → List ℕ → List Glyph
-draw class mirror w body paragraph us levels =
-    let glyphs = unit_glyphs class mirror w body us (unit_columns w 0 us) levels in
+abbrev pub draw : Data → ℕ → List ℕ → ℕ → List Unit → List ℕ → List Glyph
+draw says w body paragraph us levels =
+    let glyphs = unit_glyphs says w body us (unit_columns w 0 us) levels in
     with_blanks paragraph (w - columns_used w us) (flat_map (λ k. slice_index_or glyphs k []) (visual levels))

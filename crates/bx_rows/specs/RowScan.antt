@@ -1,6 +1,7 @@
 -- The current row of a scan over units, and its invariants.
 use Rattle.std.specs.Prelude.{◌≡◌, ℕ, zero, suc, ◌+◌, ◌-◌, ◌<◌, ◌≤◌, Bool, List, ◌∷◌, ◌++◌, map, length, take, drop, chars}
 use Rattle.std.specs.Str.{IsCharBoundary}
+use Rattle.bx_ucd.specs.Data.{Data}
 use Rattle.bx_ucd.specs.declared.class.Class.{Class}
 use Rattle.bx_cells.specs.declared.unit.Unit.{Unit}
 use Rattle.bx_cells.specs.Units.{units, units_from}
@@ -43,12 +44,12 @@ pub record IsInOrder (w : ℕ) (body : List ℕ) (s : Scan) (at : ℕ) : Type 0 
   pub chars : s.start.chars ≡ length (chars (take s.start.offset body))
 
 -- the starts so far and those from the current row on are the starts of all rows
-pub record IsRead (class : ℕ → Class) (w : ℕ) (body : List ℕ) (starts : List RowStart) (s : Scan) (rest : List Unit) : Type 0 where
-  pub scan : IsScan (is_break class body) w (units_from class w body s.start.offset) (units_from class w body s.next) rest s.columns s.last s.count s.since
-  pub number : drop s.start.units (units class w body) ≡ units_from class w body s.start.offset
+pub record IsRead (says : Data) (w : ℕ) (body : List ℕ) (starts : List RowStart) (s : Scan) (rest : List Unit) : Type 0 where
+  pub scan : IsScan (is_break says body) w (units_from says w body s.start.offset) (units_from says w body s.next) rest s.columns s.last s.count s.since
+  pub number : drop s.start.units (units says w body) ≡ units_from says w body s.start.offset
   pub chars : s.start.chars ≡ length (chars (take s.start.offset body))
-  pub done : starts ++ map (start_of body (units class w body)) (rows_from (is_break class body) w s.start.units 0 (units_from class w body s.start.offset))
-      ≡ map (start_of body (units class w body)) (rows_from (is_break class body) w 0 0 (units class w body))
+  pub done : starts ++ map (start_of body (units says w body)) (rows_from (is_break says body) w s.start.units 0 (units_from says w body s.start.offset))
+      ≡ map (start_of body (units says w body)) (rows_from (is_break says body) w 0 0 (units says w body))
 
 -- a row with no unit yet
 abbrev pub new_scan : RowStart → Scan
@@ -62,19 +63,19 @@ with_run s n (suc m) next =
     record { start = s.start; next = next; columns = s.columns + n; last = s.last + s.count + suc m; count = n - suc m; since = n - suc m }
 
 -- the unit has the extent, and is the first unit of a body from there on
-pub record HasExtent (class : ℕ → Class) (w : ℕ) (body : List ℕ) (e : Extent) (u : Unit) (rest : List Unit) : Type 0 where
+pub record HasExtent (says : Data) (w : ℕ) (body : List ℕ) (e : Extent) (u : Unit) (rest : List Unit) : Type 0 where
   pub columns : (c : ℕ) → columns_at w c u.face ≡ columns_at w c e.face
-  pub breaks : is_break class body u ≡ e.is_break
-  pub here : units_from class w body e.start ≡ u ∷ rest
-  pub behind : units_from class w body e.stop ≡ rest
+  pub breaks : is_break says body u ≡ e.is_break
+  pub here : units_from says w body e.start ≡ u ∷ rest
+  pub behind : units_from says w body e.stop ≡ rest
 
 -- the starts and the current row, before and after a unit of this extent
 abbrev pub Takes : ℕ → List ℕ → Extent → List RowStart → Scan → List RowStart → Scan → Type 0
 Takes w body e starts s new t =
-    (class : ℕ → Class) (u : Unit) (rest : List Unit) → HasExtent class w body e u rest → IsRead class w body starts s (u ∷ rest)
-    → IsRead class w body new t rest
+    (says : Data) (u : Unit) (rest : List Unit) → HasExtent says w body e u rest → IsRead says w body starts s (u ∷ rest)
+    → IsRead says w body new t rest
 
 -- a body has a unit of the extent
-pub record HasUnit (class : ℕ → Class) (w : ℕ) (body : List ℕ) (e : Extent) : Type 0 where
+pub record HasUnit (says : Data) (w : ℕ) (body : List ℕ) (e : Extent) : Type 0 where
   pub unit : Unit
-  pub extent : HasExtent class w body e unit (units_from class w body e.stop)
+  pub extent : HasExtent says w body e unit (units_from says w body e.stop)

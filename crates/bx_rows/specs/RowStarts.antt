@@ -1,5 +1,6 @@
 -- The starts of a body's rows.
 use Rattle.std.specs.Prelude.{ℕ, zero, suc, ◌-◌, List, [], ◌∷◌, map, length, take, drop, chars, slice_get, Option, Some, None}
+use Rattle.bx_ucd.specs.Data.{Data}
 use Rattle.bx_ucd.specs.declared.class.Class.{Class}
 use Rattle.bx_cells.specs.declared.unit.Unit.{Unit}
 use Rattle.bx_cells.specs.Units.{units}
@@ -15,8 +16,8 @@ start_of body us r =
     record { offset = offset; units = r.start; chars = length (chars (take offset body)) }
 
 -- the starts of the rows of a body
-abbrev pub row_starts : (ℕ → Class) → ℕ → List ℕ → List RowStart
-row_starts class w body = let us = units class w body in map (start_of body us) (wrap class w body us)
+abbrev pub row_starts : Data → ℕ → List ℕ → List RowStart
+row_starts says w body = let us = units says w body in map (start_of body us) (wrap says w body us)
 
 -- the units of a row, if there is one
 abbrev pub units_in : List Unit → Option Row → List Unit
@@ -24,8 +25,8 @@ units_in us None = []
 units_in us (Some r) = row_units us r
 
 -- the units of row number `k` of a body, from 0; none if it has no such row
-abbrev pub units_of_row : (ℕ → Class) → ℕ → List ℕ → ℕ → List Unit
-units_of_row class w body k = let us = units class w body in units_in us (slice_get (wrap class w body us) k)
+abbrev pub units_of_row : Data → ℕ → List ℕ → ℕ → List Unit
+units_of_row says w body k = let us = units says w body in units_in us (slice_get (wrap says w body us) k)
 
 -- An upper bound of the unit count of the row from `start` to `next`. The last row has no next one, and no more units than
 -- the body has bytes. In a window of no columns each row is empty.

@@ -36,7 +36,7 @@ pub(crate) fn ascii_run<D: BidiData>(body: &str, at: usize, most: u16, tables: &
     requires { IsCharBoundary body.now at }
     ensures most { result.count ≤ most }
     ensures bounds { IsRunIn body.now at result }
-    ensures units { (w : ℕ) → IsNarrowRun (D.data tables.now).class w body.now at result }
+    ensures units { (w : ℕ) → IsNarrowRun (D.data tables.now) w body.now at result }
 {
     let bytes = body.as_bytes();
     let limit = at + (bytes.len() - at).min(most as usize + 1);

@@ -129,7 +129,7 @@ fn shown_text<'a, D: BidiData>(
     tables: &D,
     w: u16,
 ) -> Result<CowStr<'a, Global>, AllocError>
-    ensures { IfOk result (λ t. cow_str_bytes t ≡ shown_text (D.data tables.now).class (D.data tables.now).mirror w columns level text.entry.now) }
+    ensures { IfOk result (λ t. cow_str_bytes t ≡ shown_text (D.data tables.now) w columns level text.entry.now) }
 {
     if level % 2 == 0 {
         return Ok(CowStr::Borrowed(text));
@@ -156,7 +156,7 @@ pub(crate) fn push_face<'a, D: BidiData>(
 ) -> Result<(), AllocError>
     requires { HasLetter face }
     ensures { OnOk result (map glyph_of glyphs.new.items ≡ map glyph_of glyphs.old.items
-        ++ face_glyphs (D.data tables.now).class (D.data tables.now).mirror w text.entry.now face columns level) }
+        ++ face_glyphs (D.data tables.now) w text.entry.now face columns level) }
 {
     match face {
         Face::Tab => push_blanks(glyphs, columns),

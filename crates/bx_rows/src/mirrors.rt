@@ -29,7 +29,7 @@ fn single_char(text: &str) -> Option<char>
 
 /// Whether a character of a text has a mirror, for a text of any length.
 fn any_mirror<D: BidiData>(text: &str, tables: &D) -> bool
-    ensures { result ≡ false → mirror_image (D.data tables.now).mirror text.now ≡ text.now }
+    ensures { result ≡ false → mirror_image (D.data tables.now) text.now ≡ text.now }
 {
     for c in text.chars() {
         if tables.mirror(c).is_some() {
@@ -42,7 +42,7 @@ fn any_mirror<D: BidiData>(text: &str, tables: &D) -> bool
 /// Whether a character of a text has a mirror.
 #[inline(always)]
 pub(crate) fn has_mirror<D: BidiData>(text: &str, tables: &D) -> bool
-    ensures { result ≡ false → mirror_image (D.data tables.now).mirror text.now ≡ text.now }
+    ensures { result ≡ false → mirror_image (D.data tables.now) text.now ≡ text.now }
 {
     match single_char(text) {
         Some(c) => tables.mirror(c).is_some(),
@@ -52,7 +52,7 @@ pub(crate) fn has_mirror<D: BidiData>(text: &str, tables: &D) -> bool
 
 /// A text with its characters mirrored. Characters without a mirror stay.
 fn mirror_image<D: BidiData>(alloc: Global, text: &str, tables: &D) -> Result<String, AllocError>
-    ensures { IfOk result (λ t. string_bytes t ≡ mirror_image (D.data tables.now).mirror text.now) }
+    ensures { IfOk result (λ t. string_bytes t ≡ mirror_image (D.data tables.now) text.now) }
 {
     let mut other = String::new(alloc);
     for c in text.chars() {
@@ -64,7 +64,7 @@ fn mirror_image<D: BidiData>(alloc: Global, text: &str, tables: &D) -> Result<St
 /// The fixed text of a character from SPACE to TILDE that is shown as itself in one column.
 fn fixed_text<'a, D: BidiData>(c: char, tables: &D, w: u16) -> Option<&'a str>
     ensures bytes { IfSome result (λ t. t.now ≡ encode_utf8 c) }
-    ensures face { IfSome result (λ t. face (D.data tables.now).class w t.now ≡ Own 1) }
+    ensures face { IfSome result (λ t. face (D.data tables.now) w t.now ≡ Own 1) }
 {
     if c < ' ' || c > '~' {
         return None;
@@ -77,7 +77,7 @@ fn fixed_text<'a, D: BidiData>(c: char, tables: &D, w: u16) -> Option<&'a str>
 
 /// The mirror of a text of one character, if it is printable ASCII: a fixed text, so nothing is allocated.
 fn fixed_mirror<'a, D: BidiData>(text: &str, tables: &D, w: u16) -> Option<&'a str>
-    ensures { IfSome result (λ t. t.now ≡ mirror_image_within (D.data tables.now).class (D.data tables.now).mirror w 1 text.now) }
+    ensures { IfSome result (λ t. t.now ≡ mirror_image_within (D.data tables.now) w 1 text.now) }
 {
     let c = single_char(text)?;
     let mirror = tables.mirror(c)?;
@@ -92,8 +92,8 @@ pub(crate) fn mirrored<'a, D: BidiData>(
     tables: &D,
     w: u16,
 ) -> Result<Option<CowStr<'a, Global>>, AllocError>
-    ensures { IfOk result (λ o. MatchOption o (mirror_image_within (D.data tables.now).class (D.data tables.now).mirror w columns text.now ≡ text.now)
-        (λ t. cow_str_bytes t ≡ mirror_image_within (D.data tables.now).class (D.data tables.now).mirror w columns text.now)) }
+    ensures { IfOk result (λ o. MatchOption o (mirror_image_within (D.data tables.now) w columns text.now ≡ text.now)
+        (λ t. cow_str_bytes t ≡ mirror_image_within (D.data tables.now) w columns text.now)) }
 {
     if columns == 1 {
         if let Some(other) = fixed_mirror(text, tables, w) {
@@ -117,7 +117,7 @@ fn mirror_text<D: BidiData>(
     w: u16,
 ) -> Result<(), AllocError>
     ensures { OnOk result (glyph_of drawn.new
-        ≡ glyph (mirror_image_within (D.data tables.now).class (D.data tables.now).mirror w 1 (cow_str_bytes drawn.old.text))
+        ≡ glyph (mirror_image_within (D.data tables.now) w 1 (cow_str_bytes drawn.old.text))
         drawn.old.columns drawn.old.negative) }
 {
     let Some(other) = mirrored(alloc, drawn.text.as_str(), 1, tables, w)? else {
@@ -138,7 +138,7 @@ fn mirror_at<D: BidiData>(
     w: u16,
 ) -> Result<(), AllocError>
     ensures { OnOk result (glyph_of drawn.new
-        ≡ glyph (shown_text (D.data tables.now).class (D.data tables.now).mirror w 1 level (cow_str_bytes drawn.old.text))
+        ≡ glyph (shown_text (D.data tables.now) w 1 level (cow_str_bytes drawn.old.text))
         drawn.old.columns drawn.old.negative) }
 {
     if level % 2 == 0 {
@@ -161,7 +161,7 @@ pub(crate) fn mirror_odd<D: BidiData>(
     requires { length glyphs.old ≡ length levels.now }
     ensures count { length glyphs.new ≡ length glyphs.old }
     ensures mirrored { (cs : List ℕ) → map glyph_of glyphs.old ≡ map single_glyph cs
-        → OnOk result (map glyph_of glyphs.new ≡ leveled_glyphs (D.data tables.now).class (D.data tables.now).mirror w cs levels.now) }
+        → OnOk result (map glyph_of glyphs.new ≡ leveled_glyphs (D.data tables.now) w cs levels.now) }
 {
     for i in 0..glyphs.len() {
         mirror_at(&mut glyphs[i], alloc, levels[i], tables, w)?;

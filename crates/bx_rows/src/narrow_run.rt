@@ -23,7 +23,7 @@ pub(crate) struct NarrowRun {
 /// Whether a row may end after a cluster of simple characters.
 #[inline(always)]
 pub(crate) fn is_blank_cluster<D: BidiData>(first: char, is_marked: bool, tables: &D) -> bool
-    ensures { result ≡ is_one_blank (D.data tables.now).class (cond is_marked None (Some first)) }
+    ensures { result ≡ is_one_blank (D.data tables.now) (cond is_marked None (Some first)) }
 {
     if is_marked {
         return false;
@@ -61,7 +61,7 @@ pub(crate) fn narrow_run<D: BidiData>(body: &str, at: usize, most: u16, tables: 
     requires { IsCharBoundary body.now at }
     ensures most { result.count ≤ most }
     ensures bounds { IsRunIn body.now at result }
-    ensures units { (w : ℕ) → IsNarrowRun (D.data tables.now).class w body.now at result }
+    ensures units { (w : ℕ) → IsNarrowRun (D.data tables.now) w body.now at result }
 {
     let mut run = ascii_run(body, at, most, tables);
     if run.count == most {

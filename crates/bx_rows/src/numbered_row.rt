@@ -29,10 +29,10 @@ pub fn row_picture<'a, D: BidiData>(
     tables: &D,
     w: u16,
 ) -> Result<RowPicture<'a>, OutOfMemory>
-    requires starts { starts.now ≡ row_starts (D.data tables.now).class w body.now }
+    requires starts { starts.now ≡ row_starts (D.data tables.now) w body.now }
     requires number { number < length starts.now }
     ensures picture { IfOk result (λ p. map glyph_of p.glyphs.items
-        ≡ draw_numbered (D.data tables.now).class (D.data tables.now).mirror w body.entry.now levels.now.paragraph levels.now.each.items number) }
+        ≡ draw_numbered (D.data tables.now) w body.entry.now levels.now.paragraph levels.now.each.items number) }
     ensures glyphs { IfOk result (λ p. All (λ g. is_one_glyph (cow_str_bytes g.text) ≡ true) p.glyphs.items) }
     ensures widths { IfOk result (λ p. All (λ g. run_width (cow_str_bytes g.text) ≡ g.columns) p.glyphs.items) }
     ensures columns { IfOk result (λ p. sum_by (λ g. g.columns) p.glyphs.items ≡ w) }

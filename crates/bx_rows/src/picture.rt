@@ -48,12 +48,12 @@ fn push_units<'a, D: BidiData>(
     w: u16,
 ) -> Result<(), AllocError>
     requires stand { All (StandsIn body.now) units.now }
-    requires faces { All (HasFace (D.data tables.now).class w body.now) units.now }
+    requires faces { All (HasFace (D.data tables.now) w body.now) units.now }
     requires columns { length columns.now ≡ length units.now }
     requires levels { length levels.now ≡ length units.now }
     requires order { All (λ k. k < length units.now) order.now }
     ensures { OnOk result (map glyph_of glyphs.new.items ≡ map glyph_of glyphs.old.items
-        ++ flat_map (λ k. slice_index_or (unit_glyphs (D.data tables.now).class (D.data tables.now).mirror w body.entry.now units.now columns.now levels.now) k
+        ++ flat_map (λ k. slice_index_or (unit_glyphs (D.data tables.now) w body.entry.now units.now columns.now levels.now) k
         []) order.now) }
 {
     for number in order {
@@ -83,10 +83,10 @@ fn row_glyphs<'a, D: BidiData>(
     w: u16,
 ) -> Result<Vec<Drawn<'a>>, OutOfMemory>
     requires stand { All (StandsIn body.now) units.now }
-    requires faces { All (HasFace (D.data tables.now).class w body.now) units.now }
+    requires faces { All (HasFace (D.data tables.now) w body.now) units.now }
     requires used { columns_used w units.now ≤ w }
     requires levels { length levels.now ≡ length units.now }
-    ensures { IfOk result (λ v. map glyph_of v.items ≡ draw (D.data tables.now).class (D.data tables.now).mirror w body.entry.now paragraph units.now levels.now) }
+    ensures { IfOk result (λ v. map glyph_of v.items ≡ draw (D.data tables.now) w body.entry.now paragraph units.now levels.now) }
 {
     let (columns, used) = unit_columns(alloc, units, w)?;
     let order = visual(alloc, levels)?;
@@ -119,11 +119,11 @@ pub fn draw<'a, D: BidiData>(
     w: u16,
 ) -> Result<RowPicture<'a>, OutOfMemory>
     requires stand { All (StandsIn body.now) units.now }
-    requires faces { All (HasFace (D.data tables.now).class w body.now) units.now }
+    requires faces { All (HasFace (D.data tables.now) w body.now) units.now }
     requires row { IsRowOf w units.now row }
     requires levels { length levels.now ≡ length (row_units units.now row) }
     ensures picture { IfOk result (λ p. map glyph_of p.glyphs.items
-        ≡ draw (D.data tables.now).class (D.data tables.now).mirror w body.entry.now paragraph (row_units units.now row) levels.now) }
+        ≡ draw (D.data tables.now) w body.entry.now paragraph (row_units units.now row) levels.now) }
     ensures glyphs { IfOk result (λ p. All (λ g. is_one_glyph (cow_str_bytes g.text) ≡ true) p.glyphs.items) }
     ensures widths { IfOk result (λ p. All (λ g. run_width (cow_str_bytes g.text) ≡ g.columns) p.glyphs.items) }
     ensures columns { IfOk result (λ p. sum_by (λ g. g.columns) p.glyphs.items ≡ w) }

@@ -31,7 +31,7 @@ fn arranged<'a, D: BidiData>(
     requires { length row.levels.items ≡ length row.glyphs.items }
     ensures count { IfOk result (λ v. length v.items ≡ length row.entry.glyphs.items) }
     ensures order { (cs : List ℕ) → map glyph_of row.entry.glyphs.items ≡ map single_glyph cs → IfOk result (λ v. map glyph_of v.items
-        ≡ map (λ k. slice_index_or (leveled_glyphs (D.data tables.now).class (D.data tables.now).mirror w cs row.entry.levels.items) k blank)
+        ≡ map (λ k. slice_index_or (leveled_glyphs (D.data tables.now) w cs row.entry.levels.items) k blank)
         (visual row.entry.levels.items)) }
 {
     let PlainRow { mut glyphs, levels } = row;
@@ -50,10 +50,10 @@ pub(crate) fn plain_picture<'a, D: BidiData>(
     tables: &D,
     w: u16,
 ) -> Result<Option<RowPicture<'a>>, OutOfMemory>
-    requires starts { starts.now ≡ row_starts (D.data tables.now).class w body.now }
+    requires starts { starts.now ≡ row_starts (D.data tables.now) w body.now }
     requires number { number < length starts.now }
     ensures picture { IfOk result (λ o. IfSome o (λ p. map glyph_of p.glyphs.items
-        ≡ draw_numbered (D.data tables.now).class (D.data tables.now).mirror w body.entry.now levels.now.paragraph levels.now.each.items number)) }
+        ≡ draw_numbered (D.data tables.now) w body.entry.now levels.now.paragraph levels.now.each.items number)) }
     ensures glyphs { IfOk result (λ o. IfSome o (λ p. All (λ g. is_one_glyph (cow_str_bytes g.text) ≡ true) p.glyphs.items)) }
     ensures widths { IfOk result (λ o. IfSome o (λ p. All (λ g. run_width (cow_str_bytes g.text) ≡ g.columns) p.glyphs.items)) }
     ensures columns { IfOk result (λ o. IfSome o (λ p. sum_by (λ g. g.columns) p.glyphs.items ≡ w)) }

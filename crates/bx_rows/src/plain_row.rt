@@ -35,7 +35,7 @@ pub(crate) struct PlainRow<'a> {
 #[inline(always)]
 pub(crate) fn is_plain<D: BidiData>(c: char, tables: &D, w: u16) -> bool
     ensures begin { result ≡ true → begins c ≡ true }
-    ensures face { result ≡ true → simple_face (D.data tables.now).class w c false ≡ Own 1 }
+    ensures face { result ≡ true → simple_face (D.data tables.now) w c false ≡ Own 1 }
 {
     let Simple::Begins(columns) = common_kind(c) else {
         return false;
@@ -47,7 +47,7 @@ pub(crate) fn is_plain<D: BidiData>(c: char, tables: &D, w: u16) -> bool
 #[inline(always)]
 fn plain_class<D: BidiData>(c: char, tables: &D, w: u16) -> Option<Class>
     ensures begin { IfSome result (λ k. begins c ≡ true) }
-    ensures face { IfSome result (λ k. simple_face (D.data tables.now).class w c false ≡ Own 1) }
+    ensures face { IfSome result (λ k. simple_face (D.data tables.now) w c false ≡ Own 1) }
     ensures class { IfSome result (λ k. k ≡ (D.data tables.now).class c) }
 {
     if !is_plain(c, tables, w) {
@@ -105,11 +105,11 @@ pub(crate) fn plain_row<'a, D: BidiData>(
     w: u16,
 ) -> Result<Option<PlainRow<'a>>, AllocError>
     requires { IsCharBoundary body.now start.offset }
-    ensures units { IfOk result (λ o. IfSome o (λ r. AreSingle (D.data tables.now).class w body.entry.now start.offset count r.glyphs.items)) }
+    ensures units { IfOk result (λ o. IfSome o (λ r. AreSingle (D.data tables.now) w body.entry.now start.offset count r.glyphs.items)) }
     ensures count { IfOk result (λ o. IfSome o (λ r. length r.levels.items ≡ length r.glyphs.items)) }
-    ensures levels { IfOk result (λ o. IfSome o (λ r. (us : List Unit) → us ≡ take count (units_from (D.data tables.now).class w body.entry.now start.offset)
+    ensures levels { IfOk result (λ o. IfSome o (λ r. (us : List Unit) → us ≡ take count (units_from (D.data tables.now) w body.entry.now start.offset)
         → (0 < length us → start.chars ≡ chars_before body.entry.now us)
-        → r.levels.items ≡ row_levels (D.data tables.now).class body.entry.now levels.now.paragraph levels.now.each.items us)) }
+        → r.levels.items ≡ row_levels (D.data tables.now) body.entry.now levels.now.paragraph levels.now.each.items us)) }
 {
     let each = levels.each.as_slice();
     let mut glyphs = Vec::with_capacity(alloc, count.min(FIRST_ROOM))?;

@@ -43,11 +43,11 @@ pub fn units_of_row<D: BidiData>(
     tables: &D,
     w: u16,
 ) -> Result<Vec<Unit>, OutOfMemory>
-    requires starts { starts.now ≡ row_starts (D.data tables.now).class w body.now }
+    requires starts { starts.now ≡ row_starts (D.data tables.now) w body.now }
     requires number { number < length starts.now }
-    ensures units { IfOk result (λ v. v.items ≡ units_of_row (D.data tables.now).class w body.now number) }
+    ensures units { IfOk result (λ v. v.items ≡ units_of_row (D.data tables.now) w body.now number) }
     ensures stand { IfOk result (λ v. All (StandsIn body.now) v.items) }
-    ensures faces { IfOk result (λ v. All (HasFace (D.data tables.now).class w body.now) v.items) }
+    ensures faces { IfOk result (λ v. All (HasFace (D.data tables.now) w body.now) v.items) }
     ensures row { IfOk result (λ v. IsRowOf w v.items (record { start = 0; stop = length v.items })) }
     ensures chars { (s : RowStart) → slice_get starts.now number ≡ Some s → IfOk result (λ v. 0 < length v.items → s.chars ≡ chars_before body.now v.items) }
 {

@@ -31,7 +31,7 @@ pub struct RowStart {
 #[inline(always)]
 fn sized_as<D: BidiData>(cluster: SimpleCluster, tables: &D, w: u16) -> Face
     requires { own_columns cluster.first ≡ cluster.columns }
-    ensures { (c : ℕ) → columns_at w c (simple_face (D.data tables.now).class w cluster.first cluster.is_marked) ≡ columns_at w c result }
+    ensures { (c : ℕ) → columns_at w c (simple_face (D.data tables.now) w cluster.first cluster.is_marked) ≡ columns_at w c result }
 {
     if cluster.columns == 1 {
         return Face::Own(1);
@@ -46,7 +46,7 @@ fn extent<D: BidiData>(body: &str, at: usize, tables: &D, w: u16) -> Extent
     requires some { at < length body.now }
     ensures start { result.start ≡ at }
     ensures stop { (at < result.stop) × IsCharBoundary body.now result.stop }
-    ensures unit { HasUnit (D.data tables.now).class w body.now result }
+    ensures unit { HasUnit (D.data tables.now) w body.now result }
 {
     match simple_cluster(body, at) {
         Some(cluster) => Extent {
@@ -85,8 +85,8 @@ fn read_run<D: BidiData>(scan: Scan, body: &str, at: usize, tables: &D, w: u16) 
     requires at { IsCharBoundary body.now at }
     ensures in_turn { IsInOrder w body.now result.0 result.1 }
     ensures stop { (at ≤ result.1) × IsCharBoundary body.now result.1 }
-    ensures read { (starts : List RowStart) → IsRead (D.data tables.now).class w body.now starts scan (units_from (D.data tables.now).class w body.now at)
-        → IsRead (D.data tables.now).class w body.now starts result.0 (units_from (D.data tables.now).class w body.now result.1) }
+    ensures read { (starts : List RowStart) → IsRead (D.data tables.now) w body.now starts scan (units_from (D.data tables.now) w body.now at)
+        → IsRead (D.data tables.now) w body.now starts result.0 (units_from (D.data tables.now) w body.now result.1) }
 {
     if !may_begin_run(body, at) {
         return (scan, at);
@@ -110,8 +110,8 @@ fn read_unit<D: BidiData>(
     ensures in_turn { IfOk result (λ r. IsInOrder w body.now r.0 r.1) }
     ensures stop { IfOk result (λ r. (at ≤ r.1) × IsCharBoundary body.now r.1) }
     ensures further { at < length body.now → IfOk result (λ r. at < r.1) }
-    ensures read { IsRead (D.data tables.now).class w body.now starts.old.items scan (units_from (D.data tables.now).class w body.now at)
-        → IfOk result (λ r. IsRead (D.data tables.now).class w body.now starts.new.items r.0 (units_from (D.data tables.now).class w body.now r.1)) }
+    ensures read { IsRead (D.data tables.now) w body.now starts.old.items scan (units_from (D.data tables.now) w body.now at)
+        → IfOk result (λ r. IsRead (D.data tables.now) w body.now starts.new.items r.0 (units_from (D.data tables.now) w body.now r.1)) }
 {
     if at == body.len() {
         return Ok((scan, at));
@@ -129,7 +129,7 @@ pub fn row_starts<D: BidiData>(
     tables: &D,
     w: u16,
 ) -> Result<Vec<RowStart>, OutOfMemory>
-    ensures { IfOk result (λ v. v.items ≡ row_starts (D.data tables.now).class w body.now) }
+    ensures { IfOk result (λ v. v.items ≡ row_starts (D.data tables.now) w body.now) }
 {
     let first = RowStart {
         offset: 0,

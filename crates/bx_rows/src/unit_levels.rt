@@ -42,7 +42,7 @@ fn each_level<D: BidiData>(
 ) -> Result<Vec<u8>, AllocError>
     requires units { All (StandsIn body.now) units.now }
     requires chars { 0 < length units.now → chars ≡ chars_before body.now units.now }
-    ensures { IfOk result (λ v. v.items ≡ row_levels (D.data tables.now).class body.now levels.now.paragraph levels.now.each.items units.now) }
+    ensures { IfOk result (λ v. v.items ≡ row_levels (D.data tables.now) body.now levels.now.paragraph levels.now.each.items units.now) }
 {
     let mut found = Vec::with_capacity(alloc, units.len())?;
     if units.is_empty() {
@@ -74,7 +74,7 @@ pub fn row_levels<D: BidiData>(
     requires units { All (StandsIn body.now) units.now }
     requires row { row.start ≤ row.stop }
     requires within { row.stop ≤ length units.now }
-    ensures levels { IfOk result (λ v. v.items ≡ row_levels (D.data tables.now).class body.now levels.now.paragraph levels.now.each.items
+    ensures levels { IfOk result (λ v. v.items ≡ row_levels (D.data tables.now) body.now levels.now.paragraph levels.now.each.items
         (row_units units.now row)) }
     ensures one_each { IfOk result (λ v. length v.items ≡ length (row_units units.now row)) }
 {
@@ -96,7 +96,7 @@ pub fn row_levels_behind<D: BidiData>(
 ) -> Result<Vec<u8>, OutOfMemory>
     requires units { All (StandsIn body.now) units.now }
     requires chars { 0 < length units.now → chars ≡ chars_before body.now units.now }
-    ensures levels { IfOk result (λ v. v.items ≡ row_levels (D.data tables.now).class body.now levels.now.paragraph levels.now.each.items units.now) }
+    ensures levels { IfOk result (λ v. v.items ≡ row_levels (D.data tables.now) body.now levels.now.paragraph levels.now.each.items units.now) }
     ensures one_each { IfOk result (λ v. length v.items ≡ length units.now) }
 {
     let found = each_level(alloc, body, units, chars, levels, tables)?;

@@ -57,7 +57,7 @@ pub(crate) fn is_blank(class: Class) -> bool
 /// Whether a row may end after a unit.
 pub(crate) fn is_break<D: BidiData>(body: &str, unit: Unit, tables: &D) -> bool
     requires { StandsIn body.now unit }
-    ensures { result ≡ is_break (D.data tables.now).class body.now unit }
+    ensures { result ≡ is_break (D.data tables.now) body.now unit }
 {
     match only_char(&body[unit.start..unit.stop]) {
         Some(c) => is_blank(tables.class(c)),
@@ -69,7 +69,7 @@ pub(crate) fn is_break<D: BidiData>(body: &str, unit: Unit, tables: &D) -> bool
 #[tactic(auto, using(crate::proofs::Breaks::last_here, crate::proofs::Breaks::last_before))]
 fn up_to_last_break<D: BidiData>(body: &str, units: &[Unit], tables: &D) -> usize
     requires { All (StandsIn body.now) units.now }
-    ensures last { result ≡ up_to_last (is_break (D.data tables.now).class body.now) units.now }
+    ensures last { result ≡ up_to_last (is_break (D.data tables.now) body.now) units.now }
     ensures within { result ≤ length units.now }
 {
     let mut n = units.len();
@@ -85,7 +85,7 @@ fn up_to_last_break<D: BidiData>(body: &str, units: &[Unit], tables: &D) -> usiz
 /// The number of remaining units that the next row takes.
 fn row_len<D: BidiData>(body: &str, units: &[Unit], tables: &D, w: u16) -> usize
     requires { All (StandsIn body.now) units.now }
-    ensures row { result ≡ row_len (is_break (D.data tables.now).class body.now) w units.now }
+    ensures row { result ≡ row_len (is_break (D.data tables.now) body.now) w units.now }
     ensures within { result ≤ length units.now }
 {
     let n = fit_count(units, w);
@@ -107,7 +107,7 @@ fn all_rows<D: BidiData>(
     w: u16,
 ) -> Result<Vec<Row>, AllocError>
     requires { All (StandsIn body.now) units.now }
-    ensures { IfOk result (λ v. v.items ≡ wrap (D.data tables.now).class w body.now units.now) }
+    ensures { IfOk result (λ v. v.items ≡ wrap (D.data tables.now) w body.now units.now) }
 {
     let mut rows = Vec::new(alloc);
     if units.is_empty() {
@@ -135,8 +135,8 @@ pub fn wrap<D: BidiData>(
     w: u16,
 ) -> Result<Vec<Row>, OutOfMemory>
     requires stand { All (StandsIn body.now) units.now }
-    requires faces { All (HasFace (D.data tables.now).class w body.now) units.now }
-    ensures rows { IfOk result (λ v. v.items ≡ wrap (D.data tables.now).class w body.now units.now) }
+    requires faces { All (HasFace (D.data tables.now) w body.now) units.now }
+    ensures rows { IfOk result (λ v. v.items ≡ wrap (D.data tables.now) w body.now units.now) }
     ensures fit { IfOk result (λ v. All (IsRowOf w units.now) v.items) }
     ensures cut { 1 ≤ w → IfOk result (λ v. CutUnits w units.now v.items) }
 {

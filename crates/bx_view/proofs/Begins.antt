@@ -3,6 +3,7 @@ use Rattle.std.proofs.Common.{◌≡◌, ℕ, ◌+◌, ◌-◌, ◌<◌, ◌≤�
 use Rattle.std.proofs.Common.{IsCharBoundary, refl, sym, ap, subst, ◌∙◌, arith, length-append}
 use Rattle.std.proofs.lemmas.List.{append_cancel_right, drop-drop, drop-take, drop_at, map-append, take-append-drop, take-take}
 use Rattle.std.proofs.lemmas.Str.{chars-append, chars-encodes, encodes-append, encodes-chars, scalars-chars, IsUtf8-take, IsCharBoundary-from_drop}
+use Rattle.bx_ucd.specs.Data.{Data}
 use lib.Utf8.{scalars}
 use Rattle.bx_ucd.specs.declared.class.Class.{Class}
 use Rattle.bx_paras.specs.declared.lengths.Lengths.{Lengths}
@@ -35,23 +36,23 @@ some_chars bs (c ∷ cs) u some e = omega arith
 
 -- ---- a paragraph's begin
 
-module _ (class : ℕ → Class) (text : List ℕ) (utf8 : IsUtf8 text) where
+module _ (says : Data) (text : List ℕ) (utf8 : IsUtf8 text) where
   -- a paragraph begins at an offset, and the paragraphs from there on have these lengths
   pub record IsBegin (at : ℕ) (ls : List Lengths) : Type 0 where
     pub bounds : IsCharBoundary text at
-    pub parts : parts class (chars (take at text)) (chars (drop at text)) ≡ true
-    pub rest : lens class (chars (drop at text)) ≡ ls
+    pub parts : parts says (chars (take at text)) (chars (drop at text)) ≡ true
+    pub rest : lens says (chars (drop at text)) ≡ ls
 
-  pub begin_at : (n : ℕ) (within : n < count class text)
-      → IsBegin (start_at class text n) (lengths_of (here class text n within) ∷ map lengths_of (behind class text n within))
+  pub begin_at : (n : ℕ) (within : n < count says text)
+      → IsBegin (start_at says text n) (lengths_of (here says text n within) ∷ map lengths_of (behind says text n within))
   begin_at n within =
-      let told : lens class (chars text) ≡ map lengths_of (ahead class text n within)
-      ++ lengths_of (here class text n within) ∷ map lengths_of (behind class text n within) = ap (map lengths_of) (parts-at class text n within)
-      ∙ map-append lengths_of (ahead class text n within) (here class text n within ∷ behind class text n within) in
-      let (x, m, s) = seam class (chars text) (map lengths_of (ahead class text n within)) (lengths_of (here class text n within))
-      (map lengths_of (behind class text n within)) told in
-      let at = start_at class text n in
-      let size : widths x ≡ at = s.bytes ∙ sym (start-is class text n) in
+      let told : lens says (chars text) ≡ map lengths_of (ahead says text n within)
+      ++ lengths_of (here says text n within) ∷ map lengths_of (behind says text n within) = ap (map lengths_of) (parts-at says text n within)
+      ∙ map-append lengths_of (ahead says text n within) (here says text n within ∷ behind says text n within) in
+      let (x, m, s) = seam says (chars text) (map lengths_of (ahead says text n within)) (lengths_of (here says text n within))
+      (map lengths_of (behind says text n within)) told in
+      let at = start_at says text n in
+      let size : widths x ≡ at = s.bytes ∙ sym (start-is says text n) in
       let spelt : text ≡ encode_utf8_all x ++ encode_utf8_all m = sym (encodes-chars text utf8) ∙ ap encode_utf8_all s.whole ∙ encodes-append x m in
       let sound : scalars m ≡ true = scalars_back x m (ap scalars (sym s.whole) ∙ scalars-chars text utf8) in
       let rest : drop at text ≡ encode_utf8_all m = ap (drop at) spelt ∙ drop_at (encode_utf8_all x) (encode_utf8_all m) at size in
@@ -64,6 +65,6 @@ module _ (class : ℕ → Class) (text : List ℕ) (utf8 : IsUtf8 text) where
       ∙ ap chars (take-append-drop at text) ∙ s.whole) in
       record {
         bounds = bounds;
-        parts = ap (λ v. parts class v (chars (drop at text))) before ∙ ap (parts class x) after ∙ s.parts;
-        rest = ap (lens class) after ∙ s.rest;
+        parts = ap (λ v. parts says v (chars (drop at text))) before ∙ ap (parts says x) after ∙ s.parts;
+        rest = ap (lens says) after ∙ s.rest;
       }

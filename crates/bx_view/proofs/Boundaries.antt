@@ -7,6 +7,7 @@ use Rattle.std.proofs.lemmas.List.Concat.{flat_map-cons}
 use Rattle.std.proofs.lemmas.List.Elements.{All-append, All-cons, All-head, All-nil, All-tail}
 use Rattle.std.proofs.lemmas.Str.{IsCharBoundary-from_drop, IsCharBoundary-from_rest, IsCharBoundary-start, IsUtf8-append, IsUtf8-drop}
 use Rattle.std.specs.Prelude.{All}
+use Rattle.bx_ucd.specs.Data.{Data}
 use Rattle.bx_terms.specs.Sizes.{is_side}
 use Rattle.bx_ucd.specs.declared.class.Class.{Class}
 use Rattle.bx_ucd.specs.declared.data.Side.{Side}
@@ -60,10 +61,10 @@ moved-in : (P : ℕ → Type 0) (start : ℕ) (os : List ℕ) → Within (λ o. 
 moved-in P start [] a = tt
 moved-in P start (o ∷ os) a = (a.0, moved-in P start os a.1)
 
-module _ (class : ℕ → Class) (bracket : ℕ → Option (Side × ℕ)) (base : Base) (w : ℕ) where
+module _ (says : Data) (base : Base) (w : ℕ) where
   module _ (text : List ℕ) where
     bound-from : (front : List ℕ) (ps : List Paragraph) → text ≡ front ++ bytes ps → AreUtf8 ps
-        → All (IsBound text w) (from class bracket base w (length front) ps)
+        → All (IsBound text w) (from says base w (length front) ps)
     bound-from front [] e u = All-nil (IsBound text w)
     bound-from front (p ∷ ps) e u =
         let rest = p.separator ++ bytes ps in
@@ -72,23 +73,23 @@ module _ (class : ℕ → Class) (bracket : ℕ → Option (Side × ℕ)) (base 
         let size : length (front ++ (p.body ++ p.separator)) ≡ length front + bytes_of (lengths_of p) =
         omega (arith, length-append front (p.body ++ p.separator), length-append p.body p.separator) in
         let rest-is : IsUtf8 rest = IsUtf8-append p.separator (bytes ps) u.0.separator (bytes-utf8 ps u.1) in
-        All-append (IsBound text w) (map (text_row (length front)) (own class bracket base w p))
-        (from class bracket base w (length front + bytes_of (lengths_of p)) ps)
-        (all-moved (IsBound text w) (length front) (own class bracket base w p) (λ k within.
-        body-row-lies (λ o. IsCharBoundary text (length front + o)) class bracket base w p.body k u.0.body
+        All-append (IsBound text w) (map (text_row (length front)) (own says base w p))
+        (from says base w (length front + bytes_of (lengths_of p)) ps)
+        (all-moved (IsBound text w) (length front) (own says base w p) (λ k within.
+        body-row-lies (λ o. IsCharBoundary text (length front + o)) says base w p.body k u.0.body
         (λ o b. subst (λ bs. IsCharBoundary bs (length front + o)) (sym whole) (bound-within front p.body rest o u.0.body rest-is b)) within))
-        (subst (λ s. All (IsBound text w) (from class bracket base w s ps)) size
+        (subst (λ s. All (IsBound text w) (from says base w s ps)) size
         (bound-from (front ++ (p.body ++ p.separator)) ps further u.1))
 
   module _ (some : 1 ≤ w) (text : List ℕ) (utf8 : IsUtf8 text) where
     abbrev rows : List TextRow
-    rows = text_rows class bracket base w text
+    rows = text_rows says base w text
 
     abbrev Bound : ℕ → Type 0
     Bound o = IsCharBoundary text o
 
     rows-bound : All (IsBound text w) rows
-    rows-bound = bound-from text [] (paragraphs class text) (sym (text-bytes class text utf8)) (text-parts class text utf8).utf8
+    rows-bound = bound-from text [] (paragraphs says text) (sym (text-bytes says text utf8)) (text-parts says text utf8).utf8
 
     places-bound-of : (rs : List TextRow) → All (IsBound text w) rs → Within Bound (places rs)
     places-bound-of [] a = tt
@@ -103,7 +104,7 @@ module _ (class : ℕ → Class) (bracket : ℕ → Option (Side × ℕ)) (base 
     places-bound = places-bound-of rows rows-bound
 
     some-row : 0 < length rows
-    some-row = omega (arith, text-rank class bracket base w some text utf8 0, rank-few 0 (map first rows), length-map rows first)
+    some-row = omega (arith, text-rank says base w some text utf8 0, rank-few 0 (map first rows), length-map rows first)
 
     -- and where each move leads to
     pub bounds-kept : MovesKeep w rows Bound
@@ -111,16 +112,16 @@ module _ (class : ℕ → Class) (bracket : ℕ → Option (Side × ℕ)) (base 
 
 -- ---- as a layout answers it
 
-module _ (class : ℕ → Class) (bracket : ℕ → Option (Side × ℕ)) (v : ViewState) (text : List ℕ) (side : is_side v.w ≡ true) (utf8 : IsUtf8 text) where
-  kept : MovesKeep v.w (rows_by class bracket v text) (IsCharBoundary text)
-  kept = bounds-kept class bracket v.base v.w (side-some v.w side) text utf8
+module _ (says : Data) (v : ViewState) (text : List ℕ) (side : is_side v.w ≡ true) (utf8 : IsUtf8 text) where
+  kept : MovesKeep v.w (rows_by says v text) (IsCharBoundary text)
+  kept = bounds-kept says v.base v.w (side-some v.w side) text utf8
 
-  pub moved-bound : (m : Move) (place o : ℕ) → o ≡ moved v.w (rows_by class bracket v text) m place → IsCharBoundary text place → IsCharBoundary text o
+  pub moved-bound : (m : Move) (place o : ℕ) → o ≡ moved v.w (rows_by says v text) m place → IsCharBoundary text place → IsCharBoundary text o
   moved-bound m place o e b = subst (IsCharBoundary text) (sym e) (kept.moved m place b)
 
   -- from any offset
-  pub home-bound : (place o : ℕ) → o ≡ row_home (rows_by class bracket v text) place → IsCharBoundary text o
+  pub home-bound : (place o : ℕ) → o ≡ row_home (rows_by says v text) place → IsCharBoundary text o
   home-bound place o e = subst (IsCharBoundary text) (sym e) (kept.home place)
 
-  pub end-bound : (place o : ℕ) → o ≡ row_end (rows_by class bracket v text) place → IsCharBoundary text o
+  pub end-bound : (place o : ℕ) → o ≡ row_end (rows_by says v text) place → IsCharBoundary text o
   end-bound place o e = subst (IsCharBoundary text) (sym e) (kept.end place)

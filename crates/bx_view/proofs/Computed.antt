@@ -2,8 +2,7 @@
 use Rattle.std.proofs.Common.{◌==◌, ℕ, Bool, List, [], ◌∷◌, map}
 use Rattle.std.specs.Prelude.{flat_map, count_by, chars, encode_utf8_all}
 use Rattle.std.specs.List.{list_all}
-use Rattle.bx_resolve.specs.TestTables.{class, bracket}
-use Rattle.bx_rows.proofs.Computed.{mirror}
+use Rattle.bx_resolve.specs.TestTables.{small}
 use Rattle.bx_explicit.specs.declared.base.Base.{Base}
 use Rattle.bx_explicit.specs.declared.base.Base.TheVariants.{Auto}
 use Rattle.bx_view.specs.TextRows.{TextRow, places, slots, text_row_glyphs, text_rows}
@@ -11,14 +10,14 @@ use Rattle.bx_view.specs.Top.{shown_rows}
 
 -- the rows of a text of these characters
 abbrev pub rows_under : Base → ℕ → List ℕ → List TextRow
-rows_under base w cs = text_rows class bracket base w (encode_utf8_all cs)
+rows_under base w cs = text_rows small base w (encode_utf8_all cs)
 
 abbrev pub rows : ℕ → List ℕ → List TextRow
 rows w cs = rows_under Auto w cs
 
 -- the characters of the glyphs of each row, from left to right
 abbrev pub pictures : ℕ → List TextRow → List (List ℕ)
-pictures w rs = map (λ r. flat_map (λ g. chars g.text) (text_row_glyphs class mirror w r)) rs
+pictures w rs = map (λ r. flat_map (λ g. chars g.text) (text_row_glyphs small w r)) rs
 
 -- the characters of `t` visible rows from the offset `top` on
 abbrev pub shown : ℕ → ℕ → ℕ → List TextRow → List (List ℕ)

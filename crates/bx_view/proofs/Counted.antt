@@ -5,6 +5,7 @@ use Rattle.std.proofs.Common.{sym, ap, ◌∙◌, arith, length-append}
 use Rattle.std.proofs.lemmas.Bool.Decides.{nat_tests}
 use Rattle.std.proofs.lemmas.List.{get_or-map, length-map, take_all, take-append-drop}
 use Rattle.std.proofs.lemmas.Option.{slice_get-get_or, slice_get_past}
+use Rattle.bx_ucd.specs.Data.{Data}
 use Rattle.bx_ucd.specs.declared.class.Class.{Class}
 use Rattle.bx_ucd.specs.declared.data.Side.{Side}
 use Rattle.bx_explicit.specs.declared.base.Base.{Base}
@@ -27,69 +28,69 @@ pub walked-on : (b : Bool) (number new done all : ℕ) → b ≡ nat_lt (number 
 walked-on true number new done all there is at more = omega (arith, is, at)
 walked-on false number new done all there is at more = absurd (grind (arith, nat_tests))
 
-module _ (class : ℕ → Class) (bracket : ℕ → Option (Side × ℕ)) (base : Base) (w : ℕ) (some : 1 ≤ w) (text : List ℕ) (utf8 : IsUtf8 text) where
+module _ (says : Data) (base : Base) (w : ℕ) (some : 1 ≤ w) (text : List ℕ) (utf8 : IsUtf8 text) where
   abbrev rows : List TextRow
-  rows = text_rows class bracket base w text
+  rows = text_rows says base w text
 
   abbrev ahead : ℕ → ℕ
-  ahead number = rows_ahead class bracket base w text number
+  ahead number = rows_ahead says base w text number
 
   -- a paragraph has as many rows as row starts
-  pub starts-counted : (number : ℕ) (starts : List RowStart) → starts ≡ row_starts class w (body_at class text number)
-      → length starts ≡ length (rows_in class bracket base w text number)
+  pub starts-counted : (number : ℕ) (starts : List RowStart) → starts ≡ row_starts says w (body_at says text number)
+      → length starts ≡ length (rows_in says base w text number)
   starts-counted number starts e =
-      let body = body_at class text number in
+      let body = body_at says text number in
       sym (length-map starts (λ s. s.offset)) ∙ ap (λ ss. length (map (λ (s : RowStart). s.offset) ss)) e ∙ ap length (sym
-      (firsts class bracket base w body some))
-      ∙ length-map (rows_in class bracket base w text number) first_of
+      (firsts says base w body some))
+      ∙ length-map (rows_in says base w text number) first_of
 
   -- one more paragraph
-  pub ahead-more : (number n : ℕ) (starts : List RowStart) → number < count class text → starts ≡ row_starts class w (body_at class text number)
+  pub ahead-more : (number n : ℕ) (starts : List RowStart) → number < count says text → starts ≡ row_starts says w (body_at says text number)
       → n ≡ ahead number → n + length starts ≡ ahead (number + 1)
   ahead-more number n starts within e is =
-      omega (arith, is, starts-counted number starts e, ahead-next class bracket base w some text utf8 number within)
+      omega (arith, is, starts-counted number starts e, ahead-next says base w some text utf8 number within)
 
   -- all of them
-  pub ahead-all : (number : ℕ) → count class text ≤ number → ahead number ≡ length rows
-  ahead-all number h = ap (λ ps. length (from class bracket base w 0 ps)) (take_all number (paragraphs class text) h)
+  pub ahead-all : (number : ℕ) → count says text ≤ number → ahead number ≡ length rows
+  ahead-all number h = ap (λ ps. length (from says base w 0 ps)) (take_all number (paragraphs says text) h)
 
   -- a text has few rows
   pub few-rows : length rows ≤ length text + 1
-  few-rows = omega (arith, rises-few 0 (map first rows) (length text + 1) (firsts-rise-in class bracket base w some text utf8), length-map rows first)
+  few-rows = omega (arith, rises-few 0 (map first rows) (length text + 1) (firsts-rise-in says base w some text utf8), length-map rows first)
 
   pub few-ahead : (number : ℕ) → ahead number ≤ length text + 1
   few-ahead number =
-      let all = paragraphs class text in
-      let split = from-append class bracket base w 0 (take number all) (drop number all) in
-      let rest = from class bracket base w (0 + total (map lengths_of (take number all))) (drop number all) in
-      let whole : length rows ≡ length (from class bracket base w 0 (take number all)) + length rest =
-      ap (λ ps. length (from class bracket base w 0 ps)) (sym (take-append-drop number all)) ∙ ap length split
-      ∙ length-append (from class bracket base w 0 (take number all)) rest in
+      let all = paragraphs says text in
+      let split = from-append says base w 0 (take number all) (drop number all) in
+      let rest = from says base w (0 + total (map lengths_of (take number all))) (drop number all) in
+      let whole : length rows ≡ length (from says base w 0 (take number all)) + length rest =
+      ap (λ ps. length (from says base w 0 ps)) (sym (take-append-drop number all)) ∙ ap length split
+      ∙ length-append (from says base w 0 (take number all)) rest in
       omega (arith, few-rows, whole)
 
   -- a row of the paragraph that is reached
-  module _ (number k n : ℕ) (starts : List RowStart) (within : number < count class text) (e : starts ≡ row_starts class w (body_at class text number))
+  module _ (number k n : ℕ) (starts : List RowStart) (within : number < count says text) (e : starts ≡ row_starts says w (body_at says text number))
       (is : k + ahead number ≡ n) (there : k < length starts) where
-    row-there : IsRow class bracket base w text number k n
+    row-there : IsRow says base w text number k n
     row-there = record { paragraph = within; row = omega (arith, there, starts-counted number starts e); is = omega (arith, is) }
 
-    offset-is : (d : RowStart) → (get_or starts k d).offset ≡ first_of (get_or (rows_in class bracket base w text number) k no_row)
+    offset-is : (d : RowStart) → (get_or starts k d).offset ≡ first_of (get_or (rows_in says base w text number) k no_row)
     offset-is d =
-        let body = body_at class text number in
+        let body = body_at says text number in
         sym (get_or-map (λ s. s.offset) starts k d 0 there) ∙ ap (λ ss. get_or (map (λ (s : RowStart). s.offset) ss) k 0) e
-        ∙ ap (λ os. get_or os k 0) (sym (firsts class bracket base w body some))
-        ∙ get_or-map first_of (rows_in class bracket base w text number) k no_row 0 (omega (arith, there, starts-counted number starts e))
+        ∙ ap (λ os. get_or os k 0) (sym (firsts says base w body some))
+        ∙ get_or-map first_of (rows_in says base w text number) k no_row 0 (omega (arith, there, starts-counted number starts e))
 
-    pub start-fits : (d : RowStart) (start : ℕ) → start ≡ start_at class text number → start + (get_or starts k d).offset ≤ length text
-    start-fits d start s = omega (arith, s, offset-is d, first-short class bracket base w some text utf8 number k n row-there)
+    pub start-fits : (d : RowStart) (start : ℕ) → start ≡ start_at says text number → start + (get_or starts k d).offset ≤ length text
+    start-fits d start s = omega (arith, s, offset-is d, first-short says base w some text utf8 number k n row-there)
 
-    pub first-told : (d : RowStart) (start : ℕ) → start ≡ start_at class text number
+    pub first-told : (d : RowStart) (start : ℕ) → start ≡ start_at says text number
         → Some (start + (get_or starts k d).offset) ≡ option_map first (slice_get rows n)
     first-told d start s =
-        let here : start + (get_or starts k d).offset ≡ start_at class text number + first_of (get_or (rows_in class bracket base w text number) k no_row) =
+        let here : start + (get_or starts k d).offset ≡ start_at says text number + first_of (get_or (rows_in says base w text number) k no_row) =
         omega (arith, s, offset-is d) in
-        ap Some (here ∙ sym (ap first (row-is class bracket base w some text utf8 number k n row-there)))
-        ∙ sym (ap (option_map first) (slice_get-get_or rows n no_text_row (row-within class bracket base w some text utf8 number k n row-there)))
+        ap Some (here ∙ sym (ap first (row-is says base w some text utf8 number k n row-there)))
+        ∙ sym (ap (option_map first) (slice_get-get_or rows n no_text_row (row-within says base w some text utf8 number k n row-there)))
 
-  pub none-told : (number k n : ℕ) → count class text ≤ number → k + ahead number ≡ n → None ≡ option_map first (slice_get rows n)
+  pub none-told : (number k n : ℕ) → count says text ≤ number → k + ahead number ≡ n → None ≡ option_map first (slice_get rows n)
   none-told number k n past is = sym (ap (option_map first) (slice_get_past rows n (omega (arith, is, ahead-all number past))))

@@ -4,6 +4,7 @@ use Rattle.std.proofs.Common.{Option, Some, None, IsUtf8, arith}
 use Rattle.std.specs.Prelude.{Contains, MatchOption}
 use Rattle.std.proofs.lemmas.List.{length-reverse}
 use Rattle.std.proofs.lemmas.List.Elements.{Contains-get_or}
+use Rattle.bx_ucd.specs.Data.{Data}
 use Rattle.bx_ucd.specs.declared.class.Class.{Class}
 use Rattle.bx_ucd.specs.declared.data.Side.{Side}
 use Rattle.bx_explicit.specs.declared.base.Base.{Base}
@@ -64,13 +65,13 @@ some-slot w r levels some =
     omega (arith, counted-contains (offsets_of r.row) o there, once-each w r.row levels (one-at o)) in
     some-of (slot_offsets w r.row) o (contains-counted (slot_offsets w r.row) o counted)
 
-module _ (class : ℕ → Class) (bracket : ℕ → Option (Side × ℕ)) (base : Base) (w : ℕ) (some : 1 ≤ w) (text : List ℕ) (utf8 : IsUtf8 text) where
+module _ (says : Data) (base : Base) (w : ℕ) (some : 1 ≤ w) (text : List ℕ) (utf8 : IsUtf8 text) where
   abbrev rows : List TextRow
-  rows = text_rows class bracket base w text
+  rows = text_rows says base w text
 
   pub row-entered : (k : ℕ) → k < length rows → IsEntered w (row_at rows k)
   row-entered k within =
       let r = row_at rows k in
-      let levels = rows-leveled class bracket base w text k no_text_row within in
-      let head = heads-at rows k (rows-headed-in class bracket base w some text utf8) within in
+      let levels = rows-leveled says base w text k no_text_row within in
+      let head = heads-at rows k (rows-headed-in says base w some text utf8) within in
       entered-at w r levels (some-slot w r levels (head-some r head))

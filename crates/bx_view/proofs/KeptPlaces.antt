@@ -9,6 +9,7 @@ use Rattle.std.proofs.lemmas.List.Concat.{flat_map-cons}
 use Rattle.std.proofs.lemmas.List.Elements.{All-append, All-cons, All-contains_itself, All-head, All-map, All-nil, All-tail, All-weaker}
 use Rattle.std.proofs.lemmas.List.Elements.{Contains-append_left, Contains-append_right}
 use Rattle.std.proofs.lemmas.List.Sums.{get_or-le-sum_by, sum_by-cons}
+use Rattle.bx_ucd.specs.Data.{Data}
 use Rattle.bx_ucd.specs.declared.class.Class.{Class}
 use Rattle.bx_ucd.specs.declared.data.Side.{Side}
 use Rattle.bx_explicit.specs.declared.base.Base.{Base}
@@ -80,23 +81,23 @@ leveled-last row each (us ∷ []) = All-cons HasLevels (row true us) [] (each tr
 leveled-last row each (us ∷ vs ∷ rest) =
     All-cons HasLevels (row false us) (with_last row (vs ∷ rest)) (each false us) (leveled-last row each (vs ∷ rest))
 
-module _ (class : ℕ → Class) (bracket : ℕ → Option (Side × ℕ)) (base : Base) (w : ℕ) where
-  leveled-body : (body : List ℕ) → All HasLevels (body_rows class bracket base w body)
+module _ (says : Data) (base : Base) (w : ℕ) where
+  leveled-body : (body : List ℕ) → All HasLevels (body_rows says base w body)
   leveled-body body =
-      let paragraph = paragraph_level_under class base (chars body) in
-      let each = levels_under class bracket base (chars body) in
-      leveled-last (row_with class body paragraph each) (λ b us. one_each class body paragraph each us _ refl) (rows_units class w body)
+      let paragraph = paragraph_level_under says base (chars body) in
+      let each = levels_under says base (chars body) in
+      leveled-last (row_with says body paragraph each) (λ b us. one_each says body paragraph each us _ refl) (rows_units says w body)
 
-  leveled-from : (start : ℕ) (ps : List Paragraph) → All (λ r. HasLevels r.row) (from class bracket base w start ps)
+  leveled-from : (start : ℕ) (ps : List Paragraph) → All (λ r. HasLevels r.row) (from says base w start ps)
   leveled-from start [] = All-nil (λ (r : TextRow). HasLevels r.row)
   leveled-from start (p ∷ ps) =
       let next = start + bytes_of (lengths_of p) in
-      All-append (λ (r : TextRow). HasLevels r.row) (map (text_row start) (own class bracket base w p)) (from class bracket base w next ps)
-      (All-map (λ (r : TextRow). HasLevels r.row) (text_row start) (own class bracket base w p) (leveled-body p.body)) (leveled-from next ps)
+      All-append (λ (r : TextRow). HasLevels r.row) (map (text_row start) (own says base w p)) (from says base w next ps)
+      (All-map (λ (r : TextRow). HasLevels r.row) (text_row start) (own says base w p) (leveled-body p.body)) (leveled-from next ps)
 
   -- each unit of a row has a level
-  pub rows-leveled : (text : List ℕ) → All (λ r. HasLevels r.row) (text_rows class bracket base w text)
-  rows-leveled text = leveled-from 0 (paragraphs class text)
+  pub rows-leveled : (text : List ℕ) → All (λ r. HasLevels r.row) (text_rows says base w text)
+  rows-leveled text = leveled-from 0 (paragraphs says text)
 
 -- ---- properties of the places of rows hold for their slots
 
@@ -127,24 +128,24 @@ row-of-places rows w r all levels start =
 
 -- ---- of a text
 
-module _ (class : ℕ → Class) (bracket : ℕ → Option (Side × ℕ)) (base : Base) (w : ℕ) (some : 1 ≤ w) (text : List ℕ) (utf8 : IsUtf8 text) where
+module _ (says : Data) (base : Base) (w : ℕ) (some : 1 ≤ w) (text : List ℕ) (utf8 : IsUtf8 text) where
   abbrev rows : List TextRow
-  rows = text_rows class bracket base w text
+  rows = text_rows says base w text
 
   some-row : 0 < length rows
-  some-row = omega (arith, text-rank class bracket base w some text utf8 0, rank-few 0 (map first rows), length-map rows first)
+  some-row = omega (arith, text-rank says base w some text utf8 0, rank-few 0 (map first rows), length-map rows first)
 
   rows-of-places : All (IsOfPlaces rows w) rows
   rows-of-places = λ k d h.
-      row-of-places rows w (get_or rows k d) (in-places rows k d h) (rows-leveled class bracket base w text k d h)
-      (starts-are-places class bracket base w some text utf8 k d h)
+      row-of-places rows w (get_or rows k d) (in-places rows k d h) (rows-leveled says base w text k d h)
+      (starts-are-places says base w some text utf8 k d h)
 
   -- each move leads from a place of the rows to a place
   pub places-kept : MovesKeep w rows (IsPlace rows)
   places-kept =
       moves-keep w rows (IsPlace rows) rows-of-places (within-of (IsPlace rows) (places rows) (λ o c. c)) some-row
-      (begin-is-place class bracket base w some text utf8)
+      (begin-is-place says base w some text utf8)
 
   -- and so from a place of the text to a place
-  pub text-places-kept : MovesKeep w rows (IsTextPlace class text)
-  text-places-kept = subst (λ os. MovesKeep w rows (λ p. Contains os p)) (places-are class bracket base w some text utf8) places-kept
+  pub text-places-kept : MovesKeep w rows (IsTextPlace says text)
+  text-places-kept = subst (λ os. MovesKeep w rows (λ p. Contains os p)) (places-are says base w some text utf8) places-kept

@@ -1,5 +1,6 @@
 -- Where rows begin, in later states of a layout.
 use Rattle.std.proofs.Common.{◌≡◌, ℕ, ◌<◌, ◌≤◌, List, length, Option, IsUtf8, sym, ap, ap₂, ◌∙◌, arith}
+use Rattle.bx_ucd.specs.Data.{Data}
 use Rattle.bx_terms.specs.Sizes.{is_side}
 use Rattle.bx_ucd.specs.declared.class.Class.{Class}
 use Rattle.bx_ucd.specs.declared.data.Side.{Side}
@@ -18,38 +19,38 @@ pub away-within : (count : ℕ) (way : Vertical) (n k : ℕ) → k < count → r
 away-within count Up n k h = omega (arith, h)
 away-within count Down n k h = omega (arith, h)
 
-module _ (class : ℕ → Class) (bracket : ℕ → Option (Side × ℕ)) (old v : ViewState) (text : List ℕ) (place : ℕ) (at : RowAt) (utf8 : IsUtf8 text)
-    (keeps : Keeps class bracket old v) (on : StandsOn class bracket v text at (row_of (rows_by class bracket v text) place)) where
+module _ (says : Data) (old v : ViewState) (text : List ℕ) (place : ℕ) (at : RowAt) (utf8 : IsUtf8 text)
+    (keeps : Keeps says old v) (on : StandsOn says v text at (row_of (rows_by says v text) place)) where
   abbrev rows : List TextRow
-  rows = rows_by class bracket old text
+  rows = rows_by says old text
 
   pub side-kept : 1 ≤ old.w
   side-kept = side-some old.w (sym (ap is_side keeps.w) ∙ on.side)
 
   pub rise-kept : (n m : ℕ) → n < m → m < length rows → first (row_at rows n) < first (row_at rows m)
-  rise-kept = firsts-rise class bracket old.base old.w side-kept text utf8
+  rise-kept = firsts-rise says old.base old.w side-kept text utf8
 
   pub own-within : row_of rows place < length rows
   own-within =
-      let own = row_of (rows_by class bracket v text) place in
-      let within = row-within class bracket v.base v.w (side-some v.w on.side) text utf8 at.paragraph at.row own on.is in
-      falls-within rows place (omega (arith, within, ap length (rows-kept class bracket old v text keeps)))
+      let own = row_of (rows_by says v text) place in
+      let within = row-within says v.base v.w (side-some v.w on.side) text utf8 at.paragraph at.row own on.is in
+      falls-within rows place (omega (arith, within, ap length (rows-kept says old v text keeps)))
 
-  pub own-told : (o : ℕ) → o ≡ first (row_at (rows_by class bracket v text) (row_of (rows_by class bracket v text) place))
+  pub own-told : (o : ℕ) → o ≡ first (row_at (rows_by says v text) (row_of (rows_by says v text) place))
       → o ≡ first (row_at rows (row_of rows place))
-  own-told o e = e ∙ ap (λ rs. first (row_at rs (row_of rs place))) (rows-kept class bracket old v text keeps)
+  own-told o e = e ∙ ap (λ rs. first (row_at rs (row_of rs place))) (rows-kept says old v text keeps)
 
   -- where the row of the place begins, by a later state
-  pub begins-kept : (later : ViewState) → Keeps class bracket old later → (o : ℕ)
-      → o ≡ first (row_at (rows_by class bracket v text) (row_of (rows_by class bracket v text) place))
-      → (row_of rows place < length (rows_by class bracket later text)) × (o ≡ first (row_at (rows_by class bracket later text) (row_of rows place)))
+  pub begins-kept : (later : ViewState) → Keeps says old later → (o : ℕ)
+      → o ≡ first (row_at (rows_by says v text) (row_of (rows_by says v text) place))
+      → (row_of rows place < length (rows_by says later text)) × (o ≡ first (row_at (rows_by says later text) (row_of rows place)))
   begins-kept later further o e =
-      let same = rows-kept class bracket old later text further in
+      let same = rows-kept says old later text further in
       let within = own-within in
       (omega (arith, within, ap length same), own-told o e ∙ ap (λ rs. first (row_at rs (row_of rows place))) (sym same))
 
   -- of a row that is found later
-  pub far-told : {A : Type 0} (later : ViewState) → Keeps class bracket old later → (F : TextRow → A) (number : List TextRow → ℕ)
-      → F (row_at (rows_by class bracket later text) (number (rows_by class bracket v text))) ≡ F (row_at rows (number rows))
+  pub far-told : {A : Type 0} (later : ViewState) → Keeps says old later → (F : TextRow → A) (number : List TextRow → ℕ)
+      → F (row_at (rows_by says later text) (number (rows_by says v text))) ≡ F (row_at rows (number rows))
   far-told later further F number =
-      ap₂ (λ a b. F (row_at a (number b))) (rows-kept class bracket old later text further) (rows-kept class bracket old v text keeps)
+      ap₂ (λ a b. F (row_at a (number b))) (rows-kept says old later text further) (rows-kept says old v text keeps)

@@ -4,13 +4,14 @@ use Rattle.std.proofs.Common.{refl, sym, ap₂, subst, arith, inl, inr}
 use Rattle.std.specs.Prelude.{Contains, IsUtf8, codes, slice_get}
 use Rattle.std.specs.List.Sorted.{IsStrictlyIncreasing}
 use Rattle.std.proofs.lemmas.Option.{get_or_from_slice_get}
+use Rattle.bx_ucd.specs.Data.{Data}
 use Rattle.unicode_segmentation.proofs.Computing.{unicode_segmentation}
 use Rattle.unicode_width.proofs.Computing.{unicode_width}
 use Rattle.bx_terms.specs.Sizes.{is_side}
 use Rattle.bx_ucd.specs.declared.class.Class.{Class}
 use Rattle.bx_ucd.specs.declared.data.Side.{Side}
+use Rattle.bx_resolve.specs.TestTables.{small}
 use Rattle.bx_explicit.specs.declared.base.Base.{Base}
-use Rattle.bx_resolve.specs.TestTables.{class}
 use Rattle.bx_view.specs.declared.moves.Move.{Move}
 use Rattle.bx_view.specs.Cells.{HasCells, HasOneSlot, times}
 use Rattle.bx_view.specs.Laws.{InEachWindow, IsShownFrom, MovesKeep, MovesLeast, SpansText}
@@ -27,24 +28,28 @@ one_letter : IsUtf8 (codes "a")
 unfolding unicode_segmentation unicode_width
 one_letter = (codes "a", (refl, refl))
 
+-- the small tables with other brackets
+abbrev with_brackets : (ℕ → Option (Side × ℕ)) → Data
+with_brackets bracket = record small { bracket = bracket }
+
 -- the rows of the letter a
 abbrev rows_of_letter : (ℕ → Option (Side × ℕ)) → Base → ℕ → List TextRow
-rows_of_letter bracket base w = text_rows class bracket base w (codes "a")
+rows_of_letter bracket base w = text_rows (with_brackets bracket) base w (codes "a")
 
 -- ---- places
 
 abbrev ArePlaces : Type 0
-ArePlaces = InEachWindow (λ class text w rows. places rows ≡ text_places class text)
+ArePlaces = InEachWindow (λ says text w rows. places rows ≡ text_places says text)
 
 -- the places of `ab`
 places_of_ab : ArePlaces → (bracket : ℕ → Option (Side × ℕ)) (base : Base) (w : ℕ) → is_side w ≡ true
-    → places (text_rows class bracket base w (codes "ab")) ≡ 0 ∷ 1 ∷ 2 ∷ []
+    → places (text_rows (with_brackets bracket) base w (codes "ab")) ≡ 0 ∷ 1 ∷ 2 ∷ []
 unfolding unicode_segmentation unicode_width
-places_of_ab law bracket base w side = law class bracket base w (codes "ab") side ab
+places_of_ab law bracket base w side = law (with_brackets bracket) base w (codes "ab") side ab
 
 places_of_a : ArePlaces → (bracket : ℕ → Option (Side × ℕ)) (base : Base) (w : ℕ) → is_side w ≡ true → places (rows_of_letter bracket base w) ≡ 0 ∷ 1 ∷ []
 unfolding unicode_segmentation unicode_width
-places_of_a law bracket base w side = law class bracket base w (codes "a") side one_letter
+places_of_a law bracket base w side = law (with_brackets bracket) base w (codes "a") side one_letter
 
 above_number : (xs : List ℕ) (k : ℕ) → IsStrictlyIncreasing xs → k < length xs → k ≤ get_or xs k 0
 above_number xs zero rise h = omega arith
@@ -67,8 +72,8 @@ from_0_to_1 (x ∷ y ∷ z ∷ xs) rise first last =
     absurd (omega (arith, count, get_or_from_slice_get all (length all - 1) 1 0 last, above_number all (length all - 1) rise (omega (arith, count))))
 
 -- a text of one byte has the places 0 and 1, whatever separates
-two_places : ((class : ℕ → Class) (text : List ℕ) → IsUtf8 text → SpansText class text) → (class : ℕ → Class) → text_places class (codes "a") ≡ 0 ∷ 1 ∷ []
-two_places law class = let s = law class (codes "a") one_letter in from_0_to_1 (text_places class (codes "a")) s.rise s.first s.last
+two_places : ((says : Data) (text : List ℕ) → IsUtf8 text → SpansText says text) → (says : Data) → text_places says (codes "a") ≡ 0 ∷ 1 ∷ []
+two_places law says = let s = law says (codes "a") one_letter in from_0_to_1 (text_places says (codes "a")) s.rise s.first s.last
 
 -- ---- moves
 
@@ -78,36 +83,36 @@ either_place (suc zero) x h e = inr (sym e)
 either_place (suc (suc k)) x h e = absurd (omega (arith, h))
 
 -- each move from the start of `a` leads to its start or its end
-moves_in_a : InEachWindow (λ class text w rows. MovesKeep w rows (IsTextPlace class text)) → (bracket : ℕ → Option (Side × ℕ)) (base : Base) (w : ℕ) (m : Move)
+moves_in_a : InEachWindow (λ says text w rows. MovesKeep w rows (IsTextPlace says text)) → (bracket : ℕ → Option (Side × ℕ)) (base : Base) (w : ℕ) (m : Move)
     → is_side w ≡ true → (moved w (rows_of_letter bracket base w) m 0 ≡ 0) ⊎ (moved w (rows_of_letter bracket base w) m 0 ≡ 1)
 unfolding unicode_segmentation unicode_width
 moves_in_a law bracket base w m side =
-    let keep = law class bracket base w (codes "a") side one_letter in
+    let keep = law (with_brackets bracket) base w (codes "a") side one_letter in
     let place = keep.moved m 0 (0, omega arith, refl) in either_place place.0 (moved w (rows_of_letter bracket base w) m 0) place.1 place.2
 
 -- ---- cells
 
 one_slot_at : (bracket : ℕ → Option (Side × ℕ)) (base : Base) (w : ℕ) → places (rows_of_letter bracket base w) ≡ 0 ∷ 1 ∷ []
-    → HasCells class w (rows_of_letter bracket base w) → HasOneSlot w (rows_of_letter bracket base w) 1
+    → HasCells (with_brackets bracket) w (rows_of_letter bracket base w) → HasOneSlot w (rows_of_letter bracket base w) 1
 one_slot_at bracket base w e cells = cells.one 1 (subst (λ xs. Contains xs 1) (sym e) (1, omega arith, refl))
 
 -- the end of `a` has one slot in its row, in every window (that it is a place of the rows is the law of places)
-one_slot_of_end : ArePlaces → InEachWindow (λ class text w rows. HasCells class w rows) → (bracket : ℕ → Option (Side × ℕ)) (base : Base) (w : ℕ)
+one_slot_of_end : ArePlaces → InEachWindow (λ says text w rows. HasCells says w rows) → (bracket : ℕ → Option (Side × ℕ)) (base : Base) (w : ℕ)
     → is_side w ≡ true → let rows = rows_of_letter bracket base w in times 1 (slots w (row_at rows (row_of rows 1))) ≡ 1
 one_slot_of_end are law bracket base w side =
-    let one = one_slot_at bracket base w (places_of_a are bracket base w side) (law class bracket base w (codes "a") side one_letter) in one.once
+    let one = one_slot_at bracket base w (places_of_a are bracket base w side) (law (with_brackets bracket) base w (codes "a") side one_letter) in one.once
 
 -- ---- the top
 
-module _ (law : InEachWindow (λ class text w rows. MovesLeast rows)) (class : ℕ → Class) (bracket : ℕ → Option (Side × ℕ)) (base : Base) (w : ℕ) (text : List ℕ)
+module _ (law : InEachWindow (λ says text w rows. MovesLeast rows)) (says : Data) (base : Base) (w : ℕ) (text : List ℕ)
     (side : is_side w ≡ true) (valid : IsUtf8 text) where
   abbrev rows : List TextRow
-  rows = text_rows class bracket base w text
+  rows = text_rows says base w text
 
   -- if one row is visible, it is the place's row
   one_row_shown : (top place : ℕ) → row_of rows (follow rows top place 1) ≡ row_of rows place
   one_row_shown top place =
-      let least = law class bracket base w text side valid in
+      let least = law says base w text side valid in
       let shown = least.shows top place 1 (omega arith) in
       let above = shown.0 in
       let below = shown.1 in omega (arith, above, below)
@@ -115,5 +120,5 @@ module _ (law : InEachWindow (λ class text w rows. MovesLeast rows)) (class : �
   -- a top from which the place's row is shown stays
   shown_top_stays : (top place t : ℕ) → 0 < t → IsShownFrom rows place t (row_of rows top) → row_of rows (follow rows top place t) ≡ row_of rows top
   shown_top_stays top place t some shown =
-      let least = law class bracket base w text side valid in
+      let least = law says base w text side valid in
       let near = least.nearest top place t (row_of rows top) some shown in omega (arith, near)

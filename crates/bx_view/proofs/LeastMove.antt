@@ -3,6 +3,7 @@ use Rattle.std.proofs.Common.{◌≡◌, ℕ, ◌+◌, ◌<◌, ◌≤◌, List,
 use Rattle.std.specs.Int.{abs_diff}
 use Rattle.std.proofs.lemmas.Bool.{cases_lt}
 use Rattle.std.proofs.lemmas.List.{get_or-map, length-map}
+use Rattle.bx_ucd.specs.Data.{Data}
 use Rattle.bx_ucd.specs.declared.class.Class.{Class}
 use Rattle.bx_ucd.specs.declared.data.Side.{Side}
 use Rattle.bx_explicit.specs.declared.base.Base.{Base}
@@ -84,10 +85,10 @@ module _ (rows : List TextRow) (high : ℕ) (rise : Rises 0 (map first rows) hig
 
 -- ---- the rows of a text
 
-pub text-moves-least : (class : ℕ → Class) (bracket : ℕ → Option (Side × ℕ)) (base : Base) (w : ℕ) (text : List ℕ) → 1 ≤ w → IsUtf8 text
-    → MovesLeast (text_rows class bracket base w text)
-text-moves-least class bracket base w text some utf8 =
-    let rows = text_rows class bracket base w text in
+pub text-moves-least : (says : Data) (base : Base) (w : ℕ) (text : List ℕ) → 1 ≤ w → IsUtf8 text
+    → MovesLeast (text_rows says base w text)
+text-moves-least says base w text some utf8 =
+    let rows = text_rows says base w text in
     let few = rank-few 0 (map first rows) in
-    let one = text-rank class bracket base w some text utf8 0 in
-    moves-least rows _ (rows-rise class bracket base w some text utf8) (omega (arith, few, one, length-map rows first))
+    let one = text-rank says base w some text utf8 0 in
+    moves-least rows _ (rows-rise says base w some text utf8) (omega (arith, few, one, length-map rows first))

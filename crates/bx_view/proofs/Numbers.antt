@@ -7,6 +7,7 @@ use Rattle.std.proofs.lemmas.Bool.Decides.{nat_tests}
 use Rattle.std.proofs.lemmas.List.{length-map, length-take-le, take-append-drop, drop_more, drop_at, take_at, take-map, get_or-map}
 use Rattle.std.proofs.lemmas.List.Sums.{sum_by-cons}
 use Rattle.std.proofs.lemmas.Str.{IsCharBoundary-at_seam, IsUtf8-append, IsUtf8-nil}
+use Rattle.bx_ucd.specs.Data.{Data}
 use Rattle.bx_ucd.specs.declared.class.Class.{Class}
 use Rattle.bx_text.specs.Edits.{IsRange}
 use Rattle.bx_paras.specs.declared.lengths.Lengths.{Lengths}
@@ -93,17 +94,17 @@ pair-of a b c d e = let same : ◌≡◌ {A = ℕ × ℕ} (a, b) (c, d) = cc in 
 
 -- ---- a paragraph by its number
 
-module _ (class : ℕ → Class) (text : List ℕ) where
+module _ (says : Data) (text : List ℕ) where
   abbrev all : List Paragraph
-  all = paragraphs class text
+  all = paragraphs says text
 
-  pub lengths-count : length (lengths class text) ≡ count class text
+  pub lengths-count : length (lengths says text) ≡ count says text
   lengths-count = length-map all lengths_of
 
-  pub start-is : (n : ℕ) → start_at class text n ≡ total (map lengths_of (take n all))
+  pub start-is : (n : ℕ) → start_at says text n ≡ total (map lengths_of (take n all))
   start-is n = ap total (take-map lengths_of n all)
 
-  module _ (n : ℕ) (within : n < count class text) where
+  module _ (n : ℕ) (within : n < count says text) where
     abbrev pub ahead : List Paragraph
     ahead = take n all
 
@@ -111,41 +112,41 @@ module _ (class : ℕ → Class) (text : List ℕ) where
     behind = drop (n + 1) all
 
     abbrev pub here : Paragraph
-    here = paragraph_at class text n
+    here = paragraph_at says text n
 
-    pub parts-at : paragraphs class text ≡ ahead ++ here ∷ behind
+    pub parts-at : paragraphs says text ≡ ahead ++ here ∷ behind
     parts-at = sym (take-append-drop n all) ∙ ap (λ ps. take n all ++ ps) (drop_more all n (bare []) within)
 
-    pub among : IsAmong class text n (start_at class text n) here ahead behind
+    pub among : IsAmong says text n (start_at says text n) here ahead behind
     among = record { parts = parts-at; number_is = sym (length-take-le n all (omega (arith, within))); start_is = start-is n }
 
-    here-length : get_or (lengths class text) n (lengths_of (bare [])) ≡ lengths_of here
+    here-length : get_or (lengths says text) n (lengths_of (bare [])) ≡ lengths_of here
     here-length = get_or-map lengths_of all n (bare []) (lengths_of (bare [])) within
 
     -- its numbers in an index
-    pub span-is : (a b : ℕ) → slice_get (spans (lengths class text)) n ≡ Some (a, b)
-        → (a ≡ start_at class text n) × (b ≡ start_at class text n + length (body_at class text n))
+    pub span-is : (a b : ℕ) → slice_get (spans (lengths says text)) n ≡ Some (a, b)
+        → (a ≡ start_at says text n) × (b ≡ start_at says text n + length (body_at says text n))
     span-is a b e =
-        let start = start_at class text n in
-        let told : slice_get (spans (lengths class text)) n ≡ Some (start, start + (get_or (lengths class text) n (lengths_of (bare []))).body) =
-        span_at 0 n (lengths class text) (lengths_of (bare [])) (omega (arith, within, lengths-count))
-        ∙ ap (λ s. Some (s, s + (get_or (lengths class text) n (lengths_of (bare []))).body)) (omega arith) in
+        let start = start_at says text n in
+        let told : slice_get (spans (lengths says text)) n ≡ Some (start, start + (get_or (lengths says text) n (lengths_of (bare []))).body) =
+        span_at 0 n (lengths says text) (lengths_of (bare [])) (omega (arith, within, lengths-count))
+        ∙ ap (λ s. Some (s, s + (get_or (lengths says text) n (lengths_of (bare []))).body)) (omega arith) in
         pair-of a b start (start + length here.body) (sym e ∙ told ∙ ap (λ (l : Lengths). Some (start, start + l.body)) here-length)
 
     -- ---- its bytes
 
     module _ (utf8 : IsUtf8 text) where
       abbrev start : ℕ
-      start = start_at class text n
+      start = start_at says text n
 
       are-utf8 : AreUtf8 (ahead ++ here ∷ behind)
-      are-utf8 = subst AreUtf8 parts-at (text-parts class text utf8).utf8
+      are-utf8 = subst AreUtf8 parts-at (text-parts says text utf8).utf8
 
-      pub body-utf8 : IsUtf8 (body_at class text n)
+      pub body-utf8 : IsUtf8 (body_at says text n)
       body-utf8 = (behind-utf8 ahead (here ∷ behind) are-utf8).0.body
 
       whole : text ≡ bytes ahead ++ (here.body ++ (here.separator ++ bytes behind))
-      whole = sym (text-bytes class text utf8) ∙ ap bytes parts-at ∙ bytes-append ahead (here ∷ behind)
+      whole = sym (text-bytes says text utf8) ∙ ap bytes parts-at ∙ bytes-append ahead (here ∷ behind)
           ∙ ap (λ b. bytes ahead ++ b) (append_assoc here.body here.separator (bytes behind))
 
       front : length (bytes ahead) ≡ start
@@ -155,7 +156,7 @@ module _ (class : ℕ → Class) (text : List ℕ) where
       rest = ap (drop start) whole ∙ drop_at (bytes ahead) (here.body ++ (here.separator ++ bytes behind)) start front
 
       -- the bytes between its offsets are its body
-      pub body-is : slice_range text start (start + length (body_at class text n)) ≡ body_at class text n
+      pub body-is : slice_range text start (start + length (body_at says text n)) ≡ body_at says text n
       body-is =
           let size : start + length here.body - start ≡ length here.body = omega arith in
           ap (λ k. take k (drop start text)) size ∙ ap (take (length here.body)) rest
@@ -167,7 +168,7 @@ module _ (class : ℕ → Class) (text : List ℕ) where
           IsUtf8-append here.separator (bytes behind) u.0.separator (bytes-utf8 behind u.1)
 
       -- they bound characters
-      pub body-range : IsRange text start (start + length (body_at class text n))
+      pub body-range : IsRange text start (start + length (body_at says text n))
       body-range =
           let upto : text ≡ (bytes ahead ++ here.body) ++ (here.separator ++ bytes behind) =
           whole ∙ sym (append_assoc (bytes ahead) here.body (here.separator ++ bytes behind)) in
@@ -182,13 +183,13 @@ module _ (class : ℕ → Class) (text : List ℕ) where
 
   -- ---- an offset in it
 
-  pub some-paragraph : IsUtf8 text → 0 < count class text
-  some-paragraph utf8 = (text-parts class text utf8).some
+  pub some-paragraph : IsUtf8 text → 0 < count says text
+  some-paragraph utf8 = (text-parts says text utf8).some
 
-  next-start : (n : ℕ) → n < count class text → start_at class text (n + 1) ≡ start_at class text n + bytes_of (lengths_of (paragraph_at class text n))
+  next-start : (n : ℕ) → n < count says text → start_at says text (n + 1) ≡ start_at says text n + bytes_of (lengths_of (paragraph_at says text n))
   next-start n within =
-      total_more (lengths class text) n (lengths_of (bare [])) (omega (arith, within, lengths-count))
-      ∙ ap (λ (l : Lengths). start_at class text n + bytes_of l) (here-length n within)
+      total_more (lengths says text) n (lengths_of (bare [])) (omega (arith, within, lengths-count))
+      ∙ ap (λ (l : Lengths). start_at says text n + bytes_of l) (here-length n within)
 
   ends-before : (offset stop : ℕ) (ps : List Paragraph) → (0 < length ps → offset < stop) → EndsBefore ps offset stop
   ends-before offset stop [] h = tt
@@ -196,55 +197,55 @@ module _ (class : ℕ → Class) (text : List ℕ) where
 
   -- a property of the paragraph that an offset falls in
   pub record Falls (offset n : ℕ) : Type 0 where
-    pub within : n < count class text
-    pub order : start_at class text n ≤ offset
-    pub ended : EndsBefore (drop (n + 1) (paragraphs class text)) offset (start_at class text n + bytes_of (lengths_of (paragraph_at class text n)))
+    pub within : n < count says text
+    pub order : start_at says text n ≤ offset
+    pub ended : EndsBefore (drop (n + 1) (paragraphs says text)) offset (start_at says text n + bytes_of (lengths_of (paragraph_at says text n)))
 
-  pub falls-at : (offset n : ℕ) → IsUtf8 text → n ≡ paragraph_of (lengths class text) offset → Falls offset n
+  pub falls-at : (offset n : ℕ) → IsUtf8 text → n ≡ paragraph_of (lengths says text) offset → Falls offset n
   falls-at offset n utf8 e =
-      let h = holds-of offset (lengths class text) n (omega (arith, lengths-count, some-paragraph utf8)) e in
-      let within : n < count class text = omega (arith, h.within, lengths-count) in
+      let h = holds-of offset (lengths says text) n (omega (arith, lengths-count, some-paragraph utf8)) e in
+      let within : n < count says text = omega (arith, h.within, lengths-count) in
       record {
         within = within;
         order = omega (arith, h.order);
-        ended = ends-before offset (start_at class text n + bytes_of (lengths_of (paragraph_at class text n))) (drop (n + 1) all)
+        ended = ends-before offset (start_at says text n + bytes_of (lengths_of (paragraph_at says text n))) (drop (n + 1) all)
             (λ some. omega (arith, h.ended (omega (arith, some, length-drop (n + 1) all, lengths-count)), next-start n within));
       }
 
 -- ---- a span from an index
 
-pub record IsSpan (class : ℕ → Class) (text : List ℕ) (n a b : ℕ) : Type 0 where
-  pub start : a ≡ start_at class text n
-  pub body : slice_range text a b ≡ body_at class text n
+pub record IsSpan (says : Data) (text : List ℕ) (n a b : ℕ) : Type 0 where
+  pub start : a ≡ start_at says text n
+  pub body : slice_range text a b ≡ body_at says text n
   pub range : IsRange text a b
   pub order : a ≤ b
   pub within : b ≤ length text
 
-pub span-told : (class : ℕ → Class) (text : List ℕ) (ls : List Lengths) (n a b : ℕ) → IsUtf8 text → n < count class text → ls ≡ lengths class text
-    → ◌≡◌ {A = Option (ℕ × ℕ)} (slice_get (spans ls) n) (Some (a, b)) → IsSpan class text n a b
-span-told class text ls n a b utf8 within same e =
-    let told = span-is class text n within a b (ap (λ ks. slice_get (spans ks) n) (sym same) ∙ e) in
-    let stop = start_at class text n + length (body_at class text n) in
-    let range : IsRange text (start_at class text n) stop = body-range class text n within utf8 in
+pub span-told : (says : Data) (text : List ℕ) (ls : List Lengths) (n a b : ℕ) → IsUtf8 text → n < count says text → ls ≡ lengths says text
+    → ◌≡◌ {A = Option (ℕ × ℕ)} (slice_get (spans ls) n) (Some (a, b)) → IsSpan says text n a b
+span-told says text ls n a b utf8 within same e =
+    let told = span-is says text n within a b (ap (λ ks. slice_get (spans ks) n) (sym same) ∙ e) in
+    let stop = start_at says text n + length (body_at says text n) in
+    let range : IsRange text (start_at says text n) stop = body-range says text n within utf8 in
     let bounds : IsCharBoundary text stop = range.stop_bounds in
     let inside : stop ≤ length text = bounds.0 in
     record {
       start = told.0;
-      body = ap (λ k. slice_range text k b) told.0 ∙ ap (slice_range text (start_at class text n)) told.1 ∙ body-is class text n within utf8;
+      body = ap (λ k. slice_range text k b) told.0 ∙ ap (slice_range text (start_at says text n)) told.1 ∙ body-is says text n within utf8;
       range = subst (IsRange text a) (sym told.1) (subst (λ k. IsRange text k stop) (sym told.0) range);
       order = omega (arith, told.0, told.1);
       within = omega (arith, told.1, inside);
     }
 
 -- the span of the paragraph that an offset falls in
-pub record IsUnder (class : ℕ → Class) (text : List ℕ) (offset n a b : ℕ) : Type 0 where
-  pub there : n < count class text
-  pub span : IsSpan class text n a b
+pub record IsUnder (says : Data) (text : List ℕ) (offset n a b : ℕ) : Type 0 where
+  pub there : n < count says text
+  pub span : IsSpan says text n a b
   pub before : a ≤ offset
 
-pub under-told : (class : ℕ → Class) (text : List ℕ) (ls : List Lengths) (offset n a b : ℕ) → IsUtf8 text → ls ≡ lengths class text
-    → n ≡ paragraph_of ls offset → ◌≡◌ {A = Option (ℕ × ℕ)} (slice_get (spans ls) n) (Some (a, b)) → IsUnder class text offset n a b
-under-told class text ls offset n a b utf8 same number e =
-    let falls = falls-at class text offset n utf8 (number ∙ ap (λ ks. paragraph_of ks offset) same) in
-    let span = span-told class text ls n a b utf8 falls.within same e in
+pub under-told : (says : Data) (text : List ℕ) (ls : List Lengths) (offset n a b : ℕ) → IsUtf8 text → ls ≡ lengths says text
+    → n ≡ paragraph_of ls offset → ◌≡◌ {A = Option (ℕ × ℕ)} (slice_get (spans ls) n) (Some (a, b)) → IsUnder says text offset n a b
+under-told says text ls offset n a b utf8 same number e =
+    let falls = falls-at says text offset n utf8 (number ∙ ap (λ ks. paragraph_of ks offset) same) in
+    let span = span-told says text ls n a b utf8 falls.within same e in
     record { there = falls.within; span = span; before = omega (arith, falls.order, span.start) }

@@ -5,6 +5,7 @@ use Rattle.std.specs.Prelude.{Contains}
 use Rattle.std.proofs.lemmas.Bool.{cases_lt, eqb-true}
 use Rattle.std.proofs.lemmas.List.Concat.{flat_map-cons}
 use Rattle.std.proofs.lemmas.List.Sums.{sum_by-append, sum_by-cons}
+use Rattle.bx_ucd.specs.Data.{Data}
 use Rattle.bx_ucd.specs.declared.class.Class.{Class}
 use Rattle.bx_ucd.specs.declared.data.Side.{Side}
 use Rattle.bx_explicit.specs.declared.base.Base.{Base}
@@ -151,12 +152,12 @@ pub slots-reordered : (w : ℕ) (r : TextRow) → HasLevels r.row → AreReorder
 slots-reordered w r levels f =
     sum-moved f r.start (slot_offsets w r.row) ∙ once-each w r.row levels (λ o. f (r.start + o)) ∙ sym (sum-moved f r.start (offsets_of r.row))
 
-module _ (class : ℕ → Class) (bracket : ℕ → Option (Side × ℕ)) (base : Base) (w : ℕ) (some : 1 ≤ w) (text : List ℕ) (utf8 : IsUtf8 text) where
+module _ (says : Data) (base : Base) (w : ℕ) (some : 1 ≤ w) (text : List ℕ) (utf8 : IsUtf8 text) where
   abbrev rows : List TextRow
-  rows = text_rows class bracket base w text
+  rows = text_rows says base w text
 
   pub row-slots : (k : ℕ) → k < length rows → AreReordered (slots w (row_at rows k)) (places_of (row_at rows k))
-  row-slots k within = slots-reordered w (row_at rows k) (rows-leveled class bracket base w text k no_text_row within)
+  row-slots k within = slots-reordered w (row_at rows k) (rows-leveled says base w text k no_text_row within)
 
   same-times : (p k : ℕ) → k < length rows → times p (slots w (row_at rows k)) ≡ times p (places_of (row_at rows k))
   same-times p k within = row-slots k within (one-at p)
@@ -166,7 +167,7 @@ module _ (class : ℕ → Class) (bracket : ℕ → Option (Side × ℕ)) (base 
 
   found : (p : ℕ) → IsPlace rows p → Found p (length text + 1) rows
   found p place =
-      find-row p (length text + 1) 0 rows (rows-headed-in class bracket base w some text utf8) (places-rise class bracket base w some text utf8)
+      find-row p (length text + 1) 0 rows (rows-headed-in says base w some text utf8) (places-rise says base w some text utf8)
       (counted-contains (places rows) p place)
 
   row-of-place : (p : ℕ) → IsPlace rows p → IsRowOfPlace p rows (own p)
@@ -181,7 +182,7 @@ module _ (class : ℕ → Class) (bracket : ℕ → Option (Side × ℕ)) (base 
   pub one-slot : (p : ℕ) → IsPlace rows p → HasOneSlot w rows p
   one-slot p place =
       let is = row-of-place p place in
-      let few = once-at-most 0 (places rows) (length text + 1) p (places-rise class bracket base w some text utf8) in record {
+      let few = once-at-most 0 (places rows) (length text + 1) p (places-rise says base w some text utf8) in record {
         row = is.within;
         once = omega (arith, same-times p (own p) is.within, is.there, few, times-few p rows (own p) is.within);
         elsewhere = λ k within not. same-times p k within ∙ is.elsewhere k within not;

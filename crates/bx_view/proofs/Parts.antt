@@ -3,6 +3,7 @@ use Rattle.std.proofs.Common.{◌≡◌, ℕ, ◌<◌, ◌==◌, ◌&&◌, Bool,
 use Rattle.std.proofs.Common.{sym, ap, subst, ◌∙◌, arith, rules, append_assoc, length-append}
 use Rattle.std.proofs.lemmas.Bool.Decides.{nat_tests}
 use Rattle.std.proofs.lemmas.Str.{encodes-chars, scalars-chars, IsUtf8-append, IsUtf8-encode, IsUtf8-nil}
+use Rattle.bx_ucd.specs.Data.{Data}
 use lib.Utf8.{scalars}
 use Rattle.bx_ucd.specs.declared.class.Class.{Class}
 use Rattle.bx_paras.specs.Paragraphs.{Paragraph, after_character, after_cr, bare, begins_with_lf, cut, is_separator, paragraphs}
@@ -81,46 +82,46 @@ after-pair separator cs ps u h = record {
   some = omega arith;
 }
 
-module _ (class : ℕ → Class) where
+module _ (says : Data) where
   -- the paragraph that begins with an LF is that LF
-  pub cut-lf : (c : ℕ) (cs : List ℕ) → (c == 10) ≡ true → is_separator (class c) ≡ true → cut class (c ∷ cs) ≡ bare (encode_utf8 c) ∷ cut class cs
+  pub cut-lf : (c : ℕ) (cs : List ℕ) → (c == 10) ≡ true → is_separator (says.class c) ≡ true → cut says (c ∷ cs) ≡ bare (encode_utf8 c) ∷ cut says cs
   cut-lf c cs lf e =
       let other : (c == 13) ≡ false = grind (arith, nat_tests) in
       ap (λ b. elim b [
-        | false ↦ after_character c (cut class cs)
-        | true ↦ elim ((c == 13) && begins_with_lf class cs) [ true ↦ after_cr (cut class cs) | false ↦ bare (encode_utf8 c) ∷ cut class cs ]
+        | false ↦ after_character c (cut says cs)
+        | true ↦ elim ((c == 13) && begins_with_lf says cs) [ true ↦ after_cr (cut says cs) | false ↦ bare (encode_utf8 c) ∷ cut says cs ]
       ]) e
-      ∙ ap (λ b. elim (b && begins_with_lf class cs) [ true ↦ after_cr (cut class cs) | false ↦ bare (encode_utf8 c) ∷ cut class cs ]) other
+      ∙ ap (λ b. elim (b && begins_with_lf says cs) [ true ↦ after_cr (cut says cs) | false ↦ bare (encode_utf8 c) ∷ cut says cs ]) other
 
-  pair-at : (cs : List ℕ) → IsUtf8 (encode_utf8 13) → begins_with_lf class cs ≡ true → AreParts cs (cut class cs) → AreParts (13 ∷ cs) (after_cr (cut class cs))
+  pair-at : (cs : List ℕ) → IsUtf8 (encode_utf8 13) → begins_with_lf says cs ≡ true → AreParts cs (cut says cs) → AreParts (13 ∷ cs) (after_cr (cut says cs))
   pair-at [] u b h = absurd (grind (arith, nat_tests))
   pair-at (c ∷ cs) u b h =
       let lf : (c == 10) ≡ true = grind (arith, nat_tests) in
-      let ends : is_separator (class c) ≡ true = grind (arith, nat_tests) in
+      let ends : is_separator (says.class c) ≡ true = grind (arith, nat_tests) in
       let e = cut-lf c cs lf ends in
-      subst (λ ps. AreParts (13 ∷ c ∷ cs) (after_cr ps)) (sym e) (after-pair (encode_utf8 c) (c ∷ cs) (cut class cs) u (subst (AreParts (c ∷ cs)) e h))
+      subst (λ ps. AreParts (13 ∷ c ∷ cs) (after_cr ps)) (sym e) (after-pair (encode_utf8 c) (c ∷ cs) (cut says cs) u (subst (AreParts (c ∷ cs)) e h))
 
-  parts-at : (c : ℕ) (cs : List ℕ) (ends cr lf : Bool) → is_separator (class c) ≡ ends → (c == 13) ≡ cr → begins_with_lf class cs ≡ lf
-      → IsUtf8 (encode_utf8 c) → AreParts cs (cut class cs) → AreParts (c ∷ cs) (elim ends [
-        | false ↦ after_character c (cut class cs)
-        | true ↦ elim (cr && lf) [ true ↦ after_cr (cut class cs) | false ↦ bare (encode_utf8 c) ∷ cut class cs ]
+  parts-at : (c : ℕ) (cs : List ℕ) (ends cr lf : Bool) → is_separator (says.class c) ≡ ends → (c == 13) ≡ cr → begins_with_lf says cs ≡ lf
+      → IsUtf8 (encode_utf8 c) → AreParts cs (cut says cs) → AreParts (c ∷ cs) (elim ends [
+        | false ↦ after_character c (cut says cs)
+        | true ↦ elim (cr && lf) [ true ↦ after_cr (cut says cs) | false ↦ bare (encode_utf8 c) ∷ cut says cs ]
       ])
-  parts-at c cs false cr lf e f b u h = after-character c cs (cut class cs) u h
-  parts-at c cs true false lf e f b u h = after-bare c cs (cut class cs) u h
-  parts-at c cs true true false e f b u h = after-bare c cs (cut class cs) u h
+  parts-at c cs false cr lf e f b u h = after-character c cs (cut says cs) u h
+  parts-at c cs true false lf e f b u h = after-bare c cs (cut says cs) u h
+  parts-at c cs true true false e f b u h = after-bare c cs (cut says cs) u h
   parts-at c cs true true true e f b u h =
       let cr : 13 ≡ c = grind (arith, nat_tests) in
-      subst (λ n. AreParts (n ∷ cs) (after_cr (cut class cs))) cr (pair-at cs (subst (λ n. IsUtf8 (encode_utf8 n)) (sym cr) u) b h)
+      subst (λ n. AreParts (n ∷ cs) (after_cr (cut says cs))) cr (pair-at cs (subst (λ n. IsUtf8 (encode_utf8 n)) (sym cr) u) b h)
 
-  parts : (cs : List ℕ) → scalars cs ≡ true → AreParts cs (cut class cs)
+  parts : (cs : List ℕ) → scalars cs ≡ true → AreParts cs (cut says cs)
   parts [] s = record { bytes = refl; utf8 = (record { body = IsUtf8-nil; separator = IsUtf8-nil }, tt); ended = tt; some = omega arith }
   parts (c ∷ cs) s =
       let rest : scalars cs ≡ true = grind (arith, nat_tests) in
-      parts-at c cs (is_separator (class c)) (c == 13) (begins_with_lf class cs) refl refl refl (IsUtf8-encode c (search rules)) (parts cs rest)
+      parts-at c cs (is_separator (says.class c)) (c == 13) (begins_with_lf says cs) refl refl refl (IsUtf8-encode c (search rules)) (parts cs rest)
 
   -- the paragraphs of a text
-  pub text-parts : (text : List ℕ) → IsUtf8 text → AreParts (chars text) (paragraphs class text)
+  pub text-parts : (text : List ℕ) → IsUtf8 text → AreParts (chars text) (paragraphs says text)
   text-parts text u = parts (chars text) (scalars-chars text u)
 
-  pub text-bytes : (text : List ℕ) → IsUtf8 text → bytes (paragraphs class text) ≡ text
+  pub text-bytes : (text : List ℕ) → IsUtf8 text → bytes (paragraphs says text) ≡ text
   text-bytes text u = (text-parts text u).bytes ∙ encodes-chars text u

@@ -2,11 +2,11 @@
 use Rattle.std.proofs.Common.{◌≡◌, ℕ, List, [], ◌∷◌, refl}
 use Rattle.std.specs.Prelude.{encode_utf8_all}
 use Rattle.unicode_segmentation.proofs.Computing.{unicode_segmentation}
-use Rattle.bx_resolve.specs.TestTables.{class}
+use Rattle.bx_resolve.specs.TestTables.{small}
 use Rattle.bx_view.specs.Places.{text_places}
 
 abbrev of : List ℕ → List ℕ
-of cs = text_places class (encode_utf8_all cs)
+of cs = text_places small (encode_utf8_all cs)
 
 -- no text has one place
 no_text : of [] ≡ 0 ∷ []

@@ -2,7 +2,7 @@
 use Rattle.std.proofs.Common.{◌≡◌, ◌+◌, ℕ, List, [], ◌∷◌, refl, map}
 use Rattle.unicode_segmentation.proofs.Computing.{unicode_segmentation}
 use Rattle.unicode_width.proofs.Computing.{unicode_width}
-use Rattle.bx_resolve.specs.TestTables.{class, bracket}
+use Rattle.bx_resolve.specs.TestTables.{small}
 use Rattle.bx_explicit.specs.declared.base.Base.{Base}
 use Rattle.bx_explicit.specs.declared.base.Base.TheVariants.{Auto, Ltr, Rtl}
 use Rattle.bx_paragraph.specs.Slots.{row_slots}
@@ -10,7 +10,7 @@ use Rattle.bx_view.specs.TextRows.{text_rows}
 
 -- the places of each row from left to right, each with its column
 abbrev found : Base → ℕ → List ℕ → List (List (ℕ × ℕ))
-found base w text = map (λ r. map (λ s. (r.start + s.offset, s.column)) (row_slots w r.row)) (text_rows class bracket base w text)
+found base w text = map (λ r. map (λ s. (r.start + s.offset, s.column)) (row_slots w r.row)) (text_rows small base w text)
 
 random_0 : found Ltr 1 (28 ∷ 13 ∷ 10 ∷ 215 ∷ 147 ∷ 215 ∷ 147 ∷ 194 ∷ 133 ∷ 121 ∷ 10 ∷ [])
     ≡ ((0, 1) ∷ (1, 1) ∷ []) ∷ ((3, 1) ∷ []) ∷ ((5, 1) ∷ []) ∷ ((7, 1) ∷ []) ∷ ((9, 1) ∷ (10, 1) ∷ []) ∷ ((11, 1) ∷ []) ∷ []

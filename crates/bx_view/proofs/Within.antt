@@ -6,6 +6,7 @@ use Rattle.std.specs.List.{zip}
 use Rattle.std.proofs.lemmas.List.{map-append, reverse-append}
 use Rattle.std.proofs.lemmas.List.Elements.{All-cons, All-head, All-nil, All-tail}
 use Rattle.std.proofs.lemmas.Str.{IsCharBoundary-end, IsCharBoundary-start}
+use Rattle.bx_ucd.specs.Data.{Data}
 use Rattle.bx_ucd.specs.declared.class.Class.{Class}
 use Rattle.bx_ucd.specs.declared.data.Side.{Side}
 use Rattle.bx_explicit.specs.declared.base.Base.{Base}
@@ -164,14 +165,14 @@ length-with-last row (us ∷ []) = refl
 length-with-last row (us ∷ vs ∷ rest) = ap suc (length-with-last row (vs ∷ rest))
 
 -- a row of a body
-pub body-row-lies : (P : ℕ → Type 0) (class : ℕ → Class) (bracket : ℕ → Option (Side × ℕ)) (base : Base) (w : ℕ) (body : List ℕ) (k : ℕ) → IsUtf8 body
-    → ((o : ℕ) → IsCharBoundary body o → P o) → k < length (body_rows class bracket base w body)
-    → LiesIn P w (row_at_body (body_rows class bracket base w body) k)
-body-row-lies P class bracket base w body k utf8 each h =
-    let us = units class w body in
-    let xs = rows_units class w body in
-    let make = row_with class body (paragraph_level_under class base (chars body)) (levels_under class bracket base (chars body)) in
-    let all = rows-all P us (wrap class w body us) k (units-all P body us each (stand_if_units class w body us utf8 refl)) in
+pub body-row-lies : (P : ℕ → Type 0) (says : Data) (base : Base) (w : ℕ) (body : List ℕ) (k : ℕ) → IsUtf8 body
+    → ((o : ℕ) → IsCharBoundary body o → P o) → k < length (body_rows says base w body)
+    → LiesIn P w (row_at_body (body_rows says base w body) k)
+body-row-lies P says base w body k utf8 each h =
+    let us = units says w body in
+    let xs = rows_units says w body in
+    let make = row_with says body (paragraph_level_under says base (chars body)) (levels_under says base (chars body)) in
+    let all = rows-all P us (wrap says w body us) k (units-all P body us each (stand_if_units says w body us utf8 refl)) in
     subst (LiesIn P w) (sym (last-at make xs k (omega (arith, h, length-with-last make xs))))
     (row-lies P w (make (k + 1 == length xs) (get_or xs k [])) (each 0 (IsCharBoundary-start body utf8)) (each (length body) (IsCharBoundary-end body)) all)
 

@@ -1,6 +1,7 @@
 -- The cell of a place: one slot of one row, in the column at which the glyphs of its unit begin.
 use Rattle.std.specs.Prelude.{◌≡◌, ◌≢◌, ◌⊎◌, ℕ, zero, suc, ◌+◌, ◌-◌, ◌%◌, ◌<◌, ◌==◌, true, List, [], ◌∷◌, ◌++◌, length, count_by, sum_by, flat_map, replicate}
 use Rattle.std.specs.Prelude.{slice_index_or, Contains, HoldsAt, MatchOption, Option}
+use Rattle.bx_ucd.specs.Data.{Data}
 use Rattle.bx_ucd.specs.declared.class.Class.{Class}
 use Rattle.bx_rows.specs.RowPicture.{Glyph, blank, columns_used, unit_columns, unit_glyphs}
 use Rattle.bx_rows.specs.VisualOrder.{visual}
@@ -20,17 +21,17 @@ pub record HasOneSlot (w : ℕ) (rows : List TextRow) (place : ℕ) : Type 0 whe
   pub elsewhere : (k : ℕ) → k < length rows → k ≢ row_of rows place → times place (slots w (row_at rows k)) ≡ 0
 
 -- the glyphs of a row's unit `number`
-abbrev pub glyphs_of : (ℕ → Class) → (ℕ → Option ℕ) → ℕ → BodyRow → ℕ → List Glyph
-glyphs_of class mirror w r number = slice_index_or (unit_glyphs class mirror w r.body r.units (unit_columns w 0 r.units) r.levels) number []
+abbrev pub glyphs_of : Data → ℕ → BodyRow → ℕ → List Glyph
+glyphs_of says w r number = slice_index_or (unit_glyphs says w r.body r.units (unit_columns w 0 r.units) r.levels) number []
 
 -- the glyphs of a row left of a unit: its blanks in a paragraph of odd level, then the glyphs of the units `numbers`
-abbrev pub glyphs_before : (ℕ → Class) → (ℕ → Option ℕ) → ℕ → BodyRow → List ℕ → List Glyph
-glyphs_before class mirror w r numbers =
-    elim (r.paragraph % 2) [ zero ↦ [] | suc _ ↦ replicate (w - columns_used w r.units) blank ] ++ flat_map (glyphs_of class mirror w r) numbers
+abbrev pub glyphs_before : Data → ℕ → BodyRow → List ℕ → List Glyph
+glyphs_before says w r numbers =
+    elim (r.paragraph % 2) [ zero ↦ [] | suc _ ↦ replicate (w - columns_used w r.units) blank ] ++ flat_map (glyphs_of says w r) numbers
 
 -- A unit of the row begins at the place, and its glyphs begin at the column: the first one after the row's blanks and the
 -- glyphs of the units before it in visual order.
-pub record IsUnitCell (class : ℕ → Class) (mirror : ℕ → Option ℕ) (w : ℕ) (r : TextRow) (place column : ℕ) : Type 0 where
+pub record IsUnitCell (says : Data) (w : ℕ) (r : TextRow) (place column : ℕ) : Type 0 where
   pub number : ℕ
   pub within : number < length r.row.units
   pub place_is : HoldsAt (λ u. r.start + u.start ≡ place) r.row.units number
@@ -38,8 +39,8 @@ pub record IsUnitCell (class : ℕ → Class) (mirror : ℕ → Option ℕ) (w :
   pub behind : List ℕ
   pub order : visual r.row.levels ≡ before ++ number ∷ behind
   pub rest : List Glyph
-  pub shown : text_row_glyphs class mirror w r ≡ glyphs_before class mirror w r.row before ++ (glyphs_of class mirror w r.row number ++ rest)
-  pub column_is : column ≡ sum_by (λ g. g.columns) (glyphs_before class mirror w r.row before) + 1
+  pub shown : text_row_glyphs says w r ≡ glyphs_before says w r.row before ++ (glyphs_of says w r.row number ++ rest)
+  pub column_is : column ≡ sum_by (λ g. g.columns) (glyphs_before says w r.row before) + 1
 
 -- the place is the paragraph's end, and the column is that of the slot past all units
 pub record IsEndCell (w : ℕ) (r : TextRow) (place column : ℕ) : Type 0 where
@@ -47,19 +48,24 @@ pub record IsEndCell (w : ℕ) (r : TextRow) (place column : ℕ) : Type 0 where
   pub place_is : place ≡ r.start + length r.row.body
   pub column_is : column ≡ end_column w r.row
 
+-- what tables say, with other mirrors
+abbrev pub mirrored : Data → (ℕ → Option ℕ) → Data
+mirrored says mirror = record says { mirror = mirror }
+
 -- the cell of a place in its row, whatever the mirrors
-abbrev pub HasCell : (ℕ → Class) → ℕ → List TextRow → ℕ → Type 0
-HasCell class w rows place =
+abbrev pub HasCell : Data → ℕ → List TextRow → ℕ → Type 0
+HasCell says w rows place =
     let r = row_at rows (row_of rows place) in
-    let column = cell_of w rows place in (mirror : ℕ → Option ℕ) → IsUnitCell class mirror w r place column ⊎ IsEndCell w r place column
+    let column = cell_of w rows place in
+    (mirror : ℕ → Option ℕ) → IsUnitCell (mirrored says mirror) w r place column ⊎ IsEndCell w r place column
 
 -- a row is entered at one of its places, in every column
 abbrev pub IsEntered : ℕ → TextRow → Type 0
 IsEntered w r = (column : ℕ) → MatchOption (entry_in w r column) ⊥ (Contains (places_of r))
 
 -- the slots of each row are its places reordered, each row is entered at a place, and each place has one slot and its cell
-pub record HasCells (class : ℕ → Class) (w : ℕ) (rows : List TextRow) : Type 0 where
+pub record HasCells (says : Data) (w : ℕ) (rows : List TextRow) : Type 0 where
   pub slots : (k : ℕ) → k < length rows → AreReordered (slots w (row_at rows k)) (places_of (row_at rows k))
   pub entered : (k : ℕ) → k < length rows → IsEntered w (row_at rows k)
   pub one : (place : ℕ) → IsPlace rows place → HasOneSlot w rows place
-  pub cell : (place : ℕ) → IsPlace rows place → HasCell class w rows place
+  pub cell : (place : ℕ) → IsPlace rows place → HasCell says w rows place

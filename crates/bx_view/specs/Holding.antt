@@ -1,5 +1,6 @@
 -- The model of a text's layout: held paragraphs, laid out under its base direction, for its width or an earlier one.
 use Rattle.std.specs.Prelude.{◌≡◌, ℕ, ◌<◌, true, List, length, All, HoldsAt, Option}
+use Rattle.bx_ucd.specs.Data.{Data}
 use Rattle.bx_terms.specs.Sizes.{is_side}
 use Rattle.bx_ucd.specs.declared.class.Class.{Class}
 use Rattle.bx_ucd.specs.declared.data.Side.{Side}
@@ -13,19 +14,19 @@ pub record ViewState : Type 0 where
   pub held : List LayoutState
 
 -- a paragraph laid out by the data, under a base direction, in any width
-pub record IsHeld (class : ℕ → Class) (bracket : ℕ → Option (Side × ℕ)) (base : Base) (l : LayoutState) : Type 0 where
+pub record IsHeld (says : Data) (base : Base) (l : LayoutState) : Type 0 where
   pub base_is : l.base ≡ base
-  pub rows : IsLayoutBy class bracket l
+  pub rows : IsLayoutBy says l
 
 -- all held paragraphs are laid out by the data
-abbrev pub IsViewBy : (ℕ → Class) → (ℕ → Option (Side × ℕ)) → ViewState → Type 0
-IsViewBy class bracket v = All (IsHeld class bracket v.base) v.held
+abbrev pub IsViewBy : Data → ViewState → Type 0
+IsViewBy says v = All (IsHeld says v.base) v.held
 
 -- only the held paragraphs changed, and they are still laid out by the data
-pub record Keeps (class : ℕ → Class) (bracket : ℕ → Option (Side × ℕ)) (old new : ViewState) : Type 0 where
+pub record Keeps (says : Data) (old new : ViewState) : Type 0 where
   pub base : new.base ≡ old.base
   pub w : new.w ≡ old.w
-  pub held : IsViewBy class bracket new
+  pub held : IsViewBy says new
 
 -- the held paragraph at index `i` has this body
 pub record HasBody (body : List ℕ) (held : List LayoutState) (i : ℕ) : Type 0 where
@@ -39,10 +40,10 @@ pub record HoldsBody (body : List ℕ) (w : ℕ) (held : List LayoutState) (i : 
   pub w_is : HoldsAt (λ l. l.w ≡ w) held i
 
 -- the layout of paragraph `number` of a text
-pub record IsOfText (class : ℕ → Class) (bracket : ℕ → Option (Side × ℕ)) (v : ViewState) (text : List ℕ) (number : ℕ) (l : LayoutState) : Type 0 where
+pub record IsOfText (says : Data) (v : ViewState) (text : List ℕ) (number : ℕ) (l : LayoutState) : Type 0 where
   pub side : is_side v.w ≡ true
-  pub by : IsLayoutBy class bracket l
+  pub by : IsLayoutBy says l
   pub w_is : l.w ≡ v.w
-  pub body_is : l.body ≡ body_at class text number
-  pub rows_are : rows_by class bracket l ≡ rows_in class bracket v.base v.w text number
-  pub count_is : length l.starts ≡ length (rows_in class bracket v.base v.w text number)
+  pub body_is : l.body ≡ body_at says text number
+  pub rows_are : rows_by says l ≡ rows_in says v.base v.w text number
+  pub count_is : length l.starts ≡ length (rows_in says v.base v.w text number)

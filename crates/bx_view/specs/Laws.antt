@@ -3,6 +3,7 @@ use Rattle.std.specs.Prelude.{◌≡◌, ℕ, ◌+◌, ◌-◌, ◌<◌, ◌≤�
 use Rattle.std.specs.Int.{abs_diff}
 use Rattle.std.specs.List.{concat}
 use Rattle.std.specs.List.Sorted.{IsStrictlyIncreasing}
+use Rattle.bx_ucd.specs.Data.{Data}
 use Rattle.bx_terms.specs.Sizes.{is_side}
 use Rattle.bx_ucd.specs.declared.class.Class.{Class}
 use Rattle.bx_ucd.specs.declared.data.Side.{Side}
@@ -17,19 +18,19 @@ use Rattle.bx_view.specs.TextRows.{TextRow, row_at, row_of, text_rows}
 use Rattle.bx_view.specs.Top.{follow}
 
 -- a property of the rows of every text, in every window and direction
-abbrev pub InEachWindow : ((ℕ → Class) → List ℕ → ℕ → List TextRow → Type 0) → Type 0
+abbrev pub InEachWindow : (Data → List ℕ → ℕ → List TextRow → Type 0) → Type 0
 InEachWindow P =
-    (class : ℕ → Class) (bracket : ℕ → Option (Side × ℕ)) (base : Base) (w : ℕ) (text : List ℕ) → is_side w ≡ true → IsUtf8 text
-    → P class text w (text_rows class bracket base w text)
+    (says : Data) (base : Base) (w : ℕ) (text : List ℕ) → is_side w ≡ true → IsUtf8 text
+    → P says text w (text_rows says base w text)
 
 -- The pieces of a text joined are the text. Its places are character boundaries and strictly increase from the text's
 -- start to its end.
-pub record SpansText (class : ℕ → Class) (text : List ℕ) : Type 0 where
-  pub whole : concat (pieces class text) ≡ text
-  pub first : slice_get (text_places class text) 0 ≡ Some 0
-  pub last : slice_get (text_places class text) (length (text_places class text) - 1) ≡ Some (length text)
-  pub rise : IsStrictlyIncreasing (text_places class text)
-  pub between : All (IsCharBoundary text) (text_places class text)
+pub record SpansText (says : Data) (text : List ℕ) : Type 0 where
+  pub whole : concat (pieces says text) ≡ text
+  pub first : slice_get (text_places says text) 0 ≡ Some 0
+  pub last : slice_get (text_places says text) (length (text_places says text) - 1) ≡ Some (length text)
+  pub rise : IsStrictlyIncreasing (text_places says text)
+  pub between : All (IsCharBoundary text) (text_places says text)
 
 -- each move leads from an offset with the property `P` to one with it
 pub record MovesKeep (w : ℕ) (rows : List TextRow) (P : ℕ → Type 0) : Type 0 where

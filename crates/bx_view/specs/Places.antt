@@ -1,5 +1,6 @@
 -- The places of a text, from its paragraphs and clusters alone: without window, direction and rows.
 use Rattle.std.specs.Prelude.{ℕ, ◌+◌, true, List, [], ◌∷◌, ◌++◌, length, flat_map, Contains}
+use Rattle.bx_ucd.specs.Data.{Data}
 use Rattle.unicode_segmentation.specs.Grapheme.{graphemes}
 use Rattle.bx_ucd.specs.declared.class.Class.{Class}
 use Rattle.bx_paras.specs.Paragraphs.{Paragraph, paragraphs}
@@ -14,8 +15,8 @@ abbrev pub pieces_of : Paragraph → List (List ℕ)
 pieces_of p = graphemes true p.body ++ one_piece p.separator
 
 -- a text in pieces
-abbrev pub pieces : (ℕ → Class) → List ℕ → List (List ℕ)
-pieces class text = flat_map pieces_of (paragraphs class text)
+abbrev pub pieces : Data → List ℕ → List (List ℕ)
+pieces says text = flat_map pieces_of (paragraphs says text)
 
 -- the start of each piece and the end of the last; the first begins at the offset `start`
 abbrev pub boundaries : ℕ → List (List ℕ) → List ℕ
@@ -23,9 +24,9 @@ boundaries start [] = start ∷ []
 boundaries start (p ∷ ps) = start ∷ boundaries (start + length p) ps
 
 -- the places of a text: the boundaries of its clusters and its separators
-abbrev pub text_places : (ℕ → Class) → List ℕ → List ℕ
-text_places class text = boundaries 0 (pieces class text)
+abbrev pub text_places : Data → List ℕ → List ℕ
+text_places says text = boundaries 0 (pieces says text)
 
 -- an offset is a place of the text, in any window
-abbrev pub IsTextPlace : (ℕ → Class) → List ℕ → ℕ → Type 0
-IsTextPlace class text offset = Contains (text_places class text) offset
+abbrev pub IsTextPlace : Data → List ℕ → ℕ → Type 0
+IsTextPlace says text offset = Contains (text_places says text) offset

@@ -1,12 +1,13 @@
 -- The position of a place: the column of its cell, and its numbers.
 use Rattle.std.specs.Prelude.{◌≡◌, ℕ, ◌+◌, List}
+use Rattle.bx_ucd.specs.Data.{Data}
 use Rattle.bx_ucd.specs.declared.class.Class.{Class}
 use Rattle.bx_view.specs.declared.position.Position.{Position}
 use Rattle.bx_view.specs.Numbers.{paragraph_number, unit_number}
 use Rattle.bx_view.specs.TextRows.{TextRow, cell_of}
 
 -- `p` is the position of a place of a text in these rows of `w` columns
-pub record IsPosition (class : ℕ → Class) (w : ℕ) (text : List ℕ) (rows : List TextRow) (place : ℕ) (p : Position) : Type 0 where
+pub record IsPosition (says : Data) (w : ℕ) (text : List ℕ) (rows : List TextRow) (place : ℕ) (p : Position) : Type 0 where
   pub column : p.column ≡ cell_of w rows place
-  pub paragraph : p.paragraph ≡ paragraph_number class text place + 1
-  pub unit : p.unit ≡ unit_number class w text place
+  pub paragraph : p.paragraph ≡ paragraph_number says text place + 1
+  pub unit : p.unit ≡ unit_number says w text place

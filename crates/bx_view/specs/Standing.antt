@@ -1,5 +1,6 @@
 -- A paragraph of a text by its number, and the number of its rows among those of the text.
 use Rattle.std.specs.Prelude.{◌≡◌, ℕ, ◌+◌, ◌<◌, List, [], length, take, slice_index_or, Option}
+use Rattle.bx_ucd.specs.Data.{Data}
 use Rattle.bx_ucd.specs.declared.class.Class.{Class}
 use Rattle.bx_ucd.specs.declared.data.Side.{Side}
 use Rattle.bx_explicit.specs.declared.base.Base.{Base}
@@ -9,31 +10,31 @@ use Rattle.bx_paragraph.specs.BodyRows.{BodyRow, body_rows}
 use Rattle.bx_view.specs.TextRows.{rows_from}
 
 -- the number of paragraphs of a text
-abbrev pub count : (ℕ → Class) → List ℕ → ℕ
-count class text = length (paragraphs class text)
+abbrev pub count : Data → List ℕ → ℕ
+count says text = length (paragraphs says text)
 
 -- paragraph `number`, from 0
-abbrev pub paragraph_at : (ℕ → Class) → List ℕ → ℕ → Paragraph
-paragraph_at class text number = slice_index_or (paragraphs class text) number (bare [])
+abbrev pub paragraph_at : Data → List ℕ → ℕ → Paragraph
+paragraph_at says text number = slice_index_or (paragraphs says text) number (bare [])
 
 -- its body
-abbrev pub body_at : (ℕ → Class) → List ℕ → ℕ → List ℕ
-body_at class text number = (paragraph_at class text number).body
+abbrev pub body_at : Data → List ℕ → ℕ → List ℕ
+body_at says text number = (paragraph_at says text number).body
 
 -- the offset at which its body begins
-abbrev pub start_at : (ℕ → Class) → List ℕ → ℕ → ℕ
-start_at class text number = total (take number (lengths class text))
+abbrev pub start_at : Data → List ℕ → ℕ → ℕ
+start_at says text number = total (take number (lengths says text))
 
 -- its rows
-abbrev pub rows_in : (ℕ → Class) → (ℕ → Option (Side × ℕ)) → Base → ℕ → List ℕ → ℕ → List BodyRow
-rows_in class bracket base w text number = body_rows class bracket base w (body_at class text number)
+abbrev pub rows_in : Data → Base → ℕ → List ℕ → ℕ → List BodyRow
+rows_in says base w text number = body_rows says base w (body_at says text number)
 
 -- the number of rows of the paragraphs before it
-abbrev pub rows_ahead : (ℕ → Class) → (ℕ → Option (Side × ℕ)) → Base → ℕ → List ℕ → ℕ → ℕ
-rows_ahead class bracket base w text number = length (rows_from class bracket base w 0 (take number (paragraphs class text)))
+abbrev pub rows_ahead : Data → Base → ℕ → List ℕ → ℕ → ℕ
+rows_ahead says base w text number = length (rows_from says base w 0 (take number (paragraphs says text)))
 
 -- row `k` of paragraph `number` is row `n` of the text
-pub record IsRow (class : ℕ → Class) (bracket : ℕ → Option (Side × ℕ)) (base : Base) (w : ℕ) (text : List ℕ) (number k n : ℕ) : Type 0 where
-  pub paragraph : number < count class text
-  pub row : k < length (rows_in class bracket base w text number)
-  pub is : n ≡ rows_ahead class bracket base w text number + k
+pub record IsRow (says : Data) (base : Base) (w : ℕ) (text : List ℕ) (number k n : ℕ) : Type 0 where
+  pub paragraph : number < count says text
+  pub row : k < length (rows_in says base w text number)
+  pub is : n ≡ rows_ahead says base w text number + k

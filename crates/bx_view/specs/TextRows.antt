@@ -1,5 +1,6 @@
 -- The rows of a whole text in a window of `w` columns, numbered from 0. Offsets count bytes of the text.
 use Rattle.std.specs.Prelude.{ℕ, ◌+◌, ◌-◌, List, [], ◌∷◌, ◌++◌, map, flat_map, slice_index_or, Option, Contains}
+use Rattle.bx_ucd.specs.Data.{Data}
 use Rattle.bx_ucd.specs.declared.class.Class.{Class}
 use Rattle.bx_ucd.specs.declared.data.Side.{Side}
 use Rattle.bx_explicit.specs.declared.base.Base.{Base}
@@ -18,14 +19,14 @@ abbrev pub text_row : ℕ → BodyRow → TextRow
 text_row start r = record { start = start; row = r }
 
 -- the rows of paragraphs, of which the first begins at the offset `start`
-abbrev pub rows_from : (ℕ → Class) → (ℕ → Option (Side × ℕ)) → Base → ℕ → ℕ → List Paragraph → List TextRow
-rows_from class bracket base w start [] = []
-rows_from class bracket base w start (p ∷ ps) =
-    map (text_row start) (body_rows class bracket base w p.body) ++ rows_from class bracket base w (start + bytes_of (lengths_of p)) ps
+abbrev pub rows_from : Data → Base → ℕ → ℕ → List Paragraph → List TextRow
+rows_from says base w start [] = []
+rows_from says base w start (p ∷ ps) =
+    map (text_row start) (body_rows says base w p.body) ++ rows_from says base w (start + bytes_of (lengths_of p)) ps
 
 -- the rows of a text
-abbrev pub text_rows : (ℕ → Class) → (ℕ → Option (Side × ℕ)) → Base → ℕ → List ℕ → List TextRow
-text_rows class bracket base w text = rows_from class bracket base w 0 (paragraphs class text)
+abbrev pub text_rows : Data → Base → ℕ → List ℕ → List TextRow
+text_rows says base w text = rows_from says base w 0 (paragraphs says text)
 
 -- the offset at which a row begins
 abbrev pub first : TextRow → ℕ
@@ -69,5 +70,5 @@ abbrev pub cell_of : ℕ → List TextRow → ℕ → ℕ
 cell_of w rows place = let r = row_at rows (row_of rows place) in column_of w r.row (place - r.start)
 
 -- the glyphs of a row from left to right
-abbrev pub text_row_glyphs : (ℕ → Class) → (ℕ → Option ℕ) → ℕ → TextRow → List Glyph
-text_row_glyphs class mirror w r = row_glyphs class mirror w r.row
+abbrev pub text_row_glyphs : Data → ℕ → TextRow → List Glyph
+text_row_glyphs says w r = row_glyphs says w r.row

@@ -26,9 +26,9 @@ fn starts_in<D: BidiData>(
     walk: &ParagraphWalk<'_>,
     w: u16,
 ) -> Result<Vec<RowStart>, ViewError>
-    requires walk { walk.now.paragraphs ≡ lengths (D.data source.now.tables.now).class (bytes source.now) }
+    requires walk { walk.now.paragraphs ≡ lengths (D.data source.now.tables.now) (bytes source.now) }
     requires number { walk.now.number < count source.now }
-    ensures { IfOk result (λ v. v.items ≡ row_starts (D.data source.now.tables.now).class w (body_at source.now walk.now.number)) }
+    ensures { IfOk result (λ v. v.items ≡ row_starts (D.data source.now.tables.now) w (body_at source.now walk.now.number)) }
 {
     let (start, stop) = walked_span(source, walk);
     let Ok(body) = source.text.copy_range(start, stop) else {
@@ -48,7 +48,7 @@ fn rows_before<D: BidiData>(
 ) -> Result<usize, ViewError>
     requires side { is_side w ≡ true }
     requires number { number ≤ count source.now }
-    ensures { IfOk result (λ n. n ≡ rows_ahead (D.data source.now.tables.now).class (D.data source.now.tables.now).bracket base w (bytes source.now) number) }
+    ensures { IfOk result (λ n. n ≡ rows_ahead (D.data source.now.tables.now) base w (bytes source.now) number) }
 {
     // proof only: there is a paragraph; the base occurs in the contract alone
     let _some = source.index.count();

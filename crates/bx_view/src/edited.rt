@@ -49,8 +49,8 @@ fn place_in_body<D: BidiData>(
     offset: usize,
     tables: &D,
 ) -> Result<usize, ViewError>
-    requires data { IsLayoutBy (D.data tables.now).class (D.data tables.now).bracket paragraph.now }
-    ensures place { IfOk result (λ o. o ≡ place_in_body (rows_of_body (D.data tables.now).class (D.data tables.now).bracket paragraph.now) offset) }
+    requires data { IsLayoutBy (D.data tables.now) paragraph.now }
+    ensures place { IfOk result (λ o. o ≡ place_in_body (rows_of_body (D.data tables.now) paragraph.now) offset) }
     ensures within { IfOk result (λ o. o ≤ length paragraph.now.body) }
 {
     // proof only: the body is UTF-8, and the width is within its limits
@@ -86,7 +86,7 @@ impl Layout {
         requires data { IsViewBy source.now self.old }
         ensures keeps { Keeps source.now self.old self.new }
         ensures place { IfOk result (λ found. IfSome found (λ o. o ≡ place_from
-            (rows_by (D.data source.now.tables.now).class (D.data source.now.tables.now).bracket self.old (splice (bytes source.now) start stop new.now))
+            (rows_by (D.data source.now.tables.now) self.old (splice (bytes source.now) start stop new.now))
             (start + length new.now))) }
     {
         let (_, first, last) = paragraph_under(source, start);
@@ -143,8 +143,8 @@ impl Layout {
         new: &str,
         tables: &D,
     ) -> Result<(), ViewError>
-        requires data { holding.IsViewBy (D.data tables.now).class (D.data tables.now).bracket self.old }
-        ensures keeps { holding.Keeps (D.data tables.now).class (D.data tables.now).bracket self.old self.new }
+        requires data { holding.IsViewBy (D.data tables.now) self.old }
+        ensures keeps { holding.Keeps (D.data tables.now) self.old self.new }
     {
         let HeldRange { held, start, stop } = range;
         if held >= self.held.len() || stop < start || has_separator(new, tables) {

@@ -79,8 +79,8 @@ pub(crate) fn room_beside(text: usize) -> usize {
 
 /// Evicts the oldest paragraph if `MOST_HELD` are held.
 fn drop_oldest<D: BidiData>(held: &mut Vec<ParagraphLayout>, tables: &D, base: Base)
-    requires { All (IsHeld (D.data tables.now).class (D.data tables.now).bracket base) held.old.items }
-    ensures { All (IsHeld (D.data tables.now).class (D.data tables.now).bracket base) held.new.items }
+    requires { All (IsHeld (D.data tables.now) base) held.old.items }
+    ensures { All (IsHeld (D.data tables.now) base) held.new.items }
 {
     // used by the contract alone
     let _ = tables;
@@ -99,9 +99,9 @@ pub(crate) fn hold<D: BidiData>(
     base: Base,
     room: usize,
 ) -> Result<usize, AllocError>
-    requires held { All (IsHeld (D.data tables.now).class (D.data tables.now).bracket base) held.old.items }
-    requires new { IsHeld (D.data tables.now).class (D.data tables.now).bracket base new }
-    ensures held { All (IsHeld (D.data tables.now).class (D.data tables.now).bracket base) held.new.items }
+    requires held { All (IsHeld (D.data tables.now) base) held.old.items }
+    requires new { IsHeld (D.data tables.now) base new }
+    ensures held { All (IsHeld (D.data tables.now) base) held.new.items }
     ensures new { IfOk result (HoldsBody new.body new.w held.new.items) }
 {
     // used by the contract alone
@@ -129,10 +129,10 @@ pub(crate) fn lay_out_in<D: BidiData>(
     base: Base,
     w: u16,
 ) -> Result<(), ViewError>
-    requires held { All (IsHeld (D.data tables.now).class (D.data tables.now).bracket base) held.old.items }
+    requires held { All (IsHeld (D.data tables.now) base) held.old.items }
     requires within { i < length held.old.items }
     requires side { is_side w ≡ true }
-    ensures held { All (IsHeld (D.data tables.now).class (D.data tables.now).bracket base) held.new.items }
+    ensures held { All (IsHeld (D.data tables.now) base) held.new.items }
     ensures body { OnOk result ((body : List ℕ) → HasBody body held.old.items i → HoldsBody body w held.new.items i) }
 {
     // used by the contract alone
@@ -155,10 +155,10 @@ pub(crate) fn edit_in<D: BidiData>(
     tables: &D,
     base: Base,
 ) -> Result<bool, ViewError>
-    requires held { All (IsHeld (D.data tables.now).class (D.data tables.now).bracket base) held.old.items }
+    requires held { All (IsHeld (D.data tables.now) base) held.old.items }
     requires within { i < length held.old.items }
     requires order { range.start ≤ range.end }
-    ensures held { All (IsHeld (D.data tables.now).class (D.data tables.now).bracket base) held.new.items }
+    ensures held { All (IsHeld (D.data tables.now) base) held.new.items }
     ensures range { IfOk result (λ did. did ≡ true → (body : List ℕ) → HasBody body held.old.items i → IsRange body range.start range.end) }
     ensures body { IfOk result (λ did. did ≡ true → (body : List ℕ) → (w : ℕ) → HoldsBody body w held.old.items i
         → HoldsBody (splice body range.start range.end new.now) w held.new.items i) }

@@ -1,6 +1,7 @@
 //! Laws of places and of scrolling. The functions are empty: their contracts are the laws.
 
 ghost use Rattle.std.specs.Prelude.{◌≡◌, ℕ, List, IsUtf8};
+ghost use Rattle.bx_ucd.specs.Data.{Data};
 ghost use Rattle.bx_ucd.specs.declared.class.Class.{Class};
 ghost use Rattle.bx_view.specs.Cells.{HasCells};
 ghost use Rattle.bx_view.specs.Laws.{InEachWindow, MovesKeep, MovesLeast, SpansText};
@@ -10,22 +11,22 @@ ghost use Rattle.bx_view.specs.TextRows.{places};
 /// The places of a text's rows are the boundaries of its clusters and separators, from the text's start to its end, in
 /// every window and direction.
 pub fn places_are_boundaries()
-    ensures rows { InEachWindow (λ class text w rows. places rows ≡ text_places class text) }
-    ensures span { (class : ℕ → Class) (text : List ℕ) → IsUtf8 text → SpansText class text }
+    ensures rows { InEachWindow (λ says text w rows. places rows ≡ text_places says text) }
+    ensures span { (says : Data) (text : List ℕ) → IsUtf8 text → SpansText says text }
 {}
 
 /// Each move leads from a place to a place.
 pub fn moves_keep_places()
-    ensures { InEachWindow (λ class text w rows. MovesKeep w rows (IsTextPlace class text)) }
+    ensures { InEachWindow (λ says text w rows. MovesKeep w rows (IsTextPlace says text)) }
 {}
 
 /// A row's slots are its places. Each place has exactly one slot, in the row that it falls in, and its cell is the column
 /// at which the glyphs of its unit begin.
 pub fn places_have_cells()
-    ensures { InEachWindow (λ class text w rows. HasCells class w rows) }
+    ensures { InEachWindow (λ says text w rows. HasCells says w rows) }
 {}
 
 /// Scrolling to a place moves the top by the fewest rows that make the place's row visible; a second time changes nothing.
 pub fn follow_is_least()
-    ensures { InEachWindow (λ class text w rows. MovesLeast rows) }
+    ensures { InEachWindow (λ says text w rows. MovesLeast rows) }
 {}

@@ -146,7 +146,7 @@ impl Layout {
         requires data { IsViewBy source.now self.old }
         ensures keeps { Keeps source.now self.old self.new }
         ensures row { IfOk result (λ at. StandsOn source.now self.new at (row_of (rows source.now self.new) offset)) }
-        ensures paragraph { IfOk result (λ at. at.paragraph ≡ paragraph_of (lengths (D.data source.now.tables.now).class (bytes source.now)) offset) }
+        ensures paragraph { IfOk result (λ at. at.paragraph ≡ paragraph_of (lengths (D.data source.now.tables.now) (bytes source.now)) offset) }
         ensures order { IfOk result (λ at. at.start ≤ offset) }
     {
         let (number, start, stop) = paragraph_under(source, offset);
@@ -247,7 +247,7 @@ impl Layout {
         requires row { Stands source.now self.old at }
         ensures keeps { Keeps source.now self.old self.new }
         ensures row { IfOk result (λ at. StandsOn source.now self.new at (row_of (rows source.now self.new) offset)) }
-        ensures paragraph { IfOk result (λ at. at.paragraph ≡ paragraph_of (lengths (D.data source.now.tables.now).class (bytes source.now)) offset) }
+        ensures paragraph { IfOk result (λ at. at.paragraph ≡ paragraph_of (lengths (D.data source.now.tables.now) (bytes source.now)) offset) }
         ensures order { IfOk result (λ at. at.start ≤ offset) }
     {
         let (number, start, _) = paragraph_under(source, offset);

@@ -33,9 +33,9 @@ impl Layout {
         place: usize,
     ) -> Result<Position, ViewError>
         requires row { Stands source.now self.now at }
-        requires paragraph { at.paragraph ≡ paragraph_of (lengths (D.data source.now.tables.now).class (bytes source.now)) place }
+        requires paragraph { at.paragraph ≡ paragraph_of (lengths (D.data source.now.tables.now) (bytes source.now)) place }
         requires order { at.start ≤ place }
-        ensures { IfOk result (IsPosition (D.data source.now.tables.now).class self.now.w (bytes source.now) (rows source.now self.now) place) }
+        ensures { IfOk result (IsPosition (D.data source.now.tables.now) self.now.w (bytes source.now) (rows source.now self.now) place) }
     {
         // proof only: the number of paragraphs is within its limit
         let _count = source.index.count();

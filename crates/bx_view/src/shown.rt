@@ -40,7 +40,7 @@ impl Layout {
     ) -> Result<RowPicture<'_>, ViewError>
         requires row { Stands source.now self.now at }
         ensures picture { OfRow source.now self.now at (λ r. IfOk result
-            (λ p. map glyph_of p.glyphs.items ≡ text_row_glyphs (D.data source.now.tables.now).class (D.data source.now.tables.now).mirror self.now.w r)) }
+            (λ p. map glyph_of p.glyphs.items ≡ text_row_glyphs (D.data source.now.tables.now) self.now.w r)) }
         ensures glyphs { IfOk result (λ p. All (λ g. is_one_glyph (cow_str_bytes g.text) ≡ true) p.glyphs.items) }
         ensures widths { IfOk result (λ p. All (λ g. run_width (cow_str_bytes g.text) ≡ g.columns) p.glyphs.items) }
         ensures columns { IfOk result (λ p. sum_by (λ g. g.columns) p.glyphs.items ≡ self.now.w) }

@@ -14,7 +14,7 @@ pub struct Source<'a, D: BidiData> {
     pub text: &'a Text,
     pub index: &'a Index,
     pub tables: &'a D,
-    pub ghost indexed: { index.now.paragraphs ≡ lengths (D.data tables.now).class text.now.edited.text },
+    pub ghost indexed: { index.now.paragraphs ≡ lengths (D.data tables.now) text.now.edited.text },
     pub ghost utf8: { IsUtf8 text.now.edited.text } by { Prim.hlevel props },
     pub ghost short: { length text.now.edited.text ≤ largest_text },
 }
@@ -34,7 +34,7 @@ impl<'a, D: BidiData> Clone for Source<'a, D> {
 impl<'a, D: BidiData> Source<'a, D> {
     /// Combines a text with its own index, built with the same tables.
     pub fn of(text: &'a Text, index: &'a Index, tables: &'a D) -> Source<'a, D>
-        requires { index.now.paragraphs ≡ lengths (D.data tables.now).class text.now.edited.text }
+        requires { index.now.paragraphs ≡ lengths (D.data tables.now) text.now.edited.text }
         ensures text { result.text.now ≡ text.now }
         ensures tables { result.tables.now ≡ tables.now }
     {

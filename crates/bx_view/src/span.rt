@@ -14,7 +14,7 @@ pub(crate) fn walked_span<D: BidiData>(
     source: &Source<'_, D>,
     walk: &ParagraphWalk<'_>,
 ) -> (usize, usize)
-    requires walk { walk.now.paragraphs ≡ lengths (D.data source.now.tables.now).class (bytes source.now) }
+    requires walk { walk.now.paragraphs ≡ lengths (D.data source.now.tables.now) (bytes source.now) }
     requires number { walk.now.number < count source.now }
     ensures start { result.0 ≡ start_at source.now walk.now.number }
     ensures body { slice_range (bytes source.now) result.0 result.1 ≡ body_at source.now walk.now.number }
@@ -32,7 +32,7 @@ pub(crate) fn paragraph_under<D: BidiData>(
     source: &Source<'_, D>,
     offset: usize,
 ) -> (usize, usize, usize)
-    ensures number { result.0 ≡ paragraph_of (lengths (D.data source.now.tables.now).class (bytes source.now)) offset }
+    ensures number { result.0 ≡ paragraph_of (lengths (D.data source.now.tables.now) (bytes source.now)) offset }
     ensures there { result.0 < count source.now }
     ensures start { result.1 ≡ start_at source.now result.0 }
     ensures body { slice_range (bytes source.now) result.1 result.2 ≡ body_at source.now result.0 }

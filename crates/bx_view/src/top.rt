@@ -78,7 +78,7 @@ impl Layout {
             ≡ row_of (rows source.now self.old) place) }
         ensures few { IfOk result (λ l. l.above < t) }
         ensures position { IfOk result (λ l.
-            IsPosition (D.data source.now.tables.now).class self.old.w (bytes source.now) (rows source.now self.old) place l.position) }
+            IsPosition (D.data source.now.tables.now) self.old.w (bytes source.now) (rows source.now self.old) place l.position) }
     {
         let shown = self.row_at(source, top)?;
         let old = self.first_in(source, shown);

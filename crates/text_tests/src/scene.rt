@@ -32,17 +32,17 @@ impl Model for Scene {
 
     ghost view = { λ _. tt };
 
-    ghost invariant = { λ s. s.index.paragraphs ≡ lengths (⟦<Counting as BidiData>⟧.data s.tables).class s.text.edited.text };
+    ghost invariant = { λ s. s.index.paragraphs ≡ lengths (⟦<Counting as BidiData>⟧.data s.tables) s.text.edited.text };
 }
 
 /// Follows an edit for which room was made.
 fn follow<D: BidiData>(index: &mut Index, text: &Text, tables: &D, change: &Change)
     requires was { (old : List ℕ)
         × IsUtf8 old
-        × (index.old.paragraphs ≡ lengths (D.data tables.now).class old)
+        × (index.old.paragraphs ≡ lengths (D.data tables.now) old)
         × Leads old change.now text.now.edited.text }
     requires room { index.old.room ≡ Some change.now.added }
-    ensures { index.new.paragraphs ≡ lengths (D.data tables.now).class text.now.edited.text }
+    ensures { index.new.paragraphs ≡ lengths (D.data tables.now) text.now.edited.text }
 {
     let _utf8 = text.len();
     index.edited(text, tables, change);

@@ -17,7 +17,7 @@ fn add_slots<D: BidiData>(
     row: usize,
     source: &D,
 ) -> Result<(), Fail>
-    requires data { IsLayoutBy (D.data source.now).class (D.data source.now).bracket layout.now }
+    requires data { IsLayoutBy (D.data source.now) layout.now }
     requires row { row < length layout.now.starts }
 {
     for slot in &layout.slots(row, source)? {
@@ -35,7 +35,7 @@ fn add_places<D: BidiData>(
     row: usize,
     source: &D,
 ) -> Result<(), Fail>
-    requires data { IsLayoutBy (D.data source.now).class (D.data source.now).bracket layout.now }
+    requires data { IsLayoutBy (D.data source.now) layout.now }
     requires row { row < length layout.now.starts }
 {
     let first = layout.first(row);
@@ -57,7 +57,7 @@ fn add_steps<D: BidiData>(
     row: usize,
     source: &D,
 ) -> Result<(), Fail>
-    requires data { IsLayoutBy (D.data source.now).class (D.data source.now).bracket layout.now }
+    requires data { IsLayoutBy (D.data source.now) layout.now }
     requires row { row < length layout.now.starts }
 {
     let first = layout.first(row);
@@ -75,7 +75,7 @@ fn add_steps<D: BidiData>(
 
 /// The rows of a layout: slots, places and steps of each.
 fn rows_in<D: BidiData>(alloc: Global, layout: &ParagraphLayout, source: &D) -> Result<String, Fail>
-    requires { IsLayoutBy (D.data source.now).class (D.data source.now).bracket layout.now }
+    requires { IsLayoutBy (D.data source.now) layout.now }
 {
     let mut line = String::new(alloc);
     for row in 0..layout.row_count() {
@@ -137,7 +137,7 @@ fn picture_in<D: BidiData>(
     source: &D,
     offset: usize,
 ) -> Result<String, Fail>
-    requires { IsLayoutBy (D.data source.now).class (D.data source.now).bracket layout.now }
+    requires { IsLayoutBy (D.data source.now) layout.now }
 {
     let (w, level, len) = (layout.width(), layout.level(), layout.body().len());
     let is_rtl = layout.base() == Base::Rtl;

@@ -21,7 +21,7 @@ pub(crate) struct Whole {
     tables: Tables,
     w: u16,
     base: Base,
-    ghost paragraphs: { index.paragraphs ≡ lengths (⟦<Tables as BidiData>⟧.data tables).class text.edited.text },
+    ghost paragraphs: { index.paragraphs ≡ lengths (⟦<Tables as BidiData>⟧.data tables) text.edited.text },
     ghost side: { is_side w ≡ true },
 }
 

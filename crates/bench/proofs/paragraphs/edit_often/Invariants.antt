@@ -4,4 +4,4 @@ use Rattle.bx_paras.specs.Paragraphs.{lengths}
 use Rattle.bench.proofs.paragraphs.edit_often.Given as goal
 
 abbrev pub invariant-loop : goal.invariant-loop
-invariant-loop g l = l.index.paragraphs ≡ lengths (g.D.BidiData.data l.tables).class l.text.edited.text
+invariant-loop g l = l.index.paragraphs ≡ lengths (g.D.BidiData.data l.tables) l.text.edited.text

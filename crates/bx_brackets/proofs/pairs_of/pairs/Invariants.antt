@@ -7,6 +7,6 @@ use Rattle.bx_brackets.proofs.pairs_of.pairs.Given as goal
 abbrev pub invariant-loop-i : goal.invariant-loop-i
 invariant-loop-i g l = record {
   found : AreFound l.i l.open l.found.items;
-  rest : pairs (g.D.BidiData.data l.tables).bracket l.chars l.types
-      ≡ pairs_after (g.D.BidiData.data l.tables).bracket (progress l.open l.found.items false) l.i (drop l.i l.chars) (drop l.i l.types);
+  rest : pairs (g.D.BidiData.data l.tables) l.chars l.types
+      ≡ pairs_after (g.D.BidiData.data l.tables) (progress l.open l.found.items false) l.i (drop l.i l.chars) (drop l.i l.types);
 }

@@ -30,13 +30,13 @@ bytes-preserved g c =
     subst (λ xs. is_ascii_printable (get_or xs (at + 1) 0) ≡ true) same
     (c.printable_stop-stop.ensures.printable (at + 1) (omega (arith, from)) (omega (arith, test))) in
     let byte = c.from.ensures ∙ ap (λ xs. get_or xs at 0) same in
-    let class = (g.D.BidiData.data c.args.tables.now).class in
+    let says = g.D.BidiData.data c.args.tables.now in
     record {
       from = omega (arith, from);
       to = omega (arith, test);
       boundary = ascii-boundary body at c.utf8.body i.boundary less here;
       room = (let room = i.room in let len = c.push_reserved.ensures.len in let capacity = c.push_reserved.ensures.capacity in
           omega (arith, room, len, capacity, test));
-      all = ascii-more body at c.utf8.body i.boundary less here class c.args.w c.simple_face-face.result c.bytes.units.items _ _ next
-          (c.simple_face-face.ensures ∙ ap (λ x. simple_face class c.args.w x false) byte) c.push_reserved.ensures.items i.all;
+      all = ascii-more body at c.utf8.body i.boundary less here says c.args.w c.simple_face-face.result c.bytes.units.items _ _ next
+          (c.simple_face-face.ensures ∙ ap (λ x. simple_face says c.args.w x false) byte) c.push_reserved.ensures.items i.all;
     }

@@ -10,8 +10,8 @@ invariant-bytes g l = record {
   to : l.start ≤ l.last;
   boundary : IsCharBoundary l.body l.start;
   room : vec_len l.units + (l.last - l.start) ≤ vec_capacity l.units;
-  all : l.units.items ++ units_from (g.D.BidiData.data l.tables).class l.w l.body l.start
-      ≡ l.fn.units.items ++ units_from (g.D.BidiData.data l.tables).class l.w l.body l.at;
+  all : l.units.items ++ units_from (g.D.BidiData.data l.tables) l.w l.body l.start
+      ≡ l.fn.units.items ++ units_from (g.D.BidiData.data l.tables) l.w l.body l.at;
 }
 
 abbrev pub decreases-bytes : goal.decreases-bytes

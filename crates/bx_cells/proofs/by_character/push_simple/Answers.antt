@@ -24,7 +24,7 @@ chars-preserved-in_ok-push-in-Begins-simple_kind g c =
           (open-left body c.chars.start c.chars.first c.chars.is_marked rest c.utf8.body i.boundary i.cluster stop e ∙ next.0)
           c.in-Begins-simple_kind.ensures.0;
       within = omega arith;
-      all = unit-more body c.chars.start c.chars.first c.chars.is_marked rest c.utf8.body i.boundary i.cluster (g.D.BidiData.data c.args.tables.now).class
+      all = unit-more body c.chars.start c.chars.first c.chars.is_marked rest c.utf8.body i.boundary i.cluster (g.D.BidiData.data c.args.tables.now)
           c.args.w stop c.in-Some-first_char.c _ c.simple_face-face.result c.chars.units.items _ _ e next.0 c.in-Begins-simple_kind.ensures.0
           c.simple_face-face.ensures c.in_ok-push-in-Begins-simple_kind.ensures.items i.all;
     }
@@ -50,5 +50,5 @@ pub returns-clause-units : goal.returns-clause-units
 returns-clause-units g c =
     let i = c.chars.invariant in
     unit-last c.args.body.now c.chars.start c.chars.first c.chars.is_marked c.chars.rest.now c.utf8.body i.boundary i.cluster
-    (g.D.BidiData.data c.args.tables.now).class c.args.w (length c.args.body.now) c.simple_face-face-2.result c.chars.units.items _ _ refl
+    (g.D.BidiData.data c.args.tables.now) c.args.w (length c.args.body.now) c.simple_face-face-2.result c.chars.units.items _ _ refl
     c.in_default-first_char.ensures c.simple_face-face-2.ensures c.in_ok-push.ensures.items i.all

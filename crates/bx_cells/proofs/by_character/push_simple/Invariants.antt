@@ -16,8 +16,8 @@ invariant-chars g l = record {
   columns : own_columns l.first ≡ l.columns;
   cluster : IsOpen l.body l.start l.first l.is_marked l.rest;
   within : length l.rest ≤ length l.body;
-  all : l.units.items ++ units_from (g.D.BidiData.data l.tables).class l.w l.body l.start
-      ≡ l.fn.units.items ++ units_from (g.D.BidiData.data l.tables).class l.w l.body l.at;
+  all : l.units.items ++ units_from (g.D.BidiData.data l.tables) l.w l.body l.start
+      ≡ l.fn.units.items ++ units_from (g.D.BidiData.data l.tables) l.w l.body l.at;
 }
 
 abbrev pub decreases-chars : goal.decreases-chars

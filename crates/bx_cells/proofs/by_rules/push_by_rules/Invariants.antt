@@ -13,6 +13,6 @@ invariant-loop-cluster g l = record {
   from : l.at ≤ l.start;
   boundary : IsCharBoundary l.body l.start;
   left : graphemes_left l.cluster-iterator ≡ graphemes true (drop l.start l.body);
-  all : l.units.items ++ units_from (g.D.BidiData.data l.tables).class l.w l.body l.start
-      ≡ l.fn.units.items ++ units_from (g.D.BidiData.data l.tables).class l.w l.body l.at;
+  all : l.units.items ++ units_from (g.D.BidiData.data l.tables) l.w l.body l.start
+      ≡ l.fn.units.items ++ units_from (g.D.BidiData.data l.tables) l.w l.body l.at;
 }

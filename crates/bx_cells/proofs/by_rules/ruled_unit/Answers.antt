@@ -11,17 +11,17 @@ unreachable-requires g c =
 
 pub returns-clause-units : goal.returns-clause-units
 returns-clause-units g c =
-    let class = (g.D.BidiData.data c.args.tables.now).class in
+    let says = g.D.BidiData.data c.args.tables.now in
     let left = c.graphemes.ensures.left ∙ ap (graphemes true) c.range_from.ensures.value in
-    let next = next-cluster class c.args.w c.args.body.now c.args.at c.in-Some.cluster.now _ c.utf8.body c.requires.start
+    let next = next-cluster says c.args.w c.args.body.now c.args.at c.in-Some.cluster.now _ c.utf8.body c.requires.start
     (sym left ∙ c.in-Some.ensures.steps) in
-    unit-next class c.args.w c.args.body.now c.args.at c.in-Some.cluster.now _ c.face.result next c.face.ensures
+    unit-next says c.args.w c.args.body.now c.args.at c.in-Some.cluster.now _ c.face.result next c.face.ensures
 
 pub returns-clause-stop : goal.returns-clause-stop
 returns-clause-stop g c =
-    let class = (g.D.BidiData.data c.args.tables.now).class in
+    let says = g.D.BidiData.data c.args.tables.now in
     let left = c.graphemes.ensures.left ∙ ap (graphemes true) c.range_from.ensures.value in
     let first = sym left ∙ c.in-Some.ensures.steps in
-    let next = next-cluster class c.args.w c.args.body.now c.args.at c.in-Some.cluster.now _ c.utf8.body c.requires.start first in
+    let next = next-cluster says c.args.w c.args.body.now c.args.at c.in-Some.cluster.now _ c.utf8.body c.requires.start first in
     let some = cluster-grows c.args.body.now c.args.at c.in-Some.cluster.now _ first in
     (omega (arith, some), next.boundary)

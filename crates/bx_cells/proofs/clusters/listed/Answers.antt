@@ -7,12 +7,12 @@ use Rattle.bx_cells.proofs.clusters.listed.Goals as goal
 pub loop-at-init : goal.loop-at-init
 loop-at-init g c = record {
   boundary = IsCharBoundary-start c.args.body.now c.utf8.body;
-  all = ap (λ xs. xs ++ units_from (g.D.BidiData.data c.args.tables.now).class c.args.w c.args.body.now 0) c.in_ok-units.ensures.items;
+  all = ap (λ xs. xs ++ units_from (g.D.BidiData.data c.args.tables.now) c.args.w c.args.body.now 0) c.in_ok-units.ensures.items;
 }
 
 pub returns : goal.returns
 returns g c =
     sym (append-nil c.loop-at.units.items)
     ∙ ap (λ xs. c.loop-at.units.items ++ xs)
-    (sym (none-behind (g.D.BidiData.data c.args.tables.now).class c.args.w c.args.body.now c.loop-at.at c.loop-at-test.false))
+    (sym (none-behind (g.D.BidiData.data c.args.tables.now) c.args.w c.args.body.now c.loop-at.at c.loop-at-test.false))
     ∙ c.loop-at.invariant.all

@@ -7,7 +7,7 @@ use Rattle.bx_cells.proofs.clusters.listed.Given as goal
 abbrev pub invariant-loop-at : goal.invariant-loop-at
 invariant-loop-at g l = record {
   boundary : IsCharBoundary l.body l.at;
-  all : l.units.items ++ units_from (g.D.BidiData.data l.tables).class l.w l.body l.at ≡ units (g.D.BidiData.data l.tables).class l.w l.body;
+  all : l.units.items ++ units_from (g.D.BidiData.data l.tables) l.w l.body l.at ≡ units (g.D.BidiData.data l.tables) l.w l.body;
 }
 
 abbrev pub decreases-loop-at : goal.decreases-loop-at

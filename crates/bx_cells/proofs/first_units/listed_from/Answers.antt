@@ -46,7 +46,7 @@ units-preserved g c =
 pub returns : goal.returns
 returns g c = elim c.units-test.branch [
   | then-units-test+else-next-body w ↦ none_left (c.args.count - length c.units.units.items) c.units.units.items _ _
-      (none-behind (g.D.BidiData.data c.args.tables.now).class c.args.w c.args.body.now c.units.next w.if-next-body.false) c.units.invariant.all
+      (none-behind (g.D.BidiData.data c.args.tables.now) c.args.w c.args.body.now c.units.next w.if-next-body.false) c.units.invariant.all
   | else-units-test w ↦ none_more c.args.count c.units.units.items _ _ (let test = w.units-test.false in let read = c.len.ensures in omega (arith, test, read))
       c.units.invariant.all
 ]

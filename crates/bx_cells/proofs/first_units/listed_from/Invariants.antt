@@ -8,8 +8,8 @@ abbrev pub invariant-units : goal.invariant-units
 invariant-units g l = record {
   boundary : IsCharBoundary l.body l.next;
   within : length l.units.items ≤ l.count;
-  all : l.units.items ++ take (l.count - length l.units.items) (units_from (g.D.BidiData.data l.tables).class l.w l.body l.next)
-      ≡ take l.count (units_from (g.D.BidiData.data l.tables).class l.w l.body l.at);
+  all : l.units.items ++ take (l.count - length l.units.items) (units_from (g.D.BidiData.data l.tables) l.w l.body l.next)
+      ≡ take l.count (units_from (g.D.BidiData.data l.tables) l.w l.body l.at);
 }
 
 abbrev pub decreases-units : goal.decreases-units

@@ -6,7 +6,7 @@ pub overflow_add-result : goal.overflow_add-result
 overflow_add-result g c =
     let s = c.args.source.now in
     let text = s.text.now.edited.text in
-    let is = found (g.D.BidiData.data s.tables.now).class (g.D.BidiData.data s.tables.now).bracket c.args.layout.now.base c.args.layout.now.w text
+    let is = found (g.D.BidiData.data s.tables.now) c.args.layout.now.base c.args.layout.now.w text
     c.args.range.start c.args.range.end c.args.new.now (string_bytes c.in_ok-first.characters) c.in_ok-first.first _ c.in_ok-place.place
     c.width-side.ensures.side s.utf8 c.requires.range c.utf8.new c.in_ok-first.ensures.start c.in_ok-first.ensures.text refl c.in_ok-place.ensures.place in
     omega (arith, is.boundary.0, splice_short text c.args.range.start c.args.range.end c.args.new.now c.requires.range c.requires.fits)
@@ -14,6 +14,6 @@ overflow_add-result g c =
 pub returns-clause-place : goal.returns-clause-place
 returns-clause-place g c =
     let s = c.args.source.now in
-    (found (g.D.BidiData.data s.tables.now).class (g.D.BidiData.data s.tables.now).bracket c.args.layout.now.base c.args.layout.now.w s.text.now.edited.text
+    (found (g.D.BidiData.data s.tables.now) c.args.layout.now.base c.args.layout.now.w s.text.now.edited.text
     c.args.range.start c.args.range.end c.args.new.now (string_bytes c.in_ok-first.characters) c.in_ok-first.first _ c.in_ok-place.place
     c.width-side.ensures.side s.utf8 c.requires.range c.utf8.new c.in_ok-first.ensures.start c.in_ok-first.ensures.text refl c.in_ok-place.ensures.place).place

@@ -6,25 +6,25 @@ use Rattle.bx_document.proofs.touched.stop_after.Goals as goal
 pub span-requires : goal.span-requires
 span-requires g c =
     let s = c.args.source.now in
-    there (g.D.BidiData.data s.tables.now).class s.text.now.edited.text s.index.now.paragraphs s.utf8
+    there (g.D.BidiData.data s.tables.now) s.text.now.edited.text s.index.now.paragraphs s.utf8
     s.indexed c.args.stop c.paragraph_of-number.result c.paragraph_of-number.ensures
 
 pub separator-requires : goal.separator-requires
 separator-requires g c =
     let s = c.args.source.now in
-    there (g.D.BidiData.data s.tables.now).class s.text.now.edited.text s.index.now.paragraphs s.utf8
+    there (g.D.BidiData.data s.tables.now) s.text.now.edited.text s.index.now.paragraphs s.utf8
     s.indexed c.args.stop c.paragraph_of-number.result c.paragraph_of-number.ensures
 
 pub overflow_add-result : goal.overflow_add-result
 overflow_add-result g c =
     let s = c.args.source.now in
-    let told = stop_told (g.D.BidiData.data s.tables.now).class s.text.now.edited.text s.index.now.paragraphs s.utf8
+    let told = stop_told (g.D.BidiData.data s.tables.now) s.text.now.edited.text s.index.now.paragraphs s.utf8
     s.indexed c.args.stop c.paragraph_of-number.result c.span.result c.separator.result c.paragraph_of-number.ensures c.span.ensures
     c.separator.ensures in
     omega (
       arith,
       told,
-      stop_inside (g.D.BidiData.data s.tables.now).class s.text.now.edited.text s.index.now.paragraphs s.utf8 s.indexed
+      stop_inside (g.D.BidiData.data s.tables.now) s.text.now.edited.text s.index.now.paragraphs s.utf8 s.indexed
           c.args.stop c.requires.bounds,
       s.short,
     )
@@ -32,7 +32,7 @@ overflow_add-result g c =
 pub returns-clause-stop : goal.returns-clause-stop
 returns-clause-stop g c =
     let s = c.args.source.now in
-    stop_told (g.D.BidiData.data s.tables.now).class s.text.now.edited.text s.index.now.paragraphs s.utf8
+    stop_told (g.D.BidiData.data s.tables.now) s.text.now.edited.text s.index.now.paragraphs s.utf8
     s.indexed c.args.stop c.paragraph_of-number.result c.span.result c.separator.result c.paragraph_of-number.ensures c.span.ensures
     c.separator.ensures
 
@@ -40,8 +40,8 @@ pub returns-clause-range : goal.returns-clause-range
 returns-clause-range g c =
     let s = c.args.source.now in
     subst (IsRange s.text.now.edited.text c.args.stop)
-    (sym (stop_told (g.D.BidiData.data s.tables.now).class s.text.now.edited.text s.index.now.paragraphs s.utf8
+    (sym (stop_told (g.D.BidiData.data s.tables.now) s.text.now.edited.text s.index.now.paragraphs s.utf8
     s.indexed c.args.stop c.paragraph_of-number.result c.span.result c.separator.result c.paragraph_of-number.ensures c.span.ensures
     c.separator.ensures))
-    (stop_range (g.D.BidiData.data s.tables.now).class s.text.now.edited.text s.index.now.paragraphs s.utf8 s.indexed
+    (stop_range (g.D.BidiData.data s.tables.now) s.text.now.edited.text s.index.now.paragraphs s.utf8 s.indexed
     c.args.stop c.requires.bounds)

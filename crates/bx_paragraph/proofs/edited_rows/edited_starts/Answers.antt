@@ -12,28 +12,28 @@ use Rattle.bx_paragraph.proofs.edited_rows.edited_starts.Goals as goal
 
 pub push_rest-requires-clause-room : goal.push_rest-requires-clause-room
 push_rest-requires-clause-room g c =
-    let class = (g.D.BidiData.data c.args.tables.now).class in
+    let says = g.D.BidiData.data c.args.tables.now in
     let e = c.args.edit.now in
     let row = c.in-Some.row in
     let body_is : IsUtf8 e.body.now = search rules in
     let inserted_is : IsUtf8 e.inserted.now = search rules in
-    let kept = changed-kept e c.requires.edit class row body_is inserted_is (side-some e.w c.requires.side) c.requires.starts c.in-Some.ensures in
-    room-left class e.w (changed e) e.starts.now row (changed-utf8 e c.requires.edit body_is inserted_is) (changed-short e c.requires.edit c.requires.short) kept
+    let kept = changed-kept e c.requires.edit says row body_is inserted_is (side-some e.w c.requires.side) c.requires.starts c.in-Some.ensures in
+    room-left says e.w (changed e) e.starts.now row (changed-utf8 e c.requires.edit body_is inserted_is) (changed-short e c.requires.edit c.requires.short) kept
 
 pub returns-then-is_char_boundary : goal.returns-then-is_char_boundary
 returns-then-is_char_boundary g c =
-    let class = (g.D.BidiData.data c.args.tables.now).class in
+    let says = g.D.BidiData.data c.args.tables.now in
     let e = c.args.edit.now in
     let row = c.in-Some.row in
     let starts = e.starts.now in
     let first = get_or starts row origin in
     let body_is : IsUtf8 e.body.now = search rules in
     let inserted_is : IsUtf8 e.inserted.now = search rules in
-    let kept = changed-kept e c.requires.edit class row body_is inserted_is (side-some e.w c.requires.side) c.requires.starts c.in-Some.ensures in
+    let kept = changed-kept e c.requires.edit says row body_is inserted_is (side-some e.w c.requires.side) c.requires.starts c.in-Some.ensures in
     let front : c.extend_from_slice.new.self.items ≡ take row starts = search rules in
-    let rest = row_starts class e.w (drop first.offset (changed e)) in
+    let rest = row_starts says e.w (drop first.offset (changed e)) in
     c.in_ok-push_rest.ensures ∙ ap (λ xs. xs ++ map (behind first) rest) front
-    ∙ rows-joined class e.w (changed e) starts rest row (changed-utf8 e c.requires.edit body_is inserted_is) kept refl
+    ∙ rows-joined says e.w (changed e) starts rest row (changed-utf8 e c.requires.edit body_is inserted_is) kept refl
 
 pub push_rest-requires-2-clause-first : goal.push_rest-requires-2-clause-first
 push_rest-requires-2-clause-first g c =
@@ -44,11 +44,11 @@ push_rest-requires-2-clause-room g c =
     let e = c.args.edit.now in
     let body_is : IsUtf8 e.body.now = search rules in
     let inserted_is : IsUtf8 e.inserted.now = search rules in
-    room-whole (g.D.BidiData.data c.args.tables.now).class e.w (changed e) (changed-utf8 e c.requires.edit body_is inserted_is)
+    room-whole (g.D.BidiData.data c.args.tables.now) e.w (changed e) (changed-utf8 e c.requires.edit body_is inserted_is)
     (changed-short e c.requires.edit c.requires.short)
 
 pub returns : goal.returns
 returns g c =
     let e = c.args.edit.now in
-    let starts = row_starts (g.D.BidiData.data c.args.tables.now).class e.w (changed e) in
+    let starts = row_starts (g.D.BidiData.data c.args.tables.now) e.w (changed e) in
     c.in_ok-push_rest-2.ensures ∙ ap (λ xs. xs ++ map (behind origin) starts) c.clear.ensures.items ∙ behind-origin starts

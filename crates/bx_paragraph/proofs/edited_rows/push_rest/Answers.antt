@@ -22,7 +22,7 @@ push_behind-requires g c =
     let meet = subst (λ xs. DoMeetNear e.w (length text.result.now) shift e.stop xs e.starts.now i k) c.deref.ensures.value c.in-Some.ensures in
     let met = met-edit e c.requires.edit first.offset c.range-before.result.now c.range_from-rest.result.now near.result.now text.result.now
     c.requires.before c.requires.first body_is inserted_is c.range-before.ensures.value c.range_from-rest.ensures.value near.ensures.near near.ensures.boundary
-    (text.ensures.value ∙ c.in_ok-piece.ensures) (g.D.BidiData.data c.args.tables.now).class shift i k first found (side-some e.w c.requires.side)
+    (text.ensures.value ∙ c.in_ok-piece.ensures) (g.D.BidiData.data c.args.tables.now) shift i k first found (side-some e.w c.requires.side)
     c.requires.starts c.in_ok-found.ensures refl meet c.requires.room in
     subst (λ xs. All (λ s. HasRoom (behind first s)) (take i xs)) (sym c.deref-in-Some.ensures.value) met.room_front
 
@@ -41,7 +41,7 @@ behind-requires g c =
     let meet = subst (λ xs. DoMeetNear e.w (length text.result.now) shift e.stop xs e.starts.now i k) c.deref.ensures.value c.in-Some.ensures in
     let met = met-edit e c.requires.edit first.offset c.range-before.result.now c.range_from-rest.result.now near.result.now text.result.now
     c.requires.before c.requires.first body_is inserted_is c.range-before.ensures.value c.range_from-rest.ensures.value near.ensures.near near.ensures.boundary
-    (text.ensures.value ∙ c.in_ok-piece.ensures) (g.D.BidiData.data c.args.tables.now).class shift i k first found (side-some e.w c.requires.side)
+    (text.ensures.value ∙ c.in_ok-piece.ensures) (g.D.BidiData.data c.args.tables.now) shift i k first found (side-some e.w c.requires.side)
     c.requires.starts c.in_ok-found.ensures refl meet c.requires.room in
     let inside : i < length found = omega (arith, meet.meet.found_inside, meet.well.inside) in
     subst (λ t. HasRoom (behind first t)) (sym (get_or_read found i _ inside c.index.ensures origin)) met.room_at
@@ -62,7 +62,7 @@ push_moved-requires g c =
     let meet = subst (λ xs. DoMeetNear e.w (length text.result.now) shift e.stop xs starts i k) c.deref.ensures.value c.in-Some.ensures in
     let met = met-edit e c.requires.edit first.offset c.range-before.result.now c.range_from-rest.result.now near.result.now text.result.now
     c.requires.before c.requires.first body_is inserted_is c.range-before.ensures.value c.range_from-rest.ensures.value near.ensures.near near.ensures.boundary
-    (text.ensures.value ∙ c.in_ok-piece.ensures) (g.D.BidiData.data c.args.tables.now).class shift i k first found (side-some e.w c.requires.side)
+    (text.ensures.value ∙ c.in_ok-piece.ensures) (g.D.BidiData.data c.args.tables.now) shift i k first found (side-some e.w c.requires.side)
     c.requires.starts c.in_ok-found.ensures refl meet c.requires.room in
     let inside : i < length found = omega (arith, meet.meet.found_inside, meet.well.inside) in
     let new = c.behind.ensures ∙ ap (behind first) (get_or_read found i _ inside c.index.ensures origin) in
@@ -86,7 +86,7 @@ returns-in-Some g c =
     let meet = subst (λ xs. DoMeetNear e.w (length text.result.now) shift e.stop xs starts i k) c.deref.ensures.value c.in-Some.ensures in
     let met = met-edit e c.requires.edit first.offset c.range-before.result.now c.range_from-rest.result.now near.result.now text.result.now
     c.requires.before c.requires.first body_is inserted_is c.range-before.ensures.value c.range_from-rest.ensures.value near.ensures.near near.ensures.boundary
-    (text.ensures.value ∙ c.in_ok-piece.ensures) (g.D.BidiData.data c.args.tables.now).class shift i k first found (side-some e.w c.requires.side)
+    (text.ensures.value ∙ c.in_ok-piece.ensures) (g.D.BidiData.data c.args.tables.now) shift i k first found (side-some e.w c.requires.side)
     c.requires.starts c.in_ok-found.ensures refl meet c.requires.room in
     let inside : i < length found = omega (arith, meet.meet.found_inside, meet.well.inside) in
     let new = c.behind.ensures ∙ ap (behind first) (get_or_read found i _ inside c.index.ensures origin) in

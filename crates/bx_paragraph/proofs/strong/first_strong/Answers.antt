@@ -8,7 +8,7 @@ loop-c-init g c = record { place = first-place c.args.text.now c.utf8.text; boun
 pub returns-then-is_strong : goal.returns-then-is_strong
 returns-then-is_strong g c =
     let at = char-at c.args.text.now c.loop-c.index c.loop-c.start c.in-Some.c c.in-Some.stop c.loop-c.invariant.place c.in-Some.ensures.1 c.in-Some.ensures.2 in
-    strong-at (g.D.BidiData.data c.args.tables.now).class c.args.text.now
+    strong-at (g.D.BidiData.data c.args.tables.now) c.args.text.now
     (record { index = c.loop-c.index; class = c.class-class.result; start = c.loop-c.start; stop = c.in-Some.stop }) c.in-Some.c c.loop-c.invariant.place at
     c.class-class.ensures (sym c.if-is_strong.ensures)
 

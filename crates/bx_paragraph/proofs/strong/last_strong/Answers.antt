@@ -11,7 +11,7 @@ loop-c-preserved g c =
     record {
       place = at.place;
       bound = omega (arith, c.loop-c.invariant.bound, c.in-Some.ensures.0);
-      last = later-strong (g.D.BidiData.data c.args.tables.now).class c.args.text.now c.loop-c.found
+      last = later-strong (g.D.BidiData.data c.args.tables.now) c.args.text.now c.loop-c.found
           (record { index = c.loop-c.index; class = c.class.result; start = c.loop-c.start; stop = c.in-Some.stop }) c.in-Some.c _ _ refl
           c.later-found.ensures c.loop-c.invariant.last c.loop-c.invariant.place at c.class.ensures;
     }

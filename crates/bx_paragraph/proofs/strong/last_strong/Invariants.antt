@@ -8,7 +8,7 @@ abbrev pub invariant-loop-c : goal.invariant-loop-c
 invariant-loop-c g l = record {
   place : IsOffset l.text l.index l.start;
   bound : l.index ≤ l.start;
-  last : IfSome l.found (IsStrongIn (g.D.BidiData.data l.tables).class l.text);
+  last : IfSome l.found (IsStrongIn (g.D.BidiData.data l.tables) l.text);
 }
 
 abbrev pub decreases-loop-c : goal.decreases-loop-c

@@ -9,13 +9,13 @@ use Rattle.bx_paras.proofs.fill.fill.Given as goal
 
 abbrev pub invariant-loop-at : goal.invariant-loop-at
 invariant-loop-at g l =
-    let class = (g.D.BidiData.data l.tables).class in
+    let says = g.D.BidiData.data l.tables in
     let text = l.text.edited.text in
-    let left = ended_within (l.stop - l.at) (lengths class (drop l.at text)) in
-    let all = ended_within (l.stop - l.start) (lengths class (drop l.start text)) in
+    let left = ended_within (l.stop - l.at) (lengths says (drop l.at text)) in
+    let all = ended_within (l.stop - l.start) (lengths says (drop l.start text)) in
     record {
       bounds : IsCharBoundary text l.at;
-      window : IsWindow class text l.at l.window;
+      window : IsWindow says text l.at l.window;
       position : l.position ≤ length l.blocks.blocks;
       front : flat (take l.position l.blocks.blocks) ++ left ≡ flat (take l.fn.position l.fn.blocks.blocks) ++ all;
       back : flat (drop l.position l.blocks.blocks) ≡ flat (drop l.fn.position l.fn.blocks.blocks);

@@ -8,7 +8,7 @@ pub overflow_add-change : goal.overflow_add-change
 overflow_add-change g c =
     let was = c.requires.was in
     let inside : c.args.change.now.start + c.args.change.now.removed ≤ length was.0 = was.3.gave_way.stop_bounds.0 in
-    omega (arith, inside, ap total was.2, total_lengths (g.D.BidiData.data c.args.tables.now).class was.0 was.1, c.requires.short)
+    omega (arith, inside, ap total was.2, total_lengths (g.D.BidiData.data c.args.tables.now) was.0 was.1, c.requires.short)
 
 pub returns : goal.returns
 returns g c =

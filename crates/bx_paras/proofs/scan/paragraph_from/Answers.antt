@@ -8,25 +8,25 @@ use Rattle.bx_paras.proofs.scan.paragraph_from.Goals as goal
 
 pub overflow_add-result : goal.overflow_add-result
 overflow_add-result g c =
-    let within = stop_within (g.D.BidiData.data c.args.tables.now).class c.args.text.now.edited.text c.args.start c.loop-at.at c.args.window c.requires.window
+    let within = stop_within (g.D.BidiData.data c.args.tables.now) c.args.text.now.edited.text c.args.start c.loop-at.at c.args.window c.requires.window
     c.len-len.ensures.utf8 c.loop-at.invariant.bounds (omega (arith, c.if-at-window.true)) in
     omega (arith, within, c.len-len.ensures.short)
 
 pub overflow_cast-result : goal.overflow_cast-result
 overflow_cast-result g c =
-    let within = stop_within (g.D.BidiData.data c.args.tables.now).class c.args.text.now.edited.text c.args.start c.loop-at.at c.args.window c.requires.window
+    let within = stop_within (g.D.BidiData.data c.args.tables.now) c.args.text.now.edited.text c.args.start c.loop-at.at c.args.window c.requires.window
     c.len-len.ensures.utf8 c.loop-at.invariant.bounds (omega (arith, c.if-at-window.true)) in
     omega (arith, within, c.len-len.ensures.short)
 
 pub overflow_cast-result-then-at-window : goal.overflow_cast-result-then-at-window
 overflow_cast-result-then-at-window g c =
-    let within = stop_within (g.D.BidiData.data c.args.tables.now).class c.args.text.now.edited.text c.args.start c.loop-at.at c.args.window c.requires.window
+    let within = stop_within (g.D.BidiData.data c.args.tables.now) c.args.text.now.edited.text c.args.start c.loop-at.at c.args.window c.requires.window
     c.len-len.ensures.utf8 c.loop-at.invariant.bounds (omega (arith, c.if-at-window.true)) in
     omega (arith, within, c.len-len.ensures.short)
 
 pub overflow_add-end : goal.overflow_add-end
 overflow_add-end g c =
-    let f = found_in_piece (g.D.BidiData.data c.args.tables.now).class c.args.text.now.edited.text c.part_before-piece.result.now c.loop-at.at
+    let f = found_in_piece (g.D.BidiData.data c.args.tables.now) c.args.text.now.edited.text c.part_before-piece.result.now c.loop-at.at
     c.len-len.ensures.utf8
     c.loop-at.invariant.bounds c.part_before-piece.ensures.bytes c.part_before-piece.ensures.next c.in-Some.before c.in-Some.c
     c.in-Some.ensures in
@@ -34,7 +34,7 @@ overflow_add-end g c =
 
 pub overflow_cast-result-in-Some : goal.overflow_cast-result-in-Some
 overflow_cast-result-in-Some g c =
-    let f = found_in_piece (g.D.BidiData.data c.args.tables.now).class c.args.text.now.edited.text c.part_before-piece.result.now c.loop-at.at
+    let f = found_in_piece (g.D.BidiData.data c.args.tables.now) c.args.text.now.edited.text c.part_before-piece.result.now c.loop-at.at
     c.len-len.ensures.utf8
     c.loop-at.invariant.bounds c.part_before-piece.ensures.bytes c.part_before-piece.ensures.next c.in-Some.before c.in-Some.c
     c.in-Some.ensures in
@@ -42,7 +42,7 @@ overflow_cast-result-in-Some g c =
 
 pub overflow_add-end-in-Some : goal.overflow_add-end-in-Some
 overflow_add-end-in-Some g c =
-    let f = found_in_piece (g.D.BidiData.data c.args.tables.now).class c.args.text.now.edited.text c.part_before-piece.result.now c.loop-at.at
+    let f = found_in_piece (g.D.BidiData.data c.args.tables.now) c.args.text.now.edited.text c.part_before-piece.result.now c.loop-at.at
     c.len-len.ensures.utf8
     c.loop-at.invariant.bounds c.part_before-piece.ensures.bytes c.part_before-piece.ensures.next c.in-Some.before c.in-Some.c
     c.in-Some.ensures in
@@ -50,7 +50,7 @@ overflow_add-end-in-Some g c =
 
 pub separator_bytes-requires : goal.separator_bytes-requires
 separator_bytes-requires g c =
-    let f = found_in_piece (g.D.BidiData.data c.args.tables.now).class c.args.text.now.edited.text c.part_before-piece.result.now c.loop-at.at
+    let f = found_in_piece (g.D.BidiData.data c.args.tables.now) c.args.text.now.edited.text c.part_before-piece.result.now c.loop-at.at
     c.len-len.ensures.utf8
     c.loop-at.invariant.bounds c.part_before-piece.ensures.bytes c.part_before-piece.ensures.next c.in-Some.before c.in-Some.c
     c.in-Some.ensures in
@@ -58,12 +58,12 @@ separator_bytes-requires g c =
 
 pub returns-in-Some-clause-first : goal.returns-in-Some-clause-first
 returns-in-Some-clause-first g c =
-    let f = found_in_piece (g.D.BidiData.data c.args.tables.now).class c.args.text.now.edited.text c.part_before-piece.result.now c.loop-at.at
+    let f = found_in_piece (g.D.BidiData.data c.args.tables.now) c.args.text.now.edited.text c.part_before-piece.result.now c.loop-at.at
     c.len-len.ensures.utf8
     c.loop-at.invariant.bounds c.part_before-piece.ensures.bytes c.part_before-piece.ensures.next c.in-Some.before c.in-Some.c
     c.in-Some.ensures in
     let bytes = c.separator_bytes.ensures
-    ∙ ap (λ w. if (c.in-Some.c == 13) && begins_with_lf (g.D.BidiData.data c.args.tables.now).class
+    ∙ ap (λ w. if (c.in-Some.c == 13) && begins_with_lf (g.D.BidiData.data c.args.tables.now)
     (chars (drop (c.loop-at.at + c.in-Some.before + w) c.args.text.now.edited.text)) then 2 else length
     (encode_utf8 c.in-Some.c)) c.len_utf8.ensures.len in
     same_lengths _ _ _ _ (omega (arith, c.loop-at.invariant.start_before)) bytes ∙ ap (further (c.loop-at.at - c.args.start)) (sym f.is)
@@ -71,7 +71,7 @@ returns-in-Some-clause-first g c =
 
 pub loop-at-preserved : goal.loop-at-preserved
 loop-at-preserved g c =
-    let past = past_piece (g.D.BidiData.data c.args.tables.now).class c.args.text.now.edited.text c.part_before-piece.result.now c.loop-at.at
+    let past = past_piece (g.D.BidiData.data c.args.tables.now) c.args.text.now.edited.text c.part_before-piece.result.now c.loop-at.at
     c.len-len.ensures.utf8
     c.loop-at.invariant.bounds c.part_before-piece.ensures.bytes c.part_before-piece.ensures.next c.in_default.ensures in
     record {
@@ -83,7 +83,7 @@ loop-at-preserved g c =
 
 pub returns-clause-first : goal.returns-clause-first
 returns-clause-first g c =
-    let none = first_at_end (g.D.BidiData.data c.args.tables.now).class c.args.text.now.edited.text c.loop-at.at
+    let none = first_at_end (g.D.BidiData.data c.args.tables.now) c.args.text.now.edited.text c.loop-at.at
     (omega (arith, c.loop-at-test.false, c.len-len.ensures.len)) in
     let inside : c.loop-at.at ≤ length c.args.text.now.edited.text = c.loop-at.invariant.bounds.0 in
     same_lengths _ _ 0 0 (omega (arith, c.loop-at.invariant.start_before, c.loop-at-test.false, inside, c.len-len.ensures.len)) refl

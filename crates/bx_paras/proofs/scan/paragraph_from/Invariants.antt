@@ -8,8 +8,8 @@ abbrev pub invariant-loop-at : goal.invariant-loop-at
 invariant-loop-at g l = record {
   bounds : IsCharBoundary l.text.edited.text l.at;
   start_before : l.start ≤ l.at;
-  goes_on : first (lengths (g.D.BidiData.data l.tables).class (drop l.start l.text.edited.text))
-      ≡ further (l.at - l.start) (first (lengths (g.D.BidiData.data l.tables).class (drop l.at l.text.edited.text)));
+  goes_on : first (lengths (g.D.BidiData.data l.tables) (drop l.start l.text.edited.text))
+      ≡ further (l.at - l.start) (first (lengths (g.D.BidiData.data l.tables) (drop l.at l.text.edited.text)));
 }
 
 abbrev pub decreases-loop-at : goal.decreases-loop-at

@@ -4,7 +4,7 @@ use Rattle.bx_paras.specs.Scan.{NoneBefore}
 use Rattle.bx_paras.proofs.scan.separator_in.Given as goal
 
 abbrev pub invariant-loop-at : goal.invariant-loop-at
-invariant-loop-at g l = NoneBefore (g.D.BidiData.data l.tables).class l.piece l.at
+invariant-loop-at g l = NoneBefore (g.D.BidiData.data l.tables) l.piece l.at
 
 abbrev pub decreases-loop-at : goal.decreases-loop-at
 decreases-loop-at g l = length l.piece - l.at

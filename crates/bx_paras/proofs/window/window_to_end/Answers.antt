@@ -6,13 +6,13 @@ use Rattle.bx_paras.proofs.Firsts.{further_none, first_at_end}
 use Rattle.bx_paras.proofs.window.window_to_end.Goals as goal
 
 pub returns : goal.returns
-returns c = λ class.
+returns c = λ says.
     let text = c.args.text.now.edited.text in
     let none : 0 ≡ c.args.at - c.args.at = omega arith in
     record {
       start_bounds = c.requires;
       stop_bounds = subst (IsCharBoundary text) (sym c.len.ensures.len) (IsCharBoundary-end text);
       start_before = omega arith;
-      goes_on = further_none (first (lengths class (drop c.args.at text))) ∙ ap (λ n. further n (first (lengths class (drop c.args.at text)))) none;
-      behind = first_at_end class text c.len.result (omega (arith, c.len.ensures.len));
+      goes_on = further_none (first (lengths says (drop c.args.at text))) ∙ ap (λ n. further n (first (lengths says (drop c.args.at text)))) none;
+      behind = first_at_end says text c.len.result (omega (arith, c.len.ensures.len));
     }

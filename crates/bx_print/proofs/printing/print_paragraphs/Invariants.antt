@@ -7,7 +7,7 @@ use Rattle.bx_print.proofs.printing.print_paragraphs.Given as goal
 
 abbrev pub invariant-loop-number : goal.invariant-loop-number
 invariant-loop-number g l =
-    let class = (g.D.BidiData.data l.source.tables.now).class in
+    let says = g.D.BidiData.data l.source.tables.now in
     (written : List ℕ) × IsSent
-    (lines_of class (g.D.BidiData.data l.source.tables.now).bracket (g.D.BidiData.data l.source.tables.now).mirror l.style.marks l.style.base l.style.columns)
-    (paragraphs class l.source.text.now.edited.text) (g.W.Write.contents l.fn.writer) (g.W.Write.contents l.writer) l.pending.items l.number written
+    (lines_of says l.style.marks l.style.base l.style.columns)
+    (paragraphs says l.source.text.now.edited.text) (g.W.Write.contents l.fn.writer) (g.W.Write.contents l.writer) l.pending.items l.number written

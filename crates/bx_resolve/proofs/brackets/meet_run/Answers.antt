@@ -7,17 +7,17 @@ use Rattle.bx_resolve.proofs.brackets.meet_run.Goals.{in-Some-kept+else-given-le
 
 pub returns-then-met-types-clause-met : goal.returns-then-met-types-clause-met
 returns-then-met-types-clause-met g c = λ rest.
-    let bracket = (g.D.BidiData.data c.args.tables.now).bracket in
+    let says = g.D.BidiData.data c.args.tables.now in
     let all : List ℕ = c.args.body.now in
     let met : ℕ = c.loop-k.met in
     c.loop-k.invariant.left rest
-    ∙ types_out bracket c.loop-k.search.progress met met
+    ∙ types_out says c.loop-k.search.progress met met
     (chars_at all (level_indexes c.args.level c.loop-k.k (drop c.loop-k.k c.args.kept.now) ++ rest)) c.args.types.now c.if-met-types.true
-    ∙ sym (types_out bracket c.loop-k.search.progress met met (chars_at all rest) c.args.types.now c.if-met-types.true)
+    ∙ sym (types_out says c.loop-k.search.progress met met (chars_at all rest) c.args.types.now c.if-met-types.true)
 
 pub loop-k-preserved : goal.loop-k-preserved
 loop-k-preserved g c =
-    let bracket = (g.D.BidiData.data c.args.tables.now).bracket in
+    let says = g.D.BidiData.data c.args.tables.now in
     let all : List ℕ = c.args.body.now in
     let k : ℕ = c.loop-k.k in
     let left : drop k all ≡ c.in-Some.c ∷ chars c.in-Some.behind.now = sym c.loop-k.invariant.chars_are ∙ c.in-Some.ensures.0 in
@@ -27,7 +27,7 @@ loop-k-preserved g c =
         chars_are = chars_behind k c.in-Some.c all (chars c.in-Some.behind.now) left;
         next = w.meet.ensures.next;
         count = w.meet.ensures.count ∙ c.loop-k.invariant.count;
-        left = λ more. c.loop-k.invariant.left more ∙ kept_left bracket all c.args.kept.now c.args.types.now c.args.level k c.loop-k.met
+        left = λ more. c.loop-k.invariant.left more ∙ kept_left says all c.args.kept.now c.args.types.now c.args.level k c.loop-k.met
             c.loop-k.search.progress (omega arith) more c.in-Some.c w.in-Some-kept.given w.meet.new.self.progress w.in-Some-kept.is w.if-given-level.false
             (omega arith) (char_here k c.in-Some.c all (chars c.in-Some.behind.now) left) w.in_ok-meet-in-Some-kept.ensures.progress;
       })
@@ -36,7 +36,7 @@ loop-k-preserved g c =
         chars_are = chars_behind k c.in-Some.c all (chars c.in-Some.behind.now) left;
         next = c.loop-k.invariant.next;
         count = c.loop-k.invariant.count;
-        left = λ more. c.loop-k.invariant.left more ∙ removed_left bracket all c.args.kept.now c.args.types.now c.args.level k c.loop-k.met
+        left = λ more. c.loop-k.invariant.left more ∙ removed_left says all c.args.kept.now c.args.types.now c.args.level k c.loop-k.met
             c.loop-k.search.progress (omega arith) more w.in-None.is;
       })
     ]

@@ -14,8 +14,8 @@ invariant-loop-k g l = record {
   next : l.search.next ≤ l.met;
   count : l.search.count ≡ l.fn.search.count;
   left : (more : List ℕ)
-      → pairs_after (g.D.BidiData.data l.tables).bracket l.fn.search.progress l.fn.met
+      → pairs_after (g.D.BidiData.data l.tables) l.fn.search.progress l.fn.met
       (chars_at l.body (level_indexes l.level l.first (drop l.first l.kept) ++ more)) (drop l.fn.met l.types)
-      ≡ pairs_after (g.D.BidiData.data l.tables).bracket l.search.progress l.met
+      ≡ pairs_after (g.D.BidiData.data l.tables) l.search.progress l.met
       (chars_at l.body (level_indexes l.level l.k (drop l.k l.kept) ++ more)) (drop l.met l.types);
 }

@@ -9,7 +9,7 @@ abbrev pub invariant-loop-first : goal.invariant-loop-first
 invariant-loop-first g l = record {
   next : l.search.next ≤ l.met;
   count : l.search.count ≡ l.fn.search.count;
-  left : pairs_after (g.D.BidiData.data l.tables).bracket l.fn.search.progress 0 (chars_at l.body (indexes_from l.level l.kept l.firsts)) l.types
-      ≡ pairs_after (g.D.BidiData.data l.tables).bracket l.search.progress l.met
+  left : pairs_after (g.D.BidiData.data l.tables) l.fn.search.progress 0 (chars_at l.body (indexes_from l.level l.kept l.firsts)) l.types
+      ≡ pairs_after (g.D.BidiData.data l.tables) l.search.progress l.met
       (chars_at l.body (indexes_from l.level l.kept (drop l.first-index l.firsts))) (drop l.met l.types);
 }

@@ -10,6 +10,6 @@ invariant-loop-index g l = record {
   text : shadow (Utf8 l.rest);
   next : l.search.next ≤ l.index;
   count : l.search.count ≡ l.fn.search.count;
-  left : pairs_after (g.D.BidiData.data l.tables).bracket l.fn.search.progress 0 (chars l.text) l.types
-      ≡ pairs_after (g.D.BidiData.data l.tables).bracket l.search.progress l.index (chars l.rest) (drop l.index l.types);
+  left : pairs_after (g.D.BidiData.data l.tables) l.fn.search.progress 0 (chars l.text) l.types
+      ≡ pairs_after (g.D.BidiData.data l.tables) l.search.progress l.index (chars l.rest) (drop l.index l.types);
 }

@@ -8,21 +8,21 @@ use Rattle.bx_resolve.proofs.by_rules.levels_by_rules.Goals as goal
 
 pub loop-sequence-preserved : goal.loop-sequence-preserved
 loop-sequence-preserved g c =
-    let bracket : ℕ → Option (Side × ℕ) = (g.D.BidiData.data c.args.tables.now).bracket in
+    let says = g.D.BidiData.data c.args.tables.now in
     let chars : List ℕ = c.in_ok-chars.chars.items in
     let kept : List (Option Kept) = c.in_ok-explicit.explicit.kept.items in
     let ss : List RunSequence = c.deref-sequence-items.result.now in
     let i : ℕ = c.loop-sequence.sequence-index in
     let s : RunSequence = c.sequence-item.result in
     let each : List (Option ℕ) = c.loop-sequence.each.items in
-    let levels : c.deref-in-loop-sequence-3.result.now ≡ levels_in bracket chars kept s = c.deref-in-loop-sequence-3.ensures.value ∙ c.in_ok-levels.ensures.levels
-    ∙ ap (λ cs. levels_in bracket cs c.deref-in-loop-sequence-2.result.now s) c.deref-in-loop-sequence.ensures.value
-    ∙ ap (λ k. levels_in bracket chars k s) c.deref-in-loop-sequence-2.ensures.value in
-    let new : c.write_levels.new.each.items ≡ with_levels s.indexes (levels_in bracket chars kept s) each = c.write_levels.ensures
+    let levels : c.deref-in-loop-sequence-3.result.now ≡ levels_in says chars kept s = c.deref-in-loop-sequence-3.ensures.value ∙ c.in_ok-levels.ensures.levels
+    ∙ ap (λ cs. levels_in says cs c.deref-in-loop-sequence-2.result.now s) c.deref-in-loop-sequence.ensures.value
+    ∙ ap (λ k. levels_in says chars k s) c.deref-in-loop-sequence-2.ensures.value in
+    let new : c.write_levels.new.each.items ≡ with_levels s.indexes (levels_in says chars kept s) each = c.write_levels.ensures
     ∙ ap (λ ps. with_levels ps c.deref-in-loop-sequence-3.result.now each) c.indexes.ensures ∙ ap (λ ls. with_levels s.indexes ls each) levels in
     record {
-      as_long = ap length new ∙ levels_length s.indexes (levels_in bracket chars kept s) each ∙ c.loop-sequence.invariant.as_long;
-      written = c.loop-sequence.invariant.written ∙ sequences_more bracket chars kept ss each i s (omega arith)
-          ∙ ap (λ (x : RunSequence). with_sequences bracket chars kept (drop (i + 1) ss) (with_levels x.indexes (levels_in bracket chars kept x) each))
-          (sym c.sequence-item.is) ∙ ap (with_sequences bracket chars kept (drop (i + 1) ss)) (sym new);
+      as_long = ap length new ∙ levels_length s.indexes (levels_in says chars kept s) each ∙ c.loop-sequence.invariant.as_long;
+      written = c.loop-sequence.invariant.written ∙ sequences_more says chars kept ss each i s (omega arith)
+          ∙ ap (λ (x : RunSequence). with_sequences says chars kept (drop (i + 1) ss) (with_levels x.indexes (levels_in says chars kept x) each))
+          (sym c.sequence-item.is) ∙ ap (with_sequences says chars kept (drop (i + 1) ss)) (sym new);
     }

@@ -6,6 +6,6 @@ use Rattle.bx_resolve.proofs.by_rules.levels_by_rules.Given as goal
 abbrev pub invariant-loop-sequence : goal.invariant-loop-sequence
 invariant-loop-sequence g l = record {
   as_long : length l.each.items ≡ length l.chars.items;
-  written : with_sequences (g.D.BidiData.data l.tables).bracket l.chars.items l.explicit.kept.items l.sequence-items (replicate (length l.chars.items) None)
-      ≡ with_sequences (g.D.BidiData.data l.tables).bracket l.chars.items l.explicit.kept.items (drop l.sequence-index l.sequence-items) l.each.items;
+  written : with_sequences (g.D.BidiData.data l.tables) l.chars.items l.explicit.kept.items l.sequence-items (replicate (length l.chars.items) None)
+      ≡ with_sequences (g.D.BidiData.data l.tables) l.chars.items l.explicit.kept.items (drop l.sequence-index l.sequence-items) l.each.items;
 }

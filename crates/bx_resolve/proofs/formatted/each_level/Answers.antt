@@ -16,22 +16,22 @@ write_lent-requires-clause-small g c =
 
 pub loop-walk-preserved : goal.loop-walk-preserved
 loop-walk-preserved g c =
-    let bracket : ℕ → Option (Side × ℕ) = (g.D.BidiData.data c.args.tables.now).bracket in
+    let says = g.D.BidiData.data c.args.tables.now in
     let text : List ℕ = chars c.args.body.now in
     let kept : List (Option Kept) = c.args.explicit.now.kept.items in
     let s : RunSequence = c.advance.new.self.current in
     let rest : List RunSequence = c.advance.new.self.left in
     let each : List (Option ℕ) = c.loop-walk.each.items in
     let next : c.loop-walk.walk.left ≡ s ∷ rest = c.in_ok-advance.ensures.next c.if-branch.true in
-    let here : c.write_lent.new.each.items ≡ with_levels s.indexes (levels_in bracket text kept s) each =
+    let here : c.write_lent.new.each.items ≡ with_levels s.indexes (levels_in says text kept s) each =
     c.in_ok-write_lent.ensures.written
-    ∙ ap (λ cs. with_levels s.indexes (levels_in bracket cs c.deref.result.now s) each) c.loop-walk.invariant.text
-    ∙ ap (λ ks. with_levels s.indexes (levels_in bracket text ks s) each) c.deref.ensures.value in
+    ∙ ap (λ cs. with_levels s.indexes (levels_in says cs c.deref.result.now s) each) c.loop-walk.invariant.text
+    ∙ ap (λ ks. with_levels s.indexes (levels_in says text ks s) each) c.deref.ensures.value in
     record {
       own = search rules;
       text = search rules;
-      all = ap length here ∙ levels_length s.indexes (levels_in bracket text kept s) each ∙ c.loop-walk.invariant.all;
+      all = ap length here ∙ levels_length s.indexes (levels_in says text kept s) each ∙ c.loop-walk.invariant.all;
       few = others_are_few (length kept) c.loop-walk.walk.left rest s c.loop-walk.invariant.few next;
-      written = c.loop-walk.invariant.written ∙ ap (λ ss. with_sequences bracket text kept ss each) next
-          ∙ ap (with_sequences bracket text kept rest) (sym here);
+      written = c.loop-walk.invariant.written ∙ ap (λ ss. with_sequences says text kept ss each) next
+          ∙ ap (with_sequences says text kept rest) (sym here);
     }

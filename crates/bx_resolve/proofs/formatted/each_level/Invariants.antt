@@ -11,9 +11,9 @@ invariant-loop-walk g l = record {
   text : l.room.body ≡ chars l.body;
   all : length l.each.items ≡ length (chars l.body);
   few : All (λ (s : RunSequence). length s.indexes ≤ length l.explicit.kept.items) l.walk.left;
-  written : with_sequences (g.D.BidiData.data l.tables).bracket (chars l.body) l.explicit.kept.items
+  written : with_sequences (g.D.BidiData.data l.tables) (chars l.body) l.explicit.kept.items
       (sequences l.explicit.level l.explicit.classes.items l.explicit.kept.items) (replicate (length (chars l.body)) None)
-      ≡ with_sequences (g.D.BidiData.data l.tables).bracket (chars l.body) l.explicit.kept.items l.walk.left l.each.items;
+      ≡ with_sequences (g.D.BidiData.data l.tables) (chars l.body) l.explicit.kept.items l.walk.left l.each.items;
 }
 
 abbrev pub decreases-loop-walk : goal.decreases-loop-walk

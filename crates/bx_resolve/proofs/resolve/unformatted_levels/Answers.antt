@@ -10,21 +10,21 @@ use Rattle.bx_resolve.proofs.resolve.unformatted_levels.Goals as goal
 
 pub resolve_brackets_of-requires-clause-small : goal.resolve_brackets_of-requires-clause-small
 resolve_brackets_of-requires-clause-small g c =
-    let class : ℕ → Class = (g.D.BidiData.data c.args.tables.now).class in
+    let says = g.D.BidiData.data c.args.tables.now in
     let same : length c.resolve_weak.new.types ≡ length c.args.classes.now =
     ap length c.in_ok-resolve_weak.ensures.types ∙ weak_length c.direction-side.result c.args.classes.now in
-    let count : length c.args.classes.now ≡ length (chars c.args.body.now) = ap length c.requires.classes ∙ length-map (chars c.args.body.now) class in
+    let count : length c.args.classes.now ≡ length (chars c.args.body.now) = ap length c.requires.classes ∙ length-map (chars c.args.body.now) says.class in
     omega (arith, same, count, few_chars c.args.body.now c.utf8.body, c.requires.small)
 
 pub returns-clause-each : goal.returns-clause-each
 returns-clause-each g c =
-    let bracket : ℕ → Option (Side × ℕ) = (g.D.BidiData.data c.args.tables.now).bracket in
+    let says = g.D.BidiData.data c.args.tables.now in
     let text : List ℕ = chars c.args.body.now in
     let ts : List Class = c.args.classes.now in
     let side : Class = c.direction-side.result in
-    let types : c.resolve_neutral.new.types ≡ sequence_types bracket c.args.paragraph side side text ts =
-    types_from bracket c.args.paragraph side side text ts c.resolve_weak.new.types c.resolve_brackets_of.new.types c.resolve_neutral.new.types
+    let types : c.resolve_neutral.new.types ≡ sequence_types says c.args.paragraph side side text ts =
+    types_from says c.args.paragraph side side text ts c.resolve_weak.new.types c.resolve_brackets_of.new.types c.resolve_neutral.new.types
     c.resolve_weak.new.self.marks.items c.in_ok-resolve_weak.ensures.types c.in_ok-resolve_weak.ensures.marks c.in_ok-resolve_brackets_of.ensures
     c.resolve_neutral.ensures in
-    found_from (g.D.BidiData.data c.args.tables.now).class bracket c.args.paragraph text ts c.resolve_neutral.new.types side c.in_ok-each.each.items
+    found_from says c.args.paragraph text ts c.resolve_neutral.new.types side c.in_ok-each.each.items
     c.requires.classes c.requires.unformatted c.direction-side.ensures types c.in_ok-each.ensures

@@ -5,5 +5,5 @@ use Rattle.bx_rows.proofs.mirrors.fixed_text.Goals as goal
 
 pub returns-clause-face : goal.returns-clause-face
 returns-clause-face g c =
-    single-face (g.D.BidiData.data c.args.tables.now).class c.args.w c.letter.result.now c.args.c c.letter.utf8
+    single-face (g.D.BidiData.data c.args.tables.now) c.args.w c.letter.result.now c.args.c c.letter.utf8
     (c.letter.ensures ∙ sym (encode_ascii c.args.c (omega arith))) (c.if-not-is_plain.ensures.begin refl) (c.if-not-is_plain.ensures.face refl)

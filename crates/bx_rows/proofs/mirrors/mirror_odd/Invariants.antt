@@ -8,6 +8,6 @@ abbrev pub invariant-loop-i : goal.invariant-loop-i
 invariant-loop-i g l = record {
   count : length l.glyphs ≡ length l.initial.glyphs;
   same :
-      map glyph_of l.glyphs ≡ leveled (g.D.BidiData.data l.tables).class (g.D.BidiData.data l.tables).mirror l.w (map glyph_of l.initial.glyphs)
+      map glyph_of l.glyphs ≡ leveled (g.D.BidiData.data l.tables) l.w (map glyph_of l.initial.glyphs)
       (take l.i l.levels);
 }

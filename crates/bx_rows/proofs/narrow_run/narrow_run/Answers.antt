@@ -13,7 +13,7 @@ less-if (suc n) (suc m) h d =
 
 pub chars-init : goal.chars-init
 chars-init g c =
-    let class = (g.D.BidiData.data c.args.tables.now).class in
+    let says = g.D.BidiData.data c.args.tables.now in
     let body = c.args.body.now in
     let first = sym c.range_from.ensures.value ∙ c.in-Some.ensures.0 in
     let shorter = c.in-Some.ensures.1 in
@@ -24,7 +24,7 @@ chars-init g c =
     let not_all = c.if-run-most.false in
     record {
       text = IsUtf8-past_char (drop at body) _ c.in-Some.c (IsUtf8-drop body at c.utf8.body bounds.boundary) first;
-      cluster = open-narrow class body at c.in-Some.c c.is_blank-is_break.result _ first
+      cluster = open-narrow says body at c.in-Some.c c.is_blank-is_break.result _ first
           (c.in-Begins.ensures.0, c.in-Begins.ensures.1 ∙ c.if-columns-ne1.false) (c.is_blank-is_break.ensures ∙ ap is_blank c.class.ensures);
       within = omega (arith, shorter, whole, length-drop at body);
       most = less-if c.ascii_run-run.result.count c.args.most few not_all;
@@ -40,7 +40,7 @@ returns-then-columns-ne1-2-clause-bounds g c =
     let within = i.within in
     let stop = length body - length rest in
     let e : stop + length rest ≡ length body = omega arith in
-    (longer-next (g.D.BidiData.data c.args.tables.now).class body c.args.at c.chars.run c.grown.result c.chars.is_break rest _ stop c.in-Some-first_char.c
+    (longer-next (g.D.BidiData.data c.args.tables.now) body c.args.at c.chars.run c.grown.result c.chars.is_break rest _ stop c.in-Some-first_char.c
     c.utf8.body i.bounds i.units i.cluster e c.in-Some-first_char.ensures.0 c.in-Begins-simple_kind.ensures.0 c.grown.ensures).bounds
 
 pub returns-then-columns-ne1-2-clause-units : goal.returns-then-columns-ne1-2-clause-units
@@ -51,7 +51,7 @@ returns-then-columns-ne1-2-clause-units g c =
     let within = i.within in
     let stop = length body - length rest in
     let e : stop + length rest ≡ length body = omega arith in
-    (longer-next (g.D.BidiData.data c.args.tables.now).class body c.args.at c.chars.run c.grown.result c.chars.is_break rest _ stop c.in-Some-first_char.c
+    (longer-next (g.D.BidiData.data c.args.tables.now) body c.args.at c.chars.run c.grown.result c.chars.is_break rest _ stop c.in-Some-first_char.c
     c.utf8.body i.bounds i.units i.cluster e c.in-Some-first_char.ensures.0 c.in-Begins-simple_kind.ensures.0 c.grown.ensures).units
 
 pub returns-then-run-most-2-clause-bounds : goal.returns-then-run-most-2-clause-bounds
@@ -62,7 +62,7 @@ returns-then-run-most-2-clause-bounds g c =
     let within = i.within in
     let stop = length body - length rest in
     let e : stop + length rest ≡ length body = omega arith in
-    (longer-next (g.D.BidiData.data c.args.tables.now).class body c.args.at c.chars.run c.grown-run.result c.chars.is_break rest _ stop
+    (longer-next (g.D.BidiData.data c.args.tables.now) body c.args.at c.chars.run c.grown-run.result c.chars.is_break rest _ stop
     c.in-Some-first_char.c c.utf8.body i.bounds i.units i.cluster e c.in-Some-first_char.ensures.0 c.in-Begins-simple_kind.ensures.0
     c.grown-run.ensures).bounds
 
@@ -74,13 +74,13 @@ returns-then-run-most-2-clause-units g c =
     let within = i.within in
     let stop = length body - length rest in
     let e : stop + length rest ≡ length body = omega arith in
-    (longer-next (g.D.BidiData.data c.args.tables.now).class body c.args.at c.chars.run c.grown-run.result c.chars.is_break rest _ stop
+    (longer-next (g.D.BidiData.data c.args.tables.now) body c.args.at c.chars.run c.grown-run.result c.chars.is_break rest _ stop
     c.in-Some-first_char.c c.utf8.body i.bounds i.units i.cluster e c.in-Some-first_char.ensures.0 c.in-Begins-simple_kind.ensures.0
     c.grown-run.ensures).units
 
 pub chars-preserved-else-run-most-2 : goal.chars-preserved-else-run-most-2
 chars-preserved-else-run-most-2 g c =
-    let class = (g.D.BidiData.data c.args.tables.now).class in
+    let says = g.D.BidiData.data c.args.tables.now in
     let body = c.args.body.now in
     let rest = c.chars.rest.now in
     let i = c.chars.invariant in
@@ -89,11 +89,11 @@ chars-preserved-else-run-most-2 g c =
     let within = i.within in
     let stop = length body - length rest in
     let e : stop + length rest ≡ length body = omega arith in
-    let longer = longer-next class body c.args.at c.chars.run c.grown-run.result c.chars.is_break rest _ stop c.in-Some-first_char.c c.utf8.body i.bounds
+    let longer = longer-next says body c.args.at c.chars.run c.grown-run.result c.chars.is_break rest _ stop c.in-Some-first_char.c c.utf8.body i.bounds
     i.units i.cluster e next.0 c.in-Begins-simple_kind.ensures.0 c.grown-run.ensures in
     record {
       text = IsUtf8-past_char rest _ c.in-Some-first_char.c i.text next.0;
-      cluster = open-behind class body c.chars.run c.grown-run.result c.chars.is_break c.is_blank-is_break-in-Begins-simple_kind.result rest _ stop
+      cluster = open-behind says body c.chars.run c.grown-run.result c.chars.is_break c.is_blank-is_break-in-Begins-simple_kind.result rest _ stop
           c.in-Some-first_char.c c.utf8.body i.bounds.boundary i.cluster e next.0
           (c.in-Begins-simple_kind.ensures.0, c.in-Begins-simple_kind.ensures.1 ∙ c.if-columns-ne1-2.false)
           (c.is_blank-is_break-in-Begins-simple_kind.ensures ∙ ap is_blank c.class-in-Begins-simple_kind.ensures) c.grown-run.ensures;
@@ -111,7 +111,7 @@ chars-preserved g c =
     let within = i.within in
     record {
       text = IsUtf8-past_char c.chars.rest.now _ c.in-Some-first_char.c i.text next.0;
-      cluster = mark-narrow (g.D.BidiData.data c.args.tables.now).class c.args.body.now c.chars.run.stop c.in-Some-first_char.c c.chars.is_break
+      cluster = mark-narrow (g.D.BidiData.data c.args.tables.now) c.args.body.now c.chars.run.stop c.in-Some-first_char.c c.chars.is_break
           c.chars.rest.now _ i.cluster next.0 c.in-Mark.ensures;
       within = omega arith;
       most = i.most;
@@ -122,11 +122,11 @@ chars-preserved g c =
 pub returns-clause-bounds : goal.returns-clause-bounds
 returns-clause-bounds g c =
     let i = c.chars.invariant in
-    (longer-last (g.D.BidiData.data c.args.tables.now).class c.args.body.now c.args.at c.chars.run c.grown-2.result c.chars.is_break c.chars.rest.now
+    (longer-last (g.D.BidiData.data c.args.tables.now) c.args.body.now c.args.at c.chars.run c.grown-2.result c.chars.is_break c.chars.rest.now
     c.utf8.body i.bounds i.units i.cluster c.in_default-first_char.ensures c.grown-2.ensures).bounds
 
 pub returns-clause-units : goal.returns-clause-units
 returns-clause-units g c =
     let i = c.chars.invariant in
-    (longer-last (g.D.BidiData.data c.args.tables.now).class c.args.body.now c.args.at c.chars.run c.grown-2.result c.chars.is_break c.chars.rest.now
+    (longer-last (g.D.BidiData.data c.args.tables.now) c.args.body.now c.args.at c.chars.run c.grown-2.result c.chars.is_break c.chars.rest.now
     c.utf8.body i.bounds i.units i.cluster c.in_default-first_char.ensures c.grown-2.ensures).units

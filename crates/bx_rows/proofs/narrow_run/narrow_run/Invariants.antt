@@ -9,11 +9,11 @@ use Rattle.bx_rows.proofs.narrow_run.narrow_run.Given as goal
 abbrev pub invariant-chars : goal.invariant-chars
 invariant-chars g l = record {
   text : shadow (Utf8 l.rest);
-  cluster : HasOpen (g.D.BidiData.data l.tables).class l.body l.run.stop l.is_break l.rest;
+  cluster : HasOpen (g.D.BidiData.data l.tables) l.body l.run.stop l.is_break l.rest;
   within : length l.rest ≤ length l.body;
   most : l.run.count < l.most;
   bounds : IsRunIn l.body l.at l.run;
-  units : (w : ℕ) → IsNarrowRun (g.D.BidiData.data l.tables).class w l.body l.at l.run;
+  units : (w : ℕ) → IsNarrowRun (g.D.BidiData.data l.tables) w l.body l.at l.run;
 }
 
 abbrev pub decreases-chars : goal.decreases-chars

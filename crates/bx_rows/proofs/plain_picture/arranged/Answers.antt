@@ -9,15 +9,14 @@ pub returns-clause-order : goal.returns-clause-order
 returns-clause-order g c = λ cs e.
     let row = c.args.row in
     let ordered = c.reorder.ensures in
-    let class = (g.D.BidiData.data c.args.tables.now).class in
-    let mirror = (g.D.BidiData.data c.args.tables.now).mirror in
+    let says = g.D.BidiData.data c.args.tables.now in
     let len = c.deref_mut.ensures.len in
     let len' = c.deref_mut-2.ensures.len in
     let first = written row.glyphs.len c.mirror_odd.new.glyphs row.glyphs.items (c.in_ok-mirror_odd.ensures.count ∙ len) in
     ap (map glyph_of) (written row.glyphs.len c.reorder.new.items _ (ordered.count ∙ len'))
-    ∙ arranged-are class mirror c.args.w cs row.levels.items c.deref_mut-2.result.now c.reorder.new.items
+    ∙ arranged-are says c.args.w cs row.levels.items c.deref_mut-2.result.now c.reorder.new.items
     (len' ∙ sym len ∙ ap length c.deref_mut.ensures.value ∙ sym c.requires) ordered.count
     (ap (map glyph_of) (c.deref_mut-2.ensures.value ∙ first)
     ∙ c.in_ok-mirror_odd.ensures.mirrored cs (ap (map glyph_of) c.deref_mut.ensures.value ∙ e)
-    ∙ ap (leveled_glyphs class mirror c.args.w cs) c.deref.ensures.value)
+    ∙ ap (leveled_glyphs says c.args.w cs) c.deref.ensures.value)
     (λ d. ordered.order d ∙ ap (λ ls. map (λ k. get_or c.deref_mut-2.result.now k d) (visual ls)) c.deref-2.ensures.value)

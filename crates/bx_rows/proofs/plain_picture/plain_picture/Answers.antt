@@ -9,21 +9,21 @@ use Rattle.bx_rows.proofs.plain_picture.plain_picture.Goals as goal
 
 pub most_units-count-requires : goal.most_units-count-requires
 most_units-count-requires g c =
-    (part-at (g.D.BidiData.data c.args.tables.now).class c.args.w c.args.body.now c.args.starts.now c.args.number _ c.start_of.result c.utf8.body
+    (part-at (g.D.BidiData.data c.args.tables.now) c.args.w c.args.body.now c.args.starts.now c.args.number _ c.start_of.result c.utf8.body
     c.requires.starts c.requires.number c.start_of.ensures).order
 
 pub plain_row-requires : goal.plain_row-requires
 plain_row-requires g c =
-    (part-at (g.D.BidiData.data c.args.tables.now).class c.args.w c.args.body.now c.args.starts.now c.args.number _ c.start_of.result c.utf8.body
+    (part-at (g.D.BidiData.data c.args.tables.now) c.args.w c.args.body.now c.args.starts.now c.args.number _ c.start_of.result c.utf8.body
     c.requires.starts c.requires.number c.start_of.ensures).boundary
 
 pub overflow_sub-blanks : goal.overflow_sub-blanks
 overflow_sub-blanks g c =
-    let class = (g.D.BidiData.data c.args.tables.now).class in
+    let says = g.D.BidiData.data c.args.tables.now in
     let body = c.args.body.now in
-    let part = part-at class c.args.w body c.args.starts.now c.args.number _ c.start_of.result c.utf8.body c.requires.starts c.requires.number
+    let part = part-at says c.args.w body c.args.starts.now c.args.number _ c.start_of.result c.utf8.body c.requires.starts c.requires.number
     c.start_of.ensures in
-    let within = single-fits class c.args.w body c.args.number c.most_units-count.result _ c.start_of.result _ c.utf8.body part c.most_units-count.ensures
+    let within = single-fits says c.args.w body c.args.number c.most_units-count.result _ c.start_of.result _ c.utf8.body part c.most_units-count.ensures
     c.in-Some.row.glyphs.items (if_some _ _ c.in-Some.row c.in-Some.is c.in_ok-row.ensures.units) in
     let counted = c.in_ok-glyphs.ensures.count in
     omega (arith, within, counted, c.len.ensures, c.in_ok-glyphs.glyphs.ok.0)
@@ -33,14 +33,14 @@ overflow_cast-blanks g c = let within = overflow_sub-blanks g c in omega (arith,
 
 pub returns-clause-picture : goal.returns-clause-picture
 returns-clause-picture g c =
-    let class = (g.D.BidiData.data c.args.tables.now).class in
+    let says = g.D.BidiData.data c.args.tables.now in
     let body = c.args.body.now in
-    let part = part-at class c.args.w body c.args.starts.now c.args.number _ c.start_of.result c.utf8.body c.requires.starts c.requires.number
+    let part = part-at says c.args.w body c.args.starts.now c.args.number _ c.start_of.result c.utf8.body c.requires.starts c.requires.number
     c.start_of.ensures in
-    let here = units_of_row class c.args.w body c.args.number in
-    let told = taken class c.args.w body c.args.number c.most_units-count.result _ c.start_of.result _ c.utf8.body part c.most_units-count.ensures in
-    drawn-single class c.args.w body c.args.number c.most_units-count.result _ c.start_of.result _ c.utf8.body part c.most_units-count.ensures
-    (g.D.BidiData.data c.args.tables.now).mirror c.args.levels.now.paragraph _ c.args.levels.now.each.items c.in-Some.row.glyphs.items _ _
+    let here = units_of_row says c.args.w body c.args.number in
+    let told = taken says c.args.w body c.args.number c.most_units-count.result _ c.start_of.result _ c.utf8.body part c.most_units-count.ensures in
+    drawn-single says c.args.w body c.args.number c.most_units-count.result _ c.start_of.result _ c.utf8.body part c.most_units-count.ensures
+    c.args.levels.now.paragraph _ c.args.levels.now.each.items c.in-Some.row.glyphs.items _ _
     c.in-Some.row.levels.items (if_some _ _ c.in-Some.row c.in-Some.is c.in_ok-row.ensures.units)
     (if_some _ _ c.in-Some.row c.in-Some.is c.in_ok-row.ensures.count)
     (if_some _ _ c.in-Some.row c.in-Some.is c.in_ok-row.ensures.levels here (sym told) part.chars)
@@ -49,35 +49,35 @@ returns-clause-picture g c =
 
 pub returns-clause-glyphs : goal.returns-clause-glyphs
 returns-clause-glyphs g c k d l =
-    let class = (g.D.BidiData.data c.args.tables.now).class in
+    let says = g.D.BidiData.data c.args.tables.now in
     let body = c.args.body.now in
-    let part = part-at class c.args.w body c.args.starts.now c.args.number _ c.start_of.result c.utf8.body c.requires.starts c.requires.number
+    let part = part-at says c.args.w body c.args.starts.now c.args.number _ c.start_of.result c.utf8.body c.requires.starts c.requires.number
     c.start_of.ensures in
-    let here = units_of_row class c.args.w body c.args.number in
-    (one_if_drawn class (g.D.BidiData.data c.args.tables.now).mirror c.args.w body c.args.levels.now.paragraph here
-    (row_levels class body c.args.levels.now.paragraph c.args.levels.now.each.items here) _ (returns-clause-picture g c)
-    (faces class c.args.w body c.args.number c.most_units-count.result _ c.start_of.result _ c.utf8.body part c.most_units-count.ensures) k d l).0
+    let here = units_of_row says c.args.w body c.args.number in
+    (one_if_drawn says c.args.w body c.args.levels.now.paragraph here
+    (row_levels says body c.args.levels.now.paragraph c.args.levels.now.each.items here) _ (returns-clause-picture g c)
+    (faces says c.args.w body c.args.number c.most_units-count.result _ c.start_of.result _ c.utf8.body part c.most_units-count.ensures) k d l).0
 
 pub returns-clause-widths : goal.returns-clause-widths
 returns-clause-widths g c k d l =
-    let class = (g.D.BidiData.data c.args.tables.now).class in
+    let says = g.D.BidiData.data c.args.tables.now in
     let body = c.args.body.now in
-    let part = part-at class c.args.w body c.args.starts.now c.args.number _ c.start_of.result c.utf8.body c.requires.starts c.requires.number
+    let part = part-at says c.args.w body c.args.starts.now c.args.number _ c.start_of.result c.utf8.body c.requires.starts c.requires.number
     c.start_of.ensures in
-    let here = units_of_row class c.args.w body c.args.number in
-    (one_if_drawn class (g.D.BidiData.data c.args.tables.now).mirror c.args.w body c.args.levels.now.paragraph here
-    (row_levels class body c.args.levels.now.paragraph c.args.levels.now.each.items here) _ (returns-clause-picture g c)
-    (faces class c.args.w body c.args.number c.most_units-count.result _ c.start_of.result _ c.utf8.body part c.most_units-count.ensures) k d l).1
+    let here = units_of_row says c.args.w body c.args.number in
+    (one_if_drawn says c.args.w body c.args.levels.now.paragraph here
+    (row_levels says body c.args.levels.now.paragraph c.args.levels.now.each.items here) _ (returns-clause-picture g c)
+    (faces says c.args.w body c.args.number c.most_units-count.result _ c.start_of.result _ c.utf8.body part c.most_units-count.ensures) k d l).1
 
 pub returns-clause-columns : goal.returns-clause-columns
 returns-clause-columns g c =
-    let class = (g.D.BidiData.data c.args.tables.now).class in
+    let says = g.D.BidiData.data c.args.tables.now in
     let body = c.args.body.now in
-    let part = part-at class c.args.w body c.args.starts.now c.args.number _ c.start_of.result c.utf8.body c.requires.starts c.requires.number
+    let part = part-at says c.args.w body c.args.starts.now c.args.number _ c.start_of.result c.utf8.body c.requires.starts c.requires.number
     c.start_of.ensures in
-    let here = units_of_row class c.args.w body c.args.number in
-    let each = row_levels class body c.args.levels.now.paragraph c.args.levels.now.each.items here in
-    sum_if_drawn class (g.D.BidiData.data c.args.tables.now).mirror c.args.w body c.args.levels.now.paragraph here each _ (returns-clause-picture g c)
-    (faces class c.args.w body c.args.number c.most_units-count.result _ c.start_of.result _ c.utf8.body part c.most_units-count.ensures)
-    (one_each class body c.args.levels.now.paragraph c.args.levels.now.each.items here each refl)
-    (fits class c.args.w body c.args.number c.most_units-count.result _ c.start_of.result _ c.utf8.body part c.most_units-count.ensures)
+    let here = units_of_row says c.args.w body c.args.number in
+    let each = row_levels says body c.args.levels.now.paragraph c.args.levels.now.each.items here in
+    sum_if_drawn says c.args.w body c.args.levels.now.paragraph here each _ (returns-clause-picture g c)
+    (faces says c.args.w body c.args.number c.most_units-count.result _ c.start_of.result _ c.utf8.body part c.most_units-count.ensures)
+    (one_each says body c.args.levels.now.paragraph c.args.levels.now.each.items here each refl)
+    (fits says c.args.w body c.args.number c.most_units-count.result _ c.start_of.result _ c.utf8.body part c.most_units-count.ensures)

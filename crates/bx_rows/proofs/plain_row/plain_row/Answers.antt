@@ -16,7 +16,7 @@ chars-preserved g c =
     record {
       text = IsUtf8-past_char c.chars.rest.now c.in-Some.behind.now c.in-Some.c i.text e;
       few = omega (arith, less, counted, pushed-length c.chars.glyphs.items c.push.new.self.items _ pushed);
-      read = read-more (g.D.BidiData.data c.args.tables.now).class c.args.w c.args.levels.now.paragraph c.args.body.now c.args.start.offset
+      read = read-more (g.D.BidiData.data c.args.tables.now) c.args.w c.args.levels.now.paragraph c.args.body.now c.args.start.offset
           (drop c.args.start.chars c.args.levels.now.each.items) c.chars.glyphs.items c.push.new.self.items c.chars.found.items c.read_only.new.found.items
           c.chars.waiting c.in_ok-waiting.waiting c.chars.left.now c.first_level-level.result.1.now c.chars.rest.now c.in-Some.behind.now c.in-Some.c
           c.in-Some-level.level _ c.first_level-level.result.0 i.read e c.in-Some-plain_class.ensures.begin c.in-Some-plain_class.ensures.face pushed
@@ -33,7 +33,7 @@ returns-clause-units g c =
       cs = i.read.cs;
       rest = c.chars.rest.now;
       bytes = i.read.bytes;
-      units = units-single (g.D.BidiData.data c.args.tables.now).class c.args.w c.args.levels.now.paragraph c.args.body.now c.args.start.offset c.args.count
+      units = units-single (g.D.BidiData.data c.args.tables.now) c.args.w c.args.levels.now.paragraph c.args.body.now c.args.start.offset c.args.count
           (drop c.args.start.chars c.args.levels.now.each.items) c.chars.glyphs.items c.chars.found.items c.chars.waiting c.chars.left.now c.chars.rest.now
           c.utf8.body c.requires i.read (c.if-not-is_cluster_end.ensures refl) i.few
           (elim c.chars-test.branch [
@@ -47,6 +47,6 @@ pub returns-clause-levels : goal.returns-clause-levels
 unfolding returns-clause-units
 returns-clause-levels g c = λ us own before.
     let i = c.chars.invariant in
-    levels-are (g.D.BidiData.data c.args.tables.now).class c.args.w c.args.levels.now.paragraph c.args.body.now c.args.start.offset c.args.count
+    levels-are (g.D.BidiData.data c.args.tables.now) c.args.w c.args.levels.now.paragraph c.args.body.now c.args.start.offset c.args.count
     c.args.start.chars c.args.levels.now.each.items c.chars.glyphs.items c.chars.found.items c.settle.new.found.items c.chars.waiting c.chars.left.now
     c.chars.rest.now us c.utf8.body c.requires i.read (own ∙ (returns-clause-units g c).units) before c.settle.ensures.levels

@@ -9,7 +9,7 @@ abbrev pub invariant-chars : goal.invariant-chars
 invariant-chars g l = record {
   text : shadow (Utf8 l.rest);
   few : length l.glyphs.items ≤ l.count;
-  read : IsReadTo (g.D.BidiData.data l.tables).class l.w l.levels.paragraph l.body l.fn.start.offset (drop l.fn.start.chars l.levels.each.items) l.glyphs.items
+  read : IsReadTo (g.D.BidiData.data l.tables) l.w l.levels.paragraph l.body l.fn.start.offset (drop l.fn.start.chars l.levels.each.items) l.glyphs.items
       l.found.items l.waiting l.left l.rest;
 }
 

@@ -5,10 +5,10 @@ use Rattle.bx_rows.proofs.start_search.read_unit.Goals as goal
 
 pub returns-clause-read : goal.returns-clause-read
 returns-clause-read g c = λ read.
-    let class = (g.D.BidiData.data c.args.tables.now).class in
+    let says = g.D.BidiData.data c.args.tables.now in
     let body = c.args.body.now in
     let w = c.args.w in
     let x = c.extent-unit.ensures.unit in
-    let here = ap (units_from class w body) (sym c.extent-unit.ensures.start) ∙ x.extent.here in
-    c.in_ok-scan.ensures.takes class x.unit (units_from class w body c.extent-unit.result.stop) x.extent
-    (subst (λ r. IsRead class w body c.args.starts.now.items c.args.scan r) here read)
+    let here = ap (units_from says w body) (sym c.extent-unit.ensures.start) ∙ x.extent.here in
+    c.in_ok-scan.ensures.takes says x.unit (units_from says w body c.extent-unit.result.stop) x.extent
+    (subst (λ r. IsRead says w body c.args.starts.now.items c.args.scan r) here read)

@@ -18,20 +18,20 @@ pub returns-then-is_empty : goal.returns-then-is_empty
 returns-then-is_empty g c =
     c.in_ok-push.ensures.items
     ∙ ap (λ xs. xs ++ record { offset = 0; units = 0; chars = 0 } ∷ []) c.new-starts.ensures.items
-    ∙ sym (starts-of-none (g.D.BidiData.data c.args.tables.now).class c.args.w c.args.body.now (is_none (length c.args.body.now) c.if-is_empty.ensures))
+    ∙ sym (starts-of-none (g.D.BidiData.data c.args.tables.now) c.args.w c.args.body.now (is_none (length c.args.body.now) c.if-is_empty.ensures))
 
 pub loop-at-init : goal.loop-at-init
 loop-at-init g c =
-    let class = (g.D.BidiData.data c.args.tables.now).class in
+    let says = g.D.BidiData.data c.args.tables.now in
     let body = c.args.body.now in
     let w = c.args.w in
     record {
       in_turn = subst (λ s. IsInOrder w body s 0) (sym c.new_scan-scan.ensures) (in_turn-new w body c.utf8.body);
       boundary = IsCharBoundary-start body c.utf8.body;
-      read = subst (λ s. IsRead class w body c.new-starts.result.items s (units_from class w body 0)) (sym c.new_scan-scan.ensures)
-          (subst (λ xs. IsRead class w body xs (new_scan (record { offset = 0; units = 0; chars = 0 })) (units_from class w body 0))
+      read = subst (λ s. IsRead says w body c.new-starts.result.items s (units_from says w body 0)) (sym c.new_scan-scan.ensures)
+          (subst (λ xs. IsRead says w body xs (new_scan (record { offset = 0; units = 0; chars = 0 })) (units_from says w body 0))
           (sym c.new-starts.ensures.items)
-          (read-new class w body));
+          (read-new says w body));
     }
 
 pub loop-at-preserved : goal.loop-at-preserved
@@ -43,24 +43,24 @@ loop-at-preserved g c = record {
 
 pub returns-then-scan-eq0 : goal.returns-then-scan-eq0
 returns-then-scan-eq0 g c =
-    let class = (g.D.BidiData.data c.args.tables.now).class in
+    let says = g.D.BidiData.data c.args.tables.now in
     let body = c.args.body.now in
     let w = c.args.w in
     let starts = c.loop-at.starts.items in
     let i = c.loop-at.invariant in
-    let all = subst (λ r. IsRead class w body starts c.loop-at.scan r) (none-behind class w body c.loop-at.at c.loop-at-test.false) i.read in
+    let all = subst (λ r. IsRead says w body starts c.loop-at.scan r) (none-behind says w body c.loop-at.at c.loop-at-test.false) i.read in
     let none = c.if-scan-eq0.true in
-    starts-of-some class w body starts c.utf8.body (is_some (length body) c.if-is_empty.ensures)
-    (read-empty class w body starts c.loop-at.scan all (omega (arith, none)) (omega (arith, none)))
+    starts-of-some says w body starts c.utf8.body (is_some (length body) c.if-is_empty.ensures)
+    (read-empty says w body starts c.loop-at.scan all (omega (arith, none)) (omega (arith, none)))
 
 pub returns : goal.returns
 returns g c =
-    let class = (g.D.BidiData.data c.args.tables.now).class in
+    let says = g.D.BidiData.data c.args.tables.now in
     let body = c.args.body.now in
     let w = c.args.w in
     let starts = c.loop-at.starts.items in
     let i = c.loop-at.invariant in
-    let all = subst (λ r. IsRead class w body starts c.loop-at.scan r) (none-behind class w body c.loop-at.at c.loop-at-test.false) i.read in
-    starts-of-some class w body c.push-2.new.self.items c.utf8.body (is_some (length body) c.if-is_empty.ensures)
-    (read-last class w body starts c.loop-at.scan c.push-2.new.self.items all (some-if (c.loop-at.scan.last + c.loop-at.scan.count) c.if-scan-eq0.false)
+    let all = subst (λ r. IsRead says w body starts c.loop-at.scan r) (none-behind says w body c.loop-at.at c.loop-at-test.false) i.read in
+    starts-of-some says w body c.push-2.new.self.items c.utf8.body (is_some (length body) c.if-is_empty.ensures)
+    (read-last says w body starts c.loop-at.scan c.push-2.new.self.items all (some-if (c.loop-at.scan.last + c.loop-at.scan.count) c.if-scan-eq0.false)
     c.in_ok-push-2.ensures.items)

@@ -9,7 +9,7 @@ abbrev pub invariant-loop-at : goal.invariant-loop-at
 invariant-loop-at g l = record {
   in_turn : IsInOrder l.w l.body l.scan l.at;
   boundary : IsCharBoundary l.body l.at;
-  read : IsRead (g.D.BidiData.data l.tables).class l.w l.body l.starts.items l.scan (units_from (g.D.BidiData.data l.tables).class l.w l.body l.at);
+  read : IsRead (g.D.BidiData.data l.tables) l.w l.body l.starts.items l.scan (units_from (g.D.BidiData.data l.tables) l.w l.body l.at);
 }
 
 abbrev pub decreases-loop-at : goal.decreases-loop-at

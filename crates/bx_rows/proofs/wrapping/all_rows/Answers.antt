@@ -28,7 +28,7 @@ pub loop-start-preserved : goal.loop-start-preserved
 loop-start-preserved g c =
     let us = c.args.units.now in
     let i = c.loop-start.start in
-    let p = is_break (g.D.BidiData.data c.args.tables.now).class c.args.body.now in
+    let p = is_break (g.D.BidiData.data c.args.tables.now) c.args.body.now in
     let n = c.row_len-len.result in
     let left : n ≤ length (take (length us - i) (drop i us)) = c.row_len-len.ensures.within in
     let len : n ≡ row_len p c.args.w (drop i us) = c.row_len-len.ensures.row ∙ ap (row_len p c.args.w) (take_rest us i) in

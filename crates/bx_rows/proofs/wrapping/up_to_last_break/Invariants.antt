@@ -6,8 +6,8 @@ use Rattle.bx_rows.proofs.wrapping.up_to_last_break.Given as goal
 abbrev pub invariant-loop-n : goal.invariant-loop-n
 invariant-loop-n g l = record {
   within : l.n ≤ length l.units;
-  none : up_to_last (is_break (g.D.BidiData.data l.tables).class l.body) (take l.n l.units)
-      ≡ up_to_last (is_break (g.D.BidiData.data l.tables).class l.body) l.units;
+  none : up_to_last (is_break (g.D.BidiData.data l.tables) l.body) (take l.n l.units)
+      ≡ up_to_last (is_break (g.D.BidiData.data l.tables) l.body) l.units;
 }
 
 abbrev pub decreases-loop-n : goal.decreases-loop-n

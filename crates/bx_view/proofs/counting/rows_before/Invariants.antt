@@ -7,14 +7,13 @@ use Rattle.bx_view.proofs.counting.rows_before.Given as goal
 
 abbrev pub invariant-loop-done : goal.invariant-loop-done
 invariant-loop-done g l =
-    let class = (g.D.BidiData.data l.source.tables.now).class in
-    let bracket = (g.D.BidiData.data l.source.tables.now).bracket in
+    let says = g.D.BidiData.data l.source.tables.now in
     let text = bytes l.source in
     record {
-      paragraphs : l.walk.paragraphs ≡ lengths class text;
+      paragraphs : l.walk.paragraphs ≡ lengths says text;
       number : l.done < count l.source → l.walk.number ≡ l.done;
       within : l.done ≤ l.number;
-      ahead : l.ahead ≡ rows_ahead class bracket l.fn.base l.w text l.done;
+      ahead : l.ahead ≡ rows_ahead says l.fn.base l.w text l.done;
     }
 
 abbrev pub decreases-loop-done : goal.decreases-loop-done

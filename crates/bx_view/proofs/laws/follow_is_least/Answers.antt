@@ -3,4 +3,4 @@ use Rattle.bx_view.proofs.Told.{side-some}
 use Rattle.bx_view.proofs.laws.follow_is_least.Goals as goal
 
 pub returns : goal.returns
-returns c = λ class bracket base w text side utf8. text-moves-least class bracket base w text (side-some w side) utf8
+returns c = λ says base w text side utf8. text-moves-least says base w text (side-some w side) utf8

@@ -3,4 +3,4 @@ use Rattle.bx_view.proofs.Told.{side-some}
 use Rattle.bx_view.proofs.laws.places_have_cells.Goals as goal
 
 pub returns : goal.returns
-returns c = λ class bracket base w text side utf8. has-cells class bracket base w (side-some w side) text utf8
+returns c = λ says base w text side utf8. has-cells says base w (side-some w side) text utf8

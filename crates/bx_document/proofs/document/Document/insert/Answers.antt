@@ -8,7 +8,7 @@ pub place_after-requires-clause-range : goal.place_after-requires-clause-range
 place_after-requires-clause-range g c =
     let now = c.args.self.now in
     let utf8 = subst (λ s. IsUtf8 s.document.content.text) c.self.view_is c.len.ensures.utf8 in
-    let bounds = place-between (g.D.BidiData.data now.tables).class now.document.content.text c.args.place utf8 c.requires.text_place in
+    let bounds = place-between (g.D.BidiData.data now.tables) now.document.content.text c.args.place utf8 c.requires.text_place in
     record { start_bounds = bounds; stop_bounds = bounds; in_order = omega arith }
 
 pub invariant_of-self-2 : goal.invariant_of-self-2

@@ -9,12 +9,11 @@ use Rattle.std.proofs.Common.{refl}
 
 pub returns-in-Some-clause-text_place : goal.returns-in-Some-clause-text_place
 returns-in-Some-clause-text_place g c =
-    let class = (g.D.BidiData.data c.self.inside.tables).class in
-    let bracket = (g.D.BidiData.data c.self.inside.tables).bracket in
+    let says = g.D.BidiData.data c.self.inside.tables in
     let layout = c.self.inside.layout in
     let now = splice c.self.inside.text.edited.text c.args.start c.args.stop c.args.new.now in
-    let is : c.in-Some.place ≡ place_from (text_rows class bracket layout.base layout.w now) (c.args.start + length c.args.new.now) =
-    subst (λ found. IfSome found (λ o. o ≡ place_from (text_rows class bracket layout.base layout.w now) (c.args.start + length c.args.new.now)))
+    let is : c.in-Some.place ≡ place_from (text_rows says layout.base layout.w now) (c.args.start + length c.args.new.now) =
+    subst (λ found. IfSome found (λ o. o ≡ place_from (text_rows says layout.base layout.w now) (c.args.start + length c.args.new.now)))
     c.in-Some.is c.in_ok-place.ensures.place in
     (behind_by g.D.BidiData.data _ c.args.self.now c.args.start c.args.stop c.args.new.now c.in-Some.place layout.base layout.w
     c.self.view_is c.width-side.ensures.side c.len-utf8.ensures.utf8 c.requires.range c.utf8.new refl refl is).text_place

@@ -1,7 +1,6 @@
 use Rattle.std.proofs.Common.{◌≡◌, ◌≤◌, ◌*◌, ◌++◌, ap, drop, subst, sym}
 use Rattle.bx_view.specs.Position.{IsPosition}
 use Rattle.bx_view.proofs.Told.{side-some}
-use Rattle.bx_ucd.specs.Data.{Data}
 use Rattle.bx_document.specs.Document.{rows}
 use Rattle.bx_document.specs.Drawing.{IsAmong}
 use Rattle.bx_document.specs.Shown.{rows_above, shown_columns}
@@ -12,75 +11,54 @@ use Rattle.bx_document.proofs.document.Document.show.Goals as goal
 pub returns-clause-among : goal.returns-clause-among
 returns-clause-among g c =
     let i = c.self.inside in
-    let class = (g.D.BidiData.data i.tables).class in
-    let bracket = (g.D.BidiData.data i.tables).bracket in
+    let says = g.D.BidiData.data i.tables in
     let text = i.text.edited.text in
     let located = c.in_ok-located.located in
     let told = c.in_ok-located.ensures in
-    subst (λ s. IsAmong (rows (record {
-      class = (g.D.BidiData.data s.tables).class;
-      bracket = (g.D.BidiData.data s.tables).bracket;
-      mirror = (g.D.BidiData.data s.tables).mirror;
-    }) s.document) c.first_in-first.result c.args.place c.args.count) c.self.view_is
+    subst (λ s. IsAmong (rows (g.D.BidiData.data s.tables) s.document) c.first_in-first.result c.args.place c.args.count) c.self.view_is
     (subst (IsAmong _ c.first_in-first.result c.args.place) c.from.ensures
-    (among class bracket i.layout c.locate.new.self text c.len-utf8.ensures.utf8 c.locate.ensures.keeps located.top c.args.top c.args.place c.from.result
+    (among says i.layout c.locate.new.self text c.len-utf8.ensures.utf8 c.locate.ensures.keeps located.top c.args.top c.args.place c.from.result
     c.first_in-first.result located.above told.top (c.first_in-first.ensures _ told.top) told.above told.few))
 
 pub returns-clause-drawn : goal.returns-clause-drawn
 returns-clause-drawn g c =
     let i = c.self.inside in
-    let class = (g.D.BidiData.data i.tables).class in
-    let bracket = (g.D.BidiData.data i.tables).bracket in
+    let says = g.D.BidiData.data i.tables in
     let text = i.text.edited.text in
     let located = c.in_ok-located.located in
     let told = c.in_ok-located.ensures in
-    let d : Data = record { class = class; bracket = bracket; mirror = (g.D.BidiData.data i.tables).mirror } in
     let was = c.args.grid.now in
     subst (λ s. c.draw_rows.new.grid ≡ record was {
-      columns = shown_columns (record {
-        class = (g.D.BidiData.data s.tables).class;
-        bracket = (g.D.BidiData.data s.tables).bracket;
-        mirror = (g.D.BidiData.data s.tables).mirror;
-      }) s.document c.first_in-first.result c.args.count ++ drop (c.args.count * was.width) was.columns;
+      columns = shown_columns (g.D.BidiData.data s.tables) s.document c.first_in-first.result c.args.count ++ drop (c.args.count * was.width) was.columns;
     }) c.self.view_is
-    (drawn-told class bracket i.layout c.locate.new.self text c.len-utf8.ensures.utf8 c.locate.ensures.keeps located.top c.args.top c.args.place c.from.result
-    c.first_in-first.result located.above told.top (c.first_in-first.ensures _ told.top) told.above d was c.draw_rows.new.grid c.args.count (c.in_ok-draw_rows.ensures.drawn _ told.top))
+    (drawn-told says i.layout c.locate.new.self text c.len-utf8.ensures.utf8 c.locate.ensures.keeps located.top c.args.top c.args.place c.from.result
+    c.first_in-first.result located.above told.top (c.first_in-first.ensures _ told.top) told.above was c.draw_rows.new.grid c.args.count (c.in_ok-draw_rows.ensures.drawn _ told.top))
 
 pub returns-clause-row : goal.returns-clause-row
 returns-clause-row g c =
     let i = c.self.inside in
-    let class = (g.D.BidiData.data i.tables).class in
-    let bracket = (g.D.BidiData.data i.tables).bracket in
+    let says = g.D.BidiData.data i.tables in
     let text = i.text.edited.text in
     let located = c.in_ok-located.located in
     let told = c.in_ok-located.ensures in
-    subst (λ s. located.above ≡ rows_above (record {
-      class = (g.D.BidiData.data s.tables).class;
-      bracket = (g.D.BidiData.data s.tables).bracket;
-      mirror = (g.D.BidiData.data s.tables).mirror;
-    }) s.document c.first_in-first.result c.args.place) c.self.view_is
-    (above-is class bracket i.layout c.locate.new.self text c.len-utf8.ensures.utf8 c.locate.ensures.keeps located.top c.args.top c.args.place c.from.result
+    subst (λ s. located.above ≡ rows_above (g.D.BidiData.data s.tables) s.document c.first_in-first.result c.args.place) c.self.view_is
+    (above-is says i.layout c.locate.new.self text c.len-utf8.ensures.utf8 c.locate.ensures.keeps located.top c.args.top c.args.place c.from.result
     c.first_in-first.result located.above told.top (c.first_in-first.ensures _ told.top) told.above)
 
 pub returns-clause-position : goal.returns-clause-position
 returns-clause-position g c =
-    subst (λ s. IsPosition (g.D.BidiData.data s.tables).class s.document.w s.document.content.text (rows (record {
-      class = (g.D.BidiData.data s.tables).class;
-      bracket = (g.D.BidiData.data s.tables).bracket;
-      mirror = (g.D.BidiData.data s.tables).mirror;
-    }) s.document) c.args.place
+    subst (λ s. IsPosition (g.D.BidiData.data s.tables) s.document.w s.document.content.text (rows (g.D.BidiData.data s.tables) s.document) c.args.place
     c.in_ok-located.located.position) c.self.view_is c.in_ok-located.ensures.position
 
 pub returns-clause-inside : goal.returns-clause-inside
 returns-clause-inside g c =
     let i = c.self.inside in
-    let class = (g.D.BidiData.data i.tables).class in
-    let bracket = (g.D.BidiData.data i.tables).bracket in
+    let says = g.D.BidiData.data i.tables in
     let text = i.text.edited.text in
     let located = c.in_ok-located.located in
     let told = c.in_ok-located.ensures in
     let w = i.layout.w in
     let column = located.position.column in
-    let in_window = cell-inside class bracket i.layout.base w text c.args.place (side-some w c.width-side.ensures.side) c.len-utf8.ensures.utf8 in
+    let in_window = cell-inside says i.layout.base w text c.args.place (side-some w c.width-side.ensures.side) c.len-utf8.ensures.utf8 in
     subst (λ n. (1 ≤ column) × (column ≤ n)) (ap (λ s. s.document.w) c.self.view_is)
     (subst (λ n. (1 ≤ n) × (n ≤ w)) (sym told.position.column) in_window)

@@ -9,10 +9,10 @@ use Rattle.bx_editor.proofs.editor.Editor.erase.Goals as goal
 pub remove-requires : goal.remove-requires
 remove-requires g c =
     let t : DocumentState g.row.D.Denot = c.self.inside.document in
-    let rows = text_rows (g.D.BidiData.data t.tables).class (g.D.BidiData.data t.tables).bracket t.document.base t.document.w t.document.content.text in
-    let class = (g.D.BidiData.data t.tables).class in
+    let says = g.D.BidiData.data t.tables in
+    let rows = text_rows says t.document.base t.document.w t.document.content.text in
     let text = t.document.content.text in
-    let between : (p : ℕ) → IsTextPlace class text p → IsCharBoundary text p = λ p is. place-between class text p c.len-utf8.ensures.utf8 is in
+    let between : (p : ℕ) → IsTextPlace says text p → IsCharBoundary text p = λ p is. place-between says text p c.len-utf8.ensures.utf8 is in
     record {
       range = unit-before rows _ _ _ _ (ap (λ (x : DocumentState g.row.D.Denot). x.document.content.text) c.moved.ensures.same)
           (between c.in_ok-start.start (c.in_ok-start.ensures.text_place c.self.invariant.0)) (between c.self.inside.place c.self.invariant.0) c.in_ok-start.ensures.place;

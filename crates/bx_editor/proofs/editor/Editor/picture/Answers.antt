@@ -20,11 +20,7 @@ use Rattle.bx_editor.proofs.editor.Editor.picture.Goals as goal
 pub put_status-requires-clause-position : goal.put_status-requires-clause-position
 put_status-requires-clause-position g c =
     let i = c.self.inside in
-    subst (λ doc. IsPosition (g.D.BidiData.data doc.tables).class doc.document.w doc.document.content.text (rows (record {
-      class = (g.D.BidiData.data doc.tables).class;
-      bracket = (g.D.BidiData.data doc.tables).bracket;
-      mirror = (g.D.BidiData.data doc.tables).mirror;
-    }) (record {
+    subst (λ doc. IsPosition (g.D.BidiData.data doc.tables) doc.document.w doc.document.content.text (rows (g.D.BidiData.data doc.tables) (record {
       content = doc.document.content;
       place = i.place;
       changed = i.changed;
@@ -39,11 +35,7 @@ put_status-requires-clause-position g c =
 pub returns-clause-top : goal.returns-clause-top
 returns-clause-top g c =
     let i = c.self.inside in
-    let d : Data = (record {
-      class = (g.D.BidiData.data i.document.tables).class;
-      bracket = (g.D.BidiData.data i.document.tables).bracket;
-      mirror = (g.D.BidiData.data i.document.tables).mirror;
-    }) in
+    let d : Data = g.D.BidiData.data i.document.tables in
     let e : Editor = (record {
       content = i.document.document.content;
       place = i.place;
@@ -56,22 +48,14 @@ returns-clause-top g c =
       width = i.document.document.w;
     }) in
     let count = c.text_height-count.ensures.rows in
-    subst (λ s. c.in_ok-shown.shown.top ≡ next_top (record {
-      class = (g.D.BidiData.data s.tables).class;
-      bracket = (g.D.BidiData.data s.tables).bracket;
-      mirror = (g.D.BidiData.data s.tables).mirror;
-    }) s.editor c.args.top) c.self.view_is
+    subst (λ s. c.in_ok-shown.shown.top ≡ next_top (g.D.BidiData.data s.tables) s.editor c.args.top) c.self.view_is
     (c.in_ok-shown.ensures.top ∙ ap (follow (rows d e) c.args.top i.place) count
     ∙ sym (ap (λ b. if b then c.args.top else follow (rows d e) c.args.top i.place (text_height i.height)) c.if-self.false))
 
 pub returns-clause-picture : goal.returns-clause-picture
 returns-clause-picture g c =
     let i = c.self.inside in
-    let d : Data = (record {
-      class = (g.D.BidiData.data i.document.tables).class;
-      bracket = (g.D.BidiData.data i.document.tables).bracket;
-      mirror = (g.D.BidiData.data i.document.tables).mirror;
-    }) in
+    let d : Data = g.D.BidiData.data i.document.tables in
     let e : Editor = (record {
       content = i.document.document.content;
       place = i.place;
@@ -93,11 +77,7 @@ returns-clause-picture g c =
     let row = c.in_ok-shown.ensures.row in
     let cell = c.in_ok-shown.ensures.position.column in
     let status = subst (λ doc. new ≡ record mid {
-      columns = take (text_height i.height * doc.document.w) mid.columns ++ status_columns (record {
-        class = (g.D.BidiData.data doc.tables).class;
-        bracket = (g.D.BidiData.data doc.tables).bracket;
-        mirror = (g.D.BidiData.data doc.tables).mirror;
-      }) (record {
+      columns = take (text_height i.height * doc.document.w) mid.columns ++ status_columns (g.D.BidiData.data doc.tables) (record {
         content = doc.document.content;
         place = i.place;
         changed = i.changed;
@@ -117,11 +97,7 @@ returns-clause-picture g c =
     ≡ rows_columns d e.width (text_height i.height) (shown_rows all top (text_height i.height)) =
     ap₂ (λ t w. take (t * w) mid.columns) (sym c.text_height-count.ensures.rows) (sym wide) ∙ front
     ∙ ap (λ t. rows_columns d e.width t (shown_rows all top t)) c.text_height-count.ensures.rows in
-    subst (λ s. c.new-2.result ≡ picture (record {
-      class = (g.D.BidiData.data s.tables).class;
-      bracket = (g.D.BidiData.data s.tables).bracket;
-      mirror = (g.D.BidiData.data s.tables).mirror;
-    }) s.editor top) c.self.view_is
+    subst (λ s. c.new-2.result ≡ picture (g.D.BidiData.data s.tables) s.editor top) c.self.view_is
     (picture-is new (rows_columns d e.width (text_height e.height) (shown_rows all top (text_height e.height)) ++ status_columns d e) e.height e.width
     (row_of all e.place - row_of all top) (cell_of e.width all e.place) (c.in_ok-shown.shown.row + 1) c.in_ok-shown.shown.position.column c.new-2.result c.new-2.ensures
     (ap (λ x. x.height) status ∙ ap (λ x. x.height) drawn ∙ high) (ap (λ x. x.width) status ∙ wide)
@@ -136,24 +112,12 @@ returns-clause-cursor g c = λ live.
     let count = c.text_height-count.ensures.rows in
     let some = subst (λ n. 1 ≤ n) c.requires.width c.columns-columns.ensures.grid.sized.narrow in
     let utf8 = subst (λ s. IsUtf8 s.editor.content.text) same c.len-utf8.ensures.utf8 in
-    let place = subst (λ s. IsTextPlace (g.D.BidiData.data s.tables).class s.editor.content.text s.editor.place) same c.self.invariant.0 in
-    let shown = subst (λ s. IsAmong (rows (record {
-      class = (g.D.BidiData.data s.tables).class;
-      bracket = (g.D.BidiData.data s.tables).bracket;
-      mirror = (g.D.BidiData.data s.tables).mirror;
-    }) s.editor) top s.editor.place (text_height s.editor.height)) same
-    (subst (λ n. IsAmong (document_rows (record {
-      class = (g.D.BidiData.data i.document.tables).class;
-      bracket = (g.D.BidiData.data i.document.tables).bracket;
-      mirror = (g.D.BidiData.data i.document.tables).mirror;
-    }) i.document.document) top i.place n) count c.in_ok-shown.ensures.among) in
+    let place = subst (λ s. IsTextPlace (g.D.BidiData.data s.tables) s.editor.content.text s.editor.place) same c.self.invariant.0 in
+    let shown = subst (λ s. IsAmong (rows (g.D.BidiData.data s.tables) s.editor) top s.editor.place (text_height s.editor.height)) same
+    (subst (λ n. IsAmong (document_rows (g.D.BidiData.data i.document.tables) i.document.document) top i.place n) count c.in_ok-shown.ensures.among) in
     let now = c.args.self.now in
     let e : Editor = now.editor in
-    let d : Data = (record {
-      class = (g.D.BidiData.data now.tables).class;
-      bracket = (g.D.BidiData.data now.tables).bracket;
-      mirror = (g.D.BidiData.data now.tables).mirror;
-    }) in
+    let d : Data = g.D.BidiData.data now.tables in
     stands d e top c.new-2.result some utf8 place shown
     (returns-clause-picture g c ∙ ap (λ b. if b then blank_picture e.height e.width else text_picture d e top (rows d e)) live)
 
@@ -163,11 +127,7 @@ returns-then-self-clause-picture g c =
     let i = c.self.inside in
     let now = c.args.self.now in
     let e : Editor = now.editor in
-    let d : Data = (record {
-      class = (g.D.BidiData.data now.tables).class;
-      bracket = (g.D.BidiData.data now.tables).bracket;
-      mirror = (g.D.BidiData.data now.tables).mirror;
-    }) in
+    let d : Data = g.D.BidiData.data now.tables in
     let was = c.args.page in
     let height = ap (λ s. s.editor.height) c.self.view_is ∙ sym c.requires.height in
     let step = c.blank_rows.ensures ∙ ap (λ h. with_rows was 0 (replicate ((h - 0) * was.width) blank)) height in

@@ -11,7 +11,7 @@ returns g c =
     let i = c.self.inside in
     let tables = i.document.tables in
     let was = c.args.page.now in
-    let d : Data = record { class = (g.D.BidiData.data tables).class; bracket = (g.D.BidiData.data tables).bracket; mirror = (g.D.BidiData.data tables).mirror } in
+    let d : Data = g.D.BidiData.data tables in
     let e : Editor = record {
       content = i.document.document.content;
       place = i.place;
@@ -23,9 +23,9 @@ returns g c =
       height = i.height;
       width = i.document.document.w;
     } in
-    let paragraph = subst (λ s. c.args.position.paragraph ≡ paragraph_number (g.D.BidiData.data s.tables).class s.editor.content.text s.editor.place + 1)
+    let paragraph = subst (λ s. c.args.position.paragraph ≡ paragraph_number (g.D.BidiData.data s.tables) s.editor.content.text s.editor.place + 1)
     (sym c.self.view_is) c.requires.position.paragraph in
-    let unit = subst (λ s. c.args.position.unit ≡ unit_number (g.D.BidiData.data s.tables).class s.editor.width s.editor.content.text s.editor.place)
+    let unit = subst (λ s. c.args.position.unit ≡ unit_number (g.D.BidiData.data s.tables) s.editor.width s.editor.content.text s.editor.place)
     (sym c.self.view_is) c.requires.position.unit in
     let text = c.as_str.ensures.value ∙ c.in_ok-line.ensures.line
     ∙ ap₂ (λ p u. status_line i.changed p u i.message) paragraph unit in
@@ -35,11 +35,7 @@ returns g c =
     record {
       status = subst (λ s. c.put_row.new.self ≡ record was {
         columns = take (text_height s.editor.height * s.editor.width) was.columns
-            ++ status_columns (record {
-              class = (g.D.BidiData.data s.tables).class;
-              bracket = (g.D.BidiData.data s.tables).bracket;
-              mirror = (g.D.BidiData.data s.tables).mirror;
-            }) s.editor;
+            ++ status_columns (g.D.BidiData.data s.tables) s.editor;
       }) c.self.view_is
           (some-status d e was (c.requires.height ∙ sym (ap (λ s. s.editor.height) c.self.view_is)) width
           c.columns-columns.ensures.grid.sized.each (i.height - 1) c.in_ok-row.row c.put_row.new.self

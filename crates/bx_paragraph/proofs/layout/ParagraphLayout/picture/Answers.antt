@@ -5,10 +5,9 @@ use Rattle.bx_paragraph.proofs.layout.ParagraphLayout.picture.Goals as goal
 
 pub returns-clause-picture : goal.returns-clause-picture
 returns-clause-picture g c =
-    let class = (g.D.BidiData.data c.args.tables.now).class in
-    let mirror = (g.D.BidiData.data c.args.tables.now).mirror in
+    let says = g.D.BidiData.data c.args.tables.now in
     let i = c.self.inside in
-    glyphs-are class mirror (g.D.BidiData.data c.args.tables.now).bracket _ c.args.self.now c.args.row c.requires.data c.requires.row
+    glyphs-are says _ c.args.self.now c.args.row c.requires.data c.requires.row
     (c.in_ok-picture.ensures.picture
-    ∙ ap (λ b. draw_numbered class mirror i.w b i.levels.paragraph i.levels.each.items c.args.row) c.as_str-body.ensures.value
-    ∙ ap (λ m. draw_numbered class mirror m.w m.body m.paragraph m.each c.args.row) c.self.view_is)
+    ∙ ap (λ b. draw_numbered says i.w b i.levels.paragraph i.levels.each.items c.args.row) c.as_str-body.ensures.value
+    ∙ ap (λ m. draw_numbered says m.w m.body m.paragraph m.each c.args.row) c.self.view_is)

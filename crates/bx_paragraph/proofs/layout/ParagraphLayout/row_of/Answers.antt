@@ -10,11 +10,11 @@ use Rattle.bx_paragraph.proofs.Starts.{row_falls}
 use Rattle.bx_paragraph.proofs.layout.ParagraphLayout.row_of.Goals as goal
 
 pub returns-clause-row : goal.returns-clause-row
-returns-clause-row c = λ class bracket is.
+returns-clause-row c = λ says is.
     let l = c.args.self.now in
     let same = c.deref.ensures.value ∙ ap (λ m. m.starts) c.self.view_is in
     let valid = subst IsUtf8 (ap (λ m. m.body) c.self.view_is) (IsUtf8-string_bytes c.self.inside.body) in
-    let rise = subst (IsNonDecreasingBy (λ (s : RowStart). s.offset)) (sym (same ∙ is.starts)) (starts-rise class l.w l.body valid) in
+    let rise = subst (IsNonDecreasingBy (λ (s : RowStart). s.offset)) (sym (same ∙ is.starts)) (starts-rise says l.w l.body valid) in
     c.saturating_sub.ensures ∙ ap (λ n. n - 1) (c.starts_up_to.ensures.count rise)
     ∙ ap (λ xs. falls_in (map (λ s. s.offset) xs) c.args.offset) same
-    ∙ row_falls l c.args.offset (subst (λ m. is_side m.w ≡ true) c.self.view_is c.self.invariant.0) class bracket is
+    ∙ row_falls l c.args.offset (subst (λ m. is_side m.w ≡ true) c.self.view_is c.self.invariant.0) says is

@@ -16,30 +16,30 @@ window_to_end-window-requires g c = IsCharBoundary-start c.args.text.now.edited.
 pub loop-at-init : goal.loop-at-init
 loop-at-init g c = record {
   bounds = IsCharBoundary-start c.args.text.now.edited.text c.len-len.ensures.utf8;
-  window = c.window_to_end-window.ensures (g.D.BidiData.data c.args.tables.now).class;
+  window = c.window_to_end-window.ensures (g.D.BidiData.data c.args.tables.now);
   position = omega arith;
-  front = ap (λ (s : BlocksState). flat s.blocks ++ lengths (g.D.BidiData.data c.args.tables.now).class c.args.text.now.edited.text) c.new-front.ensures;
+  front = ap (λ (s : BlocksState). flat s.blocks ++ lengths (g.D.BidiData.data c.args.tables.now) c.args.text.now.edited.text) c.new-front.ensures;
   behind = ap (λ (s : BlocksState). flat s.blocks) c.new-front.ensures;
   bytes = ap (λ (s : BlocksState). total (flat s.blocks)) c.new-front.ensures;
 }
 
 pub invariant_of-result : goal.invariant_of-result
 invariant_of-result g c =
-    let rest = last (g.D.BidiData.data c.args.tables.now).class c.args.text.now.edited.text c.loop-at.at c.len-len.ensures.utf8 c.loop-at.invariant.bounds
+    let rest = last (g.D.BidiData.data c.args.tables.now) c.args.text.now.edited.text c.loop-at.at c.len-len.ensures.utf8 c.loop-at.invariant.bounds
     c.paragraph_from-paragraph.result c.paragraph_from-paragraph.ensures.first (omega (arith, c.if-paragraph-eq0.true)) in
     let same = ap (λ ls. flat c.loop-at.front.blocks ++ ls) (sym rest) ∙ c.loop-at.invariant.front in
     record {
       short = omega (
         arith,
         ap total same,
-        total_lengths (g.D.BidiData.data c.args.tables.now).class c.args.text.now.edited.text c.len-len.ensures.utf8,
+        total_lengths (g.D.BidiData.data c.args.tables.now) c.args.text.now.edited.text c.len-len.ensures.utf8,
         c.len-len.ensures.short,
       );
       few = omega (
         arith,
         ap length same,
         length-append (flat c.loop-at.front.blocks) (unended c.paragraph_from-paragraph.result.body ∷ []),
-        few_lengths (g.D.BidiData.data c.args.tables.now).class c.args.text.now.edited.text c.len-len.ensures.utf8,
+        few_lengths (g.D.BidiData.data c.args.tables.now) c.args.text.now.edited.text c.len-len.ensures.utf8,
         c.len-len.ensures.short,
       );
       has_room = tt;
@@ -47,7 +47,7 @@ invariant_of-result g c =
 
 pub returns-then-paragraph-eq0 : goal.returns-then-paragraph-eq0
 returns-then-paragraph-eq0 g c =
-    let rest = last (g.D.BidiData.data c.args.tables.now).class c.args.text.now.edited.text c.loop-at.at c.len-len.ensures.utf8 c.loop-at.invariant.bounds
+    let rest = last (g.D.BidiData.data c.args.tables.now) c.args.text.now.edited.text c.loop-at.at c.len-len.ensures.utf8 c.loop-at.invariant.bounds
     c.paragraph_from-paragraph.result c.paragraph_from-paragraph.ensures.first (omega (arith, c.if-paragraph-eq0.true)) in
     ap (λ ps. record { paragraphs = ps; room = None }) (ap (λ ls. flat c.loop-at.front.blocks ++ ls) (sym rest) ∙ c.loop-at.invariant.front)
 
@@ -56,8 +56,8 @@ push-position-requires-clause-few g c =
     omega (
       arith,
       ap length c.loop-at.invariant.front,
-      length-append (flat c.loop-at.front.blocks) (lengths (g.D.BidiData.data c.args.tables.now).class (drop c.loop-at.at c.args.text.now.edited.text)),
-      few_lengths (g.D.BidiData.data c.args.tables.now).class c.args.text.now.edited.text c.len-len.ensures.utf8,
+      length-append (flat c.loop-at.front.blocks) (lengths (g.D.BidiData.data c.args.tables.now) (drop c.loop-at.at c.args.text.now.edited.text)),
+      few_lengths (g.D.BidiData.data c.args.tables.now) c.args.text.now.edited.text c.len-len.ensures.utf8,
       c.len-len.ensures.short,
       ap (λ bs. length (flat bs)) c.in_ok-ready.ensures.blocks,
     )
@@ -65,7 +65,7 @@ push-position-requires-clause-few g c =
 pub loop-at-preserved : goal.loop-at-preserved
 loop-at-preserved g c =
     let p : Lengths = c.paragraph_from-paragraph.result in
-    let t = next (g.D.BidiData.data c.args.tables.now).class c.args.text.now.edited.text c.loop-at.at c.len-len.ensures.utf8 c.loop-at.invariant.bounds p
+    let t = next (g.D.BidiData.data c.args.tables.now) c.args.text.now.edited.text c.loop-at.at c.len-len.ensures.utf8 c.loop-at.invariant.bounds p
     c.bytes-at.result c.paragraph_from-paragraph.ensures.first (omega (arith, c.if-paragraph-eq0.false)) c.bytes-at.ensures in
     let none : flat (drop c.loop-at.position c.ready.new.self.blocks) ≡ [] = ap (λ bs. flat (drop c.loop-at.position bs)) c.in_ok-ready.ensures.blocks
     ∙ c.loop-at.invariant.behind in
@@ -74,7 +74,7 @@ loop-at-preserved g c =
     ∙ ap (λ bs. flat bs ++ p ∷ []) c.in_ok-ready.ensures.blocks in
     record {
       bounds = t.ends_between;
-      window = moved (g.D.BidiData.data c.args.tables.now).class c.args.text.now.edited.text c.loop-at.at _ c.loop-at.window c.loop-at.invariant.window
+      window = moved (g.D.BidiData.data c.args.tables.now) c.args.text.now.edited.text c.loop-at.at _ c.loop-at.window c.loop-at.invariant.window
           t.ends_between;
       position = c.push-position.ensures.position;
       front = still_all _ _ _ _ _ p more t.more c.loop-at.invariant.front;
@@ -84,21 +84,21 @@ loop-at-preserved g c =
 
 pub invariant_of-result-2 : goal.invariant_of-result-2
 invariant_of-result-2 g c =
-    let rest = end_lengths (g.D.BidiData.data c.args.tables.now).class c.args.text.now.edited.text c.loop-at.at
+    let rest = end_lengths (g.D.BidiData.data c.args.tables.now) c.args.text.now.edited.text c.loop-at.at
     (omega (arith, c.loop-at-test.false, c.len-len.ensures.len)) in
     let same = ap (λ ls. flat c.loop-at.front.blocks ++ ls) (sym rest) ∙ c.loop-at.invariant.front in
     record {
       short = omega (
         arith,
         ap total same,
-        total_lengths (g.D.BidiData.data c.args.tables.now).class c.args.text.now.edited.text c.len-len.ensures.utf8,
+        total_lengths (g.D.BidiData.data c.args.tables.now) c.args.text.now.edited.text c.len-len.ensures.utf8,
         c.len-len.ensures.short,
       );
       few = omega (
         arith,
         ap length same,
         length-append (flat c.loop-at.front.blocks) (unended 0 ∷ []),
-        few_lengths (g.D.BidiData.data c.args.tables.now).class c.args.text.now.edited.text c.len-len.ensures.utf8,
+        few_lengths (g.D.BidiData.data c.args.tables.now) c.args.text.now.edited.text c.len-len.ensures.utf8,
         c.len-len.ensures.short,
       );
       has_room = tt;
@@ -106,6 +106,6 @@ invariant_of-result-2 g c =
 
 pub returns : goal.returns
 returns g c =
-    let rest = end_lengths (g.D.BidiData.data c.args.tables.now).class c.args.text.now.edited.text c.loop-at.at
+    let rest = end_lengths (g.D.BidiData.data c.args.tables.now) c.args.text.now.edited.text c.loop-at.at
     (omega (arith, c.loop-at-test.false, c.len-len.ensures.len)) in
     ap (λ ps. record { paragraphs = ps; room = None }) (ap (λ ls. flat c.loop-at.front.blocks ++ ls) (sym rest) ∙ c.loop-at.invariant.front)

@@ -9,10 +9,10 @@ use Rattle.bx_paras.proofs.index.Index.build.Given as goal
 abbrev pub invariant-loop-at : goal.invariant-loop-at
 invariant-loop-at g l = record {
   bounds : IsCharBoundary l.text.edited.text l.at;
-  window : IsWindow (g.D.BidiData.data l.tables).class l.text.edited.text l.at l.window;
+  window : IsWindow (g.D.BidiData.data l.tables) l.text.edited.text l.at l.window;
   position : l.position ≤ length l.front.blocks;
-  front : flat l.front.blocks ++ lengths (g.D.BidiData.data l.tables).class (drop l.at l.text.edited.text)
-      ≡ lengths (g.D.BidiData.data l.tables).class l.text.edited.text;
+  front : flat l.front.blocks ++ lengths (g.D.BidiData.data l.tables) (drop l.at l.text.edited.text)
+      ≡ lengths (g.D.BidiData.data l.tables) l.text.edited.text;
   behind : flat (drop l.position l.front.blocks) ≡ [];
   bytes : total (flat l.front.blocks) ≡ l.at;
 }

@@ -67,7 +67,7 @@ invariant_of-self g c =
     let touched = c.touched-reached.ensures.1 in
     let f = inside touched c.in-Some.end c.in-Some.is in
     let same = closed_inside touched _ _ _ f c.replace.ensures.paragraphs in
-    let bytes = total_lengths (g.D.BidiData.data c.args.tables.now).class c.args.text.now.edited.text c.len-len.ensures.utf8 in
+    let bytes = total_lengths (g.D.BidiData.data c.args.tables.now) c.args.text.now.edited.text c.len-len.ensures.utf8 in
     record {
       short = omega (arith, ap total same, bytes, c.len-len.ensures.short);
       few = omega (arith, few_in touched _ _ same, c.len-len.ensures.short);
@@ -117,7 +117,7 @@ invariant_of-self-2 g c =
     let left : c.len-len.result - c.replace-at.result ≡ r = omega (arith, f.bytes, c.replace-at.ensures.stop, c.len-len.ensures.len) in
     let same = closed_at_end touched c.len-len.result c.touched-reached.result.1.number r (c.len-len.result - c.replace-at.result) _ last left f
     c.replace-at.ensures.paragraphs in
-    let bytes = total_lengths (g.D.BidiData.data c.args.tables.now).class c.args.text.now.edited.text c.len-len.ensures.utf8 in
+    let bytes = total_lengths (g.D.BidiData.data c.args.tables.now) c.args.text.now.edited.text c.len-len.ensures.utf8 in
     record {
       short = omega (arith, ap total same, bytes, c.len-len.ensures.short);
       few = omega (arith, few_in touched _ _ same, c.len-len.ensures.short);

@@ -9,9 +9,9 @@ use Rattle.bx_view.proofs.layout.Layout.edit.Goals as goal
 
 pub edit_in-requires-clause-within : goal.edit_in-requires-clause-within
 edit_in-requires-clause-within g c =
-    let class = (g.D.BidiData.data c.args.source.now.tables.now).class in
+    let says = g.D.BidiData.data c.args.source.now.tables.now in
     let text = c.args.source.now.text.now.edited.text in
-    let body = body_at class text c.paragraph_under-first.result.0 in
+    let body = body_at says text c.paragraph_under-first.result.0 in
     let laid = c.in_ok-lay_out_in.ensures.body body
     (subst (λ held. HasBody body held c.in-Some.i) c.deref.ensures.value
     (subst (λ b. HasBody b c.deref.result.now c.in-Some.i) c.paragraph_under-first.ensures.body c.in-Some.ensures)) in
@@ -19,9 +19,9 @@ edit_in-requires-clause-within g c =
 
 pub index-requires : goal.index-requires
 index-requires g c =
-    let class = (g.D.BidiData.data c.args.source.now.tables.now).class in
+    let says = g.D.BidiData.data c.args.source.now.tables.now in
     let text = c.args.source.now.text.now.edited.text in
-    let body = body_at class text c.paragraph_under-first.result.0 in
+    let body = body_at says text c.paragraph_under-first.result.0 in
     let laid = c.in_ok-lay_out_in.ensures.body body
     (subst (λ held. HasBody body held c.in-Some.i) c.deref.ensures.value
     (subst (λ b. HasBody b c.deref.result.now c.in-Some.i) c.paragraph_under-first.ensures.body c.in-Some.ensures)) in
@@ -32,36 +32,34 @@ index-requires g c =
 
 pub place_in_body-requires : goal.place_in_body-requires
 place_in_body-requires g c =
-    let class = (g.D.BidiData.data c.args.source.now.tables.now).class in
+    let says = g.D.BidiData.data c.args.source.now.tables.now in
     let text = c.args.source.now.text.now.edited.text in
-    let body = body_at class text c.paragraph_under-first.result.0 in
+    let body = body_at says text c.paragraph_under-first.result.0 in
     let laid = c.in_ok-lay_out_in.ensures.body body
     (subst (λ held. HasBody body held c.in-Some.i) c.deref.ensures.value
     (subst (λ b. HasBody b c.deref.result.now c.in-Some.i) c.paragraph_under-first.ensures.body c.in-Some.ensures)) in
     let did : c.in_ok-is_edited.is_edited ≡ true = search rules in
     let done = c.in_ok-is_edited.ensures.body did body c.self.inside.w laid in
-    let bracket = (g.D.BidiData.data c.args.source.now.tables.now).bracket in
     let first = c.paragraph_under-first.result.1 in
     let now = list_splice body (c.args.start - first) (c.args.stop - first) c.args.new.now in
     let l = c.index.result.now in
-    let is = held_at class bracket c.self.inside.base now c.self.inside.w c.edit_in.new.held.items c.in-Some.i l c.edit_in.ensures.held done c.index.ensures in
+    let is = held_at says c.self.inside.base now c.self.inside.w c.edit_in.new.held.items c.in-Some.i l c.edit_in.ensures.held done c.index.ensures in
     record { «data» = is.0.rows }
 
 pub overflow_add-result : goal.overflow_add-result
 overflow_add-result g c =
-    let class = (g.D.BidiData.data c.args.source.now.tables.now).class in
+    let says = g.D.BidiData.data c.args.source.now.tables.now in
     let text = c.args.source.now.text.now.edited.text in
-    let body = body_at class text c.paragraph_under-first.result.0 in
+    let body = body_at says text c.paragraph_under-first.result.0 in
     let laid = c.in_ok-lay_out_in.ensures.body body
     (subst (λ held. HasBody body held c.in-Some.i) c.deref.ensures.value
     (subst (λ b. HasBody b c.deref.result.now c.in-Some.i) c.paragraph_under-first.ensures.body c.in-Some.ensures)) in
     let did : c.in_ok-is_edited.is_edited ≡ true = search rules in
     let done = c.in_ok-is_edited.ensures.body did body c.self.inside.w laid in
-    let bracket = (g.D.BidiData.data c.args.source.now.tables.now).bracket in
     let first = c.paragraph_under-first.result.1 in
     let now = list_splice body (c.args.start - first) (c.args.stop - first) c.args.new.now in
     let l = c.index.result.now in
-    let is = held_at class bracket c.self.inside.base now c.self.inside.w c.edit_in.new.held.items c.in-Some.i l c.edit_in.ensures.held done c.index.ensures in
+    let is = held_at says c.self.inside.base now c.self.inside.w c.edit_in.new.held.items c.in-Some.i l c.edit_in.ensures.held done c.index.ensures in
     let range = c.in_ok-is_edited.ensures.range did body (record { within = laid.within; body_is = laid.body_is }) in
     let most = splice_most text first c.paragraph_under-first.result.2 body (c.args.start - first) (c.args.stop - first) c.args.new.now
     c.paragraph_under-first.ensures.within c.paragraph_under-first.ensures.body range in
@@ -79,25 +77,24 @@ overflow_add-result g c =
 
 pub returns-clause-place : goal.returns-clause-place
 returns-clause-place g c =
-    let class = (g.D.BidiData.data c.args.source.now.tables.now).class in
+    let says = g.D.BidiData.data c.args.source.now.tables.now in
     let text = c.args.source.now.text.now.edited.text in
-    let body = body_at class text c.paragraph_under-first.result.0 in
+    let body = body_at says text c.paragraph_under-first.result.0 in
     let laid = c.in_ok-lay_out_in.ensures.body body
     (subst (λ held. HasBody body held c.in-Some.i) c.deref.ensures.value
     (subst (λ b. HasBody b c.deref.result.now c.in-Some.i) c.paragraph_under-first.ensures.body c.in-Some.ensures)) in
     let did : c.in_ok-is_edited.is_edited ≡ true = search rules in
     let done = c.in_ok-is_edited.ensures.body did body c.self.inside.w laid in
-    let bracket = (g.D.BidiData.data c.args.source.now.tables.now).bracket in
     let first = c.paragraph_under-first.result.1 in
     let now = list_splice body (c.args.start - first) (c.args.stop - first) c.args.new.now in
     let l = c.index.result.now in
-    let is = held_at class bracket c.self.inside.base now c.self.inside.w c.edit_in.new.held.items c.in-Some.i l c.edit_in.ensures.held done c.index.ensures in
+    let is = held_at says c.self.inside.base now c.self.inside.w c.edit_in.new.held.items c.in-Some.i l c.edit_in.ensures.held done c.index.ensures in
     let range = c.in_ok-is_edited.ensures.range did body (record { within = laid.within; body_is = laid.body_is }) in
     let side = subst (λ v. is_side v.w ≡ true) c.self.view_is c.self.invariant in
     let further : c.args.start ≤ c.args.stop = search rules in
-    let none = none_found class (chars c.args.new.now) (sym c.has_separator.ensures ∙ c.if-has_separator.false) in
+    let none = none_found says (chars c.args.new.now) (sym c.has_separator.ensures ∙ c.if-has_separator.false) in
     let inside : c.is_after_begin.result ≡ true = search rules in
-    place_told class bracket c.args.self.now text c.args.source.now.utf8 c.paragraph_under-first.result.0 c.paragraph_under-first.ensures.there
+    place_told says c.args.self.now text c.args.source.now.utf8 c.paragraph_under-first.result.0 c.paragraph_under-first.ensures.there
     first c.args.start c.args.stop c.args.new.now c.utf8.new l c.in_ok-place.place (c.args.start - first + length c.args.new.now)
     c.paragraph_under-first.ensures.start c.paragraph_under-first.ensures.order further range none
     (inner_of first c.args.start (sym c.is_after_begin.ensures ∙ inside)) side

@@ -7,13 +7,12 @@ use Rattle.bx_view.proofs.layout.Layout.first.Given as goal
 
 abbrev pub invariant-loop-done : goal.invariant-loop-done
 invariant-loop-done g l =
-    let class = (g.D.BidiData.data l.source.tables.now).class in
-    let bracket = (g.D.BidiData.data l.source.tables.now).bracket in
+    let says = g.D.BidiData.data l.source.tables.now in
     let text = bytes l.source in
     record {
-      paragraphs : l.walk.paragraphs ≡ lengths class text;
+      paragraphs : l.walk.paragraphs ≡ lengths says text;
       number : l.done < count l.source → l.walk.number ≡ l.done;
-      ahead : l.left + rows_ahead class bracket l.fn.self.base l.w text l.done ≡ l.fn.row;
+      ahead : l.left + rows_ahead says l.fn.self.base l.w text l.done ≡ l.fn.row;
     }
 
 abbrev pub decreases-loop-done : goal.decreases-loop-done

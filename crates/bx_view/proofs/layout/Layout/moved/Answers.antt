@@ -4,42 +4,42 @@ use Rattle.bx_view.proofs.layout.Layout.moved.Goals as goal
 
 pub returns-in_ok-place-in-Logical-clause-boundary : goal.returns-in_ok-place-in-Logical-clause-boundary
 returns-in_ok-place-in-Logical-clause-boundary g c =
-    moved-bound (g.D.BidiData.data c.args.source.now.tables.now).class (g.D.BidiData.data c.args.source.now.tables.now).bracket c.args.self.now
+    moved-bound (g.D.BidiData.data c.args.source.now.tables.now) c.args.self.now
     c.args.source.now.text.now.edited.text c.width-side.ensures.side c.args.source.now.utf8 (moves.Logical c.in-Logical.way)
     c.args.place c.in_ok-place-in-Logical.place c.in_ok-place-in-Logical.ensures.step
 
 pub returns-in_ok-place-in-Visual-clause-boundary : goal.returns-in_ok-place-in-Visual-clause-boundary
 returns-in_ok-place-in-Visual-clause-boundary g c =
-    moved-bound (g.D.BidiData.data c.args.source.now.tables.now).class (g.D.BidiData.data c.args.source.now.tables.now).bracket c.args.self.now
+    moved-bound (g.D.BidiData.data c.args.source.now.tables.now) c.args.self.now
     c.args.source.now.text.now.edited.text c.width-side.ensures.side c.args.source.now.utf8 (moves.Visual c.in-Visual.side)
     c.args.place c.in_ok-place-in-Visual.place c.in_ok-place-in-Visual.ensures.step
 
 pub returns-in_ok-place-in-Rows-clause-boundary : goal.returns-in_ok-place-in-Rows-clause-boundary
 returns-in_ok-place-in-Rows-clause-boundary g c =
-    moved-bound (g.D.BidiData.data c.args.source.now.tables.now).class (g.D.BidiData.data c.args.source.now.tables.now).bracket c.args.self.now
+    moved-bound (g.D.BidiData.data c.args.source.now.tables.now) c.args.self.now
     c.args.source.now.text.now.edited.text c.width-side.ensures.side c.args.source.now.utf8 (moves.Rows c.in-Rows.way c.in-Rows.count)
     c.args.place c.in_ok-place-in-Rows.place c.in_ok-place-in-Rows.ensures.place
 
 pub returns-in_ok-place-in-RowHome-clause-boundary : goal.returns-in_ok-place-in-RowHome-clause-boundary
 returns-in_ok-place-in-RowHome-clause-boundary g c =
-    moved-bound (g.D.BidiData.data c.args.source.now.tables.now).class (g.D.BidiData.data c.args.source.now.tables.now).bracket c.args.self.now
+    moved-bound (g.D.BidiData.data c.args.source.now.tables.now) c.args.self.now
     c.args.source.now.text.now.edited.text c.width-side.ensures.side c.args.source.now.utf8 moves.RowHome
     c.args.place c.in_ok-place-in-RowHome.place c.in_ok-place-in-RowHome.ensures.home
 
 pub returns-in_ok-place-in-RowHome-clause-row_boundary : goal.returns-in_ok-place-in-RowHome-clause-row_boundary
 returns-in_ok-place-in-RowHome-clause-row_boundary g c = λ at-end.
-    home-bound (g.D.BidiData.data c.args.source.now.tables.now).class (g.D.BidiData.data c.args.source.now.tables.now).bracket c.args.self.now
+    home-bound (g.D.BidiData.data c.args.source.now.tables.now) c.args.self.now
     c.args.source.now.text.now.edited.text c.width-side.ensures.side c.args.source.now.utf8
     c.args.place c.in_ok-place-in-RowHome.place c.in_ok-place-in-RowHome.ensures.home
 
 pub returns-in_ok-place-in-RowEnd-clause-boundary : goal.returns-in_ok-place-in-RowEnd-clause-boundary
 returns-in_ok-place-in-RowEnd-clause-boundary g c =
-    moved-bound (g.D.BidiData.data c.args.source.now.tables.now).class (g.D.BidiData.data c.args.source.now.tables.now).bracket c.args.self.now
+    moved-bound (g.D.BidiData.data c.args.source.now.tables.now) c.args.self.now
     c.args.source.now.text.now.edited.text c.width-side.ensures.side c.args.source.now.utf8 moves.RowEnd
     c.args.place c.in_ok-place-in-RowEnd.place c.in_ok-place-in-RowEnd.ensures.end
 
 pub returns-in_ok-place-in-RowEnd-clause-row_boundary : goal.returns-in_ok-place-in-RowEnd-clause-row_boundary
 returns-in_ok-place-in-RowEnd-clause-row_boundary g c = λ at-end.
-    end-bound (g.D.BidiData.data c.args.source.now.tables.now).class (g.D.BidiData.data c.args.source.now.tables.now).bracket c.args.self.now
+    end-bound (g.D.BidiData.data c.args.source.now.tables.now) c.args.self.now
     c.args.source.now.text.now.edited.text c.width-side.ensures.side c.args.source.now.utf8
     c.args.place c.in_ok-place-in-RowEnd.place c.in_ok-place-in-RowEnd.ensures.end

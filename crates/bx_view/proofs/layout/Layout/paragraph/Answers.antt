@@ -6,6 +6,6 @@ use Rattle.bx_view.proofs.layout.Layout.paragraph.Goals as goal
 pub returns : goal.returns
 returns g c =
     let s = c.args.source.now in
-    of-text (g.D.BidiData.data s.tables.now).class (g.D.BidiData.data s.tables.now).bracket c.args.self.now s.text.now.edited.text
+    of-text (g.D.BidiData.data s.tables.now) c.args.self.now s.text.now.edited.text
     c.args.number c.args.held c.index.result.now (subst (λ v. is_side v.w ≡ true) c.self.view_is c.self.invariant) c.requires.data c.requires.held
     (c.index.ensures ∙ ap (λ v. get_or v.held c.args.held c.index.result.now) c.self.view_is)

@@ -9,42 +9,39 @@ use Rattle.bx_view.proofs.layout.Layout.position.Goals as goal
 
 pub overflow_add-result-2 : goal.overflow_add-result-2
 overflow_add-result-2 g c =
-    let class = (g.D.BidiData.data c.args.source.now.tables.now).class in
-    let bracket = (g.D.BidiData.data c.args.source.now.tables.now).bracket in
+    let says = g.D.BidiData.data c.args.source.now.tables.now in
     let is = c.paragraph-paragraph.ensures in
-    let most = number-short class bracket c.args.self.now c.args.source.now.text.now.edited.text c.args.place c.args.at.paragraph c.args.at.start
+    let most = number-short says c.args.self.now c.args.source.now.text.now.edited.text c.args.place c.args.at.paragraph c.args.at.start
     c.paragraph-paragraph.result.now c.args.source.now.utf8 c.requires.paragraph c.requires.row.1.start_is is c.row_of-row.result
-    c.row_of-row.ensures.within (c.row_of-row.ensures.row class bracket is.by) in
+    c.row_of-row.ensures.within (c.row_of-row.ensures.row says is.by) in
     omega (arith, most, c.units_ahead.ensures, c.in_ok-standing.ensures.units, c.args.source.now.short)
 
 pub overflow_add-result-3 : goal.overflow_add-result-3
 overflow_add-result-3 g c =
-    let class = (g.D.BidiData.data c.args.source.now.tables.now).class in
-    let bracket = (g.D.BidiData.data c.args.source.now.tables.now).bracket in
+    let says = g.D.BidiData.data c.args.source.now.tables.now in
     let is = c.paragraph-paragraph.ensures in
-    let most = number-short class bracket c.args.self.now c.args.source.now.text.now.edited.text c.args.place c.args.at.paragraph c.args.at.start
+    let most = number-short says c.args.self.now c.args.source.now.text.now.edited.text c.args.place c.args.at.paragraph c.args.at.start
     c.paragraph-paragraph.result.now c.args.source.now.utf8 c.requires.paragraph c.requires.row.1.start_is is c.row_of-row.result
-    c.row_of-row.ensures.within (c.row_of-row.ensures.row class bracket is.by) in
+    c.row_of-row.ensures.within (c.row_of-row.ensures.row says is.by) in
     omega (arith, most, c.units_ahead.ensures, c.in_ok-standing.ensures.units, c.args.source.now.short)
 
 pub returns : goal.returns
 returns g c =
-    let class = (g.D.BidiData.data c.args.source.now.tables.now).class in
-    let bracket = (g.D.BidiData.data c.args.source.now.tables.now).bracket in
+    let says = g.D.BidiData.data c.args.source.now.tables.now in
     let text = c.args.source.now.text.now.edited.text in
     let utf8 = c.args.source.now.utf8 in
     let v = c.args.self.now in
     let is = c.paragraph-paragraph.ensures in
     let on = c.requires.row.1 in
-    let row = c.row_of-row.ensures.row class bracket is.by in
+    let row = c.row_of-row.ensures.row says is.by in
     let at : RowAt = record c.args.at { row = c.row_of-row.result } in
-    let keeps : Keeps class bracket v v = record { base = refl; w = refl; held = c.requires.row.1.by } in
-    let there : StandsOn class bracket v text at (row_of (text_rows_by class bracket v text) c.args.place) =
-    stands class bracket v text c.args.place at c.paragraph-paragraph.result.now utf8 on.by c.requires.paragraph on.start_is on.held_is is row in
-    let told = number-told class bracket v text c.args.place c.args.at.paragraph c.args.at.start c.paragraph-paragraph.result.now utf8 c.requires.paragraph
+    let keeps : Keeps says v v = record { base = refl; w = refl; held = c.requires.row.1.by } in
+    let there : StandsOn says v text at (row_of (text_rows_by says v text) c.args.place) =
+    stands says v text c.args.place at c.paragraph-paragraph.result.now utf8 on.by c.requires.paragraph on.start_is on.held_is is row in
+    let told = number-told says v text c.args.place c.args.at.paragraph c.args.at.start c.paragraph-paragraph.result.now utf8 c.requires.paragraph
     on.start_is is c.row_of-row.result c.row_of-row.ensures.within row in
     record {
-      column = cell-told class bracket v v text c.args.place at c.paragraph-paragraph.result.now keeps utf8 there is _ c.in_ok-standing.ensures.column;
+      column = cell-told says v v text c.args.place at c.paragraph-paragraph.result.now keeps utf8 there is _ c.in_ok-standing.ensures.column;
       paragraph = ap (λ k. k + 1) c.requires.paragraph;
       unit = omega (arith, c.units_ahead.ensures, c.in_ok-standing.ensures.units) ∙ told;
     }

@@ -6,10 +6,9 @@ use Rattle.bx_view.proofs.layout.Layout.row_near.Goals as goal
 
 pub returns-then-number-at-clause-row : goal.returns-then-number-at-clause-row
 returns-then-number-at-clause-row g c =
-    let class = (g.D.BidiData.data c.args.source.now.tables.now).class in
-    let bracket = (g.D.BidiData.data c.args.source.now.tables.now).bracket in
+    let says = g.D.BidiData.data c.args.source.now.tables.now in
     let text = c.args.source.now.text.now.edited.text in
     let v = c.args.self.now in
-    let held = subst (λ k. HoldsBody (body_at class text k) v.w v.held c.args.at.held) (sym c.if-number-at.true) c.requires.row.1.held_is in
-    stands class bracket v text c.args.offset _ c.paragraph-paragraph.result.now c.args.source.now.utf8 c.requires.row.1.by c.paragraph_under-number.ensures.number
-    c.paragraph_under-number.ensures.start held c.paragraph-paragraph.ensures (c.row_of.ensures.row class bracket c.paragraph-paragraph.ensures.by)
+    let held = subst (λ k. HoldsBody (body_at says text k) v.w v.held c.args.at.held) (sym c.if-number-at.true) c.requires.row.1.held_is in
+    stands says v text c.args.offset _ c.paragraph-paragraph.result.now c.args.source.now.utf8 c.requires.row.1.by c.paragraph_under-number.ensures.number
+    c.paragraph_under-number.ensures.start held c.paragraph-paragraph.ensures (c.row_of.ensures.row says c.paragraph-paragraph.ensures.by)
