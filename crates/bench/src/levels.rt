@@ -4,8 +4,8 @@
 use crate::outcome::{Outcome, number};
 use crate::texts::text;
 use anyhow::{Result, bail};
-use bx_explicit::Base;
 use bx_resolve::{Level, levels};
+use bx_terms::Base;
 use bx_ucd::Tables;
 use bx_ucd::sample::{BRACKETS, CLASSES, MIRRORING};
 use std::alloc::Global;

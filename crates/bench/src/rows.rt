@@ -6,8 +6,8 @@ ghost use Rattle.bx_paragraph.specs.Layout.{IsLayoutBy};
 
 use crate::outcome::{Outcome, number};
 use anyhow::{Result, bail};
-use bx_explicit::Base;
 use bx_paragraph::ParagraphLayout;
+use bx_terms::Base;
 use bx_ucd::{BidiData, sample_tables};
 use std::alloc::{AllocError, Global};
 use std::time::CpuClock;

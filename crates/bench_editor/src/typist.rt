@@ -3,8 +3,8 @@
 use crate::counting_store::CountingStore;
 use crate::outcome::Traffic;
 use anyhow::{Result, bail};
-use bx_explicit::Base;
 use bx_session::Session;
+use bx_terms::Base;
 use bx_ucd::Tables;
 use std::alloc::Global;
 

@@ -7,8 +7,8 @@ ghost use Rattle.bidi_edit.specs.Run.{AreOfFiles, IsOpened, begins_with, bytes_o
 
 use crate::fault::ProgramFault;
 use bx_command::start_of_line;
-use bx_explicit::Base;
 use bx_session::Session;
+use bx_terms::Base;
 use bx_ucd::{BidiData, Tables};
 use bx_words::UnicodeFiles;
 use std::alloc::Global;

@@ -1,7 +1,7 @@
 -- Cached rows and their columns.
 use Rattle.std.proofs.Common.{◌≡◌, ℕ, List, [], length, get_or, sym, ap, subst, ◌∙◌}
 use Rattle.std.specs.Prelude.{HoldsAt}
-use Rattle.bx_explicit.specs.declared.base.Base.{Base}
+use Rattle.bx_terms.specs.declared.base.Base.{Base}
 use Rattle.bx_grid.specs.Columns.{Col}
 use Rattle.bx_grid.specs.Picture.{GridState}
 use Rattle.bx_paragraph.specs.BodyRows.{BodyRow, body_rows, row_at}

@@ -1,6 +1,6 @@
 -- Cached rows.
 use Rattle.std.specs.Prelude.{◌≡◌, ℕ, ◌<◌, List, length, All, HoldsAt}
-use Rattle.bx_explicit.specs.declared.base.Base.{Base}
+use Rattle.bx_terms.specs.declared.base.Base.{Base}
 use Rattle.bx_grid.specs.Columns.{Col}
 use Rattle.bx_paragraph.specs.BodyRows.{body_rows, row_at}
 use Rattle.bx_ucd.specs.Data.{Data}

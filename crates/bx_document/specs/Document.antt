@@ -1,6 +1,6 @@
 -- An editable text and its layout in a window. Offsets and places count bytes of the text.
 use Rattle.std.specs.Prelude.{ℕ, ◌+◌, List, [], length}
-use Rattle.bx_explicit.specs.declared.base.Base.{Base}
+use Rattle.bx_terms.specs.declared.base.Base.{Base}
 use Rattle.bx_text.specs.Edits.{Edited, inserted, opened, removed, splice}
 use Rattle.bx_view.specs.Moves.{place_from}
 use Rattle.bx_view.specs.TextRows.{TextRow, text_rows}

@@ -9,8 +9,8 @@ ghost use Rattle.bx_document.specs.Document.{at_opening};
 
 use crate::error::DocumentError;
 use crate::row_cache::RowCache;
-use bx_explicit::Base;
 use bx_paras::Index;
+use bx_terms::Base;
 use bx_text::{Slices, Text, TextError};
 use bx_ucd::BidiData;
 use bx_view::Layout;

@@ -3,8 +3,8 @@ ghost use Rattle.std.specs.Prelude.{◌≡◌, ◌<◌, ◌*◌, [], length, dro
 ghost use Rattle.bx_document.specs.Cache.{AreDrawnBy, DrawnRowState, HoldsRow, IsDrawnBy, IsRowOf};
 ghost use Rattle.bx_ucd.specs.Data.{Data};
 
-use bx_explicit::Base;
 use bx_grid::OwnedRow;
+use bx_terms::Base;
 use std::alloc::{AllocError, Global};
 use std::marker::Model;
 

@@ -2,7 +2,7 @@
 use Rattle.std.proofs.Common.{ℕ, true, false, List, [], ◌∷◌, map}
 use Rattle.std.specs.Prelude.{encode_utf8_all}
 use Rattle.bx_resolve.specs.TestTables.{small}
-use Rattle.bx_explicit.specs.declared.base.Base.TheVariants.{Auto}
+use Rattle.bx_terms.specs.declared.base.Base.TheVariants.{Auto}
 use Rattle.bx_keys.specs.declared.key.Key.{Key}
 use Rattle.bx_keys.specs.declared.key.Key.TheVariants.{Insert}
 use Rattle.bx_grid.specs.Columns.{Col, Glyph}

@@ -4,7 +4,7 @@ use Rattle.std.specs.Prelude.{codes}
 use Rattle.std.specs.Fmt.{digits}
 use Rattle.unicode_segmentation.proofs.Computing.{unicode_segmentation}
 use Rattle.unicode_width.proofs.Computing.{unicode_width}
-use Rattle.bx_explicit.specs.declared.base.Base.TheVariants.{Auto}
+use Rattle.bx_terms.specs.declared.base.Base.TheVariants.{Auto}
 use Rattle.bx_keys.specs.declared.key.Key.TheVariants.{Insert, Delete, Down, Save, Undo, Redo}
 use Rattle.bx_text.specs.Edits.{Edited}
 use Rattle.bx_editor.specs.Editor.{Editor}

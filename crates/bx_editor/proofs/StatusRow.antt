@@ -7,7 +7,7 @@ use Rattle.std.proofs.lemmas.Fmt.{decimal_by_steps}
 use Rattle.std.proofs.lemmas.List.{append-nil, drop_all, length-map, length-replicate, length-take-le, take-replicate}
 use Rattle.std.proofs.lemmas.List.Folds.{list_all-append}
 use Rattle.bx_terms.specs.Characters.{are_ascii_printable, is_ascii_printable}
-use Rattle.bx_explicit.specs.declared.base.Base.TheVariants.{Auto, Ltr, Rtl}
+use Rattle.bx_terms.specs.declared.base.Base.TheVariants.{Auto, Ltr, Rtl}
 use Rattle.bx_grid.specs.Columns.{Col, Glyph, blank, plain_columns}
 use Rattle.bx_grid.specs.Picture.{GridState}
 use Rattle.bx_grid.proofs.Reading.{and_left, and_right}

@@ -1,7 +1,7 @@
 -- Undo and redo restore earlier versions: past and future are chains of versions that begin with the opened text.
 use Rattle.std.proofs.Common.{◌≡◌, ℕ, Bool, true, false, List, [], ◌∷◌, length, replicate, refl, sym, ap, subst, if◌then◌else◌}
 use Rattle.std.specs.Prelude.{◌≢◌, ◌+◌, ◌==◌, ◌||◌, not, encode_utf8, Some}
-use Rattle.bx_explicit.specs.declared.base.Base.{Base}
+use Rattle.bx_terms.specs.declared.base.Base.{Base}
 use Rattle.bx_keys.specs.declared.key.Key.{Key}
 use Rattle.bx_keys.specs.declared.key.Key.TheVariants.{Insert, Erase, Delete, Back, Forward, Up, Down, Right, Left, RowHome, RowEnd, PageUp, PageDown, Save}
 use Rattle.bx_keys.specs.declared.key.Key.TheVariants.{Quit, Undo, Redo, Repaint, Direction, Size}

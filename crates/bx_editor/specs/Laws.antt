@@ -1,7 +1,7 @@
 -- Laws of the editor.
 use Rattle.std.specs.Prelude.{◌≡◌, ◌≢◌, ℕ, Bool, true, false, List, [], ◌∷◌, length, replicate, IsUtf8}
 use Rattle.bx_terms.specs.Sizes.{is_side}
-use Rattle.bx_explicit.specs.declared.base.Base.{Base}
+use Rattle.bx_terms.specs.declared.base.Base.{Base}
 use Rattle.bx_keys.specs.declared.key.Key.{Key}
 use Rattle.bx_keys.specs.declared.key.Key.TheVariants.{Undo, Redo}
 use Rattle.bx_editor.specs.Data.{Data}

@@ -5,9 +5,8 @@ ghost use Rattle.bx_editor.specs.Keys.{after_key, is_edit_or_move, is_save, is_s
 
 use crate::editor::Editor;
 use crate::message::Message;
-use bx_explicit::Base;
 use bx_keys::Key;
-use bx_terms::OutOfMemory;
+use bx_terms::{Base, OutOfMemory};
 use bx_ucd::BidiData;
 use bx_view::{Logical, Move, Vertical, Visual};
 

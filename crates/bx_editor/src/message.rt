@@ -2,7 +2,7 @@
 ghost use Rattle.std.specs.Prelude.{◌≡◌};
 ghost use Rattle.bx_editor.specs.Status.{message_text};
 
-use bx_explicit::Base;
+use bx_terms::Base;
 
 /// The message of a key.
 #[derive(Clone, Copy, PartialEq, Eq, Debug)]

@@ -4,8 +4,8 @@ use Rattle.std.proofs.Common.{zero, suc}
 use Rattle.bx_ucd.specs.declared.class.Class.{Class}
 use Rattle.bx_ucd.specs.declared.class.Class.TheVariants.{R, AL}
 use Rattle.bx_ucd.specs.Class.{is_initiator, is_strong}
-use Rattle.bx_explicit.specs.declared.base.Base.{Base}
-use Rattle.bx_explicit.specs.declared.base.Base.TheVariants.{Auto, Ltr, Rtl}
+use Rattle.bx_terms.specs.declared.base.Base.{Base}
+use Rattle.bx_terms.specs.declared.base.Base.TheVariants.{Auto, Ltr, Rtl}
 use Rattle.bx_explicit.specs.Matching.{isolated}
 
 -- the number of characters skipped after `c`: after an initiator, those of its isolate

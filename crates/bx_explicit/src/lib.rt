@@ -1,7 +1,6 @@
 //! The paragraph level, the explicit levels and the isolating run sequences of a paragraph body (UAX #9, 3.3.1 to 3.3.3).
 #![tactic(auto)]
 
-mod base;
 mod ends;
 mod entry;
 mod error;
@@ -17,7 +16,6 @@ mod stack;
 mod state;
 mod walk;
 
-pub use base::{Base, UnknownBase};
 pub use entry::{Explicit, Kept};
 pub use error::ExplicitError;
 pub use isolating::{Sequence, sequences};

@@ -3,7 +3,7 @@ ghost use Rattle.std.specs.Prelude.{◌≡◌, ◌<◌, ◌≤◌};
 ghost use Rattle.bx_explicit.specs.Matching.{count_after};
 ghost use Rattle.bx_explicit.specs.ParagraphLevel.{paragraph_level, base_level, level_of_strong};
 
-use crate::base::Base;
+use bx_terms::Base;
 use bx_ucd::Class;
 
 /// The number of open isolates after a character.

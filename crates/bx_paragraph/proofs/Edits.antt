@@ -10,7 +10,7 @@ use Rattle.bx_ucd.specs.Data.{Data}
 use Rattle.unicode_segmentation.proofs.TextLemmas.{take_split}
 use Rattle.bx_ucd.specs.declared.class.Class.{Class}
 use Rattle.bx_ucd.specs.declared.data.Side.{Side}
-use Rattle.bx_explicit.specs.declared.base.Base.{Base}
+use Rattle.bx_terms.specs.declared.base.Base.{Base}
 use Rattle.bx_resolve.specs.declared.paragraph.Levels.{Levels}
 use Rattle.bx_resolve.specs.Edited.{AreLevelsOf, HasNoFormatting, new_text, old_text}
 use Rattle.bx_resolve.specs.Levels.{levels_under, paragraph_level_under, sequence_levels}

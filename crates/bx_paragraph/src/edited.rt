@@ -13,10 +13,9 @@ use crate::in_place::{make_room, replace};
 use crate::layout::{ParagraphLayout, starts_up_to};
 use crate::text_edit::{TextEdit, follow};
 use crate::way::are_unformatted;
-use bx_explicit::Base;
 use bx_resolve::Levels;
 use bx_rows::RowStart;
-use bx_terms::OutOfMemory;
+use bx_terms::{Base, OutOfMemory};
 use bx_ucd::BidiData;
 use std::mem;
 

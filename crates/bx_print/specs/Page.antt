@@ -4,7 +4,7 @@ use Rattle.std.specs.List.{join_by}
 use Rattle.bx_ucd.specs.Data.{Data}
 use Rattle.bx_ucd.specs.declared.class.Class.{Class}
 use Rattle.bx_ucd.specs.declared.data.Side.{Side}
-use Rattle.bx_explicit.specs.declared.base.Base.{Base}
+use Rattle.bx_terms.specs.declared.base.Base.{Base}
 use Rattle.bx_rows.specs.RowPicture.{Glyph}
 use Rattle.bx_view.specs.TextRows.{text_row_glyphs, text_rows}
 use Rattle.bx_print.specs.declared.marks.Marks.{Marks}

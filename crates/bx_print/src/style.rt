@@ -3,7 +3,7 @@ ghost use Rattle.std.specs.Prelude.{◌≡◌, true};
 ghost use Rattle.bx_terms.specs.Sizes.{is_side};
 
 use crate::marks::Marks;
-use bx_explicit::Base;
+use bx_terms::Base;
 
 /// Options of printing.
 #[derive(Clone, Copy)]

@@ -10,8 +10,8 @@ use Rattle.bx_ucd.specs.declared.class.Class.{Class}
 use Rattle.bx_ucd.specs.declared.class.Class.TheVariants.{L, R, AL, LRI, RLI, FSI}
 use Rattle.bx_ucd.specs.declared.data.Side.{Side}
 use Rattle.bx_ucd.specs.Class.{is_strong, is_initiator}
-use Rattle.bx_explicit.specs.declared.base.Base.{Base}
-use Rattle.bx_explicit.specs.declared.base.Base.TheVariants.{Auto, Ltr, Rtl}
+use Rattle.bx_terms.specs.declared.base.Base.{Base}
+use Rattle.bx_terms.specs.declared.base.Base.TheVariants.{Auto, Ltr, Rtl}
 use Rattle.bx_explicit.specs.ParagraphLevel.{base_level, first_strong, level_of, skipped}
 use Rattle.bx_explicit.specs.Matching.{isolated}
 use Rattle.bx_explicit.specs.Sequences.{direction}

@@ -7,7 +7,7 @@ use Rattle.bx_ucd.specs.Data.{Data}
 use Rattle.bx_ucd.specs.declared.class.Class.{Class}
 use Rattle.bx_ucd.specs.declared.data.Side.{Side}
 use Rattle.bx_ucd.specs.Class.{is_strong}
-use Rattle.bx_explicit.specs.declared.base.Base.{Base}
+use Rattle.bx_terms.specs.declared.base.Base.{Base}
 use Rattle.bx_explicit.specs.ParagraphLevel.{base_level}
 use Rattle.bx_resolve.specs.Plain.{is_unformatted}
 use Rattle.bx_resolve.specs.Levels.{paragraph_levels, levels_under, paragraph_level_under}

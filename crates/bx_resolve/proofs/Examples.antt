@@ -1,7 +1,7 @@
 -- The definitions, computed on the worked examples.
 use Rattle.std.proofs.Common.{◌≡◌, ℕ, List, [], ◌∷◌, ◌++◌, refl, Option, Some, None, replicate, map}
-use Rattle.bx_explicit.specs.declared.base.Base.{Base}
-use Rattle.bx_explicit.specs.declared.base.Base.TheVariants.{Auto, Ltr, Rtl}
+use Rattle.bx_terms.specs.declared.base.Base.{Base}
+use Rattle.bx_terms.specs.declared.base.Base.TheVariants.{Auto, Ltr, Rtl}
 use Rattle.bx_resolve.specs.Levels.{levels_under, paragraph_level_under}
 use Rattle.bx_resolve.specs.TestTables.{small}
 

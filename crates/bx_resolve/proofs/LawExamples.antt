@@ -6,7 +6,7 @@ use Rattle.std.proofs.lemmas.List.Elements.{All-nil, All-cons}
 use Rattle.bx_ucd.specs.declared.class.Class.{Class}
 use Rattle.bx_ucd.specs.declared.class.Class.TheVariants.{L, R, RLE, PDF, RLI, PDI}
 use Rattle.bx_ucd.specs.SmallTables.{small}
-use Rattle.bx_explicit.specs.declared.base.Base.TheVariants.{Auto, Ltr, Rtl}
+use Rattle.bx_terms.specs.declared.base.Base.TheVariants.{Auto, Ltr, Rtl}
 use Rattle.bx_explicit.specs.Explicit.{explicit_levels}
 use Rattle.bx_explicit.specs.Sequences.{sequences}
 use Rattle.bx_resolve.specs.Levels.{levels_under, paragraph_level_under}

@@ -7,8 +7,8 @@ use Rattle.bx_ucd.specs.Data.{Data}
 use Rattle.bx_ucd.specs.declared.class.Class.{Class}
 use Rattle.bx_ucd.specs.declared.class.Class.TheVariants.{L}
 use Rattle.bx_ucd.specs.declared.data.Side.{Side}
-use Rattle.bx_explicit.specs.declared.base.Base.{Base}
-use Rattle.bx_explicit.specs.declared.base.Base.TheVariants.{Auto, Ltr, Rtl}
+use Rattle.bx_terms.specs.declared.base.Base.{Base}
+use Rattle.bx_terms.specs.declared.base.Base.TheVariants.{Auto, Ltr, Rtl}
 use Rattle.bx_explicit.specs.ParagraphLevel.{paragraph_level, base_level}
 use Rattle.bx_explicit.specs.Sequences.{direction}
 use Rattle.bx_brackets.specs.Pairs.{is_on, pairs}

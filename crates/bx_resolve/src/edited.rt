@@ -9,7 +9,7 @@ use crate::error::ResolveError;
 use crate::paragraph::{Level, Levels};
 use crate::resolve::levels;
 use crate::splice::{Span, replace_span};
-use bx_explicit::Base;
+use bx_terms::Base;
 use bx_ucd::BidiData;
 use std::alloc::Global;
 

@@ -1,7 +1,7 @@
 //! Laws of the isolating run sequences of every text, and of the levels of a text of class L. The functions do nothing: their
 //! contracts are the laws.
 
-ghost use Rattle.bx_explicit.specs.declared.base.Base.TheVariants.{Auto, Ltr, Rtl};
+ghost use Rattle.bx_terms.specs.declared.base.Base.TheVariants.{Auto, Ltr, Rtl};
 ghost use Rattle.bx_resolve.specs.Laws.{HaveEachOnce, LeftTextsHave};
 
 /// Each character that X9 keeps is in exactly one isolating run sequence (BD13); a removed character is in none.

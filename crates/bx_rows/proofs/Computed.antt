@@ -4,8 +4,8 @@ use Rattle.std.specs.Prelude.{flat_map, chars, encode_utf8_all, Some, None, ◌=
 use Rattle.bx_ucd.specs.Data.{Data}
 pub use Rattle.bx_ucd.specs.SmallTables.{mirror}
 use Rattle.bx_resolve.specs.TestTables.{small}
-use Rattle.bx_explicit.specs.declared.base.Base.{Base}
-use Rattle.bx_explicit.specs.declared.base.Base.TheVariants.{Auto}
+use Rattle.bx_terms.specs.declared.base.Base.{Base}
+use Rattle.bx_terms.specs.declared.base.Base.TheVariants.{Auto}
 use Rattle.bx_resolve.specs.Levels.{paragraph_level_under, levels_under}
 use Rattle.bx_cells.specs.declared.unit.Unit.{Unit}
 use Rattle.bx_cells.specs.Units.{units}

@@ -1,6 +1,6 @@
 -- A second painting.
 use Rattle.std.specs.Prelude.{◌≡◌, ℕ, Bool, false, List}
-use Rattle.bx_explicit.specs.declared.base.Base.{Base}
+use Rattle.bx_terms.specs.declared.base.Base.{Base}
 use Rattle.bx_editor.specs.Data.{Data}
 use Rattle.bx_editor.specs.Laws.{HasRows}
 use Rattle.bx_session.specs.Session.{Session, with_painting, at_opening, after_spending, after_byte, owing_after_byte, after_told, owing_after_told, after_sending}

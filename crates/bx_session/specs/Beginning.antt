@@ -1,6 +1,6 @@
 -- The start of a session.
 use Rattle.std.specs.Prelude.{ℕ, Bool, true, false, List, [], Option, Some, None}
-use Rattle.bx_explicit.specs.declared.base.Base.{Base}
+use Rattle.bx_terms.specs.declared.base.Base.{Base}
 use Rattle.bx_ucd.specs.Data.{Data}
 use Rattle.bx_session.specs.Session.{Session, at_opening, after_going, as_changed, after_replaying, with_painting}
 use Rattle.bx_session.specs.Painting.{QueuesPicture}

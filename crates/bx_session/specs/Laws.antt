@@ -1,7 +1,7 @@
 -- Laws of sessions, for any input.
 use Rattle.std.specs.Prelude.{◌≡◌, ℕ, Bool, false, List, []}
 use Rattle.std.specs.List.{filter}
-use Rattle.bx_explicit.specs.declared.base.Base.{Base}
+use Rattle.bx_terms.specs.declared.base.Base.{Base}
 use Rattle.bx_keys.specs.Keys.{decoding}
 pub use Rattle.bx_keys.specs.Keys.{keys_from}
 use Rattle.bx_ucd.specs.Data.{Data}

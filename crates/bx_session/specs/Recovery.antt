@@ -1,7 +1,7 @@
 -- Recovery: the replay of a session's bytes.
 use Rattle.std.specs.Prelude.{◌≡◌, ◌≢◌, ℕ, false, List, All, Err}
 use Rattle.std.specs.List.{filter}
-use Rattle.bx_explicit.specs.declared.base.Base.{Base}
+use Rattle.bx_terms.specs.declared.base.Base.{Base}
 use Rattle.bx_keys.specs.Keys.{decoding}
 use Rattle.bx_ucd.specs.Data.{Data}
 use Rattle.bx_editor.specs.Editor.{at_start}

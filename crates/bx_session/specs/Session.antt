@@ -1,6 +1,6 @@
 -- The session's state, and its changes.
 use Rattle.std.specs.Prelude.{ℕ, Bool, true, false, not, ◌&&◌, ◌||◌, is_some, List, [], ◌∷◌, ◌++◌, drop, Option, Some, None, if◌then◌else◌}
-use Rattle.bx_explicit.specs.declared.base.Base.{Base}
+use Rattle.bx_terms.specs.declared.base.Base.{Base}
 use Rattle.bx_keys.specs.declared.key.Key.{Key}
 use Rattle.bx_keys.specs.declared.key.Key.TheVariants.{Quit, Save}
 use Rattle.bx_keys.specs.Keys.{head_of, key_after, rest_after}

@@ -9,8 +9,8 @@ ghost use Rattle.bx_session.specs.Session.{at_opening};
 
 use crate::session::Session;
 use bx_editor::{Editor, OpenError};
-use bx_explicit::Base;
 use bx_keys::Decoder;
+use bx_terms::Base;
 use bx_ucd::BidiData;
 use std::alloc::Global;
 

@@ -1,11 +1,13 @@
 //! Terms that several layers share: kinds of characters, glyphs and their columns, limits of a window and a text, the allocation error.
 #![tactic(auto)]
 
+mod base;
 mod characters;
 mod glyphs;
 mod memory;
 mod sizes;
 
+pub use base::{Base, UnknownBase};
 pub use characters::{
     are_ascii_printable, are_printable, ascii_glyph, is_ascii_printable, is_control,
 };

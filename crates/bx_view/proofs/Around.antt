@@ -7,7 +7,7 @@ use Rattle.std.proofs.lemmas.List.Sums.{sum_by-cons}
 use Rattle.bx_ucd.specs.Data.{Data}
 use Rattle.bx_ucd.specs.declared.class.Class.{Class}
 use Rattle.bx_ucd.specs.declared.data.Side.{Side}
-use Rattle.bx_explicit.specs.declared.base.Base.{Base}
+use Rattle.bx_terms.specs.declared.base.Base.{Base}
 use Rattle.bx_paras.specs.Paragraphs.{Paragraph, lengths_of, paragraphs}
 use Rattle.bx_paras.specs.Positions.{bytes_of, total}
 use Rattle.bx_paragraph.specs.BodyRows.{BodyRow, body_rows, first_of, no_row}

@@ -11,7 +11,7 @@ use lib.Utf8.{scalars}
 use Rattle.bx_terms.specs.Sizes.{is_side}
 use Rattle.bx_ucd.specs.declared.class.Class.{Class}
 use Rattle.bx_ucd.specs.declared.data.Side.{Side}
-use Rattle.bx_explicit.specs.declared.base.Base.{Base}
+use Rattle.bx_terms.specs.declared.base.Base.{Base}
 use Rattle.bx_cells.specs.Units.{units}
 use Rattle.bx_text.specs.Edits.{IsRange, splice}
 use Rattle.bx_paras.specs.declared.lengths.Lengths.{Lengths}

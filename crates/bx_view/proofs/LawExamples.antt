@@ -11,7 +11,7 @@ use Rattle.bx_terms.specs.Sizes.{is_side}
 use Rattle.bx_ucd.specs.declared.class.Class.{Class}
 use Rattle.bx_ucd.specs.declared.data.Side.{Side}
 use Rattle.bx_resolve.specs.TestTables.{small}
-use Rattle.bx_explicit.specs.declared.base.Base.{Base}
+use Rattle.bx_terms.specs.declared.base.Base.{Base}
 use Rattle.bx_view.specs.declared.moves.Move.{Move}
 use Rattle.bx_view.specs.Cells.{HasCells, HasOneSlot, times}
 use Rattle.bx_view.specs.Laws.{InEachWindow, IsShownFrom, MovesKeep, MovesLeast, SpansText}

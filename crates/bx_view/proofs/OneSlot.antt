@@ -8,7 +8,7 @@ use Rattle.std.proofs.lemmas.List.Sums.{sum_by-append, sum_by-cons}
 use Rattle.bx_ucd.specs.Data.{Data}
 use Rattle.bx_ucd.specs.declared.class.Class.{Class}
 use Rattle.bx_ucd.specs.declared.data.Side.{Side}
-use Rattle.bx_explicit.specs.declared.base.Base.{Base}
+use Rattle.bx_terms.specs.declared.base.Base.{Base}
 use Rattle.bx_paragraph.specs.BodyRows.{offsets_of}
 use Rattle.bx_paragraph.specs.Slots.{AreReordered, slot_offsets}
 use Rattle.bx_paragraph.proofs.OnceEach.{once-each}

@@ -14,8 +14,8 @@ use Rattle.unicode_segmentation.specs.Segments.{with_offsets}
 use Rattle.unicode_segmentation.proofs.SegmentsLemmas.{concat-segments}
 use Rattle.bx_ucd.specs.declared.class.Class.{Class}
 use Rattle.bx_ucd.specs.declared.data.Side.{Side}
-use Rattle.bx_explicit.specs.declared.base.Base.{Base}
-use Rattle.bx_explicit.specs.declared.base.Base.TheVariants.{Auto}
+use Rattle.bx_terms.specs.declared.base.Base.{Base}
+use Rattle.bx_terms.specs.declared.base.Base.TheVariants.{Auto}
 use Rattle.bx_cells.specs.Units.{unit_at, units}
 use Rattle.bx_paras.specs.Paragraphs.{Paragraph, after_character, after_cr, bare, begins_with_lf, cut, is_separator, lengths_of, paragraphs}
 use Rattle.bx_paras.specs.Positions.{bytes_of}

@@ -5,7 +5,7 @@ use Rattle.std.proofs.lemmas.List.{get_or-map, length-map, take_more, take_all}
 use Rattle.bx_ucd.specs.Data.{Data}
 use Rattle.bx_ucd.specs.declared.class.Class.{Class}
 use Rattle.bx_ucd.specs.declared.data.Side.{Side}
-use Rattle.bx_explicit.specs.declared.base.Base.{Base}
+use Rattle.bx_terms.specs.declared.base.Base.{Base}
 use Rattle.bx_text.specs.Edits.{IsRange}
 use Rattle.bx_paras.specs.Paragraphs.{Paragraph, bare, lengths, lengths_of, paragraphs}
 use Rattle.bx_paras.specs.Positions.{bytes_of, paragraph_of, total}

@@ -12,10 +12,9 @@ use crate::error::ViewError;
 use crate::layout::Layout;
 use crate::source::Source;
 use crate::span::walked_span;
-use bx_explicit::Base;
 use bx_paras::ParagraphWalk;
 use bx_rows::{RowStart, row_starts};
-use bx_terms::OutOfMemory;
+use bx_terms::{Base, OutOfMemory};
 use bx_ucd::BidiData;
 use std::alloc::Global;
 

@@ -7,9 +7,9 @@ ghost use Rattle.bx_view.specs.Holding.{HasBody, HoldsBody, IsHeld};
 
 use crate::error::ViewError;
 use crate::in_text::stands_at;
-use bx_explicit::Base;
 use bx_paragraph::ParagraphLayout;
 use bx_paras::Index;
+use bx_terms::Base;
 use bx_text::Text;
 use bx_ucd::BidiData;
 use std::alloc::{AllocError, Global};

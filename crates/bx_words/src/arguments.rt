@@ -3,8 +3,7 @@
 ghost use Rattle.std.specs.Prelude.{◌≡◌, true, IfSome};
 ghost use Rattle.bx_terms.specs.Sizes.{is_side};
 
-use bx_explicit::Base;
-use bx_terms::{LARGEST_SIDE, is_side};
+use bx_terms::{Base, LARGEST_SIDE, is_side};
 use clap::{Arg, ArgMatches, value_parser};
 use std::alloc::Global;
 

@@ -1,6 +1,6 @@
 -- The effect of a schedule on a file: the keys typed, the text, the store, and the picture seen.
 use Rattle.std.specs.Prelude.{◌≡◌, ℕ, ◌+◌, ◌<◌, true, false, List, [], Result, IfSome}
-use Rattle.bx_explicit.specs.declared.base.Base.{Base}
+use Rattle.bx_terms.specs.declared.base.Base.{Base}
 use Rattle.bx_keys.specs.Keys.{keys_from}
 use Rattle.bx_grid.specs.Picture.{Shows}
 use Rattle.bx_store.specs.Stores.{greatest}

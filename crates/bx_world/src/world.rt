@@ -10,9 +10,9 @@ ghost use Rattle.bx_session.specs.Session.{at_opening};
 ghost use Rattle.bx_world.specs.Showing.{IsInStep, StaysWhole, WillShow, picture_of};
 ghost use Rattle.bx_world.specs.World.{around};
 
-use bx_explicit::Base;
 use bx_grid::Screen;
 use bx_session::{OpenError, Session};
+use bx_terms::Base;
 use bx_ucd::BidiData;
 use std::alloc::Global;
 use std::marker::Model;

@@ -1,8 +1,9 @@
 //! The worked examples, and each call once with ample memory.
 use crate::words::{text_of, two_of};
 use bx_explicit::{
-    Base, Explicit, Kept, Sequence, SequenceWalk, base_level, explicit, paragraph_level, sequences,
+    Explicit, Kept, Sequence, SequenceWalk, base_level, explicit, paragraph_level, sequences,
 };
+use bx_terms::Base;
 use bx_ucd::{BidiData, Class, Tables, sample_tables};
 use std::alloc::Global;
 use std::test::Fail;

@@ -3,8 +3,8 @@ mod rows;
 mod vectors;
 
 use crate::words::{field_of, spelled_out, text_of, two_of};
-use bx_explicit::Base;
 use bx_resolve::{Level, levels, levels_by_rules};
+use bx_terms::Base;
 use bx_ucd::{Tables, sample_tables};
 use rows::ROWS;
 use std::alloc::Global;

@@ -7,9 +7,9 @@ mod vectors;
 
 use crate::words::{field_of, text_of, two_of};
 use bx_cells::{Face, Unit, units};
-use bx_explicit::Base;
 use bx_resolve::{Levels, levels};
 use bx_rows::{Row, RowStart, has_one_row, row_levels, row_starts, units_of_row, visual, wrap};
+use bx_terms::Base;
 use bx_ucd::{Tables, sample_tables};
 use std::alloc::Global;
 use std::process::Abort;

@@ -1,8 +1,8 @@
 //! A scene, parsed from a line.
 
 use crate::words::{WordFault, byte_of, bytes_of, call_of, count_of, side_of, two_of};
-use bx_explicit::Base;
 use bx_store::MemoryStore;
+use bx_terms::Base;
 use bx_world::Step;
 use std::alloc::{AllocError, Global};
 

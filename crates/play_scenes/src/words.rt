@@ -1,6 +1,6 @@
 //! Parsers for the words of a scene's line.
 
-use bx_explicit::UnknownBase;
+use bx_terms::UnknownBase;
 use std::alloc::{AllocError, AllocFailed, Global};
 
 /// Why a line is no scene.

@@ -1,7 +1,7 @@
 //! What the words of the editor's command line ask for, which are refused, and where a line begins.
 
 use bx_command::{command_line, start_of_line};
-use bx_explicit::Base;
+use bx_terms::Base;
 use bx_words::{refuse, refuse_words};
 use clap::error::ErrorKind;
 use std::alloc::{AllocError, Global};

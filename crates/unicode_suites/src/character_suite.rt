@@ -3,7 +3,7 @@ use crate::fields::{is_case, levels, order, text_of};
 use crate::layout::{Layout, find_layout};
 use crate::score::Score;
 use anyhow::{Context, Result, bail};
-use bx_explicit::Base;
+use bx_terms::Base;
 use bx_ucd::Tables;
 use std::alloc::Global;
 

@@ -5,7 +5,7 @@ use crate::layout::{Layout, find_layout};
 use crate::representatives::representative;
 use crate::score::Score;
 use anyhow::{Context, Result};
-use bx_explicit::Base;
+use bx_terms::Base;
 use bx_ucd::Tables;
 use std::alloc::Global;
 

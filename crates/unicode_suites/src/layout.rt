@@ -4,9 +4,9 @@ ghost use Rattle.bx_cells.specs.Units.{StandsIn};
 
 use anyhow::{Result, bail};
 use bx_cells::{Face, Unit};
-use bx_explicit::Base;
 use bx_resolve::{Level, Levels, levels};
 use bx_rows::{Row, row_levels, visual};
+use bx_terms::Base;
 use bx_ucd::{BidiData, Class, Tables};
 use std::alloc::Global;
 use std::fmt;

@@ -2,7 +2,7 @@
 
 use crate::scene::document_of;
 use bx_document::Document;
-use bx_explicit::Base;
+use bx_terms::Base;
 use bx_ucd::{BidiData, Class, Side, Tables, sample_tables};
 use bx_view::Move;
 use std::alloc::Global;

@@ -2,9 +2,8 @@
 ghost use Rattle.std.specs.Prelude.{◌<◌, length};
 ghost use Rattle.bx_paragraph.specs.Layout.{IsLayoutBy};
 
-use bx_explicit::Base;
 use bx_paragraph::{ParagraphLayout, Visual};
-use bx_terms::is_side;
+use bx_terms::{Base, is_side};
 use bx_ucd::{BidiData, sample_tables};
 use std::alloc::Global;
 use std::test::Fail;

@@ -2,8 +2,7 @@
 ghost use Rattle.std.specs.Prelude.{◌≡◌, IfOk};
 
 use bx_document::Document;
-use bx_explicit::Base;
-use bx_terms::is_side;
+use bx_terms::{Base, is_side};
 use bx_ucd::{BidiData, Tables, sample_tables};
 use bx_view::{Move, Visual};
 use std::alloc::Global;

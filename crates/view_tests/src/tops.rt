@@ -1,7 +1,7 @@
 //! The top that follows a place: it moves by the least number of rows that shows the place's row.
 
 use crate::whole::Whole;
-use bx_explicit::Base;
+use bx_terms::Base;
 use std::alloc::Global;
 use std::test::Fail;
 

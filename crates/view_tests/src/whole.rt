@@ -3,9 +3,8 @@ ghost use Rattle.std.specs.Prelude.{◌≡◌, true};
 ghost use Rattle.bx_paras.specs.Paragraphs.{lengths};
 ghost use Rattle.bx_terms.specs.Sizes.{is_side};
 
-use bx_explicit::Base;
 use bx_paras::Index;
-use bx_terms::is_side;
+use bx_terms::{Base, is_side};
 use bx_text::Text;
 use bx_ucd::{BidiData, Tables, sample_tables};
 use bx_view::{Layout, Source};

@@ -3,8 +3,8 @@
 use crate::fault::ProgramFault;
 use crate::program;
 use bx_command::Options;
-use bx_explicit::Base;
 use bx_session::OpenError;
+use bx_terms::Base;
 use bx_words::{FileFault, text_of};
 use std::test::Fail;
 use std::{env, fs, process};

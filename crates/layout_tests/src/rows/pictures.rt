@@ -1,9 +1,9 @@
 //! What rows show, on the call itself: `_` is a blank, `*` stands behind a mark in negative image, `|` between rows.
 use crate::words::{field_of, two_of, with_tabs};
 use bx_cells::units;
-use bx_explicit::Base;
 use bx_resolve::levels;
 use bx_rows::{RowPicture, draw, row_levels, row_picture, row_starts, wrap};
+use bx_terms::Base;
 use bx_ucd::sample::{BRACKETS, CLASSES};
 use bx_ucd::{Tables, sample_tables};
 use std::alloc::{AllocError, Global};
