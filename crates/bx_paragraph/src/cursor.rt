@@ -9,7 +9,6 @@ use crate::layout::ParagraphLayout;
 use crate::moves::Visual;
 use crate::reading::{covering_in, first_in, last_offset, next_in, offsets_toward};
 use bx_cells::Unit;
-use bx_rows::units_of_row;
 use bx_terms::OutOfMemory;
 use bx_ucd::BidiData;
 use std::alloc::{AllocError, Global};
@@ -71,7 +70,7 @@ impl ParagraphLayout {
         // the places of a row do not depend on its levels
         let alloc = *self.starts.allocator();
         let body = self.body.as_str();
-        let units = units_of_row(alloc, body, &self.starts, row, tables, self.w)?;
+        let units = self.lines(tables).units(alloc, row)?;
         let is_last = row + 1 == self.starts.len();
         let offsets = place_offsets(alloc, &units, is_last, body.len())?;
         Ok(offsets)

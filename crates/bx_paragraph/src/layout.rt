@@ -9,6 +9,7 @@ ghost use Rattle.bx_rows.specs.RowPicture.{columns_used};
 ghost use Rattle.bx_rows.specs.Shown.{glyph_of};
 ghost use Rattle.bx_paragraph.specs.BodyRows.{first_of, offsets_of, row_at, row_glyphs, row_of};
 ghost use Rattle.bx_paragraph.specs.Layout.{IsLayoutBy, OfRows, row_by};
+ghost use Rattle.bx_paragraph.specs.Lent.{IsLent};
 ghost use Rattle.bx_paragraph.specs.RowParts.{row_of_parts};
 ghost use Rattle.bx_paragraph.specs.Slots.{AreReordered, row_slots};
 
@@ -16,7 +17,7 @@ use crate::row_parts::RowParts;
 use crate::slot::Slot;
 use crate::slots::row_slots;
 use bx_resolve::{Levels, levels};
-use bx_rows::{RowPicture, RowStart, row_levels_behind, row_picture, row_starts, units_of_row};
+use bx_rows::{Lines, RowPicture, RowStart, row_starts};
 use bx_terms::{Base, OutOfMemory};
 use bx_ucd::BidiData;
 use std::alloc::Global;
@@ -172,6 +173,21 @@ impl ParagraphLayout {
         self.starts[row].units
     }
 
+    /// Its body with its rows and its levels, and the tables that it is laid out by.
+    pub(crate) fn lines<'t, D: BidiData>(&self, tables: &'t D) -> Lines<'_, 't, D>
+        requires { IsLayoutBy (D.data tables.now) self.now }
+        ensures { IsLent self.now tables.now result }
+    {
+        Lines {
+            body: self.body.as_str(),
+            starts: &self.starts,
+            levels: &self.levels,
+            tables,
+            base: self.base,
+            w: self.w,
+        }
+    }
+
     /// The units of a row with their levels.
     pub(crate) fn row<D: BidiData>(&self, row: usize, tables: &D) -> Result<RowParts, OutOfMemory>
         requires data { IsLayoutBy (D.data tables.now) self.now }
@@ -183,10 +199,9 @@ impl ParagraphLayout {
         ensures levels { IfOk result (λ r. length r.levels.items ≡ length r.units.items) }
     {
         let alloc = *self.starts.allocator();
-        let body = self.body.as_str();
-        let units = units_of_row(alloc, body, &self.starts, row, tables, self.w)?;
-        let chars = self.starts[row].chars;
-        let levels = row_levels_behind(alloc, body, &units, chars, &self.levels, tables)?;
+        let lines = self.lines(tables);
+        let units = lines.units(alloc, row)?;
+        let levels = lines.levels(alloc, row, &units)?;
         let is_last = row + 1 == self.starts.len();
         Ok(RowParts {
             units,
@@ -231,6 +246,7 @@ impl ParagraphLayout {
     /// The glyphs of a row from left to right, blanks included.
     ///
     /// Errors: `OutOfMemory`.
+    #[tactic(auto, using(crate::proofs::LentRows::lent_glyphs))]
     pub fn picture<D: BidiData>(
         &self,
         row: usize,
@@ -245,8 +261,7 @@ impl ParagraphLayout {
         ensures columns { IfOk result (λ p. sum_by (λ g. g.columns) p.glyphs.items ≡ self.now.w) }
     {
         let alloc = *self.starts.allocator();
-        let body = self.body.as_str();
-        let picture = row_picture(alloc, body, &self.starts, row, &self.levels, tables, self.w)?;
+        let picture = self.lines(tables).picture(alloc, row)?;
         Ok(picture)
     }
 }

@@ -8,6 +8,7 @@ mod drawn;
 mod glyphs;
 mod laws;
 mod level_read;
+mod lines;
 mod mirrors;
 mod narrow_run;
 mod numbered_row;
@@ -25,14 +26,12 @@ mod wrapping;
 
 pub use drawn::{Drawn, RowPicture};
 pub use laws::{
-    lowest_levels_order_units, orders_are_permutations, pictures_show_units, rows_are_of_rest,
-    rows_cut_units, rows_meet_again, units_make_body,
+    orders_are_permutations, rows_are_of_rest, rows_cut_units, rows_meet_again, units_make_body,
 };
-pub use numbered_row::row_picture;
+pub use lines::Lines;
 pub use one_row::has_one_row;
 pub use picture::{draw, unit_columns};
 pub use row::Row;
-pub use row_part::units_of_row;
 pub use start_search::{RowStart, row_starts};
 pub use unit_levels::{row_levels, row_levels_behind};
 pub use visual_order::visual;

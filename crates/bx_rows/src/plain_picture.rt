@@ -1,22 +1,20 @@
-//! The picture of a plain row, in which each unit is one character of one column.
-ghost use Rattle.std.specs.Prelude.{◌≡◌, ◌<◌, All, IfOk, IfSome, List, ℕ, length, map, slice_index_or, sum_by, true};
+//! What a row shows in which each unit is one character of one column.
+ghost use Rattle.std.specs.Prelude.{◌≡◌, ◌≤◌, ◌<◌, ◌-◌, All, IfOk, IfSome, List, ℕ, length, map, slice_index_or, sum_by, true};
 ghost use Rattle.std.specs.Cow.{cow_str_bytes};
 ghost use Rattle.bx_terms.specs.Glyphs.{is_one_glyph, run_width};
-ghost use Rattle.bx_rows.specs.NumberedRows.{draw_numbered};
+ghost use Rattle.bx_rows.specs.Lines.{glyphs_at};
 ghost use Rattle.bx_rows.specs.PlainRows.{leveled_glyphs, single_glyph};
 ghost use Rattle.bx_rows.specs.RowPicture.{blank};
-ghost use Rattle.bx_rows.specs.RowStarts.{row_starts};
 ghost use Rattle.bx_rows.specs.Shown.{glyph_of};
 ghost use Rattle.bx_rows.specs.VisualOrder.{visual};
 
 use crate::drawn::{Drawn, RowPicture};
 use crate::glyphs::with_blanks;
+use crate::lines::Lines;
 use crate::mirrors::mirror_odd;
 use crate::plain_row::{PlainRow, plain_row};
 use crate::row_part::{most_units, start_of};
-use crate::start_search::RowStart;
 use crate::visual_order::reorder;
-use bx_resolve::Levels;
 use bx_terms::OutOfMemory;
 use bx_ucd::BidiData;
 use std::alloc::{AllocError, Global};
@@ -40,31 +38,38 @@ fn arranged<'a, D: BidiData>(
     Ok(glyphs)
 }
 
-/// The picture of row `number` of a body, if the row is recognized as plain; none otherwise.
-pub(crate) fn plain_picture<'a, D: BidiData>(
-    alloc: Global,
-    body: &'a str,
-    starts: &[RowStart],
-    number: usize,
-    levels: &Levels,
-    tables: &D,
-    w: u16,
-) -> Result<Option<RowPicture<'a>>, OutOfMemory>
-    requires starts { starts.now ≡ row_starts (D.data tables.now) w body.now }
-    requires number { number < length starts.now }
-    ensures picture { IfOk result (λ o. IfSome o (λ p. map glyph_of p.glyphs.items
-        ≡ draw_numbered (D.data tables.now) w body.entry.now levels.now.paragraph levels.now.each.items number)) }
-    ensures glyphs { IfOk result (λ o. IfSome o (λ p. All (λ g. is_one_glyph (cow_str_bytes g.text) ≡ true) p.glyphs.items)) }
-    ensures widths { IfOk result (λ o. IfSome o (λ p. All (λ g. run_width (cow_str_bytes g.text) ≡ g.columns) p.glyphs.items)) }
-    ensures columns { IfOk result (λ o. IfSome o (λ p. sum_by (λ g. g.columns) p.glyphs.items ≡ w)) }
+/// The columns of a window that glyphs of one column each leave.
+fn columns_left(w: u16, count: usize) -> u16
+    requires { count ≤ w }
+    ensures { result ≡ w - count }
 {
-    let start = starts[number];
-    let count = most_units(start, start_of(starts, number + 1), body, w);
-    let Some(row) = plain_row(alloc, body, start, count, levels, tables, w)? else {
-        return Ok(None);
-    };
-    let glyphs = arranged(alloc, row, tables, w)?;
-    let blanks = w - glyphs.len() as u16;
-    let glyphs = with_blanks(alloc, glyphs, blanks, levels.paragraph)?;
-    Ok(Some(RowPicture { glyphs }))
+    w - count as u16
+}
+
+impl<'a, 't, D: BidiData> Lines<'a, 't, D> {
+    /// What row `number` shows, where each of its units is one character of one column; none of other rows, of which this
+    /// tells nothing.
+    pub(crate) fn plain_picture(
+        &self,
+        alloc: Global,
+        number: usize,
+    ) -> Result<Option<RowPicture<'a>>, OutOfMemory>
+        requires { number < length self.now.starts.now }
+        ensures picture { IfOk result (λ o. IfSome o (λ p. map glyph_of p.glyphs.items ≡ glyphs_at self.now number)) }
+        ensures glyphs { IfOk result (λ o. IfSome o (λ p. All (λ g. is_one_glyph (cow_str_bytes g.text) ≡ true) p.glyphs.items)) }
+        ensures widths { IfOk result (λ o. IfSome o (λ p. All (λ g. run_width (cow_str_bytes g.text) ≡ g.columns) p.glyphs.items)) }
+        ensures columns { IfOk result (λ o. IfSome o (λ p. sum_by (λ g. g.columns) p.glyphs.items ≡ self.now.w)) }
+    {
+        let w = self.w;
+        let start = self.starts[number];
+        let count = most_units(start, start_of(self.starts, number + 1), self.body, w);
+        let Some(row) = plain_row(alloc, self.body, start, count, self.levels, self.tables, w)?
+        else {
+            return Ok(None);
+        };
+        let glyphs = arranged(alloc, row, self.tables, w)?;
+        let blanks = columns_left(w, glyphs.len());
+        let glyphs = with_blanks(alloc, glyphs, blanks, self.levels.paragraph)?;
+        Ok(Some(RowPicture { glyphs }))
+    }
 }

@@ -1,11 +1,11 @@
-//! The units of one row, found from its start.
-ghost use Rattle.std.specs.Prelude.{◌≡◌, ◌≤◌, ◌<◌, All, IfOk, IfSome, Some, length, slice_get};
-ghost use Rattle.bx_rows.specs.declared.start_search.RowStart.{RowStart};
-ghost use Rattle.bx_cells.specs.Units.{HasFace, StandsIn};
-ghost use Rattle.bx_rows.specs.RowLevels.{chars_before};
-ghost use Rattle.bx_rows.specs.RowStarts.{most_units, row_starts, units_of_row};
+//! The units of one row, found from where it begins.
+ghost use Rattle.std.specs.Prelude.{◌≡◌, ◌≤◌, ◌<◌, All, IfOk, IfSome, length, slice_get};
+ghost use Rattle.bx_cells.specs.Units.{StandsIn};
+ghost use Rattle.bx_rows.specs.Lines.{ShowsFace, units_at};
+ghost use Rattle.bx_rows.specs.RowStarts.{most_units};
 ghost use Rattle.bx_rows.specs.Shown.{IsRowOf};
 
+use crate::lines::Lines;
 use crate::start_search::RowStart;
 use bx_cells::{Unit, units_from};
 use bx_terms::OutOfMemory;
@@ -33,26 +33,19 @@ pub(crate) fn most_units(start: RowStart, next: Option<RowStart>, body: &str, w:
     }
 }
 
-/// The units of row `number`, from 0, of a body in a window of `w` columns, with offsets in the body. `starts` are the
-/// body's row starts. Reads no other row. The only error is `OutOfMemory`.
-pub fn units_of_row<D: BidiData>(
-    alloc: Global,
-    body: &str,
-    starts: &[RowStart],
-    number: usize,
-    tables: &D,
-    w: u16,
-) -> Result<Vec<Unit>, OutOfMemory>
-    requires starts { starts.now ≡ row_starts (D.data tables.now) w body.now }
-    requires number { number < length starts.now }
-    ensures units { IfOk result (λ v. v.items ≡ units_of_row (D.data tables.now) w body.now number) }
-    ensures stand { IfOk result (λ v. All (StandsIn body.now) v.items) }
-    ensures faces { IfOk result (λ v. All (HasFace (D.data tables.now) w body.now) v.items) }
-    ensures row { IfOk result (λ v. IsRowOf w v.items (record { start = 0; stop = length v.items })) }
-    ensures chars { (s : RowStart) → slice_get starts.now number ≡ Some s → IfOk result (λ v. 0 < length v.items → s.chars ≡ chars_before body.now v.items) }
-{
-    let start = starts[number];
-    let count = most_units(start, start_of(starts, number + 1), body, w);
-    let units = units_from(alloc, body, start.offset, count, tables, w)?;
-    Ok(units)
+impl<'a, 't, D: BidiData> Lines<'a, 't, D> {
+    /// The units of row `number` (from 0). No other row is read. Their offsets are the body's. It is refused only where memory
+    /// runs out.
+    pub fn units(&self, alloc: Global, number: usize) -> Result<Vec<Unit>, OutOfMemory>
+        requires { number < length self.now.starts.now }
+        ensures units { IfOk result (λ v. v.items ≡ units_at self.now number) }
+        ensures stand { IfOk result (λ v. All (StandsIn self.now.body.now) v.items) }
+        ensures faces { IfOk result (λ v. All (ShowsFace self.now) v.items) }
+        ensures row { IfOk result (λ v. IsRowOf self.now.w v.items (record { start = 0; stop = length v.items })) }
+    {
+        let start = self.starts[number];
+        let count = most_units(start, start_of(self.starts, number + 1), self.body, self.w);
+        let units = units_from(alloc, self.body, start.offset, count, self.tables, self.w)?;
+        Ok(units)
+    }
 }

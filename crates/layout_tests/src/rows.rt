@@ -8,7 +8,7 @@ mod vectors;
 use crate::words::{field_of, text_of, two_of};
 use bx_cells::{Face, Unit, units};
 use bx_resolve::{Levels, levels};
-use bx_rows::{Row, RowStart, has_one_row, row_levels, row_starts, units_of_row, visual, wrap};
+use bx_rows::{Lines, Row, RowStart, has_one_row, row_levels, row_starts, visual, wrap};
 use bx_terms::Base;
 use bx_ucd::{Tables, sample_tables};
 use std::alloc::Global;
@@ -229,7 +229,16 @@ fn units_of_second_row(alloc: Global, tables: &Tables, body: &str) -> Result<Vec
     if starts.len() != 2 {
         return Err("not two rows".into());
     }
-    Ok(units_of_row(alloc, body, &starts, 1, tables, 7)?)
+    let levels = levels(alloc, body, tables, Base::Auto)?;
+    let lines = Lines {
+        body,
+        starts: &starts,
+        levels: &levels,
+        tables,
+        base: Base::Auto,
+        w: 7,
+    };
+    Ok(lines.units(alloc, 1)?)
 }
 
 #[test]

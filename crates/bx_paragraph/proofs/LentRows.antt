@@ -1,0 +1,44 @@
+-- The rows of a layout that is lent.
+use Rattle.std.proofs.Common.{◌≡◌, ◌+◌, ◌++◌, ◌∷◌, ◌∙◌, ◌<◌, ◌==◌, ℕ, Bool, true, false, List, [], length, refl}
+use Rattle.std.specs.Prelude.{map}
+use Rattle.bx_ucd.specs.declared.data.BidiData.{Ghosts}
+use Rattle.bx_cells.specs.declared.unit.Unit.{Unit}
+use Rattle.bx_rows.specs.declared.lines.Lines.{Lines}
+use Rattle.bx_rows.specs.Lines.{glyphs_at, levels_of, units_at}
+use Rattle.bx_rows.specs.NumberedRows.{draw_numbered}
+use Rattle.bx_rows.specs.RowLevels.{row_levels}
+use Rattle.bx_rows.specs.RowStarts.{units_of_row}
+use Rattle.bx_paragraph.specs.BodyRows.{offsets_of, row_glyphs}
+use Rattle.bx_paragraph.specs.Layout.{IsLayoutBy, LayoutState, row_by}
+use Rattle.bx_paragraph.specs.Lent.{IsLent}
+use Rattle.bx_paragraph.proofs.LayoutRows.{glyphs-are, offsets-are, row-is, units-of-row}
+
+module _ {D : Type 0} {g : Ghosts D} (l : LayoutState) (t : D) (s : Lines D g) (k : ℕ) (lent : IsLent l t s)
+    (is : IsLayoutBy (g.data t) l) (within : k < length l.starts) where
+  -- what row `k` shows
+  pub lent_glyphs : glyphs_at s k ≡ row_glyphs (g.data t) l.w (row_by (g.data t) l k)
+  lent_glyphs =
+      let same : glyphs_at s k ≡ draw_numbered (g.data t) l.w l.body l.paragraph l.each k
+      = rw (lent.tables_are, lent.w_is, lent.body_is, lent.paragraph_is, lent.each_is) refl in
+      glyphs-are (g.data t) _ l k is within same
+
+  lent_units : units_at s k ≡ units_of_row (g.data t) l.w l.body k
+  lent_units = rw (lent.tables_are, lent.w_is, lent.body_is) refl
+
+  lent_levels : (us : List Unit) → levels_of s us ≡ row_levels (g.data t) l.body l.paragraph l.each us
+  lent_levels us = rw (lent.tables_are, lent.body_is, lent.paragraph_is, lent.each_is) refl
+
+  -- its units and their levels
+  pub lent_row : (us : List Unit) (levels : List ℕ) (is_last : Bool) → us ≡ units_at s k → levels ≡ levels_of s us
+      → is_last ≡ (k + 1 == length l.starts)
+      → record { body = l.body; paragraph = l.paragraph; units = us; levels = levels; is_last = is_last } ≡ row_by (g.data t) l k
+  lent_row us levels is_last units each last =
+      row-is l (g.data t) k us levels is_last is within (units ∙ lent_units ∙ units-of-row (g.data t) l.w l.body k)
+      (each ∙ lent_levels us) last
+
+  -- the offsets of its places
+  pub lent_offsets : (us : List Unit) (is_last : Bool) (offsets : List ℕ) → us ≡ units_at s k → is_last ≡ (k + 1 == length l.starts)
+      → offsets ≡ map (λ (u : Unit). u.start) us ++ elim is_last [ true ↦ length l.body ∷ [] | false ↦ [] ]
+      → offsets ≡ offsets_of (row_by (g.data t) l k)
+  lent_offsets us is_last offsets units last e =
+      offsets-are l (g.data t) k us is_last offsets is within (units ∙ lent_units ∙ units-of-row (g.data t) l.w l.body k) last e

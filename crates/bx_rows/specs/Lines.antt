@@ -1,0 +1,27 @@
+-- What the rows of a body are that stands with its rows, its levels and the tables.
+use Rattle.std.specs.Prelude.{ℕ, List}
+use Rattle.bx_ucd.specs.declared.data.BidiData.{Ghosts}
+use Rattle.bx_cells.specs.declared.unit.Unit.{Unit}
+use Rattle.bx_cells.specs.Units.{HasFace}
+use Rattle.bx_rows.specs.declared.lines.Lines.{Lines}
+use Rattle.bx_rows.specs.NumberedRows.{draw_numbered}
+use Rattle.bx_rows.specs.RowLevels.{row_levels}
+use Rattle.bx_rows.specs.RowPicture.{Glyph}
+use Rattle.bx_rows.specs.RowStarts.{units_of_row}
+
+module _ {D : Type 0} {g : Ghosts D} (s : Lines D g) where
+  -- the units of row `k`
+  abbrev pub units_at : ℕ → List Unit
+  units_at k = units_of_row (g.data s.tables.now) s.w s.body.now k
+
+  -- a unit has the face of its text
+  abbrev pub ShowsFace : Unit → Type 0
+  ShowsFace u = HasFace (g.data s.tables.now) s.w s.body.now u
+
+  -- the levels of a row's units
+  abbrev pub levels_of : List Unit → List ℕ
+  levels_of us = row_levels (g.data s.tables.now) s.body.now s.levels.now.paragraph s.levels.now.each.items us
+
+  -- what row `k` shows
+  abbrev pub glyphs_at : ℕ → List Glyph
+  glyphs_at k = draw_numbered (g.data s.tables.now) s.w s.body.now s.levels.now.paragraph s.levels.now.each.items k

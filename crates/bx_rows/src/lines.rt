@@ -1,0 +1,38 @@
+//! A body's rows, each to be asked for by its number.
+ghost use Rattle.std.specs.Prelude.{◌≡◌, ⊤, IsUtf8, chars};
+ghost use Rattle.bx_resolve.specs.Levels.{levels_under, paragraph_level_under};
+ghost use Rattle.bx_rows.specs.RowStarts.{row_starts};
+ghost use Rattle.std.proofs.Props.{props};
+
+use crate::start_search::RowStart;
+use bx_resolve::Levels;
+use bx_terms::Base;
+use bx_ucd::BidiData;
+use std::alloc::AllocError;
+
+/// A body with where its rows begin in a window of `w` columns and its levels under a base direction, and the tables that
+/// both are by.
+pub struct Lines<'a, 't, D: BidiData> {
+    pub body: &'a str,
+    pub starts: &'a [RowStart],
+    pub levels: &'a Levels,
+    pub tables: &'t D,
+    pub base: Base,
+    pub w: u16,
+    pub ghost utf8: { IsUtf8 body.now } by { Prim.hlevel props },
+    pub ghost rows: { starts.now ≡ row_starts (D.data tables.now) w body.now },
+    pub ghost level: { levels.now.paragraph ≡ paragraph_level_under (D.data tables.now) base (chars body.now) },
+    pub ghost each: { levels.now.each.items ≡ levels_under (D.data tables.now) base (chars body.now) },
+}
+
+impl<'a, 't, D: BidiData> Copy for Lines<'a, 't, D> {}
+
+impl<'a, 't, D: BidiData> Clone for Lines<'a, 't, D> {
+    ghost is_clone = { λ s t. t ≡ s };
+
+    ghost is_infallible = { λ _. ⊤ };
+
+    fn clone(&self) -> Result<Lines<'a, 't, D>, AllocError> {
+        Ok(*self)
+    }
+}
