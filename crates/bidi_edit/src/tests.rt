@@ -1,4 +1,4 @@
-//! What no contract says: the fault lines, the exit statuses, and whole runs. `text_tests` tests the command line.
+//! Tests beside the contracts: the fault lines, the exit statuses, and whole runs. `text_tests` tests the command line.
 
 mod editing;
 mod ending;
