@@ -1,5 +1,5 @@
 # shellcheck shell=sh
-# shellcheck disable=SC2034,SC2154 # words that other parts give and take
+# shellcheck disable=SC2034,SC2154 # variables shared with other parts
 # Programs that call an editor, each with what it says: git, crontab, visudo and less.
 
 # An editor's name without blanks, as some callers take no others.

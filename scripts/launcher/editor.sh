@@ -1,5 +1,5 @@
 # shellcheck shell=sh
-# shellcheck disable=SC2034,SC2154 # words that other parts give and take
+# shellcheck disable=SC2034,SC2154 # variables shared with other parts
 # The editor in the launcher, whose screen must be the one that the program alone makes for that size and those keys.
 
 has_editor() {

@@ -1,5 +1,5 @@
 # shellcheck shell=sh
-# shellcheck disable=SC2034,SC2154 # words that other parts give and take
+# shellcheck disable=SC2034,SC2154 # variables shared with other parts
 # How a session ends, or stands still: signals to the launcher, to its program and to what hands on the keys.
 
 # The program is let end by the end of its input, so what was typed is with it.

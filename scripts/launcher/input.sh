@@ -1,5 +1,5 @@
 # shellcheck shell=sh
-# shellcheck disable=SC2034,SC2154 # words that other parts give and take
+# shellcheck disable=SC2034,SC2154 # variables shared with other parts
 # What is typed as other terminals send it, and pastes: seen by the recorder, and by the editor.
 
 has_filter() {

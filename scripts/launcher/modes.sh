@@ -1,5 +1,5 @@
 # shellcheck shell=sh
-# shellcheck disable=SC2034,SC2154 # words that other parts give and take
+# shellcheck disable=SC2034,SC2154 # variables shared with other parts
 # The terminal as the painter counts on it, whatever another program left, and as it was at the end.
 
 # Each of these would spoil the picture, and lasts until it is taken back: inserting, origin, a part that scrolls, no autowrap, line

@@ -1,5 +1,5 @@
 # shellcheck shell=sh
-# shellcheck disable=SC2034,SC2154 # words that other parts give and take
+# shellcheck disable=SC2034,SC2154 # variables shared with other parts
 # What the launcher hands to its program: words and input, seen by one that only records them.
 
 # Lies where an installed launcher looks for its program.

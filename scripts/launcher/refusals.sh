@@ -1,5 +1,5 @@
 # shellcheck shell=sh
-# shellcheck disable=SC2034,SC2154 # words that other parts give and take
+# shellcheck disable=SC2034,SC2154 # variables shared with other parts
 # What is refused before the screen changes: one line each, on standard error alone.
 
 # Without a controlling terminal, so that nothing of it can change, and not for ever.

@@ -1,5 +1,5 @@
 # shellcheck shell=sh
-# shellcheck disable=SC2034,SC2154 # words that other parts give and take
+# shellcheck disable=SC2034,SC2154 # variables shared with other parts
 # A disk that takes no session, or not all of one: it is told while something can be done, what waits is kept once there is room, and
 # what is said at the end is so.
 

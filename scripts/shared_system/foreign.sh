@@ -1,5 +1,5 @@
 # shellcheck shell=sh
-# shellcheck disable=SC2034,SC2154 # words that other parts give and take
+# shellcheck disable=SC2034,SC2154 # variables shared with other parts
 # Another program that changes FILE in a moment in which the launcher looks elsewhere: the first save says that it failed, and only the
 # second replaces what is there.
 

@@ -1,5 +1,5 @@
 # shellcheck shell=sh
-# shellcheck disable=SC2034,SC2154 # words that other parts give and take
+# shellcheck disable=SC2034,SC2154 # variables shared with other parts
 # Saves into FILE itself, where no rename may take its place, and FILE after one that was cut off.
 
 # ---- whole saves

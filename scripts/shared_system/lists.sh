@@ -1,5 +1,5 @@
 # shellcheck shell=sh
-# shellcheck disable=SC2034,SC2154 # words that other parts give and take
+# shellcheck disable=SC2034,SC2154 # variables shared with other parts
 # Access lists: who may read or write FILE after a save is who could before.
 
 # Another user in the group of the editor's, and one whom only lists name.

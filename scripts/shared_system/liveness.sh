@@ -1,5 +1,5 @@
 # shellcheck shell=sh
-# shellcheck disable=SC2034,SC2154 # words that other parts give and take
+# shellcheck disable=SC2034,SC2154 # variables shared with other parts
 # Whether a session goes on, and who may take it: what lives is neither recovered nor discarded, and one of two starts has it.
 
 check_other_namespace() {

@@ -1,5 +1,5 @@
 # shellcheck shell=sh
-# shellcheck disable=SC2034,SC2154 # words that other parts give and take
+# shellcheck disable=SC2034,SC2154 # variables shared with other parts
 # What a launcher leaves that was killed, and one whose terminal takes no output.
 
 # The shell behind the launcher reads a line: all of it is to be its own, and nothing of the editor stays.

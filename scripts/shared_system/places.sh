@@ -1,5 +1,5 @@
 # shellcheck shell=sh
-# shellcheck disable=SC2034,SC2154 # words that other parts give and take
+# shellcheck disable=SC2034,SC2154 # variables shared with other parts
 # Folders that cannot be used, and the first start where others can write or nothing can be written: its log, its lock.
 
 # ---- folders that the environment names
@@ -154,7 +154,7 @@ check_lock() {
     same 'places, a second start' "$status" 1
     has 'places, a second start: what is told' "$(last_said)" ' is building the editor already: wait for it'
     if can_unshare; then
-        # shellcheck disable=SC2086 # words
+        # shellcheck disable=SC2086 # split into words
         prove $unshared
         same 'places, a second start in another namespace' "$status" 1
         has 'places, a second start in another namespace: what is told' "$(last_said)" ' is building the editor already: wait for it'
@@ -167,7 +167,7 @@ check_lock() {
 
 can_unshare() {
     for unshared in 'unshare --pid --fork --mount-proc' 'unshare --map-root-user --pid --fork --mount-proc'; do
-        # shellcheck disable=SC2086 # words
+        # shellcheck disable=SC2086 # split into words
         ! as_user $unshared true 2>/dev/null || return 0
     done
     skip 'places, another namespace' 'none can be made'

@@ -1,5 +1,5 @@
 # shellcheck shell=sh
-# shellcheck disable=SC2034,SC2154 # words that other parts give and take
+# shellcheck disable=SC2034,SC2154 # variables shared with other parts
 # Sessions that cannot be replayed, and what a recovery beside FILE is found by.
 
 # The text as it was opened is no text any more, so that no replay begins.

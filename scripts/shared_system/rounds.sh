@@ -1,5 +1,5 @@
 # shellcheck shell=sh
-# shellcheck disable=SC2034,SC2154 # words that other parts give and take
+# shellcheck disable=SC2034,SC2154 # variables shared with other parts
 # A round is all parts under one shell, as one user. A part is a file of this folder, NAME.sh, with a function check_NAME; a check in
 # it goes on only where `asked NAME` says that it is wanted.
 #

@@ -1,5 +1,5 @@
 # shellcheck shell=sh
-# shellcheck disable=SC2034,SC2154 # words that other parts give and take
+# shellcheck disable=SC2034,SC2154 # variables shared with other parts
 # Signals that come together, as a window's change and the end of its terminal do, and a terminal that takes no output.
 
 launcher_of_person() {

@@ -1,5 +1,5 @@
 # shellcheck shell=sh
-# shellcheck disable=SC2034,SC2154 # words that other parts give and take
+# shellcheck disable=SC2034,SC2154 # variables shared with other parts
 # Folders and sessions that another user made or may write: they are not used, and nothing is written through a link.
 
 # A session of `note` with one key, as a launcher leaves it, whose notes and texts of replays would go to a file of the user's.

@@ -1,5 +1,5 @@
 # shellcheck shell=sh
-# shellcheck disable=SC2034,SC2154 # words that other parts give and take
+# shellcheck disable=SC2034,SC2154 # variables shared with other parts
 # Sessions of another version of the editor or its tables: the text where the session was left, or a word that nothing is sure.
 
 # The program is killed, and the launcher leaves the session; then its note of versions is another's.
