@@ -14,7 +14,7 @@ from editor_terminal import Late, Terminal
 LETTERS, PAGES, BURST, LONG_LETTERS = 30, 20, 200, 10
 LIMIT = 20  # seconds, after which a screen is not waited for
 
-# ---- what is measured, as the table calls it
+# ---- the rows of the table
 
 OPENED, OPENED_AT_END = 'opened', 'opened at its last line'
 LETTER, LETTER_AT_END = "a letter at a line's beginning", "a letter at a line's end"
@@ -164,7 +164,7 @@ class Task:
         shutil.copyfile(text, self.file)
 
     def started(self, *words):
-        # no place of the cursor is remembered, and no session that was broken off is offered again
+        # editors remember no cursor place, and offer no interrupted session again
         home = Path(os.environ['HOME'])
         shutil.rmtree(home, ignore_errors=True)
         home.mkdir()
@@ -241,7 +241,7 @@ class Task:
             terminal.await_screen(FIRST_NUMBER.encode(), 0.3)
             self.type_letters(LONG_LETTER, terminal, self.editor.insert, LONG_LETTERS)
             self.leave_typing(terminal)
-            # an editor that did not come to the end is not asked again
+            # an editor that was too slow once is not measured again
             if self.figures.is_late(LONG_LETTER_AT_END, self.kind, self.editor):
                 return
             try:

@@ -11,7 +11,7 @@ import time
 
 ROWS, COLUMNS = 24, 80
 QUIET = 0.03  # seconds without a byte, after which a screen stands
-# What a terminal is asked for at a start, and how a plain xterm answers: emacs waits for it.
+# A terminal's query at the start, which emacs sends, and the answer of a plain xterm, for which emacs waits.
 QUESTIONS, ANSWER = (b'\x1b[>0c', b'\x1b[>c'), b'\x1b[>0;95;0c'
 
 

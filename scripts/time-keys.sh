@@ -1,12 +1,12 @@
 #!/bin/sh
-# time-keys.sh [--windows] [TEXT [BYTES]]: what a key costs in one paragraph of so many bytes, 1,000,000 unless named, of TEXT: hebrew,
-# arabic, ascii or mixed; all four where none is named. With --windows: what a letter at a line's beginning costs in windows of several
-# sizes, in a text of so many bytes in lines of some 110 characters. The built program takes its keys from a file, in a window of
-# 24x80 but with --windows: those that lead to a place, what the key erases or undoes, and then 200 of the key or none; five runs are
-# made of each, in turn. A figure is the least user and system time with the keys less the least without them, by 200, in
-# milliseconds. Letters make words, and stand inside a word of the text, but at its end; End and Home alternate. Then comes the most
-# memory of the program, in MB, where so many letters are typed at the paragraph's beginning. It stands beside the gate. The status is
-# 1 where a run ends otherwise than by Quit, and 77 where the program is not built or there is no python3.
+# time-keys.sh [--windows] [TEXT [BYTES]]: measures the cost of keys in one paragraph of BYTES bytes, by default 1,000,000, of
+# TEXT: hebrew, arabic, ascii or mixed; the default is all four. With --windows it measures a letter at the beginning of a line
+# in windows of several sizes, in a text of BYTES bytes in lines of some 110 characters. The built program reads its keys from a
+# file, in a window of 24x80 without --windows: first keys that move to a place, and those that the key erases or undoes, then
+# 200 of the key or none. Five runs of each alternate. A figure is the difference of the least user and system time with and
+# without the keys, divided by 200, in milliseconds. Letters make words, inside a word of the text or at the text's end; End and
+# Home alternate. The last figure is the program's peak memory, in MB, with letters typed at the paragraph's beginning. It is
+# not part of `rt ci`. Exit status 1: a run does not end by Quit; 77: the program is not built or there is no python3.
 set -eu
 
 top=$(cd "$(dirname "$0")/.." && pwd)
@@ -27,7 +27,7 @@ cd "$folder"
 cat >keys.py <<'END'
 import argparse, math, os, re, subprocess, sys
 
-# What a paragraph repeats. Its first five characters are typed.
+# The words that a paragraph repeats; the first five characters are typed.
 TEXTS = {
     "hebrew": "שלום לכל הקוראים (ובהם גם the readers), והנה עוד 12 ספרים [books] אשר נקראו היום בבוקר, ועוד 7 אתמול בערב, ",
     "arabic": "كتاب آخر من الكتب (for the readers)، وهذا 12 من الكتب [books] التي قرأناها اليوم صباحا، و 7 أخرى أمس مساء، ",
