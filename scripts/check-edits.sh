@@ -106,7 +106,7 @@ FUNCTIONS = ["bx_paragraph::edited_rows::push_rest", "bx_resolve::edited::resolv
 
 
 def count_ways(count, kinds):
-    """Of so many edits of a note of some kinds of words, how many a layout followed, and how many of these strong characters cut off."""
+    """Makes edits of a note of some kinds of words. Counts those that a layout followed, and of these the ones that strong characters delimit."""
     with open("text", "w") as file:
         file.write("\n".join(words(chance.randrange(40, 2001), kinds) for _ in range(20)))
     keys = b""

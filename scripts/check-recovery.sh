@@ -468,7 +468,7 @@ words = [editor, "--classes", data + "/DerivedBidiClass.txt", "--brackets", data
          "--mirroring", data + "/BidiMirroring.txt"]
 
 def median(more):
-    """Of 2,000 letters in lines of 50, in microseconds."""
+    """The median time of 2,000 letters in lines of 50, in microseconds."""
     program = subprocess.Popen(words + more + [folder + "/none"], stdin=subprocess.PIPE, stdout=subprocess.PIPE,
                                stderr=subprocess.DEVNULL, bufsize=0)
     os.read(program.stdout.fileno(), 65536)

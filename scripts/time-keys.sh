@@ -38,7 +38,7 @@ COUNT, RUNS, LETTERS = 200, 5, (0, 1, 200, 1000)
 WINDOWS = (24, 80), (60, 200), (100, 400), (500, 500)
 DOWN, PAGE, HOME, END, FORWARD = b"\x1b[B", b"\x1b[6~", b"\x1b[H", b"\x1b[F", b"\x06"
 ERASE, UNDO, REPAINT, QUIT = b"\x7f", b"\x1a", b"\x0c", b"\x11\x11"
-WHOLE = b"\x1b[0m\x1b[2J"  # what a whole painting begins with
+WHOLE = b"\x1b[0m\x1b[2J"  # the beginning of a whole painting
 FILES = {"classes": "DerivedBidiClass", "brackets": "BidiBrackets", "mirroring": "BidiMirroring"}
 
 
@@ -54,7 +54,7 @@ def seconds(keys):
 
 
 def megabytes(keys):
-    """The most memory of a run once some keys are obeyed. What is told of one that has ended counts its parent's as well."""
+    """The peak memory of a run after some keys, read before it ends: wait4 would include the parent's."""
     with subprocess.Popen(command, stdin=subprocess.PIPE, stdout=subprocess.PIPE, bufsize=0) as run:
         run.stdin.write(keys + REPAINT)
         seen = b""
@@ -67,19 +67,19 @@ def megabytes(keys):
 
 
 def into_word(lead, period):
-    """Goes on behind the second letter of what is repeated: where a bracket is near, the whole paragraph is resolved at each letter."""
+    """Moves on to after the second letter of the repeated words: near a bracket, each letter resolves the whole paragraph again."""
     shown = subprocess.run(command, input=lead + REPAINT + QUIT, capture_output=True).stdout
-    letter = int(re.findall(rb"1:(\d+)", shown)[-1])  # as the last row tells it
+    letter = int(re.findall(rb"1:(\d+)", shown)[-1])  # from the last row
     return lead + FORWARD * ((3 - letter) % period)
 
 
 def leads(length, period):
-    """The keys that lead to each place of a paragraph of so many characters: rows have nearly 80, and a page has 23 rows."""
+    """The keys to each place in a paragraph of `length` characters: rows have nearly 80, and a page has 23 rows."""
     return [into_word(DOWN * 3, period), into_word(PAGE * (length // (2 * 23 * 77)), period), PAGE * (length // 1500 + 2) + END]
 
 
 def series(lead, word):
-    """Of each key those before it, and so many of it."""
+    """For each key, the keys before it, and COUNT of it."""
     letters = word.encode() * (COUNT // len(word))
     return {
         "a letter": (lead, letters),
@@ -91,7 +91,7 @@ def series(lead, word):
 
 
 def least_seconds(series):
-    """The least time of a run with the keys before, and of one with the key as well."""
+    """The least times of runs with the keys before alone, and with the measured ones."""
     least = {run: math.inf for before, keys in series for run in (before, before + keys)}
     for _ in range(RUNS):
         for run in least:
@@ -100,7 +100,7 @@ def least_seconds(series):
 
 
 def print_windows(name):
-    """The row of a letter in a line, with its figure in each window."""
+    """Prints the row of a letter in a line, with a figure for each window."""
     times = []
     for rows, columns in WINDOWS:
         command[1:3] = f"--rows={rows}", f"--cols={columns}"
@@ -111,7 +111,7 @@ def print_windows(name):
 
 
 def print_times(name, places):
-    """The row of each key, with its figure at each place."""
+    """Prints a row for each key, with a figure for each place."""
     least = least_seconds([run for place in places for run in place.values()])
     for key in places[0]:
         times = [least[before + keys] - least[before] for before, keys in (place[key] for place in places)]

@@ -20,8 +20,8 @@ extern void *__libc_calloc(size_t, size_t);
 extern void *__libc_realloc(void *, size_t);
 extern void *__libc_memalign(size_t, size_t);
 
-static long refused, muted, failing;         /* the growth; the byte whose output, and in whose time renames, are lost, 0: the first */
-static long growths, bytes, refused_at = -1; /* so far, and how many bytes were read at the refusal */
+static long refused, muted, failing;         /* the growth; the bytes after which output is lost, and renames fail */
+static long growths, bytes, refused_at = -1; /* counts so far; the bytes read at the refusal */
 
 static long number_of(const char *name) {
     const char *word = getenv(name);

@@ -13,7 +13,7 @@ use unicode_segmentation::UnicodeSegmentation;
 /// The window's width in columns.
 const WIDTH: u16 = 80;
 
-/// Number of characters by which a line is longer than its minimum; one line in eight is much longer.
+/// Number of characters by which a line exceeds its minimum length; one line in eight is wider than the window.
 const TURNS: [usize; 8] = [0, 4, 1, 5, 3, 20, 2, 6];
 
 /// The words that a text repeats, and the minimum length of its lines in characters.
@@ -97,7 +97,7 @@ pub(crate) fn text_of(alloc: Global, name: &str, bytes: usize) -> Result<String>
 enum Task {
     /// Nothing.
     Split,
-    /// The clusters found by the library's iterator, each with its face.
+    /// The clusters of `unicode_segmentation`'s iterator, each with its face.
     Iterator,
     Units,
     Wrap,

@@ -8,7 +8,7 @@ use bx_ucd::{BidiData, Class, Tables, sample_tables};
 use std::alloc::Global;
 use std::test::Fail;
 
-/// Appends a sequence: its indexes, its level and its ends.
+/// Appends a sequence: the given indexes, its level and its ends.
 fn add_sequence(
     shown: &mut String,
     alloc: Global,
