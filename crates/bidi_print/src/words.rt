@@ -70,7 +70,7 @@ fn options_of<'a>(matches: &ArgMatches<'a>) -> Option<Options<'a>> {
 
 /// Parses the words after the program's name.
 ///
-/// Errors: clap's, whose text says what is wrong with the words.
+/// Errors: clap's, with a message for the user.
 pub fn command_line<'a, S: AsStr>(
     alloc: Global,
     words: &'a [S],
