@@ -129,7 +129,7 @@ random_text() { # COUNT
     '
 }
 
-# Replaces fribidi s joined forms, which are in the order of the letters, by the letters, and removes blanks at the ends of
+# Replaces fribidi's joined forms, which are in the order of the letters, by the letters, and removes blanks at the ends of
 # lines.
 plain_letters() {
     awk '
