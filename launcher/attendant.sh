@@ -1,34 +1,35 @@
 # shellcheck shell=sh
-# shellcheck disable=SC2034,SC2154,SC2317 # words that other parts give and take; traps call functions
-# What runs beside the program: the attendant, which tells sizes and minds the journal, and the watcher, which ends all where the
-# launcher is killed.
+# shellcheck disable=SC2034,SC2154,SC2317 # variables shared with other parts; traps call functions
+# The processes beside the program: the attendant, which reports sizes and syncs the journal, and the watcher, which ends all of
+# them if the launcher is killed.
 
 # ---- sizes
 
-# Opened so that it waits for no reader, and written so that it does not outlive the last one.
+# Opens the pipe without blocking when there is no reader, and closes the read end before writing, so that the write fails after
+# the last reader is gone.
 # shellcheck disable=SC2094
 send_size() {
     { printf '\033[8;%d;%dt' "$rows" "$cols" >&5; } 6<>"$folder/keys" 5>"$folder/keys" 6<&-
 }
 
-# Puts the window's size among the keys in one write, for each line that is read.
+# Writes the window's size to the keys, in one write for each line read.
 send_sizes() {
     exec <&9 8>&- 9<&-
     while read -r _; do
         measure
-        # a terminal that has gone has no size
+        # a closed terminal has no size
         [ -z "$is_measured" ] || send_size
     done
 }
 
-# The terminal may take nothing, and the end is not to wait for it.
+# Runs a command that writes to the terminal, in the background, so that a blocked terminal does not delay the end.
 print_beside() { # COMMAND..
     "$@" &
     printer=$!
     wait "$printer"
 }
 
-# After a stop: the terminal as the editor needs it, and a told size, which has all painted anew.
+# After a stop (SIGCONT): sets the terminal's modes again, and reports a size, which repaints the screen.
 take_up() {
     print_beside set_terminal 1047
     is_told=1
@@ -37,7 +38,7 @@ take_up() {
 
 # ---- the journal
 
-# A told size has the program read and try its journal again, once where there is room again.
+# Has the program retry the journal, once there is room again: a reported size makes it read and flush.
 ask_again() {
     if ! has_room 8192; then
         had_room=''
@@ -47,7 +48,7 @@ ask_again() {
     fi
 }
 
-# Shows while something can still be saved that what is typed is not kept, and when it is kept again.
+# Shows in the title that unsaved text is not kept, and clears the note when it is kept again.
 show_note() {
     note=''
     if ! is_filled; then
@@ -68,7 +69,8 @@ tell_note() {
     [ -z "$note" ] || printf '\a'
 }
 
-# A disk may take its time, and signals go on meanwhile. One that tries to fill the session is not tried beside another.
+# Retries filling the session in the background, since a disk may be slow and signals must be handled. Starts no second attempt
+# beside a running one.
 fill_beside() {
     fill_again &
     filler=$!
@@ -76,7 +78,8 @@ fill_beside() {
     filler=''
 }
 
-# Puts what is new in the journal on the disk, since the program does so only as it reads, and looks for faults. A disk may take its time.
+# Syncs new journal bytes to disk each second, since the program syncs only when it reads input, and shows faults. Runs in the
+# background: a disk may be slow.
 mind_journal() {
     is_filled || fill_beside
     # shellcheck disable=SC3013 # dash and bash have it
@@ -94,14 +97,14 @@ mind_journal() {
 
 leave() {
     for process in $teller $sleeper $printer $syncer $filler; do kill -s KILL "$process"; done
-    # a disk may keep its own for long
+    # a slow disk may block its syncs for long
     wait "$teller" "$sleeper" ${printer:+"$printer"}
     exit
 }
 
-# Beside the program: has a size sent for each change and each end of a stop, which the terminal and the shell tell to the whole job, and
-# minds the journal each second. The launcher itself has no trap for sizes and stops: bash loses an end that comes beside them to a shell
-# that waits.
+# Runs beside the program. Sends the size after each resize and each stop; the terminal and the shell signal these to the whole
+# job. Minds the journal each second. The launcher itself does not trap these signals: a waiting bash loses a TERM or HUP that
+# arrives with them.
 attend() { # SIZE
     # shellcheck disable=SC2094
     exec 4<&- 5>&- 6<&- 7>&- 9<&- 8<>"$folder/changes" 9<"$folder/changes"
@@ -114,22 +117,22 @@ attend() { # SIZE
     teller=$!
     : >"$folder/attended"
     exec 9<&-
-    # a change that came before the traps
+    # a resize before the traps were set
     measure
     [ "$rows $cols" = "$1" ] || [ -n "$is_told" ] || echo >&8
     : >"$folder/synced"
     while ! [ -e "$folder/over" ]; do
         sleep 1 &
         sleeper=$!
-        # a trap ends a wait
+        # a trap interrupts a wait
         while kill -s 0 "$sleeper"; do wait "$sleeper"; done
         [ -z "$kept" ] || mind_journal
     done
     leave
 }
 
-# Ends what this launcher started, if the launcher is gone without having done so. It reads their numbers, the program's first, until
-# nobody is left who could write one.
+# Ends the launcher's processes if the launcher died without doing so. Reads their process numbers, the program's first, until
+# no writer is left.
 watch() {
     trap '' HUP INT QUIT TERM
     exec 0<&- 3<&- 5>&- 6<&- 7>&- 8>&- 9<&-

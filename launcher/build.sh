@@ -1,16 +1,16 @@
 # shellcheck shell=sh
-# shellcheck disable=SC2154 # words that other parts give
-# Proving and building the programs, where they are not built.
+# shellcheck disable=SC2154 # variables that other parts set
+# Proves and builds missing programs.
 
-# A script of its own does it, which tells how far it is and ends the toolchain where it is told to stop.
+# Runs proving/prove.sh, which reports progress and stops the toolchain on a signal.
 build() { # PROGRAM.., else those that edit
     [ $# -gt 0 ] || set -- bidi_edit bidi_input
     [ -d "$top/crates/$1" ] || fail "the program $1 is not there"
-    # the toolchain makes files there too
+    # the toolchain uses the same folder for temporary files
     make_folder
     rm -rf -- "$folder"
     folder=''
-    # Ctrl-C goes to both scripts. That one puts things in order and says so before this one ends.
+    # Ctrl-C reaches both scripts; prove.sh cleans up and reports before this one ends
     trap : INT QUIT
     sh "$parts/proving/prove.sh" "$top" "$@" || exit
     trap - INT QUIT

@@ -1,11 +1,11 @@
 # shellcheck shell=sh
-# shellcheck disable=SC2034,SC2154 # words that other parts give and take
-# What is looked at before the screen changes: each refusal is one line with its cause and a cure.
+# shellcheck disable=SC2034,SC2154 # variables shared with other parts
+# Checks before the screen changes. Each refusal is one line with a cause and a cure.
 
 # ---- the terminal
 
-# Standard input and output become the controlling terminal, opened anew: they may be something else where another program starts
-# this one, and what another program set on its own opening, as that a read does not wait, does not hold for a new one.
+# Opens the controlling terminal again as standard input and output. A caller may have redirected them, or set flags such as
+# O_NONBLOCK on its own open file.
 take_terminal() {
     [ "${TERM:-}" != dumb ] ||
         refuse_place 'the terminal is dumb (TERM=dumb) and moves no cursor: start the editor in another, or with TERM=xterm if it is none'
@@ -22,7 +22,7 @@ refuse_file() { # NAME CAUSE
 
 # ---- the tables
 
-# Whether the folder has Unicode's three files. In Unicode's own tree the first stands one folder lower.
+# Finds Unicode's three files in a folder. In Unicode's own tree the first is one folder deeper.
 take_tables() { # FOLDER
     classes=$1/extracted/DerivedBidiClass.txt
     [ -r "$classes" ] || classes=$1/DerivedBidiClass.txt
@@ -31,7 +31,7 @@ take_tables() { # FOLDER
     [ -r "$classes" ] && [ -r "$brackets" ] && [ -r "$mirroring" ]
 }
 
-# The tables: those that BIDI_EDIT_DATA names, else the machine's, else the editor's own.
+# Finds the tables: from BIDI_EDIT_DATA, else the system's, else the editor's own.
 find_tables() {
     if [ -n "${BIDI_EDIT_DATA:-}" ]; then
         take_tables "$BIDI_EDIT_DATA" ||
@@ -43,14 +43,14 @@ find_tables() {
 
 # ---- FILE
 
-# What is said where a save would fail, though the text can be read.
+# The hint for a FILE that can be read but not saved.
 force_hint='--force opens it all the same'
 
-# Where a save goes: `place`, which FILE leads to, in `place_folder` with the name `place_name`.
+# Resolves FILE to `place`, where saves go, with its folder in `place_folder` and its name in `place_name`.
 find_place() {
     place=$file
     if [ -L "$file" ]; then
-        # the x keeps a name's own last line end
+        # x protects trailing newlines from the command substitution
         place=$(readlink -f -- "$file" && echo x) || refuse_file "$file" 'is a link that leads nowhere: ls -l shows where to'
         place=${place%??}
     fi
@@ -79,7 +79,7 @@ check_folder() {
     [ -x "$place_folder" ] || refuse_file "$place_folder" 'is a folder that is closed to you: its owner can open it by chmod a+x'
 }
 
-# The editor refuses a name that is not UTF-8, as a word, but only when it has the terminal.
+# Checks that the name is UTF-8. The program refuses such an argument too, but only after it has the terminal.
 check_name() {
     case $file in
     *[!\ -~]*) ! command -v iconv >/dev/null || printf '%s' "$file" | iconv -f UTF-8 -t UTF-8 >/dev/null 2>&1 ||
@@ -87,7 +87,7 @@ check_name() {
     esac
 }
 
-# A save writes beside the file one whose name is 3 bytes longer. No character has more than 4 bytes, so short names need no count.
+# Checks that a draft's name, which is 3 bytes longer, fits. A character has at most 4 bytes, so short names need no count.
 check_length() {
     [ ${#place_name} -gt 60 ] || return 0
     length=$(printf '%s' "$place_name" | wc -c)
@@ -104,14 +104,14 @@ check_access() {
 }
 
 check_text() {
-    # the shell itself would tell a name as it is
+    # the shell would print the raw name in its own error
     { [ -r "$file" ] && size=$(wc -c <"$file"); } 2>/dev/null || refuse_file "$file" 'cannot be read by you: chmod u+r lets its owner read it'
     [ "$size" -le 16777216 ] ||
         refuse_file "$file" "has $((size)) bytes, and 16777216 are the most: split -C 16M cuts it at line ends"
     ! command -v iconv >/dev/null || iconv -f UTF-8 -t UTF-8 <"$file" >/dev/null 2>&1 || refuse_bytes
 }
 
-# The lines before the first byte that is not UTF-8 are those that can be converted.
+# Counts the lines before the first byte that is not UTF-8, by converting them.
 refuse_bytes() {
     number=$(($(iconv -f UTF-8 -t UTF-8 <"$file" 2>/dev/null | wc -l) + 1))
     case $(head -c 2 -- "$file" 2>/dev/null | od -An -tx1) in
@@ -120,7 +120,7 @@ refuse_bytes() {
     refuse_file "$file" "is not UTF-8 in line $number: iconv -f CP1255 -t UTF-8 may help if it is in Windows' Hebrew (CP1256: Arabic)"
 }
 
-# Files of the names that saves give to what they write, which a killed one leaves.
+# Lists files with names of drafts, which a killed save leaves.
 tell_leftovers() {
     left=''
     for number in '' 1 2 3 4 5 6 7 8 9; do
@@ -129,7 +129,7 @@ tell_leftovers() {
     [ -z "$left" ] || printf 'bidi-edit: perhaps left by a save that was killed; look at it, and remove what is not wanted:%s\n' "$left" >&2
 }
 
-# Refuses what cannot be edited, and, unless it is forced, what cannot be saved.
+# Refuses a FILE that cannot be edited, and, without --force, one that cannot be saved.
 check_file() {
     check_kind
     find_place

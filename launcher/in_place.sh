@@ -1,15 +1,15 @@
 # shellcheck shell=sh
-# shellcheck disable=SC2034,SC2154 # words that other parts give and take
-# Saves that are written into FILE itself, since a rename would break it, and FILE after one that was cut off.
+# shellcheck disable=SC2034,SC2154 # variables shared with other parts
+# Saves that overwrite FILE where a rename would break it, and repair of FILE after an interrupted one.
 #
-# The program keeps the whole new text as `mark` in the session's folder, from before FILE's first byte changes until FILE is on the
-# disk. The session's `place` has the path of that FILE, and its `save` the last text of a mark that was left.
+# The program writes the whole new text to `mark` in the session's folder before FILE's first byte changes, and removes it after
+# FILE is synced. The session's file `place` has the path of that FILE, and `save` the text of the last mark that was left.
 
 in_place='' harm=''
 
 # ---- whether FILE needs such saves
 
-# Whether FILE is a mount of its own. The kernel writes four characters of a mount's name as numbers.
+# Whether FILE is a mount point. The kernel escapes blank, tab, newline and backslash in mountinfo as octal numbers.
 # shellcheck disable=SC2016
 is_mounted() {
     LC_ALL=C awk '
@@ -25,13 +25,13 @@ is_mounted() {
         END { exit !is_found }' "$path" 2>/dev/null
 }
 
-# Whether nobody but its owner may replace FILE, as in /tmp.
+# Whether the sticky bit of the folder lets only FILE's owner replace FILE, as in /tmp.
 # shellcheck disable=SC3067 # dash and bash have -O
 is_held_by_folder() {
     [ -k "$place_folder" ] && ! [ -O "$place" ] && ! [ -O "$place_folder" ] && [ "$(id -u)" != 0 ]
 }
 
-# The modes of FILE and its folder as `ls` tells them, with a + for an access list, and how many names FILE has.
+# Reads the modes of FILE and its folder from `ls`, with + for an access list, and FILE's link count.
 read_modes() {
     {
         read -r mode_of_file links _
@@ -41,7 +41,7 @@ $(ls -ldqU -- "$place" "$place_folder/." 2>/dev/null)
 TOLD
 }
 
-# Why FILE is not to be replaced, in `in_place`, and what a save by a rename would do, in `harm`.
+# Sets `in_place` to the reason not to replace FILE, and `harm` to the effect of a rename.
 find_in_place() {
     in_place='' harm=''
     if ! [ -f "$place" ] || ! [ -w "$place" ]; then return 0; fi
@@ -65,7 +65,7 @@ find_listed() { # MODES
     esac
 }
 
-# Before the screen changes: such saves need a session, whose folder has the whole text while FILE is written.
+# Saves into FILE need a session, whose folder holds the whole text while FILE is written. Runs before the screen changes.
 settle_in_place() {
     [ -n "$in_place" ] || return 0
     if [ -n "$kept" ] && { printf '%s' "$path" >"$kept/place"; } 2>/dev/null; then
@@ -78,15 +78,15 @@ settle_in_place() {
     printf 'bidi-edit: %s\n' "$told" >&7
 }
 
-# The end before the program begins.
+# Ends before the program starts.
 end_refused() { # CAUSE
     printf 'bidi-edit: %s\n' "$1" >&7
     exit 1
 }
 
-# ---- FILE after a save that was cut off
+# ---- FILE after an interrupted save
 
-# Whether a session saves into this FILE, by whatever name.
+# Whether a session's saves go to this FILE, under any name.
 saves_into_file() { # SESSION
     [ -f "$1/place" ] || return 1
     at=$(cat "$1/place" && echo x)
@@ -94,8 +94,8 @@ saves_into_file() { # SESSION
     [ "${at%x}" -ef "$place" ]
 }
 
-# How a file compares with the text of a mark, in `verdict`: whole, torn (the beginning of it, with zeros where the disk had not
-# written yet), or other.
+# Compares a file with a mark's text. Sets `verdict` to whole, torn (a beginning of the text, with zeros for unwritten blocks)
+# or other.
 judge_mark() { # FILE MARK
     verdict=other
     if cmp -s -- "$1" "$2"; then
@@ -106,8 +106,8 @@ judge_mark() { # FILE MARK
     fi
 } 2>/dev/null
 
-# Writes a mark's text over a torn FILE, which is opened before it is judged, so that it is no other. The shell would open it for
-# writing as one that may be made, which is refused of another user's file in a folder like /tmp.
+# Writes a mark's text over a torn FILE. Opens FILE before judging it, so that both are the same file. Uses dd with nocreat,
+# since the shell opens with O_CREAT, which the system refuses for another user's file in a sticky folder.
 put_text_back() { # MARK
     {
         judge_mark /dev/fd/4 "$1"
@@ -115,7 +115,7 @@ put_text_back() { # MARK
     } 4<"$place"
 } 2>/dev/null
 
-# Whether an editor that may go on, other than that of a session, saves into FILE.
+# Whether another session that may be running saves into FILE.
 is_being_saved() { # SESSION
     for other_session in "${1%/*}"/[0-9]*; do
         if [ "$other_session" = "$1" ] || ! saves_into_file "$other_session"; then continue; fi
@@ -124,7 +124,7 @@ is_being_saved() { # SESSION
     return 1
 }
 
-# Makes FILE whole where a save of this session was cut off, and says so. The session is locked.
+# Repairs FILE after an interrupted save of this locked session, and reports it.
 mend_file() { # SESSION
     [ ! -e "$1/mark.bx" ] || rm -f -- "$1/mark.bx"
     [ -f "$1/mark" ] || return 0
@@ -140,7 +140,7 @@ mend_file() { # SESSION
     mv -f -- "$1/mark" "$1/save"
 }
 
-# Before FILE is looked at: the same for the sessions that nobody has.
+# Repairs FILE after interrupted saves of sessions that no editor holds. Runs before FILE is checked.
 mend_before() {
     find_sessions_folder
     for mark in "${sessions:-/none}"/[0-9]*/mark; do

@@ -1,9 +1,9 @@
 # shellcheck shell=sh
-# shellcheck disable=SC2154 # words that other parts give
-# Line ends: Enter puts in LF, also where the lines of FILE end with CR LF, which is told at the end.
+# shellcheck disable=SC2154 # variables that other parts set
+# Line ends: Enter inserts LF, even if FILE's lines end with CR LF. A mix is reported at the end.
 
-# Whether a text has lines, and each of them ends with CR LF. Most texts are told by their first lines. The x stands behind the last
-# line end.
+# Whether a text has lines and all of them end with CR LF. The first pass stops early for most texts. The second appends x, so
+# that awk also sees the last line's end.
 all_crlf() { # FILE
     LC_ALL=C awk 'is_lone { exit 1 } { is_lone = !/\r$/ }' <"$1" 2>/dev/null || return 1
     { cat -- "$1" && echo x; } 2>/dev/null |

@@ -1,9 +1,9 @@
 # shellcheck shell=sh
-# How names are told: as a shell takes them, so that they can be copied, and with nothing in them that a terminal obeys or hides.
+# Printing of names: quoted for a shell, so that they can be copied, with characters escaped that a terminal obeys or hides.
 
-# In awk, for bytes: `told` of a text is that text with a number for each byte of what is no UTF-8 or is hidden, and `has_numbers`
-# says whether there are any. Hidden are control characters, separators of lines, what turns directions, tags, and other format
-# characters that show nothing; but not the two joiners, which Persian and Indic words are spelt with. 047 is a quote, 134 a backslash.
+# Functions in awk, which work on bytes. `told` returns a text with bytes that are not UTF-8 or hidden as octal escapes, and
+# `has_numbers` says whether there are any. Hidden are control characters, line separators, bidi controls, tags and other
+# invisible format characters, except the two joiners, which Persian and Indic words need. 047 is a quote, 134 a backslash.
 # shellcheck disable=SC2016
 telling='
     BEGIN {
@@ -15,7 +15,7 @@ telling='
         for (i = 1; i < bounds; i += 2) if (code >= bound[i] + 0 && code <= bound[i + 1] + 0) return 1
         return 0
     }
-    # How many bytes the character has that begins there, whose number goes to `code`; 0 where none does.
+    # Returns the length in bytes of the character at a position and sets `code`; returns 0 if none begins there.
     function width_at(text, at,    first, width, i, byte) {
         code = first = value[substr(text, at, 1)]
         if (first < 128) return 1
@@ -64,7 +64,8 @@ shown() { # NAME
         }' "$1"
 }
 
-# What a program says, with what it tells of names. Of its journal only the last line counts, and only one that tells a fault is shown.
+# Prints the program's lines with their names escaped. Of lines about the journal only the last is printed, and only if it is a
+# fault.
 shown_lines() {
     LC_ALL=C awk "$telling"'
         !/^bidi_edit: the journal (could not be written|is kept again$)/ { print told($0, ""); next }

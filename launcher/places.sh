@@ -1,8 +1,8 @@
 # shellcheck shell=sh
-# shellcheck disable=SC2034,SC2154 # words that other parts give and take
-# Folders that the environment names: one that cannot be used is told, and what serves in its place is taken.
+# shellcheck disable=SC2034,SC2154 # variables shared with other parts
+# Folders from the environment. An unusable one is reported and replaced by a default.
 
-# Makes a folder of our own there, in `folder`, with these pipes in it: a disk may be full, or know no pipes.
+# Makes a private folder in PLACE with these pipes, and sets `folder`. A full disk or a file system without pipes makes it fail.
 try_folder() { # PLACE PIPE..
     folder=$(mktemp -d "$1/bidi-edit.XXXXXX" 2>/dev/null) || return 1
     shift
@@ -16,7 +16,7 @@ try_folder() { # PLACE PIPE..
     return 1
 }
 
-# The same in the folder for temporary files, which is /tmp from then on where TMPDIR's takes none.
+# Makes the private folder in TMPDIR, else in /tmp, which becomes TMPDIR then.
 make_folder() { # PIPE..
     ! try_folder "${TMPDIR:-/tmp}" "$@" || return 0
     if [ "${TMPDIR:-/tmp}" != /tmp ]; then
@@ -27,7 +27,7 @@ make_folder() { # PIPE..
     fail 'nothing can be made in /tmp: TMPDIR can name another folder'
 }
 
-# The standard of these folders has a relative one passed over.
+# The XDG base directory specification says to ignore relative paths.
 settle_state() {
     case ${XDG_STATE_HOME:-/} in
     /*) ;;

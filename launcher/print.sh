@@ -1,8 +1,8 @@
 # shellcheck shell=sh
-# shellcheck disable=SC2034,SC2154 # words that other parts give and take
+# shellcheck disable=SC2034,SC2154 # variables shared with other parts
 # Printing: the rows of FILE go to standard output, for a pager, mail or a printer.
 
-# The program beside the editor.
+# Finds the printing program beside the editor.
 find_printer() {
     case $editor in
     */bidi_edit/out/bidi_edit) printer=${editor%/bidi_edit/out/bidi_edit}/bidi_print/out/bidi_print ;;
@@ -10,7 +10,7 @@ find_printer() {
     esac
 }
 
-# The columns of the terminal that standard output is, else 80.
+# Sets `columns` to the width of the terminal on standard output, else to 80.
 find_columns() {
     columns=80
     [ -t 1 ] || return 0
@@ -47,7 +47,7 @@ take_print_file() { # WORD..
     esac
 }
 
-# Reads the words behind --print into `columns`, `direction`, `marks` and `file`.
+# Parses the words after --print into `columns`, `direction`, `marks` and `file`.
 read_print_words() { # WORD..
     file='' marks=''
     while [ $# -gt 0 ]; do
@@ -72,7 +72,7 @@ read_print_words() { # WORD..
     [ -n "$file" ] || refuse_words 'one FILE is wanted'
 }
 
-# What the program would tell without a cure. What is no plain file is read as it comes.
+# Refuses a FILE with a cure, where the program has only a cause. A device or a pipe is read unchecked.
 check_print_file() {
     [ ! -d "$file" ] || refuse_file "$file" 'is a folder: name a file in it'
     [ -e "$file" ] || refuse_file "$file" 'is not there'
@@ -81,7 +81,7 @@ check_print_file() {
     [ ! -f "$file" ] || check_text
 }
 
-# Prints as the words say, in place of this script.
+# Replaces this script by the printing program.
 print_rows() { # WORD..
     usage='usage: bidi-edit --print FILE [--cols N] [--marks] [--direction auto|ltr|rtl]'
     find_columns

@@ -1,11 +1,12 @@
 # shellcheck shell=sh
-# shellcheck disable=SC2034,SC2154 # words that other parts give and take
-# How what was typed in a session is had back: FILE's sessions, what is asked of them, and what becomes of one. No key of a session is
-# obeyed before the answer.
+# shellcheck disable=SC2034,SC2154 # variables shared with other parts
+# Recovery of unsaved text: FILE's sessions, the questions about them, and their outcomes. No key of a session is replayed
+# before the answer.
 
 # ---- the sessions of FILE
 
-# A session of a recovery beside FILE is found under FILE's name until it was saved beside.
+# Whether a session belongs to FILE. If its text was recovered under another name, it belongs to that file once it exists, and
+# to FILE before.
 is_of_file() { # SESSION
     [ -f "$1/path" ] || return 1
     at=$1/path
@@ -13,12 +14,13 @@ is_of_file() { # SESSION
     [ "$(cat "$at" && echo x)" = "${path}x" ]
 }
 
-# Whether a session has something that may be lost: keys, a text that counts as changed, or one that FILE may lack.
+# Whether a session may hold unsaved text: keys, a text that counts as changed, or a mark that FILE may lack.
 has_something() { # SESSION
     [ -s "$1/journal" ] || [ -e "$1/unsaved" ] || [ -e "$1/mark" ]
 }
 
-# FILE's newest sessions of each kind: `live`, `elsewhere`, `unfinished` and `dropped`. One that has nothing to lose goes.
+# Sets `live`, `elsewhere`, `unfinished` and `dropped` to FILE's newest session of each kind. Removes sessions without unsaved
+# text.
 find_sessions() {
     live='' elsewhere='' unfinished='' dropped=''
     find_sessions_folder
@@ -39,7 +41,7 @@ find_sessions() {
     done
 }
 
-# How many keys a journal has, without obeying them: a sequence is one, and a told size none.
+# Counts a journal's keys without replaying them. A sequence is one key, a reported size none.
 count_keys() { # SESSION
     escape=$(printf '\033')
     LC_ALL=C tr '\n' '\r' <"$1/journal" |
@@ -52,15 +54,15 @@ tell_when() { # SESSION
 
 # ---- replays
 
-# Obeys a session's keys, within `limit` seconds where there is one, and stores the text as TO.
+# Replays a session's keys and stores the text as TO, within `limit` seconds if that is set.
 run_replay() { # SESSION TO
     read_begin "$1"
     ${limit:+timeout -s KILL "$limit"} "$editor" --rows "$rows" --cols "$cols" --direction "$direction" ${line:+--line "$line"} --classes "$classes" \
         --brackets "$brackets" --mirroring "$mirroring" --text "$1/text" --replay "$1/journal" --to "$2" "$file"
 }
 
-# The text of a session, in a folder `replay` that is this script's alone. `held` tells what FILE holds now: same, the text of the
-# session; known, what it began with or a save of it; foreign, something else. `count` is how many keys were typed.
+# Replays a session into a new private folder `replay`. Sets `held` to FILE's current content: same (the session's text), known
+# (the opened text or a saved one) or foreign. Sets `count` to the number of keys typed.
 replay_session() { # SESSION
     replay=$(mktemp -d "$sessions/.replay.XXXXXX") || fail "nothing can be written in $(shown "$sessions")"
     if told=$(run_replay "$1" "$replay/text"); then
@@ -71,12 +73,12 @@ replay_session() { # SESSION
     return 1
 }
 
-# By the sums, whatever the places of the files.
+# Whether this version kept the session: the version and the checksums agree, whatever the paths.
 is_of_this_version() { # SESSION
     [ "$(tell_versions | cut -d ' ' -f 1,2)" = "$(cut -d ' ' -f 1,2 -- "$1/versions" 2>/dev/null)" ]
 }
 
-# ---- what is asked
+# ---- questions
 
 ask() { # QUESTION
     printf '%s ' "$1"
@@ -117,7 +119,7 @@ ask_what_to_do() { # SESSION
     esac
 }
 
-# Before FILE is opened: what other sessions it has. An answer takes time, so FILE is looked at once more.
+# Asks about FILE's other sessions before FILE is opened. An answer takes time, so FILE is checked again afterwards.
 meet_sessions() {
     was_asked=''
     find_sessions
@@ -133,7 +135,7 @@ meet_again() {
 
 # ---- a session goes on
 
-# The first free one of FILE.recovered, FILE.recovered1 and so on.
+# Finds the first free name among FILE.recovered, FILE.recovered1 and so on.
 take_free_name() { # ENDING
     free=$file.$1
     number=0
@@ -143,14 +145,14 @@ take_free_name() { # ENDING
     done
 }
 
-# The permissions of a file that is made for a session: those that FILE had, without what goes with an owner, else its user's alone.
+# Reads the permissions for a file made from a session: FILE's without the set-ID and sticky bits, else 600.
 read_mode() { # SESSION
     session_mode=600
     [ ! -f "$1/mode" ] || read -r session_mode <"$1/mode"
     session_mode=${session_mode#"${session_mode%???}"}
 }
 
-# Over FILE, or beside it where FILE is there and is not what the session knew.
+# Continues a session on FILE, or on a new file beside it if FILE exists with a foreign content.
 go_on() { # SESSION
     if [ "$held" = foreign ] && [ -e "$file" ]; then
         take_free_name recovered
@@ -168,7 +170,7 @@ go_on() { # SESSION
     note_process "$kept"
 }
 
-# Takes a session that nobody else has by now, and looks at FILE now.
+# Takes over a session, unless another start of the editor holds it by now.
 take_session() { # SESSION
     if ! lock_session "$1"; then
         meet_again
@@ -200,16 +202,16 @@ take_by_keys() { # SESSION
     fi
 }
 
-# Of a session that is replayed: it ends here where FILE holds all of it.
+# Ends a replayed session whose text FILE holds.
 end_where_same() { # SESSION
     printf 'bidi-edit: %s holds all that was typed in its last session\n' "$(shown "$file")"
     rm -rf -- "$1"
     unlock_session
 }
 
-# ---- a session whose keys cannot be relied on
+# ---- sessions whose keys are unreliable
 
-# Another editor, or other tables, may make another text of the same keys. The text where it was left is sure.
+# Another program or other tables may make another text of the same keys. A snapshot of the text is reliable.
 take_from_other_version() { # SESSION
     if [ -f "$1/snapshot" ]; then
         take_by_text "$1"
@@ -234,7 +236,7 @@ what_file_holds() { # SESSION
     fi
 }
 
-# A session of its own begins with that text, of which nothing counts as saved.
+# Starts a new session from the snapshot. All of its text counts as unsaved.
 take_by_text() { # SESSION
     what_file_holds "$1"
     if [ "$held" = same ]; then
@@ -254,7 +256,7 @@ fill_from_text() { # SESSION NEW
     for part in mode beside; do [ ! -f "$1/$part" ] || cp -- "$1/$part" "$2/"; done
 }
 
-# Such a session keeps no one from FILE.
+# Asks about a session that cannot be replayed. It never blocks opening FILE.
 ask_what_to_keep() { # SESSION
     printf 'bidi-edit: the session of %s in %s could not be replayed\n' "$(shown "$file")" "$(shown "$1")"
     ask "open FILE and leave the session, keep its parts as files beside FILE, or drop it (open, keep, drop)?"
@@ -267,7 +269,7 @@ ask_what_to_keep() { # SESSION
     unlock_session
 }
 
-# The parts of a session, under names that are free; then it is no session any more.
+# Copies a session's parts to free names beside FILE, and removes the session.
 keep_parts() { # SESSION
     for part in text journal snapshot save; do
         [ -f "$1/$part" ] || continue
@@ -286,12 +288,13 @@ keep_parts() { # SESSION
 
 # ---- --recover
 
-# The session that --recover means: an unfinished one, else one whose changes were dropped, else one of another machine that ended.
+# Picks the session for --recover: an unfinished one, else one whose changes were dropped, else one of another machine that
+# ended.
 find_recoverable() {
     check_kind
     find_place
     find_path
-    # another place can have the text where FILE cannot be written
+    # the text can be stored elsewhere even if FILE cannot be repaired
     mend_before || [ -n "$other" ] || exit 1
     find_sessions
     [ -n "$unfinished" ] || unfinished=$dropped
@@ -308,7 +311,7 @@ ask_of_elsewhere() {
     unfinished=$elsewhere
 }
 
-# Takes FILE's session without a question.
+# Recovers FILE's session without asking which.
 recover() {
     find_recoverable
     if [ -z "$unfinished" ]; then
@@ -319,7 +322,7 @@ recover() {
     take_session "$unfinished"
 }
 
-# The text of a session in `replay`: of its keys, or of another version's where it was left.
+# Puts a session's text into `replay`: from its keys, or from its snapshot if another version kept it.
 take_text() { # SESSION
     if is_of_this_version "$1" || ! [ -f "$1/snapshot" ]; then
         is_of_this_version "$1" || tell_unsure
@@ -333,7 +336,7 @@ take_text() { # SESSION
     fi
 }
 
-# Stores the text of FILE's session elsewhere, and ends. The session stays.
+# Stores the text of FILE's session as OTHER, and exits. The session stays.
 recover_elsewhere() { # OTHER
     find_recoverable
     [ -n "$unfinished" ] || fail "the session of $(shown "$file") began on another machine: bidi-edit --recover $(shown "$file") asks of it"
@@ -352,7 +355,7 @@ recover_elsewhere() { # OTHER
 
 # ---- all sessions
 
-# The folders that may have some: that of what lasts, and those for what does not.
+# Prints the folders that may have sessions: the state folder, and the ones in temporary file systems.
 tell_folders() {
     find_state_folder
     [ -z "$sessions" ] || printf '%s\n' "$sessions"
@@ -372,7 +375,7 @@ tell_session() { # SESSION
         "$(shown "$(cat "$1/path")")" "$note"
 }
 
-# Lists the sessions that have something to lose, and ends.
+# Lists the sessions with unsaved text, and exits.
 list_sessions() {
     tell_folders | while read -r sessions; do
         [ -d "$sessions" ] || continue

@@ -1,19 +1,19 @@
 # shellcheck shell=sh
-# shellcheck disable=SC2034,SC2154 # words that other parts give and take
-# The sessions that are kept until nothing of them is unsaved: their folders, and who may use one.
+# shellcheck disable=SC2034,SC2154 # variables shared with other parts
+# Sessions, which keep unsaved text until it is saved: their folders, and their locks.
 #
-# A session has a folder of its own: text is FILE as it was opened; path is FILE's, and beside that of the file where a recovery beside
-# FILE is saved; begin has the rows, the columns, the direction and the line (- for none) that it began with; process has the number of
-# its launcher, and the machine; mode has FILE's permissions, and is not there where FILE was not; versions tell what obeyed the keys;
-# journal has the bytes that the program read; lock is held while the session goes on. A file dropped says that Quit let the changes go,
-# cut that the journal lacks the end, unsaved that the text counts as changed from the beginning, and snapshot is the text where the
-# session was left. What a session has of saves into FILE itself in_place.sh tells.
+# Files in a session's folder: `text` is FILE as opened; `path` is FILE's path, and `beside` the path of the file that a
+# recovery beside FILE saves; `begin` has the first rows, columns, direction and line (- for none); `process` has the launcher's
+# number and the machine; `mode` has FILE's permissions, if FILE existed; `versions` has the versions that its keys depend on;
+# `journal` has the bytes that the program read; `lock` is held while the session runs. `dropped` marks changes that Quit
+# discarded, `cut` a journal without its end, `unsaved` a text that counts as changed from the start, and `snapshot` is the text
+# at the end. in_place.sh describes the files of saves into FILE itself.
 
 kept='' forgotten='' is_resumed='' is_waiting='' opened='' unkept='' session_mode='' limit='' found_for='-'
 
 # ---- where sessions are
 
-# The nearest folder that is there, in `at`: what is not there yet will be where that is.
+# Sets `at` to the nearest existing folder above FOLDER. A new folder will be on the same file system.
 find_there() { # FOLDER
     at=$1
     while ! [ -d "$at" ]; do
@@ -24,7 +24,7 @@ find_there() { # FOLDER
     done
 }
 
-# What a folder is in that does not last, in `where`: memory, or a folder for temporary files, which is named.
+# Sets `where` to the temporary place that FOLDER is in: memory, or a folder for temporary files; empty if it is permanent.
 find_where() { # FOLDER KIND OF ITS FILE SYSTEM
     where=memory
     case $2 in tmpfs | ramfs) return ;; esac
@@ -34,7 +34,7 @@ find_where() { # FOLDER KIND OF ITS FILE SYSTEM
     done
 }
 
-# A folder in memory for the sessions of a FILE there.
+# Picks a folder in memory for the sessions of a FILE in memory.
 find_memory_folder() { # FOLDER OF FILE
     for root in "$(stat -c %m -- "$1")" "${XDG_RUNTIME_DIR:-/dev/shm}" /dev/shm; do
         case $(stat -f -c %T -- "$root" 2>/dev/null) in tmpfs | ramfs) ;; *) continue ;; esac
@@ -51,7 +51,7 @@ find_state_folder() {
     [ -z "$sessions" ] || sessions=$sessions/bidi_edit
 }
 
-# The state folder, unless FILE does not last as long as what is there.
+# Picks the state folder for sessions, unless FILE is more short-lived than it; then a folder as short-lived as FILE.
 find_sessions_folder() {
     folder_of_file=${path%/*}
     [ "$folder_of_file" != "$found_for" ] || return 0
@@ -60,7 +60,7 @@ find_sessions_folder() {
     find_there "$sessions"
     of_state=$at
     find_there "$folder_of_file"
-    # a line for each
+    # stat prints one line for each
     kinds=$(stat -f -c %T -- "$at" "$of_state" 2>/dev/null)
     find_where "$of_state" "${kinds##*[!a-z0-9]}"
     state_where=$where
@@ -73,15 +73,15 @@ find_sessions_folder() {
     check_sessions_folder
 }
 
-# FILE's absolute path, where saves go, also where its folder is gone. The x keeps a folder's own last line end.
+# Sets `path` to the absolute path that saves go to, even if its folder is gone. x protects trailing newlines.
 find_path() {
     path=$({ { CDPATH='' cd -- "$place_folder" && pwd -P; } 2>/dev/null || readlink -m -- "$place_folder"; } && echo x)
     path=${path%??}
     path=${path%/}/$place_name
 }
 
-# Finds what of a folder is not as it must be, in `distrusted`: it is of who runs the editor, who alone may write it, and no one else
-# but root can put another in its place.
+# Sets `distrusted` to the first folder on the path that another user could change, if any. FOLDER itself must belong to the
+# user who runs the editor and be writable by nobody else, and only root may be able to replace it.
 # shellcheck disable=SC3067 # dash and bash have -O
 find_distrusted() { # FOLDER
     distrusted=$1
@@ -102,8 +102,8 @@ find_distrusted() { # FOLDER
     distrusted=${1:-}
 }
 
-# Whether no other user may change a folder of this owner and mode: the first that is asked about is the user's alone, and others may be
-# root's, or sticky.
+# Whether no other user can change a folder with this owner and mode. The first call is about the user's own folder; the folders
+# above may also belong to root, or be sticky.
 is_closed() { # OWNER MODE
     if [ -z "$user" ]; then
         user=$1
@@ -113,7 +113,7 @@ is_closed() { # OWNER MODE
     fi
 }
 
-# A folder of sessions that others could have filled is not used.
+# Refuses a folder of sessions that other users could have filled.
 check_sessions_folder() {
     unkept=''
     if ! command -v flock >/dev/null; then
@@ -129,15 +129,15 @@ check_sessions_folder() {
     fi
 }
 
-# Whether all of a session is its user's alone, and none of it leads elsewhere. In a folder that is closed its files may have any modes.
+# Whether all files of a session belong to the user and none is a link. In a closed folder the files' modes do not matter.
 is_own() { # SESSION
     [ -d "$1" ] && [ -z "$(find "$1" \( ! -user "$(id -u)" -o -type d -perm /022 -o ! -type d ! -type f \) -print 2>&1)" ]
 }
 
-# ---- who has a session
+# ---- locks
 
-# The lock of a session, which is this script's from here on, and its program's. One that was taken away meanwhile has no path, and one
-# that begins has none yet.
+# Locks a session, for this script and the program that inherits the lock. Fails for a session that was removed meanwhile or is
+# just being made: it has no path.
 lock_session() { # SESSION [PART THAT IT HAS]
     { command exec 9<>"$1/lock"; } 2>/dev/null || return 1
     if flock -w 1 9 && [ -f "$1/${2-path}" ]; then return 0; fi
@@ -153,7 +153,7 @@ is_live() { # SESSION
     ! flock -s -n "$1/lock" true
 }
 
-# This machine, by its name and by when it started: containers on one have names of their own.
+# Identifies the machine by its name and its boot, since containers on one machine have names of their own.
 find_machine() {
     this_host='' this_start=''
     read -r this_host 2>/dev/null </proc/sys/kernel/hostname || this_host=$(uname -n)
@@ -165,14 +165,14 @@ note_process() { # SESSION
     echo "$$ $this_host $this_start" >"$1/process"
 }
 
-# The launcher of a session, in `process` and `host`.
+# Reads a session's launcher into `process` and `host`.
 read_process() { # SESSION
     process='' host='' start=''
     read -r process host start 2>/dev/null <"$1/process" || :
     [ -n "$start" ] || host=unknown
 }
 
-# Whether a session began on another machine, where it may go on: its lock may not reach this one.
+# Whether a session began on another machine and may still run there; its lock may not reach this machine.
 may_go_on_elsewhere() { # SESSION
     read_process "$1"
     find_machine
@@ -180,7 +180,7 @@ may_go_on_elsewhere() { # SESSION
     [ "$start" != "$this_start" ] || [ "$start" = - ]
 }
 
-# Takes a session away that no one has by now.
+# Removes a session, unless an editor holds it.
 drop_session() { # SESSION
     (lock_session "$1" && rm -rf -- "$1")
 }
@@ -195,7 +195,7 @@ copy_text() { # TO
     cp --reflink=auto -- "$file" "$1" 2>/dev/null || cp -- "$file" "$1"
 }
 
-# What makes of the same keys the same text: the launcher's version, the program and the tables.
+# Prints the versions that a replay depends on: the launcher's, and checksums of the program and the tables.
 tell_versions() {
     echo "bidi-edit $version"
     cksum -- "$editor" "$classes" "$brackets" "$mirroring"
@@ -206,27 +206,27 @@ fill_session() { # SESSION
         { [ ! -e "$file" ] || stat -c %a -- "$file" >"$1/mode"; }
 } 2>/dev/null
 
-# Takes away what a launcher that was killed had only begun.
+# Removes the unfinished folders of killed launchers.
 sweep_sessions() {
     for left in "$sessions"/[0-9]* "$sessions"/.replay.*; do
         if [ ! -d "$left" ] || [ -e "$left/path" ]; then continue; fi
-        # one that found no room has no path and may go on
+        # a session still waiting for room has no path and may be running
         if [ -z "$(find "$left" -prune -mmin +60)" ] || { [ -e "$left/lock" ] && is_live "$left"; }; then continue; fi
         rm -rf -- "$left"
     done
 }
 
-# Makes a session's folder, in `new`.
+# Makes a session's folder, and sets `new`.
 make_folder_of_session() {
     new=$(mktemp -d "$sessions/$(date +%Y%m%d%H%M%S).XXXXXX" 2>/dev/null)
 }
 
-# What is noted last in a session that begins: nobody finds it before it has its lock.
+# Notes a new session's path last, so that nobody finds the session before it is locked.
 note_path() { # SESSION PATH
     lock_session "$1" begin && printf '%s' "$2" >"$1/path"
 }
 
-# Makes the folder of a new session, in `kept`. Where that cannot be, `unkept` says why.
+# Makes a new session, and sets `kept`; on failure `unkept` says why.
 make_session() {
     kept=''
     if [ -n "$is_unkept" ]; then
@@ -250,21 +250,21 @@ make_session() {
     fi
 }
 
-# At the end, with all else that goes then.
+# Marks the session for removal at the end.
 forget_session() {
     forgotten=$kept
     kept=''
 }
 
-# Told where it is seen: before the screen changes, for a second where it was not asked for.
+# Reports that unsaved text is not kept, before the screen changes. Pauses for a second unless -n asked for that.
 tell_unkept() {
     [ -n "$unkept" ] || return 0
     printf 'bidi-edit: unsaved text is not kept, since %s\n' "$unkept" >&7
     [ -n "$is_unkept" ] || { printf '\a' >&7 && sleep 1; }
 }
 
-# The window is what it is now, once the keys are replayed in the one that the session began in. Where the journal finds no room for
-# that, the program reads it first, and keeps it as it keeps keys.
+# Appends the window's current size to the journal, so that a replay in the first window ends in this one. If the journal has no
+# room, the program reads the size as input and journals it like keys.
 resume_session() {
     opened=$kept
     told=$(printf '\033[8;%d;%dt' "$rows" "$cols")
@@ -276,9 +276,9 @@ resume_session() {
     read_begin "$kept"
 }
 
-# Before the screen changes, in a window of these `rows` and `cols`.
+# Begins or resumes a session in a window of `rows` and `cols`, before the screen changes.
 begin_session() {
-    # what ends this script before the program does leaves it unfinished
+    # if this script ends before the program does, the session counts as unfinished
     status=1
     if [ -n "$is_resumed" ]; then
         resume_session
@@ -289,7 +289,7 @@ begin_session() {
     tell_unkept
 }
 
-# Puts what a replay needs on the disk before a key is obeyed. A disk may take its time, and signals go on meanwhile.
+# Syncs the files that a replay needs before the first key is handled, in the background, since a disk may be slow.
 sync_session() {
     [ -n "$kept" ] || return 0
     sync -- "$kept"/* "$kept" "$sessions" 3<&- 4<&- 5>&- 6<&- 7>&- 8>&- 9<&- &
@@ -303,13 +303,13 @@ read_begin() { # SESSION
 
 # ---- a session ends
 
-# The text where the session is left, for an editor of another version.
+# Stores the text at the session's end, for a recovery by another version.
 leave_snapshot() {
     held='' limit=20
     told=$(run_replay "$kept" "$kept/snapshot" 2>/dev/null) && held=${told%% *}
 }
 
-# Whether the last word on the journal is that it could not be written.
+# Whether the program's last line about the journal is a fault.
 is_journal_lost() {
     is_lost=''
     while read -r said; do
@@ -321,19 +321,19 @@ is_journal_lost() {
     [ -n "$is_lost" ]
 }
 
-# Whether a session whose journal is empty has something to keep: where nothing is unsaved the program ends with status 0 and leaves
-# nothing in the journal.
+# Whether a session with an empty journal has unsaved text. Without unsaved text the program ends with status 0 and an empty
+# journal.
 has_unsaved_text() {
     [ -e "$kept/unsaved" ] && [ "$status" != 0 ]
 }
 
-# Where nothing is kept, it is told if something was typed and not saved.
+# Reports that typed text is lost, if it is unsaved and not kept.
 forget_unkept() { # CAUSE
     [ "$status" = 0 ] || printf 'bidi-edit: what was typed is not kept, since %s\n' "$1" >&7
     forget_session
 }
 
-# After the program's end.
+# Ends the session after the program's end.
 end_session() {
     [ -n "$kept" ] || return 0
     is_torn='' part=''
@@ -348,7 +348,7 @@ end_session() {
     fi
 }
 
-# Of the sessions whose changes were dropped the last one is kept.
+# Leaves a session to be recovered. Of sessions with dropped changes only the last is kept.
 leave_session() {
     [ -z "$part" ] || : >"$kept/cut"
     leave_snapshot

@@ -1,22 +1,21 @@
 # shellcheck shell=sh
-# shellcheck disable=SC2034,SC2154,SC2317 # words that other parts give and take; traps call functions
-# The terminal of a session, and its way back.
+# shellcheck disable=SC2034,SC2154,SC2317 # variables shared with other parts; traps call functions
+# The terminal of a session: its modes, the processes on it, and its restoration.
 
 folder='' program='' keys='' attendant='' watcher='' outer='' is_running='' is_shown='' has_title='' end_signal=''
 unkept_note='(unsaved text is not kept)'
-# For how many seconds a terminal may take nothing at the end: a slow line has much to take, and a signal wants an end.
+# Number of seconds that a terminal may block at the end. A slow line has much to take, and a signal should end soon.
 patience=10
 
-# ---- what the terminal is told
+# ---- sequences for the terminal
 
-# What the painter counts on: arrows as CSI, ASCII, letters that replace what they cover, rows from the window's top, no part that
-# scrolls by itself, a row's end that keeps a letter with its marks (tmux joins them to the letter before without autowrap), a
-# shown cursor, and rows from left to right as they are sent.
+# Modes that the painter requires: arrows as CSI, ASCII, replace mode, origin at the window's top, no scroll region, autowrap
+# (without it tmux joins marks to the letter before), a visible cursor, and no reordering by the terminal.
 modes='\033[?1l\033(B\017\033[4l\033[?6l\033[r\033[?7h\033[?25h\033[8l\033[1 k'
-# And what shells count on: a terminal that reorders does so again. How arrows were sent is kept and given back, where that is known.
+# Modes that shells expect: reordering is on again, and the arrows' mode is restored where the terminal could save it.
 end_modes='\033[0m\033[?1r\033[?25h\033[0 k\033[8h'
 
-# Whether this terminal keeps its title when asked, and gives it back. GNU screen does not, and hides what it runs in.
+# Whether this terminal can save and restore its title. GNU screen cannot, and hides the terminal around it.
 keeps_titles() {
     [ -z "${STY:-}" ] || return 1
     case ${TMUX:+tmux}${TERM:-} in
@@ -29,25 +28,25 @@ show_title() { # NOTE
     printf '\033]2;%s - ^S save ^Q quit%s\a' "$(shown "${file##*/}")" "${1:+ $1}"
 }
 
-# The terminal that tmux shows this one in, if it can be written. It may reorder what tmux hands on. A client in control mode is a
-# program that reads tmux's own protocol there.
+# Finds the terminal that tmux runs in, if it is writable, since it may reorder tmux's output. A client in control mode is a
+# program that reads tmux's protocol, so it does not count.
 find_outer() {
     [ -n "${TMUX:-}" ] || return 0
     outer=$(tmux display-message -p '#{?client_control_mode,,#{client_tty}}') || outer=''
     [ -c "$outer" ] && [ -w "$outer" ] || outer=''
 }
 
-# One that stands still is not waited for; the other signals are ignored at the end.
+# Writes to that terminal for at most a second, since it may be blocked. Other signals are ignored at the end.
 tell_outer() { # SEQUENCE
     # shellcheck disable=SC2016
     [ -z "$outer" ] || timeout -s KILL 1 sh -c 'printf "%b" "$0" >"$1"' "$1" "$outer"
 }
 
-# Raw, on the alternate screen, with the painter's modes. xterm's 1049 also keeps the cursor, 1047 leaves the one that is kept.
+# Sets raw mode, the alternate screen and the painter's modes. xterm's 1049 saves the cursor, 1047 keeps the saved one.
 set_terminal() { # SCREEN
     stty raw -echo -iexten <&3
     printf '%b' "\033[?$1h$modes"
-    # pastes come between marks, which only the filter knows
+    # only the filter understands bracketed paste
     [ -z "$filter" ] || printf '\033[?2004h'
 }
 
@@ -64,14 +63,15 @@ show() {
     fi
 }
 
-# A terminal that takes nothing keeps nobody waiting. TTOU is ignored so that the terminal can be set from outside the job that has it.
+# Runs commands for at most `patience` seconds, so that a blocked terminal delays nobody. Ignores TTOU, so that it can set the
+# terminal from a background job.
 within_patience() { # COMMANDS WORD..
     commands=$1
     shift
     timeout --foreground -s KILL "$patience" sh -c "trap '' TTOU; $commands" "$@"
 }
 
-# Where Quit ended the program its terminal has just taken all.
+# Restores the screen and the settings. If Quit ended the program, its terminal is known not to block.
 # shellcheck disable=SC2016
 hide() {
     [ -n "$is_shown" ] || return 0
@@ -88,7 +88,7 @@ hide() {
 
 # ---- the end
 
-# The input's end has the program end by itself, unless it hangs: within 3 seconds, since a shell cannot wait for so long only.
+# Waits for the program to end at its input's end, and kills it after 3 seconds. A shell has no wait with a timeout.
 end_program() {
     tries=60
     while [ "$tries" -gt 0 ] && kill -s 0 "$program"; do
@@ -102,12 +102,13 @@ end_program() {
     program=''
 }
 
-# The last process that was started may have no name yet. All are waited for once none lives: bash, told in a trap to wait for one that
-# ended, may wait for another.
+# Ends all processes, even one that was just started and has no variable yet. Waits for all at once at the end: in a trap, bash
+# may confuse processes that have ended.
 end_processes() {
     [ -n "$is_running" ] || return 0
     is_running=''
-    # The attendant ends its own, by the signal or by this file within a second. Where the program ended at once it may have none yet.
+    # The attendant ends its own processes, on the signal or within a second of this file. If the program ended at once, it may
+    # not have started them yet.
     tries=100
     while [ -n "$attendant" ] && [ "$tries" -gt 0 ] && ! [ -e "$folder/attended" ]; do
         sleep 0.01
@@ -128,7 +129,7 @@ end_watcher() {
     watcher=''
 }
 
-# What the program said.
+# Prints the program's messages.
 tell_end() {
     [ ! -s "$folder/fault" ] || shown_lines <"$folder/fault" >&7
     tell_line_ends
@@ -139,7 +140,7 @@ tell_signal() {
         printf 'bidi-edit: the editor was ended by the signal %s\n' "$(kill -l "$status")" >&7
 }
 
-# Whatever stands of the session ends, and the terminal is as it was. A second signal changes nothing then.
+# Ends the processes, restores the terminal and ends the session. A second signal has no effect.
 # shellcheck disable=SC2016
 put_back() {
     trap '' HUP INT QUIT TERM TTOU
@@ -157,7 +158,7 @@ put_back() {
     fi
 }
 
-# Ends by the signal of this name and number, so that who started this script sees it. bash does not end by QUIT.
+# Ends by a signal, so that the caller sees it. bash does not die from QUIT, so exit follows.
 end_by() { # SIGNAL NUMBER
     end_signal=$1 patience=1
     put_back
@@ -168,7 +169,7 @@ end_by() { # SIGNAL NUMBER
 
 # ---- the session
 
-# The window's sides, of which the editor takes 1 to 500; a terminal that knows none says 0.
+# Sets `rows` and `cols` to the window's size, from 1 to 500. A terminal without a size reports 0.
 measure() {
     is_measured=1
     size=$(stty size <&3) || size='0 0' is_measured=''
@@ -180,7 +181,7 @@ measure() {
     [ "$cols" -le 500 ] || cols=500
 }
 
-# Whatever ends this script from here on puts the terminal back.
+# Sets traps so that any end of this script restores the terminal.
 guard() {
     settings=$(stty -g) || fail 'the terminal tells no settings'
     status=0
@@ -191,8 +192,8 @@ guard() {
     trap 'end_by TERM 15' TERM
 }
 
-# Takes away the folders of launchers that were killed. One that lives has a lock, on its session or else on its pipe, or is younger than
-# its lock may be.
+# Removes the folders of killed launchers. A live launcher holds a lock, on its session or on its pipe `life`, or is less than a
+# minute old.
 sweep_folders() { # FOLDER FOR TEMPORARY FILES
     for left in "$1"/bidi-edit.??????; do
         if [ ! -p "$left/life" ] || [ "$left" = "$folder" ]; then continue; fi
@@ -204,7 +205,7 @@ sweep_folders() { # FOLDER FOR TEMPORARY FILES
     done
 }
 
-# By what the folder of this launcher is seen to live.
+# Marks this launcher's folder as in use.
 note_life() {
     if [ -n "$kept" ]; then
         echo "$kept" >"$folder/session"
@@ -213,9 +214,9 @@ note_life() {
     fi
 }
 
-# Both ends of the pipes are open before anyone uses one, so no opening waits: 3 the terminal, 4 to 6 the keys, 7 the shell's
-# standard error, 8 what tells the watcher that this script lives, and, where a session is kept, 9 its lock. From here on the shell's
-# own remarks are no one's concern.
+# Opens both ends of each pipe before anyone uses it, so that no open blocks. 3 is the terminal, 4 to 6 the keys, 7 standard
+# error, 8 the pipe that tells the watcher that this script runs, and 9 the session's lock, if one is kept. Discards the shell's
+# own messages from here on.
 open_pipes() {
     make_folder keys changes life
     : >"$folder/fault"
@@ -228,14 +229,14 @@ open_pipes() {
     sweep_folders "${folder%/*}"
 }
 
-# What is typed: what terminals send for keys, as the editor takes it, and pastes as text; where the filter is not there, as it comes.
-# A block of 512 bytes is written into a pipe whole on every system, and the filter writes no more at once.
+# Copies the terminal's input to the program: through the filter, which translates keys and pastes, else as it is. Blocks of 512
+# bytes are written to a pipe atomically on every system, and the filter writes no more at once.
 hand_on_keys() {
     [ -z "$filter" ] || exec "$filter"
     exec dd bs=512
 }
 
-# The program. It holds the session's lock too, so that no session is taken while it writes there.
+# Starts the program. It inherits the session's lock, so that nobody takes the session while it writes.
 start_program() {
     {
         trap '' HUP
@@ -253,8 +254,8 @@ start_program() {
     echo "$program" >&8
 }
 
-# The program, what hands it the keys, and what tells it sizes. A closed terminal tells all of them so, and the program is to end by
-# the end of its input.
+# Starts the program, the input copier and the attendant. All of them get a closed terminal's HUP; the program ignores it and
+# ends at its input's end.
 start_processes() {
     is_running=1
     start_program
@@ -268,7 +269,7 @@ start_processes() {
     exec 4<&- 5>&- 6<&-
 }
 
-# Edits `file` until the program ends, and ends with its status.
+# Edits `file` until the program ends, and exits with its status.
 edit() {
     [ -x "$filter" ] || filter=''
     guard

@@ -1,6 +1,6 @@
 # shellcheck shell=sh
-# shellcheck disable=SC2034,SC2154 # words that other parts give and take
-# The command line: its words, the help, the version, and how a refusal is told.
+# shellcheck disable=SC2034,SC2154 # variables shared with other parts
+# The command line: its words, the help, the version, and refusals.
 
 version=0.1.0
 usage='usage: bidi-edit [--direction auto|ltr|rtl] [--line N | +N] [--force] FILE
@@ -33,7 +33,7 @@ BIDI_EDIT_DATA names a folder of other Unicode files. Installed: man bidi_edit.
 TEXT
 }
 
-# The toolchain is the one that was noted when the editor was built, else the machine's.
+# Prints the version. The toolchain is the one noted at the build, else the installed one.
 tell_version() {
     find_tables
     echo "bidi-edit $version"
@@ -62,7 +62,7 @@ fail() { # CAUSE
     exit 1
 }
 
-# The line to begin at, none where it is the first. No text has more lines than these, and the program takes the last it has.
+# Sets `line`, empty for the first. No text has more than 16777217 lines, and the program takes the last for a larger number.
 take_line() { # NUMBER
     line=$1
     while [ "${line#0}" != "$line" ]; do line=${line#0}; done
@@ -70,8 +70,8 @@ take_line() { # NUMBER
     [ "$line" != 1 ] || line=''
 }
 
-# The place as other editors take it: +N, + for the last line, +N,COLUMN and +N:COLUMN, of which the column is passed over, as any
-# other command is.
+# Parses a place in the form of other editors: +N, + for the last line, +N,COLUMN and +N:COLUMN. The column is ignored, like any
+# other command after +.
 take_place() { # WORD
     case $1 in
     +) line=16777217 ;;
@@ -86,7 +86,7 @@ take_place() { # WORD
     esac
 }
 
-# Reads the command line into `direction`, `line`, `is_forced`, `is_unkept`, `is_recovery`, `is_list`, `other` and `file`.
+# Parses the command line into `direction`, `line`, `is_forced`, `is_unkept`, `is_recovery`, `is_list`, `other` and `file`.
 read_words() { # WORD..
     direction=auto line='' is_forced='' is_recovery='' is_list='' is_unkept='' other=''
     while [ $# -gt 0 ]; do
@@ -111,9 +111,9 @@ read_words() { # WORD..
         --direction=* | --line=* | --to=*) take_option "${1%%=*}" "${1#*=}" ;;
         --force) is_forced=1 ;;
         --recover) is_recovery=1 ;;
-        # What other editors call it where they write no swap file.
+        # as in other editors: no swap file
         -n) is_unkept=1 ;;
-        # What callers say to other editors: no window of its own, wait for the end.
+        # options that callers pass to other editors: no new window, wait for the end
         -f | -w | -nw | --nofork | --wait) ;;
         --)
             shift
@@ -128,7 +128,7 @@ read_words() { # WORD..
     take_file "$@"
 }
 
-# The words behind the options: FILE, or none where sessions are listed.
+# Parses the words after the options: FILE, or none to list sessions.
 take_file() { # WORD..
     if [ "$#$is_recovery$other" = 01 ]; then
         is_list=1

@@ -1,9 +1,9 @@
 #!/bin/sh
-# check-build.sh [toolchain]: how the first start proves and builds, under dash and bash: order, what runs side by side, what is told on
-# a terminal and elsewhere, Ctrl-C and going on, a proof that fails, a start that was killed. It does so in a small repository of four
-# crates with a command that stands in for rt; with the word `toolchain` it tries the real one in its place, Ctrl-C and going on, which
-# takes some minutes on a busy machine. It stands beside the gate. The last line counts; the status is 1 where a check failed, and 77
-# where there is neither dash nor bash, or no tmux.
+# check-build.sh [toolchain]: tests how the first start proves and builds, under dash and bash: order, parallel crates, progress
+# on a terminal and elsewhere, Ctrl-C and continuing, a failing proof, a killed start. It uses a small repository of four crates
+# with a command in place of rt; with the word `toolchain` it uses the real rt, for Ctrl-C and continuing only, which takes some
+# minutes on a busy machine. It is not part of `rt ci`. The last line has the totals. Exit status 1: a check failed; 77: neither
+# dash nor bash, or no tmux.
 set -u
 
 top=$(cd "$(dirname "$0")/.." && pwd)
@@ -27,7 +27,7 @@ like() { # NAME FOUND PATTERN
     report "$1" $? "'$2', and not like '$3'"
 }
 
-# ---- a small repository: a and b stand on nothing, c on a, and the program d on b and c
+# ---- a small repository: a and b have no dependencies, c uses a, and the program d uses b and c
 
 make_tree() {
     rm -rf "$folder/tree" "$folder/told"
@@ -39,8 +39,9 @@ make_tree() {
     printf '# NAME: what it stands on\nd: b c thiserror\nc: a\nb:\na:\nother: a\n' >"$folder/tree/crates.txt"
 }
 
-# Stands in for rt: a crate has ten functions, which take a tenth of a second each and are kept one by one. It notes when it began
-# and ended, and with how many; its own child lives as long as it does, as the toolchain's do. The crate named in `bad` fails.
+# Writes the command in place of rt. A crate has ten functions, proved in a tenth of a second each and stored one by one. It
+# logs when it starts and ends, and the number of proofs; its child lives as long as it does, as the toolchain's do. The crate
+# named in the file `bad` fails.
 make_rt() {
     mkdir -p "$folder/bin"
     cat >"$folder/bin/rt" <<'END'
@@ -77,13 +78,13 @@ END
     chmod +x "$folder/bin/rt"
 }
 
-# Runs the script as a start does, with what it tells in `said` and its status in `status`.
+# Runs prove.sh as a start does. Its messages go to `said`, its status to `status`.
 run() {
     PATH=$folder/bin:$PATH TOLD=$folder/told timeout 120 "$shell" "$prove" "$folder/tree" d >"$folder/said" 2>&1
     status=$?
 }
 
-# The same in a terminal of 100 columns, to be looked at.
+# Runs it in a terminal of 100 columns.
 start() {
     rm -f "$folder/status"
     cat >"$folder/run" <<END
@@ -107,7 +108,7 @@ is_over() {
     [ -s "$folder/status" ]
 }
 
-# The number of the line in the log.
+# Prints the number of a line in the log.
 at() { # LINE
     grep -n -x -e "$1" "$folder/told/log" | head -n 1 | cut -d : -f 1
 }
@@ -217,7 +218,7 @@ check_killed() {
     nothing_left killed
 }
 
-# The launcher, whose program here ends at once.
+# Runs the launcher, with a program that ends at once.
 check_launcher() {
     make_tree
     cp -R "$top/bidi-edit" "$top/launcher" "$top/data" "$folder/tree/"
@@ -260,9 +261,9 @@ END
     tmux -u -L "$socket" -f /dev/null new-session -d -s person -x 100 -y 12 "sh '$folder/run'"
 }
 
-# ---- the toolchain itself
+# ---- the real toolchain
 
-# Twenty functions of this run alone, so that nothing is taken over from elsewhere.
+# Makes a crate of twenty functions unique to this run, so that no stored proof fits.
 small_crate() { # NAME WORDS
     mkdir -p "$folder/tree/crates/$1/src"
     {
@@ -309,7 +310,7 @@ check_toolchain() {
     timeout 1800 "$shell" "$prove" "$folder/tree" "$d" >"$folder/said" 2>&1
     same 'toolchain, going on' "$? $(grep -c ' proved; ' "$folder/said")" '0 4'
     same 'toolchain, what the program prints' "$("$folder/tree/crates/$d/out/$d")" 3
-    # What stands in the repository is what rt itself takes for built there.
+    # rt itself accepts the results in the repository as built.
     same 'toolchain, nothing is left to prove' \
         "$( (cd "$folder/tree/crates/$d" && timeout 600 rt run 2>&1) | grep -c -e 'nothing has changed since the last proved build' -e '^fn ')" 1
 }

@@ -1,9 +1,8 @@
 #!/bin/sh
-# Compares what data/ answers with what Unicode's own three files answer, as Debian's package unicode-data installs them, or
-# those in the folder after it: for each of the 1,114,112 codes its class, its bracket and its mirror. The files are read by the
-# few lines below, and where crates/ucd_lookup is built also by the reader of the editor, for every character. Nothing but facts may
-# stand in data/. The status is 1 where something differs, 77 where Unicode's files are not there, and where only the reader is not
-# built and all else agrees.
+# Compares data/ with Unicode's three files, from Debian's package unicode-data or from the folder named after it: the class,
+# bracket and mirror of each of the 1,114,112 codes. The awk program below reads the files; if crates/ucd_lookup is built, so
+# does the editor's reader, for every character. data/ must contain nothing but facts. Exit status 1: something differs; 77:
+# Unicode's files are missing, or only the editor's reader is not built and all else agrees.
 set -eu
 export LC_ALL=C
 
@@ -21,8 +20,8 @@ data=$top/data
 scratch=$(mktemp -d)
 trap 'rm -rf "$scratch"' EXIT
 
-# A line for each code: class, bracket, mirror. A line of data goes before one of @missing, of lines of one kind the later one
-# counts, and where there is none the class is L.
+# Prints a line for each code: class, bracket, mirror. A data line takes precedence over @missing, and a later line over an
+# earlier one of its kind; without any the class is L.
 answers() {
     awk -F';' '
         function number(code,  i, n) {
@@ -58,7 +57,7 @@ cmp "$scratch/unicode" "$scratch/data"
 echo "data: the answers agree for 1114112 codes: $(cut -d ' ' -f 2 "$scratch/data" | sort -u | wc -l) classes," \
     "$(grep -c ' [oc][0-9]' "$scratch/data") brackets, $(grep -c ' [0-9][0-9]*$' "$scratch/data") mirrors"
 
-# No sentence stands there: a line that names the file, ranges and what they have.
+# data/ has no prose, only the line that names the file, and ranges with their values
 if grep -v -h -E -x -e '# [A-Za-z]+-[0-9.]+, its facts alone, by scripts/make-data.sh' -e '# @missing: [0-9A-F]+\.\.[0-9A-F]+; [A-Za-z_]+' \
     -e '[0-9A-F]+(\.\.[0-9A-F]+)?;[A-Z]+' -e '[0-9A-F]+;[0-9A-F]+(;[oc])?' "$data"/*.txt; then
     echo "data: these lines are more than facts"
@@ -70,7 +69,7 @@ if [ ! -x "$lookup" ]; then
     echo "skipped: the editor's reader, since crates/ucd_lookup is not built (cd crates/ucd_lookup && rt run)"
     exit 77
 fi
-# The surrogates are codes of no character.
+# surrogates are no characters
 awk 'BEGIN { for (code = 0; code <= 1114111; code++) if (code < 55296 || code > 57343) printf "%04X\n", code }' >"$scratch/codes"
 xargs "$lookup" "$classes" "$folder/BidiBrackets.txt" "$folder/BidiMirroring.txt" <"$scratch/codes" >"$scratch/unicode"
 xargs "$lookup" "$data/DerivedBidiClass.txt" "$data/BidiBrackets.txt" "$data/BidiMirroring.txt" <"$scratch/codes" >"$scratch/data"

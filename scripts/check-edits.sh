@@ -1,14 +1,13 @@
 #!/bin/sh
-# check-edits.sh [EDITS [SEED]]: makes so many random edits, 20,000 unless named, in the built program, in paragraphs of up to 2,000
-# characters, half of them notes of real words and half of all kinds of characters, in windows of several sizes. After each edit the
-# screen is painted whole as the layout has it that followed the edit, and once more as a layout has it that is made anew: another
-# direction throws a layout away, and three times lead back to the first. It stands beside the gate. The last line counts the edits;
-# the status is 1 where two such paintings differ or a run ends otherwise, and 77 where the program is not built or there is no
-# python3.
+# check-edits.sh [EDITS [SEED]]: makes random edits in the built program, 20,000 by default, in paragraphs of up to 2,000
+# characters, half of them notes of real words and half of all kinds of characters, in windows of several sizes. After each edit
+# the screen is painted twice: with the layout that followed the edit, and with a new one. A change of direction discards the
+# layout, and three changes lead back to the first direction. It is not part of `rt ci`. The last line has the number of edits.
+# Exit status 1: two such paintings differ, or a run ends wrongly; 77: the program is not built or there is no python3.
 #
-# Where there is gdb, it counts in 2,000 more edits of notes in how many the levels are kept but for those between two strong
-# characters. Nine in ten are the target, which is missed (docs/PERFORMANCE.md); the status is 1 where they are less than four in
-# five, a little below what was seen.
+# With gdb it counts, in 2,000 more edits of notes, the edits after which only the levels between two strong characters were
+# resolved again. The target of nine in ten is missed (docs/PERFORMANCE.md). Exit status 1: less than four in five, a little
+# below the measured share.
 set -eu
 
 top=$(cd "$(dirname "$0")/.." && pwd)
@@ -37,18 +36,18 @@ import random, re, shutil, subprocess, sys
 editor, data, edits, seed = sys.argv[1], sys.argv[2], int(sys.argv[3]), int(sys.argv[4])
 chance = random.Random(seed)
 PER_TEXT = 200
-# A whole painting begins with this.
+# the beginning of a whole painting
 WHOLE = b"\x1b[0m\x1b[2J"
-# Two Repaints: the first painting ends where the second begins.
+# two Repaints: the first painting ends where the second begins
 REPAINT = b"\x0c\x0c"
-# Auto, left to right, right to left, and Auto again.
+# auto, left to right, right to left, and auto again
 DIRECTIONS = b"\x1b[9~" * 3
 MOVES = [b"\x1b[A", b"\x1b[B", b"\x1b[C", b"\x1b[D", b"\x06", b"\x02", b"\x1b[H", b"\x1b[F", b"\x1b[5~", b"\x1b[6~"]
 HEBREW = "של אני הבית ספר ילדה הולכת לים בערב (ירושלים) מחיר שולחן כיסא".split()
 ARABIC = "السلام عليكم كتاب بيت مدرسة في على كبير صغير يوم".split()
 LATIN = "the house of a note: bread, milk (2 litres) and so on www.example.org".split()
 NUMBERS = "12 3,5 17:30 100% $4 ١٢ ٣٤".split()
-# letters of each direction, numbers and what stands among them, marks, blanks, brackets, joiners, controls of direction
+# letters of each direction, numbers and their separators, marks, blanks, brackets, joiners, bidi controls
 KINDS = [0x61, 0x5A, 0x05D0, 0x05D1, 0x0627, 0x0628, 0x31, 0x38, 0x0661, 0x2B, 0x2D, 0x25, 0x24, 0x2C, 0x3A, 0x2E, 0x0301, 0x05B8,
     0x20, 0x20, 0x09, 0x28, 0x29, 0x5B, 0x5D, 0x3C, 0x3E, 0x21, 0x26, 0x200D, 0x200B, 0x4E2D, 0x1F600, 0x1F468, 0x0915, 0x094D]
 CONTROLS = [0x202A, 0x202B, 0x202C, 0x202D, 0x202E, 0x2066, 0x2067, 0x2068, 0x2069, 0x200E, 0x200F, 0xAD]
@@ -93,7 +92,7 @@ def check(count):
     if run.returncode != 0:
         return f"status {run.returncode}: {run.stderr[:200]!r}"
     pages = run.stdout.split(WHOLE)[2:]
-    # after the opening: the edit as it was followed, twice, and anew, twice; at the end all is blank
+    # after the opening: twice the followed layout and twice a new one for each edit, and a blank screen at the end
     if len(pages) != 4 * count + 1:
         return f"{len(pages)} paintings for {count} edits"
     for at in range(count):
@@ -102,12 +101,12 @@ def check(count):
     return ""
 
 
-# What is called once at each edit that a layout follows, and what where strong characters cut it off.
+# called once for each edit that a layout follows, and once if strong characters delimit it
 FUNCTIONS = ["bx_paragraph::edited_rows::push_rest", "bx_resolve::edited::resolve_span"]
 
 
 def count_ways(count, kinds):
-    """Of so many edits of a note of some kinds of words, how many a layout followed, and how many of these strong characters cut off."""
+    """Makes edits of a note of some kinds of words. Counts those that a layout followed, and of these the ones that strong characters delimit."""
     with open("text", "w") as file:
         file.write("\n".join(words(chance.randrange(40, 2001), kinds) for _ in range(20)))
     keys = b""

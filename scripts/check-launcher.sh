@@ -1,8 +1,8 @@
 #!/bin/sh
-# Runs the launcher in tmux, under dash and bash: what it hands to a program that only records its input, what it refuses and prints,
-# how it ends, how it leaves the terminal, and then the editor itself in it, also as the editor that other programs call. It stands
-# beside the gate, and skips (77) where there is no tmux and none can be installed from Debian's packages. With names after it only the
-# checks run whose names begin so. The last line counts; the status is 1 where one failed. The checks stand in scripts/launcher.
+# Runs the launcher in tmux, under dash and bash: the input of a program that only records it, refusals and messages, ends, the
+# terminal's state afterwards, and then the editor itself, also as an editor that other programs call. It is not part of `rt
+# ci`. It skips (77) if there is no tmux and none can be installed from Debian's packages. Names after it select the checks
+# whose names begin so. The last line has the totals. Exit status 1: a check failed. The checks are in scripts/launcher.
 set -u
 
 if ! command -v tmux >/dev/null 2>&1; then
@@ -25,7 +25,7 @@ folder=$(mktemp -d)
 export XDG_STATE_HOME="$folder/state"
 socket="bx$$"
 passed=0 failed=0 skipped=0
-# What a check sets for its own sessions: the tables, lines around the launcher, what stands behind its words, a paste that goes on.
+# Settings of a check for its own sessions: the tables, lines before and after the launcher, redirections, a paste that goes on.
 # shellcheck disable=SC2034
 tables='' setup='' cleanup='' redirection='' is_flooded='' lines_told=1
 # shellcheck disable=SC2034

@@ -1,16 +1,16 @@
 #!/bin/sh
-# check-noise.sh [--quick] [RUN..]: runs the built program on noise and on extreme texts, and prints the processor time and the peak
-# memory of each run. It stands beside the gate. --quick takes a tenth of each, and RUN is one of 24x80, 1x1, 100x400, 500x500, line,
-# feeds, cluster, RLI and brackets: all are where none is named. The last line counts; the status is 1 where a run hangs, ends by a
-# signal or with another status, paints another picture at its beginning or end, or saves another file, and 77 where the program is
-# not built or there is no python3, which measures.
+# check-noise.sh [--quick] [RUN..]: runs the built program on noise and on extreme texts, and prints the processor time and the
+# peak memory of each run. It is not part of `rt ci`. --quick takes a tenth of each. RUN is one of 24x80, 1x1, 100x400, 500x500,
+# line, feeds, cluster, RLI and brackets; the default is all. The last line has the totals. Exit status 1: a run hangs, ends by
+# a signal or with another status, paints another picture at its beginning or end, or saves another file; 77: the program is not
+# built or there is no python3, which measures.
 #
-# Noise: random bytes but Ctrl-Q, 1,024 at a time, over random characters. Then the window is made 1x1, Undo is pressed as often as a
-# byte of the noise can end an edit, and the text is saved, which must then be the one that was opened.
+# Noise: random bytes except Ctrl-Q, 1,024 at a time, over random characters. Then the window becomes 1x1, Undo is pressed as
+# often as the noise can have edited, and the text is saved, which must be the opened one again.
 #
-# Extreme texts, each of 16,777,216 bytes: one line, line feeds alone, one cluster, RLI alone, and pairs of brackets. The picture at
-# opening is known. Every move is made, the window and the direction change and come back, a letter is refused for the text is full
-# (but with --quick), the first unit is deleted, and a letter is put in its place and saved.
+# Extreme texts, each of 16,777,216 bytes: one line, line feeds alone, one cluster, RLI alone, and pairs of brackets. The
+# picture at opening is known. Every move is made, the window and the direction change and come back, a letter is refused
+# because the text is full (except with --quick), the first unit is deleted, and a letter is inserted in its place and saved.
 set -eu
 export LC_ALL=C
 
@@ -46,22 +46,22 @@ trap 'exit 1' HUP INT TERM
 cd "$folder"
 passed=0 failed=0
 
-# Seconds of processor time, and of the clock on a busy machine, after which a run hangs.
+# Limits of a run, in seconds of processor time and of wall time on a busy machine.
 most=3600 longest=21600
 
 # ---- texts and keys
 
-# Bytes from a generator whose numbers stay below 2 to the 46th, so that every awk gives the same.
+# Random bytes from a generator whose numbers stay below 2 to the 46th, so that every awk gives the same.
 random='function next_number() { state = (state * 16807) % 2147483647; return state }
     function below(count) { return int(next_number() / 2147483647 * count) }'
 
-# Random bytes, none of them Ctrl-Q.
+# Random bytes except Ctrl-Q.
 noise() { # COUNT
     awk -v count="$1" -v state=1 "$random"'
         BEGIN { while (n < count) { byte = below(256); if (byte != 17) { printf "%c", byte; n++ } } }'
 }
 
-# Random characters: of two one is any of Unicode, and the other of those that the rules tell apart.
+# Random characters: half of them any of Unicode, half of them relevant to the rules.
 random_text() { # COUNT
     awk -v count="$1" -v state=2 "$random"'
         function put(code) {
@@ -71,7 +71,7 @@ random_text() { # COUNT
             else printf "%c%c%c%c", 240 + int(code / 262144), 128 + int(code / 4096) % 64, 128 + int(code / 64) % 64, 128 + code % 64
         }
         BEGIN {
-            # letters, blanks, separators, numbers, brackets, Hebrew, Arabic, marks, joiners, controls of direction, wide ones
+            # letters, blanks, separators, numbers, brackets, Hebrew, Arabic, marks, joiners, bidi controls, wide characters
             chosen = "97 90 32 9 10 13 48 53 44 46 43 45 37 36 40 41 91 93 60 62 1488 1489 1575 1576 1632 769 1425 8205 133 8232 8233"
             chosen = chosen " 8234 8235 8236 8237 8238 8294 8295 8296 8297 19990 128512"
             kinds = split(chosen, codes, " ")
@@ -82,25 +82,25 @@ random_text() { # COUNT
         }'
 }
 
-# A text over and over.
+# Repeats a text up to a length.
 repeated() { # TEXT BYTES
-    # yes is broken off by head
+    # head ends yes
     yes "$1" 2>/dev/null | tr -d '\n' | head -c "$2"
 }
 
-# So many times Undo.
+# Prints Undo COUNT times.
 undone() { # COUNT
     head -c "$1" /dev/zero | tr '\0' '\032'
 }
 
-# How many bytes of the noise can end an edit: they type, are the last of a character, erase or do an edit again.
+# Counts the bytes of the noise that can end an edit: typed characters, last bytes of characters, erasures and redos.
 count_edits() { # FILE
     tr -d -c '\010-\012\015\031\040-\277' <"$1" | wc -c
 }
 
 # ---- a run
 
-# Runs a command behind its words, and writes its status, its seconds of processor time and its most megabytes.
+# Runs a command and writes its status, its processor time in seconds and its peak memory in megabytes.
 cat >measure.py <<'END'
 import os, resource, sys
 
@@ -123,7 +123,7 @@ run_editor() { # ROWS COLS COMMAND..
         --mirroring "$top/data/BidiMirroring.txt" text 2>told | "$@"
 }
 
-# A whole painting of a picture begins with this, and after it stands the cell of the cursor, where all is blank.
+# The beginning of a whole painting, and the move to the first cell, at its end on a blank screen.
 cleared=$(printf '\033[0m\033[2J') first_cell=$(printf '\033[1;1H')
 
 # Keeps the first eight bytes and the last fourteen.
@@ -136,7 +136,7 @@ differ() { # WORDS
     wrong="$wrong, $1"
 }
 
-# Says what the last run was, and that it did well or where it did not.
+# Reports the last run, or its failure.
 report() { # NAME
     read -r status seconds memory <ended
     [ "$status" = 0 ] || differ "status $status: $(head -n 1 told)"
@@ -150,7 +150,7 @@ report() { # NAME
     fi
 }
 
-# Noise over the random text in a window of so many rows and columns.
+# Runs noise over the random text in a window of this size.
 check_noise() { # ROWS COLS COUNT
     wrong=''
     cp characters text
@@ -164,12 +164,12 @@ check_noise() { # ROWS COLS COUNT
     report "noise of $3 bytes in $1x$2"
 }
 
-# The end of the painting at opening in 24x80.
+# Prints the end of the painting at opening in 24x80.
 opening_end() { # BEFORE
     printf '\033[24;1H%b-\033[24;3H1:1\033[1;1H' "$1"
 }
 
-# The painting at opening of 23 rows that are each as the file `row`, with what changes how they look before and behind them.
+# Prints the painting at opening of 23 rows equal to the file `row`, with rendition sequences before and after each.
 opening_of_rows() { # BEFORE BEHIND
     printf '\033[0m\033[2J'
     line=1
@@ -182,7 +182,7 @@ opening_of_rows() { # BEFORE BEHIND
     opening_end "$2"
 }
 
-# Every move, another window, each direction, all painted anew, and back to the start of the first row.
+# Every move, another window, each direction with a repaint, and back to the start of the first row.
 moves() {
     for _ in 1 2; do
         printf '\033[F\033[B\033[C\033[D\033[A\006\002\033[6~\033[6~\033[H\033[5~\033[5~\033[H'
@@ -191,11 +191,11 @@ moves() {
     printf '\033[5~\033[5~\033[5~\033[5~\033[5~\033[H'
 }
 
-# Opens `original`, whose first unit has so many bytes and whose opening is in `opening`, and puts an `x` in place of that unit.
+# Opens `original`, whose first unit has BYTES bytes and whose opening is in `opening`, and replaces that unit by an `x`.
 check_text() { # NAME BYTES
     wrong=''
     cp original text
-    # a text that is full takes no letter
+    # a full text refuses a letter
     { moves && { [ "$part" != 1 ] || printf 'x'; } && printf '\033[3~x' && moves && printf '\032\032\031\031\023\021'; } >keys
     run_editor 24 80 cat >output
     head -c "$(wc -c <opening)" output | cmp -s - opening || differ 'another picture at opening'

@@ -1,11 +1,10 @@
 #!/bin/sh
-# check-print.sh [ROWS]: prints texts with bidi_print and compares the lines, byte by byte: with the rows of ROWS, and with what fribidi
-# prints of random paragraphs, beside which it may differ only where a paragraph is wrapped, since fribidi cuts rows out of what it has
-# reordered. It also runs the program to its ends, and compares statuses and faults. It prints how many agree. ROWS is a file of rows
-# from elsewhere, a line each, made with the tables of crates/bidi_print/data: the text as UTF-8 in hex, the direction, the columns, the
-# row's number, two fields that are passed over, and the glyphs from left to right as BYTES:COLUMNS, with an n behind where one is in
-# negative image. It stands beside the gate. The status is 1 where something differs that may not, and 77 where ROWS or fribidi is not
-# there.
+# check-print.sh [ROWS]: prints texts with bidi_print and compares the lines byte by byte: with the rows of ROWS, and with the
+# output of fribidi for random paragraphs. The latter may differ in wrapped paragraphs, since fribidi wraps after reordering. It
+# also runs the program to its ends, and compares statuses and faults. It prints how many agree. ROWS is a file of rows from an
+# independent source, made with the tables of crates/bidi_print/data. A line has the text as UTF-8 in hexadecimal, the
+# direction, the columns, the row's number, two ignored fields, and the glyphs from left to right as BYTES:COLUMNS, with an n
+# after a negative one. It is not part of `rt ci`. Exit status 1: a forbidden difference; 77: no ROWS or no fribidi.
 set -eu
 export LC_ALL=C
 
@@ -13,13 +12,13 @@ crate=$(cd "$(dirname "$0")/../crates/bidi_print" && pwd)
 program=$crate/out/bidi_print
 failed='' skipped=''
 
-# Notes that a comparison was not made, and why.
+# Notes a skipped comparison and its cause.
 skip() { # WHY
     echo "skipped: $1"
     skipped=1
 }
 
-# Without words the program only tells its usage, which shows that it was built.
+# Builds the program; its usage shows that it was built.
 build() {
     if ! (cd "$crate" && rt run 2>&1) | grep -q '^Usage: bidi_print'; then
         echo 'the program was not built: see rt check' >&2
@@ -35,9 +34,10 @@ print_file() { # FILE WORD..
         "$@" "$file"
 }
 
-# ---- rows from elsewhere
+# ---- rows from an independent source
 
-# Writes each text of the rows, its lines with marks in brackets and with none, and prints a line of number, direction and columns.
+# Writes each text of the rows, its lines with and without marks in brackets, and prints a line of number, direction and
+# columns.
 write_cases() { # ROWS
     awk -F '\t' -v folder="$scratch" '
         function bytes(hex,    text, i) {
@@ -82,7 +82,7 @@ write_cases() { # ROWS
     ' "$1"
 }
 
-# Compares what is printed of each text with the lines that its rows make.
+# Compares the printed lines of each text with its rows.
 compare_rows() { # ROWS
     write_cases "$1" >"$scratch/cases"
     agreed=0 differing=0
@@ -102,10 +102,10 @@ compare_rows() { # ROWS
 
 # ---- fribidi
 
-# Prints so many random paragraphs, each below a line @NUMBER. A lam stands before no alef: fribidi joins them to one character.
+# Prints random paragraphs, each after a line @NUMBER. No lam comes before an alef: fribidi joins them to one character.
 random_text() { # COUNT
     awk -v count="$1" '
-        # the same numbers by any awk
+        # the same numbers in any awk
         function random() {
             state = state * 16807 % 2147483647
             return state / 2147483647
@@ -129,7 +129,8 @@ random_text() { # COUNT
     '
 }
 
-# Letters in place of fribidi s joined forms of them, which stand in the order of the letters, and lines without blanks at their end.
+# Replaces fribidi's joined forms, which are in the order of the letters, by the letters, and removes blanks at the ends of
+# lines.
 plain_letters() {
     awk '
         function utf8(code) {
@@ -138,7 +139,7 @@ plain_letters() {
             return sprintf("%c%c%c", 224 + int(code / 4096), 128 + int(code / 64) % 64, 128 + code % 64)
         }
         BEGIN {
-            # how many forms each letter has, from 0621 on but for 063B to 0640
+            # the number of forms of each letter from 0621 on, without 063B to 0640
             forms = "122224242444442222444444444444444224"
             letter = 1569
             form = 65152
@@ -157,7 +158,7 @@ plain_letters() {
     '
 }
 
-# Compares paragraph by paragraph. One of several lines is wrapped.
+# Compares paragraph by paragraph. One with several lines was wrapped.
 compare_paragraphs() { # OURS THEIRS
     awk '
         FNR == 1 { file++ }
@@ -191,9 +192,9 @@ compare_fribidi() {
     compare_paragraphs "$scratch/ours" "$scratch/theirs" || failed=1
 }
 
-# ---- how it ends
+# ---- ends
 
-# Runs the program to an end of this status, of which standard error tells this line.
+# Runs the program, and checks its status and its line on standard error.
 end_by() { # STATUS LINE WORD..
     wanted=$1 line=$2
     shift 2
@@ -214,7 +215,7 @@ compare_endings() {
     : >"$scratch/empty"
     printf 'ab\n' >"$scratch/short"
     printf 'abc\377\n' >"$scratch/bytes"
-    # too long by few bytes, of which the first that are too many stand inside a letter
+    # too long by a few bytes, cut inside a letter
     awk 'BEGIN { printf "a"; for (i = 0; i < 5592407; i++) print "א" }' >"$scratch/long"
     for text in "$scratch/empty" "$scratch/short"; do
         end_by 0 '' "$text"

@@ -1,8 +1,8 @@
 #!/bin/sh
-# Feeds the painter's bytes to tmux, in a pane of the picture's size, and reads the pane and its cursor back: the model of
-# the terminal against a real one. The bytes are those that crates/paint_glyphs prints, the first picture of a case painted
-# whole and each later one by what changed. It stands beside the gate. The last line counts; the status is 1 where a case differs,
-# and 77 where there is no tmux and none can be installed from Debian's packages.
+# Checks the model of the terminal against tmux: feeds the painter's bytes to a pane of the picture's size, and reads the pane
+# and its cursor back. crates/paint_glyphs prints the bytes: the first picture of a case whole, each later one by its changes.
+# It is not part of `rt ci`. The last line has the totals. Exit status 1: a case differs; 77: there is no tmux and none can be
+# installed from Debian's packages.
 set -u
 
 if ! command -v tmux > /dev/null 2>&1; then
@@ -27,8 +27,8 @@ export LC_ALL=C.UTF-8
 passed=0 failed=0
 trap 'tmux -L "$socket" kill-server 2> /dev/null; rm -rf "$folder"' EXIT
 
-# NAME HEIGHT WIDTH ROWS CURSOR PICTURES..: what the pane shows after these pictures, its rows joined by '|' without the
-# blanks at their ends, a negative part between '<' and '>', and the cursor's column and row from 0.
+# NAME HEIGHT WIDTH ROWS CURSOR PICTURES..: compares the pane after these pictures. ROWS are joined by | and have no blanks at
+# their ends; < and > enclose negative parts. CURSOR is its column and row from 0.
 check() {
     name=$1 height=$2 width=$3 rows=$4 cursor=$5
     shift 5

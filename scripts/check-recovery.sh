@@ -1,9 +1,10 @@
 #!/bin/sh
-# Ends sessions in tmux by KILL, HUP and TERM of the launcher, of the program or of both, at a random key, and recovers each: all
-# that the program had read must be there. What the text is after each key a plain model in python tells, of the keys whose meaning
-# needs no rows. And: what the launcher says and asks, a full disk under the journal, a replay of 100,000 keys, and what the journal
-# costs at a key. It stands beside the gate. The first word is how many sessions (200), the second the seed of the random keys (1).
-# The last line counts; the status is 1 where one failed, and 77 where the program is not built, or there is no tmux or no python3.
+# Kills sessions in tmux at a random key, by KILL, HUP and TERM to the launcher, to the program or to both, and recovers each:
+# all bytes that the program had read must be there. A plain model in python gives the text after each key; it uses only keys
+# that do not depend on rows. The script also checks the launcher's messages and questions, a full disk under the journal, a
+# replay of 100,000 keys, and the journal's cost for a key. It is not part of `rt ci`. Its words are the number of sessions
+# (200) and the seed of the random keys (1). The last line has the totals. Exit status 1: a check failed; 77: the program is not
+# built, or there is no tmux or no python3.
 set -u
 
 sessions=${1:-200}
@@ -42,22 +43,23 @@ fails() { # NAME DETAIL
     echo "FAILS $1: $2" | tee -a "$folder/results"
 }
 
-# ---- the sessions, and what their keys make
+# ---- the sessions and the texts that their keys make
 
-# Makes a folder for each session: file, the text; keys1, after which the last row is what row has; keys2; ends, the text in
-# hexadecimal after each count of bytes that ends a key; how, the signal, what it ends, and how many seconds after keys2.
+# Makes a folder for each session. file is the text; keys1 are keys after which the last row is row; keys2 are more keys; ends
+# has, for each count of bytes that ends a key, the text in hexadecimal; how has the signal, its target, and the seconds after
+# keys2.
 make_sessions() {
     python3 - "$folder/sessions" "$sessions" "$seed" <<'PYTHON'
 import os, random, sys
 
 folder, count, seed = sys.argv[1], int(sys.argv[2]), int(sys.argv[3])
 random.seed(seed)
-# each is a unit of its own, whatever stands beside it
+# each letter is a unit of its own in any context
 LETTERS = "abcxyz ,.()0123456789" + "\u05d0\u05d1\u05d2\u05e9\u05dc" + "\u0627\u0628\u062a\u0645"
 BYTES = {"erase": b"\x7f", "delete": b"\x1b[3~", "back": b"\x02", "forward": b"\x06", "undo": b"\x1a", "redo": b"\x19",
          "save": b"\x13", "repaint": b"\x0c", "direction": b"\x1b[9~"}
 NAMES = [*BYTES, "enter", "tab", "size", "quit"]
-# a program that the launcher runs is deaf to HUP
+# the program ignores HUP under the launcher
 WAYS = [(s, t) for t in ("launcher", "program", "both") for s in ("KILL", "HUP", "TERM") if (s, t) != ("HUP", "program")]
 
 
@@ -111,7 +113,7 @@ class Session:
         elif name == "size":
             self.typed(b"\x1b[8;%d;%dt" % (random.randint(2, 30), random.randint(5, 90)))
         elif name == "quit":
-            # a letter before it, so that it asks, and one behind it, so that no other ends the session
+            # a letter before it, so that Quit asks, and one after it, so that no later Quit ends the session
             self.insert(random.choice(LETTERS))
             self.typed(b"\x11")
             self.insert(random.choice(LETTERS))
@@ -129,7 +131,7 @@ for number in range(count):
     files = {"file": session.text.encode()}
     for _ in range(random.randint(1, 60)):
         session.press()
-    # the window that tmux has, and a letter, which takes a message away
+    # the size of the tmux window, and a letter, which removes a message
     session.typed(b"\x1b[8;24;80t")
     session.insert("q")
     cut = len(session.keys)
@@ -147,8 +149,8 @@ for number in range(count):
 PYTHON
 }
 
-# Says what is wrong with a recovered text. The journal must be a beginning of the keys that has all of keys1, and the text that of
-# its last key. Where there is no journal any more all was saved, and the text is that of some key behind keys1.
+# Reports the fault of a recovered text. The journal must be a beginning of the keys that includes keys1, and the text must be
+# the one after its last key. Without a journal all was saved, and the text is one after some key past keys1.
 judge() { # SESSION TEXT JOURNAL
     python3 - "$@" <<'PYTHON'
 import os, sys
@@ -179,7 +181,7 @@ terminal() {
     tmux -u -L "$socket" -f /dev/null "$@"
 }
 
-# A number for a name would be a window's.
+# tmux would take a number as the index of a window
 open_editor() { # NAME STATE FILE
     terminal new-session -d -s "$1" -x 80 -y 24 -e "XDG_STATE_HOME=$2" "exec '$top/bidi-edit' '$3'"
 }
@@ -194,7 +196,7 @@ has_row() { # NAME ROW
     [ "$(terminal capture-pane -p -t "$1" 2>/dev/null | sed -n '24s/ *$//p')" = "$2" ]
 }
 
-# One that tmux has not asked for yet has ended too: it has no memory and no files any more, and its number is still taken.
+# Whether processes have ended. A zombie counts: its memory and files are gone.
 has_ended() { # PROCESS..
     for process; do
         case $(ps -o stat= -p "$process") in '' | Z*) ;; *) return 1 ;; esac
@@ -205,14 +207,14 @@ program_of() { # LAUNCHER
     ps -o pid=,comm= --ppid "$1" | sed -n 's/^ *\([0-9]*\) bidi_edit$/\1/p'
 }
 
-# Ends what is to be ended, and waits for both.
+# Sends the signal and waits for both processes to end.
 end_session() { # HOW LAUNCHER PROGRAM
     read -r signal target delay <"$1"
     sleep "$delay"
     case $target in
     launcher) kill -s "$signal" "$2" ;;
     program) kill -s "$signal" "$3" ;;
-    # the end of one may be the end of the other
+    # the end of one may end the other
     both) kill -s "$signal" "$2" "$3" 2>/dev/null ;;
     esac
     wait_for 150 has_ended "$2" "$3"
@@ -254,7 +256,7 @@ recover_session() { # NUMBER
     fi
 }
 
-# Recovers in the terminal, goes on typing there, and saves.
+# Recovers in the terminal, continues typing there, and saves.
 go_on() { # NUMBER
     open_editor "s$1" "$work/state" "$work/text"
     wait_for 150 asks "s$1" || { fails "$1 goes on" 'nothing was asked'; return; }
@@ -280,7 +282,7 @@ run_share() { # FIRST STEP
     done
 }
 
-# Four at once.
+# Runs four sessions at once.
 check_sessions() {
     make_sessions
     mkdir "$folder/work"
@@ -292,9 +294,9 @@ check_sessions() {
     wait "$share0" "$share1" "$share2" "$share3"
 }
 
-# ---- what the launcher says and asks
+# ---- messages and questions of the launcher
 
-# Types a line of a shell whose state is a folder of its own.
+# Types a line into a shell whose state folder is its own.
 say() { # WORD..
     terminal send-keys -t shell "$*" Enter
 }
@@ -311,7 +313,7 @@ shows() { # TEXT
     terminal capture-pane -p -J -t shell | grep -qF -e "$1"
 }
 
-# A step of a scene: what is to be seen then.
+# Expects a text on the screen.
 expect() { # NAME TEXT
     wait_for 150 shows "$2" || {
         fails "$1" "'$2' is not seen, but: $(terminal capture-pane -p -J -t shell | tr '\n' '|' | sed 's/|*$//')"
@@ -319,7 +321,7 @@ expect() { # NAME TEXT
     }
 }
 
-# Presses keys that end the editor, and waits for the shell's own screen.
+# Presses keys that end the editor, and waits for the shell's screen.
 end_by_keys() { # KEY..
     terminal send-keys -t shell "$@"
     wait_for 150 shows_shell
@@ -329,8 +331,8 @@ shows_shell() {
     [ "$(terminal display-message -p -t shell '#{alternate_on}')" = 0 ]
 }
 
-# The editor is open on the file text, keys are typed until the last row is this, and its program is ended, or the launcher too. The
-# launcher that lives says this.
+# Opens the editor on the file text, types keys until the last row is ROW, and ends its program, or the launcher too. A
+# surviving launcher prints WORDS.
 break_off() { # ROW WORDS KEY..
     row=$1 words=$2
     shift 2
@@ -347,7 +349,7 @@ break_off() { # ROW WORDS KEY..
         expect "$scene" "$words"
     else
         kill -s KILL "$(program_under "$process")" "$(ps -o pid= --ppid "$process" | tr -d ' ')"
-        # the terminal is raw by then, and on the alternate screen
+        # the terminal is still raw and on the alternate screen
         terminal send-keys -t shell C-j "stty sane; printf '\\033[?1049l'" C-j
         sleep 0.5
     fi
@@ -364,7 +366,7 @@ scene_recover_asks() {
         wait_for 150 has_row shell '- 1:1' && end_by_keys C-q && say 'ls state/bidi_edit | wc -l' && expect "$scene" 0
 }
 
-# The launcher sees that itself, where it lives.
+# A surviving launcher sees that all is saved.
 scene_all_is_saved() {
     break_off '- 1:2  saved' 'the editor was ended by the signal' x C-s && say bidi-edit text && wait_for 150 has_row shell '- 1:1' &&
         end_by_keys C-q && say 'ls state/bidi_edit | wc -l' && expect "$scene" 0
@@ -416,7 +418,7 @@ run_editor() { # WORD..
     "$editor" --classes "$top/data/DerivedBidiClass.txt" --brackets "$top/data/BidiBrackets.txt" --mirroring "$top/data/BidiMirroring.txt" "$@"
 }
 
-# So many keys: lines of 60 letters, moves and erasures among them.
+# Prints COUNT keys: lines of 60 letters, with moves and erasures.
 many_keys() { # COUNT
     python3 -c '
 import random, sys
@@ -426,7 +428,7 @@ for n in range(int(sys.argv[1])):
 ' "$1"
 }
 
-# On a disk with no room for it the journal is given up, and the save is made.
+# On a full disk the journal is given up, and the save succeeds.
 check_full_disk() {
     mkdir "$folder/small"
     if ! mount -t tmpfs -o size=64k none "$folder/small" 2>/dev/null; then
@@ -455,8 +457,8 @@ check_replay_time() {
     if [ "$told" = 'known 100000' ] && [ "$milliseconds" -lt 10000 ]; then passes replay; else fails replay "$milliseconds ms, $told"; fi
 }
 
-# The median time from a key's byte to its painting, with a journal and without, in turn; the least difference of five rounds, since
-# whatever else runs only adds to one.
+# Measures the median time from a key's byte to its painting, alternately with and without a journal. Takes the least difference
+# of five rounds, since other load only adds time.
 measure_cost() {
     python3 - "$folder" "$editor" "$top/data" <<'PYTHON'
 import os, statistics, subprocess, sys, time
@@ -466,7 +468,7 @@ words = [editor, "--classes", data + "/DerivedBidiClass.txt", "--brackets", data
          "--mirroring", data + "/BidiMirroring.txt"]
 
 def median(more):
-    """Of 2,000 letters in lines of 50, in microseconds."""
+    """The median time of 2,000 letters in lines of 50, in microseconds."""
     program = subprocess.Popen(words + more + [folder + "/none"], stdin=subprocess.PIPE, stdout=subprocess.PIPE,
                                stderr=subprocess.DEVNULL, bufsize=0)
     os.read(program.stdout.fileno(), 65536)

@@ -1,35 +1,36 @@
 #!/bin/sh
-# check-refusals.sh [SESSIONS]: runs the built programs with one growth of memory refused: the first, the second and so on, until a
-# run meets no refusal. It stands beside the gate. The last lines count the runs by what became of them; the status is 1 where a run
-# does what none may, or where what must occur did not, and 77 where nothing failed and something could not run.
+# check-refusals.sh [SESSIONS]: runs the built programs with one memory growth refused: the first, the second and so on, until a
+# run needs no more. It is not part of `rt ci`. The last lines count the runs by kind. Exit status 1: a run does something that
+# no refusal may cause, or a required kind did not occur; 77: nothing failed and something could not run.
 #
-# A file in C, which scripts/refusals/loaded.sh writes, is loaded into each program. It refuses the growth, gives the program its input
-# one byte a read, and tells how many bytes were read when it refused.
+# A library in C, which scripts/refusals/loaded.sh builds, is loaded into each program. It refuses the growth, gives the program
+# its input one byte a read, and reports how many bytes were read at the refusal.
 #
-# 1. Scenes by play_scenes, each step by step and by one call, as they are and with a byte that ends no key behind each key and each
-#    told size. A run must answer what the same scene answers that is refused nothing, or be one of these, of which play_scenes tells
-#    the step:
-#    - a file that is not opened, or want of memory in the program itself;
-#    - no memory for a key: all else is as where a byte that ends no key stands in the key's place;
-#    - no memory for the painting: where a byte follows that ends no key, all else is as if it had not been refused, since that byte
-#      paints. Else text, place, what is kept and whether it has changed are as if it had not been, what was queued before stays,
-#      and where a later painting is not refused the screen is as right at the end;
-#    - no memory for the line: all else is as where nothing is sent in that step;
-#    - no memory in the terminal: each later window and each Read that takes a byte answers it again, and all else is the same;
-#    - no memory for the answers of a play: all is as with no step;
-#    - a Save without memory: all else is as where a call of the store fails;
-#    - no memory for the text that the scene tells at its end: it is `?`, and all else is the same.
-#    So two refusals in one run are told, and so is a refusal that leaves anything else.
-# 2. Worked scenes, in each of which one run must answer exactly what scripts/refusals/scenes.sh has of it.
-# 3. ucd_lookup with a class file, which answers as where nothing is refused, or says that memory is wanted.
-# 4. Twenty of the recorded sessions in SESSIONS (see sessions.sh) by bidi_edit. A run must print, leave and end as the same session
-#    that is refused nothing, or be one of these, K being the byte that was read last before the refusal:
-#    - before the first byte: status 1, `out of memory` alone, nothing on the screen, and FILE as it was;
-#    - a dropped key: all is as where a byte that ends no key stands in K's place;
-#    - a failed save: all is as where the system refuses to rename in K's time, or the first time where the store was refused the
-#      growth before the first byte;
-#    - a painting put off: status, fault and FILE are as if it had not been refused, and K sends nothing. With Repaint typed behind K
-#      and the same growth refused, all is as in the session with Repaint there that is refused nothing, but for what K sends.
+# 1. Scenes by play_scenes, each step by step and by one call, unchanged and with a byte that ends no key after each key and
+#    each told size. A run must answer as the scene does without a refusal, or be one of these, and play_scenes must report the
+#    step:
+#    - the file is not opened, or the program itself runs out of memory;
+#    - no memory for a key: all else is as with a byte that ends no key in the key's place;
+#    - no memory for the painting: if a byte follows that ends no key, all else is as without the refusal, since that byte
+#      paints. Otherwise text, place, stored bytes and the changed flag are as without it, the bytes queued before stay, and if
+#      a later painting succeeds, the screen is right at the end;
+#    - no memory for the line: all else is as with nothing sent in that step;
+#    - no memory in the terminal: each later window and each Read of at least a byte reports it again, and all else is the same;
+#    - no memory for the answers of a play: all is as without steps;
+#    - no memory for a Save: all else is as with a failing call of the store;
+#    - no memory for the text at the scene's end: it is `?`, and all else is the same.
+#    So the check detects two refusals in one run, and a refusal with any other effect.
+# 2. Worked scenes: one run of each must give exactly the answer in scripts/refusals/scenes.sh.
+# 3. ucd_lookup with a class file: it answers as without a refusal, or reports that memory ran out.
+# 4. Twenty of the recorded sessions in SESSIONS (see sessions.sh) by bidi_edit. A run must print, leave and end as the session
+#    does without a refusal, or be one of these, where K is the last byte read before the refusal:
+#    - before the first byte: status 1, `out of memory` alone, nothing on the screen, and an unchanged FILE;
+#    - a dropped key: all is as with a byte that ends no key in K's place;
+#    - a failed save: all is as with renames refused after K, or with the first rename refused if the store's growth was refused
+#      before the first byte;
+#    - a postponed painting: status, fault and FILE are as without the refusal, and K sends nothing. With Repaint typed after K
+#      and the same growth refused, all is as in the session with Repaint and without a refusal, except for the bytes that K
+#      sends.
 set -eu
 export LC_ALL=C
 
@@ -64,7 +65,7 @@ fail() { # WORDS
     failed=$((failed + 1))
 }
 
-# Wants each kind of run to have occurred.
+# Requires that each kind of run occurred.
 want_kinds() { # KIND..
     for kind; do
         grep -q -x -F "$kind" kinds || fail "no run was '$kind'"

@@ -1,11 +1,11 @@
 #!/bin/sh
-# Saves with the built program, and stops it: killed at each system call of a save, with each of three errors at each call, with a
-# file that another program changes meanwhile, and beside files, links and owners of all kinds. FILE is the old bytes or the new,
-# whole, with its owner and permissions; a link stays a link; nothing but the draft of a killed save is left beside it; no one else
-# reads what is on its way. All this by both ways: saves that replace FILE, and those that write FILE itself, where FILE may be torn
-# while the mark has the whole new text. It stands beside the gate and wants strace; some points want root. The word after it is
-# the program. It prints how many points of each kind there were; the status is 1 where one failed, 77 where there is nothing to
-# check with.
+# Interrupts saves of the built program: kills it at each system call of a save, makes each call fail with each of three errors,
+# changes the file from another program meanwhile, and saves to files, links and owners of all kinds. FILE must have its old or
+# its new bytes, complete, with its owner and permissions; a link must stay a link; only the draft of a killed save may be left
+# beside it; and nobody else may read the draft. All this is checked for saves that replace FILE and for saves that overwrite
+# it, where FILE may be torn as long as the mark has the whole new text. It is not part of `rt ci`, and needs strace; some
+# checks need root. Its word is the program. It prints the number of checks of each kind. Exit status 1: a check failed; 77:
+# strace or the program is missing.
 set -u
 
 export LC_ALL=C.UTF-8
@@ -28,7 +28,7 @@ fi
 
 folder=$(mktemp -d)
 place=$folder/place
-# The program's own folder, which has the journal and the mark of saves into FILE itself.
+# The program's private folder, with the journal and the mark.
 own=$folder/own
 mark=$own/mark
 program='' mounted=''
@@ -41,11 +41,11 @@ clean_up() {
 
 trap clean_up EXIT
 trap 'exit 1' HUP INT TERM
-# Others come as far as the files, whose own permissions then decide.
+# other users can reach the files, whose own permissions then decide
 chmod 755 "$folder"
 cp "$editor" "$folder/editor"
 cp "$top/data/DerivedBidiClass.txt" "$top/data/BidiBrackets.txt" "$top/data/BidiMirroring.txt" "$folder"
-# The command as another user, who is in no group of the files.
+# Runs a command as another user, who is in no group of the files.
 cat >"$folder/as_other" <<'END'
 #!/bin/sh
 exec setpriv --reuid 54322 --regid 54322 --clear-groups "$@"
@@ -53,7 +53,7 @@ END
 chmod 755 "$folder"/*
 umask 022
 
-# ---- what is counted
+# ---- counts
 
 begin_kind() { # NAME
     end_kind
@@ -92,19 +92,19 @@ is_root() {
 
 printf 'ab\ncd\nef\n' >"$folder/lines"
 printf 'xab\nycd\nzef\n' >"$folder/edited"
-# more than what the program gathers for one write
+# larger than the program's buffer
 head -c 80000 /dev/zero | tr '\0' a >"$folder/rest"
-# what the same keys make of nothing
+# the text that the same keys make of an empty one
 printf 'zyx' >"$folder/typed"
 printf 'theirs\n' >"$folder/theirs"
 printf 'x\033[B\033[Hy\033[B\033[Hz\023' >"$folder/keys"
-# and once more, for a save after one that failed
+# the keys with a second Save, for a failed first one
 { cat "$folder/keys" && printf '\023'; } >"$folder/keys_twice"
 cp "$folder/keys" "$folder/keys_of_all"
 scenes='plain long secret linked made dangling beset'
 scenes_in_place='plain long linked made doubled'
 ! is_root || scenes="$scenes owned" scenes_in_place="$scenes_in_place owned"
-# How saves come to FILE: `beside` or `in_place`; the file whose text is opened, where that is not FILE; the journal that is replayed.
+# The kind of save, `beside` or `in_place`; the opened file, if it is not FILE; the replayed journal.
 way=beside copy='' replay=''
 
 put_old() { # PATH MODE
@@ -112,8 +112,8 @@ put_old() { # PATH MODE
     chmod "$2" "$1"
 }
 
-# Makes a scene's files anew: `file` is what the program is told, `kept` what it leads to, `mode` and `owner` what that has
-# after each save.
+# Makes a scene's files: `file` is the program's argument, `kept` the file behind it, and `mode` and `owner` are expected after
+# each save.
 prepare() { # SCENE
     scene=$1
     cp "$folder/lines" "$folder/old"
@@ -164,7 +164,7 @@ prepare() { # SCENE
     esac
 }
 
-# What FILE is: old, new, theirs, none, or torn.
+# Prints the state of FILE: old, new, theirs, none, or torn.
 state() {
     [ -e "$kept" ] || { echo none && return; }
     for bytes in old new theirs; do
@@ -183,7 +183,7 @@ had_before() {
     esac
 }
 
-# Looks at all that a save may not change, whatever came of it.
+# Checks everything that no save may change.
 check_place() {
     [ ! -e "$kept" ] || same "the owner" "$(stat -c %u:%g "$kept")" "$owner"
     [ ! -e "$kept" ] || same "the mode" "$(stat -c %a "$kept")" "$mode"
@@ -195,7 +195,7 @@ check_place() {
     esac
 }
 
-# What came of a save into FILE itself that broke off: FILE is old or new, or it is a beginning of the new text, and the mark has all.
+# Checks an interrupted save into FILE itself: FILE is old or new, or a beginning of the new text while the mark has all of it.
 check_torn() { # STATE
     if [ "$way" != in_place ] || [ "$1" != torn ]; then
         same "FILE" "$1" "$(had_before)"
@@ -206,7 +206,7 @@ check_torn() { # STATE
     same "the mark's mode" "$(stat -c %a "$mark")" 600
 }
 
-# The mark is gone; what has `.bx` behind its name never counts.
+# Checks that the mark is gone; its draft, with `.bx` after its name, does not count.
 check_no_mark() {
     [ ! -e "$mark" ] || fails "the mark is left"
 }
@@ -215,7 +215,7 @@ names() {
     find "$place" -mindepth 1 -maxdepth 1 -printf '%f\n' | sort | paste -s -d ' '
 }
 
-# What is there, where nothing is left: FILE too where it is there.
+# Checks that only the scene's own files are left, with FILE if it exists.
 check_nothing_left() {
     wanted=$others
     case "$others " in
@@ -225,8 +225,7 @@ check_nothing_left() {
     same "what is there" "$(names)" "$wanted"
 }
 
-# Looks at the draft of a killed save, if there is one: it begins as the new text does, and no one may do with it what he may not
-# do with FILE.
+# Checks the draft of a killed save, if any: it is a beginning of the new text, and gives nobody more rights than FILE.
 check_draft() {
     draft=$kept.bx
     [ "$scene" != beset ] || draft=$kept.bx1
@@ -243,7 +242,7 @@ check_draft() {
 
 # ---- the program
 
-# What stands before the program is run with it: strace, or the change of a user.
+# Runs the program under the given command: strace, or a change of user.
 edit() { # COMMAND..
     set -- "$@" "$folder/editor"
     [ "$way" = beside ] || set -- "$@" --in-place "$mark" --journal "$own/journal"
@@ -251,7 +250,8 @@ edit() { # COMMAND..
         --mirroring "$folder/BidiMirroring.txt" ${copy:+--text "$copy"} ${replay:+--replay "$replay"} "$file"
 }
 
-# The calls of a scene's save, from its key to the program's end: a line each, with the number of calls of that name so far.
+# Lists the system calls of a scene's save, from its key to the program's end, with the number of each among the calls of its
+# name.
 list_calls() {
     edit strace -o "$folder/log" <"$folder/keys" >/dev/null 2>&1
     awk '
@@ -261,7 +261,7 @@ list_calls() {
     ' "$folder/log" >"$folder/calls"
 }
 
-# ---- killed at each call
+# ---- kills at each call
 
 check_kill() { # CALL NUMBER
     begin_point "$scene, $1 $2"
@@ -286,7 +286,7 @@ check_kills() { # KIND SCENE..
         while read -r call number _; do
             check_kill "$call" "$number" </dev/null
         done <"$folder/calls"
-        # else a save would be no save, or never be cut off
+        # otherwise no save was interrupted, or none succeeded
         case $states in
         *" $(had_before) "*new*) ;;
         *) fails "the states are$states" ;;
@@ -294,7 +294,7 @@ check_kills() { # KIND SCENE..
     done
 }
 
-# ---- an error at each call
+# ---- errors at each call
 
 check_error() { # CALL NUMBER ERROR
     begin_point "$scene, $3 at $1 $2"
@@ -307,12 +307,12 @@ check_error() { # CALL NUMBER ERROR
     case $status in
     0)
         same "FILE, told to be saved," "$now" new
-        # only the call that takes the mark away may leave it
+        # only a failed unlink may leave the mark
         [ ! -e "$mark" ] || [ "$1" = unlink ] || fails "the mark is left"
         ;;
     1)
         case $way,$now in
-        # all is written, but it may not be on the disk
+        # all is written, but may not be on disk
         in_place,new) cmp -s "$mark" "$folder/new" || fails "the mark has not FILE's text" ;;
         *,torn) check_torn "$now" ;;
         *)
@@ -328,7 +328,7 @@ check_error() { # CALL NUMBER ERROR
     check_nothing_left
 }
 
-# The same, and a Save behind it, which goes through.
+# Repeats it with a second Save, which must succeed.
 check_next_save() { # CALL NUMBER ERROR
     begin_point "$scene, $3 at $1 $2, and a save behind it"
     prepare "$scene"
@@ -358,7 +358,7 @@ check_errors() { # KIND SCENE..
     done
 }
 
-# ---- a session that goes on while something happens
+# ---- sessions with events during a save
 
 # Starts the program, and waits for its first picture.
 open_session() { # COMMAND..
@@ -379,7 +379,7 @@ wait_for_more() { # SIZE
     fails 'the program writes nothing more'
 }
 
-# Keys in one write, so that the picture after them is the answer to all.
+# Writes keys at once, so that the picture after them answers all of them.
 press() { # KEYS
     before=$(stat -c %s "$folder/out")
     # shellcheck disable=SC2059 # keys are written as escapes
@@ -408,7 +408,7 @@ change_by_rename() {
     chmod 640 "$place/links/other"
     mv "$place/links/other" "$kept"
 }
-# The same size and the same time of the last writing.
+# A change with the same size and the same modification time.
 change_unseen() {
     touch -r "$kept" "$folder/time"
     printf 'ab\nCD\nef\n' >"$kept"
@@ -445,7 +445,7 @@ check_between_saves() {
     close_session 0
 }
 
-# The program waits half a second before it puts the draft on the disk. Meanwhile a command is run.
+# Runs a command while the program waits half a second before it syncs the draft.
 save_and_meanwhile() { # COMMAND..
     open_session strace -o "$folder/log" -e trace=fsync -e inject=fsync:delay_enter=500000:when=1
     if [ "$way" = in_place ]; then draft=$mark.bx; else draft=$kept.bx; fi
@@ -474,7 +474,7 @@ exchange_folder() {
     ln -s elsewhere "$place/inner"
 }
 
-# The folder's place is taken by a link, to where FILE has another name, and where a file of the user has the draft's.
+# Replaces the folder by a link to one where FILE has another name, and a file of the user has the draft's.
 check_exchanged() {
     begin_point "a folder of the path that is a link by now, $way"
     prepare plain
@@ -509,7 +509,7 @@ check_retargeted() {
     close_session 0
 }
 
-# What is gone is overwritten by nothing: it is made again as it was.
+# A removed file is made again with its old attributes.
 check_vanished() {
     begin_point 'a file that is gone'
     prepare secret
@@ -522,7 +522,7 @@ check_vanished() {
     close_session 0
 }
 
-# The same, of saves into FILE itself.
+# The same for saves into FILE itself.
 check_changes_in_place() {
     begin_kind 'changed by another program, in place'
     way=in_place
@@ -541,7 +541,7 @@ check_changes_in_place() {
     way=beside
 }
 
-# FILE is torn by a save whose last call fails, and taken away: the next save makes it by the other way, and takes the mark away.
+# Tears FILE by a save whose last call fails, and removes it. The next save creates it by a rename, and removes the mark.
 check_gone_when_torn() {
     begin_point 'a file that was torn and is gone'
     prepare plain
@@ -558,7 +558,7 @@ check_gone_when_torn() {
     close_session 0
 }
 
-# A save before this session broke off: the mark stays until a save of this session goes through.
+# A mark from an earlier session stays until a save of this session succeeds.
 check_mark_of_before() {
     begin_point 'a mark that is there at the start'
     prepare plain
@@ -581,14 +581,14 @@ check_no_file() { # NAME COMMAND..
     "$@" "$kept"
     kind_before=$(stat -c %F "$kept")
     save_all
-    # the message stays the same, so the screen is painted anew
+    # the message does not change, so the screen is repainted
     press '\023\014'
     same "what FILE is" "$(stat -c %F "$kept")" "$kind_before"
     check_nothing_left
     close_session 1
 }
 
-# The text that is opened was taken from FILE before another program changed it, or after; keys are replayed over it, or none.
+# Checks a text copied from FILE before or after another program changed it, with or without replayed keys.
 check_before_start() { # NAME CHANGE KEYS WANTED
     begin_point "$1"
     prepare plain
@@ -603,7 +603,7 @@ check_before_start() { # NAME CHANGE KEYS WANTED
     "$2"
     had=$(cat "$kept" 2>/dev/null)
     open_session env
-    # back to where the keys of all scenes begin
+    # back to the place where all scenes' keys begin
     [ -z "$3" ] || press '\033[H'
     save_all
     copy='' replay=''
@@ -649,9 +649,9 @@ check_changes() {
     check_no_file 'a pipe by now' mkfifo
 }
 
-# ---- what is beside FILE, and where it is
+# ---- files beside FILE, and kinds of places
 
-# One save, after which FILE is as the word says.
+# Saves once, and checks the state of FILE.
 check_save() { # NAME STATE COMMAND..
     begin_point "$1"
     wanted_state=$2
@@ -698,10 +698,9 @@ check_names() {
     same "what is there" "$(names | wc -w)" 2
 }
 
-# ---- other users' files
+# ---- files of other users
 
-# The bits that run a program as its owner or in its group stay where it has both, and go else. Nothing is written of an empty
-# text, so that the system takes none of them away.
+# The set-ID bits stay only if both owner and group stay. The text is empty, since a write would clear the bits.
 check_set_ids() {
     prepare secret
     chown -R 54322:54322 "$place"
@@ -799,7 +798,7 @@ check_owners() {
     way=beside
 }
 
-# ---- disks that take no text
+# ---- full disks
 
 check_disks() {
     begin_kind 'disks that take no text'
@@ -835,7 +834,7 @@ check_disks() {
     umount "$kept" && mounted=''
 }
 
-# shellcheck disable=SC2086 # scenes are words
+# shellcheck disable=SC2086 # split into words
 {
     check_kills 'killed at a call' $scenes
     check_errors 'an error at a call' $scenes

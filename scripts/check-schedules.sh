@@ -1,9 +1,9 @@
 #!/bin/sh
-# Plays the random schedules of an independent model of the editor by play_scenes, each step by step and by one call, and counts how
-# many give all that the model says. The first word is their folder, with schedules.tsv, settled.tsv and the small tables
-# test-classes.txt, test-brackets.txt and test-mirroring.txt; a second word is a program that is built elsewhere. Their lines have
-# the fields of a scene, of which the first says whether the tables are the small ones (test) or those of Debian's package
-# unicode-data (real), and then those of its answers. Ends with status 77 where there is nothing to play. It stands beside the gate.
+# Plays random schedules from an independent model of the editor by play_scenes, step by step and by one call, and counts those
+# whose answers all agree with the model. Its first word is their folder, with schedules.tsv, settled.tsv and the small tables
+# test-classes.txt, test-brackets.txt and test-mirroring.txt; a second word is a program built elsewhere. A line has the fields
+# of a scene, the first of which names the tables, the small ones (test) or Debian's unicode-data (real), and then the fields of
+# its answers. Exit status 77: there are no schedules or no tables. It is not part of `rt ci`.
 set -eu
 
 folder=$(readlink -f "${1:-/nowhere}" || :)
@@ -12,19 +12,19 @@ unicode=/usr/share/unicode
 scratch=$(mktemp -d)
 trap 'rm -rf "$scratch"' EXIT
 
-# Says why nothing is played, and ends.
+# Reports why nothing is played, and exits.
 skip() {
     echo "skipped: $1"
     exit 77
 }
 
-# Says what is wrong, and ends.
+# Reports a fault, and exits.
 fail() {
     echo "failed: $1" >&2
     exit 1
 }
 
-# Puts one of Unicode's files, which may be packed, into the scratch folder under a name.
+# Copies one of Unicode's files, unpacked, to the scratch folder under a name.
 unpack() {
     found=$(find "$unicode" -name "$1" -o -name "$1.gz" -o -name "$1.bz2" | sort | head -n 1)
     case $found in
@@ -35,7 +35,7 @@ unpack() {
     esac
 }
 
-# Gathers the schedules and both kinds of tables.
+# Copies the schedules and both kinds of tables.
 gather() {
     for name in schedules.tsv settled.tsv test-classes.txt test-brackets.txt test-mirroring.txt; do
         [ -f "$folder/$name" ] || skip "the first word is no folder with $name"
@@ -47,11 +47,11 @@ gather() {
     cat "$scratch/schedules.tsv" "$scratch/settled.tsv" | grep -v '^#' >"$scratch/all" || skip "$folder has no schedule"
 }
 
-# Builds the program, unless it is given.
+# Builds the program, unless one is given.
 build() {
     [ -z "$program" ] || return 0
     cd "$(dirname "$0")/../crates/play_scenes"
-    # without words the program only tells its usage, which shows that it was built
+    # its usage shows that it was built
     rt run </dev/null 2>&1 | grep -q '^play_scenes: usage' || fail "the program was not built: see rt check"
     program=$PWD/out/play_scenes
 }
@@ -61,8 +61,8 @@ play() {
     timeout 900 "$program" "$scratch/$1-classes.txt" "$scratch/$1-brackets.txt" "$scratch/$1-mirroring.txt"
 }
 
-# How many calls a save makes is open, so a fault behind the third call may fall on another call than in the model. Whether the
-# schedule on this line, where there is such a fault, agrees with another number of its call.
+# Whether the schedule on this line agrees with the model if another call of the store fails. The number of calls in a save is
+# unspecified, so a fault after the third call may hit another one than in the model.
 agrees_otherwise() {
     sed -n "$2p" "$scratch/$1.in" |
         awk -F '\t' -v OFS='\t' '$5 > 3 { for (k = 4; k < 100; k++) { $5 = k; print } }' >"$scratch/tries"

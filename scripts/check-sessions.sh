@@ -1,9 +1,9 @@
 #!/bin/sh
-# check-sessions.sh SESSIONS [--only NUMBER] [--max COUNT]: runs the program on recorded sessions, and prints how many of how many
-# agree, byte by byte, in what is printed, in the status and in the file that is left; of a command line that is refused, only that
-# it is told is compared. Nothing else may be left. SESSIONS is a folder as sessions.sh says, or an archive of one. --only takes one
-# session, and --max says of how many that differ the differences are shown, 20 unless told. It stands beside the gate. The status
-# is 1 where one differs or there is none, and 77 where no sessions are given.
+# check-sessions.sh SESSIONS [--only NUMBER] [--max COUNT]: runs the program on recorded sessions, and prints how many agree
+# byte by byte in output, status and the resulting file. For a refused command line only the refusal is compared. No other file
+# may be left. SESSIONS is a folder in the form that sessions.sh describes, or an archive of one. --only selects one session,
+# and --max limits the number of differing sessions that are shown, 20 by default. It is not part of `rt ci`. Exit status 1: a
+# session differs or there is none; 77: no sessions are given.
 set -eu
 export LC_ALL=C
 
@@ -16,12 +16,12 @@ usage() {
     exit 2
 }
 
-# Notes a part of a session that differs.
+# Notes a difference of a session.
 differ() { # WORDS
     printf '    %s\n' "$1" >>"$scratch/differences"
 }
 
-# Compares a file that a run left with the one that is wanted; none is wanted where that one is not there.
+# Compares a resulting file with the expected one; if that does not exist, the result must not either.
 compare() { # NAME FOUND WANTED
     if [ ! -f "$2" ] && [ ! -f "$3" ]; then
         return
@@ -34,7 +34,7 @@ compare() { # NAME FOUND WANTED
     fi
 }
 
-# Runs one session, and writes what differs.
+# Runs one session, and writes its differences.
 run_session() { # SESSION
     place=$scratch/place
     lay_out "$1" "$place"
@@ -58,12 +58,12 @@ run_session() { # SESSION
     done
 }
 
-# A number without the zeros before it.
+# Removes leading zeros.
 plain() { # NUMBER
     printf '%s\n' "${1#"${1%%[!0]*}"}"
 }
 
-# Runs all sessions, and prints those that differ and how many agree.
+# Runs all sessions, and prints those that differ and the number that agree.
 run_sessions() { # FOLDER
     agreed=0 differing=0
     list_sessions "$1" >"$scratch/list"
@@ -110,7 +110,7 @@ trap 'rm -rf "$scratch"' EXIT
 trap 'exit 1' HUP INT TERM
 folder=$(sessions_of "$sessions" "$scratch")
 cd "$top/crates/bidi_edit"
-# without words the program only tells its usage, which shows that it was built
+# its usage shows that it was built
 if ! rt run 2>&1 | grep -q '^Usage: bidi_edit'; then
     echo 'the program was not built: see rt check' >&2
     exit 1

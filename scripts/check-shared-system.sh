@@ -1,9 +1,9 @@
 #!/bin/sh
-# Runs the launcher where it shares a system: beside other users and their files, beside a second start, in a second process
-# namespace, on a small disk, and while signals come together. Each part of scripts/shared_system runs under dash and bash, as root
-# and as a plain user (setpriv), in tmux. As a plain user only what needs no root is checked. With names after it only the parts and
-# checks run whose names begin so. The last line counts; the status is 1 where one failed, and 77 where tmux, setpriv or the built
-# programs are missing.
+# Runs the launcher on a shared system: with other users and their files, with a second start, in a second process namespace, on
+# a small disk, and with simultaneous signals. Each part of scripts/shared_system runs under dash and bash, as root and as a
+# plain user (setpriv), in tmux. As a plain user it checks only what needs no root. Names after it select parts and checks whose
+# names begin so. The last line has the totals. Exit status 1: a check failed; 77: tmux, setpriv or the built programs are
+# missing.
 set -u
 
 export LC_ALL=C.UTF-8
@@ -37,7 +37,7 @@ clean_up() {
 trap clean_up EXIT
 trap 'exit 1' HUP INT TERM
 
-# What a check sets for its own sessions; scripts/launcher/person.sh says how.
+# Settings of a check for its own sessions; see scripts/launcher/person.sh.
 # shellcheck disable=SC2034
 tables='' setup='' cleanup='' redirection='' is_flooded='' lines_told=1
 # shellcheck disable=SC2034

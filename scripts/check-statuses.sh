@@ -1,7 +1,7 @@
 #!/bin/sh
-# Runs the built program to each of its ends, and bidi_input where that is built, and compares the exit status, the line on standard
-# error and the saved file with what the manual says. It stands beside the gate, whose tests call the functions behind `main` and not
-# the program. The last line counts; the status is 1 where one differs, and 77 where the program is not built.
+# Runs the built program to each of its ends, and bidi_input if it is built, and compares the exit status, the line on standard
+# error and the saved file with the manual. It is not part of `rt ci`, whose tests call the functions behind `main` and not the
+# program. The last line has the totals. Exit status 1: one differs; 77: the program is not built.
 set -u
 
 cd "$(dirname "$0")/.." || exit 1
@@ -17,14 +17,14 @@ trap 'rm -rf "$folder"' EXIT
 cd "$folder" || exit 1
 passed=0 failed=0
 
-# The program with the repository's tables and these words, fed with what stands in the file `keys`.
+# Runs the program with the repository's tables and these words, and the file `keys` as input.
 run() {
     "$editor" --rows 2 --cols 30 --classes "$top/data/DerivedBidiClass.txt" --brackets "$top/data/BidiBrackets.txt" \
         --mirroring "$top/data/BidiMirroring.txt" "$@" <keys >screen 2>told
     status=$?
 }
 
-# NAME STATUS LINE: what the last run ended with, and how standard error began.
+# NAME STATUS LINE: checks the last run's status and the start of its standard error.
 ended() {
     line=$(head -n 1 told)
     case $line in
@@ -107,7 +107,7 @@ ended no_such_direction 2 'error: '
 run "$(printf 'a\377')"
 ended word_not_utf8 2 'bidi_edit: a word is not UTF-8'
 
-# The filter of what is typed, where it is built. What broke off by the input's end goes out.
+# Checks the input filter, if it is built. Sequences cut off by the input's end are passed on.
 filter=$top/crates/bidi_input/out/bidi_input
 if [ -x "$filter" ]; then
     printf '\033[7~a\033[1;' | "$filter" >written 2>told

@@ -1,7 +1,7 @@
 #!/bin/sh
-# Reads Unicode's own three files, as Debian's package unicode-data installs them, and compares what ucd_lookup answers for
-# characters from each kind of line with what it must answer for the excerpt. The status is 77 where the package is not installed.
-# `--time` after it also tells the processor time of one reading.
+# Compares the answers of ucd_lookup over Unicode's three files, from Debian's package unicode-data, with the expected answers
+# over the excerpt, for characters from each kind of line. Exit status 77: the package is not installed. `--time` also prints
+# the processor time of one reading.
 set -eu
 
 folder=/usr/share/unicode

@@ -1,7 +1,7 @@
 #!/bin/sh
-# Runs unicode_suites on Unicode's own test suites, as Debian's package unicode-data installs them, and compares how many cases
-# agree with how many the files have, and of clusters with how many are known to agree. A folder after it is searched in place of
-# the package's; files may be packed. The status is 1 where a count is another one, and 77 where a file is not there.
+# Runs unicode_suites on Unicode's test suites, from Debian's package unicode-data, and compares the number of agreeing cases
+# with the number of cases in the files; for clusters with the number known to agree. A folder after it replaces the package's;
+# files may be packed. Exit status 1: a number differs; 77: a file is missing.
 set -eu
 export LC_ALL=C
 
@@ -9,7 +9,7 @@ folder=$(readlink -f "${1:-/usr/share/unicode}")
 scratch=$(mktemp -d)
 trap 'rm -rf "$scratch"' EXIT
 
-# Puts the file of this name, unpacked, into the scratch folder.
+# Copies the file with this name, unpacked, to the scratch folder.
 unpack() {
     found=$(find "$folder" -name "$1" -o -name "$1.gz" -o -name "$1.bz2" -o -name "$1.xz" | sort | head -n 1)
     case $found in
@@ -40,7 +40,7 @@ status=0
 cat found
 [ "$status" = 0 ]
 
-# Wants a line among those that the program printed.
+# Requires a line in the program's output.
 want() { # LINE
     grep -qxF "$1" found || {
         echo "FAILS: there is no line '$1'"
@@ -48,8 +48,8 @@ want() { # LINE
     }
 }
 
-# How many clusters of a file of another version than the code's agree: of 15.0.0 all but one, two U+2701 and a joiner between, which
-# are no longer one.
+# The number of clusters that agree in a file of another version of Unicode. Of 15.0.0 all agree but one: two U+2701 and a
+# joiner between them, which are no longer one cluster.
 known_clusters() { # VERSION
     case $1 in
     15.0.0) echo 601 ;;

@@ -1,17 +1,17 @@
 #!/bin/sh
-# check-words.sh: the definitions that docs/PROMISES.md lists as those to believe speak of ones above them alone, and the contracts
-# of the calls that carry the headline of listed ones alone. The status is 1 where one does not, or a listed file is not there.
+# check-words.sh: checks that the definitions listed in docs/PROMISES.md use only definitions above them in the list, and that
+# the contracts of the headline calls use only listed ones. Exit status 1: one does not, or a listed file is missing.
 set -eu
 
 cd "$(dirname "$0")/.."
 
-# The list: a crate in each line, and names of its files in specs/, in the order in which they are read.
+# The list: each line is a crate and names of files in its specs/, in reading order.
 listed() {
     awk '/^```words$/ { inside = 1; next } /^```$/ { inside = 0 } inside { for (i = 2; i <= NF; i++) print $1 "/specs/" $i ".antt" }' \
         docs/PROMISES.md
 }
 
-# The files of definitions that a file names.
+# Prints the definition files that a file imports.
 named() { # FILE
     sed -n 's/^ *\(ghost \|pub \)*use Rattle\.\([a-z_]*\)\.specs\.\([A-Za-z0-9]*\).*/\2 \3/p' "$1" | sort -u |
         while read -r crate name; do
@@ -19,7 +19,7 @@ named() { # FILE
         done
 }
 
-# What a file names that does not stand in a list of words.
+# Prints the imports of a file that are not in a list of words.
 strangers() { # FILE WORDS
     named "crates/$1" | while read -r word; do
         case " $2 " in

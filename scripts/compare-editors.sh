@@ -1,12 +1,12 @@
 #!/bin/sh
-# compare-editors.sh [--quick] [ROUNDS]: what a user does, in bidi_edit and beside it in emacs, vim, nano and joe, as far as these are
-# installed, all in one run, and prints the table of docs/PERFORMANCE.md. Each editor runs on a terminal of its own of 24 rows and 80
-# columns, with no configuration, on copies of the same texts: 16,000,000 bytes of ASCII, Hebrew, Arabic and mixed lines, and one
-# paragraph of 1,000,000 bytes of each. There are 3 rounds unless said otherwise; --quick takes a sixteenth of each text, and one round.
+# compare-editors.sh [--quick] [ROUNDS]: measures common actions in bidi_edit and in those of emacs, vim, nano and joe that are
+# installed, all in one run, and prints the table of docs/PERFORMANCE.md. Each editor runs on its own terminal of 24 rows and 80
+# columns, without configuration, on copies of the same texts: 16,000,000 bytes of ASCII, Hebrew, Arabic and mixed lines, and
+# one paragraph of 1,000,000 bytes of each. It makes 3 rounds by default; --quick takes a sixteenth of each text, and one round.
 #
-# A figure is the median of the rounds: milliseconds until the last byte of the new screen has come, and behind the stroke those of
-# processor time, of an editor and all of its processes. A letter and a page are means of many. The status is 77 where bidi_edit is
-# not built, where there is no python3, or where none of the others is installed.
+# A figure is the median of the rounds: milliseconds until the last byte of the new screen, then after a slash the milliseconds
+# of processor time of the editor and its child processes. Letters and pages are means of many. Exit status 77: bidi_edit is not
+# built, there is no python3, or none of the others is installed.
 set -eu
 export LC_ALL=C.UTF-8
 
@@ -44,8 +44,8 @@ fi
 folder=$(mktemp -d)
 trap 'rm -rf "$folder"' EXIT
 trap 'exit 1' HUP INT TERM
-# No configuration and no session of the user's is touched.
+# the user's configuration and sessions are not used
 export HOME="$folder/home" TERM=xterm
 unset XDG_STATE_HOME XDG_CONFIG_HOME XDG_DATA_HOME XDG_CACHE_HOME TMUX STY VIMINIT EXINIT
-# shellcheck disable=SC2086 # the names of the editors are words
+# shellcheck disable=SC2086 # split into words
 python3 -B "$top/scripts/compare_editors.py" $quick ${1:+--rounds "$1"} "$top/bidi-edit" "$folder" $found

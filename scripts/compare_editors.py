@@ -1,4 +1,4 @@
-"""Measures what a user does in several editors, side by side, and prints a table in Markdown; scripts/compare-editors.sh runs it."""
+"""Measures common actions in several editors, and prints a table in Markdown; scripts/compare-editors.sh runs it."""
 
 import argparse
 import os
@@ -12,9 +12,9 @@ from pathlib import Path
 from editor_terminal import Late, Terminal
 
 LETTERS, PAGES, BURST, LONG_LETTERS = 30, 20, 200, 10
-LIMIT = 20  # seconds, after which a screen is not waited for
+LIMIT = 20  # seconds to wait for a screen
 
-# ---- what is measured, as the table calls it
+# ---- the rows of the table
 
 OPENED, OPENED_AT_END = 'opened', 'opened at its last line'
 LETTER, LETTER_AT_END = "a letter at a line's beginning", "a letter at a line's end"
@@ -35,14 +35,14 @@ LATIN = 'abcdefghijklmnoprstuvwxyz'
 
 @dataclass
 class Kind:
-    """A kind of text, with a letter that it never holds."""
+    """A kind of text, with a letter that does not occur in it."""
 
     name: str
     alphabets: tuple
     letter: str
 
     def words(self, source):
-        """Words without end."""
+        """Yields words without end."""
         while True:
             letters = source.choice(self.alphabets)
             word = ''.join(source.choices(letters, k=source.randint(2, 8)))
@@ -59,7 +59,7 @@ SHOWN, LAST, FIRST_NUMBER = 'line-nineteen', 'last-line', '314159'
 
 
 def lines_of(kind, size):
-    """A text of about so many bytes in lines of some 44 columns, in which the 19th and the last are known."""
+    """A text of about `size` bytes in lines of some 44 columns; the 19th and the last are fixed."""
     source = random.Random(kind.name)
     words = kind.words(source)
     lines, bytes_left = [], size
@@ -73,7 +73,7 @@ def lines_of(kind, size):
 
 
 def paragraph_of(kind, size):
-    """One paragraph of about so many bytes, with a number at its beginning that is known."""
+    """One paragraph of about `size` bytes that begins with a fixed number."""
     source = random.Random(kind.name)
     words = kind.words(source)
     parts, bytes_left = [], size
@@ -87,7 +87,7 @@ def paragraph_of(kind, size):
 
 @dataclass
 class Editor:
-    """How an editor is started, and its keys."""
+    """An editor's command and keys."""
 
     name: str
     words: list
@@ -97,14 +97,14 @@ class Editor:
     text_end: bytes
     save: bytes
     leave: bytes
-    insert: bytes = b''  # what letters begin with
-    append: bytes = b''  # what letters at a line's end begin with
-    command: bytes = b''  # what ends typing
+    insert: bytes = b''  # sent before letters
+    append: bytes = b''  # sent before letters at a line's end
+    command: bytes = b''  # ends typing
     shapes: bool = False  # whether it sends Arabic letters in their joined forms
 
 
 def editors(bidi_edit, paragraph_pages):
-    """The editors by name. One step back from a text's end leads behind its last letter, where it ends with a line feed."""
+    """The editors by name. The text ends with a line feed, so one step back from its end is after its last letter."""
     page = b'\x1b[6~'
     emacs = ['emacs', '-nw', '-Q', '--eval', '(setq large-file-warning-threshold nil)']
     vim = ['vim', '-N', '-u', 'NONE', '-i', 'NONE']
@@ -132,7 +132,7 @@ def editors(bidi_edit, paragraph_pages):
 # ---- one editor on one text
 
 class Figures:
-    """What was measured: by what is done, the text and the editor a list of pairs, of seconds and of seconds of processor time."""
+    """The measurements: for each action, text and editor a list of pairs of wall time and processor time, in seconds."""
 
     def __init__(self):
         self.found = {}
@@ -141,11 +141,11 @@ class Figures:
         self.found.setdefault((what, kind.name, editor.name), []).append(pair)
 
     def is_late(self, what, kind, editor):
-        """Whether its screen did not come once."""
+        """Whether one of its screens was too late."""
         return None in self.found.get((what, kind.name, editor.name), [])
 
     def median(self, what, kind, editor):
-        """The median of each part; None where nothing was measured, or a screen did not come."""
+        """The median of each part; None if nothing was measured or a screen was too late."""
         pairs = self.found.get((what, kind, editor), [])
         if not pairs or None in pairs:
             return None
@@ -164,7 +164,7 @@ class Task:
         shutil.copyfile(text, self.file)
 
     def started(self, *words):
-        # no place of the cursor is remembered, and no session that was broken off is offered again
+        # editors remember no cursor place, and offer no interrupted session again
         home = Path(os.environ['HOME'])
         shutil.rmtree(home, ignore_errors=True)
         home.mkdir()
@@ -174,7 +174,7 @@ class Task:
         self.figures.note(what, self.kind, self.editor, pair)
 
     def measured(self, what, terminal, count, action):
-        """Notes what one of several actions takes, the median and the mean of processor time, or that its screen did not come."""
+        """Notes an action's median wall time and mean processor time, or that its screen was too late."""
         terminal.settle()
         before = terminal.processor_seconds()
         try:
@@ -192,13 +192,13 @@ class Task:
             self.note(what, (seconds, terminal.end(self.editor.leave)))
 
     def shown_letter(self):
-        """The bytes that show a typed letter; none where they are not known."""
+        """The bytes that show a typed letter; none if they are unknown."""
         if self.editor.shapes and self.kind.name == 'Arabic':
             return b''
         return self.kind.letter.encode()
 
     def type_letters(self, what, terminal, begin, count):
-        """Types one letter after another, and stays in the mode for typing, where an editor has one."""
+        """Types letters one by one, and stays in an editor's mode for typing."""
         letter = self.kind.letter.encode()
         terminal.send(begin)
         self.measured(what, terminal, count, lambda: terminal.do(letter, self.shown_letter(), limit=LIMIT))
@@ -208,7 +208,7 @@ class Task:
         terminal.settle(1.2 if self.editor.command else 0.1)
 
     def keys(self):
-        """All that is done in a text of many lines."""
+        """Measures all actions in a text of many lines."""
         editor, letter = self.editor, self.kind.letter.encode()
         with self.started() as terminal:
             terminal.await_screen(SHOWN.encode(), 0.1)
@@ -226,7 +226,7 @@ class Task:
             self.note(MEMORY, (terminal.peak_bytes(), 0))
 
     def save(self, terminal, added):
-        """Saves, until the file has the new bytes and the screen stands."""
+        """Measures a save until the screen settles, and checks the file's size."""
         wanted = self.file.stat().st_size + added
         terminal.settle()
         before = terminal.processor_seconds()
@@ -236,12 +236,12 @@ class Task:
         self.note(SAVE, (seconds, terminal.processor_seconds() - before))
 
     def paragraph(self):
-        """A letter at each end of one long paragraph."""
+        """Measures a letter at each end of one long paragraph."""
         with self.started() as terminal:
             terminal.await_screen(FIRST_NUMBER.encode(), 0.3)
             self.type_letters(LONG_LETTER, terminal, self.editor.insert, LONG_LETTERS)
             self.leave_typing(terminal)
-            # an editor that did not come to the end is not asked again
+            # an editor that was too slow once is not measured again
             if self.figures.is_late(LONG_LETTER_AT_END, self.kind, self.editor):
                 return
             try:
@@ -259,7 +259,7 @@ def say(words):
 
 
 def run_task(what, task, action):
-    """Runs a part, of which a screen that does not come is told."""
+    """Runs a part, and reports a screen that is too late."""
     say(f'{what}: {task.kind.name}, {task.editor.name}')
     try:
         action()
@@ -294,7 +294,7 @@ def measure_editor(figures, folder, kind, editor, number):
 
 
 def number(value):
-    """A figure of two digits that count."""
+    """Formats a value with two significant digits, or as a rounded integer from 100 on."""
     if value >= 100:
         return f'{float(f"{value:.3g}"):.0f}'
     return f'{value:.2g}'
@@ -311,7 +311,7 @@ def megabytes(pair):
 
 
 def print_table(figures, found):
-    """The table: of each thing that is done a row for each text."""
+    """Prints the table: a row for each action and text."""
     print('| What | Text | ' + ' | '.join(editor.name for editor in found) + ' |')
     print('|---|---|' + '---|' * len(found))
     for what in ALL:

@@ -1,6 +1,6 @@
 #!/bin/sh
-# draw-screens.sh [SVG]: draws docs/screens.svg, or SVG, the picture of README.md, from real runs in tmux: note.txt in ./bidi-edit and
-# in emacs, and catalogue.txt in ./bidi-edit. The status is 77 where a program is missing.
+# draw-screens.sh [SVG]: draws SVG, by default docs/screens.svg, the picture of README.md, from real runs in tmux: note.txt in
+# ./bidi-edit and in emacs, and catalogue.txt in ./bidi-edit. Exit status 77: a program is missing.
 set -eu
 
 cd "$(dirname "$0")/.."
@@ -16,7 +16,7 @@ fi
 folder=$(mktemp -d)
 trap 'rm -rf "$folder"' EXIT
 scripts/show.sh --cells scripts/note.txt 9 34 >"$folder/note"
-# with no menu, and nothing said at the start
+# without a menu and a start message
 scripts/show.sh --cells scripts/note.txt 9 34 emacs -nw -Q --eval '(menu-bar-mode -1)' --eval '(message nil)' >"$folder/emacs"
 scripts/show.sh --cells scripts/catalogue.txt 7 56 ./bidi-edit --direction ltr >"$folder/catalogue"
 

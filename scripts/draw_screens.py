@@ -1,8 +1,8 @@
 """Draws screens as one SVG, each cell by itself, so that no viewer reorders or joins them: draw_screens.py TITLE DESCRIPTION [CAPTION CAPTURE]..
 
-A CAPTURE is a file that `show.sh --cells` wrote. The screens stand side by side as far as they have room. Each cell's text is an
-element of its own with its own place, in the middle of its columns, so letters stand as a terminal that joins none shows them.
-TITLE and DESCRIPTION are for those who cannot see the picture.
+A CAPTURE is a file written by `show.sh --cells`. The screens are placed side by side while they fit. The text of each cell is an
+element of its own, centred in its columns, so letters look as in a terminal that joins none. TITLE and DESCRIPTION are for users
+who cannot see the picture.
 """
 
 import re
@@ -13,7 +13,7 @@ from html import escape
 from pathlib import Path
 
 WIDTH, HEIGHT = 9, 19  # of a cell
-EDGE, CAPTION = 12, 22  # round a screen, and above it
+EDGE, CAPTION = 12, 22  # around a screen, and above it
 WIDEST = 720
 BASELINE = 14
 INK, PAPER, FRAME = '#1f2328', '#ffffff', '#8c959f'
@@ -21,7 +21,7 @@ FONTS = "'DejaVu Sans Mono','Noto Sans Mono','Noto Sans Hebrew','Noto Naskh Arab
 
 
 def is_joined(c):
-    """Whether a character stands in the cell of the one before."""
+    """Whether a character shares the cell of the one before."""
     return unicodedata.category(c) in ('Mn', 'Me', 'Cf')
 
 
@@ -30,7 +30,7 @@ def columns_of(c):
 
 
 class Look(Enum):
-    """How a cell stands out."""
+    """The look of a cell."""
 
     PLAIN = None
     NEGATIVE = INK
@@ -38,7 +38,7 @@ class Look(Enum):
 
 
 def look_after(parameters, look):
-    """The look after an SGR sequence; of colours only that there is a background counts."""
+    """The look after an SGR sequence. Of colours only the presence of a background matters."""
     numbers = [int(number or 0) for number in parameters.split(';')]
     while numbers:
         number = numbers.pop(0)
@@ -54,7 +54,7 @@ def look_after(parameters, look):
 
 
 def cells_of(line, look):
-    """The cells of a captured line, as (column, columns, text, look), and the look behind it."""
+    """The cells of a captured line, as (column, columns, text, look), and the look after it."""
     cells, column = [], 0
     for sgr, c in re.findall(r'\x1b\[([0-9;]*)m|(.)', line):
         if not c:
@@ -96,7 +96,7 @@ class Screen:
         self.width, self.height = columns * WIDTH, rows * HEIGHT
 
     def drawn(self, x, y):
-        """The elements of the screen, whose caption begins at a point."""
+        """The elements of the screen, with its caption at a point."""
         elements = [f'<text x="{x}" y="{y + BASELINE}" text-anchor="start" font-weight="bold">{escape(self.caption)}</text>']
         y += CAPTION
         elements.append(rectangle(x - 2, y - 2, self.width + 4, self.height + 4, fill=PAPER, stroke=FRAME, rx=3))

@@ -1,4 +1,4 @@
-"""A program on a terminal of its own, for compare_editors.py: what is sent to it, when its screen stands, and what it takes."""
+"""A program on a terminal of its own, for compare_editors.py: its input, its settled screens, and its cost."""
 
 import fcntl
 import os
@@ -10,17 +10,17 @@ import termios
 import time
 
 ROWS, COLUMNS = 24, 80
-QUIET = 0.03  # seconds without a byte, after which a screen stands
-# What a terminal is asked for at a start, and how a plain xterm answers: emacs waits for it.
+QUIET = 0.03  # seconds without a byte after which a screen counts as settled
+# A terminal's query at the start, which emacs sends, and the answer of a plain xterm, for which emacs waits.
 QUESTIONS, ANSWER = (b'\x1b[>0c', b'\x1b[>c'), b'\x1b[>0;95;0c'
 
 
 class Late(Exception):
-    """A screen that did not come in time."""
+    """A screen that was too late."""
 
 
 def processes_of(session):
-    """The numbers of the processes of a session, which a program on a terminal of its own leads."""
+    """The process numbers of a session, whose leader is the program on the terminal."""
     found = []
     for name in filter(str.isdigit, os.listdir('/proc')):
         try:
@@ -34,7 +34,7 @@ def processes_of(session):
 
 
 def thread_seconds(path):
-    """The processor time of a thread or process: in nanoseconds where the system counts them, else in ticks."""
+    """The processor time of a thread or process in seconds: from nanoseconds if the system counts them, else from ticks."""
     try:
         with open(f'{path}/schedstat') as file:
             return int(file.read().split()[0]) / 1e9
@@ -45,7 +45,7 @@ def thread_seconds(path):
 
 
 def processor_seconds(process):
-    """The processor time of a process with all of its threads; none where it is gone."""
+    """The processor time of a process with all of its threads; 0 if it is gone."""
     folder = f'/proc/{process}/task'
     try:
         return sum(thread_seconds(f'{folder}/{thread}') for thread in os.listdir(folder))
@@ -54,7 +54,7 @@ def processor_seconds(process):
 
 
 def peak_bytes(process):
-    """The most memory that a process had."""
+    """The peak memory of a process."""
     try:
         with open(f'/proc/{process}/status') as file:
             return sum(1024 * int(line.split()[1]) for line in file if line.startswith('VmHWM:'))
@@ -63,7 +63,7 @@ def peak_bytes(process):
 
 
 class Terminal:
-    """A program that was started on a terminal, and leads a session there; a `with` ends it."""
+    """A program started on a terminal as a session leader; `with` ends it."""
 
     def __init__(self, words, folder):
         self.started = time.perf_counter()
@@ -92,13 +92,13 @@ class Terminal:
             os.waitpid(self.process, 0)
 
     def send(self, keys):
-        """Sends keys in one write, or in as many as the terminal takes."""
+        """Sends keys, in one write if the terminal takes them all."""
         while keys:
             select.select([], [self.line], [])
             keys = keys[os.write(self.line, keys):]
 
     def read(self, seconds):
-        """What comes within so many seconds, as soon as anything does; none where nothing comes or the program has ended."""
+        """The first output within `seconds`; empty if there is none or the program has ended."""
         if not select.select([self.line], [], [], seconds)[0]:
             return b''
         try:
@@ -111,7 +111,7 @@ class Terminal:
         return part
 
     def await_screen(self, wanted=b'', quiet=QUIET, limit=60):
-        """When the last byte of a screen came: the wanted bytes were among it, and then nothing came for a while."""
+        """The time of a screen's last byte: after the wanted bytes, followed by a pause."""
         end = time.perf_counter() + limit
         seen, last, is_there = b'', None, False
         while True:
@@ -127,26 +127,26 @@ class Terminal:
                 raise Late
 
     def do(self, keys, wanted=b'', quiet=QUIET, limit=60):
-        """Sends keys, and gives the seconds until their screen stands."""
+        """Sends keys, and returns the seconds until their screen is settled."""
         before = time.perf_counter()
         self.send(keys)
         return self.await_screen(wanted, quiet, limit) - before
 
     def settle(self, seconds=0.3):
-        """Passes over all that still comes, up to a pause."""
+        """Discards output up to a pause."""
         while self.read(seconds):
             pass
 
     def processor_seconds(self):
-        """The processor time so far, of all processes that live."""
+        """The processor time so far of all live processes."""
         return sum(processor_seconds(process) for process in processes_of(self.process))
 
     def peak_bytes(self):
-        """The most memory of each process that lives, together."""
+        """The sum of the peak memories of all live processes."""
         return sum(peak_bytes(process) for process in processes_of(self.process))
 
     def end(self, keys, limit=60):
-        """Sends the keys that quit, and gives the processor time of the whole run, of processes that ended before too."""
+        """Sends the keys that quit, and returns the processor time of the whole run, with processes that ended earlier."""
         self.send(keys)
         end = time.perf_counter() + limit
         while time.perf_counter() < end:

@@ -1,10 +1,10 @@
 #!/bin/sh
-# install.sh [--uninstall] [PREFIX]: puts the built programs, the launcher, the tables and the page of the manual under PREFIX, which
-# is $HOME/.local unless named, or takes them away again. It builds nothing: the status is 1 where the editor or its filter is not
-# built, and the printing program goes along where it is. What is installed needs nothing of this repository.
+# install.sh [--uninstall] [PREFIX]: installs the built programs, the launcher, the tables and the manual page under PREFIX, by
+# default $HOME/.local, or removes them. It builds nothing. Exit status 1: the editor or its filter is not built; the printing
+# program is installed if it is built. The installation is independent of this repository.
 #
-# All is copied beside first, so that a copy that fails changes nothing; then each file takes its place in one step. A record,
-# lib/bidi_edit/installed, has the sum of each file and the folders that were made: only these are taken away again.
+# All files are first copied beside their places, so that a failed copy changes nothing; then each is renamed into place. A
+# record, lib/bidi_edit/installed, has the checksum of each file and the folders that were created: only these are removed.
 set -eu
 umask 022
 export LC_ALL=C CDPATH=''
@@ -36,12 +36,12 @@ refuse() { # CAUSE
     exit 1
 }
 
-# ---- what is installed
+# ---- the installed files
 
-# The programs that the toolchain built: the editor, and those that work for it or beside it.
+# Finds the built programs: the editor, and its helpers.
 find_programs() {
     programs="bidi_edit bidi_input"
-    # built when something is printed for the first time
+    # built at the first printing
     [ ! -x "$top/crates/bidi_print/out/bidi_print" ] || programs="$programs bidi_print"
     for program in $programs; do
         built=$top/crates/$program/out/$program
@@ -49,7 +49,7 @@ find_programs() {
     done
 }
 
-# Copies a file with these permissions, whatever those of its source and the umask are.
+# Copies a file with these permissions, whatever its source's and the umask are.
 take() { # MODE SOURCE PATH
     mkdir -p -- "$beside/tree/${3%/*}"
     cp -- "$2" "$beside/tree/$3"
@@ -63,11 +63,11 @@ copy_all() {
     for table in DerivedBidiClass BidiBrackets BidiMirroring; do take 644 "$top/data/$table.txt" "share/bidi_edit/$table.txt"; done
     take 644 "$top/docs/bidi_edit.1" share/man/man1/bidi_edit.1
     echo '.so man1/bidi_edit.1' >"$beside/tree/share/man/man1/bidi-edit.1"
-    # the toolchain of this machine, which built the editor: --version tells it
+    # the toolchain of this machine, which built the editor, for --version
     ! command -v rt >/dev/null || rt version >"$beside/tree/lib/bidi_edit/kit"
 }
 
-# ---- the record: lines of `SUM PATH` for files, of `folder PATH` for folders that were made, each path below PREFIX
+# ---- the record: a line `SUM PATH` for each file, `folder PATH` for each folder created, with paths below PREFIX
 
 recorded_files() {
     [ ! -f "$record" ] || sed -n '/^folder /!s/^[^ ]* //p' "$record" | sort -u
@@ -77,12 +77,12 @@ recorded_folders() {
     [ ! -f "$record" ] || sed -n 's/^folder //p' "$record" | sort -u
 }
 
-# Whether a file is as an installation put it there.
+# Whether a file is unchanged since its installation.
 is_as_put() { # PATH
     [ -f "$prefix/$1" ] && [ ! -L "$prefix/$1" ] && grep -q -x -F -e "$(sha256sum <"$prefix/$1" | cut -c 1-64) $1" "$record"
 }
 
-# The folders that are wanted and not there. An installation of before there was a record left those of the editor's own name.
+# The folders to create. An installation without a record left those with the editor's own name.
 new_folders() {
     while read -r path; do
         case $is_old:$path in
@@ -100,9 +100,9 @@ write_record() {
     { recorded_folders && new_folders; } | sort -u | sed 's/^/folder /' >>"$beside/record"
 }
 
-# ---- the exchange
+# ---- replacement
 
-# What is in a file's place has to be of an installation.
+# Requires that each file to be replaced belongs to an installation.
 check_places() {
     recorded_files >"$beside/recorded"
     while read -r path; do
@@ -114,7 +114,7 @@ check_places() {
     done <"$beside/files"
 }
 
-# Each file takes its place in one step, so a running editor keeps the one that it has. While that goes on, the record has both.
+# Renames each file into place, so that a running editor keeps its own. Meanwhile the record has the old and the new files.
 exchange() {
     trap '' HUP INT TERM
     while read -r path; do mkdir -p -- "$prefix/$path"; done <"$beside/folders"
@@ -148,7 +148,7 @@ put_there() {
     printf '%s\n' "$(shown "$prefix/bin/bidi-edit")"
 }
 
-# ---- the way back
+# ---- removal
 
 take_away() {
     [ -f "$record" ] || refuse "there is no record of an installation in $(shown "$prefix"); where there is an old one, installing anew makes one"

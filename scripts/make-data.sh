@@ -1,8 +1,7 @@
 #!/bin/sh
-# Writes data/ anew from Unicode's own three files, as Debian's package unicode-data installs them, or from those in the folder
-# after it: their facts alone, in their own form. These are the ranges with their classes, those that are said to be missing
-# too, the brackets and the mirrors. Ranges that follow one another with one class are joined, and no comment is kept.
-# scripts/check-data.sh compares the answers.
+# Writes data/ from Unicode's three files, from Debian's package unicode-data or from the folder named after it. It keeps facts
+# only, in the files' own format: the ranges with their classes, also the @missing ones, the brackets and the mirrors. It joins
+# adjacent ranges of one class, and drops comments. scripts/check-data.sh compares the answers.
 set -eu
 export LC_ALL=C
 
@@ -12,12 +11,12 @@ classes=$folder/extracted/DerivedBidiClass.txt
 data=$(dirname "$0")/../data
 mkdir -p "$data"
 
-# Names a file's version, and that the file is made.
+# Writes a file's version, and that the file is generated.
 head_line() {
     sed -n '1s/^# *\(.*\)\.txt.*$/# \1, its facts alone, by scripts\/make-data.sh/p' "$1"
 }
 
-# A file's lines of data, with no comment and no blank.
+# Prints a file's data lines without comments and blanks.
 facts() {
     sed -e 's/#.*//' -e 's/[[:blank:]]//g' -e '/^$/d' "$1"
 }

@@ -1,10 +1,10 @@
 #!/bin/sh
-# make-deb.sh [FOLDER]: makes bidi-edit_VERSION_amd64.deb and bidi-edit_VERSION_amd64.tar.gz, with the same tree, in FOLDER (out/ at the
-# top of the repository unless named): for those who have no toolchain. It refuses where one of the three programs is not built and
-# proved, and of tools that not every Debian has it wants dpkg-deb alone; the status is 77 where that is missing. Then it tries both:
-# lintian and the readers of manuals find no fault, the package is installed in a clean root folder, where it offers itself as
-# `editor`, used there in tmux and removed, and the tree of the tar file is used too. A check whose tool is missing is passed over. The
-# last line counts; the status is 1 where a check failed.
+# make-deb.sh [FOLDER]: makes bidi-edit_VERSION_amd64.deb and bidi-edit_VERSION_amd64.tar.gz, with the same tree, for users
+# without the toolchain, in FOLDER (by default out/ at the top of the repository). It refuses programs that are not built and
+# proved. The only tool it needs beyond a plain Debian is dpkg-deb; the status is 77 if that is missing. Then it checks both:
+# lintian and two readers of manuals find no fault, the package is installed in a clean root folder, where it offers itself as
+# `editor`, used there in tmux and removed, and the tree of the tar file is used too. Checks without their tool are skipped. The
+# last line has the totals. Exit status 1: a check failed.
 set -eu
 
 top=$(cd "$(dirname "$0")/.." && pwd)
@@ -25,7 +25,7 @@ refuse() { # CAUSE
     exit 1
 }
 
-# Whether a tool of the checks is there.
+# Whether a tool of the checks is installed.
 has_tool() { # NAME TOOL
     ! command -v "$2" >/dev/null || return 0
     skipped=$((skipped + 1))
@@ -33,7 +33,7 @@ has_tool() { # NAME TOOL
     return 1
 }
 
-# A program with the stamp that the toolchain writes behind a proved build, which ends with the program's sum.
+# Requires a program with the stamp that the toolchain writes after a proved build. The stamp ends with the program's checksum.
 need_proved() { # PROGRAM
     built=$top/crates/$1/out/$1
     if ! [ -x "$built" ] || ! [ -f "$built.stamp" ]; then refuse "$built is not built and proved: launcher/proving/prove.sh . $1 does it"; fi
@@ -45,10 +45,10 @@ need_proved() { # PROGRAM
 
 # ---- the tree
 
-# As install.sh lays it out, the manual pressed together as Debian has it.
+# Makes the tree as install.sh does, with the manual compressed as in Debian.
 make_tree() { # FOLDER
     sh "$top/scripts/install.sh" "$1" >/dev/null
-    # dpkg has a record of its own, and what is unpacked from the tar file is one folder
+    # dpkg has its own record, and the tar file unpacks to one folder
     rm "$1/lib/bidi_edit/installed"
     gzip -9n "$1/share/man/man1/bidi_edit.1"
     rm "$1/share/man/man1/bidi-edit.1"
@@ -56,7 +56,7 @@ make_tree() { # FOLDER
     chmod -R u=rwX,go=rX "$1"
 }
 
-# The newest of the C library's versions that the programs name.
+# Prints the newest version of the C library that the programs require.
 libc_version() { # PROGRAM..
     grep -a -h -o 'GLIBC_[0-9][0-9.]*' "$@" | sed 's/GLIBC_//' | sort -u -V | tail -n 1
 }
@@ -95,16 +95,16 @@ END
         gzip -9n >"$documents/changelog.gz"
 }
 
-# The program stays byte for byte what the toolchain built.
+# Writes lintian's overrides: the program must stay byte for byte as the toolchain built it.
 make_overrides() { # FOLDER
     mkdir -p "$1/usr/share/lintian/overrides"
     cat >"$1/usr/share/lintian/overrides/bidi-edit" <<'END'
-# the program is byte for byte the one that was built from what is proved
+# the program is byte for byte the one that was built from proved sources
 bidi-edit: unstripped-binary-or-object
 END
 }
 
-# The package is one of those that can be `editor`, below those that most people know by that name.
+# Writes the package's scripts, which register it as an `editor`, with a lower priority than the well-known ones.
 make_scripts() { # FOLDER
     cat >"$1/DEBIAN/postinst" <<'END'
 #!/bin/sh
@@ -137,7 +137,7 @@ make_package() {
     dpkg-deb --root-owner-group --build "$package" "$target/$name.deb" >/dev/null
 }
 
-# The tree of /usr, to be unpacked anywhere.
+# Makes the tar file with the tree of /usr, to be unpacked anywhere.
 make_tar() {
     mkdir "$folder/tar"
     cp -R "$package/usr" "$folder/tar/bidi-edit-$version"
@@ -159,7 +159,7 @@ type_keys() {
     tmux -L "$socket" send-keys -t person "$@"
 }
 
-# Opens a text in the editor of this tree, types a letter before it, saves and quits. Only the tree's own tables are there.
+# Opens a text in the editor of a tree, types a letter at its start, saves and quits. Only the tree's own tables are available.
 use() { # NAME FOLDER
     has_tool "$1, used" tmux || return 0
     printf 'שלום world\n' >"$folder/note"
@@ -195,7 +195,7 @@ check_lintian() {
     cat "$folder/lintian"
 }
 
-# What the two readers of manuals have against it, where they are there.
+# Checks the manual with two readers of manuals, if installed.
 check_manual() {
     manual=$top/docs/bidi_edit.1
     ! has_tool 'manual, man' man || same 'manual, man' "$(man --warnings -l "$manual" 2>&1 >/dev/null)" ''
@@ -203,7 +203,7 @@ check_manual() {
     same 'manual, its version' "$(sed -n '1s/.*"bidi_edit \([^"]*\)".*/\1/p' "$manual")" "$version"
 }
 
-# A root folder with nothing but dpkg's own list, which lacks the C library.
+# Runs a command in a root folder with dpkg's list and without the C library.
 in_root() { # WORD..
     PATH=$PATH:/usr/sbin:/sbin dpkg --root="$folder/tree" --force-not-root --force-depends --force-script-chrootless --log=/dev/null "$@" >"$folder/dpkg" 2>&1
 }

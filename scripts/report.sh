@@ -1,7 +1,7 @@
 # shellcheck shell=sh
 # shellcheck disable=SC2034 # words that the scripts give and take
-# What a check says of each point, for scripts that count in `passed` and `failed`, and a wait that has an end. One that goes through
-# several shells or users names those at work in `shell` and `who`.
+# Reports of a check, for scripts that count in `passed` and `failed`, and a wait with a limit. Scripts that run under several
+# shells or as several users name the current ones in `shell` and `who`.
 
 report() { # NAME STATUS DETAIL
     if [ "$2" = 0 ]; then
@@ -17,7 +17,7 @@ same() { # NAME FOUND WANTED
     if [ "$2" = "$3" ]; then report "$1" 0 ''; else report "$1" 1 "'$2', and not '$3'"; fi
 }
 
-# Waits for a command to succeed, a tenth of a second at a time.
+# Waits for a command to succeed; tries every tenth of a second.
 wait_for() { # TENTHS COMMAND..
     tenths=$1
     shift

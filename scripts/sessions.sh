@@ -1,10 +1,9 @@
 # shellcheck shell=sh
-# Recorded sessions, for the scripts that read this file. Each is a folder whose name is a number: the program's words stand in
-# `args`, one a line, its input in `keys`, and what it edits in `file`, where that is there. `want.stdout`, `want.stderr`,
-# `want.status` and `want.file` have what it must print, how it must end, and what `file` must hold then. The tables lie in the
-# folder `tables` beside the sessions.
+# Recorded sessions. Each is a folder whose name is a number: `args` has the program's words, one a line, `keys` the input, and
+# `file` the edited file, if it exists. `want.stdout`, `want.stderr`, `want.status` and `want.file` have the expected output,
+# status and final `file`. The tables are in the folder `tables` beside the sessions.
 
-# Prints the folder that has the sessions: SESSIONS itself, or where SESSIONS is an archive of tar what it has, unpacked in SCRATCH.
+# Prints the folder of the sessions: SESSIONS itself, or a folder in SCRATCH with SESSIONS unpacked, if it is a tar archive.
 sessions_of() { # SESSIONS SCRATCH
     if [ -d "$1" ]; then
         readlink -f "$1"
@@ -16,12 +15,12 @@ sessions_of() { # SESSIONS SCRATCH
     printf '%s\n' "${found%/tables}"
 }
 
-# Prints the folders of the sessions, in their order.
+# Prints the folders of the sessions in order.
 list_sessions() { # FOLDER
     find "$1" -mindepth 1 -maxdepth 1 -type d -name '[0-9]*' | sort
 }
 
-# Makes a folder anew in which a session can run.
+# Makes a new folder for a session to run in.
 lay_out() { # SESSION FOLDER
     rm -rf "$2"
     mkdir "$2"
@@ -29,7 +28,7 @@ lay_out() { # SESSION FOLDER
     [ ! -e "$1/file" ] || cp -r "$1/file" "$2/file"
 }
 
-# Runs a command with the words of a session behind it.
+# Runs a command with the words of a session appended.
 with_words() { # SESSION COMMAND..
     words=$1/args
     shift

@@ -1,9 +1,9 @@
 #!/bin/sh
-# show.sh [--cells] FILE ROWS COLS [EDITOR WORD..]: prints what a person sees of FILE in a window of that size, from a real run in
-# tmux, in a frame. The editor is ./bidi-edit unless another is named, as in `show.sh note.txt 8 40 emacs -nw -Q`. A letter in negative
-# image, the look of a bidi control, is printed as that letter in a circle. Columns stand as on the screen, so what shows the picture
-# must not reorder it. With --cells it prints a line of the window's rows and columns and the cursor's row and column, from 0, and
-# then the screen as tmux captures it, with its sequences for negative image, as draw_screens.py reads it.
+# show.sh [--cells] FILE ROWS COLS [EDITOR WORD..]: prints the screen of an editor on FILE in a window of that size, from a real
+# run in tmux, in a frame. The default EDITOR is ./bidi-edit; another example is `show.sh note.txt 8 40 emacs -nw -Q`. A letter
+# in negative image, as for a bidi control, is printed as that letter in a circle. Columns are those of the screen, so the
+# viewer must not reorder the text. With --cells it prints a line with the window's rows and columns and the cursor's row and
+# column, from 0, and then the screen as tmux captures it, with the sequences for negative image, as draw_screens.py reads it.
 set -eu
 
 is_plain=''
@@ -21,7 +21,7 @@ top=$(cd "$(dirname "$0")/.." && pwd)
 file=$1 rows=$2 cols=$3
 shift 3
 [ $# -gt 0 ] || set -- "$top/bidi-edit"
-# It is meant from the folder where the caller stands.
+# a relative path is relative to the caller's folder
 case $1 in
 /*) ;;
 */*)
@@ -36,10 +36,10 @@ folder=$(mktemp -d)
 socket="show$$"
 trap 'tmux -L "$socket" kill-server 2>/dev/null || :; rm -rf "$folder"' EXIT
 trap 'exit 1' HUP INT TERM
-# The editor gets a copy of the file, under its name.
+# the editor gets a copy of the file with the same name
 name=$(basename -- "$file")
 cp -- "$file" "$folder/$name"
-# What the editor keeps of the session goes with it.
+# the editor's sessions are removed with the scratch folder
 {
     printf "export XDG_STATE_HOME='%s/.state'; cd '%s'; exec" "$folder" "$folder"
     for word in "$@" "$name"; do printf " '%s'" "$(printf '%s' "$word" | sed "s/'/'\\\\''/g")"; done
@@ -48,7 +48,7 @@ cp -- "$file" "$folder/$name"
 
 tmux -u -L "$socket" -f /dev/null new-session -d -s seen -x "$cols" -y "$rows" "sh '$folder/.run'" \; set -g status off
 tmux -L "$socket" resize-window -t seen -x "$cols" -y "$rows" 2>/dev/null || :
-# The screen, once it has stayed the same for half a second.
+# captures the screen once it is unchanged for half a second
 echo >"$folder/.before"
 : >"$folder/.now"
 while sleep 0.5 && ! cmp -s "$folder/.before" "$folder/.now"; do
@@ -66,7 +66,7 @@ if [ -n "$is_plain" ]; then
     exit
 fi
 
-# Negative letters into circles, the rest as it is; then the frame.
+# Replaces negative letters by circled ones, and draws the frame.
 line=$(printf '%*s' "$cols" '' | tr ' ' '-')
 echo "+$line+"
 sed -e 's/\x1b\[27m/\x1b[0m/g' -e 's/\x1b\[m/\x1b[0m/g' -e ':more' \

@@ -1,8 +1,7 @@
 #!/bin/sh
-# time-first-start.sh [--limit MINUTES] [COMMIT..]: how long it takes from nothing to the editor's first screen, for each of these
-# commits (HEAD unless named) in a clean clone, with nothing that the toolchain kept of other copies. It wants root, for a view of
-# the file system in which that is not there, and a machine with nothing beside. The status is 1 where there was no screen within
-# the limit, 180 minutes unless said otherwise, and 77 where a tool is missing.
+# time-first-start.sh [--limit MINUTES] [COMMIT..]: measures the time to the editor's first screen in a clean clone of each
+# commit (default HEAD), without the proofs that the toolchain keeps of other copies. It needs root, to hide that folder, and an
+# otherwise idle machine. Exit status 1: no screen within the limit, by default 180 minutes; 77: a tool is missing.
 set -eu
 
 top=$(cd "$(dirname "$0")/.." && pwd)
@@ -12,13 +11,13 @@ skip() { # CAUSE
     exit 77
 }
 
-# What checks leave for other copies lies beside the kit.
+# Prints the folder beside the kit in which the toolchain keeps proofs of other copies.
 kept_folder() {
     rt=$(readlink -f "$(command -v rt)")
     echo "${rt%/*/bin/rt}/rattle-kept"
 }
 
-# Runs this script once more where the kept folder is an empty one.
+# Runs this script again with an empty folder in place of that one.
 hide_kept() { # WORD..
     for tool in rt tmux git unshare; do
         command -v "$tool" >/dev/null || skip "there is no $tool"
@@ -42,7 +41,7 @@ show_last() {
     in_terminal capture-pane -p -t person | grep . | tail -n 1
 }
 
-# Ctrl-C ends the building, which puts its work away first.
+# Stops the building with Ctrl-C, and lets it store its work.
 stop() {
     in_terminal send-keys -t person C-c
     for _ in 1 2 3 4 5 6 7 8 9 10; do
@@ -52,7 +51,7 @@ stop() {
     in_terminal kill-server
 }
 
-# Says the minutes from the start in a clone to the first screen.
+# Prints the minutes from the start in a clone to the first screen.
 time_commit() { # COMMIT
     clone=$folder/clone
     rm -rf "$clone"

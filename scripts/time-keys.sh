@@ -1,12 +1,12 @@
 #!/bin/sh
-# time-keys.sh [--windows] [TEXT [BYTES]]: what a key costs in one paragraph of so many bytes, 1,000,000 unless named, of TEXT: hebrew,
-# arabic, ascii or mixed; all four where none is named. With --windows: what a letter at a line's beginning costs in windows of several
-# sizes, in a text of so many bytes in lines of some 110 characters. The built program takes its keys from a file, in a window of
-# 24x80 but with --windows: those that lead to a place, what the key erases or undoes, and then 200 of the key or none; five runs are
-# made of each, in turn. A figure is the least user and system time with the keys less the least without them, by 200, in
-# milliseconds. Letters make words, and stand inside a word of the text, but at its end; End and Home alternate. Then comes the most
-# memory of the program, in MB, where so many letters are typed at the paragraph's beginning. It stands beside the gate. The status is
-# 1 where a run ends otherwise than by Quit, and 77 where the program is not built or there is no python3.
+# time-keys.sh [--windows] [TEXT [BYTES]]: measures the cost of keys in one paragraph of BYTES bytes, by default 1,000,000, of
+# TEXT: hebrew, arabic, ascii or mixed; the default is all four. With --windows it measures a letter at the beginning of a line
+# in windows of several sizes, in a text of BYTES bytes in lines of some 110 characters. The built program reads its keys from a
+# file, in a window of 24x80 without --windows: first keys that move to a place, and those that the key erases or undoes, then
+# 200 of the key or none. Five runs of each alternate. A figure is the difference of the least user and system time with and
+# without the keys, divided by 200, in milliseconds. Letters make words, inside a word of the text or at the text's end; End and
+# Home alternate. The last figure is the program's peak memory, in MB, with letters typed at the paragraph's beginning. It is
+# not part of `rt ci`. Exit status 1: a run does not end by Quit; 77: the program is not built or there is no python3.
 set -eu
 
 top=$(cd "$(dirname "$0")/.." && pwd)
@@ -27,7 +27,7 @@ cd "$folder"
 cat >keys.py <<'END'
 import argparse, math, os, re, subprocess, sys
 
-# What a paragraph repeats. Its first five characters are typed.
+# The words that a paragraph repeats; the first five characters are typed.
 TEXTS = {
     "hebrew": "שלום לכל הקוראים (ובהם גם the readers), והנה עוד 12 ספרים [books] אשר נקראו היום בבוקר, ועוד 7 אתמול בערב, ",
     "arabic": "كتاب آخر من الكتب (for the readers)، وهذا 12 من الكتب [books] التي قرأناها اليوم صباحا، و 7 أخرى أمس مساء، ",
@@ -38,7 +38,7 @@ COUNT, RUNS, LETTERS = 200, 5, (0, 1, 200, 1000)
 WINDOWS = (24, 80), (60, 200), (100, 400), (500, 500)
 DOWN, PAGE, HOME, END, FORWARD = b"\x1b[B", b"\x1b[6~", b"\x1b[H", b"\x1b[F", b"\x06"
 ERASE, UNDO, REPAINT, QUIT = b"\x7f", b"\x1a", b"\x0c", b"\x11\x11"
-WHOLE = b"\x1b[0m\x1b[2J"  # what a whole painting begins with
+WHOLE = b"\x1b[0m\x1b[2J"  # the beginning of a whole painting
 FILES = {"classes": "DerivedBidiClass", "brackets": "BidiBrackets", "mirroring": "BidiMirroring"}
 
 
@@ -54,7 +54,7 @@ def seconds(keys):
 
 
 def megabytes(keys):
-    """The most memory of a run once some keys are obeyed. What is told of one that has ended counts its parent's as well."""
+    """The peak memory of a run after some keys, read before it ends: wait4 would include the parent's."""
     with subprocess.Popen(command, stdin=subprocess.PIPE, stdout=subprocess.PIPE, bufsize=0) as run:
         run.stdin.write(keys + REPAINT)
         seen = b""
@@ -67,19 +67,19 @@ def megabytes(keys):
 
 
 def into_word(lead, period):
-    """Goes on behind the second letter of what is repeated: where a bracket is near, the whole paragraph is resolved at each letter."""
+    """Moves on to after the second letter of the repeated words: near a bracket, each letter resolves the whole paragraph again."""
     shown = subprocess.run(command, input=lead + REPAINT + QUIT, capture_output=True).stdout
-    letter = int(re.findall(rb"1:(\d+)", shown)[-1])  # as the last row tells it
+    letter = int(re.findall(rb"1:(\d+)", shown)[-1])  # from the last row
     return lead + FORWARD * ((3 - letter) % period)
 
 
 def leads(length, period):
-    """The keys that lead to each place of a paragraph of so many characters: rows have nearly 80, and a page has 23 rows."""
+    """The keys to each place in a paragraph of `length` characters: rows have nearly 80, and a page has 23 rows."""
     return [into_word(DOWN * 3, period), into_word(PAGE * (length // (2 * 23 * 77)), period), PAGE * (length // 1500 + 2) + END]
 
 
 def series(lead, word):
-    """Of each key those before it, and so many of it."""
+    """For each key, the keys before it, and COUNT of it."""
     letters = word.encode() * (COUNT // len(word))
     return {
         "a letter": (lead, letters),
@@ -91,7 +91,7 @@ def series(lead, word):
 
 
 def least_seconds(series):
-    """The least time of a run with the keys before, and of one with the key as well."""
+    """The least times of runs with the keys before alone, and with the measured ones."""
     least = {run: math.inf for before, keys in series for run in (before, before + keys)}
     for _ in range(RUNS):
         for run in least:
@@ -100,7 +100,7 @@ def least_seconds(series):
 
 
 def print_windows(name):
-    """The row of a letter in a line, with its figure in each window."""
+    """Prints the row of a letter in a line, with a figure for each window."""
     times = []
     for rows, columns in WINDOWS:
         command[1:3] = f"--rows={rows}", f"--cols={columns}"
@@ -111,7 +111,7 @@ def print_windows(name):
 
 
 def print_times(name, places):
-    """The row of each key, with its figure at each place."""
+    """Prints a row for each key, with a figure for each place."""
     least = least_seconds([run for place in places for run in place.values()])
     for key in places[0]:
         times = [least[before + keys] - least[before] for before, keys in (place[key] for place in places)]

@@ -1,9 +1,9 @@
-# Reads crates.txt, and then lines of `wc -l` for the sources below crates/, and writes a line for each crate that the `programs`
-# stand on, and for them: its name, what its proof may take in seconds, the same for the longest chain of crates that begins with
-# it, and the crates that it stands on. Those with the longest chain come first.
+# Reads crates.txt, and then `wc -l` lines for the sources under crates/. Writes a line for each crate that `programs` need: its
+# name, its estimated proving time, the time of the longest chain of crates that starts with it, and the crates it depends on.
+# Crates with longer chains come first.
 #
-# The seconds are processor time with one job, as measured on a machine with four processors: a library takes 0.13 to 0.19 seconds for
-# a line of source, and a crate of a few lines 15.
+# Times are seconds of processor time with one job, as measured on a machine with four processors: 0.13 to 0.19 seconds for a
+# line of a library, and 15 for a crate of a few lines.
 
 FILENAME == ARGV[1] {
     sub(/#.*/, "")
@@ -19,7 +19,7 @@ match($2, /crates\/[a-z0-9_]+\/src\//) {
     lines[name] += $1
 }
 
-# Takes a crate, and all that it stands on.
+# Adds a crate and its dependencies to the plan.
 function want(name,    n, i, used) {
     if (name in wanted) return
     wanted[name] = 1

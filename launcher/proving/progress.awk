@@ -1,14 +1,14 @@
-# Reads the plan, and beside it in `room` what the toolchain has said of each crate so far, and writes one line: which crate is at
-# work, how many of its functions are proved, the minutes since `begun` and about how many are to go. With `ended` the line is about
-# that crate, which ended as the crate `number`. Times are seconds. `kept` has, for crates at work, their name and how many functions
-# have a proof in what is kept of them.
+# Reads the plan, and the logs and results of crates in `room`, and writes one line: the current crate, its proved functions,
+# the minutes since `begun` and the estimated minutes left. With `ended` the line is about that crate, the `number`th to end.
+# Times are in seconds. `kept` lists the running crates, each with the number of functions whose proofs are already stored.
 
 BEGIN {
     n = split(kept, word, " ")
     for (i = 1; i < n; i += 2) kept_of[word[i]] = word[i + 1]
 }
 
-# The last count that the toolchain told of a crate: `proved` of `functions`. It tells it now and then, and keeps each proof at once.
+# Reads the last count in a crate's log: `proved` of `functions`. The log is updated now and then, but each proof is stored at
+# once.
 function read_log(name,    file, line, word) {
     file = room "/" name ".log"
     proved = functions = 0
@@ -50,14 +50,14 @@ function many(count, what) {
     if ($3 - seconds * part > longest) longest = $3 - seconds * part
 }
 
-# What is left by the plan: the longest chain, whose crates get most processors, or all of it on all processors.
+# The estimated time left: of the longest chain, whose crates get most processors, or of all work on all processors.
 function to_go() {
     left = left / cores * 1.2
     return longest * 0.7 > left ? longest * 0.7 : left
 }
 
 END {
-    # The machine's own pace counts more and more.
+    # the measured pace gains weight over time
     rest = to_go()
     passed = now - begun
     if (whole == "") whole = rest

@@ -1,12 +1,12 @@
 #!/bin/sh
 # shellcheck disable=SC2317 # traps call functions
-# prove.sh TOP PROGRAM..: proves and builds these programs of the repository TOP, with the crates that they stand on, several at
-# once, and tells how far it is: on a terminal in one line that changes, else in a line for each crate. What is proved is kept
-# wherever it is stopped, and the next start goes on from there.
+# prove.sh TOP PROGRAM..: proves and builds these programs of the repository TOP with their dependencies, several crates at
+# once, and reports progress: on a terminal in one changing line, else in a line for each crate. Finished proofs are stored, and
+# the next start continues from them.
 #
-# rt keeps other commands out of all crates below the one that it proves. So each crate is proved in a tree of its own, whose files
-# are links to those of the repository, and its folder out is moved there and back. Where the kit's rt proves one of these crates
-# in the repository itself, this waits for it, and it for this.
+# rt locks all crates below the one it proves. So each crate is proved in a tree of its own, which has links to the repository's
+# files, and its folder out is moved there and back. The script also waits for an rt that proves one of these crates in the
+# repository itself, and that rt for the script.
 set -u
 
 parts=$(CDPATH='' cd -- "${0%/*}" && pwd)
@@ -24,14 +24,14 @@ fail() { # CAUSE
 
 # ---- one crate, in a process of its own
 
-# Links where the file system has them, else copies.
+# Copies a folder as hard links if possible.
 link() { # FOLDER TO
     [ -d "$1" ] || return 0
     mkdir -p "${2%/*}"
     cp -Rl "$1" "$2" 2>/dev/null || { rm -rf "$2" && cp -R "$1" "$2"; }
 }
 
-# All crates below a crate, by the plan.
+# Prints all dependencies of a crate, from the plan.
 all_below() { # CRATE
     awk -v name="$1" '
         { for (i = 4; i <= NF; i++) uses[$1] = uses[$1] " " $i }
@@ -42,7 +42,7 @@ all_below() { # CRATE
         END { tell(name) }' "$room/plan"
 }
 
-# The crate's tree: its own sources and work, and what those below it are and gave.
+# Makes the crate's tree: its sources and its `out`, and the sources and libraries of its dependencies.
 make_tree() {
     rm -rf "$tree"
     mkdir -p "$tree/crates"
@@ -54,13 +54,13 @@ make_tree() {
     [ ! -d "$top/crates/$crate/out" ] || mv "$top/crates/$crate/out" "$tree/crates/$crate/out"
 }
 
-# Puts a crate's work back to where it was taken from, and its tree away.
+# Moves a crate's `out` back to the repository, and removes its tree.
 bring_back() { # TREE CRATE
     if [ -d "$1/crates/$2/out" ] && ! [ -e "$top/crates/$2/out" ]; then mv "$1/crates/$2/out" "$top/crates/$2/out"; fi
     rm -rf "$1"
 }
 
-# The toolchain ends what it started when it ends itself.
+# Stops the toolchain, which ends its own processes, and moves the work back.
 give_up() {
     trap '' TERM
     [ -z "$child" ] || { kill "$child" && wait "$child"; }
@@ -68,7 +68,7 @@ give_up() {
     exit 143
 } 2>/dev/null
 
-# Runs a command so that a signal ends the wait for it.
+# Runs a command so that a signal interrupts waiting for it.
 await() { # COMMAND..
     "$@" &
     child=$!
@@ -78,7 +78,7 @@ await() { # COMMAND..
     return "$result"
 }
 
-# Proves a library, or builds a program, which rt then runs: here with no words and no input, and it may end as it likes.
+# Proves a library, or builds a program. rt then runs the program, here without words and input; its status is ignored.
 prove() { # JOBS NICENESS
     cd "$tree/crates/$crate" || return 1
     if ! [ -f src/main.rt ]; then
@@ -111,7 +111,7 @@ count() { # WORD..
     echo $#
 }
 
-# How many crates at once: one for each processor, and for each 4 GB of memory that is free.
+# Sets `lanes`, the number of crates to prove at once: at most one for each processor, and one for each 4 GB of free memory.
 find_lanes() {
     cores=$(nproc 2>/dev/null || getconf _NPROCESSORS_ONLN 2>/dev/null || echo 1)
     lanes=$(awk '/^MemAvailable:/ { print int($2 / 4000000) }' /proc/meminfo 2>/dev/null)
@@ -120,7 +120,7 @@ find_lanes() {
     [ "$lanes" -ge 1 ] || lanes=1
 }
 
-# The crates whose library or program stands from an earlier start.
+# Prints the crates built by an earlier start.
 find_already() {
     for stamp in "$top"/crates/*/out/rlib/stamp; do
         [ ! -f "$stamp" ] || basename "${stamp%/out/rlib/stamp}"
@@ -133,7 +133,7 @@ make_plan() {
     [ -s "$room/plan" ] || fail "$(shown "$top/crates.txt") names no crate $programs"
 }
 
-# One start at a time builds here. What this one starts does not hold the lock, so that it ends with it.
+# Lets one start at a time build here. Child processes do not inherit the lock, so it ends with this script.
 take_lock() {
     command -v flock >/dev/null || fail 'the editor is not built, and there is no flock to keep other starts away meanwhile: util-linux has it'
     { mkdir -p -- "$top/out" && true >>"$room.lock"; } 2>/dev/null ||
@@ -144,12 +144,12 @@ take_lock() {
     rm -f -- "$room.log"
 }
 
-# What a start that was killed left: its trees hold work.
+# Moves back the work that a killed start left in its trees.
 take_room() {
     for tree in "$room"/*.tree; do
         [ -d "$tree" ] || continue
         crate=$(basename "$tree" .tree)
-        # Where the crate is still being proved, that comes to its end first.
+        # waits for a crate that is still being proved
         ! command -v flock >/dev/null || flock "$top/crates/$crate" true
         bring_back "$tree" "$crate"
     done
@@ -167,8 +167,8 @@ is_ready() { # CRATE THAT IT STANDS ON ..
     done
 }
 
-# Starts a crate. All waits for the longest chain, so its next crate gets the processors, up to the four that a proof can use well.
-# Any other crate is to be there when that chain needs it: the less time there is, against what its proof takes, the more it gets.
+# Starts a crate. The next crate of the longest chain gets the most processors, up to the four that a proof can use well.
+# Another crate gets more the less slack it has before that chain needs it.
 start() { # CRATE SECONDS CHAIN
     spare=$((longest - $3)) jobs=1 niceness=10
     if [ "$spare" = 0 ]; then
@@ -188,14 +188,14 @@ start_ready() {
     while read -r crate seconds chain below; do
         [ ! -f "$room/$crate.ended" ] || continue
         [ -n "$longest" ] || longest=$chain
-        # shellcheck disable=SC2086 # words
+        # shellcheck disable=SC2086 # split into words
         [ "$(count $running)" -lt "$lanes" ] || break
-        # shellcheck disable=SC2086 # words
+        # shellcheck disable=SC2086 # split into words
         if ! [ -f "$room/$crate.log" ] && is_ready $below; then start "$crate" "$seconds" "$chain"; fi
     done <"$room/plan"
 }
 
-# Takes those that ended off the list.
+# Removes ended crates from the list of running ones.
 collect() {
     still=''
     for each in $running; do
@@ -213,9 +213,9 @@ collect() {
     running=$still
 }
 
-# ---- what is told
+# ---- progress
 
-# How many functions the work of each running crate holds proofs of, as its proofs are kept one by one.
+# Prints the number of stored proofs of each running crate; proofs are stored one by one.
 kept_proofs() {
     for each in $running; do
         name=${each%:*}
@@ -236,7 +236,7 @@ width() {
     case $cols in '' | 0 | *[!0-9]*) cols=80 ;; esac
 }
 
-# One line, cut to the width of the terminal, over the one before.
+# Prints a line over the previous one, cut to the terminal's width.
 show() { # TEXT
     width
     printf '\r%-*.*s' "$((cols - 1))" "$((cols - 1))" "$1" >&2

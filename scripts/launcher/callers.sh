@@ -1,15 +1,15 @@
 # shellcheck shell=sh
-# shellcheck disable=SC2034,SC2154 # words that other parts give and take
-# Programs that call an editor, each with what it says: git, crontab, visudo and less.
+# shellcheck disable=SC2034,SC2154 # variables shared with other parts
+# Programs that call an editor, each with its own words: git, crontab, visudo and less.
 
-# An editor's name without blanks, as some callers take no others.
+# Makes a name for the editor without blanks, since some callers take no others.
 make_wrapper() {
     printf '#!/bin/sh\nexec %s "%s/bidi-edit" "$@"\n' "$shell" "$top" >"$folder/edit"
     chmod +x "$folder/edit"
     setup="export EDITOR='$folder/edit' VISUAL='$folder/edit' GIT_EDITOR='$folder/edit' HOME='$folder/home'"
 }
 
-# Runs a caller and not the launcher itself.
+# Runs a caller instead of the launcher.
 start_caller() { # COMMAND
     caller_shell=$shell
     shell='sh'
@@ -37,7 +37,7 @@ check_git() {
     rm -rf repository
 }
 
-# The user's own table is not touched: where there is one, it is left alone.
+# Leaves an existing table of the user alone.
 check_crontab() {
     has_caller crontab || return 0
     if crontab -l >/dev/null 2>&1; then
@@ -46,7 +46,7 @@ check_crontab() {
     fi
     start_caller 'crontab -e'
     wait_for 50 is_editing
-    # crontab knows a change by the second of it
+    # crontab detects a change by a time in seconds
     sleep 1.1
     type_keys -l '# שלום'
     type_keys Enter C-s
@@ -77,7 +77,7 @@ check_visudo() {
     rm -f sudoers
 }
 
-# less gives the line that stands in the middle.
+# less passes the line in the middle of its screen.
 check_less() {
     has_caller less || return 0
     printf 'one\ntwo\n' >page

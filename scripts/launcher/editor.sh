@@ -1,6 +1,6 @@
 # shellcheck shell=sh
-# shellcheck disable=SC2034,SC2154 # words that other parts give and take
-# The editor in the launcher, whose screen must be the one that the program alone makes for that size and those keys.
+# shellcheck disable=SC2034,SC2154 # variables shared with other parts
+# The editor in the launcher. Its screen must be the one that the program alone makes for that size and those keys.
 
 has_editor() {
     [ -x "$editor" ] || {
@@ -9,7 +9,7 @@ has_editor() {
     }
 }
 
-# The screen that the program alone makes of a file and keys, in a window of this size.
+# Prints the screen that the program alone makes of a file and keys, in a window of this size.
 alone() { # ROWS COLS FILE KEYS
     cp "$3" "$folder/files/alone" 2>/dev/null || rm -f "$folder/files/alone"
     # shellcheck disable=SC2059 # the keys have escapes
@@ -25,7 +25,7 @@ alone() { # ROWS COLS FILE KEYS
 
 text='שלום: this note wraps at blanks, (abc) אבג 123 דהו.\nעברית first, and then English words.\n'
 
-# A file `note` of that text, and a copy of it.
+# Makes a file `note` with this text, and a copy of it.
 make_note() {
     # shellcheck disable=SC2059
     printf "$text" >note
@@ -138,7 +138,7 @@ check_files() {
     finish 'file, missing' 0 50
     test ! -e missing
     report 'file, missing: none is made' $? 'there is one'
-    # what iconv takes and Unicode has not
+    # accepted by iconv, but not by Unicode
     printf 'a\364\220\200\200' >bytes
     start 8 60 "$top/bidi-edit" bytes
     finish 'file, not UTF-8' 1 50
@@ -156,7 +156,7 @@ check_line() {
     done
 }
 
-# A job that is stopped and taken up again is painted anew, and goes on.
+# A stopped and continued job is repainted, and works on.
 check_editor_stop() {
     make_note
     start_shell 8 50 "$top/bidi-edit" note

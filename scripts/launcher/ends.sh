@@ -1,8 +1,8 @@
 # shellcheck shell=sh
-# shellcheck disable=SC2034,SC2154 # words that other parts give and take
-# How a session ends, or stands still: signals to the launcher, to its program and to what hands on the keys.
+# shellcheck disable=SC2034,SC2154 # variables shared with other parts
+# Ends and stops of a session: signals to the launcher, to its program and to the input filter.
 
-# The program is let end by the end of its input, so what was typed is with it.
+# The program ends by its input's end, so typed text is kept.
 check_input_end() {
     for signal in TERM HUP INT QUIT; do
         start 24 80 "$recorder" f
@@ -62,7 +62,7 @@ is_raw() {
     case $(stty -a -F "$tty") in *-icanon*) return 0 ;; *) return 1 ;; esac
 }
 
-# An interactive shell, in which a job can be stopped and taken up again, and its first line.
+# Starts an interactive shell, in which a job can be stopped and continued, and its first line.
 start_shell() { # ROWS COLS LAUNCHER WORD..
     for file in ended status before after record words output state; do rm -rf "${folder:?}/$file"; done
     command="env -u BASH_ENV ENV= PS1='ready> ' TMPDIR='$folder/private' BX_RECORD='$folder/record' BX_WORDS='$folder/words'"
@@ -79,7 +79,7 @@ start_shell() { # ROWS COLS LAUNCHER WORD..
     wait_for 50 is_editing
 }
 
-# A line of the shell's, ended by a line feed, since a stopped job leaves the terminal raw to a shell that does not care.
+# Gives the shell a line. It ends with a line feed, since a stopped job leaves the terminal raw and some shells do not reset it.
 give_line() { # LINE
     type_keys -l "$1"
     type_keys C-j
@@ -98,7 +98,7 @@ check_stop() {
     finish_shell stop 7
 }
 
-# Stops the job as its shell does, gives the shell a line, and takes the job up again.
+# Stops the job as its shell does, gives the shell a line, and continues the job.
 stop_and_take_up() { # NAME
     launcher=$(process_of "$shell .*bidi-edit")
     kill -s STOP -- "-$(ps -o pgid= -p "$launcher" | tr -d ' ')"

@@ -1,6 +1,6 @@
 # shellcheck shell=sh
-# shellcheck disable=SC2034,SC2154 # words that other parts give and take
-# What is typed as other terminals send it, and pastes: seen by the recorder, and by the editor.
+# shellcheck disable=SC2034,SC2154 # variables shared with other parts
+# Input from various terminals, and pastes, as the recorder and the editor get them.
 
 has_filter() {
     [ -x "$top/crates/bidi_input/out/bidi_input" ] || {
@@ -9,13 +9,13 @@ has_filter() {
     }
 }
 
-# Puts the bytes of a file into the session as they are.
+# Writes a file's bytes to the session unchanged.
 type_bytes() { # FILE
     terminal load-buffer -b bytes "$1"
     terminal paste-buffer -d -r -b bytes -t person
 }
 
-# A terminal's keys, what it sends for them, and what the editor takes, as printf has them.
+# Lists keys of terminals: a name, the bytes that the terminal sends, and the bytes for the editor, in the notation of printf.
 terminal_keys() {
     cat <<'TEXT'
 xterm, Home and End:\033[H\033[F:\033[H\033[F
@@ -37,7 +37,7 @@ Escape, and then a digit of the keypad:\033\033Oq:\033\0301
 TEXT
 }
 
-# One line of the record for each line of keys.
+# Compares a line of the record with each line of keys.
 check_terminal_keys() {
     terminal_keys | while IFS=: read -r _ sent _; do
         # shellcheck disable=SC2059
@@ -58,7 +58,7 @@ check_terminal_keys() {
     done <"$folder/table"
 }
 
-# Bytes cut in the middle of a sequence, a reading each.
+# Sequences cut in the middle, each part in its own read.
 check_cut_keys() {
     start 8 50 "$recorder" f
     wait_for 50 test -e "$folder/record"
@@ -73,7 +73,7 @@ check_cut_keys() {
     same 'input, keys that come byte by byte' "$(cat -v "$folder/record")" 'a^[[A^[[Db'
 }
 
-# 1 MB of text with every byte value, and what it becomes.
+# Makes 1 MB of text with every byte value, and the text expected from it.
 make_big_paste() {
     byte=0
     while [ "$byte" -lt 256 ]; do
@@ -121,7 +121,7 @@ has_all_of() { # FILE
     [ "$(wc -c <"$folder/record")" -ge "$(wc -c <"$1")" ]
 }
 
-# tmux marks a paste only where the launcher asked for it.
+# tmux marks a paste only if the launcher asked for that.
 check_marks() {
     start 8 50 "$recorder" f
     wait_for 50 test -e "$folder/record"
@@ -136,7 +136,7 @@ check_marks() {
     has 'input, and given back' "$(written)" '^[[?2004l^[[0m'
 }
 
-# The editor itself: Home of rxvt, F2, a lone Escape before a paste of what would be keys, and the paste of 1 MB with no NUL for the cursor.
+# Tests the editor itself: Home from rxvt, F2, a lone Escape before a paste of bytes that look like keys, and the paste of 1 MB.
 check_editor_input() {
     rm -f note
     start 8 40 "$top/bidi-edit" note
@@ -153,7 +153,7 @@ check_editor_input() {
     rm -f note
 }
 
-# The editor takes the text, and goes on.
+# The editor inserts the text, and works on.
 check_big_edit() {
     rm -f note
     start 8 40 "$top/bidi-edit" note

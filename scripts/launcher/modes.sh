@@ -1,9 +1,9 @@
 # shellcheck shell=sh
-# shellcheck disable=SC2034,SC2154 # words that other parts give and take
-# The terminal as the painter counts on it, whatever another program left, and as it was at the end.
+# shellcheck disable=SC2034,SC2154 # variables shared with other parts
+# The terminal's modes during the session, whatever another program left, and after it.
 
-# Each of these would spoil the picture, and lasts until it is taken back: inserting, origin, a part that scrolls, no autowrap, line
-# drawing letters, a hidden cursor.
+# Modes that would spoil the picture and persist until reset: insert mode, origin mode, a scroll region, no autowrap, line
+# drawing characters, a hidden cursor.
 bad_modes='\033[4h\033[?6h\033[2;4r\033[?7l\033(0\033[?25l'
 
 check_modes() {
@@ -15,7 +15,7 @@ check_modes() {
     has 'modes, told at the end' "$(written)" '^[[0m^[[?1r^[[?25h^[[0 k^[[8h^[[23;0t^[[?1049l'
 }
 
-# A program that writes and never gets to the end of what it does, killed while it hides the cursor in negative image.
+# Kills a program that writes without end, while it hides the cursor in negative image.
 check_killed_program() {
     start 8 50 "$recorder" still
     wait_for 50 test -s "$folder/words"
@@ -37,7 +37,7 @@ check_bad_modes() {
     rm note
 }
 
-# A letter with marks in the last column, which tmux joins to the letter before it where autowrap is off.
+# A letter with marks in the last column; without autowrap tmux joins the marks to the letter before it.
 check_last_column() {
     printf 'שָׁלוֹם' >note
     cp note "$folder/opened"
@@ -50,7 +50,7 @@ check_last_column() {
     rm note
 }
 
-# A terminal whose opening another program left so that reads do not wait.
+# A terminal that another program set to non-blocking reads.
 check_no_wait() {
     if ! command -v perl >/dev/null 2>&1; then
         skip 'nonblock' 'there is no perl to set it with'
@@ -70,7 +70,7 @@ check_no_wait() {
     setup='' cleanup=''
 }
 
-# Other things as standard input and output, where there is a controlling terminal.
+# Redirected standard input and output, with a controlling terminal.
 check_redirections() {
     for redirection in '</dev/null' '</dev/null >/dev/null' '<&-'; do
         start 8 50 "$recorder" f
@@ -110,7 +110,7 @@ check_title() {
     setup=''
 }
 
-# The terminal in which tmux shows its own, played by another tmux.
+# The terminal around tmux, played by another tmux.
 check_outer() {
     start 8 50 "$recorder" f
     type_keys C-q
@@ -130,7 +130,7 @@ check_outer() {
     terminal kill-session -t outer
 }
 
-# A client of the check's tmux, on the session that is always there.
+# Starts a client of the test's tmux, on its permanent session.
 start_outer() {
     rm -f "$folder/outer"
     terminal new-session -d -s outer -x 60 -y 12 "sleep 0.5; env -u TMUX tmux -u -L $socket attach -t keep"

@@ -1,12 +1,12 @@
 # shellcheck shell=sh
 # shellcheck disable=SC2009,SC2034,SC2154 # processes of one terminal, by their words; words that other parts give and take
-# A person's terminal in tmux, what is seen in it, and how it is told.
+# A user's terminal in tmux: its screen, and reports about it.
 
 terminal() {
     tmux -u -L "$socket" "$@"
 }
 
-# ---- what is seen
+# ---- the screen
 
 has() { # NAME TEXT PART
     case $2 in
@@ -20,7 +20,7 @@ skip() { # NAME WHY
     echo "skipped ${shell:+$shell }${who:+$who }$1: $2"
 }
 
-# Whether the checks of this name are asked for.
+# Whether the checks with this name are selected.
 asked() {
     [ -n "$wanted" ] || return 0
     for prefix in $wanted; do
@@ -29,13 +29,13 @@ asked() {
     return 1
 }
 
-# The rows of a session, with what is negative between < and >, joined by |, and the cursor's column and row from 0.
+# Prints the rows of a session, joined by |, with negative parts between < and >, and the cursor's column and row from 0.
 screen_of() { # SESSION
     terminal capture-pane -p -e -t "$1" | sed -e 's/\x1b\[7m/</g' -e 's/\x1b\[\(0\|27\)\?m/>/g' -e 's/\x1b\[[0-9;]*m//g' -e 's/ *$//' | paste -s -d '|'
     terminal display-message -p -t "$1" '#{cursor_x},#{cursor_y}'
 }
 
-# The screen of a session once it stays the same for three tenths of a second.
+# Prints the screen of a session once it is unchanged for three tenths of a second.
 settled_screen() { # SESSION
     now=$(screen_of "$1") quiet=0
     for _ in 1 2 3 4 5 6 7 8 9 10 11 12 13 14 15 16 17 18 19 20 21 22 23 24 25 26 27 28 29 30; do
@@ -48,7 +48,7 @@ settled_screen() { # SESSION
     printf '%s\n' "$now"
 }
 
-# The bytes that the launcher and its program have written so far, escapes as ^[.
+# Prints the bytes that the launcher and its program have written so far, with escapes as ^[.
 written() {
     cat -v "$folder/output"
 }
@@ -67,9 +67,9 @@ has_ended() {
 
 # ---- a session
 
-# A session in which a launcher runs with these words, between two looks at the terminal's settings, with nothing kept of sessions
-# before. `setup` and `cleanup` are lines of the shell before and behind it, `redirection` stands behind its words, and `as` before
-# the shell, as words that make it another user's.
+# Starts a session in which a launcher runs with these words, after previous sessions are removed; it records the terminal's
+# settings before and after. `setup` and `cleanup` are shell lines before and after it, `redirection` follows its words, and
+# `as` precedes the shell, to run it as another user.
 start() { # ROWS COLS LAUNCHER WORD..
     rows=$1 cols=$2
     shift 2
@@ -98,7 +98,7 @@ start() { # ROWS COLS LAUNCHER WORD..
     wait_for 50 is_editing_or_over
 }
 
-# A window of this size whose written bytes are kept.
+# Opens a window of this size, and records its output.
 open_person() { # ROWS COLS COMMAND
     terminal new-session -d -s person -x "$2" -y "$1" "$3" \; set -g status off
     terminal resize-window -t person -x "$2" -y "$1" 2>/dev/null
@@ -115,19 +115,19 @@ resize() { # ROWS COLS
     terminal resize-window -t person -x "$2" -y "$1"
 }
 
-# The processes of the session's terminal other than the check's own.
+# Prints the processes of the session's terminal except the test's own.
 processes() {
     ps -t "${tty#/dev/}" -o args= | grep -v -x -e "sh $folder/run" -e 'sleep 600' -e "$shell.* -i" | paste -s -d '|'
 }
 
-# Waits for the end, and looks at all that must be as before.
+# Waits for the end, and checks that all is as before.
 finish() { # NAME STATUS TENTHS
     wait_for "$3" has_ended || report "$1, its end" 1 'it goes on'
     same "$1, status" "$(cat "$folder/status" 2>/dev/null)" "$2"
     same "$1, the terminal's settings" "$(cat "$folder/after" 2>/dev/null)" "$(cat "$folder/before")"
     same "$1, processes that stay" "$(processes)" ''
     same "$1, files that stay" "$(ls -A "$folder/private")" ''
-    # What was pasted and not taken is the shell's.
+    # the shell gets the part of a paste that was not read
     if [ -n "$is_flooded" ]; then
         terminal kill-session -t person
         return
@@ -141,15 +141,15 @@ finish() { # NAME STATUS TENTHS
     terminal kill-session -t person
 }
 
-# Insert and origin mode, the part that scrolls, autowrap, and whether the cursor is shown.
+# Prints insert and origin mode, the scroll region, autowrap, and the cursor's visibility.
 modes_of() { # SESSION
     terminal display-message -p -t "$1" '#{insert_flag} #{origin_flag} #{scroll_region_upper} #{scroll_region_lower} #{wrap_flag} #{cursor_flag}'
 }
 
 # ---- processes and signals
 
-# The process of this terminal whose words fit: of a script and its parts, which have the same words, the script. Numbers start anew at
-# some time, so they tell no order.
+# Finds the process of this terminal with matching words: of a script and its subshells, which have the same words, the script.
+# Process numbers wrap around, so they give no order.
 process_of() { # PATTERN
     ps -t "${tty#/dev/}" -o pid=,ppid=,args= | sed 's/^ *\([0-9]*\) *\([0-9]*\) */\1 \2 /' | grep -e "^[0-9]* [0-9]* $1" | first_parent
 }
@@ -162,7 +162,7 @@ is_there() {
     [ -n "$(process_of "$1")" ]
 }
 
-# Sends a signal to a process of this terminal, once it is there.
+# Sends a signal to a process of this terminal, once it exists.
 send_signal() { # SIGNAL PATTERN
     wait_for 50 is_there "$2"
     kill -s "$1" "$(process_of "$2")"

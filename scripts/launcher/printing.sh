@@ -1,8 +1,8 @@
 # shellcheck shell=sh
-# shellcheck disable=SC2034,SC2154 # words that other parts give and take
-# What is printed in place of a session, and which words are refused there.
+# shellcheck disable=SC2034,SC2154 # variables shared with other parts
+# Printing instead of a session, and the words refused there.
 
-# The lines that are printed with these words, and the status.
+# Compares the lines printed with these words, and the status.
 printed() { # NAME WANTED WORD..
     name=$1 lines=$2
     shift 2
@@ -37,7 +37,7 @@ last' --print ./-text --cols 35
 [I]a[P] end
 
 last' --print --marks --cols=20 -- -text
-    # a row ends after the last blank that it has room for, which stands at its left here
+    # a row ends after the last blank that fits, which is at its left here
     printed 'printing, wrapped' ' (abc) םולש
          12
 a end

@@ -1,8 +1,8 @@
 # shellcheck shell=sh
-# shellcheck disable=SC2034,SC2154 # words that other parts give and take
-# What the launcher hands to its program: words and input, seen by one that only records them.
+# shellcheck disable=SC2034,SC2154 # variables shared with other parts
+# The words and the input that the launcher passes to its program, which only records them.
 
-# Lies where an installed launcher looks for its program.
+# Installs the recorder where an installed launcher looks for its program.
 make_recorder() {
     recorder=$folder/recorder/bin/bidi-edit
     mkdir -p "$folder/recorder/bin" "$folder/recorder/lib/bidi_edit" "$folder/recorder/share"
@@ -14,7 +14,8 @@ make_recorder() {
     echo 'a kit' >"$folder/recorder/lib/bidi_edit/kit"
     cat >"$folder/recorder/lib/bidi_edit/bidi_edit" <<'TEXT'
 #!/bin/sh
-# Records its words, and its input until a reading ends in a byte 11. A FILE `still` is one that no key ends, and `at-once` needs none.
+# Records its words, and its input until a read ends with a byte 11. With a file `still` no key ends it, and `at-once` needs no
+# key.
 printf '%s\n' "$@" >"$BX_WORDS"
 echo 'bidi_edit: a fault' >&2
 for file; do :; done
@@ -29,11 +30,11 @@ echo ' end' >>"$BX_RECORD"
 exit 9
 TEXT
     chmod +x "$folder/recorder/lib/bidi_edit/bidi_edit"
-    # 100,000 bytes, with no byte that ends the record
+    # 100,000 bytes without a byte that ends the record
     awk 'BEGIN { while (n < 100000) { line = sprintf("%d \327\220\327\221 word\n", i++); n += length(line); printf "%s", line } }' | head -c 100000 >"$folder/paste"
 }
 
-# The word after a word of the program's command line.
+# Prints the word after a word of the program's command line.
 word_after() {
     grep -A 1 -x -e "$1" "$folder/words" | tail -n 1
 }
@@ -54,7 +55,7 @@ check_words() {
     same 'words, fault' "$(cat "$folder/errors")" 'bidi_edit: a fault'
 }
 
-# What the launcher's words before a FILE say of the line.
+# Checks the line that the launcher's words before FILE select.
 line_of() { # NAME WANTED WORD..
     name=$1 wanted_line=$2
     shift 2
@@ -137,7 +138,7 @@ check_paste() {
     check_whole_keys
 }
 
-# Keys of several bytes that come whole stay whole.
+# Keys of several bytes that arrive in one piece stay in one piece.
 check_whole_keys() {
     start 24 80 "$recorder" f
     for side in 11 12 13 14 15 16 17 18 19 20 21 22 23 24 25; do
@@ -154,13 +155,13 @@ check_whole_keys() {
         'א[Cא[Cא[Cא[Cא[Cא[Cא[Cא[Cא[Cא[Cא[Cא[Cא[Cא[Cא[C'
 }
 
-# What the launcher itself costs: the least of ten runs, since what else the machine does makes each dearer. A machine that has more
-# to do than it has processors makes all of them dearer, by up to twice, so there it is told and not judged.
+# Measures the launcher's own cost: the least of ten runs, since other load only adds time. On a machine with more work than
+# processors each run takes up to twice as long, so the figure is reported there but not judged.
 check_time() {
     printf 'a\nb\n' >at-once
     times_of_ten >"$folder/times"
     least=$(sort -n "$folder/times" | head -n 1)
-    # a process costs bash twice what it costs dash, which is Debian's sh
+    # processes cost bash twice as much as dash, the sh of Debian
     most=50
     [ "$shell" != bash ] || most=75
     same 'time, ten runs' "$(wc -l <"$folder/times")" 10
@@ -177,7 +178,7 @@ is_busy() {
     awk -v processors="$(getconf _NPROCESSORS_ONLN)" '{ exit !($1 > processors) }' /proc/loadavg
 }
 
-# The processor time of ten runs, each in thousandths of a second, as bash counts its children.
+# Prints the processor time of each of ten runs, in thousandths of a second, as bash counts its children.
 times_of_ten() {
     {
         echo "export BX_WORDS='$folder/words' TMPDIR='$folder/private'; cd '$folder/files'"

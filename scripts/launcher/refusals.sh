@@ -1,8 +1,8 @@
 # shellcheck shell=sh
-# shellcheck disable=SC2034,SC2154 # words that other parts give and take
-# What is refused before the screen changes: one line each, on standard error alone.
+# shellcheck disable=SC2034,SC2154 # variables shared with other parts
+# Refusals before the screen changes: one line each, on standard error alone.
 
-# Without a controlling terminal, so that nothing of it can change, and not for ever.
+# Runs a command without a controlling terminal, so that it cannot change one, and with a time limit.
 alone_in_session() { # WORD..
     timeout -s KILL 20 setsid -w "$@" </dev/null >"$folder/output" 2>"$folder/errors"
 }
@@ -15,7 +15,7 @@ refused() { # NAME WANTED WORD..
     same "$name: nothing else" "$(wc -c <"$folder/output") $(grep -c . "$folder/errors")" "0 $lines_told"
 }
 
-# As a user who is not root, for whom permissions hold.
+# As a user who is not root, so that permissions hold.
 refused_to_user() { # NAME WANTED WORD..
     name=$1 refusal=$2
     shift 2
@@ -77,7 +77,7 @@ check_refused_places() {
     rm -r f.d pipe plain loop dangling
 }
 
-# A name of so many bytes, in letters of two bytes and one of one where the number is odd.
+# Prints a name of BYTES bytes, in letters of two bytes, and one of one byte if the number is odd.
 name_of() { # BYTES
     awk -v count="$1" 'BEGIN { for (i = 0; i + 1 < count; i += 2) printf "\327\220"; if (i < count) printf "a" }'
 }

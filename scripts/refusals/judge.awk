@@ -1,19 +1,19 @@
-# Says what each refused run of a scene was, or why it is none that may be. The first file has what the variants of the scene answer
-# that are refused nothing (see scenes.sh), and the second the runs (see loaded.sh); `steps` and `way` are the scene's.
+# Prints the kind of each refused run of a scene, or its fault. The first file has the answers of the scene's variants without a
+# refusal (see scenes.sh), and the second the runs (see loaded.sh); `steps` and `way` are the scene's.
 BEGIN { count = split(steps, step, " ") }
 NR == FNR { answer[FNR] = $0; next }
 function put(line, k, letter) { return substr(line, 1, k - 1) letter substr(line, k + 1) }
 function field(line, number,  part) { split(line, part, "\t"); return part[number] }
-# a line with another field
+# a line with a field replaced
 function with_field(line, number, value,  part, count, k, made) {
     count = split(line, part, "\t")
     part[number] = value
     for (k = 1; k <= count; k++) made = made (k > 1 ? OFS : "") part[k]
     return made
 }
-# what is left of a line without what the terminal shows and what was queued
+# a line without the shown flags and the queued bytes
 function left(line) { return with_field(with_field(line, 2, ""), 7, "") }
-# the painting of step k is put off until the next step, which paints: behind k is shown what was, or nothing
+# the painting of step k is postponed to the next step: after k the terminal shows the previous picture, or none
 function is_painted_next(line, k,  shown, digit) {
     shown = field(line, 2)
     digit = substr(shown, k, 1)

@@ -1,10 +1,10 @@
 # shellcheck shell=sh
-# shellcheck disable=SC2154 # what check-refusals.sh sets
-# What refuses a growth of memory, for check-refusals.sh: a file in C that is loaded into a program. It refuses the growth whose number
-# it is given (REFUSED), gives the program its input one byte a read, and tells how many bytes were read when it refused. It also loses
-# what is printed (MUTED) and refuses to rename (FAILING) while so many bytes are read.
+# shellcheck disable=SC2154 # variables that check-refusals.sh sets
+# Refusal of memory growth, for check-refusals.sh: a library in C, loaded into a program. It refuses the growth with the number
+# REFUSED, gives the program its input one byte a read, and reports how many bytes were read at the refusal. It can also discard
+# the output after byte MUTED, and refuse renames after byte FAILING, until the next byte is read; 0 is before the first byte.
 
-# Writes the file in C, and builds of it what is loaded.
+# Writes the file in C, and builds the library from it.
 build_refuse() {
     cat >refuse.c <<'END'
 #define _GNU_SOURCE
@@ -20,8 +20,8 @@ extern void *__libc_calloc(size_t, size_t);
 extern void *__libc_realloc(void *, size_t);
 extern void *__libc_memalign(size_t, size_t);
 
-static long refused, muted, failing;         /* the growth; the byte whose output, and in whose time renames, are lost, 0: the first */
-static long growths, bytes, refused_at = -1; /* so far, and how many bytes were read at the refusal */
+static long refused, muted, failing;         /* the growth; the bytes after which output is lost, and renames fail */
+static long growths, bytes, refused_at = -1; /* counts so far; the bytes read at the refusal */
 
 static long number_of(const char *name) {
     const char *word = getenv(name);
@@ -82,16 +82,16 @@ END
     cc -O2 -Wall -shared -fPIC -o refuse.so refuse.c
 }
 
-# Runs a command with what is loaded, and these variables of it. The file `told` has how many bytes of input were read when a growth
-# was refused, -1 where none was, and nothing where the command did not end by itself.
+# Runs a command with the library and these variables. The file `told` gets the number of input bytes read at the refusal; -1
+# without a refusal; nothing if the command did not end by itself.
 loaded() { # VARIABLE.. COMMAND..
     : >"$scratch/told"
-    # `timeout` itself has its memory
+    # timeout itself is not refused memory
     timeout 60 env "TOLD=$scratch/told" "LD_PRELOAD=$scratch/refuse.so" "$@"
 }
 
-# Runs a command with each growth refused in turn, until none is. Each time a line is added to `runs`: the growth's number, the
-# status, what `told` has, the first line of standard error, and the lines of standard output with a bar between them.
+# Runs a command with each growth refused in turn, until none is. Each run adds a line to `runs`: the growth's number, the
+# status, the content of `told`, the first line of standard error, and the lines of standard output, joined by bars.
 sweep() { # INPUT COMMAND..
     input=$1 number=0 refused_at=''
     shift
@@ -111,7 +111,7 @@ sweep() { # INPUT COMMAND..
     done
 }
 
-# Adds lines of a kind of run and what it was to those that are counted; those that begin with FAILS are told.
+# Adds the kinds of runs on standard input to the counts; lines that begin with FAILS are printed.
 count_kinds() { # NAME
     while IFS= read -r kind; do
         case $kind in

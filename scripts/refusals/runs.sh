@@ -1,9 +1,9 @@
 # shellcheck shell=sh
-# shellcheck disable=SC2154 # what check-refusals.sh sets
+# shellcheck disable=SC2154 # variables that check-refusals.sh sets
 # The recorded sessions of check-refusals.sh.
 
-# Runs the session `session` with other input. What it printed is in a file of this name, and in another its status, what it told, and
-# what it left of FILE.
+# Runs the session `session` with other input. Its output goes to a file with this name, and its status, the content of `told`
+# and the resulting FILE to another.
 run_session() { # NAME KEYS VARIABLE..
     name=$1 keys=$2 status=0
     shift 2
@@ -13,19 +13,19 @@ run_session() { # NAME KEYS VARIABLE..
     IFS= read -r refused_at <told || refused_at=''
 }
 
-# How a run ended.
+# Prints the end of a run.
 ending() { # STATUS TOLD FILE
     echo "status $1"
     if [ -f "$3" ]; then cat "$2" "$3"; else cat "$2" && echo 'no file'; fi
 }
 
-# Whether two runs are the same in all.
+# Whether two runs are equal in everything.
 are_alike() { # NAME NAME
     cmp -s "$1.out" "$2.out" && cmp -s "$1.end" "$2.end"
 }
 
-# Runs what a refusal at the byte that was read last may leave, unless that was run before: the session with a byte that ends no
-# key in its place, with renames failing in its time, and with Repaint behind it, where what it sends is lost; and what stands before it.
+# Makes the runs that a refusal at a byte is compared with, unless they exist: with a byte that ends no key in its place, with
+# failing renames, with Repaint after it and its output discarded, and the session before it.
 make_answers() { # BYTE
     [ ! -f "dropped$1.out" ] || return 0
     { head -c "$(($1 - 1))" keys && printf '\0' && tail -c "+$(($1 + 1))" keys; } >keys_dropped
@@ -37,14 +37,14 @@ make_answers() { # BYTE
     run_session "before$1" keys_before "MUTED=$1"
 }
 
-# Whether the painting of a byte was put off in the run `found`, whose growth of this number was refused.
+# Whether the painting of a byte was postponed in the run `found`, in which this growth was refused.
 is_painting_put_off() { # BYTE NUMBER
     cmp -s found.end whole.end && head -c "$(wc -c <"before$1.out")" found.out | cmp -s - "before$1.out" || return 1
     run_session anew "keys_repainted$1" "REFUSED=$2"
     [ "$refused_at" = "$1" ] && are_alike anew "repainted$1"
 }
 
-# Says what the run `found` was, whose growth of this number was refused when so many bytes were read.
+# Prints the kind of the run `found`, in which this growth was refused after BYTES bytes were read.
 kind_of_run() { # NUMBER BYTES
     if [ -z "$2" ]; then
         kind='FAILS it ended by a signal or not at all'
@@ -61,7 +61,7 @@ kind_of_run() { # NUMBER BYTES
         fi
     else
         make_answers "$2"
-        # without a status row a failed save looks as a dropped key
+        # without a status row a failed save looks like a dropped key
         if are_alike found "failing$2"; then
             kind='session: a failed save'
         elif are_alike found "dropped$2"; then
@@ -78,7 +78,7 @@ kind_of_run() { # NUMBER BYTES
     echo "$kind"
 }
 
-# Tells of what a run left that is not FILE.
+# Reports files that a run left beside FILE.
 tell_left() { # NUMBER
     for left in "$place"/*; do
         case $left in
@@ -88,7 +88,7 @@ tell_left() { # NUMBER
     done
 }
 
-# Runs a session with each growth refused in turn, until none is, and says what each run was.
+# Runs a session with each growth refused in turn, until none is, and prints the kind of each run.
 sweep_session() { # SESSION
     session=$1 place=$scratch/place number=0
     rm -f dropped* failing* repainted* before* keys*
@@ -117,7 +117,7 @@ sweep_session() { # SESSION
     done
 }
 
-# Runs twenty sessions whose command line is not refused, spread over all.
+# Runs twenty sessions with accepted command lines, spread over all.
 check_sessions() { # SESSIONS
     folder=$(sessions_of "$1" "$scratch")
     list_sessions "$folder" | while IFS= read -r session; do

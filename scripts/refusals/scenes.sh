@@ -1,27 +1,27 @@
 # shellcheck shell=sh
-# shellcheck disable=SC2154 # what check-refusals.sh sets
+# shellcheck disable=SC2154 # variables that check-refusals.sh sets
 # The scenes and the tables of check-refusals.sh.
 
-# Plays scenes that are refused nothing.
+# Plays scenes without refusals.
 play() {
     timeout 60 "$player" "$top"/crates/play_scenes/data/classes.txt "$top"/crates/play_scenes/data/brackets.txt \
         "$top"/crates/play_scenes/data/mirroring.txt
 }
 
-# Plays the scene of the file `scene` with each growth refused.
+# Plays the scene in the file `scene` with each growth refused in turn.
 sweep_scene() {
     sweep scene "$player" "$top"/crates/play_scenes/data/classes.txt "$top"/crates/play_scenes/data/brackets.txt \
         "$top"/crates/play_scenes/data/mirroring.txt
 }
 
-# A scene's line.
+# Prints a scene as a line.
 scene_of() { # ROWS COLS FILE STEPS WAY
     printf 'scene\tauto\t%s\t%s\t-\t%s\t%s\t%s\n' "$@"
 }
 
-# The scenes that tell what refused runs of one must answer: itself; for each step, itself with a byte that ends no key, or with
-# nothing sent, in its place; for each step, what stands before it; and itself with a call of the store failing, of which more
-# than it makes are tried.
+# Prints the variants of a scene that its refused runs are compared with: itself; for each step, itself with a byte that ends no
+# key, or with nothing sent, in its place; for each step, the scene before it; and itself with each call of the store failing,
+# and some calls more than it makes.
 variants() {
     awk -F '\t' -v OFS='\t' '
         { head = $1 OFS $2 OFS $3 OFS $4; file = $6; way = $8; count = split($7, step, " ") }
@@ -38,7 +38,7 @@ variants() {
         }'
 }
 
-# Says what each run of `runs` was, by what the variants answer in `answers`, or why it is none that may be.
+# Prints the kind of each run in `runs`, from the answers of the variants in `answers`, or its fault.
 judge() { # STEPS WAY
     awk -F '\t' -v OFS='\t' -v steps="$1" -v way="$2" -f "$top/scripts/refusals/judge.awk" answers runs
 }
@@ -54,14 +54,14 @@ check_scene() { # NAME ROWS COLS FILE STEPS
     done
 }
 
-# A scene as it is, and with a byte that ends no key behind each key and each size.
+# Checks a scene, and the same with a byte that ends no key after each key and each size.
 check_scenes() { # NAME ROWS COLS FILE STEPS
     check_scene "$@"
     check_scene "$1, idle bytes" "$2" "$3" "$4" "$(idle_behind_keys "$5")"
 }
 
-# Steps with a byte that ends no key behind each that may paint: a told size, and each byte but those of sequences and characters
-# that more bytes follow.
+# Prints steps with a byte that ends no key after each step that may paint: a told size, and each byte that ends a key or a
+# sequence.
 idle_behind_keys() { # STEPS
     printf '%s\n' "$1" | awk '{
         for (k = 1; k <= NF; k++) {
@@ -74,8 +74,8 @@ idle_behind_keys() { # STEPS
     }'
 }
 
-# Plays a scene with each growth refused, and wants one run to answer exactly so. Where a kind of run is named, the run with the
-# growth before must have answered that.
+# Plays a scene with each growth refused, and requires one run with exactly the answer WANTED. If BEFORE is given, it must be the
+# answer of the run with the growth before.
 check_worked() { # NAME ROWS COLS FILE STEPS WAY WANTED [BEFORE]
     scene_of "$2" "$3" "$4" "$5" "$6" >scene
     sweep_scene
@@ -106,7 +106,7 @@ check_all_scenes() {
 }
 
 check_all_worked() {
-    # the painting at opening, and what shows `xyab` in its place
+    # the painting at opening, and the bytes that show `xyab` in its place
     opening=1b5b306d1b5b324a1b5b313b314861621b5b313b3148
     changes=1b5b313b3148787961621b5b313b3348
     check_worked 'a byte without a key takes no memory' 1 5 6162 'S1000 B00 pending B78 pending' alone \

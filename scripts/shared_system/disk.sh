@@ -1,9 +1,9 @@
 # shellcheck shell=sh
-# shellcheck disable=SC2034,SC2154 # words that other parts give and take
-# A disk that takes no session, or not all of one: it is told while something can be done, what waits is kept once there is room, and
-# what is said at the end is so.
+# shellcheck disable=SC2034,SC2154 # variables shared with other parts
+# A disk without room for a session or its journal: the fault is reported in time, waiting text is kept once there is room, and
+# the messages at the end are true.
 
-# A state folder on a small disk of its own.
+# Puts the state folder on a small disk of its own.
 open_small_disk() { # SIZE
     mkdir -p "$folder/small"
     if ! mount -t tmpfs -o "size=$1" none "$folder/small" 2>/dev/null; then
@@ -32,17 +32,17 @@ has_title_with() { # NAME TEXT
     case $(title_of "$1") in *"$2"*) return 0 ;; *) return 1 ;; esac
 }
 
-# What the editor writes is kept, so that the order can be seen.
+# Records the editor's output, to see its order.
 record_editor() { # NAME
     terminal pipe-pane -t "$1" "cat >'$folder/output.$1'"
 }
 
-# Takes what is left of the small disk.
+# Fills the rest of the small disk.
 fill_small_disk() {
     as_user dd if=/dev/zero of="$folder/small/other" bs=4096 2>/dev/null
 }
 
-# On a disk that is full an editor is open, with a letter typed, and its title tells.
+# Opens an editor on a full disk and types a letter; its title reports the fault.
 open_on_full_disk() {
     open_small_disk 256k || return 1
     rm -f note
@@ -82,7 +82,7 @@ has_title_without() { # NAME TEXT
     ! has_title_with "$1" "$2"
 }
 
-# Of the session of `note` on the small disk, whose text is in `expected`.
+# Recovers the session of `note` on the small disk, and compares its text with `expected`.
 recover_from_small_disk() { # CHECK
     as_user "$shell" "$launcher" --recover --to other note >"$folder/output" 2>&1
     cmp "$folder/expected" other >"$folder/differs" 2>&1
@@ -92,7 +92,7 @@ recover_from_small_disk() { # CHECK
     rm -f note other
 }
 
-# There is room later, and all is killed then; the last time without another key.
+# There is room later, and then all processes are killed; the last time without another key.
 check_begun_later() {
     open_on_full_disk 'room later' || return 0
     same 'disk, room later: nobody finds a part of the session' "$(find "$folder/small" -name path)" ''
@@ -123,7 +123,7 @@ check_begun_later() {
     recover_from_small_disk 'room at the end'
 }
 
-# The editor is open with a letter, its disk is full by now, and more was typed than the journal has room for.
+# Opens the editor, types a letter, fills the disk, and types more than the journal has room for.
 fill_under_editor() { # CHECK
     open_small_disk 256k || return 1
     rm -f note
@@ -140,7 +140,7 @@ fill_under_editor() { # CHECK
     report "disk, $1: told in the title" $? "$(title_of first)"
 }
 
-# A title ends with a bell that does not ring.
+# Counts bells. The bell that ends a title does not ring.
 bells_of() { # NAME
     cat -v "$folder/output.$1" | sed 's/\^\[]2;[^^]*^S save ^Q quit[^^]*\^G//g' | grep -o '\^G' | wc -l
 }
@@ -159,7 +159,7 @@ check_filled_up() {
     rm -f note other
 }
 
-# There is room again, what is typed later is kept too, and all is killed then. A second fault is told again.
+# There is room again, later text is kept too, and then all processes are killed. A second fault is reported again.
 check_room_again() {
     fill_under_editor 'room again' || return 0
     rm -f "$folder/small/other"
@@ -183,7 +183,7 @@ check_room_again() {
     recover_from_small_disk 'room again'
 }
 
-# What is said at the end is so: the journal was kept again.
+# The message at the end is true: the journal was kept again.
 check_told_again() {
     fill_under_editor 'told again' || return 0
     rm -f "$folder/small/other"

@@ -1,9 +1,9 @@
 # shellcheck shell=sh
-# shellcheck disable=SC2034,SC2154 # words that other parts give and take
-# Another program that changes FILE in a moment in which the launcher looks elsewhere: the first save says that it failed, and only the
-# second replaces what is there.
+# shellcheck disable=SC2034,SC2154 # variables shared with other parts
+# Another program changes FILE between two looks of the launcher: the first save reports a failure, and only the second replaces
+# the file.
 
-# A command of the launcher that, once it is done for the first time, has FILE changed.
+# Replaces a command that the launcher runs, so that FILE changes right after its first run.
 change_behind() { # COMMAND
     as_user mkdir -p "$folder/tools"
     as_user tee "$folder/tools/$1" >/dev/null <<END
@@ -16,7 +16,7 @@ END
     as_user chmod 755 "$folder/tools/$1"
 }
 
-# The letter that was typed is on the screen, and FILE is another's.
+# Requires that the typed letter is on the screen and FILE still has the foreign text, and saves again.
 save_twice() { # NAME
     same "foreign, $1: it is another's" "$(cat note)" 'of another'
     terminal send-keys -t first C-s
@@ -41,7 +41,7 @@ check_changed_after_copy() {
     save_twice 'after the copy' yab
 }
 
-# Between the answer, whose replay looks at FILE, and the program's look.
+# Between the answer to a question, whose replay looks at FILE, and the program's look.
 check_changed_after_answer() {
     leave_session note
     change_behind rm
@@ -60,7 +60,7 @@ check_changed_while_open() {
     save_twice 'after the recovery' xab
 }
 
-# A FILE that nobody changed is saved at once, also by a session that is had back after a save.
+# An unchanged FILE is saved at once, also by a session recovered after a save.
 check_unchanged() {
     rm -rf "$folder/state"
     printf 'ab\n' | as_user tee note >/dev/null
@@ -80,7 +80,7 @@ check_unchanged() {
     rm -rf "$folder/state" note
 }
 
-# The folder of FILE becomes a link while a save puts its draft on the disk.
+# The folder of FILE becomes a link while a save syncs its draft.
 check_exchanged_folder() {
     if ! can_trace; then
         skip 'foreign, a folder that is exchanged' 'there is no strace, or it may not trace'

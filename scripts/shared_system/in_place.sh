@@ -1,8 +1,8 @@
 # shellcheck shell=sh
-# shellcheck disable=SC2034,SC2154 # words that other parts give and take
-# Saves into FILE itself, where no rename may take its place, and FILE after one that was cut off.
+# shellcheck disable=SC2034,SC2154 # variables shared with other parts
+# Saves into FILE itself, where a rename must not replace it, and FILE after an interrupted save.
 
-# ---- whole saves
+# ---- complete saves
 
 check_links() {
     printf 'ab\n' | as_user tee note >/dev/null
@@ -29,7 +29,7 @@ check_mounted_file() {
         rm -f "$folder/host" 'a note'
         return
     fi
-    # the blank would part it
+    # the list is split at blanks
     mounted="$mounted $folder/files/a?note"
     save_a_letter 'a note'
     same 'in place, a mounted file' "$(cat 'a note' "$folder/host" | tr '\n' ' ')" 'xof the host xof the host '
@@ -40,7 +40,7 @@ check_mounted_file() {
     rm -f "$folder/host" 'a note'
 }
 
-# A folder that the user may not write, with a file that he may, and one like /tmp, with a file of another user's.
+# A folder that the user may not write, with a file that the user may, and a folder like /tmp, with another user's file.
 check_closed_folder() {
     if [ "$who" != plain ]; then
         skip 'in place, a closed folder' 'root may write it'
@@ -69,13 +69,13 @@ check_closed_folder() {
     rm -rf sticky
 }
 
-# ---- saves that are cut off
+# ---- interrupted saves
 
 program_of_check() {
     pgrep -f "bidi_edit --rows.*$folder/state/" | head -n 1
 }
 
-# Has the program of the editor `first` meet this at the next call of these on FILE.
+# Has strace inject WHAT into the program of the editor `first` at its next CALLS on FILE.
 inject() { # CALLS WHAT
     strace -qq -f -p "$(program_of_check)" -P "$folder/files/note" -e "trace=$1" -e "inject=$1:$2" -o "$folder/trace" 2>/dev/null &
     tracer=$!
@@ -92,7 +92,7 @@ can_trace() {
     strace -qq -o /dev/null -p $! 2>/dev/null
 }
 
-# The editor is open on a file with two names, and a letter is typed.
+# Opens the editor on a file with two names, and types a letter.
 open_linked() {
     rm -rf "$folder/state" note*
     printf 'ab\n' | as_user tee note >/dev/null
@@ -107,7 +107,7 @@ has_no_program() {
     [ -z "$(program_of_check)" ]
 }
 
-# The launcher stands still while its program is killed in the save, and is killed then.
+# Stops the launcher while its program is killed in a save, and then kills it too.
 cut_off_save() { # CALLS
     open_linked
     inject "$1" 'signal=KILL:when=1'
@@ -118,7 +118,7 @@ cut_off_save() { # CALLS
     kill_editor first
 }
 
-# What the next start says of a save that was cut off, and that FILE is whole.
+# Checks the next start's message about an interrupted save, and that FILE is complete.
 check_cut_off() { # CALLS WORDS TEXT
     cut_off_save "$1"
     test -e "$(session_of_check)/mark"
@@ -139,7 +139,7 @@ check_cut_off() { # CALLS WORDS TEXT
     close_editors first
 }
 
-# The launcher lives, and puts the text back at once.
+# The launcher survives, and puts the text back at once.
 check_killed_program() {
     open_linked
     inject write,pwrite64,writev signal=KILL:when=1
@@ -151,7 +151,7 @@ check_killed_program() {
     close_editors first
 }
 
-# Another program writes FILE before the next start, by which it is left alone.
+# Another program writes FILE before the next start, which leaves FILE alone.
 check_written_since() {
     cut_off_save write,pwrite64,writev
     echo of another | as_user tee note >/dev/null
@@ -164,7 +164,7 @@ check_written_since() {
     close_editors first
 }
 
-# A session of another machine may go on there with its save.
+# A session of another machine may still be saving there.
 check_cut_off_elsewhere() {
     cut_off_save write,pwrite64,writev
     echo '1 elsewhere 11111111-1111' | as_user tee "$(session_of_check)/process" >/dev/null
@@ -198,7 +198,7 @@ is_empty() { # FILE
     ! [ -s "$1" ]
 }
 
-# FILE is torn and the text cannot be put back: it is kept, and told.
+# FILE is torn and the text cannot be put back: the text is kept, and the fault reported.
 check_recover_elsewhere() {
     cut_off_save write,pwrite64,writev
     as_user "$shell" "$launcher" --recover >"$folder/output" 2>&1 </dev/null

@@ -1,6 +1,6 @@
 # shellcheck shell=sh
-# shellcheck disable=SC2034,SC2154 # words that other parts give and take
-# What is kept of sessions, where, and how a person sees it.
+# shellcheck disable=SC2034,SC2154 # variables shared with other parts
+# The files kept of sessions, their places, and the list of sessions.
 
 check_list() {
     leave_session note
@@ -33,7 +33,7 @@ check_no_session() {
     close_editors first
 }
 
-# A FILE in memory, whose text is not to come to a disk.
+# A FILE in memory, whose text must not reach a disk.
 check_memory() {
     mkdir "$folder/memory"
     if ! mount -t tmpfs -o size=1m none "$folder/memory" 2>/dev/null; then
@@ -63,7 +63,7 @@ check_memory() {
     rmdir "$folder/memory"
 }
 
-# A FILE in a folder for temporary files, beside a state folder that lasts.
+# A FILE in a folder for temporary files, with a permanent state folder.
 check_passing_file() {
     if [ "$(id -u)" != 0 ] || ! lasting=$(mktemp -d /var/lib/bidi-edit-check.XXXXXX 2>/dev/null); then
         skip 'keeping, of a temporary FILE' 'no folder that lasts can be made'
@@ -86,7 +86,7 @@ check_passing_file() {
     export XDG_STATE_HOME="$state"
 }
 
-# A stand-in that notes what is put on the disk.
+# Replaces sync by a command that records its arguments.
 check_syncs() {
     as_user mkdir "$folder/tools"
     printf '#!/bin/sh\necho "$*" >>"%s"\nexec /bin/sync "$@"\n' "$folder/synced" | as_user tee "$folder/tools/sync" >/dev/null

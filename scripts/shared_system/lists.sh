@@ -1,8 +1,8 @@
 # shellcheck shell=sh
-# shellcheck disable=SC2034,SC2154 # words that other parts give and take
-# Access lists: who may read or write FILE after a save is who could before.
+# shellcheck disable=SC2034,SC2154 # variables shared with other parts
+# Access lists: after a save the same users can read and write FILE as before.
 
-# Another user in the group of the editor's, and one whom only lists name.
+# A user in the group of the editor's user, and a user named only in lists.
 member=61011
 listed=61012
 
@@ -14,7 +14,7 @@ as_listed() { # COMMAND..
     setpriv --reuid "$listed" --regid "$listed" --clear-groups "$@"
 }
 
-# What the others may do with a file, where this script can be them.
+# Prints the rights of the other users on a file, if this script can become them.
 rights_of_others() { # FILE
     [ "$(id -u)" = 0 ] || return 0
     for who_else in as_member as_listed; do
@@ -28,7 +28,7 @@ rights_of() { # FILE
     rights_of_others "$1"
 }
 
-# Types a letter into a file and saves it, with the words of an option before, and ends.
+# Types a letter into a file, with the options given, saves and ends.
 save_a_letter() { # FILE WORD..
     name=$1
     shift
@@ -40,7 +40,7 @@ save_a_letter() { # FILE WORD..
     wait_for 60 shows_in first status
 }
 
-# FILE has a list, or its folder gives one: a folder `common` of the user's.
+# FILE has a list, or its folder passes one on: a folder `common` of the user's.
 check_listed_file() { # NAME LIST FOLDER'S LIST REASON
     as_user mkdir -p common
     chmod 755 common
@@ -59,7 +59,7 @@ check_listed_file() { # NAME LIST FOLDER'S LIST REASON
     rm -rf common "$folder/state"
 }
 
-# Without a session a save could be cut off, so it is refused unless it is forced.
+# Without a session an interrupted save could lose text, so it is refused unless forced.
 check_unkept_list() {
     printf 'ab\n' | as_user tee note >/dev/null
     setfacl -m "u:$listed:r" note

@@ -1,6 +1,7 @@
 # shellcheck shell=sh
-# shellcheck disable=SC2034,SC2154 # words that other parts give and take
-# Whether a session goes on, and who may take it: what lives is neither recovered nor discarded, and one of two starts has it.
+# shellcheck disable=SC2034,SC2154 # variables shared with other parts
+# Whether a session is live, and who may take it: a live one is neither recovered nor discarded, and only one of two starts gets
+# it.
 
 check_other_namespace() {
     if ! unshare -p -f --mount-proc true 2>/dev/null; then
@@ -40,7 +41,7 @@ check_other_host() {
     close_editors second
 }
 
-# Both are asked before either answers.
+# Both starts ask before either gets an answer.
 check_two_answers() { # SECOND ANSWER
     leave_session note
     open_editor first '' note
@@ -58,7 +59,7 @@ check_two_answers() { # SECOND ANSWER
     close_editors first second
 }
 
-# The launcher is a child of a process that never asks for its end.
+# The launcher is a child of a process that never waits for it.
 check_unreaped() {
     rm -rf "$folder/state"
     printf 'ab\n' >note
@@ -87,7 +88,7 @@ check_changed_meanwhile() {
     close_editors second
 }
 
-# A start that has no key yet is no leavings of another.
+# A new session without keys is not swept by another start.
 check_new_session() {
     rm -rf "$folder/state"
     open_editor first '' note

@@ -1,8 +1,8 @@
 # shellcheck shell=sh
-# shellcheck disable=SC2016,SC2034,SC2154 # words of another shell; words that other parts give and take
-# Names of files in messages and titles: as a shell takes them, with no byte that a terminal obeys and none that hides what they are.
+# shellcheck disable=SC2016,SC2034,SC2154 # code for another shell; variables shared with other parts
+# Names of files in messages and titles: quoted for a shell, without bytes that a terminal obeys or that hide the name.
 
-# What no terminal should get in a name: a word for it and its bytes as printf and a shell take them.
+# Lists bytes that no terminal should get in a name: a word for each, and the bytes in the notation of printf and a shell.
 hidden_bytes() {
     cat <<'END'
 escape \033[31m
@@ -26,12 +26,12 @@ order-mark \357\273\277
 END
 }
 
-# All of them in one name.
+# Puts all of them into one name.
 all_hidden() {
     hidden_bytes | sed 's/.* //' | paste -s -d ''
 }
 
-# The name that is told as $'TOLD'.
+# Sets `name` to the name whose quoted form is $'TOLD'.
 name_of_told() { # TOLD
     # shellcheck disable=SC2059 # the name has escapes
     name=$(printf "$1" && echo x)
@@ -44,7 +44,7 @@ is_harmless() { # FILE
     ' "$folder/letters"
 }
 
-# The launcher's words where there is no terminal, in `told`, which have this name as a shell takes it and nothing else that is hidden.
+# Checks the launcher's message without a terminal, in `told`: it has the name quoted for a shell, and no other hidden byte.
 tells() { # CHECK TOLD WORD..
     checked=$1 told_as=$2
     shift 2
@@ -54,7 +54,7 @@ tells() { # CHECK TOLD WORD..
     has "names, $checked: the name" "$(cat "$folder/told")" "$told_as"
 }
 
-# One name in the messages of the launcher.
+# Checks one name in the launcher's messages.
 check_messages() { # WORD TOLD
     word=$1 as_told="\$'$2'"
     name_of_told "$2"
@@ -76,7 +76,7 @@ check_messages() { # WORD TOLD
     as_user sh -c 'printf "\377" >"$1"; : >"$1.bx"' sh "$name"
     tells "$word, bytes" "$as_told is not UTF-8 in line 1" --print "$name"
     as_user cp /dev/null "$name"
-    # a name that is not UTF-8 is refused before, but for what iconv takes
+    # a name that is not UTF-8 is refused first, unless iconv accepts it
     case $word in
     lone-* | cut-* | long-* | surrogate) tells "$word, not UTF-8" "$as_told has a name that is not UTF-8" "$name" ;;
     *) tells "$word, a draft" "what is not wanted: \$'$2.bx'" "$name" ;;
@@ -84,7 +84,7 @@ check_messages() { # WORD TOLD
     as_user rm "$name" "$name.bx"
 }
 
-# What cannot be printed.
+# Checks files that cannot be printed.
 check_printing_messages() { # WORD TOLD
     as_told="\$'$2'"
     name_of_told "$2"
@@ -98,7 +98,7 @@ check_printing_messages() { # WORD TOLD
     as_user rm -f "$name"
 }
 
-# The launcher itself in a folder of that name, without the tables that come with it.
+# Runs the launcher itself in a folder with that name, without its tables.
 check_own_tables() { # TOLD
     [ ! -r /usr/share/unicode/BidiBrackets.txt ] || {
         skip 'names, its own tables' "Debian's are there"
@@ -114,7 +114,7 @@ check_own_tables() { # TOLD
     rm -rf "${folder:?}/$name"
 }
 
-# What the first start tells of the repository's name.
+# Checks the messages of the first start about the repository's name.
 check_building_names() { # TOLD
     name_of_told "$1"
     mkdir "$folder/$name"
@@ -131,7 +131,7 @@ check_building_names() { # TOLD
     rm -rf "${folder:?}/$name"
 }
 
-# The title, and what the program says of a name as it is.
+# Checks the title, and the program's fault lines about the name.
 check_title_and_fault() { # TOLD
     name_of_told "$1"
     program=$folder/recorder/lib/bidi_edit/bidi_edit
@@ -149,7 +149,7 @@ check_title_and_fault() { # TOLD
     mv "$program.was" "$program"
 }
 
-# What a program itself tells of a name in UTF-8, as others it refuses, with no launcher between.
+# Checks a program's own messages about a name in UTF-8 without the launcher; it refuses other names.
 program_tells() { # CHECK WANTED PROGRAM WORD..
     checked=$1 wanted_words=$2 built=$top/crates/$3/out/$3
     shift 3
@@ -190,14 +190,14 @@ check_names() {
         check_printing_messages "$word" "x${bytes}y" </dev/null
     done <"$folder/bytes"
     tells 'letters of all scripts' "'שלום عالم é' is not there" --print 'שלום عالم é'
-    # the joiners are letters of Persian words and of pictures
+    # joiners are letters of Persian words and parts of emoji
     tells 'joiners' "'می‌خواهم' is not there" --print 'می‌خواهم'
     mkdir "$folder/bin"
     printf '#!/bin/sh\nexit 1\n' >"$folder/bin/rt"
     chmod 755 "$folder/bin/rt"
     check_building_names "x$(all_hidden | sed 's/\\364\\220\\200\\200//')y"
     check_own_tables "x$(all_hidden)y"
-    # a name that is not UTF-8 is refused before
+    # a name that is not UTF-8 is refused first
     in_letters="x$(hidden_bytes | grep -v -e '^lone' -e '^cut' -e '^long' -e '^surrogate' -e '^past' | sed 's/.* //' | paste -s -d '')y"
     check_title_and_fault "$in_letters"
     check_program_names "$in_letters"

@@ -1,8 +1,8 @@
 # shellcheck shell=sh
-# shellcheck disable=SC2034,SC2154 # words that other parts give and take
-# What a launcher leaves that was killed, and one whose terminal takes no output.
+# shellcheck disable=SC2034,SC2154 # variables shared with other parts
+# The remains of a killed launcher, and a launcher whose terminal is blocked.
 
-# The shell behind the launcher reads a line: all of it is to be its own, and nothing of the editor stays.
+# The shell after the launcher gets its whole line, and nothing of the editor remains.
 check_killed_launcher() {
     open_recorder
     kill -s KILL "$process"
@@ -18,13 +18,13 @@ check_killed_launcher() {
     terminal kill-session -t person
 }
 
-# tmux stands still, and the terminal is filled until it takes no more.
+# Stops tmux, and fills the terminal until it blocks.
 check_full_terminal() { # SIGNAL
     open_recorder
     server=$(terminal display-message -p '#{pid}')
     kill -s STOP "$server"
     timeout 1 cat /dev/zero >"$tty"
-    # what is left behind the last write that did not fit
+    # fills the room left after the last write that did not fit
     timeout 1 dd if=/dev/zero bs=1 2>/dev/null >"$tty"
     kill -s "$1" "$process"
     wait_for 90 has_ended
@@ -34,10 +34,10 @@ check_full_terminal() { # SIGNAL
     terminal kill-session -t person
 }
 
-# All of a launcher at once, so that none of it can put in order what the others leave.
+# Kills all processes of a launcher at once, so that none can clean up.
 kill_whole_launcher() {
     open_recorder
-    # shellcheck disable=SC2046 # words
+    # shellcheck disable=SC2046 # split into words
     kill -s KILL $(processes_of_check)
     wait_for 30 has_ended
     terminal kill-session -t person
@@ -49,7 +49,7 @@ check_left_folders() {
     left=$(ls "$folder/private")
     same 'orphans, one folder is left' "$(echo "$left" | wc -l)" 1
     touch -d '5 minutes ago' "$folder/private/$left"
-    # one that lives, by its lock, and one of another user
+    # a live one, by its lock, and one of another user
     as_user mkdir "$folder/private/bidi-edit.locked"
     as_user mkfifo "$folder/private/bidi-edit.locked/life"
     flock "$folder/private/bidi-edit.locked" true

@@ -1,9 +1,9 @@
 # shellcheck shell=sh
-# shellcheck disable=SC2016,SC2034,SC2154 # words of another shell; words that other parts give and take
-# The installation beside what is there already, under any umask and while others start the editor, and the package without the tools
-# of its checks.
+# shellcheck disable=SC2016,SC2034,SC2154 # code for another shell; variables shared with other parts
+# Installation over existing files, under any umask and while others start the editor, and packaging without the tools of its
+# checks.
 
-# A repository of the user's own, with programs that stand in for the built ones.
+# Makes a repository of the user's own, with stand-ins for the built programs.
 make_source() {
     source=$folder/source prefix=$folder/prefix
     mkdir "$source"
@@ -19,13 +19,13 @@ make_source() {
     [ "$user" = "$(id -u)" ] || chown -R "$user:$user" "$source"
 }
 
-# Runs the script, with what it says in `said` and its status in `status`.
+# Runs the script. Its messages go to `said`, its status to `status`.
 installs() { # WORD..
     as_user "$shell" "$source/scripts/install.sh" "$@" >"$folder/said" 2>&1
     status=$?
 }
 
-# What stands in a folder: each path with its kind, permissions and sum.
+# Lists a folder: each path with its kind, permissions and checksum.
 tree_of() { # FOLDER
     (cd "$1" && find . -mindepth 1 -type f -exec sha256sum {} + && find . -mindepth 1 -printf '%y %m %p %l\n') | sort
 }
@@ -44,7 +44,7 @@ check_modes_there() {
     done
 }
 
-# A copy that fails in its midst.
+# A copy that fails midway.
 check_failed_copy() {
     installs "$prefix"
     same 'packages, installed' "$status" 0
@@ -58,7 +58,7 @@ check_failed_copy() {
     rm -rf "$prefix"
 }
 
-# Starts beside installations of the same version.
+# Starts the editor during installations of the same version.
 check_starts_meanwhile() {
     installs "$prefix"
     as_user sh -c 'for i in 1 2 3 4 5 6 7 8 9 10 11 12; do "$1" "$2" "$3"; done' sh "$shell" "$source/scripts/install.sh" "$prefix" >/dev/null &
@@ -75,7 +75,7 @@ check_starts_meanwhile() {
     rm -rf "$prefix"
 }
 
-# What was there before and what others put there stays.
+# Files from before, and from others, stay.
 check_removal() {
     as_user mkdir -p "$prefix/bin" "$prefix/lib" "$prefix/share/man/man1" "$prefix/share/bidi_edit"
     as_user sh -c 'echo mine >"$1"' sh "$prefix/share/bidi_edit/mine"
@@ -107,7 +107,7 @@ check_newer_version() {
     as_user rm "$source/launcher/gone.sh"
     installs "$prefix"
     same 'packages, a part that a version no longer has' "$(ls "$prefix/lib/bidi_edit/launcher/gone.sh" 2>/dev/null)" ''
-    # as an installation leaves it that made no record
+    # as after an installation without a record
     rm -f "$prefix/lib/bidi_edit/installed"
     installs "$prefix"
     same 'packages, over one without a record' "$status" 0
@@ -116,7 +116,7 @@ check_newer_version() {
     rm -rf "$prefix"
 }
 
-# All commands of the system but those that serve only the checks of make-deb.sh.
+# Makes a folder of all system commands except those that only the checks of make-deb.sh use.
 make_commands() {
     mkdir "$folder/commands"
     for place in /usr/bin /bin /usr/sbin /sbin; do ln -s "$place"/* "$folder/commands/" 2>/dev/null; done

@@ -1,22 +1,22 @@
 # shellcheck shell=sh
-# shellcheck disable=SC2034,SC2154 # words that other parts give and take
-# Folders that cannot be used, and the first start where others can write or nothing can be written: its log, its lock.
+# shellcheck disable=SC2034,SC2154 # variables shared with other parts
+# Unusable folders, and the first start in a repository that others can write or nobody can: its log, its lock.
 
-# ---- folders that the environment names
+# ---- folders from the environment
 
-# Before what a check sets for its session.
+# Makes folders for a check, before its own setup.
 own_folders() {
     echo "export HOME='$folder/home' XDG_STATE_HOME='$folder/state'"
 }
 
-# The private folder of the launcher at work, by the pipes that it has open.
+# Finds the private folder of the running launcher from its open pipes.
 private_folder() {
     for each in /proc/"$(process_of "$shell .*bin/bidi-edit")"/fd/*; do
         readlink "$each"
     done | sed -n 's|^\(.*/bidi-edit\.[A-Za-z0-9]*\)/.*|\1|p' | head -n 1
 }
 
-# A session with such a TMPDIR goes on elsewhere, after one line.
+# A session with this TMPDIR continues elsewhere, after one line.
 passes_over() { # NAME TMPDIR
     setup="$(own_folders) TMPDIR='$2'"
     start 8 60 "$recorder" f
@@ -82,8 +82,8 @@ check_state_home() {
 
 # ---- the first start
 
-# A repository of two programs of a few lines, and a command that stands in for rt: it goes on until no file `slow` is there, and
-# fails where one `bad` is.
+# Makes a repository of two programs of a few lines, and a command in place of rt: it runs until there is no file `slow`, and
+# fails if there is a file `bad`.
 make_clone() {
     clone=$folder/clone kit=$folder/kit
     mkdir -p "$clone" "$kit"
@@ -110,7 +110,7 @@ END
     [ "$user" = "$(id -u)" ] || chown -R "$user:$user" "$clone" "$kit"
 }
 
-# Builds as the first start does, with what it says in `said` and its status in `status`. Words before it run it elsewhere.
+# Builds as the first start does. Messages go to `said`, the status to `status`. WORDs are a command to run it under.
 prove() { # WORD..
     as_user "$@" env PATH="$kit:$PATH" TMPDIR="$folder/private" timeout 60 "$shell" "$clone/launcher/proving/prove.sh" "$clone" bidi_edit \
         >"$folder/said" 2>&1
@@ -121,7 +121,7 @@ last_said() {
     tail -n 1 "$folder/said"
 }
 
-# What another user put where the log was to be written.
+# Another user has put a file at the log's place.
 check_log() {
     make_clone
     echo mine >"$folder/victim"
@@ -143,7 +143,7 @@ has_begun() {
     [ -n "$(find "$clone" -name begun)" ]
 }
 
-# Two starts beside one another, the second in a process namespace of its own, where the first has no number.
+# Two concurrent starts, the second in its own process namespace, in which the first has no number.
 check_lock() {
     make_clone
     as_user touch "$kit/slow"
@@ -154,7 +154,7 @@ check_lock() {
     same 'places, a second start' "$status" 1
     has 'places, a second start: what is told' "$(last_said)" ' is building the editor already: wait for it'
     if can_unshare; then
-        # shellcheck disable=SC2086 # words
+        # shellcheck disable=SC2086 # split into words
         prove $unshared
         same 'places, a second start in another namespace' "$status" 1
         has 'places, a second start in another namespace: what is told' "$(last_said)" ' is building the editor already: wait for it'
@@ -167,14 +167,14 @@ check_lock() {
 
 can_unshare() {
     for unshared in 'unshare --pid --fork --mount-proc' 'unshare --map-root-user --pid --fork --mount-proc'; do
-        # shellcheck disable=SC2086 # words
+        # shellcheck disable=SC2086 # split into words
         ! as_user $unshared true 2>/dev/null || return 0
     done
     skip 'places, another namespace' 'none can be made'
     return 1
 }
 
-# The toolchain gets a folder that it can use.
+# The toolchain gets a usable folder for temporary files.
 check_first_start_elsewhere() {
     make_clone
     start_there 'a first start with such a TMPDIR' 0 "TMPDIR='$folder/none'"
@@ -183,7 +183,7 @@ check_first_start_elsewhere() {
     rm -rf "$clone" "$kit"
 }
 
-# A number that a killed start left, which is another process's by now.
+# The number of a killed start belongs to another process now.
 check_stale_number() {
     make_clone
     as_user mkdir -p "$clone/out/proving"
@@ -198,9 +198,9 @@ check_stale_number() {
     rm -rf "$clone" "$kit"
 }
 
-# ---- a repository that cannot be written
+# ---- a read-only repository
 
-# The launcher there, in a terminal, with what stands in for rt before the others.
+# Starts the launcher there, in a terminal, with the command in place of rt first in PATH.
 start_there() { # NAME STATUS VARIABLE..
     setup="$(own_folders) PATH='$kit':\$PATH ${3:-}"
     start 8 100 "$clone/bidi-edit" f

@@ -1,8 +1,8 @@
 # shellcheck shell=sh
-# shellcheck disable=SC2034,SC2154 # words that other parts give and take
-# Sessions that cannot be replayed, and what a recovery beside FILE is found by.
+# shellcheck disable=SC2034,SC2154 # variables shared with other parts
+# Sessions that cannot be replayed, and sessions recovered beside FILE.
 
-# The text as it was opened is no text any more, so that no replay begins.
+# Makes the opened text invalid, so that no replay starts.
 spoil_session() {
     leave_session note
     session=$(session_of_check)
@@ -37,7 +37,7 @@ check_unreplayed() {
     close_editors first
 }
 
-# What was typed goes on as note.recovered, which is not saved before the end.
+# The text is recovered as note.recovered, which does not exist before the first save.
 check_beside() {
     leave_session note
     echo other | as_user tee note >/dev/null
@@ -70,7 +70,7 @@ check_beside() {
     rm -f note*
 }
 
-# A text of which no one else may read is recovered into a file that no one else reads.
+# A private text is recovered into a private file.
 check_mode() {
     rm -rf "$folder/state"
     printf 'ab\n' | as_user tee note >/dev/null
@@ -96,7 +96,7 @@ check_mode() {
     rm -f other
 }
 
-# What a launcher had only begun when it was killed goes at a later start; what is begun now stays.
+# A later start removes the unfinished sessions of killed launchers, and keeps recent ones.
 check_swept() {
     rm -rf "$folder/state"
     as_user mkdir -p -m 700 "$folder/state/bidi_edit"

@@ -1,15 +1,16 @@
 # shellcheck shell=sh
-# shellcheck disable=SC2034,SC2154 # words that other parts give and take
-# A round is all parts under one shell, as one user. A part is a file of this folder, NAME.sh, with a function check_NAME; a check in
-# it goes on only where `asked NAME` says that it is wanted.
+# shellcheck disable=SC2034,SC2154 # variables shared with other parts
+# A round is all parts under one shell, as one user. A part is a file of this folder, NAME.sh, with a function check_NAME; a
+# check in it runs only if `asked NAME` says that it is selected.
 #
-# What a part finds: `shell`, dash or bash; `who`, root or plain; `user`, the number of who edits, and `stranger`, that of another
-# plain user, empty where this script may be no one else; `folder`, of this round alone and the user's own, with `files`, where a
-# session of person.sh runs, and `private`, its TMPDIR; `launcher`, an installed copy that all may read, and `recorder`, one whose
-# program only records its input. `start LAUNCHER WORD..` of person.sh runs as the user. `round` counts from 1, for what is the same
-# in each. What a part mounts, it adds to `mounted`. Several editors at once, which share a state folder, are opened by open_editor.
+# Variables for parts: `shell`, dash or bash; `who`, root or plain; `user`, the number of the editing user, and `stranger`, the
+# number of another plain user, empty if this script cannot become one; `folder`, new for the round and owned by the user, with
+# `files`, where a session of person.sh runs, and `private`, its TMPDIR; `launcher`, an installed copy that all may read, and
+# `recorder`, one whose program only records its input. `start LAUNCHER WORD..` of person.sh runs as the user. `round` counts
+# from 1, for checks that are the same in each. A part appends its mounts to `mounted`. open_editor opens several editors that
+# share a state folder.
 
-# Before any round.
+# Runs once, before any round.
 install_copy() {
     installed=$room/installed
     sh "$top/scripts/install.sh" "$installed" >/dev/null || exit 1
@@ -18,23 +19,23 @@ install_copy() {
     round=0
 }
 
-# The words before a command that make it another user's.
+# Prints the words that run a command as another user.
 words_of_user() { # NUMBER
     [ "$1" = "$(id -u)" ] || echo "setpriv --reuid $1 --regid $1 --clear-groups"
 }
 
 as_user() { # COMMAND..
-    # shellcheck disable=SC2046 # words
+    # shellcheck disable=SC2046 # split into words
     $(words_of_user "$user") "$@"
 }
 
-# Only where there is one.
+# Runs a command as the stranger, if there is one.
 as_stranger() { # COMMAND..
-    # shellcheck disable=SC2046 # words
+    # shellcheck disable=SC2046 # split into words
     $(words_of_user "$stranger") "$@"
 }
 
-# Another user, whom only root can be.
+# Whether there is another user; only root can become one.
 has_stranger() { # NAME
     [ -z "$stranger" ] || return 0
     skip "$1" 'only root can be two users'
@@ -62,7 +63,7 @@ run_round() { # USER STRANGER
 
 # ---- several editors
 
-# An editor in a terminal of its own, with these words behind a prefix that goes before the shell. What it said stays to be seen.
+# Opens an editor in its own terminal with these words; PREFIX precedes the shell. Its messages stay visible.
 open_editor() { # NAME PREFIX WORD..
     name=$1 prefix=$2
     shift 2
@@ -80,7 +81,7 @@ open_editor() { # NAME PREFIX WORD..
 close_editors() { # NAME..
     for name; do terminal kill-session -t "$name" 2>/dev/null; done
     wait_for 40 has_no_editor
-    # what those left that were killed
+    # the remains of killed ones
     rm -rf "$folder"/private/*
 }
 
@@ -88,7 +89,7 @@ editors() {
     pgrep -f "$shell $launcher " | tr '\n' ' '
 }
 
-# The launcher of an editor, and not its parts.
+# Finds the launcher of an editor, without its subshells.
 # shellcheck disable=SC2009 # by their parents
 editor_process() {
     ps -eo pid=,ppid=,args= | grep -F -e "$shell $launcher " | grep -v -e grep -e unshare -e setpriv | first_parent
@@ -98,7 +99,7 @@ has_no_editor() {
     [ -z "$(editors)" ]
 }
 
-# All processes of the editor in a terminal, at once, so that its session is left as by the end of the machine.
+# Kills all processes of the editor in a terminal at once, as a crash of the machine does to its session.
 kill_editor() { # NAME
     # shellcheck disable=SC2009,SC2046 # by their terminal; words
     kill -s KILL $(ps -o pid=,args= -t "$(terminal display-message -p -t "$1" '#{pane_tty}' | cut -c 6-)" | grep -v "run.$1" | awk '{ print $1 }') 2>/dev/null
@@ -118,7 +119,7 @@ expect_in() { # NAME CHECK TEXT
     report "$2" $? "'$3' is not seen, but: $(terminal capture-pane -p -J -t "$1" | grep . | tr '\n' '|')"
 }
 
-# A session that is left with one letter typed into a file of `ab`.
+# Leaves a session with one letter typed into a file of `ab`.
 leave_session() { # FILE
     rm -rf "$folder/state" "$1"*
     printf 'ab\n' >"$1"

@@ -1,12 +1,12 @@
 # shellcheck shell=sh
-# shellcheck disable=SC2034,SC2154 # words that other parts give and take
-# Signals that come together, as a window's change and the end of its terminal do, and a terminal that takes no output.
+# shellcheck disable=SC2034,SC2154 # variables shared with other parts
+# Simultaneous signals, such as a resize and the end of the terminal, and a blocked terminal.
 
 launcher_of_person() {
     process_of "$shell .*bin/bidi-edit"
 }
 
-# All processes of the launcher that a check started, of which none may stay.
+# Lists all processes of the launcher that a check started, none of which may remain.
 processes_of_check() {
     pgrep -f "$folder/recorder/" | tr '\n' ' '
 }
@@ -27,7 +27,7 @@ open_recorder() {
     group=$(ps -o pgid= -p "$process" | tr -d ' ')
 }
 
-# Ends each of so many sessions by a signal that comes with others to the whole job, as a terminal and a shell send them.
+# Ends RUNS sessions by a signal that arrives with others at the whole job, as terminals and shells send them.
 end_with_others() { # NAME RUNS SIGNAL OTHER..
     name=$1 runs=$2 signal=$3 lost=0
     shift 3
@@ -53,7 +53,7 @@ close_with_size() { # RUNS
     same "signals, a size and the terminal's end, of $1 runs those that go on" "$lost" 0
 }
 
-# Many changes in a short time: the last one counts.
+# Many resizes in a short time: the last one wins.
 check_burst() {
     open_recorder
     for side in 31 32 33 34 35 36 37 38 39 40; do resize "$side" "1$side"; done
@@ -78,7 +78,7 @@ check_many_sizes() { # COUNT
     terminal kill-session -t person
 }
 
-# A TERM to the program as soon as it is one.
+# Sends TERM to the program as soon as it exists.
 end_young_program() { # RUNS
     lost=0
     for run in $(seq "$1"); do

@@ -1,8 +1,8 @@
 # shellcheck shell=sh
-# shellcheck disable=SC2034,SC2154 # words that other parts give and take
+# shellcheck disable=SC2034,SC2154 # variables shared with other parts
 # Folders and sessions that another user made or may write: they are not used, and nothing is written through a link.
 
-# A session of `note` with one key, as a launcher leaves it, whose notes and texts of replays would go to a file of the user's.
+# Plants a session of `note` with one key, as a launcher leaves it, whose files are links to a file of the user's.
 plant_session() { # FOLDER
     mkdir -p "$1/bidi_edit/20200101000000.AAAAAA"
     planted=$1/bidi_edit/20200101000000.AAAAAA
@@ -42,7 +42,7 @@ check_state_of_stranger() {
     export XDG_STATE_HOME="$state"
 }
 
-# The user's own, which others may write.
+# A folder of the user's that others may write.
 check_open_state() {
     rm -rf "$folder/state"
     plant_session "$folder/state"
@@ -56,7 +56,7 @@ check_open_state() {
     rm -rf "$folder/state"
 }
 
-# A folder in one of another user's, who could put another in its place.
+# A folder inside another user's, who could replace it.
 check_state_below_stranger() {
     has_stranger 'trust, a state folder below that of another user' || return 0
     rm -rf "$folder/state"
@@ -75,7 +75,7 @@ check_state_below_stranger() {
     rm -rf "$folder/state"
 }
 
-# A session of another user's, and one with a link in it, in a folder that is the user's alone by now.
+# A session of another user, and one with a link in it, in a folder that belongs to the user alone by now.
 check_planted_session() { # CHECK OWNER
     rm -rf "$folder/state"
     plant_session "$folder/state"
@@ -94,7 +94,7 @@ check_planted_session() { # CHECK OWNER
     rm -rf "$folder/state"
 }
 
-# What is asked comes before any key is obeyed, and replays leave nothing in the session.
+# Questions come before any key is replayed, and replays leave nothing in the session.
 check_question_first() {
     leave_session note
     session=$(session_of_check)

@@ -1,8 +1,8 @@
 # shellcheck shell=sh
-# shellcheck disable=SC2034,SC2154 # words that other parts give and take
-# Sessions of another version of the editor or its tables: the text where the session was left, or a word that nothing is sure.
+# shellcheck disable=SC2034,SC2154 # variables shared with other parts
+# Sessions of another version of the editor or its tables: recovered from the snapshot, or with a warning.
 
-# The program is killed, and the launcher leaves the session; then its note of versions is another's.
+# Kills the program, so that the launcher leaves the session, and replaces its versions.
 leave_other_version() {
     rm -rf "$folder/state" note*
     printf 'ab\n' | as_user tee note >/dev/null
@@ -44,7 +44,7 @@ check_snapshot() {
     close_editors first
 }
 
-# A text that is had back is kept also where no key is typed.
+# A recovered text is kept even if no key is typed.
 check_untouched() {
     as_user truncate -s 0 "$(session_of_check)/journal"
     as_user "$shell" "$launcher" --recover >"$folder/output" 2>&1 </dev/null
@@ -71,7 +71,7 @@ check_no_snapshot() {
     close_editors first
 }
 
-# Other tables are another version too.
+# Other tables count as another version.
 check_other_tables() {
     leave_other_version
     as_user mkdir "$folder/tables"

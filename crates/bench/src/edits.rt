@@ -1,9 +1,9 @@
-//! Edits of a text: the time of the last thousand, of taking them back, of opening and of copying.
+//! Edits of a text: the time of the last thousand, of undoing them, of opening and of copying.
 //!
-//! The edits put in or take out one byte at scattered offsets, put in a letter behind the one before, or put one in before
-//! all. Those of `turning` put a letter in at the next multiple of the golden ratio, as a part of the way through the text;
-//! those of `ranked` at as many bytes from the front as there are smaller multiples before it. Such orders make a tree deep
-//! that is balanced by those multiples.
+//! The edits insert or remove one byte at scattered offsets, type letters one after another, or insert each before all others.
+//! In `turning`, a letter goes to the next multiple of the golden ratio, as a fraction of the text's length. In `ranked`, its
+//! offset is the number of earlier turns with a smaller multiple. Both orders make a tree deep if it is balanced by those
+//! multiples.
 
 ghost use Rattle.std.specs.Prelude.{◌≤◌};
 
@@ -13,10 +13,10 @@ use bx_text::Text;
 use std::alloc::Global;
 use std::time::{CpuClock, Duration};
 
-/// How many of the edits are measured.
+/// Number of edits measured.
 const MEASURED: usize = 1000;
 
-/// A text of so many bytes, in lines.
+/// A text of `bytes` bytes, in lines.
 fn lines(alloc: Global, bytes: usize) -> Result<String> {
     let line = "0123456789 abcdefghijklmnopqrstuvwxyz and a word or two more.\n";
     let mut text = String::with_capacity(alloc, bytes)?;
@@ -29,24 +29,24 @@ fn lines(alloc: Global, bytes: usize) -> Result<String> {
     Ok(text)
 }
 
-/// An offset in a text of so many bytes, far from the one before it.
+/// An offset in a text of `len` bytes, far from the one before.
 fn scattered(turn: usize, len: usize) -> usize
     ensures { result ≤ len }
 {
     turn.wrapping_mul(0x9E37_79B9_7F4A_7C15) % (len.min(usize::MAX - 1) + 1)
 }
 
-/// The multiples of the golden ratio in units of 2^-32, without their whole parts.
+/// The fraction of a multiple of the golden ratio, in units of 2^-32.
 fn multiple(turn: usize) -> u64 {
     (turn as u64).wrapping_mul(0x9E37_79B1) % 0x1_0000_0000
 }
 
-/// The offset of a turn's multiple of the golden ratio, as a part of a text of so many bytes.
+/// The offset of a turn's multiple of the golden ratio, as a fraction of a text of `len` bytes.
 pub(crate) fn turning(turn: usize, len: usize) -> usize {
     (multiple(turn).wrapping_mul((len as u64).wrapping_add(1)) >> 32) as usize
 }
 
-/// For each turn, how many turns before it have a smaller multiple.
+/// For each turn, the number of earlier turns with a smaller multiple.
 fn ranks(alloc: Global, turns: usize) -> Result<Vec<usize>> {
     let mut sorted = Vec::<u64>::with_capacity(alloc, turns)?;
     let mut ranks = Vec::with_capacity(alloc, turns)?;
@@ -59,7 +59,7 @@ fn ranks(alloc: Global, turns: usize) -> Result<Vec<usize>> {
     Ok(ranks)
 }
 
-/// The edit of a turn at a scattered offset: each third one takes a byte out.
+/// Makes the edit of a turn at a scattered offset; every third one removes a byte.
 fn scatter(text: &mut Text, turn: usize) -> Result<()> {
     let at = scattered(turn, text.len());
     if turn % 3 == 2 && at < text.len() {
@@ -70,23 +70,23 @@ fn scatter(text: &mut Text, turn: usize) -> Result<()> {
     Ok(())
 }
 
-/// Puts a letter in at an offset.
+/// Inserts a letter at an offset.
 fn write_at(text: &mut Text, at: usize) -> Result<()> {
     text.insert(at, "x", at, at.wrapping_add(1))?;
     Ok(())
 }
 
-/// Where the edits are made.
+/// The offsets of the edits.
 #[derive(Clone, Copy, PartialEq)]
 enum Offsets {
     Scattered,
-    /// Behind the edit before.
+    /// After the previous edit.
     Typing,
-    /// Before all.
+    /// Before all letters.
     Backwards,
     /// At the next multiple of the golden ratio.
     Turning,
-    /// Behind as many bytes as there are smaller multiples.
+    /// At the turn's rank among the multiples.
     Ranked,
 }
 
@@ -108,13 +108,13 @@ impl Offsets {
     }
 }
 
-/// Edits to be made.
+/// The edits to make.
 #[derive(Drop)]
 struct Edits {
     offsets: Offsets,
-    /// Where typing begins.
+    /// The offset at which typing begins.
     middle: usize,
-    /// Of each turn, where the edits are at ranks.
+    /// The rank of each turn, for `Ranked`.
     ranks: Vec<usize>,
 }
 
@@ -131,7 +131,7 @@ impl Edits {
         })
     }
 
-    /// Makes the edits of some turns.
+    /// Makes the edits of the turns `from..to`.
     fn make(&self, text: &mut Text, from: usize, to: usize) -> Result<()> {
         for turn in from..to {
             match self.offsets {
@@ -149,13 +149,13 @@ impl Edits {
     }
 }
 
-/// A text that is not edited yet.
+/// Opens a text without edits.
 fn fresh<R: AllocGlobal>(rt: &R, bytes: usize) -> Result<Text> {
     let text = Text::open(rt.alloc(), lines(rt.alloc(), bytes)?)?;
     Ok(text)
 }
 
-/// Makes edits, and answers the time of the last of them.
+/// Makes edits and returns the time of the last ones.
 fn edited<R: CpuClock>(rt: &R, text: &mut Text, edits: &Edits, turns: usize) -> Result<Duration> {
     let unmeasured = turns.saturating_sub(MEASURED);
     edits.make(text, 0, unmeasured)?;
@@ -165,7 +165,7 @@ fn edited<R: CpuClock>(rt: &R, text: &mut Text, edits: &Edits, turns: usize) -> 
     Ok(end.saturating_sub(start))
 }
 
-/// Takes the latest edits back, and answers the time that this took.
+/// Makes edits and returns the time of undoing the last ones.
 fn undone<R: CpuClock>(rt: &R, text: &mut Text, edits: &Edits, turns: usize) -> Result<Duration> {
     edits.make(text, 0, turns)?;
     let start = rt.thread_cpu_time()?;
@@ -176,7 +176,7 @@ fn undone<R: CpuClock>(rt: &R, text: &mut Text, edits: &Edits, turns: usize) -> 
     Ok(end.saturating_sub(start))
 }
 
-/// Takes edits back and makes one more, and answers the time that this one took.
+/// Makes edits, undoes all of them, and returns the time of one more edit.
 fn forgotten<R: CpuClock>(
     rt: &R,
     text: &mut Text,
@@ -193,7 +193,7 @@ fn forgotten<R: CpuClock>(
     Ok(end.saturating_sub(start))
 }
 
-/// The time that a copy of all of a text takes after edits.
+/// Makes edits and returns the time of copying the whole text.
 fn copied<R: CpuClock>(rt: &R, text: &mut Text, edits: &Edits, turns: usize) -> Result<Duration> {
     edits.make(text, 0, turns)?;
     let start = rt.thread_cpu_time()?;
@@ -202,20 +202,20 @@ fn copied<R: CpuClock>(rt: &R, text: &mut Text, edits: &Edits, turns: usize) -> 
     Ok(end.saturating_sub(start))
 }
 
-/// What is measured.
+/// The measured work.
 #[derive(Clone, Copy)]
 enum Task {
-    /// The last of the edits.
+    /// The last edits.
     Edit,
-    /// Taking the latest edits back.
+    /// Undoing the last edits.
     Undo,
     /// A copy of the whole text.
     Copy,
-    /// An edit after all others were taken back.
+    /// An edit after all others were undone.
     Forget,
 }
 
-/// The task of a word, and where its edits are made.
+/// The task of a word, and the offsets of its edits.
 fn task_of(word: &str) -> Result<(Task, Offsets)> {
     if word == "undo" {
         Ok((Task::Undo, Offsets::Scattered))
@@ -233,7 +233,7 @@ fn task_of(word: &str) -> Result<(Task, Offsets)> {
     }
 }
 
-/// Does a task with so many edits, and tells of the text in the end.
+/// Runs a task and reports the text's final size.
 fn outcome_of<R: CpuClock + AllocGlobal>(
     rt: &R,
     task: Task,
@@ -250,7 +250,7 @@ fn outcome_of<R: CpuClock + AllocGlobal>(
     told(rt, text, time)
 }
 
-/// How many bytes and pieces a text has.
+/// Reports a text's bytes and pieces.
 fn told<R: AllocGlobal>(rt: &R, text: &Text, time: Duration) -> Result<Outcome> {
     let bytes = text.len();
     let pieces = text.pieces().count();
@@ -258,8 +258,7 @@ fn told<R: AllocGlobal>(rt: &R, text: &Text, time: Duration) -> Result<Outcome> 
     Ok(Outcome { line, time })
 }
 
-/// What a task with a text of so many bytes and so many edits gives. It has one way out once the text is open, since each
-/// would be a proof of what is dropped there.
+/// Runs a task with `turns` edits of a text of `bytes` bytes.
 fn after_opening<R: CpuClock + AllocGlobal>(
     rt: &R,
     name: &str,
@@ -272,7 +271,7 @@ fn after_opening<R: CpuClock + AllocGlobal>(
     outcome_of(rt, task, &mut text, &edits, turns)
 }
 
-/// What opening a text of so many bytes gives.
+/// Measures opening a text of `bytes` bytes.
 fn opened<R: CpuClock + AllocGlobal>(rt: &R, bytes: usize) -> Result<Outcome> {
     let lines = lines(rt.alloc(), bytes)?;
     let start = rt.thread_cpu_time()?;
@@ -280,15 +279,15 @@ fn opened<R: CpuClock + AllocGlobal>(rt: &R, bytes: usize) -> Result<Outcome> {
     told_since(rt, &text, start)
 }
 
-/// How many bytes and pieces a text has, and the time since it was begun.
+/// Reports a text's bytes and pieces, and the time since `start`.
 fn told_since<R: CpuClock + AllocGlobal>(rt: &R, text: &Text, start: Duration) -> Result<Outcome> {
     let end = rt.thread_cpu_time()?;
     told(rt, text, end.saturating_sub(start))
 }
 
-/// What the words ask for: how many bytes and pieces the text has in the end, and the time of what is measured: opening the
-/// text, the last thousand edits, taking back the last thousand of them (`undo`, `unturn`, `unrank`), copying the whole text
-/// after scattered edits, or the first edit after all of the scattered ones were taken back (`forget`).
+/// Carries out the words: measures opening the text, the last thousand edits, undoing the last thousand (`undo`, `unturn`,
+/// `unrank`), copying the whole text after scattered edits, or the first edit after all scattered ones were undone (`forget`).
+/// Reports the text's bytes and pieces.
 pub(crate) fn run<R: CpuClock + AllocGlobal>(rt: &R, words: &[String]) -> Result<Outcome> {
     match words {
         [open, bytes] if open.as_str() == "open" => opened(rt, number(bytes)?),

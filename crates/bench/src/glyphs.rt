@@ -1,4 +1,4 @@
-//! The glyphs of each text.
+//! The glyphs of each script.
 
 ghost use Rattle.std.specs.Prelude.{◌≡◌, ◌≤◌, true};
 ghost use Rattle.bx_grid.specs.Columns.{is_one_glyph, run_width};
@@ -32,7 +32,7 @@ impl Script {
     }
 }
 
-/// A glyph's text and how many columns it takes.
+/// A glyph's text and its width in columns.
 #[derive(Clone, Copy)]
 pub struct Glyph {
     pub text: &'static str,
@@ -40,7 +40,7 @@ pub struct Glyph {
 }
 
 impl Glyph {
-    /// The glyph that stands everywhere, or the other one.
+    /// The script's usual glyph, or another one.
     pub fn of(script: Script, other: bool) -> Glyph
         ensures glyph { is_one_glyph result.text.now ≡ true }
         ensures counted { result.columns ≡ run_width result.text.now }

@@ -1,5 +1,5 @@
-//! Levels of a paragraph: PATTERN CHARACTERS TIMES. The cost of a character is the difference of two runs that differ in
-//! TIMES alone, by the difference in characters. Cost that does not depend on CHARACTERS is linear time.
+//! Levels of a paragraph: PATTERN CHARACTERS TIMES. The cost of a character is the difference of two runs that differ in TIMES
+//! alone, divided by the difference in characters. The time is linear if that cost does not depend on CHARACTERS.
 
 use crate::outcome::{Outcome, number};
 use crate::texts::text;
@@ -11,7 +11,7 @@ use bx_ucd::sample::{BRACKETS, CLASSES, MIRRORING};
 use std::alloc::Global;
 use std::time::CpuClock;
 
-/// The small tables, with a full stop and a slash as Unicode has them.
+/// The small tables, with a full stop and a slash of their real classes.
 fn tables(alloc: Global) -> Result<Tables> {
     let mut classes = String::from_str(alloc, CLASSES)?;
     classes.push_str("002E..002F ; CS\n")?;
@@ -23,7 +23,7 @@ fn tables(alloc: Global) -> Result<Tables> {
     )?)
 }
 
-/// The sum of all levels, which depends on each of them.
+/// The sum of all levels, so that a result depends on each.
 fn sum_of(each: &[Level]) -> u64 {
     let mut sum: u64 = 0;
     for level in each {
@@ -32,7 +32,7 @@ fn sum_of(each: &[Level]) -> u64 {
     sum
 }
 
-/// Finds the levels of a text some times, and sums up the last: a sum each time would be a seventh of what is measured.
+/// Finds the levels of a text `times` times, and sums the last ones only: summing each time would add a seventh to the cost.
 fn sum(alloc: Global, tables: &Tables, body: &str, times: usize) -> Result<u64> {
     let mut last = levels(alloc, body, tables, Base::Auto)?;
     for _ in 1..times {
@@ -41,7 +41,7 @@ fn sum(alloc: Global, tables: &Tables, body: &str, times: usize) -> Result<u64> 
     Ok(sum_of(&last.each))
 }
 
-/// The sum of the levels of a text, and the time of finding them.
+/// Measures the levels of a text. Reports their sum.
 fn outcome_of<R: CpuClock + AllocGlobal>(
     rt: &R,
     tables: &Tables,
@@ -58,8 +58,7 @@ fn outcome_of<R: CpuClock + AllocGlobal>(
     })
 }
 
-/// What the words ask for: the sum of the levels, and the time of finding them. What it holds is held with one way out, since
-/// each would be a proof of what is dropped there.
+/// Carries out the words. Reports the sum of the levels.
 pub(crate) fn run<R: CpuClock + AllocGlobal>(rt: &R, words: &[String]) -> Result<Outcome> {
     let [pattern, count, times] = words else {
         bail!("usage: bench levels PATTERN CHARACTERS TIMES");

@@ -1,4 +1,4 @@
-//! Measures a layer.
+//! Measures one layer of the editor.
 //!
 //!     bench [--time] text TASK BYTES [EDITS]
 //!     bench [--time] paragraphs TASK BYTES LINE [EDITS]
@@ -10,9 +10,9 @@
 //!     bench [--time] rows TASK TEXT LETTERS TIMES
 //!     bench each
 //!
-//! It prints a line that depends on all that was done, and with --time also the processor time of what is measured. `each`
-//! takes every layer once with small numbers. Where instructions are wanted, they are the difference of two runs under
-//! `valgrind --tool=callgrind` that differ in one number.
+//! The program prints a line that depends on all work done; with --time also the processor time of the measured part. `each`
+//! runs every layer once with small numbers. To count instructions, subtract two runs under `valgrind --tool=callgrind` that
+//! differ in one number.
 #![tactic(auto)]
 
 mod edits;
@@ -33,7 +33,7 @@ use std::env;
 use std::rt::Env;
 use std::time::CpuClock;
 
-/// What the words ask for.
+/// Carries out the words.
 fn measured<R: CpuClock + AllocGlobal>(rt: &R, words: &[String]) -> Result<Outcome> {
     match words {
         [layer, rest @ ..] if layer.as_str() == "text" => edits::run(rt, rest),
@@ -50,7 +50,7 @@ fn measured<R: CpuClock + AllocGlobal>(rt: &R, words: &[String]) -> Result<Outco
     }
 }
 
-/// One run of each layer.
+/// The runs of `each`.
 const EACH: [&str; 8] = [
     "text scattered 100000 2000",
     "paragraphs edit 10000 50 20",
@@ -62,7 +62,7 @@ const EACH: [&str; 8] = [
     "rows page mixed 76 1",
 ];
 
-/// Takes every layer once.
+/// Runs every layer once.
 fn each<R: Print + CpuClock + AllocGlobal>(rt: &R) -> Result<()> {
     for line in EACH {
         let mut words = Vec::new(rt.alloc());
@@ -76,7 +76,7 @@ fn each<R: Print + CpuClock + AllocGlobal>(rt: &R) -> Result<()> {
     Ok(())
 }
 
-/// Takes the layer that the words name.
+/// Runs the layer that the words name.
 fn one<R: Print + CpuClock + AllocGlobal>(rt: &R, words: &[String], is_timed: bool) -> Result<()> {
     let outcome = measured(rt, words)?;
     let line = outcome.line.as_str();

@@ -1,6 +1,6 @@
-//! Painting of pictures of 24 rows and 80 columns: TASK TEXT TIMES, where TASK is `changes` (two pictures that differ in one
-//! glyph), `same` (two that do not differ), `whole`, `read` (a screen reads a whole painting), `picture` (a picture is made)
-//! or `blank` (a grid of blanks is made), and TEXT is `ascii`, `hebrew`, `arabic`, `wide` or `marked`.
+//! Painting of pictures of 24 rows and 80 columns: TASK TEXT TIMES. TASK is `changes` (two pictures that differ in one glyph),
+//! `same` (two equal ones), `whole`, `read` (a screen reads a whole painting), `picture` (makes a picture) or `blank` (makes a
+//! blank grid). TEXT is `ascii`, `hebrew`, `arabic`, `wide` or `marked`.
 
 ghost use Rattle.std.specs.Prelude.{◌≡◌, ◌≤◌, true, IfOk};
 ghost use Rattle.bx_grid.specs.Columns.{is_one_glyph, run_width};
@@ -15,7 +15,7 @@ use std::time::CpuClock;
 
 /// Puts a glyph at a cell.
 ///
-/// Errors: the cell is not there, or has no room for the glyph; `OutOfMemory`.
+/// Errors: the cell is outside the grid, or has no room for the glyph; `OutOfMemory`.
 fn put_glyph(grid: &mut Grid, cell: Cell, glyph: Glyph, negative: bool) -> Result<()>
     requires glyph { is_one_glyph glyph.text.now ≡ true }
     requires counted { glyph.columns ≡ run_width glyph.text.now }
@@ -30,7 +30,8 @@ fn put_glyph(grid: &mut Grid, cell: Cell, glyph: Glyph, negative: bool) -> Resul
     Ok(())
 }
 
-/// Puts glyphs in a line, but for the five or six columns at its end. One of them may be another, and negative.
+/// Fills a line with glyphs except for its last five or six columns. If `marked`, the glyph at column 41 is another one, and
+/// negative.
 fn put_line(grid: &mut Grid, script: Script, line: u16, marked: bool) -> Result<()> {
     let mut column = 1;
     while column < 75 {
@@ -42,7 +43,8 @@ fn put_line(grid: &mut Grid, script: Script, line: u16, marked: bool) -> Result<
     Ok(())
 }
 
-/// A picture full of glyphs, but for five or six blanks at each row's end. One of them may be another, and negative.
+/// A picture full of glyphs except for the last five or six columns of each row. If `marked`, one glyph is another one, and
+/// negative.
 fn full(alloc: Global, script: Script, marked: bool) -> Result<Picture> {
     let mut grid = Grid::blank(alloc, 24, 80)?;
     for line in 1..25 {
@@ -58,7 +60,7 @@ fn full(alloc: Global, script: Script, marked: bool) -> Result<Picture> {
     Ok(Picture::new(grid, cursor))
 }
 
-/// How many bytes lead from one picture to another.
+/// Number of bytes that change one picture to another.
 fn changes_len(alloc: Global, old: &Picture, new: &Picture) -> Result<usize> {
     let (old_grid, new_grid) = (old.grid(), new.grid());
     if old_grid.height() != new_grid.height() || old_grid.width() != new_grid.width() {
@@ -67,7 +69,7 @@ fn changes_len(alloc: Global, old: &Picture, new: &Picture) -> Result<usize> {
     Ok(changes(alloc, old, new)?.len())
 }
 
-/// What is done some times.
+/// The measured work.
 #[derive(Clone, Copy)]
 enum Task {
     Changes,
@@ -79,7 +81,7 @@ enum Task {
 }
 
 impl Task {
-    /// The task of a name.
+    /// The task with this name.
     fn named(name: &str) -> Option<Task> {
         if name == "changes" {
             Some(Task::Changes)
@@ -92,7 +94,7 @@ impl Task {
         }
     }
 
-    /// The task of the name of one that paints nothing.
+    /// The task with this name, among those that paint nothing.
     fn of_grids(name: &str) -> Option<Task> {
         if name == "read" {
             Some(Task::Read)
@@ -106,7 +108,7 @@ impl Task {
     }
 }
 
-/// What the tasks work on.
+/// The values that the tasks work on.
 #[derive(Drop)]
 struct Work {
     script: Script,
@@ -131,13 +133,13 @@ impl Work {
         })
     }
 
-    /// How many bytes the screen reads.
+    /// Has the screen read the painting. Returns the number of bytes.
     fn read(&mut self) -> Result<usize> {
         self.screen.read(self.painting.as_slice())?;
         Ok(self.painting.len())
     }
 
-    /// Does a task once: how many bytes or columns that makes or reads.
+    /// Runs a task once. Returns the number of bytes or columns made or read.
     fn once(&mut self, alloc: Global, task: Task) -> Result<usize> {
         match task {
             Task::Changes => changes_len(alloc, &self.old, &self.new),
@@ -149,7 +151,7 @@ impl Work {
         }
     }
 
-    /// Does a task some times: how many bytes or columns that makes or reads in all.
+    /// Runs a task `times` times. Returns the number of bytes or columns made or read in all.
     fn often(&mut self, alloc: Global, task: Task, times: usize) -> Result<u64> {
         let mut sum: u64 = 0;
         for _ in 0..times {
@@ -159,13 +161,13 @@ impl Work {
     }
 }
 
-/// How many bytes or columns a task that is done some times makes or reads.
+/// Runs a task `times` times on new pictures. Returns the number of bytes or columns made or read in all.
 fn sum(alloc: Global, task: Task, script: Script, times: usize) -> Result<u64> {
     let mut work = Work::new(alloc, script)?;
     work.often(alloc, task, times)
 }
 
-/// What the words ask for: how many bytes or columns there were in all, and the time of making the pictures and of the task.
+/// Carries out the words. Reports the bytes or columns in all, and the time of making the pictures and of the task.
 pub(crate) fn run<R: CpuClock + AllocGlobal>(rt: &R, words: &[String]) -> Result<Outcome> {
     let [task, text, times] = words else {
         bail!("usage: bench painting TASK TEXT TIMES");

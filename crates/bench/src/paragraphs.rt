@@ -1,7 +1,7 @@
-//! The index of paragraphs: the time of its making, and of following edits.
+//! The index of paragraphs: the time of building it, and of following edits.
 //!
-//! The text has so many bytes, in lines of LINE bytes. Each edit puts a line feed into the text's middle, or takes the whole
-//! text out and takes that back.
+//! The text has BYTES bytes, in lines of LINE bytes. Each edit inserts a line feed in the text's middle, or removes the whole
+//! text and undoes that.
 
 ghost use Rattle.std.specs.Prelude.{◌≡◌, OnOk};
 ghost use Rattle.bx_paras.specs.Paragraphs.{lengths};
@@ -14,7 +14,7 @@ use bx_ucd::{BidiData, sample_tables};
 use std::alloc::Global;
 use std::time::{CpuClock, Duration};
 
-/// A text of so many bytes, in lines of so many.
+/// A text of `bytes` bytes, in lines of `line` bytes.
 fn lines(alloc: Global, bytes: usize, line: usize) -> Result<String> {
     let mut text = String::with_capacity(alloc, bytes)?;
     for at in 0..bytes {
@@ -27,7 +27,7 @@ fn lines(alloc: Global, bytes: usize, line: usize) -> Result<String> {
     Ok(text)
 }
 
-/// Puts a line feed into the middle of a text, and has the index follow.
+/// Inserts a line feed in the middle of a text, and updates the index.
 fn edit<D: BidiData>(text: &mut Text, index: &mut Index, tables: &D) -> Result<()>
     requires { index.old.paragraphs ≡ lengths (D.data tables.now) text.old.edited.text }
     ensures { OnOk result (index.new.paragraphs ≡ lengths (D.data tables.now) text.new.edited.text) }
@@ -41,7 +41,7 @@ fn edit<D: BidiData>(text: &mut Text, index: &mut Index, tables: &D) -> Result<(
     Ok(())
 }
 
-/// Makes so many edits.
+/// Makes `edits` such edits.
 fn edit_often<D: BidiData>(
     text: &mut Text,
     index: &mut Index,
@@ -57,7 +57,7 @@ fn edit_often<D: BidiData>(
     Ok(())
 }
 
-/// Takes the whole text out, and has the index follow.
+/// Removes the whole text, and updates the index.
 fn clear<D: BidiData>(text: &mut Text, index: &mut Index, tables: &D) -> Result<()>
     requires { index.old.paragraphs ≡ lengths (D.data tables.now) text.old.edited.text }
     ensures { OnOk result (index.new.paragraphs ≡ lengths (D.data tables.now) text.new.edited.text) }
@@ -70,12 +70,12 @@ fn clear<D: BidiData>(text: &mut Text, index: &mut Index, tables: &D) -> Result<
     Ok(())
 }
 
-/// Takes the latest edit back, and has the index follow.
+/// Undoes the latest edit, and updates the index.
 fn take_back<D: BidiData>(text: &mut Text, index: &mut Index, tables: &D) -> Result<()>
     requires { index.old.paragraphs ≡ lengths (D.data tables.now) text.old.edited.text }
     ensures { OnOk result (index.new.paragraphs ≡ lengths (D.data tables.now) text.new.edited.text) }
 {
-    // before the index makes its room, so that what it gives back stands behind all else
+    // reserves before the index does, so that the index frees memory at the heap's end
     text.ready(0)?;
     let _utf8 = text.len();
     let Some(next) = text.next_undo() else {
@@ -89,7 +89,7 @@ fn take_back<D: BidiData>(text: &mut Text, index: &mut Index, tables: &D) -> Res
     Ok(())
 }
 
-/// Takes the whole text out and takes that back, so many times.
+/// Removes the whole text and undoes that, `edits` times.
 fn restore_often<D: BidiData>(
     text: &mut Text,
     index: &mut Index,
@@ -106,7 +106,7 @@ fn restore_often<D: BidiData>(
     Ok(())
 }
 
-/// What is measured, after the index was built.
+/// The work measured after the index is built.
 #[derive(Clone, Copy)]
 enum Task {
     Build,
@@ -115,7 +115,7 @@ enum Task {
     Walk,
 }
 
-/// Goes over all paragraphs and back to the first: how many there are.
+/// Walks over all paragraphs and back to the first. Returns their number.
 fn walked(index: &Index) -> usize {
     let mut seen: usize = 1;
     let mut walk = index.walk_at_offset(0);
@@ -131,7 +131,7 @@ fn walked(index: &Index) -> usize {
     seen.saturating_sub(walk.number())
 }
 
-/// Does what is measured after the index was built: how many paragraphs there are in the end, or were met.
+/// Runs a task over a built index. Returns the final number of paragraphs, or the number walked over.
 fn follow<D: BidiData>(text: &mut Text, index: &mut Index, tables: &D, task: Task) -> Result<usize>
     requires { index.old.paragraphs ≡ lengths (D.data tables.now) text.old.edited.text }
 {
@@ -144,7 +144,7 @@ fn follow<D: BidiData>(text: &mut Text, index: &mut Index, tables: &D, task: Tas
     Ok(index.count())
 }
 
-/// How many paragraphs there are in the end, and the times until the index was built and until the end.
+/// The number of paragraphs, and the times after building the index and at the end.
 fn ended<R: CpuClock, D: BidiData>(
     rt: &R,
     text: &mut Text,
@@ -160,7 +160,7 @@ fn ended<R: CpuClock, D: BidiData>(
     Ok((count, built, end))
 }
 
-/// How many paragraphs there are in the end, and the time of the build or of what follows it.
+/// The number of paragraphs, and the time of building the index or of the work after that.
 fn measured<R: CpuClock + AllocGlobal>(
     rt: &R,
     text: &mut Text,
@@ -176,7 +176,7 @@ fn measured<R: CpuClock + AllocGlobal>(
     })
 }
 
-/// The task of a name, with how many edits it makes where it makes some.
+/// The task with this name; some take a number of edits.
 fn task_of(name: &str, edits: Option<usize>) -> Option<Task> {
     match edits {
         None if name == "build" => Some(Task::Build),
@@ -187,7 +187,7 @@ fn task_of(name: &str, edits: Option<usize>) -> Option<Task> {
     }
 }
 
-/// What is measured, and the numbers of a text, by the words.
+/// Parses the task, and the text's length and line length.
 fn asked(words: &[String]) -> Result<(Task, usize, usize)> {
     let (name, bytes, line, edits) = match words {
         [name, bytes, line] => (name, bytes, line, None),
@@ -198,14 +198,14 @@ fn asked(words: &[String]) -> Result<(Task, usize, usize)> {
     Ok((task, number(bytes)?, number(line)?))
 }
 
-/// What is measured of a text.
+/// Measures a task over a text. Reports the number of paragraphs.
 fn outcome_of<R: CpuClock + AllocGlobal>(rt: &R, text: &mut Text, task: Task) -> Result<Outcome> {
     let (count, time) = measured(rt, text, task)?;
     let line = format!(in rt.alloc(); "{count} paragraphs")?;
     Ok(Outcome { line, time })
 }
 
-/// What the words ask for: how many paragraphs there are in the end, and the time of the build or of the edits.
+/// Carries out the words. Reports the number of paragraphs.
 pub(crate) fn run<R: CpuClock + AllocGlobal>(rt: &R, words: &[String]) -> Result<Outcome> {
     let (task, bytes, line) = asked(words)?;
     let mut text = Text::open(rt.alloc(), lines(rt.alloc(), bytes, line)?)?;

@@ -1,6 +1,6 @@
-//! What is done to show a row, each part by itself: PART TEXT BYTES TIMES, where PART is `units_of_row`, `row_levels_behind`,
-//! `visual` or `draw` (which has `visual` in it) and TEXT one of those of `units`. A part is done for each row of the text's
-//! lines, in a window of 80 columns. What it is given is made once, so it is not in the difference of two runs.
+//! The parts of showing a row: PART TEXT BYTES TIMES. PART is `units_of_row`, `row_levels_behind`, `visual` or `draw` (which
+//! includes `visual`), and TEXT is a text of `units`. A part runs for each row of the text's lines, in a window of 80 columns.
+//! Its inputs are computed once, so they cancel in the difference of two runs.
 
 ghost use Rattle.std.specs.Prelude.{◌≡◌, ◌<◌, All, length, Some, slice_get};
 ghost use Rattle.bx_cells.specs.Units.{HasFace, StandsIn};
@@ -30,7 +30,7 @@ enum Part {
 }
 
 impl Part {
-    /// The part of a name.
+    /// The part with this name.
     fn named(name: &str) -> Option<Part> {
         match name {
             "units_of_row" => Some(Part::Units),
@@ -42,8 +42,7 @@ impl Part {
     }
 }
 
-/// Does a part of a row once: how many units, levels or glyphs that gives, or which unit stands
-/// leftmost.
+/// Runs a part once. Returns the number of units, levels or glyphs, or the leftmost unit.
 fn once<D: BidiData>(
     alloc: Global,
     part: Part,
@@ -81,7 +80,7 @@ fn once<D: BidiData>(
     }
 }
 
-/// Does a part of a row some times.
+/// Runs a part of a row `times` times.
 fn often<D: BidiData>(
     alloc: Global,
     part: Part,
@@ -108,7 +107,7 @@ fn often<D: BidiData>(
     Ok(sum)
 }
 
-/// Does a part of each row of a line some times.
+/// Runs a part of each row of a line `times` times.
 fn sum_of_line(
     alloc: Global,
     part: Part,
@@ -126,7 +125,7 @@ fn sum_of_line(
     Ok(sum)
 }
 
-/// Does a part of each row of a text some times.
+/// Runs a part of each row of a text `times` times.
 fn sum(alloc: Global, part: Part, text: &str, tables: &Tables, times: usize) -> Result<u64> {
     let mut sum: u64 = 0;
     for line in text.split('\n') {
@@ -135,7 +134,7 @@ fn sum(alloc: Global, part: Part, text: &str, tables: &Tables, times: usize) -> 
     Ok(sum)
 }
 
-/// The sum of what a part gives, and the time of making what it is given and of the part.
+/// Measures a part, with the computation of its inputs. Reports the sum of its results.
 fn outcome_of<R: CpuClock + AllocGlobal>(
     rt: &R,
     part: Part,
@@ -153,7 +152,7 @@ fn outcome_of<R: CpuClock + AllocGlobal>(
     })
 }
 
-/// What the words ask for.
+/// Carries out the words.
 pub(crate) fn run<R: CpuClock + AllocGlobal>(rt: &R, words: &[String]) -> Result<Outcome> {
     let [part, text, bytes, times] = words else {
         bail!("usage: bench row PART TEXT BYTES TIMES");

@@ -1,6 +1,6 @@
-//! The rows of a paragraph in a window of 80 columns: TASK TEXT LETTERS TIMES, where TASK is `resolved` (a paragraph is laid
-//! out), `page` (each row of one that is laid out already is drawn) or `slots` (the slots of each row are told), and TEXT is
-//! `ascii`, `hebrew` or `mixed`.
+//! The rows of a paragraph in a window of 80 columns: TASK TEXT LETTERS TIMES. TASK is `resolved` (lays out the paragraph),
+//! `page` (draws each row of a laid-out paragraph) or `slots` (finds the slots of each row), and TEXT is `ascii`, `hebrew` or
+//! `mixed`.
 
 ghost use Rattle.bx_paragraph.specs.Layout.{IsLayoutBy};
 
@@ -12,7 +12,7 @@ use bx_ucd::{BidiData, sample_tables};
 use std::alloc::{AllocError, Global};
 use std::time::CpuClock;
 
-/// What a text repeats.
+/// The words that a text repeats.
 fn words_of(name: &str) -> &'static str {
     if name == "hebrew" {
         "\u{5e9}\u{5dc}\u{5d5}\u{5dd} \u{5e2}\u{5d5}\u{5dc}\u{5dd} "
@@ -23,7 +23,7 @@ fn words_of(name: &str) -> &'static str {
     }
 }
 
-/// A text of so many letters.
+/// A text of `count` letters.
 fn letters(alloc: Global, words: &str, count: usize) -> Result<String, AllocError> {
     let mut text = String::new(alloc);
     let length = words.chars().count().max(1);
@@ -35,7 +35,7 @@ fn letters(alloc: Global, words: &str, count: usize) -> Result<String, AllocErro
     Ok(text)
 }
 
-/// How many glyphs the rows show.
+/// Draws all rows. Returns the number of glyphs.
 fn page<D: BidiData>(layout: &ParagraphLayout, tables: &D) -> Result<usize>
     requires { IsLayoutBy (D.data tables.now) layout.now }
 {
@@ -46,7 +46,7 @@ fn page<D: BidiData>(layout: &ParagraphLayout, tables: &D) -> Result<usize>
     Ok(count)
 }
 
-/// How many slots the rows have.
+/// Finds the slots of all rows. Returns their number.
 fn slots<D: BidiData>(layout: &ParagraphLayout, tables: &D) -> Result<usize>
     requires { IsLayoutBy (D.data tables.now) layout.now }
 {
@@ -57,7 +57,7 @@ fn slots<D: BidiData>(layout: &ParagraphLayout, tables: &D) -> Result<usize>
     Ok(count)
 }
 
-/// Does a task once, and tells of its answer.
+/// Runs a task once. Returns the number of glyphs, slots or rows.
 fn once<D: BidiData>(
     alloc: Global,
     task: &str,
@@ -77,7 +77,7 @@ fn once<D: BidiData>(
     }
 }
 
-/// Does a task some times: a count of all that was shown, and the time that it took.
+/// Measures a task run `times` times. Reports the sum of its results.
 fn rounds<R: CpuClock + AllocGlobal, D: BidiData>(
     rt: &R,
     task: &str,
@@ -100,7 +100,7 @@ fn rounds<R: CpuClock + AllocGlobal, D: BidiData>(
     })
 }
 
-/// What the words ask for.
+/// Carries out the words.
 pub(crate) fn run<R: CpuClock + AllocGlobal>(rt: &R, words: &[String]) -> Result<Outcome> {
     let [task, text, count, times] = words else {
         bail!("usage: bench rows TASK TEXT LETTERS TIMES");

@@ -1,4 +1,4 @@
-//! The texts whose levels are found.
+//! The texts for measuring levels.
 use std::alloc::{AllocError, Global};
 
 /// The characters that a pattern repeats.
@@ -60,7 +60,7 @@ fn unit_of(pattern: &str) -> &'static [char] {
     }
 }
 
-/// A beginning, and then a pair of brackets over and over.
+/// A text of `count` characters: `start`, then pairs of brackets.
 fn pairs_behind(alloc: Global, start: &str, count: usize) -> Result<String, AllocError> {
     let mut body = String::from_str(alloc, start)?;
     for k in start.chars().count()..count {
@@ -69,7 +69,7 @@ fn pairs_behind(alloc: Global, start: &str, count: usize) -> Result<String, Allo
     Ok(body)
 }
 
-/// A text of terminators with a digit at its end, after a Hebrew letter.
+/// A Hebrew letter, then terminators, and a digit at the end.
 fn before_a_number(alloc: Global, count: usize) -> Result<String, AllocError> {
     let mut body = String::new(alloc);
     body.push('\u{5d0}')?;
@@ -80,7 +80,7 @@ fn before_a_number(alloc: Global, count: usize) -> Result<String, AllocError> {
     Ok(body)
 }
 
-/// Text in 60 brackets around it, again and again: a thousand blanks and a Hebrew letter.
+/// A text of `count` characters that repeats 60 opening brackets, a thousand blanks, a Hebrew letter and 60 closing brackets.
 fn deep_brackets(alloc: Global, count: usize) -> Result<String, AllocError> {
     let mut body = String::new(alloc);
     let mut k: usize = 0;
@@ -99,7 +99,7 @@ fn deep_brackets(alloc: Global, count: usize) -> Result<String, AllocError> {
     Ok(body)
 }
 
-/// Two letters and 62 brackets that open, and then closers that none of them is for.
+/// Two letters and 62 opening brackets, then closing brackets of another kind.
 fn idle_closers(alloc: Global, count: usize) -> Result<String, AllocError> {
     let mut body = String::new(alloc);
     body.push_str("a\u{5d0}")?;
@@ -109,7 +109,7 @@ fn idle_closers(alloc: Global, count: usize) -> Result<String, AllocError> {
     Ok(body)
 }
 
-/// A letter, 60 brackets that open, each followed by a pair round a Hebrew letter, blanks, and 60 closers.
+/// A letter, 60 opening brackets each followed by a pair around a Hebrew letter, blanks, and 60 closing brackets.
 fn blanks_inside(alloc: Global, count: usize) -> Result<String, AllocError> {
     let mut body = String::new(alloc);
     body.push('a')?;
@@ -125,7 +125,7 @@ fn blanks_inside(alloc: Global, count: usize) -> Result<String, AllocError> {
     Ok(body)
 }
 
-/// 62 isolates in one another, again and again.
+/// Repeats 62 nested isolates.
 fn deep_isolates(alloc: Global, count: usize) -> Result<String, AllocError> {
     let mut body = String::new(alloc);
     let mut k: usize = 0;
@@ -136,7 +136,7 @@ fn deep_isolates(alloc: Global, count: usize) -> Result<String, AllocError> {
     Ok(body)
 }
 
-/// A text of a pattern.
+/// The text of a pattern.
 pub fn text(alloc: Global, pattern: &str, count: usize) -> Result<String, AllocError> {
     if pattern == "deep" {
         return deep_brackets(alloc, count);

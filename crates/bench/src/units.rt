@@ -1,4 +1,5 @@
-//! Units and rows of a text in lines: TASK TEXT BYTES TIMES, in a window of 80 columns. Splitting into lines is in each task.
+//! Units and rows of a text in lines: TASK TEXT BYTES TIMES, in a window of 80 columns. Each task includes splitting the text
+//! into lines.
 
 use crate::outcome::{Outcome, number};
 use anyhow::{Context, Result, bail};
@@ -9,13 +10,13 @@ use std::alloc::{AllocError, Global};
 use std::time::CpuClock;
 use unicode_segmentation::UnicodeSegmentation;
 
-/// The columns of the window.
+/// The window's width in columns.
 const WIDTH: u16 = 80;
 
-/// How much longer or shorter than usual a line is, in characters; one in eight is wider than the window.
+/// Number of characters by which a line exceeds its minimum length; one line in eight is wider than the window.
 const TURNS: [usize; 8] = [0, 4, 1, 5, 3, 20, 2, 6];
 
-/// The words that a text repeats, and how many characters its lines have at least.
+/// The words that a text repeats, and the minimum length of its lines in characters.
 fn words_of(name: &str) -> Option<(&'static str, usize)> {
     if name == "ascii" {
         Some((
@@ -62,7 +63,7 @@ fn words_of(name: &str) -> Option<(&'static str, usize)> {
     }
 }
 
-/// A text of lines, of at least so many bytes.
+/// A text of at least `bytes` bytes, in lines.
 fn text(alloc: Global, words: &str, least: usize, bytes: usize) -> Result<String, AllocError> {
     let mut text = String::new(alloc);
     let mut line: usize = 0;
@@ -85,18 +86,18 @@ fn text(alloc: Global, words: &str, least: usize, bytes: usize) -> Result<String
     Ok(text)
 }
 
-/// A text of a name in lines, of at least so many bytes.
+/// The text with this name, of at least `bytes` bytes, in lines.
 pub(crate) fn text_of(alloc: Global, name: &str, bytes: usize) -> Result<String> {
     let (words, least) = words_of(name).context("no such text")?;
     Ok(text(alloc, words, least, bytes)?)
 }
 
-/// What is done with each line.
+/// The work done with each line.
 #[derive(Clone, Copy)]
 enum Task {
     /// Nothing.
     Split,
-    /// The clusters by the kit's iterator, each with its face.
+    /// The clusters of `unicode_segmentation`'s iterator, each with its face.
     Iterator,
     Units,
     Wrap,
@@ -124,7 +125,7 @@ impl Task {
     }
 }
 
-/// Does a task with a line: how many bytes, units or rows that gives.
+/// Runs a task on a line. Returns the number of bytes, units or rows.
 fn once(alloc: Global, task: Task, line: &str, tables: &Tables) -> Result<usize> {
     match task {
         Task::Split => Ok(line.len()),
@@ -146,7 +147,7 @@ fn once(alloc: Global, task: Task, line: &str, tables: &Tables) -> Result<usize>
     }
 }
 
-/// Does a task with all lines of a text some times.
+/// Runs a task on all lines of a text, `times` times. Returns the sum of its results.
 fn sum(alloc: Global, task: Task, text: &str, tables: &Tables, times: usize) -> Result<u64> {
     let mut sum: u64 = 0;
     for _ in 0..times {
@@ -157,7 +158,7 @@ fn sum(alloc: Global, task: Task, text: &str, tables: &Tables, times: usize) -> 
     Ok(sum)
 }
 
-/// How many bytes, units or rows there were in all, and the time of the task.
+/// Measures a task. Reports the number of bytes, units or rows in all.
 fn outcome_of<R: CpuClock + AllocGlobal>(
     rt: &R,
     task: Task,
@@ -175,7 +176,7 @@ fn outcome_of<R: CpuClock + AllocGlobal>(
     })
 }
 
-/// What the words ask for: how many bytes, units or rows there were in all, and the time of the task.
+/// Carries out the words.
 pub(crate) fn run<R: CpuClock + AllocGlobal>(rt: &R, words: &[String]) -> Result<Outcome> {
     let [task, text_name, bytes, times] = words else {
         bail!("usage: bench units TASK TEXT BYTES TIMES");

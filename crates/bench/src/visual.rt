@@ -1,5 +1,5 @@
-//! The visual order of a row of scattered levels: HIGHEST UNITS TIMES. The levels, from 0 to the highest, which is 255 at
-//! most, follow the multiples of the golden ratio.
+//! The visual order of a row of scattered levels: HIGHEST UNITS TIMES. The levels, from 0 to HIGHEST, which is at most 255,
+//! follow the multiples of the golden ratio.
 
 use crate::edits::turning;
 use crate::outcome::{Outcome, number};
@@ -8,13 +8,13 @@ use bx_rows::visual;
 use std::alloc::{AllocError, Global};
 use std::time::CpuClock;
 
-/// The number of the unit that stands leftmost, by the levels of a row's units.
+/// The index of the leftmost unit, from the levels of a row's units.
 pub(crate) fn leftmost(alloc: Global, levels: &[u8]) -> Result<usize> {
     let order = visual(alloc, levels)?;
     Ok(order.first().copied().unwrap_or(0))
 }
 
-/// The levels of so many units.
+/// The levels of `count` units.
 fn scattered_levels(alloc: Global, highest: usize, count: usize) -> Result<Vec<u8>, AllocError> {
     let mut levels = Vec::with_capacity(alloc, count)?;
     for unit in 0..count {
@@ -23,7 +23,7 @@ fn scattered_levels(alloc: Global, highest: usize, count: usize) -> Result<Vec<u
     Ok(levels)
 }
 
-/// Finds the order some times: the sum of the numbers that stand leftmost.
+/// Finds the order `times` times. Returns the sum of the leftmost indexes.
 fn sum(alloc: Global, levels: &[u8], times: usize) -> Result<u64> {
     let mut sum: u64 = 0;
     for _ in 0..times {
@@ -32,7 +32,7 @@ fn sum(alloc: Global, levels: &[u8], times: usize) -> Result<u64> {
     Ok(sum)
 }
 
-/// What the words ask for.
+/// Carries out the words.
 pub(crate) fn run<R: CpuClock + AllocGlobal>(rt: &R, words: &[String]) -> Result<Outcome> {
     let [highest, count, times] = words else {
         bail!("usage: bench visual HIGHEST UNITS TIMES");

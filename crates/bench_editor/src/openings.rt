@@ -23,7 +23,6 @@ fn once<R: CpuClock + AllocGlobal>(
     Ok((sent, end?.saturating_sub(start)))
 }
 
-/// Measures opening a text, `wanted.times` times.
 pub(crate) fn run<R: CpuClock + AllocGlobal>(
     rt: &R,
     files: &TableFiles,

@@ -24,8 +24,7 @@ fn rounds<R: CpuClock>(
     Ok(end.saturating_sub(start))
 }
 
-/// The traffic and the time of a task's rounds. It has a single exit once the typist is open, since each exit needs a proof
-/// of its own.
+/// The traffic and the time of a task's rounds.
 fn measured<R: CpuClock + AllocGlobal>(
     rt: &R,
     files: &TableFiles,

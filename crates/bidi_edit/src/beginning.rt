@@ -37,7 +37,7 @@ pub struct Beginning<'a> {
 
 /// Reads Unicode's three files, and opens a text with the cursor at its line. It does not replay the keys.
 ///
-/// Errors, in this order: those of the tables and of opening; `OutOfMemory`.
+/// Errors, in this order: `Tables`; `Open`; `OutOfMemory`.
 pub fn open(
     alloc: Global,
     beginning: Beginning<'_>,

@@ -72,7 +72,7 @@ fn told(end: End, changed: bool) -> Result<Changes, ProgramFault<'static>>
 /// Reads Unicode's three files, opens a text, replays keys, and runs until Quit or the input's end. Ok is exit status 0, and a
 /// fault status 1.
 ///
-/// Errors, in this order: those of the tables, of opening, of replaying and of running; `Unsaved` if the input ended with
+/// Errors, in this order: `Tables`; `Open`; `OutOfMemory` in replaying or painting; `Run`; `Unsaved` if the input ended with
 /// unsaved changes.
 pub fn edit<R: Read, J: Journal + Drop, W: Write, S: Store>(
     alloc: Global,
@@ -91,7 +91,6 @@ pub fn edit<R: Read, J: Journal + Drop, W: Write, S: Store>(
     let keys = beginning.keys;
     let mut session = open(alloc, beginning)?;
     let changes = resume(reader, recorder, writer, store, &mut session, keys);
-    // dropped once here; each early return would need its own proof
     drop(session);
     changes
 }

@@ -15,7 +15,7 @@ pub fn finish(rt: &HostRuntime, outcome: Result<(), ProgramFault<'_>>) -> ExitCo
     }
 }
 
-/// Tells that the journal is incomplete. That alone does not end a session.
+/// Reports that the journal is incomplete. That alone does not end a session.
 pub fn tell_lost_journal(rt: &HostRuntime) {
     // if standard error fails, nobody can be told
     let _ = eprintln!(rt;

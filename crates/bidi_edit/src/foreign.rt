@@ -5,10 +5,10 @@ use crate::fault::ProgramFault;
 use crate::replaying::{Held, replay_beside};
 use std::alloc::Global;
 
-/// Whether a file, which does not hold the opened text, holds neither the text after the keys nor one that a Save among them
-/// stored. Without keys it opens no session.
+/// Whether a file that differs from the opened text also differs from the text after the keys and from each text that a Save
+/// among them stored. Without keys it opens no session.
 ///
-/// Errors, in this order: those of the tables, of opening and of replaying.
+/// Errors, in this order: `Tables`; `Open`; `OutOfMemory`.
 pub fn is_foreign(
     alloc: Global,
     beginning: Beginning<'_>,
@@ -20,7 +20,6 @@ pub fn is_foreign(
     }
     let mut session = open(alloc, beginning)?;
     let replayed = replay_beside(&mut session, keys, held);
-    // dropped once here; each early return would need its own proof
     drop(session);
     Ok(replayed?.held == Held::Foreign)
 }

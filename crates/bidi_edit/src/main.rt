@@ -3,7 +3,7 @@
 //! `bidi_edit [--rows N] [--cols N] [--direction auto|ltr|rtl] [--line N] [--text PATH] [--unsaved] [--journal PATH [--in-place
 //! MARK]] [--replay PATH [--to PATH]] --classes F --brackets F --mirroring F FILE`. Exit status 0: ended by Quit, or the input
 //! ended without unsaved changes; 1: a fault, with a line on standard error; 2: the command line was refused, and standard
-//! error tells why.
+//! error says why.
 #![tactic(auto)]
 
 mod beginning;

@@ -31,10 +31,10 @@ fn store_replayed<D: BidiData + Drop, S: Store>(
     }
 }
 
-/// Reads Unicode's three files, opens a text, replays keys and stores the result. Returns how the file's current bytes
-/// relate to it.
+/// Reads Unicode's three files, opens a text, replays keys and stores the result. Returns how the file's current bytes relate
+/// to it.
 ///
-/// Errors, in this order: those of the tables, of opening and of replaying; `Unwritten` if the store fails.
+/// Errors, in this order: `Tables`; `Open`; `OutOfMemory`; `Unwritten` if the store fails.
 pub fn recover<S: Store>(
     alloc: Global,
     store: &mut S,
@@ -49,7 +49,6 @@ pub fn recover<S: Store>(
     let keys = beginning.keys;
     let mut session = open(alloc, beginning)?;
     let replayed = store_replayed(store, &mut session, keys, file);
-    // dropped once here; each early return would need its own proof
     drop(session);
     replayed
 }

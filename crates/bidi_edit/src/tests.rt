@@ -1,4 +1,5 @@
-//! What no contract says: the fault lines, the exit statuses, and whole runs. `text_tests` tests the command line.
+//! Tests of behaviour that no contract covers: the fault lines, the exit statuses, and whole runs. `text_tests` tests the
+//! command line.
 
 mod editing;
 mod ending;

@@ -1,6 +1,5 @@
-//! What a terminal sends, as the editor takes it: `bidi_input` reads standard input and writes what the filter gives, one
-//! write for each read. It is `bidi-edit` that runs it. Exit status 0: the input ended; 1: a fault, which a line on standard
-//! error tells.
+//! Filters a terminal's input for the editor: reads standard input, and writes the filtered bytes of each read in one write.
+//! `bidi-edit` runs it. Exit status 0: the input ended; 1: a fault, with a line on standard error.
 #![tactic(auto)]
 
 use bx_input::run;
@@ -10,7 +9,7 @@ fn main(rt: HostRuntime) -> ExitCode {
     match run(rt.alloc(), &mut rt.reader(), &mut rt.stdout()) {
         Ok(()) => ExitCode::SUCCESS,
         Err(fault) => {
-            // where standard error takes no line there is nobody to tell
+            // if standard error fails, nobody can be told
             let _ = eprintln!(rt; "bidi_input: {fault}");
             ExitCode::FAILURE
         }

@@ -1,4 +1,4 @@
-//! Why the program ends with status 1.
+//! Faults that end the program with status 1.
 
 use bx_print::PrintError;
 use bx_ucd::UcdError;
@@ -6,15 +6,15 @@ use bx_words::FileFault;
 use std::alloc::AllocError;
 use thiserror::Error;
 
-/// A fault, whose text is told behind the program's name.
+/// A fault. Its text is printed after the program's name.
 #[derive(Debug, Drop, PartialEq, Eq, Error)]
 pub enum ProgramFault<'a> {
-    /// A line of one of Unicode's files is refused.
+    /// A line of one of Unicode's files was refused.
     #[error("{0}")]
     Tables(UcdError),
     #[error("{0}")]
     File(FileFault<'a>),
-    /// The file's bytes are not UTF-8 from the one of this number on, counted from 0.
+    /// The file is not UTF-8; the first bad byte has this offset.
     #[error("not UTF-8 at byte {0}")]
     NotUtf8(usize),
     #[error("{0}")]

@@ -1,8 +1,7 @@
-//! Prints a text: its rows as the rules of UAX #9 give them, a line each, to standard output.
+//! Prints a text to standard output, one line for each row that UAX #9 gives.
 //!
-//! `bidi_print [--cols N] [--direction auto|ltr|rtl] [--marks] --classes F --brackets F --mirroring F FILE`. Exit status 0:
-//! all was written; 1: a fault, which a line on standard error tells; 2: the command line was refused, and standard error
-//! tells why.
+//! `bidi_print [--cols N] [--direction auto|ltr|rtl] [--marks] --classes F --brackets F --mirroring F FILE`. Exit status 0: all
+//! was written; 1: a fault, with a line on standard error; 2: the command line was refused, and standard error says why.
 #![tactic(auto)]
 
 mod fault;
@@ -17,10 +16,10 @@ use std::io::{self, Write};
 use std::process::ExitCode;
 use words::{Options, command_line};
 
-/// The program's name, in front of each line that it tells.
+/// The program's name, at the start of its lines on standard error.
 const NAME: &str = "bidi_print";
 
-/// Prints what the command line asks for.
+/// Carries out the command line.
 fn program<'a, W: Write>(
     rt: &HostRuntime,
     options: &Options<'a>,
@@ -40,7 +39,7 @@ fn program<'a, W: Write>(
     print_bytes(rt.alloc(), writer, bytes.as_slice(), unicode, options.style)
 }
 
-/// The words after the program's name.
+/// The command line's words after the program's name.
 fn words_of(rt: &HostRuntime) -> io::Result<Vec<String>> {
     Ok(env::args(rt)?.skip(1).collect(rt.alloc())?)
 }

@@ -1,4 +1,4 @@
-//! A file's bytes are printed.
+//! Printing of a file's bytes.
 
 ghost use Rattle.std.specs.Prelude.{◌≡◌, None, OnOk};
 ghost use Rattle.bx_ucd.specs.Reading.{refusal};
@@ -12,7 +12,7 @@ use simdutf8::compat::from_utf8;
 use std::alloc::{AllocError, Global};
 use std::io::Write;
 
-/// A copy of some characters.
+/// An owned copy of a text.
 fn copy_of(alloc: Global, characters: &str) -> Result<String, AllocError> {
     let mut text = String::with_capacity(alloc, characters.len())?;
     text.push_str(characters)?;
@@ -21,7 +21,7 @@ fn copy_of(alloc: Global, characters: &str) -> Result<String, AllocError> {
 
 /// Reads Unicode's three files, and prints a file's bytes.
 ///
-/// Errors, in this order: those of the tables; `TooLong`; `NotUtf8`; want of memory, and a writer that takes no more.
+/// Errors, in this order: `Tables`; `TooLong`; `NotUtf8`; `OutOfMemory` or `WriteFault`.
 pub fn print_bytes<W: Write>(
     alloc: Global,
     writer: &mut W,
@@ -32,7 +32,7 @@ pub fn print_bytes<W: Write>(
     ensures { OnOk result (refusal unicode.entry.classes.now unicode.entry.brackets.now unicode.entry.mirroring.now ≡ None) }
 {
     let tables = Tables::read(alloc, unicode.classes, unicode.brackets, unicode.mirroring)?;
-    // A file that is too long was not read to its end, and may be cut inside a character.
+    // a file that is too long is cut off, maybe inside a character
     if bytes.len() > LARGEST_TEXT {
         return Err(PrintError::TooLong.into());
     }

@@ -1,4 +1,4 @@
-//! The program's words.
+//! The program's command line.
 
 use bx_print::{Marks, Style};
 use bx_words::{direction, direction_of, side, side_of, table};
@@ -7,10 +7,10 @@ use clap::{Arg, ArgAction, ArgMatches, Command};
 use std::alloc::{AllocError, Global};
 use std::convert::AsStr;
 
-/// What the program is asked to do.
+/// The parsed command line.
 #[derive(Drop)]
 pub struct Options<'a> {
-    /// How the text is printed.
+    /// The style of printing.
     pub style: Style,
     /// The path of DerivedBidiClass.txt.
     pub classes: &'a str,
@@ -18,11 +18,11 @@ pub struct Options<'a> {
     pub brackets: &'a str,
     /// The path of BidiMirroring.txt.
     pub mirroring: &'a str,
-    /// The path of the file that is printed.
+    /// The path of the file to print.
     pub file: &'a str,
 }
 
-/// The command line that the program takes.
+/// The program's command line.
 fn command<'a>(alloc: Global) -> Result<Command<'a>, AllocError> {
     Command::new(alloc, "bidi_print")
         .no_binary_name(true)
@@ -41,7 +41,7 @@ fn command<'a>(alloc: Global) -> Result<Command<'a>, AllocError> {
         .arg(Arg::new(alloc, "file").value_name("FILE").required(true))
 }
 
-/// What becomes of marks.
+/// Whether marks are printed, by the flag.
 fn marks_of(matches: &ArgMatches<'_>) -> Marks {
     if matches.get_flag("marks") {
         Marks::Bracketed
@@ -50,7 +50,7 @@ fn marks_of(matches: &ArgMatches<'_>) -> Marks {
     }
 }
 
-/// What clap found; none where it lacks a value or has one that is none of ours.
+/// The options that clap matched; None if a value is missing or out of range.
 fn options_of<'a>(matches: &ArgMatches<'a>) -> Option<Options<'a>> {
     let columns = side_of(matches, "cols")?;
     let base = direction_of(matches)?;
@@ -68,9 +68,9 @@ fn options_of<'a>(matches: &ArgMatches<'a>) -> Option<Options<'a>> {
     })
 }
 
-/// What the words after the program's name ask for.
+/// Parses the words after the program's name.
 ///
-/// Errors: clap's, whose text tells what is wrong with the words.
+/// Errors: clap's, with a message for the user.
 pub fn command_line<'a, S: AsStr>(
     alloc: Global,
     words: &'a [S],
@@ -79,7 +79,7 @@ pub fn command_line<'a, S: AsStr>(
     let matches = command.try_get_matches_from_mut(words)?;
     match options_of(&matches) {
         Some(options) => Ok(options),
-        // clap has refused such words before: each argument is required or has a default, and has a parser
+        // unreachable: clap requires or defaults each argument, and parses its value
         None => Err(command.error(ErrorKind::InvalidValue, "a value is missing")?),
     }
 }

@@ -1,9 +1,9 @@
-//! The files that a session begins with.
+//! The input files of a session.
 
 use crate::words::Options;
 use bx_words::{FileFault, UnicodeFiles, bytes_of, text_of};
 
-/// The files that a session begins with.
+/// The input files of a session.
 #[derive(Drop)]
 pub struct Files {
     /// The bytes of DerivedBidiClass.txt.
@@ -12,13 +12,13 @@ pub struct Files {
     pub brackets: Vec<u8>,
     /// The bytes of BidiMirroring.txt.
     pub mirroring: Vec<u8>,
-    /// The bytes of the text that is opened; None where FILE is opened and is not there.
+    /// The bytes of the opened text; None if FILE is opened and does not exist.
     pub text: Option<Vec<u8>>,
-    /// The bytes of the keys that are replayed; empty where no journal is named.
+    /// The bytes of the replayed journal; empty if none is replayed.
     pub keys: Vec<u8>,
 }
 
-/// The bytes of the text that is opened. A text that is named must be there; FILE itself may be made by the first save.
+/// The bytes of the opened text. A file named by --text must exist; FILE itself may be created by the first save.
 fn opened_text<'a>(
     rt: &HostRuntime,
     options: &Options<'a>,
@@ -35,7 +35,7 @@ fn opened_text<'a>(
 impl Files {
     /// Reads the files that the command line names.
     ///
-    /// Errors: those of the first file that cannot be read.
+    /// Errors: the fault of the first file that cannot be read.
     pub fn read<'a>(rt: &HostRuntime, options: &Options<'a>) -> Result<Files, FileFault<'a>> {
         Ok(Files {
             classes: bytes_of(rt, options.classes)?,
@@ -49,7 +49,7 @@ impl Files {
         })
     }
 
-    /// The bytes of Unicode's three files.
+    /// Borrows the bytes of Unicode's three files.
     pub fn unicode(&self) -> UnicodeFiles<'_> {
         UnicodeFiles {
             classes: self.classes.as_slice(),

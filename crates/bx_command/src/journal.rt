@@ -1,4 +1,4 @@
-//! The file of a journal.
+//! The journal's file.
 
 ghost use Rattle.std.specs.Io.{WritesAtMost};
 
@@ -7,33 +7,33 @@ use std::io::{self, ErrorKind, Write};
 use std::os::unix::fs::OpenOptionsExt;
 use std::time::Instant;
 
-/// The byte that ends a Save.
+/// The byte of the key Save.
 const SAVE: u8 = 0x13;
 
-/// After how many seconds a flush puts on the disk what was written.
+/// Number of seconds after the last sync at which a flush syncs again.
 const WAIT: u64 = 1;
 
-/// A file to which a journal is appended. A flush puts it on the disk where a Save was written since the last time, where that
-/// is a second ago, or where the journal has a fault.
+/// A file that a journal is appended to. A flush syncs it to disk if a Save was written since the last sync, if that was at
+/// least a second ago, or if there is a fault.
 ///
-/// The first open, write or flush that fails tells standard error of the fault. Who writes hands in again what was not written, so
-/// the fault ends, which is told too, with a flush that succeeds behind a write that succeeded.
+/// The first failed open, write or flush prints a fault to standard error. The caller writes the missing bytes again, so the
+/// fault ends with a successful flush after a successful write, which is printed too.
 #[derive(Drop)]
 pub struct JournalFile<'a> {
     rt: HostRuntime,
-    /// None where no journal is kept.
+    /// None if no journal is kept.
     path: Option<&'a str>,
-    /// None where the file could not be opened yet.
+    /// None until the file is opened.
     file: Option<File>,
     synced: Option<Instant>,
     holds_save: bool,
     /// Whether the last write failed, so that bytes are missing.
     lacks_bytes: bool,
-    /// Whether a fault is told that has not ended.
+    /// Whether a fault was printed and has not ended.
     has_fault: bool,
 }
 
-/// Opens a file at its end. One that is made is its owner's alone.
+/// Opens a file for appending. A new file gets permissions for its owner alone.
 fn open_at_end(rt: &HostRuntime, path: &str) -> io::Result<File> {
     OpenOptions::new()
         .append(true)
@@ -42,7 +42,7 @@ fn open_at_end(rt: &HostRuntime, path: &str) -> io::Result<File> {
         .open(rt, path)
 }
 
-/// Writes a beginning of the bytes. A file that takes none of them is a fault.
+/// Writes some of the bytes, from the first on. Writing no byte is an error.
 fn write_some(file: &mut File, buf: &[u8]) -> io::Result<usize>
     ensures { WritesAtMost result buf.now }
 {
@@ -53,7 +53,7 @@ fn write_some(file: &mut File, buf: &[u8]) -> io::Result<usize>
 }
 
 impl<'a> JournalFile<'a> {
-    /// The file of a path; without a path what is written goes nowhere. Where it cannot be opened, each write tries again.
+    /// Opens the file at `path`; without a path all writes are discarded. If opening fails, each write tries again.
     pub fn open(rt: HostRuntime, path: Option<&'a str>) -> JournalFile<'a> {
         let mut journal = JournalFile {
             rt,
@@ -78,7 +78,7 @@ impl<'a> JournalFile<'a> {
         }
     }
 
-    /// Appends a beginning of the bytes, to a file that is opened where it is not open yet.
+    /// Appends some of the bytes, from the first on; opens the file if it is not open yet.
     fn append(&mut self, path: &str, buf: &[u8]) -> io::Result<usize>
         ensures { WritesAtMost result buf.now }
     {
@@ -91,7 +91,7 @@ impl<'a> JournalFile<'a> {
         answer
     }
 
-    /// Whether a flush puts on the disk what was written. Where the clock tells nothing it does.
+    /// Whether a flush should sync. It should if the clock cannot be read.
     fn is_due(&self) -> bool {
         if self.holds_save || self.has_fault {
             return true;
@@ -105,22 +105,22 @@ impl<'a> JournalFile<'a> {
         }
     }
 
-    /// Notes that all that was written is on the disk.
+    /// Notes that all bytes written are on disk.
     fn note_synced(&mut self) {
         self.synced = Instant::now(&self.rt).ok();
         self.holds_save = false;
         if self.has_fault && !self.lacks_bytes {
             self.has_fault = false;
-            // where standard error takes no line there is nobody to tell
+            // if standard error fails, nobody can be told
             let _ = eprintln!(&self.rt; "bidi_edit: the journal is kept again");
         }
     }
 
-    /// Notes a fault, and tells of it where none is told that has not ended.
+    /// Notes a fault, and prints it unless one is printed that has not ended.
     fn tell_fault(&mut self) {
         if !self.has_fault {
             self.has_fault = true;
-            // where standard error takes no line there is nobody to tell
+            // if standard error fails, nobody can be told
             let _ = eprintln!(&self.rt; "bidi_edit: the journal could not be written");
         }
     }
@@ -163,7 +163,7 @@ impl<'a> Write for JournalFile<'a> {
     }
 }
 
-/// Leaves nothing in the journal of a path that is not needed any more. Where that fails it only tells of keys that nobody needs.
+/// Truncates a journal that is no longer needed. A failure is ignored: the journal then holds keys that nobody needs.
 pub fn empty_journal(rt: &HostRuntime, path: &str) {
     let _ = OpenOptions::new().write(true).truncate(true).open(rt, path);
 }

@@ -1,5 +1,4 @@
-//! What the editor's program is asked to do, and the files around a session: its command line, the files that a session begins
-//! with, the line that the cursor stands on at first, and the file of its journal.
+//! The editor's command line, the input files of a session, the offset of the cursor's first line, and the journal's file.
 #![tactic(auto)]
 
 mod files;

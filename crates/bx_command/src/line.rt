@@ -1,6 +1,6 @@
-//! The line that the cursor stands on at first.
+//! The cursor's first line.
 
-/// Where a line begins, counted from 1: behind the line feed before it, or behind the last one where there are not so many.
+/// The byte offset at which `line`, counted from 1, begins; the last line's if the text has fewer.
 pub fn start_of_line(text: &[u8], line: u64) -> usize {
     let mut start = 0;
     let mut left = line;

@@ -1,4 +1,4 @@
-//! The words of the editor's command line.
+//! The editor's command line.
 
 ghost use Rattle.std.specs.Prelude.{◌≡◌, true};
 ghost use Rattle.bx_terms.specs.Sizes.{is_side};
@@ -10,7 +10,7 @@ use clap::{Arg, ArgAction, ArgMatches, Command, value_parser};
 use std::alloc::{AllocError, Global};
 use std::convert::AsStr;
 
-/// What the editor's program is asked to do.
+/// The parsed command line.
 #[derive(Drop)]
 pub struct Options<'a> {
     /// The window's rows, from 1 to 500.
@@ -23,34 +23,34 @@ pub struct Options<'a> {
     pub brackets: &'a str,
     /// The path of BidiMirroring.txt.
     pub mirroring: &'a str,
-    /// The path of the file that is edited, where saves go.
+    /// The path of the edited file, which saves write.
     pub file: &'a str,
-    /// The path of the file whose text is opened; None where FILE itself is opened.
+    /// The path of the text to open; None to open FILE itself.
     pub text: Option<&'a str>,
     /// Whether the text counts as changed from the start.
     pub unsaved: bool,
-    /// The path of the journal that the keys are appended to.
+    /// The path of the journal that keys are appended to.
     pub journal: Option<&'a str>,
-    /// The path of the file that has the whole text while a save writes FILE itself; None where saves replace FILE.
+    /// The path of the mark, which has the whole text while a save overwrites FILE; None if saves replace FILE.
     pub in_place: Option<&'a str>,
-    /// The path of the journal that is replayed.
+    /// The path of the journal to replay.
     pub replay: Option<&'a str>,
-    /// The path where the replayed text is stored, with no terminal.
+    /// The path to store the replayed text at, without a terminal.
     pub to: Option<&'a str>,
-    /// The line that the cursor goes to, from 1.
+    /// The cursor's first line, from 1.
     pub line: Option<u64>,
-    /// How the direction of each paragraph is chosen at first.
+    /// The base direction of the paragraphs at first.
     pub direction: Base,
     pub ghost has_rows: { is_side rows ≡ true },
     pub ghost has_cols: { is_side cols ≡ true },
 }
 
-/// An option that names another file.
+/// An option whose value is the path of another file.
 fn path<'a>(alloc: Global, name: &'a str) -> Arg<'a> {
     Arg::new(alloc, name).long(name).value_name("PATH")
 }
 
-/// The option that names a line.
+/// The option for the cursor's first line.
 fn line<'a>(alloc: Global) -> Arg<'a> {
     Arg::new(alloc, "line")
         .long("line")
@@ -58,14 +58,15 @@ fn line<'a>(alloc: Global) -> Arg<'a> {
         .value_parser(value_parser!(u64).range(1..))
 }
 
-/// The flag of a text that counts as changed from the start.
+/// The flag for a text that counts as changed from the start.
 fn unsaved<'a>(alloc: Global) -> Arg<'a> {
     Arg::new(alloc, "unsaved")
         .long("unsaved")
         .action(ArgAction::SetTrue)
 }
 
-/// The option of saves that write FILE itself. The journal, which has the text too, outlives a save that is cut off.
+/// The option for saves that overwrite FILE. It requires a journal, from which the text can be recovered after an interrupted
+/// save.
 fn in_place<'a>(alloc: Global) -> Result<Arg<'a>, AllocError> {
     Arg::new(alloc, "in-place")
         .long("in-place")
@@ -74,7 +75,7 @@ fn in_place<'a>(alloc: Global) -> Result<Arg<'a>, AllocError> {
         .conflicts_with("to")
 }
 
-/// The command line that the program takes.
+/// The program's command line.
 fn command<'a>(alloc: Global) -> Result<Command<'a>, AllocError> {
     Command::new(alloc, "bidi_edit")
         .no_binary_name(true)
@@ -96,7 +97,7 @@ fn command<'a>(alloc: Global) -> Result<Command<'a>, AllocError> {
         .arg(Arg::new(alloc, "file").value_name("FILE").required(true))
 }
 
-/// What clap found; none where it lacks a value or has one that is none of ours.
+/// The options that clap matched; None if a value is missing or out of range.
 fn options_of<'a>(matches: &ArgMatches<'a>) -> Option<Options<'a>> {
     Some(Options {
         rows: side_of(matches, "rows")?,
@@ -116,9 +117,9 @@ fn options_of<'a>(matches: &ArgMatches<'a>) -> Option<Options<'a>> {
     })
 }
 
-/// What the words after the program's name ask for.
+/// Parses the words after the program's name.
 ///
-/// Errors: clap's, whose text tells what is wrong with the words.
+/// Errors: clap's, with a message for the user.
 pub fn command_line<'a, S: AsStr>(
     alloc: Global,
     words: &'a [S],
@@ -127,7 +128,7 @@ pub fn command_line<'a, S: AsStr>(
     let matches = command.try_get_matches_from_mut(words)?;
     match options_of(&matches) {
         Some(options) => Ok(options),
-        // clap has refused such words before: each argument is required or has a default, and has a parser
+        // unreachable: clap requires or defaults each argument, and parses its value
         None => Err(command.error(ErrorKind::InvalidValue, "a value is missing")?),
     }
 }

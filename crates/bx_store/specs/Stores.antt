@@ -1,23 +1,23 @@
--- What a store tells of the bytes that it has, and how it counts its failures.
+-- A store's bytes, where it models them, and its count of failures.
 use Rattle.std.specs.Prelude.{ℕ, suc, ◌-◌, ◌^◌, ◌==◌, Bool, true, false, List, [], ◌++◌, min, Option, Some, None, option_map}
 
--- the greatest count of failures or calls: there it stays
+-- counts of failures and calls saturate here
 abbrev pub greatest : ℕ
 greatest = 2 ^ 64 - 1
 
--- a count that has risen by one, up to the greatest
+-- a saturating increment
 abbrev pub one_more : ℕ → ℕ
 one_more count = min greatest (suc count)
 
--- an empty draft, and one with more bytes behind it, where a store tells its bytes
+-- an empty draft, and a draft after an append; None stays None
 abbrev pub no_bytes : Option (List ℕ) → Option (List ℕ)
 no_bytes told = option_map (λ _. []) told
 
 abbrev pub with_bytes : List ℕ → Option (List ℕ) → Option (List ℕ)
 with_bytes bytes draft = option_map (λ before. before ++ bytes) draft
 
--- a store in memory: what it stores, what was put since the last begin, whether a save is under way, how many calls were
--- made and how many of them failed, and the number of the call that fails, from 1
+-- A store in memory: its contents, the bytes put since the last begin, whether a save is in progress, the counts of calls and
+-- of failed calls, and the number of the call that fails, counted from 1.
 pub record MemoryState : Type 0 where
   pub contents : List ℕ
   pub draft : List ℕ
@@ -26,16 +26,16 @@ pub record MemoryState : Type 0 where
   pub failures : ℕ
   pub fail_call : Option ℕ
 
--- a number is that of the call that fails
+-- whether a call has the failing call's number
 abbrev pub is_call : Option ℕ → ℕ → Bool
 is_call None number = false
 is_call (Some call) number = number == call
 
--- the next call is the one that fails
+-- whether the next call fails
 abbrev pub fails_next : MemoryState → Bool
 fails_next s = is_call s.fail_call (one_more s.calls)
 
--- a call that fails: the save is over
+-- after a failed call: the save has ended
 abbrev pub after_failure : MemoryState → MemoryState
 after_failure s = record s { has_draft = false; calls = one_more s.calls; failures = one_more s.failures }
 

@@ -1,4 +1,4 @@
-//! The file that a save is written to, before it gets the name of the file that it replaces.
+//! The file that a save writes, before it is renamed to the file that it replaces.
 
 use crate::owner::{set_ids, take_place};
 use crate::target::{folder_of, if_found, is_same_file};
@@ -9,31 +9,31 @@ use std::os::fd::AsFd;
 use std::os::unix::fs::OpenOptionsExt;
 use std::rt::Files;
 
-/// What the names of a draft add to the file's, in the order in which they are tried.
+/// Suffixes for a draft's name, in the order in which they are tried.
 const ENDINGS: [&str; 10] = [
     ".bx", ".bx1", ".bx2", ".bx3", ".bx4", ".bx5", ".bx6", ".bx7", ".bx8", ".bx9",
 ];
 
-/// The permissions of a draft from its first moment: no one but its owner reads what may be secret.
+/// A draft's permissions until it is complete: only its owner can read the text.
 const OWNERS_ALONE: u32 = 0o600;
 
-/// The permissions of a file that is made where none was, of which the system takes away what the user's mask says.
+/// The permissions of a file that did not exist before; the system clears the bits in the user's umask.
 const NEW_FILE: u32 = 0o666;
 
-/// How many bytes are gathered for one write.
+/// Buffer size of a draft, in bytes.
 const BUFFER_SIZE: usize = 65_536;
 
-/// A file that is written beside the one that it will replace.
+/// A file in the folder of the file that it will replace.
 #[derive(Drop)]
 pub struct Draft<F: Write + OpenFile + AsFd + Drop> {
     file: BufWriter<F>,
     path: String,
     target: String,
-    /// The permissions that it has once it is whole; 0 where they stay as they are.
+    /// Permissions to set once the draft is complete; 0 leaves them unchanged.
     mode: u32,
 }
 
-/// Makes a file where none is.
+/// Creates a file; an existing one is an error.
 fn make<R: Files>(files: &R, path: &str, mode: u32) -> io::Result<R::File> {
     OpenOptions::new()
         .write(true)
@@ -42,8 +42,8 @@ fn make<R: Files>(files: &R, path: &str, mode: u32) -> io::Result<R::File> {
         .open(files, path)
 }
 
-/// Makes the first file beside another whose name is free. What has one of the names is the user's, or was left by a save that
-/// was cut off, and stays.
+/// Creates a file under the first free draft name of `target`. Existing files stay: they are the user's, or drafts of
+/// interrupted saves.
 fn make_beside<R: Files>(
     files: &R,
     alloc: Global,
@@ -61,8 +61,8 @@ fn make_beside<R: Files>(
     Err(ErrorKind::AlreadyExists.into())
 }
 
-/// A buffer in front of a new file, which gets the owner and the permissions of what was last there, if anything was; and the
-/// permissions that it has once it is whole.
+/// Wraps a new file in a buffer, and gives it the owner and permissions of `old`, the file last found there, if any. Also
+/// returns the permissions that the file gets once it is complete.
 fn buffered<F: Write + OpenFile + AsFd + Drop>(
     alloc: Global,
     file: F,
@@ -76,7 +76,7 @@ fn buffered<F: Write + OpenFile + AsFd + Drop>(
 }
 
 impl<F: Write + OpenFile + AsFd + Drop> Draft<F> {
-    /// An empty draft beside a file, with the owner and the permissions of what was last there, if anything was.
+    /// Creates an empty draft beside `target`, with the owner and permissions of `old`, the file last found there, if any.
     pub fn beside<R: Files<File = F>>(
         files: &R,
         alloc: Global,
@@ -97,15 +97,15 @@ impl<F: Write + OpenFile + AsFd + Drop> Draft<F> {
                 mode,
             }),
             Err(error) => {
-                // the fault that is told is the first
+                // the first fault is the one to report
                 let _ = files.remove_file(path.as_str());
                 Err(error)
             }
         }
     }
 
-    /// An empty draft of a file of the program's own, which its owner alone reads. A draft that was left by a save that was cut off
-    /// gives way to it.
+    /// Creates an empty draft of a file that belongs to the program, readable by its owner alone. First removes a draft left by
+    /// an interrupted save.
     pub fn of_own<R: Files<File = F>>(files: &R, alloc: Global, target: &str) -> io::Result<Self> {
         let target = String::from_str(alloc, target)?;
         let path = format!(in alloc; "{target}.bx")?;
@@ -120,30 +120,30 @@ impl<F: Write + OpenFile + AsFd + Drop> Draft<F> {
         })
     }
 
-    /// The path of the file that it replaces.
+    /// The path of the file to replace.
     pub fn target(&self) -> &str {
         self.target.as_str()
     }
 
-    /// Puts the next bytes, of which the last ones may wait in the buffer.
+    /// Appends bytes; the last ones may stay in the buffer.
     pub fn put(&mut self, bytes: &[u8]) -> io::Result<()> {
         self.file.write_all(bytes)
     }
 
-    /// Writes what waits, and puts all on the disk.
+    /// Flushes the buffer and syncs the file to disk.
     pub fn sync(&mut self) -> io::Result<()> {
         self.file.flush()?;
         set_ids(self.file.get_ref(), self.mode)?;
         self.file.get_ref().sync_all()
     }
 
-    /// Whether its path still leads to it: a folder of the path may be another by now.
+    /// Whether the path still leads to this file. A folder on the path may have been replaced.
     fn is_at_its_path<R: Files<File = F>>(&self, files: &R) -> io::Result<bool> {
         let found = files.symlink_metadata(self.path.as_str())?;
         Ok(is_same_file(&found, &self.metadata()?))
     }
 
-    /// Takes the place of the file that it replaces.
+    /// Renames the draft to the file that it replaces.
     pub fn replace<R: Files<File = F>>(&self, files: &R) -> io::Result<()> {
         if !self.is_at_its_path(files)? {
             return Err(ErrorKind::NotFound.into());
@@ -151,7 +151,7 @@ impl<F: Write + OpenFile + AsFd + Drop> Draft<F> {
         files.rename(self.path.as_str(), self.target.as_str())
     }
 
-    /// Puts the folder on the disk, so that the new name is there after a crash of the machine.
+    /// Syncs the folder, so that the new name survives a crash of the machine.
     pub fn sync_folder<R: Files<File = F>>(&self, files: &R) -> io::Result<()> {
         OpenOptions::new()
             .read(true)
@@ -159,12 +159,12 @@ impl<F: Write + OpenFile + AsFd + Drop> Draft<F> {
             .sync_all()
     }
 
-    /// The file as it is now.
+    /// The file's current metadata.
     pub fn metadata(&self) -> io::Result<Metadata> {
         self.file.get_ref().metadata()
     }
 
-    /// Takes away a draft that replaces nothing.
+    /// Removes a draft that replaces nothing.
     pub fn remove<R: Files<File = F>>(self, files: &R) {
         let is_there = matches!(&self.is_at_its_path(files), Ok(true));
         let Draft {
@@ -173,10 +173,10 @@ impl<F: Write + OpenFile + AsFd + Drop> Draft<F> {
             target: _,
             mode: _,
         } = self;
-        // what waits is written no more
+        // discards the buffered bytes
         let _ = file.into_parts();
         if is_there {
-            // the fault that ended it is told already
+            // the fault that ended the save is already reported
             let _ = files.remove_file(path.as_str());
         }
     }

@@ -1,4 +1,4 @@
-//! A store that is a file.
+//! A store in a file.
 ghost use Rattle.std.specs.Prelude.{◌≡◌};
 ghost use Rattle.bx_store.specs.Stores.{one_more};
 
@@ -13,20 +13,19 @@ use std::io::{self, ErrorKind};
 use std::os::fd::AsFd;
 use std::rt::Files;
 
-/// A store that is a file of a file system, and tells nothing of its bytes. Where the file is a link, it is the file that the link
-/// leads to, and the link stays.
+/// A store in a file of a file system; it does not model its bytes. If the path is a link, saves go to the file behind it, and
+/// the link stays.
 ///
-/// A save comes to the file by one of two ways. Mostly it replaces the file: what is put goes to a draft, a file beside it, whose
-/// name is the file's and `.bx`, or `.bx1` to `.bx9` where that is there; a commit has the system put its bytes on the disk, and
-/// then gives it the file's name, so that at every moment the file has its old bytes or its new ones. It is written with the
-/// file's owner, group and permissions, and read by no one else before.
+/// By default a save replaces the file. It writes a draft: a file in the same folder, named with the suffix `.bx`, or `.bx1` to
+/// `.bx9` if that exists. The commit syncs the draft to disk and renames it to the file, so at every moment the file has its
+/// old bytes or its new ones. The draft gets the file's owner, group and permissions, and nobody else can read it before that.
 ///
-/// A store that is made with a mark, the path of another file, writes the file itself, which keeps its names, its access list
-/// and its place. The draft is beside the mark; a commit has the system put its bytes on the disk, gives it the mark's name, and
-/// then writes the file and removes the mark. A kill or a fault may leave the file torn, with a beginning of its new bytes; the mark
-/// is there then and holds all of them. A file that is not there is made by the other way.
+/// A store made with a mark, the path of another file, overwrites the file itself, which keeps its names, its access list and
+/// its place. The draft lies beside the mark. The commit syncs it to disk, renames it to the mark, overwrites the file and
+/// removes the mark. A kill or a fault may leave the file torn, with a beginning of its new bytes; the mark then still has all
+/// of them. A file that does not exist is created in the default way.
 ///
-/// A save of a file that another program changed since the store last saw it is a fault, once: the next save goes through.
+/// If another program changed the file since the store last saw it, the next save is a fault, and the save after that succeeds.
 #[derive(Drop)]
 pub struct FileStore<'a, R: Files>
 where
@@ -34,19 +33,19 @@ where
 {
     files: &'a R,
     path: String,
-    /// The path of the mark; None where the file is replaced.
+    /// The path of the mark; None if saves replace the file.
     mark: Option<String>,
-    /// The file as it was last seen; None where it never was.
+    /// The file's metadata when last seen; None if it never was.
     seen: Option<Metadata>,
-    /// Whether a save into the file itself broke off, so that the file may lack bytes that the mark holds.
+    /// Whether a save that overwrites the file broke off, so that the file may lack bytes of the mark.
     is_torn: bool,
     draft: Option<Saving<R::File>>,
     failures: u64,
 }
 
-/// The file that a path leads to, as it is now; None where nothing is there, or what is there cannot be looked at.
+/// The current metadata of the file that a path leads to; None if no file is there or the metadata cannot be read.
 ///
-/// Errors: a fault where there is no memory for the path.
+/// Errors: `StoreFault` if memory for the path runs out.
 fn seen_at<R: Files>(files: &R, alloc: Global, path: &str) -> Result<Option<Metadata>, StoreFault> {
     let found = target_of(files, alloc, path).and_then(|target| find(files, target.as_str()));
     match found {
@@ -59,10 +58,9 @@ impl<'a, R: Files> FileStore<'a, R>
 where
     R::File: AsFd,
 {
-    /// A store that is the file of a path, as it is now: what changes from here on is a change by another program. Saves replace
-    /// the file.
+    /// A store in the file at `path`, which saves replace. Changes by other programs are detected from now on.
     ///
-    /// Errors: a fault where there is no memory for the path.
+    /// Errors: `StoreFault` if memory for the path runs out.
     pub fn new(files: &'a R, alloc: Global, path: &str) -> Result<Self, StoreFault> {
         Ok(FileStore {
             files,
@@ -75,9 +73,10 @@ where
         })
     }
 
-    /// The same, but saves write the file itself, with this mark. A mark that is there already is that of a save that broke off.
+    /// A store in the file at `path`, which saves overwrite, with this mark. An existing mark was left by a save that broke
+    /// off.
     ///
-    /// Errors: a fault where there is no memory for the paths.
+    /// Errors: `StoreFault` if memory for the paths runs out.
     pub fn in_place(
         files: &'a R,
         alloc: Global,
@@ -90,13 +89,14 @@ where
         Ok(store)
     }
 
-    /// Takes the file for one that another program changed: the next save is a fault, unless the file is gone then.
+    /// Treats the file as changed by another program: the next save is a fault, unless the file no longer exists then.
     pub fn distrust(&mut self) {
         self.seen = None;
     }
 
-    /// Finds the file that the path leads to, and looks whether it is as it was last seen, or gone; what is there now is seen.
-    /// Answers its path, and whether it is there.
+    /// Resolves the path and notes the metadata found. Returns the resolved path, and whether a file exists there.
+    ///
+    /// Errors: `InvalidInput` if it is no plain file, `AlreadyExists` if it changed since last seen.
     fn look(&mut self) -> io::Result<(String, bool)>
         ensures { self.new.failures ≡ self.old.failures }
     {
@@ -119,7 +119,7 @@ where
         }
     }
 
-    /// Looks once more, where the path must lead to the same place: a folder or a link in it may be another by now.
+    /// Looks again, and requires that the path still resolves to `target`: a folder or a link on it may have changed.
     fn look_again(&mut self, target: &str) -> io::Result<()>
         ensures { self.new.failures ≡ self.old.failures }
     {
@@ -148,7 +148,7 @@ where
         }
     }
 
-    /// Gives a draft the place of the file, if that is still as it was seen.
+    /// Replaces the file by the draft, if the file is unchanged since last seen.
     fn replace_by(&mut self, draft: &mut Draft<R::File>) -> io::Result<()>
         ensures { self.new.failures ≡ self.old.failures }
     {
@@ -156,13 +156,13 @@ where
         self.look_again(draft.target())?;
         draft.replace(self.files)?;
         self.seen = draft.metadata().ok();
-        // the file is replaced, whatever comes of its folder
+        // the file is replaced, even if its folder is not synced
         let _ = draft.sync_folder(self.files);
         self.drop_mark();
         Ok(())
     }
 
-    /// Writes what was put into the file itself, if that is still as it was seen.
+    /// Overwrites the file with the bytes put, if it is unchanged since last seen.
     fn write_by(&mut self, in_place: &mut InPlace<R::File>) -> io::Result<()>
         ensures { self.new.failures ≡ self.old.failures }
     {
@@ -173,14 +173,14 @@ where
         file.set_len(0)?;
         self.is_torn = true;
         let answer = fill(&mut source, &mut file);
-        // bytes of a save that broke off are no change by another program
+        // bytes of an interrupted save are no change by another program
         self.seen = file.metadata().ok();
         answer?;
         self.drop_mark();
         Ok(())
     }
 
-    /// Removes the mark of a file that may have been torn and is whole now.
+    /// Removes the mark of a file that may have been torn and is complete now.
     fn drop_mark(&mut self)
         ensures { self.new.failures ≡ self.old.failures }
     {
@@ -192,7 +192,7 @@ where
         self.is_torn = false;
     }
 
-    /// Stores what was put.
+    /// Stores the bytes put.
     fn store(&mut self, saving: &mut Saving<R::File>) -> io::Result<()>
         ensures { self.new.failures ≡ self.old.failures }
     {
@@ -202,7 +202,7 @@ where
         }
     }
 
-    /// Takes away a draft that was begun, if there is one.
+    /// Removes the current draft, if any.
     fn remove_draft(&mut self)
         ensures { self.new.failures ≡ self.old.failures }
     {
@@ -211,7 +211,7 @@ where
         }
     }
 
-    /// Notes a call that failed, and takes away what it leaves.
+    /// Counts a failed call and removes its draft.
     fn fail(&mut self) -> StoreFault
         ensures { self.new.failures ≡ one_more self.old.failures }
     {

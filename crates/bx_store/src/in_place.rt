@@ -1,4 +1,4 @@
-//! A save into a file itself.
+//! A save that overwrites a file.
 
 use crate::draft::Draft;
 use crate::target::is_unchanged;
@@ -8,18 +8,18 @@ use std::io::{self, ErrorKind, Read, Write};
 use std::os::fd::AsFd;
 use std::rt::Files;
 
-/// A save into a file itself. Another file, the mark, holds the whole new text from before the first byte of the file changes until
-/// the last one is on the disk.
+/// A save that overwrites a file. Another file, the mark, has the whole new text from before the file's first byte changes
+/// until its last byte is synced to disk.
 #[derive(Drop)]
 pub struct InPlace<F: Write + OpenFile + AsFd + Drop> {
-    /// The draft of the mark, or the mark.
+    /// The mark, or its draft before `keep`.
     draft: Draft<F>,
     target: String,
     is_kept: bool,
 }
 
 impl<F: Write + OpenFile + AsFd + Drop> InPlace<F> {
-    /// Begins a save into the file of a path, with an empty draft of the mark.
+    /// Begins a save into the file at `target`, with an empty draft of the mark.
     pub fn begin<R: Files<File = F>>(
         files: &R,
         alloc: Global,
@@ -33,17 +33,17 @@ impl<F: Write + OpenFile + AsFd + Drop> InPlace<F> {
         })
     }
 
-    /// Puts the next bytes.
+    /// Appends bytes.
     pub fn put(&mut self, bytes: &[u8]) -> io::Result<()> {
         self.draft.put(bytes)
     }
 
-    /// The path of the file that is written.
+    /// The path of the file to overwrite.
     pub fn target(&self) -> &str {
         self.target.as_str()
     }
 
-    /// Puts all of the text on the disk as the mark.
+    /// Syncs the whole text to disk as the mark.
     pub fn keep<R: Files<File = F>>(&mut self, files: &R) -> io::Result<()> {
         self.draft.sync()?;
         self.draft.replace(files)?;
@@ -51,12 +51,12 @@ impl<F: Write + OpenFile + AsFd + Drop> InPlace<F> {
         self.draft.sync_folder(files)
     }
 
-    /// Opens the mark to be read.
+    /// Opens the mark for reading.
     pub fn open_mark<R: Files<File = F>>(&self, files: &R) -> io::Result<F> {
         File::open(files, self.draft.target())
     }
 
-    /// Opens the file to be written, if it is still the one that was seen.
+    /// Opens the file for writing, if it is unchanged since last seen.
     pub fn open_target<R: Files<File = F>>(
         &self,
         files: &R,
@@ -70,7 +70,7 @@ impl<F: Write + OpenFile + AsFd + Drop> InPlace<F> {
         }
     }
 
-    /// Removes the draft, and the mark too, unless the file may lack bytes that the mark holds.
+    /// Removes the draft or the mark. A torn file keeps its mark, whose bytes it may lack.
     pub fn remove<R: Files<File = F>>(self, files: &R, is_torn: bool) {
         let InPlace {
             draft,
@@ -85,12 +85,12 @@ impl<F: Write + OpenFile + AsFd + Drop> InPlace<F> {
     }
 }
 
-/// Removes a mark that the file does not need. One that stays is overwritten by the next save.
+/// Removes a mark that is no longer needed. If that fails, the next save overwrites it.
 pub fn remove_mark<R: Files>(files: &R, mark: &str) {
     let _ = files.remove_file(mark);
 }
 
-/// Writes all bytes of a reader to an empty file, and puts them on the disk.
+/// Copies all bytes of a reader to an empty file, and syncs it to disk.
 pub fn fill<S: Read, F: Write + OpenFile>(source: &mut S, file: &mut F) -> io::Result<()> {
     io::copy(source, file)?;
     file.sync_all()

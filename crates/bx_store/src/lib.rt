@@ -1,4 +1,4 @@
-//! Where a text is saved: what a save asks of a store, a store in memory, and one that is a file.
+//! Stores that a text is saved to: the trait, a store in memory, and a store in a file.
 #![tactic(auto)]
 
 mod draft;

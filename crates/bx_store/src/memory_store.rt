@@ -1,4 +1,4 @@
-//! A store in memory, of which one call may be made to fail.
+//! A store in memory. A test can have one of its calls fail.
 ghost use Rattle.std.specs.Prelude.{◌≡◌, ◌↔◌, true, false, [], OnOk, OnErr, IsErr};
 ghost use Rattle.bx_store.specs.Stores.{after_begin, after_commit, after_failure, after_put, fails_next};
 
@@ -7,8 +7,8 @@ use std::alloc::Global;
 use std::marker::Model;
 use std::mem;
 
-/// A store that tells its bytes. The call whose number is given, counted from 1 over `begin`, `put` and `commit`, fails; no
-/// other does, but a `put` for which there is no memory.
+/// A store that models its bytes. Calls of `begin`, `put` and `commit` are counted from 1, and the call with the number
+/// `fail_call` fails. Otherwise only a `put` fails, and only if memory runs out.
 #[derive(Drop)]
 pub struct MemoryStore {
     contents: Vec<u8>,
@@ -35,7 +35,7 @@ impl Model for MemoryStore {
 }
 
 impl MemoryStore {
-    /// A store with nothing in it.
+    /// An empty store.
     pub fn new(alloc: Global, fail_call: Option<u64>) -> Self
         ensures { result ≡ record { contents = []; draft = []; has_draft = false; calls = 0; failures = 0; fail_call = fail_call } }
     {
@@ -49,21 +49,21 @@ impl MemoryStore {
         }
     }
 
-    /// The bytes of the last save that succeeded; none at first.
+    /// The bytes of the last successful save; empty before the first.
     pub fn contents(&self) -> &[u8]
         ensures { result.now ≡ self.now.contents }
     {
         &self.contents
     }
 
-    /// Whether the next call is the one that fails.
+    /// Whether the next call fails.
     fn fails_next(&self) -> bool
         ensures { result ≡ fails_next self.now }
     {
         self.fail_call == Some(self.calls.saturating_add(1))
     }
 
-    /// Notes a call that fails.
+    /// Counts a failed call and ends the save.
     fn fail(&mut self) -> StoreFault
         ensures { self.new ≡ after_failure self.old }
     {

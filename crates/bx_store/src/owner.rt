@@ -1,21 +1,21 @@
-//! The owner, the group and the permissions of a file that takes another's place.
+//! The owner, group and permissions of a file that replaces another.
 
 use std::fs::{Metadata, OpenFile, Permissions};
 use std::io;
 use std::os::fd::AsFd;
 use std::os::unix::fs::{MetadataExt, PermissionsExt, fchown};
 
-/// The bits that run a program as the file's owner, or in its group.
+/// The set-user-ID and set-group-ID bits.
 const SET_IDS: u32 = 0o6000;
 
-/// Whether a new file has the owner and the group of an old one.
+/// Whether a new file got the old file's owner and group.
 #[derive(Clone, Copy)]
 struct Kept {
     owner: bool,
     group: bool,
 }
 
-/// Whether a change of owner or group succeeded. Who is not root may be refused it; for root a refusal is a fault.
+/// Whether a change of owner or group succeeded. For root a refusal is an error; other users may be refused.
 fn is_taken(answer: io::Result<()>, is_root: bool) -> io::Result<bool> {
     match answer {
         Ok(()) => Ok(true),
@@ -24,7 +24,7 @@ fn is_taken(answer: io::Result<()>, is_root: bool) -> io::Result<bool> {
     }
 }
 
-/// Gives a new file an owner and a group, each where it may.
+/// Gives a new file the old file's owner and group, as far as the system permits.
 fn take_owner<F: OpenFile + AsFd>(file: &F, old: &Metadata) -> io::Result<Kept> {
     let new = file.metadata()?;
     let is_root = new.uid() == 0;
@@ -41,14 +41,14 @@ fn take_owner<F: OpenFile + AsFd>(file: &F, old: &Metadata) -> io::Result<Kept> 
     Ok(kept)
 }
 
-/// Permissions in which a group that is not the file's own may do what all others may.
+/// Gives the group the same permissions as others, for a file that could not get the old group.
 fn without_group(mode: u32) -> u32 {
     let others = mode & 0o007;
     (mode & !0o070) | (others << 3)
 }
 
-/// The permissions of a file that has so much of the old one's owner and group. A program that ran as the old owner, or in the old
-/// group, runs as no other.
+/// The permissions of the new file. It loses the set-ID bits unless it got both owner and group, and the group's permissions
+/// unless it got the group.
 fn mode_of(kept: Kept, old: &Metadata) -> u32 {
     let mode = old.mode() & 0o7777;
     if kept.owner && kept.group {
@@ -60,8 +60,8 @@ fn mode_of(kept: Kept, old: &Metadata) -> u32 {
     }
 }
 
-/// Gives a new file the owner, the group and the permissions of the one that it will replace, and answers the permissions. The bits
-/// that run it as its owner or in its group are left out until it is whole.
+/// Gives a new file the owner, group and permissions of the file that it will replace. Returns the permissions. The set-ID bits
+/// are left out until the file is complete.
 pub fn take_place<F: OpenFile + AsFd>(file: &F, old: &Metadata) -> io::Result<u32> {
     let kept = take_owner(file, old)?;
     let mode = mode_of(kept, old);
@@ -69,8 +69,7 @@ pub fn take_place<F: OpenFile + AsFd>(file: &F, old: &Metadata) -> io::Result<u3
     Ok(mode)
 }
 
-/// Gives a file that is whole the bits that run it as its owner or in its group, if its permissions have any. Writing takes them
-/// away.
+/// Sets the set-ID bits of a complete file, if `mode` has any; writing would clear them.
 pub fn set_ids<F: OpenFile>(file: &F, mode: u32) -> io::Result<()> {
     if mode & SET_IDS == 0 {
         return Ok(());

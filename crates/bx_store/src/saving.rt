@@ -1,4 +1,4 @@
-//! A save that is under way.
+//! A save in progress.
 
 use crate::draft::Draft;
 use crate::in_place::InPlace;
@@ -7,17 +7,17 @@ use std::io::{self, Write};
 use std::os::fd::AsFd;
 use std::rt::Files;
 
-/// A save that is under way, by one of two ways.
+/// A save in progress, in one of two ways.
 #[derive(Drop)]
 pub enum Saving<F: Write + OpenFile + AsFd + Drop> {
-    /// A draft takes the place of the file.
+    /// A draft will replace the file.
     Beside(Draft<F>),
-    /// The file itself is written.
+    /// The file itself is overwritten.
     InPlace(InPlace<F>),
 }
 
 impl<F: Write + OpenFile + AsFd + Drop> Saving<F> {
-    /// Puts the next bytes.
+    /// Appends bytes.
     pub fn put(&mut self, bytes: &[u8]) -> io::Result<()> {
         match self {
             Saving::Beside(draft) => draft.put(bytes),
@@ -25,7 +25,7 @@ impl<F: Write + OpenFile + AsFd + Drop> Saving<F> {
         }
     }
 
-    /// Takes away what a save leaves that stored nothing.
+    /// Removes the files of a save that stored nothing.
     pub fn remove<R: Files<File = F>>(self, files: &R, is_torn: bool) {
         match self {
             Saving::Beside(draft) => draft.remove(files),

@@ -1,4 +1,4 @@
-//! What a save asks of a store.
+//! The trait of stores.
 
 use std::alloc::AllocError;
 use std::io;
@@ -21,26 +21,26 @@ impl From<io::Error> for StoreFault {
     }
 }
 
-/// Where a text is saved. A save is `begin`, `put` for each piece of the text, and `commit`. What is stored changes by a
-/// `commit` that answers Ok alone, and is then the pieces since the last `begin`, joined. A call that answers a fault ends the
-/// save, and the count of failures rises by one in it and in no other, unless it is the greatest u64.
+/// A place to save a text. A save is `begin`, `put` for each piece of the text, and `commit`. The contents change only when
+/// `commit` returns Ok; they are then the pieces put since the last `begin`, joined. An Err ends the save and counts one
+/// failure; counts saturate at the greatest u64.
 pub trait Store {
     ghost use Rattle.std.specs.Prelude.{◌≡◌, ℕ, Bool, true, List, Option, OnOk, OnErr};
     ghost use Rattle.bx_store.specs.Stores.{no_bytes, one_more, with_bytes};
 
-    /// What is stored, where the store tells its bytes.
+    /// The stored bytes; None if the store does not model them.
     ghost contents: { Self → Option (List ℕ) };
 
-    /// What was put since the last `begin`, where the store tells its bytes.
+    /// The bytes put since the last `begin`; None if the store does not model them.
     ghost draft: { Self → Option (List ℕ) };
 
-    /// A `begin` answered Ok, and no fault and no `commit` came since.
+    /// Whether a save is in progress: `begin` returned Ok, and since then no call failed and no `commit` came.
     ghost has_draft: { Self → Bool };
 
-    /// How many calls answered a fault.
+    /// Number of failed calls.
     ghost failure_count: { Self → ℕ };
 
-    /// Begins a save.
+    /// Begins a save and discards the draft of an unfinished one.
     fn begin(&mut self) -> Result<(), StoreFault>
         ensures has_draft { OnOk result (has_draft self.new ≡ true) }
         ensures draft { OnOk result (draft self.new ≡ no_bytes (contents self.old)) }
@@ -48,7 +48,7 @@ pub trait Store {
         ensures no_failure { OnOk result (failure_count self.new ≡ failure_count self.old) }
         ensures failure { OnErr result (failure_count self.new ≡ one_more (failure_count self.old)) };
 
-    /// Puts the next bytes.
+    /// Appends bytes to the draft.
     fn put(&mut self, bytes: &[u8]) -> Result<(), StoreFault>
         requires { has_draft self.old ≡ true }
         ensures has_draft { OnOk result (has_draft self.new ≡ true) }
@@ -57,7 +57,7 @@ pub trait Store {
         ensures no_failure { OnOk result (failure_count self.new ≡ failure_count self.old) }
         ensures failure { OnErr result (failure_count self.new ≡ one_more (failure_count self.old)) };
 
-    /// Ends the save: what was put is what is stored.
+    /// Replaces the contents by the draft, and ends the save.
     fn commit(&mut self) -> Result<(), StoreFault>
         requires { has_draft self.old ≡ true }
         ensures stored { OnOk result (contents self.new ≡ draft self.old) }
@@ -65,7 +65,7 @@ pub trait Store {
         ensures no_failure { OnOk result (failure_count self.new ≡ failure_count self.old) }
         ensures failure { OnErr result (failure_count self.new ≡ one_more (failure_count self.old)) };
 
-    /// How many calls answered a fault, up to the greatest u64.
+    /// Number of failed calls, at most the greatest u64.
     fn failures(&self) -> u64
         ensures { result ≡ failure_count self.now };
 }

@@ -1,4 +1,4 @@
-//! The file that a path leads to, and whether it is still the one that was seen.
+//! The file that a path leads to, and whether it has changed.
 
 use std::alloc::Global;
 use std::fs::Metadata;
@@ -7,10 +7,10 @@ use std::os::unix::fs::MetadataExt;
 use std::path::Path;
 use std::rt::Files;
 
-/// How many links the system follows from one name.
+/// Number of links that the system follows for one name.
 const MOST_LINKS: u32 = 40;
 
-/// An answer without an error where nothing is there.
+/// Turns the error `NotFound` into None.
 pub fn if_found<T>(answer: io::Result<T>) -> io::Result<Option<T>> {
     match answer {
         Ok(found) => Ok(Some(found)),
@@ -19,12 +19,12 @@ pub fn if_found<T>(answer: io::Result<T>) -> io::Result<Option<T>> {
     }
 }
 
-/// The file at a path, or the link if it is one; None where nothing is.
+/// The metadata at a path, of the link if it is one; None if nothing is there.
 pub fn find<R: Files>(files: &R, path: &str) -> io::Result<Option<Metadata>> {
     if_found(files.symlink_metadata(path))
 }
 
-/// The folder of a path, and the name in it.
+/// Splits a path into its folder and its name.
 fn parts_of(path: &str) -> (&str, &str) {
     match path.rsplit_once('/') {
         Some(("", name)) => ("/", name),
@@ -33,12 +33,12 @@ fn parts_of(path: &str) -> (&str, &str) {
     }
 }
 
-/// The folder in which a path is.
+/// The folder of a path.
 pub fn folder_of(path: &str) -> &str {
     parts_of(path).0
 }
 
-/// The path that links name in the end which lead nowhere; the path itself where it is no link.
+/// Follows the links at the end of a path, and returns the first path that is no link.
 fn end_of_links<R: Files>(files: &R, alloc: Global, path: &str) -> io::Result<String> {
     let mut path = String::from_str(alloc, path)?;
     for _ in 0..MOST_LINKS {
@@ -54,14 +54,14 @@ fn end_of_links<R: Files>(files: &R, alloc: Global, path: &str) -> io::Result<St
     Err(ErrorKind::FilesystemLoop.into())
 }
 
-/// A path of which nothing is there but the folder, with no link in it.
+/// Resolves all links in the folder of a path where no file exists.
 fn in_its_folder<R: Files>(files: &R, alloc: Global, path: &str) -> io::Result<String> {
     let (folder, name) = parts_of(path);
     let folder = files.canonicalize(alloc, folder)?;
     Ok(folder.as_path().join(alloc, name)?.into_string())
 }
 
-/// The path, with no link in it, of the file that a path leads to. Where nothing is there, the path that a file is made at.
+/// Resolves all links of a path. If no file exists there, the result is the path at which one would be created.
 pub fn target_of<R: Files>(files: &R, alloc: Global, path: &str) -> io::Result<String> {
     match if_found(files.canonicalize(alloc, path))? {
         Some(target) => Ok(target.into_string()),
@@ -72,12 +72,12 @@ pub fn target_of<R: Files>(files: &R, alloc: Global, path: &str) -> io::Result<S
     }
 }
 
-/// Whether two looks saw one file, changed or not.
+/// Whether both metadata are of one file, changed or not.
 pub fn is_same_file(old: &Metadata, new: &Metadata) -> bool {
     old.dev() == new.dev() && old.ino() == new.ino()
 }
 
-/// Whether two looks saw the same file with no change between them: its contents, its owner, its permissions and its names.
+/// Whether both metadata are of one file with the same content, owner, permissions and names.
 pub fn is_unchanged(old: &Metadata, new: &Metadata) -> bool {
     let is_as_written = old.size() == new.size()
         && old.mtime() == new.mtime()

@@ -7,7 +7,7 @@ use std::fmt::{self, Display};
 #[derive(Clone, Copy, PartialEq, Eq, Debug)]
 pub struct Shown<'a>(pub &'a str);
 
-/// A text with such a number for each byte of such a character, except line ends.
+/// A text with the bytes of such characters as octal numbers, except line ends.
 #[derive(Clone, Copy, PartialEq, Eq, Debug)]
 pub struct Numbered<'a>(pub &'a str);
 

@@ -1,4 +1,4 @@
-//! Worked pairs, and each call once with ample memory.
+//! Worked pairs, and each public call once with ample memory.
 
 use crate::words::{text_of, two_of};
 use bx_brackets::{PairSearch, pairs, resolve_pairs};
@@ -6,7 +6,7 @@ use bx_ucd::{Class, Tables, sample_tables};
 use std::alloc::Global;
 use std::test::Fail;
 
-/// Brackets of which two pairs are canonically equivalent.
+/// Brackets with two canonically equivalent pairs.
 const BRACKETS: &str = "\
 0028; 0029; o
 0029; 0028; c
@@ -18,14 +18,14 @@ const BRACKETS: &str = "\
 3009; 3008; c
 ";
 
-/// A line each: what it shows, characters in hexadecimal, all of type ON, and the pairs.
+/// Each line: what it shows, characters in hexadecimal, all of type ON, and their pairs.
 const PAIRS: &str = "\
 a closer of another kind stands inside\t0061 0028 0062 005D 0063 0029\t[(1, 5)]
 as many openers as are kept\t0028 0029 0028*63 0029\t[(0, 1), (64, 65)]
 one opener more ends the search\t0028 0029 0028*64 0029\t[(0, 1)]
 canonically equivalent brackets\t2329 3009\t[(0, 1)]";
 
-/// The pairs of characters of type ON, as a line shows them.
+/// The pairs among characters of type ON, in a line's notation.
 fn shown(alloc: Global, tables: &Tables, codes: &str) -> Result<String, Fail> {
     let text = text_of(alloc, codes)?;
     let chars = text.chars().collect::<Vec<char>>(alloc)?;
@@ -34,7 +34,7 @@ fn shown(alloc: Global, tables: &Tables, codes: &str) -> Result<String, Fail> {
     Ok(format!(in alloc; "{:?}", found.as_slice())?)
 }
 
-/// The first line that is not so is a failure.
+/// Fails at the first line that does not hold.
 fn check(alloc: Global, tables: &Tables) -> Result<(), Fail> {
     for line in PAIRS.lines() {
         let (_shows, codes, wanted) = two_of(line);
@@ -54,7 +54,7 @@ fn worked_pairs(rt: HostRuntime) -> Result<(), Fail> {
 #[test]
 fn pairs_and_their_types(rt: HostRuntime) -> Result<(), Fail> {
     let tables = sample_tables(rt.alloc())?;
-    // B (G), from left to right
+    // B (G) at level 0
     let mut types = [Class::R, Class::ON, Class::R, Class::ON];
     let found = pairs(rt.alloc(), &['B', '(', 'G', ')'], &types, &tables)?;
     assert_eq!(rt; found.as_slice(), [(1, 3)].as_slice());
@@ -67,7 +67,7 @@ fn pairs_and_their_types(rt: HostRuntime) -> Result<(), Fail> {
 fn pairs_of_one_sequence_after_another(rt: HostRuntime) -> Result<(), Fail> {
     let tables = sample_tables(rt.alloc())?;
     let mut search = PairSearch::new(rt.alloc());
-    // B (G), and then (( from left to right
+    // B (G), and then ((, at level 0
     let mut types = [Class::R, Class::ON, Class::R, Class::ON];
     search.begin(4);
     search.meet(1, '(', Class::ON, &tables)?;

@@ -1,4 +1,4 @@
-//! Each call with ample memory, on small bodies.
+//! Each public call with ample memory, on small bodies.
 use bx_cells::{
     Face, SimpleCluster, Unit, face, is_printable, is_simple_within, ruled_unit, simple_cluster,
     units,
@@ -6,7 +6,7 @@ use bx_cells::{
 use bx_ucd::Tables;
 use std::test::Fail;
 
-/// Classes of formatting characters; all others are L.
+/// The classes of formatting characters; all others are L.
 const CLASSES: &str = "\
 202A ; LRE\n202B ; RLE\n202C ; PDF\n202D ; LRO\n202E ; RLO\n2066 ; LRI\n2067 ; RLI\n2068 ; FSI\n2069 ; PDI\n";
 

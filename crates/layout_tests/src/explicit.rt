@@ -1,4 +1,4 @@
-//! The worked examples, and each call once with ample memory.
+//! Worked examples, and each public call once with ample memory.
 use crate::words::{text_of, two_of};
 use bx_explicit::{
     Explicit, Kept, Sequence, SequenceWalk, base_level, explicit, paragraph_level, sequences,
@@ -8,7 +8,7 @@ use bx_ucd::{BidiData, Class, Tables, sample_tables};
 use std::alloc::Global;
 use std::test::Fail;
 
-/// Adds a sequence: the indexes that are told of it, its level and its ends.
+/// Appends a sequence: the given indexes, its level and its ends.
 fn add_sequence(
     shown: &mut String,
     alloc: Global,
@@ -22,7 +22,7 @@ fn add_sequence(
     Ok(())
 }
 
-/// The sequences as a line shows them.
+/// Sequences in a line's notation.
 fn shown(alloc: Global, found: &[Sequence]) -> Result<String, Fail> {
     let mut shown = String::new(alloc);
     for s in found {
@@ -37,13 +37,13 @@ fn shown(alloc: Global, found: &[Sequence]) -> Result<String, Fail> {
     Ok(shown)
 }
 
-/// What the public call finds, as a line shows it.
+/// The sequences that the public call finds, in a line's notation.
 fn shown_sequences(alloc: Global, explicit: &Explicit) -> Result<String, Fail> {
     let found = sequences(alloc, explicit)?;
     shown(alloc, &found)
 }
 
-/// A line each: what it shows, characters of the classes in hexadecimal, and the sequences of a paragraph of level 0: their
+/// Each line: what it shows, characters of the classes in hexadecimal, and the sequences in a paragraph of level 0: their
 /// indexes, level and ends.
 const SEQUENCES: &str = "\
 an isolate\t0061 2067 05D1 2069 0021 0031\t[0, 1, 3, 4, 5] 0 L L;[2] 1 R R;\n\
@@ -54,7 +54,7 @@ an isolate that has no level\t202B*63 2067 202B 202C 2069 0061\t[63, 66, 67] 125
 embeddings of both directions\t202B.202A*62 202B 0061\t[125] 125 R R;\n\
 the same and one that has no level\t202B.202A*62 202B 202A 0061\t[126] 125 R R;";
 
-/// The classes of characters that are told in hexadecimal.
+/// The classes of characters given in hexadecimal.
 fn classes_of(alloc: Global, tables: &Tables, codes: &str) -> Result<Vec<Class>, Fail> {
     let text = text_of(alloc, codes)?;
     let mut classes = Vec::new(alloc);
@@ -64,7 +64,7 @@ fn classes_of(alloc: Global, tables: &Tables, codes: &str) -> Result<Vec<Class>,
     Ok(classes)
 }
 
-/// Whether the sequences are those that a line says.
+/// Whether a line's sequences are found.
 fn has_sequences(alloc: Global, tables: &Tables, line: &str) -> Result<bool, Fail> {
     let (_shows, codes, wanted) = two_of(line);
     let classes = classes_of(alloc, tables, codes)?;
@@ -73,7 +73,7 @@ fn has_sequences(alloc: Global, tables: &Tables, line: &str) -> Result<bool, Fai
     Ok(shown.as_str() == wanted)
 }
 
-/// The first line that is not so is a failure.
+/// Fails at the first line that does not hold.
 fn check(alloc: Global, tables: &Tables) -> Result<(), Fail> {
     for line in SEQUENCES.lines() {
         if !has_sequences(alloc, tables, line)? {
@@ -92,7 +92,7 @@ fn worked_sequences(rt: HostRuntime) -> Result<(), Fail> {
 #[test]
 fn paragraph_levels(rt: HostRuntime) -> Result<(), Fail> {
     assert_eq!(rt; paragraph_level(&[]), 0);
-    // in the isolate stands an R that does not count
+    // the R in the isolate does not count
     let classes = [Class::RLI, Class::R, Class::PDI, Class::L];
     assert_eq!(rt; paragraph_level(&classes), 0);
     assert_eq!(rt; base_level(&classes, Base::Auto), 0);
@@ -116,7 +116,7 @@ fn removed_characters_and_bases(rt: HostRuntime) -> Result<(), Fail> {
     Ok(())
 }
 
-/// Adds the next sequence of a walk, if there is one.
+/// Appends the next sequence of a walk, or a full stop at its end.
 fn add_next(shown: &mut String, alloc: Global, walk: &mut SequenceWalk<'_>) -> Result<(), Fail> {
     if !walk.advance()? {
         shown.push('.')?;
@@ -126,7 +126,7 @@ fn add_next(shown: &mut String, alloc: Global, walk: &mut SequenceWalk<'_>) -> R
     add_sequence(shown, alloc, walk.firsts(), level, ends)
 }
 
-/// The first three steps of a walk, as a line shows them; a full stop where there is no further sequence.
+/// Appends the first three steps of a walk, in a line's notation; a full stop for each step past its end.
 fn add_three(shown: &mut String, alloc: Global, walk: &mut SequenceWalk<'_>) -> Result<(), Fail> {
     for _ in 0..3 {
         add_next(shown, alloc, walk)?;

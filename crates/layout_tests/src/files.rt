@@ -1,11 +1,11 @@
-//! Worked rows of the three files: what is refused, how it is told, and what accepted lines answer.
+//! Worked rows over the three files: refusals, their texts, and the answers from accepted lines.
 
 use crate::words::two_of;
 use bx_ucd::{BidiData, Cause, Class, Side, Tables, UcdError, UcdFile};
 use std::alloc::{AllocError, Global};
 use std::test::Fail;
 
-/// A text in which U+240A stands for LF and U+240D for CR.
+/// Replaces U+240A by LF and U+240D by CR.
 fn with_ends(alloc: Global, words: &str) -> Result<String, AllocError> {
     let mut text = String::new(alloc);
     for c in words.chars() {
@@ -18,7 +18,7 @@ fn with_ends(alloc: Global, words: &str) -> Result<String, AllocError> {
     Ok(text)
 }
 
-/// What is said of three files: that they are accepted, or what is refused.
+/// The outcome of reading three files: `accepted`, or the text of the refusal.
 fn verdict(
     alloc: Global,
     classes: &[u8],
@@ -31,7 +31,7 @@ fn verdict(
     }
 }
 
-/// Whether three files are told so.
+/// Whether reading three files has this outcome.
 fn are(
     alloc: Global,
     classes: &str,
@@ -51,14 +51,14 @@ fn are(
     Ok(said.as_str() == wanted)
 }
 
-/// Whether what a line says is so.
+/// Whether a line holds.
 fn is_so(alloc: Global, line: &str) -> Result<bool, AllocError> {
     let (_shows, classes, rest) = two_of(line);
     let (brackets, mirroring, wanted) = two_of(rest);
     are(alloc, classes, brackets, mirroring, wanted)
 }
 
-/// A line each: what it shows, the three files, with ␊ for LF and ␍ for CR, and what is said of them.
+/// Each line: what it shows, the three files, with ␊ for LF and ␍ for CR, and the outcome.
 const FILES: &str = "\
 no lines\t\t\t\taccepted\n\
 one field of two\t0041\t\t\tclasses line 1: bad line\n\
@@ -107,12 +107,12 @@ fn a_comment_of_any_bytes(rt: HostRuntime) -> Result<(), Fail> {
     Ok(())
 }
 
-/// The answers for a character, through the trait.
+/// A character's answers through the trait.
 fn answers<D: BidiData>(tables: &D, c: char) -> (Class, Option<(Side, char)>, Option<char>) {
     (tables.class(c), tables.bracket(c), tables.mirror(c))
 }
 
-/// The answer of `class` through the trait.
+/// A character's class through the trait.
 fn class_of<D: BidiData>(tables: &D, c: char) -> Class {
     answers(tables, c).0
 }
@@ -149,7 +149,7 @@ fn brackets_and_mirrors_by_the_last_line(rt: HostRuntime) -> Result<(), Fail> {
     Ok(())
 }
 
-/// So many digits, and then other bytes.
+/// A text of `count` digits, and then other bytes.
 fn digits(alloc: Global, count: usize, rest: &[u8]) -> Result<Vec<u8>, AllocError> {
     let mut line = vec![in alloc; b'0'; count]?;
     line.extend_from_slice(rest)?;

@@ -1,4 +1,4 @@
-//! The worked examples and outside values, each call with ample memory.
+//! Worked examples and outside values, each public call with ample memory.
 mod rows;
 mod vectors;
 
@@ -11,7 +11,7 @@ use std::alloc::Global;
 use std::test::Fail;
 use vectors::VECTORS;
 
-/// Adds a level, or an `x` for a character that has none.
+/// Appends a level; `x` for a character without one.
 fn add_level(text: &mut String, alloc: Global, level: Option<u8>) -> Result<(), Fail> {
     if !text.is_empty() {
         text.push(' ')?;
@@ -23,7 +23,7 @@ fn add_level(text: &mut String, alloc: Global, level: Option<u8>) -> Result<(), 
     Ok(())
 }
 
-/// The levels as a line shows them.
+/// Levels in a line's notation.
 fn shown(alloc: Global, each: &[Level]) -> Result<String, Fail> {
     let mut text = String::new(alloc);
     for level in each {
@@ -35,14 +35,14 @@ fn shown(alloc: Global, each: &[Level]) -> Result<String, Fail> {
     Ok(text)
 }
 
-/// Whether both bodies give the same.
+/// Whether `levels` and `levels_by_rules` agree.
 fn agree(alloc: Global, tables: &Tables, body: &str, base: Base) -> Result<bool, Fail> {
     let by_rules = levels_by_rules(alloc, body, tables, base)?;
     let found = levels(alloc, body, tables, base)?;
     Ok(found.paragraph == by_rules.paragraph && found.each.as_slice() == by_rules.each.as_slice())
 }
 
-/// Whether both bodies give the same under each base.
+/// Whether `levels` and `levels_by_rules` agree under each base.
 fn agree_always(alloc: Global, tables: &Tables, body: &str) -> Result<bool, Fail> {
     Ok(
         agree(alloc, tables, body, Base::Auto)?
@@ -51,7 +51,7 @@ fn agree_always(alloc: Global, tables: &Tables, body: &str) -> Result<bool, Fail
     )
 }
 
-/// The paragraph's level and the characters' as a line shows them.
+/// The paragraph's level, and the characters' levels in a line's notation.
 fn shown_by_rules(
     alloc: Global,
     tables: &Tables,
@@ -62,7 +62,7 @@ fn shown_by_rules(
     Ok((by_rules.paragraph, shown(alloc, &by_rules.each)?))
 }
 
-/// Whether a body under a base has this paragraph level and these levels, or, behind `..`, these levels at its end.
+/// Whether a body has this paragraph level and these levels; after `..`, only the last levels are given.
 fn has_levels(
     alloc: Global,
     tables: &Tables,
@@ -81,7 +81,7 @@ fn has_levels(
     Ok(found.as_str() == spelled_out(alloc, each)?.as_str())
 }
 
-/// Whether what a line says is so, and both bodies agree.
+/// Whether a line holds, and both calls agree.
 fn is_so(alloc: Global, tables: &Tables, line: &str) -> Result<bool, Fail> {
     let (codes, base, wanted) = two_of(line);
     let body = text_of(alloc, codes)?;
@@ -96,7 +96,7 @@ fn is_so(alloc: Global, tables: &Tables, line: &str) -> Result<bool, Fail> {
     )
 }
 
-/// The first line that is not so is a failure. Lines that are named have a field in front that says what they show.
+/// Fails at the first line that does not hold. If `are_named`, the first field of a line says what it shows.
 fn check(alloc: Global, tables: &Tables, lines: &str, are_named: bool) -> Result<(), Fail> {
     for line in lines.lines() {
         let row = if are_named { field_of(line).1 } else { line };
@@ -114,7 +114,7 @@ const SAMPLES: [char; 22] = [
     '\u{2069}',
 ];
 
-/// Three characters.
+/// A text of three characters.
 fn three(alloc: Global, a: char, b: char, c: char) -> Result<String, Fail> {
     let mut body = String::new(alloc);
     body.push(a)?;
@@ -123,7 +123,7 @@ fn three(alloc: Global, a: char, b: char, c: char) -> Result<String, Fail> {
     Ok(body)
 }
 
-/// Whether both bodies agree on all texts of three characters.
+/// Whether both calls agree on all texts of three characters.
 fn agree_on_three(alloc: Global, tables: &Tables) -> Result<bool, Fail> {
     for a in SAMPLES {
         for b in SAMPLES {

@@ -1,5 +1,5 @@
-//! Tests of the public calls from the Unicode tables to the rows, a module a crate: worked rows, outside values, and each call once
-//! with ample memory. They stand in a crate of their own since the tests of a crate prove all of it once more.
+//! Tests of the public calls from the Unicode tables to the rows, one module for each crate: worked rows, outside values, and
+//! each call once with ample memory. They have their own crate, so that the tested crates stay quick to check.
 #![tactic(auto)]
 
 #[cfg(test)]

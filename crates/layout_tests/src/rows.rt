@@ -1,4 +1,4 @@
-//! Each call with ample memory: worked rows and outside values.
+//! Worked rows and outside values, each public call with ample memory.
 ghost use Rattle.std.specs.Prelude.{All};
 ghost use Rattle.bx_cells.specs.Units.{StandsIn};
 
@@ -16,16 +16,16 @@ use std::process::Abort;
 use std::test::Fail;
 use vectors::VECTORS;
 
-/// What a line tells of rows, each with a bar before it but the first.
+/// The rows of a body in a line's notation, separated by bars.
 #[derive(Drop)]
 struct Shown {
-    // of the units of each row
+    // the levels of each row's units
     levels: String,
-    // the units' numbers in visual order
+    // the indexes of each row's units in visual order
     orders: String,
 }
 
-/// Adds a number, after a blank where one stands before it in its row.
+/// Appends a number, after a blank if it is not the first of its row.
 fn add_number(text: &mut String, alloc: Global, number: usize, is_first: bool) -> Result<(), Fail> {
     if !is_first {
         text.push(' ')?;
@@ -89,7 +89,7 @@ impl Shown {
         Ok(())
     }
 
-    /// Adds the rows of a body in so many columns.
+    /// Appends the rows of a body in `w` columns.
     fn add_body(
         &mut self,
         alloc: Global,
@@ -104,13 +104,13 @@ impl Shown {
         self.add_rows(alloc, body, &found, &rows, &levels, tables)
     }
 
-    /// Whether these are the levels and the orders.
+    /// Whether the levels and the orders are these.
     fn is(&self, levels: &str, orders: &str) -> bool {
         self.levels.as_str() == levels && self.orders.as_str() == orders
     }
 }
 
-/// Whether the rows of a body in so many columns have these levels and orders.
+/// Whether the rows of a body in `w` columns have these levels and orders.
 fn has_rows(
     alloc: Global,
     tables: &Tables,
@@ -128,7 +128,7 @@ fn has_rows(
     Ok(shown.is(levels, orders))
 }
 
-/// Whether what a line says is so.
+/// Whether a line holds.
 fn is_so(alloc: Global, tables: &Tables, line: &str) -> Result<bool, Fail> {
     let (codes, base, rest) = two_of(line);
     let (w, wanted) = field_of(rest);
@@ -144,7 +144,7 @@ fn is_so(alloc: Global, tables: &Tables, line: &str) -> Result<bool, Fail> {
     )
 }
 
-/// The first line that is not so is a failure. Lines that are named have a field in front that says what they show.
+/// Fails at the first line that does not hold. If `are_named`, the first field of a line says what it shows.
 fn check(alloc: Global, tables: &Tables, lines: &str, are_named: bool) -> Result<(), Fail> {
     for line in lines.lines() {
         let row = if are_named { field_of(line).1 } else { line };
@@ -161,7 +161,7 @@ fn rows_of_random_texts(rt: HostRuntime) -> Result<(), Fail> {
     check(rt.alloc(), &tables, VECTORS, false)
 }
 
-/// Worked rows: what each shows, and a line in the form of the outside values.
+/// Worked rows: what each shows, and a line in the notation of the outside values.
 const ROWS: &str = "\
 right to left in left to right\t0061 0020 05D0 05D1 0020 0062\tauto\t6\t0 0 1 1 0 0\t0 1 3 2 4 5\n\
 a row wraps before it is reordered, and its last blank is reset\t0061 0020 05D0 05D1 0020 05D2\tauto\t5\t0 0 1 1 0|1\t0 1 3 2 4|0\n\
@@ -189,7 +189,7 @@ fn a_body_of_no_units(rt: HostRuntime) -> Result<(), Fail> {
     Ok(())
 }
 
-/// Where a row begins.
+/// The start of a row: its byte offset, and the numbers of units and characters before it.
 fn start(offset: usize, units: usize, chars: usize) -> RowStart {
     RowStart {
         offset,
@@ -198,7 +198,7 @@ fn start(offset: usize, units: usize, chars: usize) -> RowStart {
     }
 }
 
-/// The rows of a body begin where they should.
+/// Asserts that a body's rows in `w` columns start there.
 fn check_starts(
     rt: &impl Abort,
     alloc: Global,

@@ -1,9 +1,9 @@
-//! What the fields of a line mean, which have a tab between them.
+//! Parsers for the fields of a line, which are separated by tabs.
 
 use std::alloc::{AllocError, Global};
 use std::test::Fail;
 
-/// What a word says, and how often: `0061*3` is three times `0061`.
+/// Splits a repeat count from a word: `0061*3` is `0061` three times.
 fn often(word: &str) -> Result<(&str, usize), Fail> {
     match word.split_once('*') {
         Some((word, times)) => Ok((word, times.parse()?)),
@@ -11,7 +11,7 @@ fn often(word: &str) -> Result<(&str, usize), Fail> {
     }
 }
 
-/// Puts the characters of codes in hexadecimal that have a full stop between two.
+/// Appends characters given in hexadecimal, separated by full stops.
 fn push_codes(text: &mut String, codes: &str) -> Result<(), Fail> {
     for code in codes.split('.') {
         let code = u32::from_str_radix(code, 16)?;
@@ -20,7 +20,7 @@ fn push_codes(text: &mut String, codes: &str) -> Result<(), Fail> {
     Ok(())
 }
 
-/// Puts the characters of a word: `0061.0062*3` is three times both. `-` is none.
+/// Appends the characters of a word: `0061.0062*3` is both three times. `-` is none.
 fn push_code(text: &mut String, word: &str) -> Result<(), Fail> {
     if word == "-" {
         return Ok(());
@@ -32,7 +32,7 @@ fn push_code(text: &mut String, word: &str) -> Result<(), Fail> {
     Ok(())
 }
 
-/// The characters of codes in hexadecimal, with a blank between two.
+/// The characters of words separated by blanks.
 pub(crate) fn text_of(alloc: Global, codes: &str) -> Result<String, Fail> {
     let mut text = String::new(alloc);
     for word in codes.split(' ') {
@@ -41,7 +41,7 @@ pub(crate) fn text_of(alloc: Global, codes: &str) -> Result<String, Fail> {
     Ok(text)
 }
 
-/// Puts a word as often as it says, with a blank between two.
+/// Appends a word as often as its count says, with blanks between.
 fn push_word(text: &mut String, word: &str) -> Result<(), Fail> {
     let (word, times) = often(word)?;
     for _ in 0..times {
@@ -53,7 +53,7 @@ fn push_word(text: &mut String, word: &str) -> Result<(), Fail> {
     Ok(())
 }
 
-/// Words of which each stands as often as it says, with a blank between two.
+/// Repeats each word as often as its count says, with blanks between.
 pub(crate) fn spelled_out(alloc: Global, words: &str) -> Result<String, Fail> {
     let mut text = String::new(alloc);
     for word in words.split(' ') {
@@ -62,7 +62,7 @@ pub(crate) fn spelled_out(alloc: Global, words: &str) -> Result<String, Fail> {
     Ok(text)
 }
 
-/// A text in which U+2409 stands for a tab.
+/// Replaces U+2409 by a tab.
 pub(crate) fn with_tabs(alloc: Global, words: &str) -> Result<String, AllocError> {
     let mut text = String::new(alloc);
     for c in words.chars() {
@@ -71,12 +71,12 @@ pub(crate) fn with_tabs(alloc: Global, words: &str) -> Result<String, AllocError
     Ok(text)
 }
 
-/// A field, and those behind it.
+/// Splits off the first field.
 pub(crate) fn field_of(line: &str) -> (&str, &str) {
     line.split_once('\t').unwrap_or((line, ""))
 }
 
-/// Two fields, and those behind them.
+/// Splits off the first two fields.
 pub(crate) fn two_of(line: &str) -> (&str, &str, &str) {
     let (first, rest) = field_of(line);
     let (second, rest) = field_of(rest);

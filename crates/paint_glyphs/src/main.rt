@@ -1,9 +1,9 @@
-//! Prints the bytes that paint pictures, the first one whole and each later one by what changed:
+//! Prints the bytes that paint pictures: the first picture whole, and each later one by its changes.
 //!
 //!     paint_glyphs HEIGHT WIDTH PICTURE [then PICTURE]..
 //!
-//! A PICTURE is LINE COLUMN, the cell of the cursor, and LINE COLUMN GLYPH for each glyph, where GLYPH is `+TEXT`, or
-//! `-TEXT` for a negative one. Lines and columns count from 1.
+//! A PICTURE is LINE COLUMN, the cursor's cell, and LINE COLUMN GLYPH for each glyph. GLYPH is `+TEXT`, or `-TEXT` for a
+//! negative one. Lines and columns count from 1.
 #![tactic(auto)]
 
 ghost use Rattle.std.specs.Prelude.{◌≡◌, ◌≤◌, IfOk, OnOk, length};
@@ -21,7 +21,7 @@ fn number(word: &String) -> Result<u16> {
     word.as_str().parse::<u16>().context("a number is wanted")
 }
 
-/// The cell of these words, if the grid has it.
+/// Parses a cell of the grid.
 fn cell_of(grid: &Grid, line: &String, column: &String) -> Result<Cell>
     ensures { IfOk result (λ c. IsWithin grid.now.height grid.now.width c.line c.column) }
 {
@@ -33,7 +33,7 @@ fn cell_of(grid: &Grid, line: &String, column: &String) -> Result<Cell>
     Ok(Cell { line, column })
 }
 
-/// Whether a glyph's word stands for a negative one, and its text.
+/// Parses a glyph's word: whether it is negative, and its text.
 fn glyph_of(word: &str) -> Result<(bool, &str)> {
     if let Some(text) = word.strip_prefix("-") {
         return Ok((true, text));
@@ -58,7 +58,7 @@ fn put_glyph(grid: &mut Grid, cell: Cell, word: &str) -> Result<()>
     Ok(())
 }
 
-/// The picture of these words.
+/// Parses a picture.
 fn picture_of(alloc: Global, height: u16, width: u16, words: &[String]) -> Result<Picture>
     ensures { IfOk result (λ p. (p.height ≡ height) × (p.width ≡ width)) }
 {

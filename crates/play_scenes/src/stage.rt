@@ -97,7 +97,7 @@ impl<D: BidiData + Drop> Stage<D> {
         Ok(())
     }
 
-    /// The letter of a step. For a byte it also tells the session's end, and a Save that ran out of memory.
+    /// The letter of a step. For a byte it also shows that the session ended, or that a Save ran out of memory.
     fn letter(&self, step: Step, letter: char, has_failed: bool) -> char {
         if letter != 'o' || !matches!(step, Step::Byte(_)) {
             letter

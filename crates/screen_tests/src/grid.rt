@@ -40,7 +40,7 @@ fn a_blank_is_a_space_in_normal_rendition(rt: HostRuntime) -> Result<(), Fail> {
     Ok(())
 }
 
-/// Whether a column is the half of U+4E16 with this number, from 0.
+/// Whether a column is the half of U+4E16 with this index, from 0.
 fn is_half(alloc: Global, column: &Column, offset: u16) -> Result<bool, Fail> {
     let half = Column::Glyph {
         text: GlyphText::from_str(alloc, "\u{4E16}")?,
@@ -51,7 +51,7 @@ fn is_half(alloc: Global, column: &Column, offset: u16) -> Result<bool, Fail> {
     Ok(column.same(&half))
 }
 
-/// Whether a row of four columns begins with both halves of U+4E16, behind which all is blank.
+/// Whether a row of four columns is both halves of U+4E16 and then blank.
 fn begins_wide(alloc: Global, columns: &[Column]) -> Result<bool, Fail> {
     let [first, second, third, fourth] = columns else {
         return Ok(false);

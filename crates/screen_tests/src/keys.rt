@@ -1,4 +1,4 @@
-//! The keys of inputs: random ones, and worked rows.
+//! The keys of inputs: random inputs, and worked rows.
 
 ghost use Rattle.std.specs.Prelude.{◌<◌, IfSome};
 
@@ -11,7 +11,7 @@ use std::process::Abort;
 use std::test::Fail;
 use vectors::VECTORS;
 
-/// What a key is called; an insert and a size have numbers behind it.
+/// A key's name; an insert and a size have numbers after it.
 fn name_of(key: Key) -> &'static str {
     match key {
         Key::Insert(_) => "insert",
@@ -37,7 +37,7 @@ fn name_of(key: Key) -> &'static str {
     }
 }
 
-/// Writes the numbers of a key.
+/// Appends a key's numbers.
 fn write_numbers(words: &mut String, alloc: Global, key: Key) -> Result<(), AllocError> {
     let numbers = match key {
         Key::Insert(c) => format!(in alloc; "/{:04X}", c as u32)?,
@@ -47,7 +47,7 @@ fn write_numbers(words: &mut String, alloc: Global, key: Key) -> Result<(), Allo
     words.push_str(numbers.as_str())
 }
 
-/// Keys, in words.
+/// Keys in words.
 fn words_of(alloc: Global, keys: &[Key]) -> Result<String, AllocError> {
     let mut words = String::new(alloc);
     for key in keys {
@@ -60,7 +60,7 @@ fn words_of(alloc: Global, keys: &[Key]) -> Result<String, AllocError> {
     Ok(words)
 }
 
-/// The keys of an input, in words, and the decoder behind it.
+/// The keys of an input in words, and the decoder after it.
 fn decoding(alloc: Global, input: &[u8]) -> Result<(String, Decoder), AllocError> {
     let mut decoder = Decoder::new();
     let keys = decoder.feed_all(alloc, input)?;
@@ -77,7 +77,7 @@ fn hex_digit(byte: u8) -> Option<u8>
     }
 }
 
-/// The byte of two digits in hexadecimal.
+/// The byte of two hexadecimal digits.
 fn byte_of(pair: &[u8]) -> Option<u8> {
     match pair {
         [high, low] => Some(hex_digit(*high)? * 16 + hex_digit(*low)?),
@@ -85,7 +85,7 @@ fn byte_of(pair: &[u8]) -> Option<u8> {
     }
 }
 
-/// The bytes of a field in hexadecimal.
+/// The bytes of a hexadecimal field.
 fn from_hex(alloc: Global, hex: &str) -> Result<Vec<u8>, Fail> {
     let mut bytes = Vec::new(alloc);
     for pair in hex.as_bytes().chunks(2) {
@@ -94,14 +94,14 @@ fn from_hex(alloc: Global, hex: &str) -> Result<Vec<u8>, Fail> {
     Ok(bytes)
 }
 
-/// Whether an input has these keys, and the same waits behind it as behind the rest alone, which has none.
+/// Whether an input has these keys and leaves the decoder as `rest` alone does, which has no key.
 fn is_met(alloc: Global, input: &[u8], keys: &str, rest: &[u8]) -> Result<bool, AllocError> {
     let (found, decoder) = decoding(alloc, input)?;
     let (none, waiting) = decoding(alloc, rest)?;
     Ok(found.as_str() == keys && none.is_empty() && decoder == waiting)
 }
 
-/// Whether a line of `VECTORS` is met.
+/// Whether a line of `VECTORS` holds.
 fn is_line_met(alloc: Global, line: &str) -> Result<bool, Fail> {
     let mut fields = line.split('|');
     let (Some(input), Some(keys), Some(rest)) = (fields.next(), fields.next(), fields.next()) else {
@@ -122,7 +122,7 @@ fn random_inputs_have_the_model_s_keys(rt: HostRuntime) -> Result<(), Fail> {
     Ok(())
 }
 
-/// The keys of each input, in words.
+/// Asserts the keys of each input, in words.
 fn keys_are(rt: &impl Abort, alloc: Global, rows: &[(&[u8], &str)]) -> Result<(), Fail> {
     for (input, keys) in rows {
         let (words, _) = decoding(alloc, input)?;

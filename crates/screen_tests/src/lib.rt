@@ -1,5 +1,5 @@
-//! Tests of the public calls of the grid, the painter and the decoder of keys, a module a kind: worked rows, and each call once with
-//! ample memory. They stand in a crate of their own since the tests of a crate prove all of it once more.
+//! Tests of the public calls of the grid, the painter and the decoder of keys, one module for each: worked rows, and each call
+//! once with ample memory. They have their own crate, so that the tested crates stay quick to check.
 #![tactic(auto)]
 
 #[cfg(test)]

@@ -1,4 +1,4 @@
-//! What is sent for small pictures, in the words of `steps.rt`, with an empty line between two scenes.
+//! The bytes that paint small pictures, as scenes in the notation of `steps.rt`.
 
 use crate::steps::play;
 use std::test::Fail;

@@ -1,4 +1,4 @@
-//! Pictures of one row by the words of a script.
+//! Pictures of one row, parsed from the words of a scene.
 
 ghost use Rattle.std.specs.Prelude.{IsTrue};
 ghost use Rattle.bx_grid.specs.Picture.{IsWithin};
@@ -15,7 +15,7 @@ fn is_inside(grid: &Grid, cell: Cell) -> bool
     1 <= cell.line && cell.line <= grid.height() && 1 <= cell.column && cell.column <= grid.width()
 }
 
-/// Puts a glyph where the grid has room for it. That is asked when the test runs, so that no proof computes widths.
+/// Puts a glyph; a failure if the grid has no room for it.
 fn put(grid: &mut Grid, cell: Cell, text: &str, negative: bool) -> Result<(), Fail> {
     if !is_glyph(text) || !is_inside(grid, cell) {
         return Err(Fail::new("no glyph, or no cell"));
@@ -27,7 +27,7 @@ fn put(grid: &mut Grid, cell: Cell, text: &str, negative: bool) -> Result<(), Fa
     Ok(())
 }
 
-/// Puts glyphs from the left that have a bar between them, a negative one behind a `-`; a `_` is a blank.
+/// Puts glyphs separated by bars, from the left; `-` precedes a negative one, and `_` is a blank.
 fn put_glyphs(grid: &mut Grid, glyphs: &str) -> Result<(), Fail> {
     let mut column: u16 = 1;
     for glyph in glyphs.split('|') {
@@ -40,14 +40,14 @@ fn put_glyphs(grid: &mut Grid, glyphs: &str) -> Result<(), Fail> {
     Ok(())
 }
 
-/// A row of so many columns with these glyphs.
+/// A row of `columns` columns with these glyphs.
 fn row_of(alloc: Global, columns: u16, glyphs: &str) -> Result<Grid, Fail> {
     let mut grid = Grid::blank(alloc, 1, columns)?;
     put_glyphs(&mut grid, glyphs)?;
     Ok(grid)
 }
 
-/// The picture of such a row, with the cursor on a column.
+/// The picture of such a row, with the cursor at a column.
 pub(crate) fn picture_of(
     alloc: Global,
     columns: u16,

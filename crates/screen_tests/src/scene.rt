@@ -7,7 +7,7 @@ use std::alloc::Global;
 use std::mem::replace;
 use std::test::Fail;
 
-/// What is painted, and a screen of its size.
+/// The last two pictures, and a screen of their size.
 #[derive(Drop)]
 pub(crate) struct Scene {
     alloc: Global,
@@ -16,7 +16,7 @@ pub(crate) struct Scene {
     screen: Screen,
 }
 
-/// What leads from one picture to another. Whether the sizes agree is asked when the test runs.
+/// The bytes that change one picture to another; a failure if their sizes differ.
 fn changes_of(alloc: Global, old: &Picture, new: &Picture) -> Result<Vec<u8>, Fail> {
     let (before, after) = (old.grid(), new.grid());
     if before.height() != after.height() || before.width() != after.width() {
@@ -25,7 +25,7 @@ fn changes_of(alloc: Global, old: &Picture, new: &Picture) -> Result<Vec<u8>, Fa
     Ok(changes(alloc, old, new)?)
 }
 
-/// Whether a new screen that reads two parts shows a picture behind the second, and not before.
+/// Whether a new screen that reads two parts shows a picture after the second, and not before.
 fn shows_at_last(
     alloc: Global,
     picture: &Picture,
@@ -41,7 +41,7 @@ fn shows_at_last(
 }
 
 impl Scene {
-    /// A picture of one row, by its columns, the cursor's column and its glyphs, and a screen of which nothing is known.
+    /// Opens a scene with a picture of one row and a new screen.
     pub(crate) fn open(
         alloc: Global,
         columns: u16,
@@ -59,7 +59,7 @@ impl Scene {
         })
     }
 
-    /// Another picture of as many columns.
+    /// Replaces the picture by another of the same size.
     pub(crate) fn repaint(&mut self, column: u16, glyphs: &str) -> Result<(), Fail> {
         let columns = self.picture.grid().width();
         let picture = picture_of(self.alloc, columns, column, glyphs)?;
@@ -67,12 +67,12 @@ impl Scene {
         Ok(())
     }
 
-    /// The screen reads bytes.
+    /// Has the screen read bytes.
     pub(crate) fn read(&mut self, bytes: &[u8]) -> Result<(), GridError> {
         self.screen.read(bytes)
     }
 
-    /// The screen has another size.
+    /// Resizes the screen.
     pub(crate) fn window(&mut self, rows: u16, columns: u16) -> Result<(), GridError> {
         self.screen.window(rows, columns)
     }
@@ -88,14 +88,13 @@ impl Scene {
         Ok(painting.as_slice() == bytes)
     }
 
-    /// Whether exactly these bytes lead from the picture before to this one.
+    /// Whether exactly these bytes change the previous picture to this one.
     pub(crate) fn are_changes(&self, bytes: &[u8]) -> Result<bool, Fail> {
         let painting = changes_of(self.alloc, &self.before, &self.picture)?;
         Ok(painting.as_slice() == bytes)
     }
 
-    /// Whether the screen, which reads how the picture before is painted whole, shows that one, and this one once it has
-    /// read what leads to it.
+    /// Whether the screen shows the previous picture after reading its whole painting, and this one after reading the changes.
     pub(crate) fn follows(&mut self) -> Result<bool, Fail> {
         let painting = whole(self.alloc, &self.before)?;
         self.screen.read(painting.as_slice())?;
@@ -105,7 +104,8 @@ impl Scene {
         Ok(has_begun && self.screen.shows(&self.picture))
     }
 
-    /// Whether a new screen shows the picture once it has read these bytes to the end, wherever they are cut.
+    /// Whether a new screen that reads these bytes in two parts shows the picture at the end, and not before, wherever they are
+    /// cut.
     pub(crate) fn shows_when_cut(&self, bytes: &[u8]) -> Result<bool, Fail> {
         for cut in 0..bytes.len() {
             if !shows_at_last(self.alloc, &self.picture, &bytes[..cut], &bytes[cut..])? {

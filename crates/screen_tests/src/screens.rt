@@ -1,4 +1,4 @@
-//! What a screen shows that reads bytes, in the words of `steps.rt`, with an empty line between two scenes.
+//! The picture on a screen after it reads bytes, as scenes in the notation of `steps.rt`.
 
 use crate::steps::play;
 use std::test::Fail;

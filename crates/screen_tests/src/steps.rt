@@ -1,36 +1,36 @@
-//! The lines of a scene. The first one says what it shows. Of the others each is a word and what stands behind it:
+//! The lines of a scene. The first says what the scene shows. Each other line is a word and its arguments:
 //!
-//!     open COLUMNS COLUMN GLYPH|GLYPH|..    a picture of one row, with the cursor on a column, and a screen of its size;
-//!                                           a negative glyph stands behind `-`, and `_` is a blank
-//!     then COLUMN GLYPH|GLYPH|..            another picture of as many columns
-//!     whole BYTES                           exactly these paint the picture whole
-//!     changes BYTES                         exactly these lead from the picture before to this one, and a screen follows
+//!     open COLUMNS COLUMN GLYPH|GLYPH|..    a picture of one row, with the cursor at COLUMN, and a screen of its size;
+//!                                           `-` precedes a negative glyph, and `_` is a blank
+//!     then COLUMN GLYPH|GLYPH|..            another picture of the same size
+//!     whole BYTES                           exactly these bytes paint the picture whole
+//!     changes BYTES                         exactly these bytes change the previous picture to this one, also on a screen
 //!     reads BYTES                           the screen reads them
 //!     byte DIGITS                           the screen reads a byte in hexadecimal
-//!     window ROWS COLUMNS                   the screen has another size
+//!     window ROWS COLUMNS                   the screen gets this size
 //!     refused ROWS COLUMNS                  the screen refuses this size
 //!     shows, hides                          the screen shows the picture, or does not
-//!     cut BYTES                             wherever these are cut, a new screen shows the picture at their end alone
+//!     cut BYTES                             a new screen that reads them in two parts shows the picture at the end, not before
 
 use crate::scene::Scene;
 use bx_grid::GridError;
 use std::alloc::Global;
 use std::test::Fail;
 
-/// A number, and what stands behind it.
+/// Splits off a number.
 fn number_of(words: &str) -> Result<(u16, &str), Fail> {
     let (number, rest) = words.split_once(' ').unwrap_or((words, ""));
     Ok((number.parse()?, rest))
 }
 
-/// Two numbers, and what stands behind them.
+/// Splits off two numbers.
 fn two_of(words: &str) -> Result<(u16, u16, &str), Fail> {
     let (first, rest) = number_of(words)?;
     let (second, rest) = number_of(rest)?;
     Ok((first, second, rest))
 }
 
-/// Does what a line says: whether its word is one that does something.
+/// Performs a line if its word does something. Returns whether it does.
 fn does(scene: &mut Scene, word: &str, rest: &str) -> Result<bool, Fail> {
     if word == "then" {
         let (column, glyphs) = number_of(rest)?;
@@ -48,7 +48,7 @@ fn does(scene: &mut Scene, word: &str, rest: &str) -> Result<bool, Fail> {
     Ok(true)
 }
 
-/// Whether what a line says is so.
+/// Whether a line holds.
 fn is_so(scene: &mut Scene, word: &str, rest: &str) -> Result<bool, Fail> {
     if word == "whole" {
         return scene.is_whole(rest.as_bytes());
@@ -66,7 +66,7 @@ fn is_so(scene: &mut Scene, word: &str, rest: &str) -> Result<bool, Fail> {
     Ok((word == "shows" || word == "hides") && scene.shows() == (word == "shows"))
 }
 
-/// Plays lines. The first that is not so is a failure.
+/// Plays lines. Fails at the first that does not hold.
 fn play_lines(scene: &mut Scene, name: &str, lines: &str) -> Result<(), Fail> {
     for line in lines.lines() {
         let (word, rest) = line.split_once(' ').unwrap_or((line, ""));
@@ -77,7 +77,7 @@ fn play_lines(scene: &mut Scene, name: &str, lines: &str) -> Result<(), Fail> {
     Ok(())
 }
 
-/// Plays a scene. It has one way out once the scene is open, since each would be a proof of what is dropped there.
+/// Plays a scene.
 fn play_scene(alloc: Global, scene: &str) -> Result<(), Fail> {
     let (name, rest) = scene.split_once('\n').ok_or("no name")?;
     let (opening, lines) = rest.split_once('\n').ok_or("no lines")?;
@@ -87,7 +87,7 @@ fn play_scene(alloc: Global, scene: &str) -> Result<(), Fail> {
     play_lines(&mut scene, name, lines)
 }
 
-/// Plays scenes with an empty line between them.
+/// Plays scenes separated by empty lines.
 pub(crate) fn play(alloc: Global, scenes: &str) -> Result<(), Fail> {
     for scene in scenes.split("\n\n") {
         play_scene(alloc, scene)?;

@@ -1,5 +1,5 @@
 //! Tests of session runs over readers, writers and stores that may fail. `play_scenes` plays scenes of sessions and worlds.
-//! These tests have their own crate, since the tests of a crate prove all of it once more.
+//! These tests have their own crate, so that the tested crates stay quick to check.
 #![tactic(auto)]
 
 #[cfg(test)]

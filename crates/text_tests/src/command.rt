@@ -1,4 +1,4 @@
-//! What the words of the editor's command line ask for, which are refused, and where a line begins.
+//! The editor's command line: accepted and refused words, and the offset of a line.
 
 use bx_command::{command_line, start_of_line};
 use bx_terms::Base;
@@ -15,7 +15,7 @@ const NAME: &str = "bidi_edit";
 /// The three tables and FILE.
 const WORDS: [&str; 7] = ["--classes", "c", "--brackets", "b", "--mirroring", "m", "f"];
 
-/// Why these words are refused; none where they are taken.
+/// The kind of clap's error; None if the words are accepted.
 fn refusal(alloc: Global, words: &[&str]) -> Option<ErrorKind> {
     match command_line(alloc, words) {
         Ok(_) => None,
@@ -23,7 +23,7 @@ fn refusal(alloc: Global, words: &[&str]) -> Option<ErrorKind> {
     }
 }
 
-/// Why these two words before the three tables and FILE are refused.
+/// The kind of error for an option and its value before the three tables and FILE.
 fn refusal_of_option(alloc: Global, name: &str, value: &str) -> Option<ErrorKind> {
     refusal(
         alloc,

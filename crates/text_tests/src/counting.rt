@@ -1,4 +1,4 @@
-//! Data that counts what it is asked.
+//! Tables that count the questions asked.
 
 use bx_ucd::{BidiData, Class, Side, Tables, UcdError, sample_tables};
 use std::alloc::Global;
@@ -19,7 +19,7 @@ impl Counting {
         })
     }
 
-    /// How often a class was asked for since the last call of this.
+    /// Number of questions for a class since the last call.
     pub(crate) fn questions(&self) -> u32 {
         self.asked.replace(0)
     }

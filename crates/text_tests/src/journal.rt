@@ -1,4 +1,4 @@
-//! The file of a journal that cannot be opened or written, and the files that a session begins with.
+//! A journal's file that cannot be opened or written, and the input files of a session.
 
 use bx_command::{Files, JournalFile, command_line};
 use bx_words::FileFault;
@@ -7,13 +7,13 @@ use std::path::PathBuf;
 use std::test::Fail;
 use std::{env, fs, process};
 
-/// A path of this process's own in the system's folder for such.
+/// A path in the folder for temporary files that is unique to this process.
 fn path_of(rt: &HostRuntime, name: &str) -> Result<PathBuf, Fail> {
     let name = format!(in rt.alloc(); "bx_command-{}-{name}", process::id(rt.process()))?;
     Ok(env::temp_dir(rt)?.join(rt.alloc(), name.as_str())?)
 }
 
-/// Writes bytes and flushes, and answers whether both went well.
+/// Writes bytes and flushes. Returns whether both succeeded.
 fn is_kept(journal: &mut JournalFile<'_>, bytes: &[u8]) -> bool {
     journal.write_all(bytes).is_ok() && journal.flush().is_ok()
 }

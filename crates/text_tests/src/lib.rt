@@ -1,6 +1,6 @@
-//! Tests of the public calls of the text, its pieces, paragraphs and stores, of well-formed UTF-8, and of the editor's command line,
-//! files and journal: worked rows, and each call once with ample memory. They are in a crate of their own since the tests of a crate
-//! prove all of it once more.
+//! Tests of the public calls of texts, pieces, paragraphs and stores, of well-formed UTF-8, and of the editor's command line,
+//! input files and journal: worked rows, and each call once with ample memory. They have their own crate, so that the tested
+//! crates stay quick to check.
 #![tactic(auto)]
 
 #[cfg(test)]

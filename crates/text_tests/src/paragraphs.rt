@@ -1,5 +1,4 @@
-//! Worked rows: the paragraphs of small texts, before and after edits, in the words of `steps.rt`. The first line of each says what
-//! it shows.
+//! Worked scenes: the paragraphs of small texts, before and after edits, in the notation of `steps.rt`.
 
 use crate::steps::play;
 use std::test::Fail;

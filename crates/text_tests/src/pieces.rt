@@ -1,4 +1,4 @@
-//! Sequences of many pieces, cut and joined, beside a list of the same.
+//! Sequences of many pieces: cuts and joins.
 
 ghost use Rattle.std.specs.Prelude.{◌≡◌};
 
@@ -37,7 +37,7 @@ fn a_piece_is_cut_in_two(rt: HostRuntime) -> Result<(), Fail> {
     Ok(())
 }
 
-/// Adds a piece of five bytes, where a spare tree is left and the others have few bytes.
+/// Appends a piece of five bytes if a spare tree is left and the sequence is shorter than 15 bytes.
 fn add_five(pieces: &mut Pieces, spares: &mut Spares, start: usize) {
     if spares.count() > 0 && pieces.len() < 15 {
         pieces.push(piece(start, 5), spares);
@@ -58,8 +58,7 @@ fn a_piece_that_goes_on_makes_the_last_one_longer(rt: HostRuntime) -> Result<(),
     Ok(())
 }
 
-/// Joins a thousand pieces of three bytes to none. The others are the caller's, since each way out would be a proof of what
-/// is dropped there.
+/// Joins a thousand pieces of three bytes to an empty sequence.
 fn join_a_thousand(pieces: &mut Pieces, spares: &mut Spares) -> Result<(), AllocError> {
     for i in 0..1000u16 {
         spares.fill(1)?;
@@ -71,7 +70,7 @@ fn join_a_thousand(pieces: &mut Pieces, spares: &mut Spares) -> Result<(), Alloc
     Ok(())
 }
 
-/// Whether each byte stands in the piece of three bytes that it was joined in.
+/// Whether each byte is in the piece of three bytes that brought it.
 fn are_in_order(pieces: &Pieces) -> bool {
     for i in 0..3000usize {
         if pieces.holding(i) != Some((piece(i / 3 * 3, 3), i % 3)) {
@@ -87,7 +86,7 @@ fn many_pieces_stay_in_order(rt: HostRuntime) -> Result<(), Fail> {
     let mut pieces = Pieces::new();
     join_a_thousand(&mut pieces, &mut spares)?;
     assert_eq!(rt; pieces.len(), 3000);
-    // A list would be 1000 deep.
+    // a list would be 1000 deep
     assert_eq!(rt; pieces.depth(), 10);
     assert!(rt; are_in_order(&pieces));
     Ok(())

@@ -13,14 +13,14 @@ use std::alloc::Global;
 use std::marker::Model;
 use std::test::Fail;
 
-/// A text with its index, by what asks for classes.
+/// A text with its index, over tables that count questions.
 #[derive(Drop)]
 pub(crate) struct Scene {
     alloc: Global,
     text: Text,
     index: Index,
     tables: Counting,
-    // of the last edit
+    // the result of the last edit
     answer: Result<Option<Change>, TextError>,
 }
 
@@ -35,7 +35,7 @@ impl Model for Scene {
     ghost invariant = { λ s. s.index.paragraphs ≡ lengths (⟦<Counting as BidiData>⟧.data s.tables) s.text.edited.text };
 }
 
-/// Follows an edit for which room was made.
+/// Has the index follow an edit for which room was made.
 fn follow<D: BidiData>(index: &mut Index, text: &Text, tables: &D, change: &Change)
     requires was { (old : List ℕ)
         × IsUtf8 old
@@ -49,7 +49,7 @@ fn follow<D: BidiData>(index: &mut Index, text: &Text, tables: &D, change: &Chan
 }
 
 impl Scene {
-    /// A text that is so many times another, with no past and no future.
+    /// Opens a text that repeats `part` `times` times; it has no past and no future.
     pub(crate) fn open(alloc: Global, part: &str, times: usize) -> Result<Scene, Fail> {
         let mut text = String::new(alloc);
         for _ in 0..times {
@@ -71,13 +71,13 @@ impl Scene {
         self.alloc
     }
 
-    /// Makes room for an insertion of so many bytes.
+    /// Makes room for an insertion of `bytes` bytes.
     pub(crate) fn ready(&mut self, bytes: usize) -> Result<(), Fail> {
         self.text.ready(bytes)?;
         Ok(())
     }
 
-    /// Puts text in at an offset, where the cursor stands at one place before and at another after it.
+    /// Inserts text at an offset; `before` and `after` are the cursor's places before and after the edit.
     pub(crate) fn insert(
         &mut self,
         at: usize,
@@ -97,7 +97,7 @@ impl Scene {
         Ok(())
     }
 
-    /// Takes out what stands between two offsets, with the cursor's places as for an insertion.
+    /// Removes the text between two offsets; `before` and `after` are the cursor's places before and after the edit.
     pub(crate) fn remove(
         &mut self,
         start: usize,
@@ -117,7 +117,7 @@ impl Scene {
         Ok(())
     }
 
-    /// Takes the latest edit back.
+    /// Undoes the latest edit.
     pub(crate) fn undo(&mut self) -> Result<(), Fail> {
         let _utf8 = self.text.len();
         if let Some(next) = self.text.next_undo() {
@@ -131,7 +131,7 @@ impl Scene {
         Ok(())
     }
 
-    /// Makes the next edit again.
+    /// Redoes the next edit.
     pub(crate) fn redo(&mut self) -> Result<(), Fail> {
         let _utf8 = self.text.len();
         if let Some(next) = self.text.next_redo() {
@@ -185,7 +185,7 @@ impl Scene {
         true
     }
 
-    /// Whether the text's pieces are these, with a bar between them.
+    /// Whether the text's pieces are these, separated by bars.
     pub(crate) fn is_in_pieces(&self, pieces: &str) -> bool {
         let mut found = self.text.pieces();
         for piece in pieces.split('|') {
@@ -196,7 +196,7 @@ impl Scene {
         found.next().is_none()
     }
 
-    /// Whether the piece from an offset on is this.
+    /// Whether this is the piece from an offset on.
     pub(crate) fn has_piece(&self, at: usize, piece: &str) -> bool {
         self.text.piece_at(at) == Some(piece)
     }
@@ -206,7 +206,7 @@ impl Scene {
         Ok(self.text.copy_range(start, stop)?.as_str() == text)
     }
 
-    /// Whether a copy of a range is refused, since it ends within a character or past the text.
+    /// Whether a copy of a range is refused because an end is inside a character or past the text.
     pub(crate) fn refuses(&self, start: usize, stop: usize) -> bool {
         matches!(
             self.text.copy_range(start, stop),
@@ -214,8 +214,7 @@ impl Scene {
         )
     }
 
-    /// Whether the paragraphs are these, with a bar between them: where the body begins and ends, and the length of the
-    /// separator.
+    /// Whether the paragraphs are these, separated by bars: the body's start and stop, and the separator's length.
     pub(crate) fn shows(&self, paragraphs: &str) -> Result<bool, Fail> {
         let mut number: usize = 0;
         for paragraph in paragraphs.split('|') {
@@ -239,7 +238,7 @@ impl Scene {
         &self.index
     }
 
-    /// How often a class was asked for since the last call of this.
+    /// Number of questions for a class since the last call.
     pub(crate) fn questions(&self) -> u32 {
         self.tables.questions()
     }

@@ -1,27 +1,27 @@
-//! The lines of a scene. The first one says what it shows. Of the others each is a word and what stands behind it:
+//! The lines of a scene. The first says what the scene shows. Each other line is a word and its arguments:
 //!
-//!     open COUNT TEXT                         so many times this text; ␍ is CR, ␊ is LF
-//!     insert OFFSET BEFORE AFTER TEXT         the cursor's places before and after it
+//!     open COUNT TEXT                         opens TEXT repeated COUNT times; ␍ is CR, ␊ is LF
+//!     insert OFFSET BEFORE AFTER TEXT         inserts TEXT; BEFORE and AFTER are the cursor's places
 //!     remove START STOP BEFORE AFTER
-//!     ready BYTES                             room for an insertion of so many bytes is made
-//!     scatter COUNT                           so many insertions of a letter, here and there
+//!     ready BYTES                             makes room for an insertion of BYTES bytes
+//!     scatter COUNT                           inserts COUNT letters at scattered offsets
 //!     undo [COUNT]
 //!     redo [COUNT]
-//!     change START REMOVED ADDED PLACE        what the last edit answered, or none
-//!     refused boundary|long                   why the last edit was refused
-//!     undoes START REMOVED ADDED PLACE        the next undo, or none
-//!     redoes START REMOVED ADDED PLACE        the next redo, or none
+//!     change START REMOVED ADDED PLACE        the last edit's change, or none
+//!     refused boundary|long                   the cause for which the last edit was refused
+//!     undoes START REMOVED ADDED PLACE        the next undo's change, or none
+//!     redoes START REMOVED ADDED PLACE        the next redo's change, or none
 //!     text TEXT
 //!     length BYTES
 //!     pieces TEXT|TEXT|..
-//!     piece OFFSET TEXT                       what the piece from there on is
+//!     piece OFFSET TEXT                       the piece from OFFSET on
 //!     copy START STOP TEXT
-//!     uncopied START STOP                     that range is refused
+//!     uncopied START STOP                     a copy of this range is refused
 //!     shows START STOP LENGTH|..              the paragraphs: their bodies, and their separators' lengths
-//!     paragraph OFFSET NUMBER                 which one the offset is in, from 0
-//!     walk OFFSET STEPS NUMBER START STOP LENGTH    where a walk from there comes to by > and <; a . is no step
-//!     forget                                  what was asked until here
-//!     asked LIMIT                             fewer questions for a class than this
+//!     paragraph OFFSET NUMBER                 the number, from 0, of the paragraph that has OFFSET
+//!     walk OFFSET STEPS NUMBER START STOP LENGTH    the paragraph that a walk reaches by > and <; `.` is no step
+//!     forget                                  resets the count of questions for a class
+//!     asked LIMIT                             fewer than LIMIT questions for a class were asked since
 
 use crate::scene::Scene;
 use crate::words::{number_of, text_of, three_of, two_of};
@@ -29,7 +29,7 @@ use bx_paras::Index;
 use std::alloc::Global;
 use std::test::Fail;
 
-/// Does what a line says: whether its word is one that does something.
+/// Performs a line if its word is an edit. Returns whether it is.
 fn does(scene: &mut Scene, word: &str, rest: &str) -> Result<bool, Fail> {
     if word == "insert" {
         let (at, before, after, added) = three_of(rest)?;
@@ -49,7 +49,7 @@ fn does(scene: &mut Scene, word: &str, rest: &str) -> Result<bool, Fail> {
     Ok(true)
 }
 
-/// Edits as often as a line says: whether its word is one of these.
+/// Performs a line if its word is a repeated edit. Returns whether it is.
 fn often(scene: &mut Scene, word: &str, rest: &str) -> Result<bool, Fail> {
     if word != "scatter" && word != "undo" && word != "redo" {
         return Ok(false);
@@ -71,7 +71,7 @@ fn often(scene: &mut Scene, word: &str, rest: &str) -> Result<bool, Fail> {
     Ok(true)
 }
 
-/// Whether what a line says of the last edit and the next ones is so.
+/// Whether a line about the last edit and the next ones holds.
 fn is_so(scene: &Scene, word: &str, rest: &str) -> Result<bool, Fail> {
     if word == "change" {
         return scene.has_changed(rest);
@@ -91,7 +91,7 @@ fn is_so(scene: &Scene, word: &str, rest: &str) -> Result<bool, Fail> {
     has_text(scene, word, rest)
 }
 
-/// Whether what a line says of the text is so.
+/// Whether a line about the text holds.
 fn has_text(scene: &Scene, word: &str, rest: &str) -> Result<bool, Fail> {
     if word == "text" {
         let text = text_of(scene.allocator(), rest)?;
@@ -114,7 +114,7 @@ fn has_text(scene: &Scene, word: &str, rest: &str) -> Result<bool, Fail> {
     Ok(word == "uncopied" && scene.refuses(number, stop))
 }
 
-/// Whether what a line says of the paragraphs is so.
+/// Whether a line about the paragraphs holds.
 fn has_paragraphs(scene: &Scene, word: &str, rest: &str) -> Result<bool, Fail> {
     if word == "shows" {
         return scene.shows(rest);
@@ -130,7 +130,7 @@ fn has_paragraphs(scene: &Scene, word: &str, rest: &str) -> Result<bool, Fail> {
     walks(scene.index(), number, steps, rest)
 }
 
-/// Whether a walk from an offset comes to a paragraph, by these steps, of which each tells whether it moved.
+/// Whether these steps walk from an offset to a paragraph, and each returns whether it moved.
 fn walks(index: &Index, offset: usize, steps: &str, paragraph: &str) -> Result<bool, Fail> {
     let (number, start, stop, separator) = three_of(paragraph)?;
     let mut walk = index.walk_at_offset(offset);
@@ -149,13 +149,13 @@ fn walks(index: &Index, offset: usize, steps: &str, paragraph: &str) -> Result<b
     Ok((walk.number(), walk.span(), walk.separator()) == (number, (start, stop), separator))
 }
 
-/// Plays a line: whether all that it says is so.
+/// Plays a line. Returns whether it holds.
 fn passes(scene: &mut Scene, line: &str) -> Result<bool, Fail> {
     let (word, rest) = line.split_once(' ').unwrap_or((line, ""));
     Ok(does(scene, word, rest)? || is_so(scene, word, rest)?)
 }
 
-/// Plays lines. The first that is not so is a failure.
+/// Plays lines. Fails at the first that does not hold.
 fn play_lines(scene: &mut Scene, name: &str, lines: &str) -> Result<(), Fail> {
     for line in lines.lines() {
         if !passes(scene, line)? {
@@ -165,14 +165,14 @@ fn play_lines(scene: &mut Scene, name: &str, lines: &str) -> Result<(), Fail> {
     Ok(())
 }
 
-/// A text that is so many times another.
+/// Opens the scene of an `open` line.
 fn scene_of(alloc: Global, words: &str) -> Result<Scene, Fail> {
     let (times, part) = number_of(words)?;
     let part = text_of(alloc, part)?;
     Scene::open(alloc, part.as_str(), times)
 }
 
-/// Plays a scene. It has one way out once the scene is open, since each would be a proof of what is dropped there.
+/// Plays a scene.
 fn play_scene(alloc: Global, scene: &str) -> Result<(), Fail> {
     let (name, rest) = scene.split_once('\n').ok_or("no name")?;
     let (opening, lines) = rest.split_once('\n').ok_or("no lines")?;
@@ -181,7 +181,7 @@ fn play_scene(alloc: Global, scene: &str) -> Result<(), Fail> {
     play_lines(&mut scene, name, lines)
 }
 
-/// Plays scenes with an empty line between them.
+/// Plays scenes separated by empty lines.
 pub(crate) fn play(alloc: Global, scenes: &str) -> Result<(), Fail> {
     for scene in scenes.split("\n\n") {
         play_scene(alloc, scene)?;

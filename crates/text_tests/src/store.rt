@@ -1,4 +1,4 @@
-//! Saves into memory and into files.
+//! Saves to memory and to files.
 
 use bx_store::{FileStore, MemoryStore, Store, StoreFault};
 use std::os::unix::fs::PermissionsExt;
@@ -14,7 +14,7 @@ fn save<S: Store>(store: &mut S, first: &[u8], second: &[u8]) -> Result<(), Stor
     store.commit()
 }
 
-/// The path of a file of this process's own in the system's folder for such.
+/// A path in the folder for temporary files that is unique to this process.
 fn path_of(rt: &HostRuntime, name: &str) -> Result<PathBuf, Fail> {
     let name = format!(in rt.alloc(); "bx_store-{}-{name}", process::id(rt.process()))?;
     Ok(env::temp_dir(rt)?.join(rt.alloc(), name.as_str())?)
@@ -43,7 +43,7 @@ fn the_call_that_fails_keeps_what_was_stored(rt: HostRuntime) -> Result<(), Fail
     Ok(())
 }
 
-/// A file's bytes, and its permissions in 9 bits.
+/// A file's bytes, and the low nine bits of its mode.
 fn file_at(rt: &HostRuntime, path: &str) -> Result<(Vec<u8>, u32), Fail> {
     let mode = fs::metadata(rt, path)?.permissions().mode();
     Ok((fs::read(rt, path)?, mode & 0o777))
@@ -99,7 +99,7 @@ fn a_link_stays_and_files_beside_it_stay(rt: HostRuntime) -> Result<(), Fail> {
     fs::write(&rt, beside.as_path(), b"of the user")?;
     std::os::unix::fs::symlink(&rt, path.as_path(), link.as_path())?;
     let mut store = FileStore::new(&rt, rt.alloc(), link.as_str())?;
-    // what the link names is made, and then replaced
+    // the file behind the link is created, and then replaced
     save(&mut store, b"new", b"")?;
     let made = fs::read(&rt, path.as_path())?;
     save(&mut store, b"newer", b"")?;
@@ -175,7 +175,7 @@ fn a_file_that_is_written_itself_keeps_its_names(rt: HostRuntime) -> Result<(), 
     let mut store = FileStore::in_place(&rt, rt.alloc(), path.as_str(), mark.as_str())?;
     save(&mut store, b"a", b"b")?;
     let first = fs::read(&rt, other.as_path())?;
-    // by its other name, which is a change by another program
+    // through the other name, as another program would
     fs::write(&rt, other.as_path(), b"theirs")?;
     let outcomes = [
         save(&mut store, b"c", b"").is_ok(),
@@ -184,7 +184,7 @@ fn a_file_that_is_written_itself_keeps_its_names(rt: HostRuntime) -> Result<(), 
     let second = fs::read(&rt, other.as_path())?;
     let is_left = fs::metadata(&rt, mark.as_path()).is_ok();
     fs::remove_file(&rt, path.as_path())?;
-    // what is gone is made anew
+    // a removed file is created again
     save(&mut store, b"d", b"")?;
     let texts = [
         fs::read(&rt, path.as_path())?,

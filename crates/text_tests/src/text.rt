@@ -1,4 +1,4 @@
-//! Worked rows: edits, their undo, and refusals, in the words of `steps.rt`. The first line of each says what it shows.
+//! Worked scenes: edits, their undo, and refusals, in the notation of `steps.rt`.
 
 use crate::steps::play;
 use std::test::Fail;

@@ -1,4 +1,4 @@
-//! UTF-8: how many bytes a character has, and which.
+//! UTF-8: the length and the bytes of a character.
 
 use bx_bytes::{Fate, character, character_fate};
 

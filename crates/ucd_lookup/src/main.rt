@@ -1,4 +1,4 @@
-//! Answers for characters by Unicode's own files, and tells how long it takes to read them.
+//! Prints the classes, brackets and mirrors of characters from Unicode's files, or the processor time of reading the files.
 //!
 //!     ucd_lookup CLASSES BRACKETS MIRRORING CODE..
 //!     ucd_lookup --time COUNT CLASSES BRACKETS MIRRORING
@@ -13,7 +13,7 @@ use std::rt::{Env, Files};
 use std::time::CpuClock;
 use std::{env, fs, io};
 
-/// The bytes of the three files.
+/// The bytes of Unicode's three files.
 #[derive(Drop)]
 struct DataFiles {
     classes: Vec<u8>,
@@ -21,7 +21,7 @@ struct DataFiles {
     mirroring: Vec<u8>,
 }
 
-/// Reads the three files of these paths.
+/// Reads the three files at these paths.
 fn read_files<R: Files + AllocGlobal>(rt: &R, paths: &[String]) -> Result<DataFiles> {
     let [classes, brackets, mirroring] = paths else {
         bail!("three files are wanted: classes, brackets and mirroring");
@@ -33,7 +33,7 @@ fn read_files<R: Files + AllocGlobal>(rt: &R, paths: &[String]) -> Result<DataFi
     })
 }
 
-/// The tables that the files make.
+/// Reads the tables from the files.
 fn read_tables<R: AllocGlobal>(rt: &R, files: &DataFiles) -> Result<Tables>
     ensures classes { IfOk result (λ t. (code : ℕ) → (⟦<Tables as BidiData>⟧.data t).class code ≡ class_in_file files.now.classes.items code) }
     ensures brackets { IfOk result (λ t. (code : ℕ) → (⟦<Tables as BidiData>⟧.data t).bracket code ≡ bracket_in_file files.now.brackets.items code) }
@@ -48,7 +48,7 @@ fn read_tables<R: AllocGlobal>(rt: &R, files: &DataFiles) -> Result<Tables>
     Ok(tables)
 }
 
-/// Prints what the tables answer for the character.
+/// Prints the tables' answers for a character.
 fn print_answers(rt: &impl Print, tables: &impl BidiData, c: char) -> io::Result<()> {
     let code = c as u32;
     let class = tables.class(c);
@@ -68,7 +68,7 @@ fn print_answers(rt: &impl Print, tables: &impl BidiData, c: char) -> io::Result
     println!(rt; "")
 }
 
-/// Prints the answers for the characters of these codes.
+/// Prints the answers for the characters with these hexadecimal codes.
 fn look_up<R: Print + AllocGlobal>(rt: &R, files: &DataFiles, codes: &[String]) -> Result<()> {
     let tables = read_tables(rt, files)?;
     for text in codes {
@@ -79,7 +79,7 @@ fn look_up<R: Print + AllocGlobal>(rt: &R, files: &DataFiles, codes: &[String]) 
     Ok(())
 }
 
-/// Reads the tables so many times, and prints the processor time of one reading in microseconds.
+/// Reads the tables `count` times, and prints the processor time of one reading in microseconds.
 fn time<R: Print + CpuClock + AllocGlobal>(rt: &R, files: &DataFiles, count: u32) -> Result<()> {
     let start = rt.thread_cpu_time()?;
     for _ in 0..count {

@@ -1,4 +1,4 @@
-//! BidiCharacterTest.txt: characters, a direction, and the paragraph level, the levels and the order that are wanted.
+//! BidiCharacterTest.txt. A line has characters, a direction, and the expected paragraph level, levels and order.
 use crate::fields::{is_case, levels, order, text_of};
 use crate::layout::{Layout, find_layout};
 use crate::score::Score;
@@ -7,7 +7,7 @@ use bx_terms::Base;
 use bx_ucd::Tables;
 use std::alloc::Global;
 
-/// The base of a paragraph direction's field.
+/// Parses a paragraph direction.
 fn base_of(field: &str) -> Result<Base> {
     match field {
         "0" => Ok(Base::Ltr),
@@ -17,7 +17,7 @@ fn base_of(field: &str) -> Result<Base> {
     }
 }
 
-/// One case.
+/// Checks one case.
 fn check(alloc: Global, line: &str, tables: &Tables, score: &mut Score) -> Result<()> {
     let mut fields = line.split(';');
     let text = text_of(alloc, fields.next().context("characters")?)?;
@@ -36,7 +36,7 @@ fn check(alloc: Global, line: &str, tables: &Tables, score: &mut Score) -> Resul
     Ok(())
 }
 
-/// The score of the suite.
+/// Runs the suite.
 pub fn score(alloc: Global, text: &str, tables: &Tables) -> Result<Score> {
     let mut score = Score::new(alloc);
     for (number, line) in text.lines().enumerate() {

@@ -1,5 +1,5 @@
-//! BidiTest.txt: lines of the levels and the order that are wanted of the lines after them, which are classes and the
-//! directions under which to try them.
+//! BidiTest.txt. Lines with expected levels and order apply to the lines after them, each of which has classes and the
+//! directions to try.
 use crate::fields::{is_case, levels, order};
 use crate::layout::{Layout, find_layout};
 use crate::representatives::representative;
@@ -12,7 +12,7 @@ use std::alloc::Global;
 /// The bit of each direction.
 const BASES: [(u8, Base); 3] = [(1, Base::Auto), (2, Base::Ltr), (4, Base::Rtl)];
 
-/// A text with a character of each of the classes.
+/// A text with one character for each class.
 fn text_of_classes(alloc: Global, field: &str, tables: &Tables) -> Result<String> {
     let mut text = String::new(alloc);
     for name in field.split_ascii_whitespace() {
@@ -21,7 +21,7 @@ fn text_of_classes(alloc: Global, field: &str, tables: &Tables) -> Result<String
     Ok(text)
 }
 
-/// The cases of a line of classes, one for each direction.
+/// Checks the cases of a line of classes, one for each direction.
 fn check(
     alloc: Global,
     line: &str,
@@ -48,7 +48,7 @@ fn check(
     Ok(())
 }
 
-/// The score of the suite.
+/// Runs the suite.
 pub fn score(alloc: Global, text: &str, tables: &Tables) -> Result<Score> {
     let mut score = Score::new(alloc);
     let mut wanted = Layout {

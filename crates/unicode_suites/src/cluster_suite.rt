@@ -1,4 +1,4 @@
-//! GraphemeBreakTest.txt: characters with a sign between any two, whether a cluster ends there.
+//! GraphemeBreakTest.txt. A line has characters separated by signs that say whether a cluster ends there.
 use crate::fields::{character, is_case};
 use crate::score::Score;
 use anyhow::{Context, Result};
@@ -7,10 +7,10 @@ use bx_ucd::Tables;
 use std::alloc::{AllocError, Global};
 use unicode_segmentation::UNICODE_VERSION;
 
-/// The columns of the window, which clusters do not depend on.
+/// The window's width in columns, which does not affect clusters.
 const COLUMNS: u16 = 80;
 
-/// The text of a case, and the offsets of its breaks.
+/// The text of a case, and the offsets of its breaks in bytes.
 fn text_and_breaks(alloc: Global, field: &str) -> Result<(String, Vec<usize>)> {
     let mut text = String::new(alloc);
     let mut breaks = Vec::new(alloc);
@@ -24,7 +24,7 @@ fn text_and_breaks(alloc: Global, field: &str) -> Result<(String, Vec<usize>)> {
     Ok((text, breaks))
 }
 
-/// The offsets of the breaks of the body's units.
+/// The offsets of the breaks between a body's units in bytes, with both ends.
 fn unit_breaks(alloc: Global, body: &str, tables: &Tables) -> Result<Vec<usize>> {
     let mut breaks = vec![in alloc; 0]?;
     for unit in &units(alloc, body, tables, COLUMNS)? {
@@ -33,7 +33,7 @@ fn unit_breaks(alloc: Global, body: &str, tables: &Tables) -> Result<Vec<usize>>
     Ok(breaks)
 }
 
-/// One case.
+/// Checks one case.
 fn check(alloc: Global, line: &str, tables: &Tables, score: &mut Score) -> Result<()> {
     let case = line.split_once('#').map_or(line, |(case, _)| case);
     let (text, wanted) = text_and_breaks(alloc, case)?;
@@ -46,7 +46,7 @@ fn check(alloc: Global, line: &str, tables: &Tables, score: &mut Score) -> Resul
     Ok(())
 }
 
-/// The score of the suite.
+/// Runs the suite.
 pub fn score(alloc: Global, text: &str, tables: &Tables) -> Result<Score> {
     let mut score = Score::new(alloc);
     for (number, line) in text.lines().enumerate() {
@@ -58,13 +58,13 @@ pub fn score(alloc: Global, text: &str, tables: &Tables) -> Result<Score> {
     Ok(score)
 }
 
-/// The version that the first line names, if it names one.
+/// The version in the first line, if it has one.
 fn version_of(text: &str) -> Option<&str> {
     let name = text.lines().next()?.strip_prefix("# GraphemeBreakTest-")?;
     name.strip_suffix(".txt")
 }
 
-/// The version of the file and that of the code, where the file names another one.
+/// The versions of the file and of the code, if they differ.
 pub fn other_version(alloc: Global, text: &str) -> Result<Option<String>, AllocError> {
     let Some(version) = version_of(text) else {
         return Ok(None);

@@ -1,19 +1,19 @@
-//! The fields of the suites' lines.
+//! Parsers for the fields of the suites' lines.
 use anyhow::{Context, Result};
 use std::alloc::Global;
 
-/// Whether a line is a case, and no comment.
+/// Whether a line is a case: not empty and no comment.
 pub fn is_case(line: &str) -> bool {
     !line.is_empty() && !line.starts_with('#')
 }
 
-/// The character of a hexadecimal code.
+/// Parses a character from its hexadecimal code.
 pub fn character(code: &str) -> Result<char> {
     let number = u32::from_str_radix(code, 16).context("a hexadecimal code")?;
     char::from_u32(number).context("a character")
 }
 
-/// The text of hexadecimal codes.
+/// Parses a text from hexadecimal codes.
 pub fn text_of(alloc: Global, field: &str) -> Result<String> {
     let mut text = String::new(alloc);
     for code in field.split_ascii_whitespace() {
@@ -22,7 +22,7 @@ pub fn text_of(alloc: Global, field: &str) -> Result<String> {
     Ok(text)
 }
 
-/// Levels, `x` for a character that has none.
+/// Parses levels; `x` is a character without a level.
 pub fn levels(alloc: Global, field: &str) -> Result<Vec<Option<u8>>> {
     let mut levels = Vec::new(alloc);
     for level in field.split_ascii_whitespace() {
@@ -35,7 +35,7 @@ pub fn levels(alloc: Global, field: &str) -> Result<Vec<Option<u8>>> {
     Ok(levels)
 }
 
-/// Numbers of characters.
+/// Parses indexes of characters.
 pub fn order(alloc: Global, field: &str) -> Result<Vec<usize>> {
     let mut order = Vec::new(alloc);
     for number in field.split_ascii_whitespace() {

@@ -1,4 +1,4 @@
-//! What the code finds of a paragraph of one row.
+//! The layout that the code finds for a paragraph of one row.
 ghost use Rattle.std.specs.Prelude.{All, IfOk};
 ghost use Rattle.bx_cells.specs.Units.{StandsIn};
 
@@ -11,7 +11,7 @@ use bx_ucd::{BidiData, Class, Tables};
 use std::alloc::Global;
 use std::fmt;
 
-/// The level of each character, `None` for one that X9 removes, and the numbers of the others from left to right.
+/// The level of each character, `None` for those that X9 removes, and the indexes of the others from left to right.
 #[derive(Drop)]
 pub struct Layout {
     pub levels: Vec<Option<u8>>,
@@ -19,7 +19,7 @@ pub struct Layout {
 }
 
 impl Layout {
-    /// Whether both are the same.
+    /// Whether both are equal.
     pub fn is(&self, other: &Layout) -> bool {
         self.levels.as_slice() == other.levels.as_slice()
             && self.order.as_slice() == other.order.as_slice()
@@ -62,7 +62,7 @@ fn levels_of(alloc: Global, body: &str, tables: &Tables, base: Base) -> Result<L
     Ok(levels(alloc, body, tables, base)?)
 }
 
-/// The unit of a character of a body that stands at this offset.
+/// A unit for the character `c` of a body at the byte offset `start`.
 fn character_unit(body: &str, start: usize, c: char) -> Result<Unit>
     ensures { IfOk result (λ unit. StandsIn body.now unit) }
 {
@@ -77,7 +77,7 @@ fn character_unit(body: &str, start: usize, c: char) -> Result<Unit>
     })
 }
 
-/// A unit for each character: the suites speak of characters, also of those that stand in one cluster.
+/// A unit for each character. The suites give levels to characters, even to several in one cluster.
 fn character_units(alloc: Global, body: &str) -> Result<Vec<Unit>>
     ensures { IfOk result (λ units. All (StandsIn body.now) units.items) }
 {
@@ -89,8 +89,8 @@ fn character_units(alloc: Global, body: &str) -> Result<Vec<Unit>>
     Ok(units)
 }
 
-/// The levels of a text's body before L1, and the level of each character of the text after L1, in one row. In the second a
-/// character that X9 removes has the level of the one before it.
+/// The levels of a text's body before L1, and the level of each character of the text after L1, in one row. A character that X9
+/// removes has the level of the one before it in the latter.
 fn levels_in_row(
     alloc: Global,
     text: &str,
@@ -105,14 +105,14 @@ fn levels_in_row(
         stop: units.len(),
     };
     let mut each = row_levels(alloc, body, &units, row, &found, tables)?;
-    // L1: a separator has the paragraph level.
+    // L1: a separator gets the paragraph level
     if body.len() < text.len() {
         each.push(found.paragraph)?;
     }
     Ok((found, each))
 }
 
-/// The paragraph level of a text and its layout in one row.
+/// The paragraph level of a text, and its layout in one row.
 pub fn find_layout(alloc: Global, text: &str, tables: &Tables, base: Base) -> Result<(u8, Layout)> {
     let (found, each) = levels_in_row(alloc, text, tables, base)?;
     let mut levels = Vec::new(alloc);

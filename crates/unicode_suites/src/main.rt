@@ -1,10 +1,10 @@
-//! Compares what this repository's code finds with what Unicode's own test suites ask for.
+//! Runs Unicode's test suites of levels, orders and grapheme clusters against this repository's code.
 //!
 //!     unicode_suites CLASSES BRACKETS MIRRORING CHARACTERS SEQUENCES CLUSTERS
 //!
-//! The words are paths of files in the form of DerivedBidiClass.txt, BidiBrackets.txt, BidiMirroring.txt,
-//! BidiCharacterTest.txt, BidiTest.txt and GraphemeBreakTest.txt. It prints how many cases of how many agree and the first
-//! lines that differ, and ends with status 1 where one differs or a suite has no case.
+//! The words are paths of files in the format of DerivedBidiClass.txt, BidiBrackets.txt, BidiMirroring.txt,
+//! BidiCharacterTest.txt, BidiTest.txt and GraphemeBreakTest.txt. For each suite the program prints the number of cases, the
+//! number that agree, and the first lines that differ. It ends with status 1 if a case differs or a suite has none.
 #![tactic(auto)]
 
 mod character_suite;
@@ -22,7 +22,7 @@ use std::process::ExitCode;
 use std::rt::{Env, Files};
 use std::{env, fs};
 
-/// The tables that the first three files make.
+/// Reads the tables from the first three files.
 fn read_tables<R: Files + AllocGlobal>(rt: &R, paths: &[String]) -> Result<Tables> {
     let [classes, brackets, mirroring] = paths else {
         bail!("three files are wanted: classes, brackets and mirroring");
@@ -33,15 +33,15 @@ fn read_tables<R: Files + AllocGlobal>(rt: &R, paths: &[String]) -> Result<Table
     Ok(Tables::read(rt.alloc(), &classes, &brackets, &mirroring)?)
 }
 
-/// Prints the score of a suite of levels and orders, and says whether all of it agrees.
+/// Prints the score of a suite of levels and orders. Returns whether all cases agree.
 fn run_levels<R: Print + AllocGlobal>(rt: &R, name: &str, score: Result<Score>) -> Result<bool> {
     let score = score.context(format_args!("{name}"))?;
     score.print(rt, name)?;
     Ok(score.is_whole())
 }
 
-/// Runs the suite of grapheme clusters, and says whether all of it agrees. A file of another version of Unicode than the
-/// code's is not judged.
+/// Runs the suite of grapheme clusters. Returns whether all cases agree; a file of another version of Unicode always counts as
+/// agreeing.
 fn run_clusters<R: Print + AllocGlobal>(rt: &R, text: &str, tables: &Tables) -> Result<bool> {
     let name = "GraphemeBreakTest";
     let score = cluster_suite::score(rt.alloc(), text, tables).context(name)?;
@@ -57,7 +57,7 @@ fn run_clusters<R: Print + AllocGlobal>(rt: &R, text: &str, tables: &Tables) -> 
     }
 }
 
-/// Runs the three suites, and says whether all of them agree.
+/// Runs the three suites. Returns whether all cases agree.
 fn run_suites<R: Print + Files + AllocGlobal>(
     rt: &R,
     tables: &Tables,

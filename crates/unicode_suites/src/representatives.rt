@@ -2,7 +2,7 @@
 use anyhow::{Result, bail, ensure};
 use bx_ucd::{BidiData, Class, Tables};
 
-/// A class by its name, and a character that has it.
+/// The class with this name, and a character of it.
 fn of_name(name: &str) -> Result<(Class, char)> {
     Ok(match name {
         "L" => (Class::L, 'a'),
@@ -32,7 +32,7 @@ fn of_name(name: &str) -> Result<(Class, char)> {
     })
 }
 
-/// A character of the class of this name, if the tables give it that class.
+/// A character of the class with this name, if the tables agree.
 pub fn representative(name: &str, tables: &Tables) -> Result<char> {
     let (class, c) = of_name(name)?;
     ensure!(

@@ -1,11 +1,11 @@
-//! How many cases of a suite agree.
+//! The score of a suite.
 use std::alloc::{AllocError, Global};
 use std::{fmt, io};
 
-/// How many differing cases are kept.
+/// Number of differing cases kept.
 const KEPT: usize = 5;
 
-/// How many cases of a suite there are, how many agree, and what the first differing ones are.
+/// The number of cases, the number that agree, and the first that differ.
 #[derive(Drop)]
 pub struct Score {
     cases: u64,
@@ -14,7 +14,7 @@ pub struct Score {
 }
 
 impl Score {
-    /// No case yet.
+    /// The score before the first case.
     pub fn new(alloc: Global) -> Score {
         Score {
             cases: 0,
@@ -38,12 +38,12 @@ impl Score {
         Ok(())
     }
 
-    /// Whether there are cases and all of them agree.
+    /// Whether there are cases and all agree.
     pub fn is_whole(&self) -> bool {
         self.cases > 0 && self.agreeing == self.cases
     }
 
-    /// Prints the score of the suite of this name, and the first cases that differ.
+    /// Prints the score of the suite with this name, and the first cases that differ.
     pub fn print<R: Print>(&self, rt: &R, name: &str) -> io::Result<()> {
         println!(rt; "{name}: {self}")?;
         for case in &self.differing {

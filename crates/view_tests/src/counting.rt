@@ -1,4 +1,4 @@
-//! An edit asks for the classes of what it touches, and not for those of the whole text.
+//! An edit asks for the classes of the text that it touches, not of the whole text.
 
 use crate::scene::document_of;
 use bx_document::Document;
@@ -38,7 +38,7 @@ impl BidiData for Counting<'_> {
     }
 }
 
-/// Paragraphs of two letters.
+/// A text of `count` paragraphs of two letters.
 fn paragraphs(alloc: Global, count: usize) -> Result<String, Fail> {
     let mut text = String::new(alloc);
     for _ in 0..count {
@@ -47,7 +47,7 @@ fn paragraphs(alloc: Global, count: usize) -> Result<String, Fail> {
     Ok(text)
 }
 
-/// Puts a letter in at the least place that is not before an offset, and asks for the end of its row.
+/// Inserts a letter at the first place from an offset on, and returns the end of its row.
 fn insert<D: BidiData + Drop>(document: &mut Document<D>, offset: usize) -> Result<usize, Fail> {
     let place = document.place_from(offset)?;
     match document.insert(place, "x")? {
@@ -56,8 +56,7 @@ fn insert<D: BidiData + Drop>(document: &mut Document<D>, offset: usize) -> Resu
     }
 }
 
-/// The end of the row of a letter that is put into a text of 1,000 paragraphs, and how many classes are asked for by that. It has
-/// one way out once the document stands, since each would be a proof of what is dropped there.
+/// Inserts a letter into a text of 1,000 paragraphs. Returns the end of its row, and the number of questions for a class.
 fn end_and_questions(alloc: Global, place: usize) -> Result<(usize, u32), Fail> {
     let text = paragraphs(alloc, 1000)?;
     let questions = Cell::new(0);

@@ -1,4 +1,4 @@
-//! The layout of a paragraph: each call once with ample memory.
+//! The layout of a paragraph: each public call once with ample memory.
 ghost use Rattle.std.specs.Prelude.{◌<◌, length};
 ghost use Rattle.bx_paragraph.specs.Layout.{IsLayoutBy};
 
@@ -8,7 +8,7 @@ use bx_ucd::{BidiData, sample_tables};
 use std::alloc::Global;
 use std::test::Fail;
 
-/// Adds the slots of a row, each as its offset and its column.
+/// Appends the slots of a row, each as its offset and its column.
 fn add_slots<D: BidiData>(
     line: &mut String,
     alloc: Global,
@@ -26,7 +26,7 @@ fn add_slots<D: BidiData>(
     Ok(())
 }
 
-/// Adds the first and the last place of a row, how many it has, and its reading start and end.
+/// Appends a row's first and last place, its number of places, and its reading start and end.
 fn add_places<D: BidiData>(
     line: &mut String,
     alloc: Global,
@@ -48,7 +48,7 @@ fn add_places<D: BidiData>(
     Ok(())
 }
 
-/// Adds what is right and left of a row's first place, that place's column, and where column 2 is entered.
+/// Appends the places right and left of a row's first place, its column, and the place at which column 2 is entered.
 fn add_steps<D: BidiData>(
     line: &mut String,
     alloc: Global,
@@ -72,7 +72,7 @@ fn add_steps<D: BidiData>(
     Ok(())
 }
 
-/// The rows of a layout: slots, places and steps of each.
+/// The slots, places and steps of each row.
 fn rows_in<D: BidiData>(alloc: Global, layout: &ParagraphLayout, source: &D) -> Result<String, Fail>
     requires { IsLayoutBy (D.data source.now) layout.now }
 {
@@ -85,7 +85,7 @@ fn rows_in<D: BidiData>(alloc: Global, layout: &ParagraphLayout, source: &D) -> 
     Ok(line)
 }
 
-/// The rows of a text. It has one way out once the layout stands, since each would be a proof of what is dropped there.
+/// The slots, places and steps of a text's rows.
 fn account_of_rows<D: BidiData>(
     alloc: Global,
     text: &str,
@@ -129,7 +129,7 @@ fn hebrew_and_a_number(rt: HostRuntime) -> Result<(), Fail> {
     Ok(())
 }
 
-/// What is told of a layout as a whole, and what its row of an offset shows.
+/// The layout's width, level, body length and base, and the glyphs of the row that has an offset.
 fn picture_in<D: BidiData>(
     alloc: Global,
     layout: &ParagraphLayout,
@@ -148,7 +148,7 @@ fn picture_in<D: BidiData>(
     Ok(line)
 }
 
-/// The same of a body under a base from right to left.
+/// The same line for a body whose base is right to left.
 fn account_of_picture<D: BidiData>(
     alloc: Global,
     source: &D,

@@ -1,6 +1,6 @@
-//! Tests of a paragraph's layout and of the rows of a whole text: each call once with ample memory, rows of an independent model,
-//! the top that follows a place, and how often an edit asks for a class. Moves are played by `play_scenes`. They stand in a crate of
-//! their own since the tests of a crate prove all of it once more.
+//! Tests of a paragraph's layout and of the rows of a whole text: each call once with ample memory, rows from an independent
+//! model, the top that follows a place, and the number of questions for a class after an edit. `play_scenes` plays moves. These
+//! tests have their own crate, so that the tested crates stay quick to check.
 #![tactic(auto)]
 
 #[cfg(test)]

@@ -1,5 +1,4 @@
-//! The rows of whole texts: how many there are, where each begins, its slots with the column of each, and the steps from one slot
-//! to the next.
+//! The rows of whole texts: their number, their starts, their slots with columns, and the steps between slots.
 
 mod vectors;
 
@@ -10,20 +9,20 @@ use std::alloc::Global;
 use std::test::Fail;
 use vectors::VECTORS;
 
-/// Whether a step to the right leads from a place to the next one, and a step to the left leads back.
+/// Whether a step right leads from a place to the next one, and a step left leads back.
 fn are_beside(scene: &mut Scene<'_>, place: usize, next: usize) -> Result<bool, Fail> {
     let right = scene.step_visual(Visual::Right, place)?;
     let left = scene.step_visual(Visual::Left, next)?;
     Ok(right == next && left == place)
 }
 
-/// A slot's place and column.
+/// Parses a slot's place and column.
 fn slot_of(word: &str) -> Result<(usize, u16), Fail> {
     let (place, column) = word.split_once('@').ok_or("no slot")?;
     Ok((place.parse()?, column.parse()?))
 }
 
-/// Whether steps lead from each of the slots of a row, from left to right, to the next one and back.
+/// Whether steps lead through a row's slots from left to right, and back.
 fn has_slots(scene: &mut Scene<'_>, slots: &str) -> Result<bool, Fail> {
     let mut last = None;
     for word in slots.split(' ') {
@@ -38,7 +37,7 @@ fn has_slots(scene: &mut Scene<'_>, slots: &str) -> Result<bool, Fail> {
     Ok(true)
 }
 
-/// Whether they do in all rows, with a slash between rows.
+/// Whether steps lead through the slots of all rows, separated by slashes.
 fn has_rows(scene: &mut Scene<'_>, rows: &str) -> Result<bool, Fail> {
     for slots in rows.split('/') {
         if !has_slots(scene, slots)? {
@@ -58,7 +57,7 @@ fn text_of(alloc: Global, hex: &str) -> Result<String, Fail> {
     Ok(String::from_utf8(bytes)?)
 }
 
-/// Whether steps lead through the rows of a text as its line says.
+/// Whether steps lead through the rows of a line's text.
 fn has_rows_of_line(alloc: Global, line: &str) -> Result<bool, Fail> {
     let mut fields = line.split('|');
     let text = text_of(alloc, fields.next().ok_or("no text")?)?;
@@ -69,8 +68,7 @@ fn has_rows_of_line(alloc: Global, line: &str) -> Result<bool, Fail> {
     has_rows(&mut scene, rows)
 }
 
-/// Whether the row of a number begins at the least of the places of its slots, falls under each of them, and has these slots, each in
-/// its column.
+/// Whether a row starts at the least place of its slots, is the row of each of them, and has them in these columns.
 fn is_row(whole: &Whole, number: usize, slots: &str) -> Result<bool, Fail> {
     let mut places = Vec::new(whole.allocator());
     for word in slots.split(' ') {
@@ -87,7 +85,7 @@ fn is_row(whole: &Whole, number: usize, slots: &str) -> Result<bool, Fail> {
     )
 }
 
-/// Whether a text has these rows and no more.
+/// Whether a text has exactly these rows.
 fn has_rows_by_number(whole: &Whole, rows: &str) -> Result<bool, Fail> {
     let mut count = 0;
     for slots in rows.split('/') {
@@ -99,7 +97,7 @@ fn has_rows_by_number(whole: &Whole, rows: &str) -> Result<bool, Fail> {
     Ok(whole.row_count()? == count && whole.first(count)?.is_none())
 }
 
-/// Whether the rows of a text are as its line says, by their numbers.
+/// Whether a line's text has its rows, found by number.
 fn has_numbered_rows_of_line(alloc: Global, line: &str) -> Result<bool, Fail> {
     let mut fields = line.split('|');
     let text = text_of(alloc, fields.next().ok_or("no text")?)?;

@@ -1,4 +1,4 @@
-//! A text in a window, and where the moves of its cursor lead.
+//! A text in a window, and the moves of its cursor.
 ghost use Rattle.std.specs.Prelude.{◌≡◌, IfOk};
 
 use bx_document::Document;
@@ -8,7 +8,7 @@ use bx_view::{Move, Visual};
 use std::alloc::Global;
 use std::test::Fail;
 
-/// A text, laid out in `w` columns. Whether a window has as many is asked when the test runs.
+/// Lays out a text in `w` columns, if a window may have as many.
 pub(crate) fn document_of<D: BidiData + Drop>(
     alloc: Global,
     text: &str,
@@ -25,8 +25,7 @@ pub(crate) fn document_of<D: BidiData + Drop>(
     Ok(Document::open(alloc, text, tables, w, base)?)
 }
 
-/// A text in a window. Its characters stand beside the document, so that a move asks, when the test runs, whether its place
-/// stands between two of them.
+/// A text in a window. It keeps the text beside the document, to check that a move's place is a character boundary.
 #[derive(Drop)]
 pub(crate) struct Scene<'a> {
     text: &'a str,

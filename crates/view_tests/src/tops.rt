@@ -1,16 +1,16 @@
-//! The top that follows a place: it moves by the least number of rows that shows the place's row.
+//! The top that follows a place: it moves by the fewest rows that bring the place's row into view.
 
 use crate::whole::Whole;
 use bx_terms::Base;
 use std::alloc::Global;
 use std::test::Fail;
 
-/// In three columns its rows are `ab `, `cd `, `ef`, `12` and `3`, which begin at the offsets 0, 3, 6, 9 and 12.
+/// Its rows in three columns are `ab `, `cd `, `ef`, `12` and `3`, at the offsets 0, 3, 6, 9 and 12.
 const TEXT: &str = "ab cd ef\n12\n3";
 
-/// Each line: an offset in the old top row, a place, how many rows are shown, and where the new top row begins. The places are two
-/// rows below the page and one, two rows above it and four, in its middle and in its last row, and below a top that is told by the
-/// middle of its row; of one row that is shown, below and within; of more rows than the text has, above and within.
+/// Each line: an offset in the old top row, a place, the number of rows shown, and the new top row's offset. The places are two
+/// rows and one below the page, two and four above it, in its middle and in its last row, and below a top given by the middle
+/// of its row; then, with one row shown, below it and in it; and with more rows shown than the text has, above and within.
 const TOPS: &str = "0 12 3 6
 0 10 3 3
 9 4 2 3
@@ -33,7 +33,7 @@ fn follows(whole: &Whole, line: &str) -> Result<bool, Fail> {
     Ok(whole.follow(top, place, t)? == wanted)
 }
 
-/// The first line by which the top does not follow.
+/// The first line that does not hold.
 fn first_wrong(whole: &Whole) -> Result<Option<&'static str>, Fail> {
     for line in TOPS.lines() {
         if !follows(whole, line)? {
@@ -43,7 +43,7 @@ fn first_wrong(whole: &Whole) -> Result<Option<&'static str>, Fail> {
     Ok(None)
 }
 
-/// The same of the text.
+/// The first line of `TOPS` that does not hold.
 fn first_wrong_in_text(alloc: Global) -> Result<Option<&'static str>, Fail> {
     let text = String::from_str(alloc, TEXT)?;
     let whole = Whole::of(alloc, text, 3, Base::Auto)?;

@@ -1,4 +1,4 @@
-//! A text with its paragraphs and tables, of which a new layout is asked at each call.
+//! A text with its paragraphs and tables, laid out anew by each call.
 ghost use Rattle.std.specs.Prelude.{◌≡◌, true};
 ghost use Rattle.bx_paras.specs.Paragraphs.{lengths};
 ghost use Rattle.bx_terms.specs.Sizes.{is_side};

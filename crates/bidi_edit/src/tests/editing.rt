@@ -17,7 +17,7 @@ fn beginning(text: Option<Vec<u8>>) -> Beginning<'static> {
     beginning_with(small_files(), text)
 }
 
-/// The same with other Unicode files.
+/// A text in that window, with other Unicode files.
 fn beginning_with<'a>(unicode: UnicodeFiles<'a>, text: Option<Vec<u8>>) -> Beginning<'a> {
     Beginning {
         unicode,

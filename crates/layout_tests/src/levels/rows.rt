@@ -1,7 +1,7 @@
 //! Worked examples of the rules.
 
-/// A line each: what it shows, the characters in hexadecimal, the base, the paragraph level, and a level each. What stands before
-/// a `*` and a count stands so often, and behind `..` are the last levels alone.
+/// Each line: what it shows, the characters in hexadecimal, the base, the paragraph level, and each character's level. A count
+/// after `*` repeats the word before it; after `..` only the last levels are given.
 pub const ROWS: &str = "\
 right to left in left to right\t0061 0020 05D0 05D1 0020 0062\tauto\t0\t0 0 1 1 0 0\n\
 the same from right to left\t0061 0020 05D0 05D1 0020 0062\trtl\t1\t2 1 1 1 1 2\n\

@@ -1,6 +1,6 @@
-//! Levels of random texts, made by an independent model that passes Unicode's conformance tests of the algorithm.
+//! Levels of random texts, from an independent model that passes Unicode's conformance tests of the algorithm.
 
-/// A line each: the characters in hexadecimal, the base, the paragraph level, and a level each, `x` where it is removed.
+/// Each line: the characters in hexadecimal, the base, the paragraph level, and each character's level, `x` for a removed one.
 pub const VECTORS: &str = "\
 007A FF09\tltr\t0\t0 0\n\
 0064 005A 0065\tauto\t0\t0 0 0\n\

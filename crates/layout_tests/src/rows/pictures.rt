@@ -1,4 +1,4 @@
-//! What rows show, on the call itself: `_` is a blank, `*` stands behind a mark in negative image, `|` between rows.
+//! Pictures of rows: `_` is a blank, `*` follows a negative glyph, `|` separates rows.
 use crate::words::{field_of, two_of, with_tabs};
 use bx_cells::units;
 use bx_resolve::levels;
@@ -9,7 +9,7 @@ use bx_ucd::{Tables, sample_tables};
 use std::alloc::{AllocError, Global};
 use std::test::Fail;
 
-/// Adds what a row shows, from left to right.
+/// Appends a row's glyphs, from left to right.
 fn add_picture(text: &mut String, picture: &RowPicture<'_>) -> Result<(), Fail> {
     for glyph in &picture.glyphs {
         let shown = glyph.text.as_str();
@@ -21,7 +21,7 @@ fn add_picture(text: &mut String, picture: &RowPicture<'_>) -> Result<(), Fail> 
     Ok(())
 }
 
-/// What the rows of a body show.
+/// The picture of a body's rows.
 fn pictures(
     alloc: Global,
     tables: &Tables,
@@ -53,7 +53,7 @@ fn pictures(
     Ok(text)
 }
 
-/// What the rows of a body show, each by its number.
+/// The picture of a body's rows, each drawn by its number.
 fn numbered_pictures(
     alloc: Global,
     tables: &Tables,
@@ -74,7 +74,7 @@ fn numbered_pictures(
     Ok(text)
 }
 
-/// Whether a body under a base in so many columns shows this, its rows one after another and each by its number.
+/// Whether a body's rows in `w` columns have this picture, drawn one after another and each by its number.
 fn shows(
     alloc: Global,
     tables: &Tables,
@@ -89,7 +89,7 @@ fn shows(
     )
 }
 
-/// A base, the columns of the window, a body in which U+2409 is a tab, and what its rows show.
+/// Each line: the base, the window's columns, a body with U+2409 for tabs, and the picture of its rows.
 const PICTURES: &str = "\
 auto\t6\ta \u{5d0}\u{5d1} b\ta_\u{5d1}\u{5d0}_b\n\
 auto\t8\t\u{5d0}\u{5d1} 12\t___12_\u{5d1}\u{5d0}\n\
@@ -117,7 +117,7 @@ auto\t7\ta\u{202b}\u{5d0}\u{2066}\u{2069}\u{202c}\taE*\u{5d0}i*P*p*_\n\
 rtl\t6\ta \u{5d0}\u{5d1} b\tb_\u{5d1}\u{5d0}_a\n\
 ltr\t8\t\u{5d0}\u{5d1} 12\t12_\u{5d1}\u{5d0}___";
 
-/// Whether what a line says is so.
+/// Whether a line holds.
 fn is_so(alloc: Global, tables: &Tables, line: &str) -> Result<bool, Fail> {
     let (base, w, rest) = two_of(line);
     let (body, wanted) = field_of(rest);
@@ -133,7 +133,7 @@ fn is_so(alloc: Global, tables: &Tables, line: &str) -> Result<bool, Fail> {
     )
 }
 
-/// The first line that is not so is a failure.
+/// Fails at the first line that does not hold.
 fn check(alloc: Global, tables: &Tables, lines: &str) -> Result<(), Fail> {
     for line in lines.lines() {
         if !is_so(alloc, tables, line)? {
@@ -149,7 +149,7 @@ fn pictures_of_worked_rows(rt: HostRuntime) -> Result<(), Fail> {
     check(rt.alloc(), &tables, PICTURES)
 }
 
-/// Adds a text some times.
+/// Appends a text `times` times.
 fn push_times(text: &mut String, part: &str, times: usize) -> Result<(), AllocError> {
     for _ in 0..times {
         text.push_str(part)?;
@@ -157,7 +157,7 @@ fn push_times(text: &mut String, part: &str, times: usize) -> Result<(), AllocEr
     Ok(())
 }
 
-/// A letter, so many opening brackets, a right-to-left letter, as many of `closer`, and another right-to-left letter.
+/// A letter, `times` opening brackets, a right-to-left letter, as many of `closer`, and another right-to-left letter.
 fn in_brackets(alloc: Global, times: usize, closer: &str) -> Result<String, AllocError> {
     let mut text = String::from_str(alloc, "a")?;
     push_times(&mut text, "(", times)?;
@@ -167,13 +167,13 @@ fn in_brackets(alloc: Global, times: usize, closer: &str) -> Result<String, Allo
     Ok(text)
 }
 
-/// What so many pairs of brackets within each other show in 140 columns.
+/// The picture in 140 columns of nested pairs of brackets.
 fn shown_in_brackets(alloc: Global, tables: &Tables, times: usize) -> Result<String, Fail> {
     let body = in_brackets(alloc, times, ")")?;
     pictures(alloc, tables, body.as_str(), Base::Auto, 140)
 }
 
-/// Whether so many pairs of brackets within each other show this in 140 columns, with the letters and the blanks.
+/// Whether nested pairs of brackets, with the letters and the blanks, have this picture in 140 columns.
 fn brackets_show(alloc: Global, tables: &Tables, times: usize, closer: &str) -> Result<bool, Fail> {
     let mut wanted = in_brackets(alloc, times, closer)?;
     let blanks = 137usize.saturating_sub(times.saturating_mul(2));
@@ -190,7 +190,7 @@ fn brackets_that_fill_their_stack(rt: HostRuntime) -> Result<(), Fail> {
     Ok(())
 }
 
-/// So many embeddings before a letter.
+/// A text of `times` embeddings and a letter.
 fn embeddings(alloc: Global, times: usize) -> Result<String, AllocError> {
     let mut text = String::new(alloc);
     push_times(&mut text, "\u{202b}", times)?;
@@ -198,7 +198,7 @@ fn embeddings(alloc: Global, times: usize) -> Result<String, AllocError> {
     Ok(text)
 }
 
-/// So many marks of an embedding before a letter, in 70 columns.
+/// The picture in 70 columns of `times` embeddings, each shown as a glyph, and a letter.
 fn marks(alloc: Global, times: usize) -> Result<String, AllocError> {
     let mut text = String::new(alloc);
     push_times(&mut text, "E*", times)?;
@@ -207,7 +207,7 @@ fn marks(alloc: Global, times: usize) -> Result<String, AllocError> {
     Ok(text)
 }
 
-/// Whether so many embeddings before a letter are so many marks before it.
+/// Whether embeddings and a letter have that picture.
 fn embeddings_show(alloc: Global, tables: &Tables, times: usize) -> Result<bool, Fail> {
     let body = embeddings(alloc, times)?;
     let shown = pictures(alloc, tables, body.as_str(), Base::Auto, 70)?;

@@ -1,7 +1,7 @@
 //! Rows of random texts, from an independent model of the editor.
 
-/// A line each: the characters in hexadecimal, the base, the window's columns, and of each row, parted by `|`, the levels of
-/// its units and their numbers from left to right.
+/// Each line: the characters in hexadecimal, the base, the window's columns, the levels of each row's units, and their indexes
+/// from left to right. Bars separate rows.
 pub const VECTORS: &str = "\
 0009 0301 0041 0041\tauto\t3\t0|0 0 0\t0|0 1 2\n\
 0029 0028 005B\tauto\t2\t0 0|0\t0 1|0\n\

@@ -3,12 +3,12 @@
 use bx_keys::{Decoder, Key};
 use std::test::Fail;
 
-/// What a byte does, as the grammar of input bytes says it.
+/// The effect of a byte, by the grammar of input bytes.
 #[derive(Clone, Copy)]
 enum Effect {
     Waits,
     Ends(Option<Key>),
-    /// It drops what was read, and is read as if it stood alone.
+    /// It drops the bytes before it, and is read as if alone.
     ReadAfresh,
 }
 
@@ -135,7 +135,7 @@ fn inserts(code: u32) -> Effect {
     Effect::Ends(char::from_u32(code).map(Key::Insert))
 }
 
-/// Whether a byte that stood alone was read to this effect, by the key that it gave and the decoder behind it.
+/// Whether a byte alone had this effect, by its key and the decoder after it.
 fn has_effect_alone(effect: Effect, key: Option<Key>, decoder: &Decoder) -> bool {
     match effect {
         Effect::Waits => key.is_none() && *decoder != Decoder::new(),
@@ -144,15 +144,15 @@ fn has_effect_alone(effect: Effect, key: Option<Key>, decoder: &Decoder) -> bool
     }
 }
 
-/// Whether a decoder is one that has read a byte alone.
+/// Whether a decoder equals one that has read this byte alone.
 fn has_read_alone(decoder: &Decoder, byte: u8) -> bool {
     let mut alone = Decoder::new();
     let _key = alone.feed(byte);
     *decoder == alone
 }
 
-/// Whether a byte behind a beginning was read to this effect. One that waits is waited for with the beginning, and one that is
-/// read afresh is read as the table of single bytes says.
+/// Whether a byte after a beginning had this effect. If it waits, the beginning waits too; if it drops the beginning, it has
+/// its effect in the table of single bytes.
 fn has_effect(
     effect: Effect,
     before: &Decoder,
@@ -171,7 +171,7 @@ fn has_effect(
     }
 }
 
-/// A decoder that has read a beginning, which gives no key.
+/// A decoder that has read a beginning, which has no key.
 fn decoder_after(beginning: Beginning) -> Option<Decoder> {
     let mut decoder = Decoder::default();
     for byte in bytes_of(beginning) {

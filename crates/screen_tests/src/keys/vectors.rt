@@ -1,7 +1,7 @@
-//! Random inputs with the keys that an independent model of the editor found in them.
+//! Random inputs with their keys, from an independent model of the editor.
 
-/// A line has the input's bytes in hex, its keys in order, and in hex the bytes that wait then. An insert has its
-/// character as a code point, a size its rows and columns.
+/// Each line: the input's bytes in hexadecimal, its keys in order, and the bytes that wait at the end, in hexadecimal. An
+/// insert has its character's code, a size its rows and columns.
 pub const VECTORS: &str = "\
 1b5b4461e2839dd7|left insert/0061 insert/20DD|d7\n\
 1b5b397e61641b5b441b5b347e1b5b48065b020d03c8|direction insert/0061 insert/0064 left row_end row_home forward insert/005B back insert/000A|c8\n\

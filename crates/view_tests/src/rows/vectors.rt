@@ -1,7 +1,7 @@
 //! The slots of the rows of random texts, from an independent model of the editor.
 
-/// A line each: the text in UTF-8 in hexadecimal, the base, the window's columns, and the slots of each row from left to right,
-/// as a place and its column, with a slash between rows.
+/// Each line: the text in UTF-8 in hexadecimal, the base, the window's columns, and the slots of each row from left to right,
+/// as places and columns. Slashes separate rows.
 pub const VECTORS: &str = "\
 1c0d0ad793d793c285790a|ltr|1|0@1 1@1/3@1/5@1/7@1/9@1 10@1/11@1\n\
 d791292929282979285d642929d792|auto|5|5@1 4@2 3@3 2@4 0@5/7@1 8@2 9@3 10@4 6@5/15@2 13@3 12@4 11@5\n\

@@ -1,4 +1,4 @@
--- The index is that of the text.
+-- The index describes the text.
 use Rattle.std.proofs.Common.{◌≡◌}
 use Rattle.bx_paras.specs.Paragraphs.{lengths}
 use Rattle.bench.proofs.paragraphs.edit_often.Given as goal

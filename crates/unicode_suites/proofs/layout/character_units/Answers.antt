@@ -1,4 +1,4 @@
--- One more unit stands in the body.
+-- The next unit lies in the body.
 use Rattle.std.proofs.Common.{List, All, subst, sym}
 use Rattle.std.proofs.lemmas.List.Elements.{All-push}
 use Rattle.bx_cells.specs.declared.unit.Unit.{Unit}

@@ -1,4 +1,4 @@
--- The units so far stand in the body.
+-- The units so far lie in the body.
 use Rattle.std.proofs.Common.{All}
 use Rattle.bx_cells.specs.Units.{StandsIn}
 use Rattle.unicode_suites.proofs.layout.character_units.Given as goal

@@ -1,4 +1,3 @@
--- The literals are computed.
 use Rattle.std.proofs.Common.{refl}
 use Rattle.std.specs.Str.{chars}
 use Rattle.unicode_width.proofs.Computing.{unicode_width}
