@@ -12,7 +12,7 @@ use crate::body::{Body, first_char};
 use crate::error::ResolveError;
 use crate::scratch::{Ends, Scratch, may_have_brackets};
 use bx_brackets::{BracketError, PairSearch};
-use bx_explicit::Kept;
+use bx_explicit::ExplicitChar;
 use bx_ucd::{BidiData, Class};
 
 /// Passes the characters of a text to a search, each with its type.
@@ -44,7 +44,7 @@ fn meet_run<D: BidiData>(
     search: &mut PairSearch,
     body: &Body<'_>,
     tables: &D,
-    kept: &[Option<Kept>],
+    kept: &[Option<ExplicitChar>],
     level: u8,
     first: usize,
     types: &[Class],
@@ -87,7 +87,7 @@ fn meet_sequence<D: BidiData>(
     search: &mut PairSearch,
     body: &Body<'_>,
     tables: &D,
-    kept: &[Option<Kept>],
+    kept: &[Option<ExplicitChar>],
     firsts: &[usize],
     level: u8,
     types: &[Class],
@@ -136,7 +136,7 @@ pub fn resolve_brackets_in<D: BidiData>(
     scratch: &mut Scratch,
     body: &mut Body<'_>,
     tables: &D,
-    kept: &[Option<Kept>],
+    kept: &[Option<ExplicitChar>],
     firsts: &[usize],
     types: &mut [Class],
     ends: Ends,

@@ -13,7 +13,7 @@ use crate::error::ResolveError;
 use crate::neutral::found_level;
 use crate::paragraph::{Level, Levels};
 use crate::scratch::{Ends, Scratch, resolve_neutral};
-use bx_explicit::{Explicit, Kept, SequenceWalk, explicit};
+use bx_explicit::{Explicit, ExplicitChar, SequenceWalk, explicit};
 use bx_ucd::{BidiData, Class};
 use std::alloc::{AllocError, Global};
 
@@ -32,7 +32,7 @@ fn make_room(types: &mut Vec<Class>, left: usize) -> Result<(), AllocError>
 /// Appends the types of the run that begins at index `first`.
 fn gather_types(
     types: &mut Vec<Class>,
-    kept: &[Option<Kept>],
+    kept: &[Option<ExplicitChar>],
     level: u8,
     first: usize,
 ) -> Result<(), AllocError>
@@ -55,7 +55,7 @@ fn gather_types(
 /// Collects the types of a sequence's characters after overrides. `firsts` has the first index of each run.
 fn sequence_types(
     types: &mut Vec<Class>,
-    kept: &[Option<Kept>],
+    kept: &[Option<ExplicitChar>],
     firsts: &[usize],
     level: u8,
 ) -> Result<(), AllocError>
@@ -72,7 +72,7 @@ fn sequence_types(
 /// sequence. Returns the new count.
 fn write_run(
     each: &mut Vec<Level>,
-    kept: &[Option<Kept>],
+    kept: &[Option<ExplicitChar>],
     level: u8,
     first: usize,
     types: &[Class],
@@ -102,7 +102,7 @@ fn write_run(
 /// Writes the levels of a sequence from its resolved types. `firsts` has the first index of each run.
 fn write_levels(
     each: &mut Vec<Level>,
-    kept: &[Option<Kept>],
+    kept: &[Option<ExplicitChar>],
     firsts: &[usize],
     level: u8,
     types: &[Class],
@@ -125,7 +125,7 @@ fn write_sequence<D: BidiData>(
     tables: &D,
     types: &mut [Class],
     walk: &SequenceWalk<'_>,
-    kept: &[Option<Kept>],
+    kept: &[Option<ExplicitChar>],
 ) -> Result<(), ResolveError>
     requires lent { walk.now.has_current ≡ true }
     requires same { kept.now ≡ walk.now.explicit.kept.items }
@@ -164,7 +164,7 @@ fn write_lent<D: BidiData>(
     room: &mut Room<'_>,
     tables: &D,
     walk: &SequenceWalk<'_>,
-    kept: &[Option<Kept>],
+    kept: &[Option<ExplicitChar>],
 ) -> Result<(), ResolveError>
     requires lent { walk.now.has_current ≡ true }
     requires same { kept.now ≡ walk.now.explicit.kept.items }
