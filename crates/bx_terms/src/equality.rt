@@ -2,7 +2,7 @@
 
 ghost use Rattle.std.specs.Prelude.{◌≡◌, ◌↔◌, IsTrue};
 
-/// Whether two byte slices are equal. A contract can cite the call, which it cannot do with `==`.
+/// Whether two byte slices are equal.
 pub fn are_equal(left: &[u8], right: &[u8]) -> bool
     ensures { IsTrue result ↔ (left.now ≡ right.now) }
 {
