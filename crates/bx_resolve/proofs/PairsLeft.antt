@@ -6,7 +6,6 @@ use Rattle.std.proofs.lemmas.List.{drop_all, at_drop_more}
 use Rattle.bx_ucd.specs.Data.{Data}
 use Rattle.bx_ucd.specs.declared.class.Class.{Class}
 use Rattle.bx_ucd.specs.declared.class.Class.TheVariants.{L}
-use Rattle.bx_ucd.specs.declared.data.Side.{Side}
 use Rattle.bx_brackets.specs.Pairs.{bracket_at}
 use Rattle.bx_brackets.specs.Search.{Progress, after, pairs_after}
 use Rattle.bx_explicit.specs.declared.entry.ExplicitChar.{ExplicitChar}

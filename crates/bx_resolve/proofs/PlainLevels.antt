@@ -7,7 +7,6 @@ use Rattle.std.proofs.Math.Seq.{drop-length}
 use Rattle.bx_ucd.specs.Data.{Data}
 use Rattle.bx_ucd.specs.declared.class.Class.{Class}
 use Rattle.bx_ucd.specs.declared.class.Class.TheVariants.{L, R, AL, EN, AN, ES, ET, CS, NSM, B, S, WS, ON}
-use Rattle.bx_ucd.specs.declared.data.Side.{Side}
 use Rattle.bx_explicit.specs.declared.entry.ExplicitChar.{ExplicitChar}
 use Rattle.bx_explicit.specs.Sequences.{sequences, direction}
 use Rattle.bx_resolve.specs.Levels.{with_levels, with_sequences, levels_in, sequence_types, sequence_levels, paragraph_levels, types_at}
@@ -15,7 +14,7 @@ use Rattle.bx_brackets.specs.Pairs.{pairs}
 use Rattle.bx_brackets.specs.Resolve.{resolve_pairs}
 use Rattle.bx_resolve.specs.Weak.{weak, is_nsm}
 use Rattle.bx_resolve.specs.Neutral.{n1, n2, implicit_at}
-use Rattle.bx_resolve.specs.Plain.{is_plain, is_plain_right, is_from_right, is_unformatted, all_pass}
+use Rattle.bx_resolve.specs.Uniform.{is_plain, is_plain_right, is_from_right, is_unformatted, all_pass}
 use Rattle.bx_explicit.proofs.OneSequence.{kept_as, indexes_from, whole, sequences_plain}
 use Rattle.bx_resolve.proofs.PlainKept.{Each, explicit_plain, chars_whole, types_whole}
 use Rattle.bx_resolve.proofs.PlainLengths.{levels_length}

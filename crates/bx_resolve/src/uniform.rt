@@ -1,6 +1,6 @@
-//! Tests for texts that some rules leave unchanged.
+//! Tests of classes: whether a text of them has one level throughout, or no formatting character.
 ghost use Rattle.std.specs.Prelude.{◌≡◌};
-ghost use Rattle.bx_resolve.specs.Plain.{is_plain, is_plain_right, is_from_right, is_unformatted, all_pass};
+ghost use Rattle.bx_resolve.specs.Uniform.{is_plain, is_plain_right, is_from_right, is_unformatted, all_pass};
 
 use bx_ucd::Class;
 
