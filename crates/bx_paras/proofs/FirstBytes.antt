@@ -6,7 +6,7 @@ use Rattle.std.proofs.lemmas.List.{get_or-set_other}
 use lib.Utf8.{encode, scalar_cases}
 use Rattle.std.specs.Char.{IsScalar}
 use Rattle.std.proofs.lemmas.Bool.Decides.{nat_tests}
-use Rattle.bx_paras.specs.Leads.{lead_of}
+use Rattle.bx_paras.specs.LeadBytes.{lead_of}
 
 lead_at : (c : ℕ) (a b d : Bool) → nat_lt c 128 ≡ a → nat_lt c 2048 ≡ b → nat_lt c 65536 ≡ d
     → lead_of c ≡ cond a c (cond b (192 + c / 64) (cond d (224 + c / 4096) (240 + c / 262144)))

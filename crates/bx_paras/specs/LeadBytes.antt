@@ -10,5 +10,5 @@ abbrev pub lead_of : ℕ → ℕ
 lead_of c = get_or (encode_utf8 c) 0 0
 
 -- the flag of each separator's first byte is set
-abbrev pub TellLeads : Data → List Bool → Type 0
-TellLeads says flags = (c : ℕ) → IsScalar c → is_separator (says.class c) ≡ true → get_or flags (lead_of c) false ≡ true
+abbrev pub CoversSeparators : Data → List Bool → Type 0
+CoversSeparators says flags = (c : ℕ) → IsScalar c → is_separator (says.class c) ≡ true → get_or flags (lead_of c) false ≡ true

@@ -3,14 +3,14 @@
 ghost use Rattle.std.specs.Prelude.{◌≡◌, ◌<◌, ℕ, true, false, length, get_or};
 ghost use Rattle.std.specs.Char.{IsScalar};
 ghost use Rattle.bx_paras.specs.Paragraphs.{is_separator};
-ghost use Rattle.bx_paras.specs.Leads.{lead_of, TellLeads};
+ghost use Rattle.bx_paras.specs.LeadBytes.{lead_of, CoversSeparators};
 
 use crate::scan::separates;
 use bx_ucd::BidiData;
 
 /// Which bytes may begin a paragraph separator in UTF-8.
 #[derive(Drop)]
-pub struct Leads {
+pub struct LeadBytes {
     /// A flag for each byte.
     pub may_separate: [bool; 256],
 }
@@ -59,8 +59,8 @@ fn mark<D: BidiData>(flags: &mut [bool; 256], tables: &D, code: u32)
 }
 
 /// The possible first bytes of separators, for a scan of `bytes` bytes.
-pub fn leads_of<D: BidiData>(tables: &D, bytes: usize) -> Leads
-    ensures { TellLeads (D.data tables.now) result.may_separate }
+pub fn lead_bytes_of<D: BidiData>(tables: &D, bytes: usize) -> LeadBytes
+    ensures { CoversSeparators (D.data tables.now) result.may_separate }
 {
     let limit = asked_below(bytes);
     let mut may_separate = [false; 256];
@@ -70,5 +70,5 @@ pub fn leads_of<D: BidiData>(tables: &D, bytes: usize) -> Leads
     for byte in lead_byte(limit) as usize..256 {
         may_separate[byte] = true;
     }
-    Leads { may_separate }
+    LeadBytes { may_separate }
 }

@@ -5,32 +5,32 @@ ghost use Rattle.bx_paras.specs.Capacity.{block_capacity};
 ghost use Rattle.bx_paras.specs.Positions.{total};
 ghost use Rattle.bx_paras.specs.Ended.{ended_between};
 ghost use Rattle.bx_paras.specs.Flat.{flat, room_at};
-ghost use Rattle.bx_paras.specs.Leads.{TellLeads};
-ghost use Rattle.bx_paras.specs.Windows.{IsWindow};
+ghost use Rattle.bx_paras.specs.LeadBytes.{CoversSeparators};
+ghost use Rattle.bx_paras.specs.ScanRanges.{IsScanRange};
 
 use crate::blocks::Blocks;
-use crate::leads::Leads;
+use crate::lead_bytes::LeadBytes;
 use crate::position::Position;
 use crate::scan::paragraph_from;
-use crate::window::Window;
+use crate::scan_range::ScanRange;
 use bx_text::Text;
 use bx_ucd::BidiData;
 
-/// Inserts, at a position among the blocks, the paragraphs of a text from `start` on that end with a separator at or before
-/// `stop`. Reads the window alone. Returns the position after them and the offset where the last of them ends.
-fn fill<D: BidiData>(
+/// Scans paragraphs from `start` and inserts at a position among the blocks those that end with a separator at or before
+/// `stop`. Reads no text outside the range. Returns the position after them and the offset where the last of them ends.
+fn insert_scanned<D: BidiData>(
     blocks: &mut Blocks,
     position: usize,
     text: &Text,
     tables: &D,
-    leads: &Leads,
+    lead_bytes: &LeadBytes,
     start: usize,
     stop: usize,
-    window: Window,
+    range: ScanRange,
 ) -> (usize, usize)
     requires bounds { IsCharBoundary text.now.edited.text start }
-    requires leads { TellLeads (D.data tables.now) leads.now.may_separate }
-    requires window { IsWindow (D.data tables.now) text.now.edited.text start window }
+    requires lead_bytes { CoversSeparators (D.data tables.now) lead_bytes.now.may_separate }
+    requires range { IsScanRange (D.data tables.now) text.now.edited.text start range }
     requires position { position ≤ length blocks.old.blocks }
     requires room { length (ended_between (D.data tables.now) text.now.edited.text start stop) ≤ room_at blocks.old position }
     requires short { total (flat blocks.old.blocks) + total (ended_between (D.data tables.now) text.now.edited.text start stop) < 2 ^ 64 }
@@ -43,34 +43,34 @@ fn fill<D: BidiData>(
 {
     let mut position = position;
     let mut at = start;
-    let mut window = window;
+    let mut range = range;
     while at < stop {
-        let paragraph = paragraph_from(text, tables, leads, at, window);
+        let paragraph = paragraph_from(text, tables, lead_bytes, at, range);
         if paragraph.separator == 0 || paragraph.bytes() > stop - at {
             return (position, at);
         }
         position = blocks.push(position, paragraph);
         at += paragraph.bytes();
-        window.start = at;
+        range.start = at;
     }
     (position, at)
 }
 
 /// Replaces the paragraphs from `from` up to the number `to` by those scanned from the text, which begin at `from.start` and
-/// end with a separator at or before `stop`. Returns the offset where the last of them ends. Frees the room left over.
+/// end with a separator at or before `stop`. Returns the offset where the last of them ends. Frees spare blocks.
 pub fn replace<D: BidiData>(
     blocks: &mut Blocks,
     text: &Text,
     tables: &D,
-    leads: &Leads,
+    lead_bytes: &LeadBytes,
     from: Position,
     to: usize,
     stop: usize,
-    window: Window,
+    range: ScanRange,
 ) -> usize
     requires bounds { IsCharBoundary text.now.edited.text from.start }
-    requires leads { TellLeads (D.data tables.now) leads.now.may_separate }
-    requires window { IsWindow (D.data tables.now) text.now.edited.text from.start window }
+    requires lead_bytes { CoversSeparators (D.data tables.now) lead_bytes.now.may_separate }
+    requires range { IsScanRange (D.data tables.now) text.now.edited.text from.start range }
     requires order { from.number ≤ to }
     requires inside { to ≤ length (flat blocks.old.blocks) }
     requires room { 2 * block_capacity + length (ended_between (D.data tables.now) text.now.edited.text from.start stop)
@@ -83,8 +83,8 @@ pub fn replace<D: BidiData>(
     ensures stop { result ≡ from.start + total (ended_between (D.data tables.now) text.now.edited.text from.start stop) }
 {
     let position = blocks.take_out(from.number, to);
-    let (position, at) = fill(
-        blocks, position, text, tables, leads, from.start, stop, window,
+    let (position, at) = insert_scanned(
+        blocks, position, text, tables, lead_bytes, from.start, stop, range,
     );
     blocks.join(position);
     blocks.release();

@@ -1,6 +1,6 @@
 use Rattle.std.proofs.Common.{sym, arith}
-use Rattle.bx_paras.proofs.LeadBytes.{lead_two, lead_three, lead_four}
-use Rattle.bx_paras.proofs.leads.lead_byte.Goals as goal
+use Rattle.bx_paras.proofs.FirstBytes.{lead_two, lead_three, lead_four}
+use Rattle.bx_paras.proofs.lead_bytes.lead_byte.Goals as goal
 
 pub returns-then-code-lt2048 : goal.returns-then-code-lt2048
 returns-then-code-lt2048 c = sym (lead_two c.args.code (omega (arith, c.if-code-lt128.false)) (omega (arith, c.if-code-lt2048.true)))

@@ -2,9 +2,9 @@ use Rattle.std.proofs.Common.{rules, ◌≡◌, ◌<◌, inl, inr, true, false, 
 use Rattle.std.proofs.lemmas.Bool.{cases_lt, cases_eq}
 use Rattle.std.specs.Char.{IsScalar}
 use Rattle.bx_paras.specs.Paragraphs.{is_separator}
-use Rattle.bx_paras.specs.Leads.{lead_of}
-use Rattle.bx_paras.proofs.LeadBytes.{still_set, set_more, lead_rises, lead_is_byte, scalar_below}
-use Rattle.bx_paras.proofs.leads.leads_of.Goals as goal
+use Rattle.bx_paras.specs.LeadBytes.{lead_of}
+use Rattle.bx_paras.proofs.FirstBytes.{still_set, set_more, lead_rises, lead_is_byte, scalar_below}
+use Rattle.bx_paras.proofs.lead_bytes.lead_bytes_of.Goals as goal
 
 pub loop-code-preserved : goal.loop-code-preserved
 loop-code-preserved g c = record {

@@ -1,9 +1,9 @@
 -- The flags of the characters asked so far are set, and those of the later first bytes.
 use Rattle.std.proofs.Common.{◌≡◌, ◌<◌, ◌≤◌, ℕ, true, false, length, get_or}
 use Rattle.std.specs.Char.{IsScalar}
-use Rattle.bx_paras.specs.Leads.{lead_of}
+use Rattle.bx_paras.specs.LeadBytes.{lead_of}
 use Rattle.bx_paras.specs.Paragraphs.{is_separator}
-use Rattle.bx_paras.proofs.leads.leads_of.Given as goal
+use Rattle.bx_paras.proofs.lead_bytes.lead_bytes_of.Given as goal
 
 abbrev pub invariant-loop-code : goal.invariant-loop-code
 invariant-loop-code g l = record {

@@ -3,7 +3,7 @@ use Rattle.bx_paras.specs.declared.lengths.Lengths.{Lengths}
 use Rattle.bx_paras.specs.Positions.{total}
 use Rattle.bx_paras.proofs.Spliced.{pushed_from}
 use Rattle.bx_paras.proofs.Turns.{step, moved, none_left, still_all, now_all}
-use Rattle.bx_paras.proofs.fill.fill.Goals as goal
+use Rattle.bx_paras.proofs.rescan.insert_scanned.Goals as goal
 
 pub loop-at-preserved : goal.loop-at-preserved
 loop-at-preserved g c =
@@ -16,8 +16,8 @@ loop-at-preserved g c =
     c.push-position.ensures.back in
     record {
       bounds = s.ends_between;
-      window = moved (g.D.BidiData.data c.args.tables.now) c.args.text.now.edited.text c.loop-at.at _ c.loop-at.window
-          c.loop-at.invariant.window s.ends_between;
+      range = moved (g.D.BidiData.data c.args.tables.now) c.args.text.now.edited.text c.loop-at.at _ c.loop-at.range
+          c.loop-at.invariant.range s.ends_between;
       position = c.push-position.ensures.position;
       front = still_all _ _ _ _ _ p c.push-position.ensures.front s.left c.loop-at.invariant.front;
       back = c.push-position.ensures.back ∙ c.loop-at.invariant.back;

@@ -4,8 +4,8 @@ use Rattle.bx_paras.specs.Paragraphs.{lengths}
 use Rattle.bx_paras.specs.Positions.{total}
 use Rattle.bx_paras.specs.Ended.{ended_within}
 use Rattle.bx_paras.specs.Flat.{flat, room_at}
-use Rattle.bx_paras.specs.Windows.{IsWindow}
-use Rattle.bx_paras.proofs.fill.fill.Given as goal
+use Rattle.bx_paras.specs.ScanRanges.{IsScanRange}
+use Rattle.bx_paras.proofs.rescan.insert_scanned.Given as goal
 
 abbrev pub invariant-loop-at : goal.invariant-loop-at
 invariant-loop-at g l =
@@ -15,7 +15,7 @@ invariant-loop-at g l =
     let all = ended_within (l.stop - l.start) (lengths says (drop l.start text)) in
     record {
       bounds : IsCharBoundary text l.at;
-      window : IsWindow says text l.at l.window;
+      range : IsScanRange says text l.at l.range;
       position : l.position ≤ length l.blocks.blocks;
       front : flat (take l.position l.blocks.blocks) ++ left ≡ flat (take l.fn.position l.fn.blocks.blocks) ++ all;
       back : flat (drop l.position l.blocks.blocks) ≡ flat (drop l.fn.position l.fn.blocks.blocks);

@@ -1,10 +1,10 @@
 use Rattle.std.proofs.Common.{◌∙◌, ap, arith}
 use Rattle.bx_paras.specs.Flat.{flat}
 use Rattle.bx_paras.proofs.Spliced.{total_outside, length_outside, put_between}
-use Rattle.bx_paras.proofs.fill.replace.Goals as goal
+use Rattle.bx_paras.proofs.rescan.replace.Goals as goal
 
-pub fill-position-requires-clause-short : goal.fill-position-requires-clause-short
-fill-position-requires-clause-short g c =
+pub insert_scanned-position-requires-clause-short : goal.insert_scanned-position-requires-clause-short
+insert_scanned-position-requires-clause-short g c =
     omega (
       arith,
       c.requires.short,
@@ -12,8 +12,8 @@ fill-position-requires-clause-short g c =
           c.args.from.number c.args.to c.take_out-position.ensures.front c.take_out-position.ensures.back c.requires.order,
     )
 
-pub fill-position-requires-clause-few : goal.fill-position-requires-clause-few
-fill-position-requires-clause-few g c =
+pub insert_scanned-position-requires-clause-few : goal.insert_scanned-position-requires-clause-few
+insert_scanned-position-requires-clause-few g c =
     omega (
       arith,
       c.requires.few,
@@ -25,5 +25,5 @@ pub returns-clause-paragraphs : goal.returns-clause-paragraphs
 returns-clause-paragraphs g c =
     ap flat c.release.ensures
     ∙ c.join.ensures.paragraphs
-    ∙ put_between c.fill-position.new.blocks.blocks c.fill-position.result.0 _ _ _ _ _ c.fill-position.ensures.front c.take_out-position.ensures.front
-    c.fill-position.ensures.back c.take_out-position.ensures.back
+    ∙ put_between c.insert_scanned-position.new.blocks.blocks c.insert_scanned-position.result.0 _ _ _ _ _ c.insert_scanned-position.ensures.front c.take_out-position.ensures.front
+    c.insert_scanned-position.ensures.back c.take_out-position.ensures.back

@@ -3,7 +3,7 @@ use Rattle.std.proofs.lemmas.Str.{IsCharBoundary-end}
 use Rattle.bx_paras.specs.Paragraphs.{lengths}
 use Rattle.bx_paras.specs.Ended.{first, further}
 use Rattle.bx_paras.proofs.Firsts.{further_none, first_at_end}
-use Rattle.bx_paras.proofs.window.window_to_end.Goals as goal
+use Rattle.bx_paras.proofs.scan_range.range_to_end.Goals as goal
 
 pub returns : goal.returns
 returns c = λ says.
