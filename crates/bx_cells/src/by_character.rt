@@ -1,5 +1,5 @@
 //! Units of simple characters, found without the rules on breaks.
-ghost use Rattle.std.specs.Prelude.{◌≡◌, ◌≤◌, ◌<◌, ◌++◌, IfOk, MatchOption, encode_utf8, length};
+ghost use Rattle.std.specs.Prelude.{◌≡◌, ◌≤◌, ◌++◌, IfOk};
 ghost use Rattle.std.specs.Str.{IsCharBoundary};
 ghost use Rattle.bx_cells.specs.Simple.{own_columns};
 ghost use Rattle.bx_cells.specs.SimpleFace.{simple_face};
@@ -8,20 +8,9 @@ ghost use Rattle.bx_cells.specs.Units.{units_from};
 use crate::faces::{letter_if_any, small_face};
 use crate::simple::{Simple, simple_kind};
 use crate::unit::{Face, Unit};
+use bx_terms::first_char;
 use bx_ucd::BidiData;
 use std::alloc::AllocError;
-
-/// The first character of a text, and the rest.
-#[inline(always)]
-pub fn first_char(text: &str) -> Option<(char, &str)>
-    ensures { MatchOption result (length text.now ≡ 0) (λ (c, rest). (text.now ≡ encode_utf8 c ++ rest.now) × (length rest.now < length text.now)) }
-{
-    let mut chars = text.chars();
-    match chars.next() {
-        Some(c) => Some((c, chars.as_str())),
-        None => None,
-    }
-}
 
 /// The face of a cluster whose first character takes `columns` columns; `is_marked` if marks follow it.
 #[inline(always)]
@@ -80,7 +69,7 @@ pub(crate) fn push_simple<D: BidiData>(
                 columns = own;
                 is_marked = false;
             }
-            Simple::Mark => is_marked = true,
+            Simple::Extends => is_marked = true,
             Simple::Other => return Ok(start),
         }
         rest = behind;

@@ -16,7 +16,7 @@ mod simple_clusters;
 mod unit;
 
 pub use ascii_run::printable_stop;
-pub use by_character::{first_char, simple_face};
+pub use by_character::simple_face;
 pub use by_rules::ruled_unit;
 pub use clusters::units;
 pub use error::CellError;

@@ -3,8 +3,8 @@ ghost use Rattle.std.specs.Prelude.{◌≡◌, IfSome};
 ghost use Rattle.std.specs.Str.{IsCharBoundary};
 ghost use Rattle.bx_cells.specs.SimpleAt.{IsSimpleAt};
 
-use crate::by_character::first_char;
 use crate::simple::{Simple, simple_kind};
+use bx_terms::first_char;
 
 /// A cluster of simple characters: its first character and columns, whether marks follow, and the byte offset where the
 /// cluster ends.
@@ -38,7 +38,7 @@ pub fn simple_cluster(body: &str, at: usize) -> Option<SimpleCluster>
                     stop: body.len() - rest.len(),
                 });
             }
-            Simple::Mark => is_marked = true,
+            Simple::Extends => is_marked = true,
             Simple::Other => return None,
         }
         rest = behind;

@@ -1,7 +1,7 @@
 //! Edits, each with the cursor's place after it. Each allocates first and then changes the text.
 ghost use Rattle.std.specs.Prelude.{◌≡◌, ℕ, List, [], Some, true, false, IfOk, IfSome, IsErrOf, IsUtf8, MatchOption, OnErr, OnOk, option_map};
 ghost use Rattle.bx_paras.specs.Paragraphs.{lengths};
-ghost use Rattle.bx_text.specs.Edits.{IsRange, Leads, fits, next_redo, next_undo, redone, splice, undone};
+ghost use Rattle.bx_text.specs.Edits.{IsRange, IsChange, fits, next_redo, next_undo, redone, splice, undone};
 ghost use Rattle.bx_view.specs.Places.{IsTextPlace};
 ghost use Rattle.bx_view.specs.Holding.{IsViewBy, Keeps};
 ghost use Rattle.bx_document.specs.Document.{after_insertion, after_removal, place_after};
@@ -19,7 +19,7 @@ fn follow<D: BidiData>(index: &mut Index, text: &Text, tables: &D, change: &Chan
     requires was { (old : List ℕ)
         × IsUtf8 old
         × (index.old.paragraphs ≡ lengths (D.data tables.now) old)
-        × Leads old change.now text.now.edited.text }
+        × IsChange old change.now text.now.edited.text }
     requires room { index.old.room ≡ Some change.now.added }
     ensures { index.new.paragraphs ≡ lengths (D.data tables.now) text.now.edited.text }
 {

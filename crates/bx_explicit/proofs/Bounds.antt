@@ -6,11 +6,11 @@ use Rattle.std.proofs.lemmas.List.Elements.{All-cons, All-nil, All-head, All-tai
 use Rattle.bx_ucd.specs.declared.class.Class.{Class}
 use Rattle.bx_explicit.specs.declared.role.Role.{Role}
 use Rattle.bx_explicit.specs.declared.role.Role.TheVariants.{Lre, Rle, Lro, Rlo, Lri, Rli, Fsi, Pdi, Pdf, Bn, Other}
-use Rattle.bx_explicit.specs.declared.entry.Kept.{Kept}
+use Rattle.bx_explicit.specs.declared.entry.ExplicitChar.{ExplicitChar}
 use Rattle.bx_explicit.specs.declared.state.State.{State}
 use Rattle.bx_explicit.specs.declared.runs.Run.{Run}
 use Rattle.bx_explicit.specs.Role.{role_of}
-use Rattle.bx_explicit.specs.Kept.{level_or_0}
+use Rattle.bx_explicit.specs.CharLevel.{level_or_0}
 use Rattle.bx_explicit.specs.Stack.{max_depth, IsRising}
 use Rattle.bx_explicit.specs.Explicit.{next_state, kept_by, start, explicit_from, explicit_levels}
 use Rattle.bx_explicit.specs.Runs.{run, join_run, runs_from, kept_indexes, indexes_of, IsRunWithin}
@@ -19,7 +19,7 @@ use Rattle.bx_explicit.proofs.Rising.{rising_top}
 use Rattle.bx_explicit.proofs.Steps.{rising_next}
 use Rattle.bx_explicit.proofs.LevelRuns.{all_within}
 
-abbrev pub IsLow : Option Kept → Type 0
+abbrev pub IsLow : Option ExplicitChar → Type 0
 IsLow k = level_or_0 k ≤ max_depth
 
 kept_low : (r : Role) (c : Class) (s t : State) → IsRising s.stack → IsRising t.stack → IsLow (kept_by r c s t)
@@ -57,12 +57,12 @@ join_low k level (r ∷ rs) h a =
       | false ↦ All-cons IsLowRun (run level k k) (r ∷ rs) h a
     ]
 
-pub runs_low : (k : ℕ) (g : List (Option Kept)) → All IsLow g → All IsLowRun (runs_from k g)
+pub runs_low : (k : ℕ) (g : List (Option ExplicitChar)) → All IsLow g → All IsLowRun (runs_from k g)
 runs_low k [] a = All-nil IsLowRun
 runs_low k (None ∷ g) a = runs_low (k + 1) g (All-tail IsLow None g a)
 runs_low k (Some c ∷ g) a = join_low k c.level (runs_from (k + 1) g) (All-head IsLow (Some c) g a) (runs_low (k + 1) g (All-tail IsLow (Some c) g a))
 
-module _ (paragraph : ℕ) (cs : List Class) (kept : List (Option Kept)) (P : RunSequence → Type 0) where
+module _ (paragraph : ℕ) (cs : List Class) (kept : List (Option ExplicitChar)) (P : RunSequence → Type 0) where
   -- a property of each sequence that begins with one of the runs
   pub sequences_each : (Q : Run → Type 0) → ((r : Run) (fs : List Run) → Q r → All Q fs → P (sequence_of paragraph cs kept r fs))
       → ((r : Run) (rs : List Run) → All Q rs → All Q (followers cs r rs)) → (before rs : List Run) → All Q rs
@@ -87,29 +87,29 @@ followers_each cs Q r (q ∷ qs) a =
       | false ↦ followers_each cs Q r qs (All-tail Q q qs a)
     ]
 
-pub sequences_low : (paragraph : ℕ) (cs : List Class) (kept : List (Option Kept)) → All IsLow kept
+pub sequences_low : (paragraph : ℕ) (cs : List Class) (kept : List (Option ExplicitChar)) → All IsLow kept
     → All (λ s. s.level ≤ max_depth) (sequences paragraph cs kept)
 sequences_low paragraph cs kept a = sequences_each paragraph cs kept (λ s. s.level ≤ max_depth) IsLowRun (λ r fs h t. h) (followers_each cs IsLowRun) []
     (runs_from 0 kept) (runs_low 0 kept a)
 
 -- the indexes of a run lie in it
-kept_below : (n k : ℕ) (g : List (Option Kept)) → k + length g ≤ n → All (λ p. p < n) (kept_indexes k g)
+kept_below : (n k : ℕ) (g : List (Option ExplicitChar)) → k + length g ≤ n → All (λ p. p < n) (kept_indexes k g)
 kept_below n k [] h = All-nil (λ p. p < n)
 kept_below n k (None ∷ g) h = kept_below n (k + 1) g (omega arith)
 kept_below n k (Some c ∷ g) h = All-cons (λ p. p < n) k (kept_indexes (k + 1) g) (omega arith) (kept_below n (k + 1) g (omega arith))
 
-indexes_below : (n : ℕ) (kept : List (Option Kept)) (r : Run) → IsRunWithin 0 n r → All (λ p. p < n) (indexes_of kept r)
+indexes_below : (n : ℕ) (kept : List (Option ExplicitChar)) (r : Run) → IsRunWithin 0 n r → All (λ p. p < n) (indexes_of kept r)
 indexes_below n kept r w =
     let t : length (take (r.last + 1 - r.first) (drop r.first kept)) ≤ r.last + 1 - r.first =
     omega (arith, length-take (r.last + 1 - r.first) (drop r.first kept)) in
     kept_below n r.first (take (r.last + 1 - r.first) (drop r.first kept)) (omega (arith, w.ordered, w.ends))
 
-chain_below : (n : ℕ) (kept : List (Option Kept)) (rs : List Run) → All (IsRunWithin 0 n) rs → All (λ p. p < n) (chain_indexes kept rs)
+chain_below : (n : ℕ) (kept : List (Option ExplicitChar)) (rs : List Run) → All (IsRunWithin 0 n) rs → All (λ p. p < n) (chain_indexes kept rs)
 chain_below n kept [] a = All-nil (λ p. p < n)
 chain_below n kept (r ∷ rs) a = All-append (λ p. p < n) (indexes_of kept r) (chain_indexes kept rs) (indexes_below n kept r (All-head (IsRunWithin 0 n) r rs a))
     (chain_below n kept rs (All-tail (IsRunWithin 0 n) r rs a))
 
-pub sequences_below : (paragraph : ℕ) (cs : List Class) (kept : List (Option Kept))
+pub sequences_below : (paragraph : ℕ) (cs : List Class) (kept : List (Option ExplicitChar))
     → All (λ s. All (λ p. p < length kept) s.indexes) (sequences paragraph cs kept)
 sequences_below paragraph cs kept = sequences_each paragraph cs kept (λ s. All (λ p. p < length kept) s.indexes) (IsRunWithin 0 (length kept))
     (λ r fs h t. chain_below (length kept) kept (r ∷ fs) (All-cons (IsRunWithin 0 (length kept)) r fs h t)) (followers_each cs (IsRunWithin 0 (length kept))) []

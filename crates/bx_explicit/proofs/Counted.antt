@@ -5,7 +5,7 @@ use Rattle.std.proofs.lemmas.List.{length-take}
 use Rattle.std.proofs.lemmas.List.Elements.{All-cons, All-nil, All-head, All-tail}
 use Rattle.std.proofs.lemmas.List.Sorted.{IsPermutation-sym, All-permutation}
 use Rattle.bx_ucd.specs.declared.class.Class.{Class}
-use Rattle.bx_explicit.specs.declared.entry.Kept.{Kept}
+use Rattle.bx_explicit.specs.declared.entry.ExplicitChar.{ExplicitChar}
 use Rattle.bx_explicit.specs.declared.runs.Run.{Run}
 use Rattle.bx_explicit.specs.Runs.{runs_from, kept_indexes, indexes_of, IsRunWithin, AreRising}
 use Rattle.bx_explicit.specs.Sequences.{RunSequence, is_joined, followers, follows, chain_indexes, sequence_of, sequences_from, sequences}
@@ -14,12 +14,12 @@ use Rattle.bx_explicit.proofs.LevelRuns.{all_within, all_rising}
 use Rattle.bx_explicit.proofs.Bounds.{followers_each}
 use Rattle.bx_explicit.proofs.Ordered.{given_permutes}
 
-few_kept : (k : ℕ) (g : List (Option Kept)) → length (kept_indexes k g) ≤ length g
+few_kept : (k : ℕ) (g : List (Option ExplicitChar)) → length (kept_indexes k g) ≤ length g
 few_kept k [] = omega arith
 few_kept k (None ∷ g) = omega (arith, few_kept (k + 1) g)
 few_kept k (Some c ∷ g) = omega (arith, few_kept (k + 1) g)
 
-few_of_run : (kept : List (Option Kept)) (r : Run) → length (indexes_of kept r) ≤ r.last + 1 - r.first
+few_of_run : (kept : List (Option ExplicitChar)) (r : Run) → length (indexes_of kept r) ≤ r.last + 1 - r.first
 few_of_run kept r = omega (arith, few_kept r.first (take (r.last + 1 - r.first) (drop r.first kept)), length-take (r.last + 1 - r.first) (drop r.first kept))
 
 -- the runs of a chain rise
@@ -30,7 +30,7 @@ followers_rise cs r (q ∷ qs) h = elim (is_joined cs r q) as (λ b. AreRising (
   | false ↦ followers_rise cs r qs h.2
 ]
 
-few_of_chain : (n : ℕ) (kept : List (Option Kept)) (r : Run) (rs : List Run) → AreRising (r ∷ rs) → All (IsRunWithin 0 n) (r ∷ rs)
+few_of_chain : (n : ℕ) (kept : List (Option ExplicitChar)) (r : Run) (rs : List Run) → AreRising (r ∷ rs) → All (IsRunWithin 0 n) (r ∷ rs)
     → length (chain_indexes kept (r ∷ rs)) + r.first ≤ n
 few_of_chain n kept r [] h a =
     let w : IsRunWithin 0 n r = All-head (IsRunWithin 0 n) r [] a in
@@ -41,7 +41,7 @@ few_of_chain n kept r (q ∷ qs) h a =
     let behind : r.last < q.first = All-head (λ (u : Run). r.last < u.first) q qs h.1 in
     omega (arith, few_of_run kept r, length-append (indexes_of kept r) (chain_indexes kept (q ∷ qs)), w.ordered, more, behind)
 
-module _ (paragraph : ℕ) (cs : List Class) (kept : List (Option Kept)) where
+module _ (paragraph : ℕ) (cs : List Class) (kept : List (Option ExplicitChar)) where
   abbrev pub IsFew : RunSequence → Type 0
   IsFew s = length s.indexes ≤ length kept
 

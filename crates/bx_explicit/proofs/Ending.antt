@@ -2,7 +2,7 @@
 use Rattle.std.proofs.Common.{◌≡◌, ◌+◌, ◌∙◌, ℕ, List, [], ◌∷◌, ◌++◌, drop, reverse, refl, ap, sym, Bool, true, false, Option, Some, None}
 use Rattle.std.specs.Prelude.{IfNone, IfSome}
 use Rattle.bx_ucd.specs.declared.class.Class.{Class}
-use Rattle.bx_explicit.specs.declared.entry.Kept.{Kept}
+use Rattle.bx_explicit.specs.declared.entry.ExplicitChar.{ExplicitChar}
 use Rattle.bx_explicit.specs.declared.runs.Run.{Run}
 use Rattle.bx_explicit.specs.Runs.{runs_from}
 use Rattle.bx_explicit.specs.OpenChains.{is_over, with_run, sequence_of_runs}
@@ -19,7 +19,7 @@ open_at : (cs : List Class) (c : List Run) (chains : List (List Run)) (q : Run) 
 open_at cs c chains q true e = rw (e, still_open)
 open_at cs c chains q false e = rw (e, still_open)
 
-module _ (paragraph : ℕ) (cs : List Class) (kept : List (Option Kept)) where
+module _ (paragraph : ℕ) (cs : List Class) (kept : List (Option ExplicitChar)) where
   abbrev all_ending : List (List Run) → List (List Run) → Run → List Run → List RunSequence
   all_ending over stay q rest = sequences_of paragraph cs kept over ++ ending paragraph cs kept (with_run stay q) rest
 
@@ -38,7 +38,7 @@ module _ (paragraph : ℕ) (cs : List Class) (kept : List (Option Kept)) where
       ∙ ap (λ xs. all_ending [] xs q rest) (open_at cs c chains q false e)
 
 -- the run to come
-pub come_is : (kept : List (Option Kept)) (from : ℕ) (o : Option Run) → IfNone o (runs_from from (drop from kept) ≡ [])
+pub come_is : (kept : List (Option ExplicitChar)) (from : ℕ) (o : Option Run) → IfNone o (runs_from from (drop from kept) ≡ [])
     → IfSome o (λ r. runs_from from (drop from kept) ≡ r ∷ runs_from (r.last + 1) (drop (r.last + 1) kept))
     → runs_to_come kept o ≡ runs_from from (drop from kept)
 come_is kept from None n s = sym n

@@ -2,7 +2,7 @@
 use Rattle.std.proofs.Common.{◌≡◌, ℕ, zero, suc, List, [], ◌∷◌, ◌++◌, refl, Option, Some, None, replicate}
 use Rattle.bx_ucd.specs.declared.class.Class.{Class}
 use Rattle.bx_ucd.specs.declared.class.Class.TheVariants.{L, R, EN, ON, LRE, RLE, PDF, LRI, RLI, FSI, PDI}
-use Rattle.bx_explicit.specs.declared.entry.Kept.{Kept}
+use Rattle.bx_explicit.specs.declared.entry.ExplicitChar.{ExplicitChar}
 use Rattle.bx_explicit.specs.Matching.{match_of}
 use Rattle.bx_explicit.specs.ParagraphLevel.{paragraph_level}
 use Rattle.bx_explicit.specs.Explicit.{explicit_levels}
@@ -14,7 +14,7 @@ sequence indexes level sos eos = record { indexes = indexes; level = level; sos 
 abbrev sequences_of : List Class → List RunSequence
 sequences_of cs = sequences (paragraph_level cs) cs (explicit_levels (paragraph_level cs) cs)
 
-abbrev kept : ℕ → Class → Option Kept
+abbrev kept : ℕ → Class → Option ExplicitChar
 kept level class = Some (record { level = level; class = class })
 
 abbrev isolate_in_a_line : List Class

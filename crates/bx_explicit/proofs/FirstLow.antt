@@ -3,7 +3,7 @@ use Rattle.std.proofs.Common.{◌≡◌, ◌<◌, ◌≤◌, ◌+◌, ◌∙◌,
 use Rattle.std.specs.Prelude.{All, ◌==◌, ◌&&◌, nat_lt}
 use Rattle.std.proofs.lemmas.Bool.Decides.{nat_tests}
 use Rattle.std.proofs.lemmas.List.Elements.{All-head, All-tail}
-use Rattle.bx_explicit.specs.declared.entry.Kept.{Kept}
+use Rattle.bx_explicit.specs.declared.entry.ExplicitChar.{ExplicitChar}
 use Rattle.bx_explicit.specs.declared.runs.Run.{Run}
 use Rattle.bx_explicit.specs.Matching.{one_more}
 use Rattle.bx_explicit.specs.Runs.{run, join_run, runs_from, AreRising}
@@ -17,7 +17,7 @@ pick false true a h = h
 pick false false a h = None
 
 -- the number of characters before the first kept one that is not above a level, if that one has the level
-abbrev pub resumes_at : ℕ → List (Option Kept) → Option ℕ
+abbrev pub resumes_at : ℕ → List (Option ExplicitChar) → Option ℕ
 resumes_at l [] = None
 resumes_at l (None ∷ ks) = one_more (resumes_at l ks)
 resumes_at l (Some c ∷ ks) = pick (nat_lt l c.level) (c.level == l) (one_more (resumes_at l ks)) (Some 0)
@@ -61,7 +61,7 @@ resumed_join l k level [] = refl
 resumed_join l k level (r ∷ rs) = resumed_by l k level r rs (r.level == level) refl
 
 -- the first such run begins at the first such character
-pub resumed_runs : (l k : ℕ) (ks : List (Option Kept)) → resumed_run l (runs_from k ks) ≡ further k (resumes_at l ks)
+pub resumed_runs : (l k : ℕ) (ks : List (Option ExplicitChar)) → resumed_run l (runs_from k ks) ≡ further k (resumes_at l ks)
 resumed_runs l k [] = refl
 resumed_runs l k (None ∷ ks) = resumed_runs l (k + 1) ks ∙ sym (further_more k (resumes_at l ks))
 resumed_runs l k (Some c ∷ ks) =

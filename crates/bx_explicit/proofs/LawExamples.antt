@@ -2,11 +2,11 @@
 use Rattle.std.proofs.Common.{◌≡◌, ◌≤◌, ℕ, [], ◌∷◌, length, get_or, replicate, Option, Some, None, arith}
 use Rattle.bx_ucd.specs.declared.class.Class.{Class}
 use Rattle.bx_ucd.specs.declared.class.Class.TheVariants.{L, RLE, RLI, PDF, PDI}
-use Rattle.bx_explicit.specs.declared.entry.Kept.{Kept}
+use Rattle.bx_explicit.specs.declared.entry.ExplicitChar.{ExplicitChar}
 use Rattle.bx_explicit.specs.Explicit.{start}
 use Rattle.bx_explicit.specs.Laws.{states, given_between, StatesGiveLevels, AlwaysHasRoom}
 
-abbrev kept : ℕ → Class → Option Kept
+abbrev kept : ℕ → Class → Option ExplicitChar
 kept level class = Some (record { level = level; class = class })
 
 -- after 200 RLE, each of which would push an entry, the stack has at most 127 entries

@@ -4,7 +4,7 @@ use Rattle.std.proofs.Common.{Some, None, subst, true, false}
 use Rattle.std.proofs.lemmas.List.{at_drop_more, take_more, take_more_set, reverse-append}
 use Rattle.std.proofs.Math.Seq.{take-length}
 use Rattle.std.proofs.Math.ListN.{length-set}
-use Rattle.bx_explicit.specs.declared.entry.Kept.{Kept}
+use Rattle.bx_explicit.specs.declared.entry.ExplicitChar.{ExplicitChar}
 use Rattle.bx_explicit.specs.declared.runs.Run.{Run}
 use Rattle.bx_explicit.specs.Runs.{run, join_run, runs_from, IsRunWithin, AreRising}
 use Rattle.std.specs.Prelude.{All, ◌==◌}
@@ -31,14 +31,14 @@ reverse_set rs r h =
 pub reverse_one : {A : Type 0} (rs : List A) (r : A) → reverse (rs ++ r ∷ []) ≡ r ∷ reverse rs
 reverse_one rs r = reverse-append rs (r ∷ [])
 
-runs_at_none : (k : ℕ) (o : Option Kept) (g : List (Option Kept)) → o ≡ None → runs_from k (o ∷ g) ≡ runs_from (k + 1) g
+runs_at_none : (k : ℕ) (o : Option ExplicitChar) (g : List (Option ExplicitChar)) → o ≡ None → runs_from k (o ∷ g) ≡ runs_from (k + 1) g
 runs_at_none k None g e = refl
 runs_at_none k (Some r) g e = absurd (cc)
 
-pub runs_none : (g : List (Option Kept)) (k : ℕ) → k < length g → get_or g k None ≡ None → runs_from k (drop k g) ≡ runs_from (k + 1) (drop (k + 1) g)
+pub runs_none : (g : List (Option ExplicitChar)) (k : ℕ) → k < length g → get_or g k None ≡ None → runs_from k (drop k g) ≡ runs_from (k + 1) (drop (k + 1) g)
 runs_none g k h e = at_drop_more (runs_from k) g k None h ∙ runs_at_none k (get_or g k None) (drop (k + 1) g) e
 
-pub runs_some : (g : List (Option Kept)) (k : ℕ) (r : Kept) → k < length g → get_or g k None ≡ Some r
+pub runs_some : (g : List (Option ExplicitChar)) (k : ℕ) (r : ExplicitChar) → k < length g → get_or g k None ≡ Some r
     → runs_from k (drop k g) ≡ join_run k r.level (runs_from (k + 1) (drop (k + 1) g))
 runs_some g k r h e = at_drop_more (runs_from k) g k None h ∙ ap (λ o. runs_from k (o ∷ drop (k + 1) g)) e
 
@@ -65,14 +65,14 @@ within_join k n level (r ∷ rs) h a =
 pub within_eq : (k a b : ℕ) (rs : List Run) → a ≡ b → All (IsRunWithin k a) rs → All (IsRunWithin k b) rs
 within_eq k a b rs e h = subst (λ n. All (IsRunWithin k n) rs) e h
 
-pub runs_within : (k : ℕ) (g : List (Option Kept)) → All (IsRunWithin k (k + length g)) (runs_from k g)
+pub runs_within : (k : ℕ) (g : List (Option ExplicitChar)) → All (IsRunWithin k (k + length g)) (runs_from k g)
 runs_within k [] = All-nil (IsRunWithin k (k + 0))
 runs_within k (None ∷ g) = within_eq k (k + 1 + length g) (k + suc (length g)) (runs_from (k + 1) g) (omega arith)
     (widen_all k (k + 1 + length g) (runs_from (k + 1) g) (runs_within (k + 1) g))
 runs_within k (Some r ∷ g) = within_eq k (k + 1 + length g) (k + suc (length g)) (join_run k r.level (runs_from (k + 1) g)) (omega arith)
     (within_join k (k + 1 + length g) r.level (runs_from (k + 1) g) (omega arith) (runs_within (k + 1) g))
 
-pub all_within : (g : List (Option Kept)) → All (IsRunWithin 0 (length g)) (runs_from 0 g)
+pub all_within : (g : List (Option ExplicitChar)) → All (IsRunWithin 0 (length g)) (runs_from 0 g)
 all_within g = within_eq 0 (0 + length g) (length g) (runs_from 0 g) (omega arith) (runs_within 0 g)
 
 -- the runs are in text order and do not overlap
@@ -88,10 +88,10 @@ rising_join k n level (r ∷ rs) a h =
       | false ↦ (omega arith, after_all k n (r ∷ rs) a, h)
     ]
 
-pub runs_rising : (k : ℕ) (g : List (Option Kept)) → AreRising (runs_from k g)
+pub runs_rising : (k : ℕ) (g : List (Option ExplicitChar)) → AreRising (runs_from k g)
 runs_rising k [] = tt
 runs_rising k (None ∷ g) = runs_rising (k + 1) g
 runs_rising k (Some r ∷ g) = rising_join k (k + 1 + length g) r.level (runs_from (k + 1) g) (runs_within (k + 1) g) (runs_rising (k + 1) g)
 
-pub all_rising : (g : List (Option Kept)) → AreRising (runs_from 0 g)
+pub all_rising : (g : List (Option ExplicitChar)) → AreRising (runs_from 0 g)
 all_rising g = runs_rising 0 g

@@ -8,7 +8,7 @@ use Rattle.bx_ucd.specs.declared.class.Class.{Class}
 use Rattle.bx_ucd.specs.declared.class.Class.TheVariants.{L}
 use Rattle.bx_ucd.specs.Class.{is_initiator}
 use Rattle.bx_explicit.specs.declared.entry.Explicit.{Explicit}
-use Rattle.bx_explicit.specs.declared.entry.Kept.{Kept}
+use Rattle.bx_explicit.specs.declared.entry.ExplicitChar.{ExplicitChar}
 use Rattle.bx_explicit.specs.declared.open_chains.OpenChain.{OpenChain}
 use Rattle.bx_explicit.specs.declared.runs.Run.{Run}
 use Rattle.bx_explicit.specs.LevelIndexes.{level_indexes, indexes_from}
@@ -23,7 +23,7 @@ abbrev pub newest_index : List ℕ → ℕ
 newest_index ps = get_or ps (length ps - 1) 0
 
 -- a chain, its newest run first
-abbrev pub older : List (Option Kept) → ℕ → List ℕ → List Run
+abbrev pub older : List (Option ExplicitChar) → ℕ → List ℕ → List Run
 older kept b ps = reverse (map (run_at kept) (take (length ps - b - 1) (drop b ps)))
 
 split_last : (b : ℕ) (ps : List ℕ) → b < length ps → drop b ps ≡ take (length ps - b - 1) (drop b ps) ++ newest_index ps ∷ []
@@ -35,7 +35,7 @@ split_last b ps h =
     sym (take_all (n + 1) (drop b ps) l) ∙ take_more (drop b ps) n 0 m
     ∙ ap (λ p. take n (drop b ps) ++ p ∷ []) (get_or-drop b ps n 0 ∙ ap (λ i. get_or ps i 0) k)
 
-pub newest_first : (kept : List (Option Kept)) (b : ℕ) (ps : List ℕ) → b < length ps
+pub newest_first : (kept : List (Option ExplicitChar)) (b : ℕ) (ps : List ℕ) → b < length ps
     → reverse (map (run_at kept) (drop b ps)) ≡ run_at kept (newest_index ps) ∷ older kept b ps
 newest_first kept b ps h =
     let qs : List ℕ = take (length ps - b - 1) (drop b ps) in
@@ -43,31 +43,31 @@ newest_first kept b ps h =
     ∙ reverse-append (map (run_at kept) qs) (run_at kept (newest_index ps) ∷ [])
 
 -- each run of the newest chain begins at its index
-run_begins : (kept : List (Option Kept)) (o : OpenChain) (ps : List ℕ) → IsOpenChain kept o ps → (i : ℕ) → o.begin ≤ i → i < length ps
+run_begins : (kept : List (Option ExplicitChar)) (o : OpenChain) (ps : List ℕ) → IsOpenChain kept o ps → (i : ℕ) → o.begin ≤ i → i < length ps
     → BeginsRun kept o.level (get_or ps i 0)
 run_begins kept o ps w i l h =
     let k : o.begin + (i - o.begin) ≡ i = omega arith in
     subst (BeginsRun kept o.level) (get_or-drop o.begin ps (i - o.begin) 0 ∙ ap (λ j. get_or ps j 0) k)
     (w.runs (i - o.begin) 0 (omega (arith, length-drop o.begin ps)))
 
-pub first_begins : (kept : List (Option Kept)) (o : OpenChain) (ps : List ℕ) → IsOpenChain kept o ps → BeginsRun kept o.level (get_or ps o.begin 0)
+pub first_begins : (kept : List (Option ExplicitChar)) (o : OpenChain) (ps : List ℕ) → IsOpenChain kept o ps → BeginsRun kept o.level (get_or ps o.begin 0)
 first_begins kept o ps w = run_begins kept o ps w o.begin (omega arith) w.begin_within
 
-pub last_begins : (kept : List (Option Kept)) (o : OpenChain) (ps : List ℕ) → IsOpenChain kept o ps → BeginsRun kept o.level (newest_index ps)
+pub last_begins : (kept : List (Option ExplicitChar)) (o : OpenChain) (ps : List ℕ) → IsOpenChain kept o ps → BeginsRun kept o.level (newest_index ps)
 last_begins kept o ps w = let h : o.begin < length ps = w.begin_within in run_begins kept o ps w (length ps - 1) (omega arith) (omega arith)
 
-pub newest_is_open : (kept : List (Option Kept)) (os rest : List OpenChain) (o : OpenChain) (ps : List ℕ) → os ≡ o ∷ rest → AreOpen kept os ps
+pub newest_is_open : (kept : List (Option ExplicitChar)) (os rest : List OpenChain) (o : OpenChain) (ps : List ℕ) → os ≡ o ∷ rest → AreOpen kept os ps
     → IsOpenChain kept o ps
 newest_is_open kept os rest o ps e a = (subst (λ xs. AreOpen kept xs ps) e a).0
 
-pub ends_below : (kept : List (Option Kept)) (os rest : List OpenChain) (o : OpenChain) (ps : List ℕ) → os ≡ o ∷ rest → AreOpen kept os ps
+pub ends_below : (kept : List (Option ExplicitChar)) (os rest : List OpenChain) (o : OpenChain) (ps : List ℕ) → os ≡ o ∷ rest → AreOpen kept os ps
     → o.last < length kept
 ends_below kept os rest o ps e a =
     let w : IsOpenChain kept o ps = newest_is_open kept os rest o ps e a in
     subst (λ l. l < length kept) w.ends (last_below kept (newest_index ps) (last_begins kept o ps w).within)
 
 -- whether it ends before a run
-pub over_is : (cs : List Class) (kept : List (Option Kept)) (os rest : List OpenChain) (o : OpenChain) (ps : List ℕ) (q : Run) → os ≡ o ∷ rest
+pub over_is : (cs : List Class) (kept : List (Option ExplicitChar)) (os rest : List OpenChain) (o : OpenChain) (ps : List ℕ) (q : Run) → os ≡ o ∷ rest
     → AreOpen kept os ps → is_over cs (chains_of kept os ps) q ≡ (nat_lt q.level o.level || not (starts_with_initiator (drop o.last cs)))
 over_is cs kept os rest o ps q e a =
     let w : IsOpenChain kept o ps = newest_is_open kept os rest o ps e a in
@@ -88,7 +88,7 @@ initiator_at cs k h = at_drop_more starts_with_initiator cs k L h
 
 -- its sequence
 module _ (x : Explicit) (os rest : List OpenChain) (o : OpenChain) (ps : List ℕ) (e : os ≡ o ∷ rest) (a : AreOpen x.kept.items os ps) where
-  abbrev kept : List (Option Kept)
+  abbrev kept : List (Option ExplicitChar)
   kept = x.kept.items
 
   abbrev stacked : OpenRuns

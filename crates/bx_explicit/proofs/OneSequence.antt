@@ -5,13 +5,13 @@ use Rattle.std.specs.Prelude.{◌==◌}
 use Rattle.std.proofs.lemmas.Bool.Decides.{nat_tests}
 use Rattle.std.proofs.lemmas.List.{drop_all, take_all}
 use Rattle.bx_ucd.specs.declared.class.Class.{Class}
-use Rattle.bx_explicit.specs.declared.entry.Kept.{Kept}
+use Rattle.bx_explicit.specs.declared.entry.ExplicitChar.{ExplicitChar}
 use Rattle.bx_explicit.specs.declared.runs.Run.{Run}
 use Rattle.bx_explicit.specs.Runs.{run, join_run, runs_from, kept_indexes, indexes_of}
 use Rattle.bx_explicit.specs.Sequences.{RunSequence, direction, level_of_first, level_after, starts_with_initiator, sequences, sequences_from}
 
 -- a class kept at a level
-abbrev pub kept_as : ℕ → Class → Option Kept
+abbrev pub kept_as : ℕ → Class → Option ExplicitChar
 kept_as p c = Some (record { level = p; class = c })
 
 join_same : (p k m e : ℕ) → join_run k p (run p m e ∷ []) ≡ run p k e ∷ []
@@ -44,7 +44,7 @@ indexes_plain p c cs =
     let h : length (map (kept_as p) (c ∷ cs)) ≤ 0 + length cs + 1 - 0 = omega arith in
     ap (kept_indexes 0) (take_all (0 + length cs + 1 - 0) (map (kept_as p) (c ∷ cs)) h) ∙ kept_plain p 0 (c ∷ cs)
 
-after_plain : (p : ℕ) (cs : List Class) (kept : List (Option Kept)) (k : ℕ) → length kept ≤ k + 1 → level_after p cs kept k ≡ p
+after_plain : (p : ℕ) (cs : List Class) (kept : List (Option ExplicitChar)) (k : ℕ) → length kept ≤ k + 1 → level_after p cs kept k ≡ p
 after_plain p cs kept k h =
     let e : level_of_first p (drop (k + 1) kept) ≡ p = ap (level_of_first p) (drop_all (k + 1) kept h) in
     elim (starts_with_initiator (drop k cs)) as (λ b. elim b as (λ x. ℕ) [ true ↦ p | false ↦ level_of_first p (drop (k + 1) kept) ] ≡ p)
@@ -63,7 +63,7 @@ made_whole p n ps m q e =
 
 pub sequences_plain : (p : ℕ) (c : Class) (cs : List Class) → sequences p (c ∷ cs) (map (kept_as p) (c ∷ cs)) ≡ whole p (length (c ∷ cs)) ∷ []
 sequences_plain p c cs =
-    let kept : List (Option Kept) = map (kept_as p) (c ∷ cs) in
+    let kept : List (Option ExplicitChar) = map (kept_as p) (c ∷ cs) in
     let r : Run = run p 0 (0 + length cs) in
     let l : length kept ≡ length (c ∷ cs) = kept_length p (c ∷ cs) in
     let a : level_after p (c ∷ cs) kept (0 + length cs) ≡ p = after_plain p (c ∷ cs) kept (0 + length cs) (omega arith) in

@@ -10,7 +10,7 @@ use Rattle.std.proofs.lemmas.List.Sums.{sum_by-cons}
 use Rattle.std.proofs.lemmas.List.Elements.{All-cons, All-nil, All-head, All-tail}
 use Rattle.bx_ucd.specs.declared.class.Class.{Class}
 use Rattle.bx_ucd.specs.declared.class.Class.TheVariants.{L}
-use Rattle.bx_explicit.specs.declared.entry.Kept.{Kept}
+use Rattle.bx_explicit.specs.declared.entry.ExplicitChar.{ExplicitChar}
 use Rattle.bx_explicit.specs.declared.runs.Run.{Run}
 use Rattle.bx_explicit.specs.Runs.{run, join_run, runs_from, kept_indexes, indexes_of, IsRunWithin, AreRising}
 use Rattle.bx_explicit.specs.Sequences.{RunSequence, followers, follows, sequence_of, sequences_from, sequences, first_or_0, first_index, chain_indexes}
@@ -24,21 +24,21 @@ AreBehind [] = Unit {0}
 AreBehind (s ∷ ss) = All (λ (u : RunSequence). first_index s < first_index u) ss × AreBehind ss
 
 -- the first index of a run is one of its indexes
-abbrev BeginsIt : List (Option Kept) → Run → Type 0
+abbrev BeginsIt : List (Option ExplicitChar) → Run → Type 0
 BeginsIt kept r = (rest : List ℕ) × (indexes_of kept r ≡ r.first ∷ rest)
 
-begins_it : (kept g : List (Option Kept)) (level k last : ℕ) (c : Kept) → drop k kept ≡ Some c ∷ g → k ≤ last → BeginsIt kept (run level k last)
+begins_it : (kept g : List (Option ExplicitChar)) (level k last : ℕ) (c : ExplicitChar) → drop k kept ≡ Some c ∷ g → k ≤ last → BeginsIt kept (run level k last)
 begins_it kept g level k last c e h =
     let m : last + 1 - k ≡ suc (last - k) = omega arith in
     (kept_indexes (k + 1) (take (last - k) g), ap (λ n. kept_indexes k (take n (drop k kept))) m ∙ ap (λ xs. kept_indexes k (take (suc (last - k)) xs)) e)
 
-pub drop_on : (kept g : List (Option Kept)) (k : ℕ) (o : Option Kept) → drop k kept ≡ o ∷ g → drop (k + 1) kept ≡ g
+pub drop_on : (kept g : List (Option ExplicitChar)) (k : ℕ) (o : Option ExplicitChar) → drop k kept ≡ o ∷ g → drop (k + 1) kept ≡ g
 drop_on [] g zero o e = absurd (cc)
 drop_on [] g (suc k) o e = absurd (cc)
 drop_on (x ∷ kept) g zero o e = cc
 drop_on (x ∷ kept) g (suc k) o e = let n : suc k + 1 ≡ suc (k + 1) = omega arith in ap (λ m. drop m (x ∷ kept)) n ∙ drop_on kept g k o e
 
-begin_join : (kept g : List (Option Kept)) (k top : ℕ) (c : Kept) (rs : List Run) → drop k kept ≡ Some c ∷ g → All (IsRunWithin (k + 1) top) rs
+begin_join : (kept g : List (Option ExplicitChar)) (k top : ℕ) (c : ExplicitChar) (rs : List Run) → drop k kept ≡ Some c ∷ g → All (IsRunWithin (k + 1) top) rs
     → All (BeginsIt kept) rs → All (BeginsIt kept) (join_run k c.level rs)
 begin_join kept g k top c [] e w a = All-cons (BeginsIt kept) (run c.level k k) [] (begins_it kept g c.level k k c e (omega arith)) (All-nil (BeginsIt kept))
 begin_join kept g k top c (r ∷ rs) e w a =
@@ -52,13 +52,13 @@ begin_join kept g k top c (r ∷ rs) e w a =
       | false ↦ All-cons (BeginsIt kept) (run c.level k k) (r ∷ rs) (begins_it kept g c.level k k c e (omega arith)) a
     ]
 
-begin_all : (kept g : List (Option Kept)) (k : ℕ) → drop k kept ≡ g → All (BeginsIt kept) (runs_from k g)
+begin_all : (kept g : List (Option ExplicitChar)) (k : ℕ) → drop k kept ≡ g → All (BeginsIt kept) (runs_from k g)
 begin_all kept [] k e = All-nil (BeginsIt kept)
 begin_all kept (None ∷ g) k e = begin_all kept g (k + 1) (drop_on kept g k None e)
 begin_all kept (Some c ∷ g) k e = begin_join kept g k (k + 1 + length g) c (runs_from (k + 1) g) e (runs_within (k + 1) g)
     (begin_all kept g (k + 1) (drop_on kept g k (Some c) e))
 
-module _ (paragraph : ℕ) (cs : List Class) (kept : List (Option Kept)) where
+module _ (paragraph : ℕ) (cs : List Class) (kept : List (Option ExplicitChar)) where
   first_of_sequence : (r : Run) (fs : List Run) → BeginsIt kept r → first_index (sequence_of paragraph cs kept r fs) ≡ r.first
   first_of_sequence r fs b = ap (λ ps. first_or_0 (ps ++ chain_indexes kept fs)) b.1
 
@@ -192,7 +192,7 @@ unique all (x ∷ xs) (y ∷ ys) p q n b h =
     ap (λ s. s ∷ xs) e ∙ ap (λ ss. y ∷ ss) tails
 
 -- a sort of the sequences that are given
-pub sorted_is_sequences : (paragraph : ℕ) (cs : List Class) (kept : List (Option Kept)) (given found : List RunSequence)
+pub sorted_is_sequences : (paragraph : ℕ) (cs : List Class) (kept : List (Option ExplicitChar)) (given found : List RunSequence)
     → AreGiven given (sequences paragraph cs kept)
     → IsPermutation given found → IsNonDecreasingBy first_index found → found ≡ sequences paragraph cs kept
 sorted_is_sequences paragraph cs kept given found g p n =

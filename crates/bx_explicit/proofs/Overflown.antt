@@ -7,7 +7,7 @@ use Rattle.bx_explicit.specs.declared.role.Role.{Role}
 use Rattle.bx_explicit.specs.declared.role.Role.TheVariants.{Lre, Rle, Lro, Rlo, Lri, Rli, Fsi, Pdi, Pdf, Bn, Other}
 use Rattle.bx_explicit.specs.Role.{role_of}
 use Rattle.bx_explicit.specs.declared.entry.Entry.{Entry}
-use Rattle.bx_explicit.specs.declared.entry.Kept.{Kept}
+use Rattle.bx_explicit.specs.declared.entry.ExplicitChar.{ExplicitChar}
 use Rattle.bx_explicit.specs.declared.entry.Override.{Override}
 use Rattle.bx_explicit.specs.declared.entry.Override.TheVariants.{Neutral, Left, Right}
 use Rattle.bx_explicit.specs.declared.runs.Run.{Run}
@@ -91,12 +91,12 @@ join_level : (k level : ℕ) (inner : List Run) (r : Run) (rs : List Run) → jo
 join_level k level [] r rs e = let f : run level k k ≡ r = cc in ap (λ (x : Run). x.level) f
 join_level k level (i ∷ is) r rs e = begun_by k level i is r rs (i.level == level) e
 
-first_level : (d k : ℕ) (ks : List (Option Kept)) (r : Run) (rs : List Run) → runs_from k ks ≡ r ∷ rs → level_of_first d ks ≡ r.level
+first_level : (d k : ℕ) (ks : List (Option ExplicitChar)) (r : Run) (rs : List Run) → runs_from k ks ≡ r ∷ rs → level_of_first d ks ≡ r.level
 first_level d k [] r rs e = absurd (cc)
 first_level d k (None ∷ ks) r rs e = first_level d (k + 1) ks r rs e
 first_level d k (Some c ∷ ks) r rs e = join_level k c.level (runs_from (k + 1) ks) r rs e
 
-unlike_first : (l k : ℕ) (ks : List (Option Kept)) (between : List Run) (q : Run) (after : List Run) → level_of_first l ks ≡ l
+unlike_first : (l k : ℕ) (ks : List (Option ExplicitChar)) (between : List Run) (q : Run) (after : List Run) → level_of_first l ks ≡ l
     → runs_from k ks ≡ between ++ q ∷ after → IsUnlike l (between ++ q ∷ after) → ⊥
 unlike_first l k ks [] q after e f u = u (sym (first_level l k ks q after f) ∙ e)
 unlike_first l k ks (b ∷ bs) q after e f u = u (sym (first_level l k ks b (bs ++ q ∷ after) f) ∙ e)

@@ -9,7 +9,7 @@ use Rattle.std.proofs.lemmas.List.Folds.{list_any_none}
 use Rattle.std.proofs.lemmas.List.Elements.{All-cons, All-nil, All-head, All-tail}
 use Rattle.bx_ucd.specs.declared.class.Class.{Class}
 use Rattle.bx_explicit.specs.declared.entry.Explicit.{Explicit}
-use Rattle.bx_explicit.specs.declared.entry.Kept.{Kept}
+use Rattle.bx_explicit.specs.declared.entry.ExplicitChar.{ExplicitChar}
 use Rattle.bx_explicit.specs.declared.runs.Run.{Run}
 use Rattle.bx_explicit.specs.Explicit.{explicit_levels}
 use Rattle.bx_explicit.specs.Runs.{runs_from, IsRunWithin}
@@ -26,7 +26,7 @@ use Rattle.bx_explicit.proofs.Waits.{none_joined, wait_on, indexes_of_runs, wait
 use Rattle.bx_explicit.proofs.Ending.{ending_over, ending_open}
 
 -- the sequences of the runs to come
-sequences_at : (paragraph : ℕ) (cs : List Class) (kept : List (Option Kept)) (done : List Run) (q : Run) (rest : List Run) (b : Bool) → follows cs done q ≡ b
+sequences_at : (paragraph : ℕ) (cs : List Class) (kept : List (Option ExplicitChar)) (done : List Run) (q : Run) (rest : List Run) (b : Bool) → follows cs done q ≡ b
     → sequences_from paragraph cs kept done (q ∷ rest)
     ≡ elim b [
       | true ↦ sequences_from paragraph cs kept (done ++ q ∷ []) rest
@@ -37,7 +37,7 @@ sequences_at paragraph cs kept done q rest true e = rw (e, sequences_from)
 sequences_at paragraph cs kept done q rest false e = rw (e, sequences_from)
 
 -- a run that begins a chain, and one that goes on with the newest
-module _ (paragraph : ℕ) (cs : List Class) (kept : List (Option Kept)) where
+module _ (paragraph : ℕ) (cs : List Class) (kept : List (Option ExplicitChar)) where
   ungiven_begun : (chains : List (List Run)) (done : List Run) (q : Run) (rest : List Run) → All (λ u. is_joined cs u q ≡ false) (heads chains)
       → follows cs done q ≡ false → ungiven paragraph cs kept chains done (q ∷ rest) ≡ ungiven paragraph cs kept ((q ∷ []) ∷ chains) (done ++ q ∷ []) rest
   ungiven_begun chains done q rest a f =
@@ -70,24 +70,24 @@ module _ (paragraph : ℕ) (cs : List Class) (kept : List (Option Kept)) where
       ∙ ap (sequence_of_runs paragraph cs kept) (append-nil (reverse (r ∷ rs)))
 
 -- the runs that begin at an index or after it
-abbrev pub runs_after : List (Option Kept) → ℕ → List Run
+abbrev pub runs_after : List (Option ExplicitChar) → ℕ → List Run
 runs_after kept from = runs_from from (drop from kept)
 
 -- the runs before the index `from` are met, and the chains wait
-pub record IsMet (cs : List Class) (kept : List (Option Kept)) (done : List Run) (chains : List (List Run)) (from : ℕ) : Type 0 where
+pub record IsMet (cs : List Class) (kept : List (Option ExplicitChar)) (done : List Run) (chains : List (List Run)) (from : ℕ) : Type 0 where
   pub split : runs_from 0 kept ≡ done ++ runs_after kept from
   pub waits : AreWaiting done chains from
   pub joined : StandFor cs (heads chains) done (runs_after kept from)
 
 -- the next run, and the runs after it
-next_runs : (kept : List (Option Kept)) (from : ℕ) (q : Run) (rest : List Run) → runs_after kept from ≡ q ∷ rest → runs_after kept (q.last + 1) ≡ rest
+next_runs : (kept : List (Option ExplicitChar)) (from : ℕ) (q : Run) (rest : List Run) → runs_after kept from ≡ q ∷ rest → runs_after kept (q.last + 1) ≡ rest
 next_runs kept from q rest e =
     let w : EndsAt from (drop from kept) q rest = run_ends from (drop from kept) [] q rest e in
     let n : from + suc w.skipped ≡ q.last + 1 = omega (arith, w.index) in
     let d : drop (suc w.skipped) (drop from kept) ≡ drop (q.last + 1) kept = drop-drop (suc w.skipped) from kept ∙ ap (λ k. drop k kept) n in
     ap (runs_from (q.last + 1)) (sym d) ∙ ap (λ k. runs_from k (drop (suc w.skipped) (drop from kept))) (sym n) ∙ w.later
 
-module _ (paragraph : ℕ) (cs : List Class) (kept : List (Option Kept)) (law : AreResumed cs (runs_from 0 kept)) where
+module _ (paragraph : ℕ) (cs : List Class) (kept : List (Option ExplicitChar)) (law : AreResumed cs (runs_from 0 kept)) where
   abbrev Met : List Run → List (List Run) → ℕ → Type 0
   Met done chains from = IsMet cs kept done chains from
 
@@ -284,7 +284,7 @@ module _ (paragraph : ℕ) (cs : List Class) (kept : List (Option Kept)) (law : 
 pub given_by_levels : (level : ℕ) (cs : List Class) → level ≤ 1
     → AreGiven (ending level cs (explicit_levels level cs) [] (runs_from 0 (explicit_levels level cs))) (sequences level cs (explicit_levels level cs))
 given_by_levels level cs low =
-    let kept : List (Option Kept) = explicit_levels level cs in
+    let kept : List (Option ExplicitChar) = explicit_levels level cs in
     let begin_within : IsMet cs kept [] [] 0 = record { split = refl; waits = tt; joined = λ i d h. refl } in
     given_all level cs kept (joined_by_level level cs low) (runs_from 0 kept) [] [] 0 refl begin_within
 
@@ -292,7 +292,7 @@ given_by_levels level cs low =
 pub all_given : (e : Explicit) (runs : List Run) → e.kept.items ≡ explicit_levels e.level e.classes.items → e.level ≤ 1 → runs ≡ runs_from 0 e.kept.items
     → AreGiven (ending e.level e.classes.items e.kept.items [] runs) (sequences e.level e.classes.items e.kept.items)
 all_given e runs levels low is =
-    let kept : List (Option Kept) = e.kept.items in
+    let kept : List (Option ExplicitChar) = e.kept.items in
     let law : AreResumed e.classes.items (runs_from 0 kept) =
     subst (λ g. AreResumed e.classes.items (runs_from 0 g)) (sym levels) (joined_by_level e.level e.classes.items low) in
     let begin_within : IsMet e.classes.items kept [] [] 0 = record { split = refl; waits = tt; joined = λ i d h. refl } in

@@ -7,7 +7,7 @@ use Rattle.bx_ucd.specs.declared.class.Class.{Class}
 use Rattle.bx_ucd.specs.declared.class.Class.TheVariants.{LRI, RLI, FSI}
 use Rattle.bx_ucd.specs.Class.{is_initiator}
 use Rattle.bx_explicit.specs.Role.{role_of}
-use Rattle.bx_explicit.specs.declared.entry.Kept.{Kept}
+use Rattle.bx_explicit.specs.declared.entry.ExplicitChar.{ExplicitChar}
 use Rattle.bx_explicit.specs.declared.entry.Override.TheVariants.{Neutral}
 use Rattle.bx_explicit.specs.declared.runs.Run.{Run}
 use Rattle.bx_explicit.specs.declared.state.State.{State}
@@ -32,12 +32,12 @@ match_further : (i : ℕ) (b : Option ℕ) → further (i + 1) b ≡ elim b [ No
 match_further i None = refl
 match_further i (Some k) = refl
 
-abbrev kept : ℕ → Class → Kept
+abbrev kept : ℕ → Class → ExplicitChar
 kept level class = record { level = level; class = class }
 
 -- the level of a kept character
-kept_level : (level : ℕ) (class : Class) (k : Kept) → Some (kept level class) ≡ Some k → level ≡ k.level
-kept_level level class k e = let f : kept level class ≡ k = cc in ap (λ (x : Kept). x.level) f
+kept_level : (level : ℕ) (class : Class) (k : ExplicitChar) → Some (kept level class) ≡ Some k → level ≡ k.level
+kept_level level class k e = let f : kept level class ≡ k = cc in ap (λ (x : ExplicitChar). x.level) f
 
 -- the runs after `t` are the runs of a state; `q` is one of them
 module _ (t : Run) (between : List Run) (q : Run) (after : List Run) where
@@ -47,14 +47,14 @@ module _ (t : Run) (between : List Run) (q : Run) (after : List Run) where
   abbrev is_first : Bool
   is_first = (q.level == t.level) && all_above t.level between
 
-  rising : (ks : List (Option Kept)) → runs_from (t.last + 1) ks ≡ rest → AreRising rest
+  rising : (ks : List (Option ExplicitChar)) → runs_from (t.last + 1) ks ≡ rest → AreRising rest
   rising ks e = subst AreRising e (runs_rising (t.last + 1) ks)
 
   -- in an isolate of the level of `t`
   joined_inside : (s : State) (cs : List Class) → IsInside t.level 1 s → runs_from (t.last + 1) (explicit_from s cs) ≡ rest
       → begins_at (further (t.last + 1) (before_pdi 1 cs)) q.first ≡ is_first
   joined_inside s cs w e =
-      let ks : List (Option Kept) = explicit_from s cs in
+      let ks : List (Option ExplicitChar) = explicit_from s cs in
       let a : resumed_run t.level rest ≡ further (t.last + 1) (before_pdi 1 cs) = ap (resumed_run t.level) (sym e) ∙ resumed_runs t.level (t.last + 1) ks
       ∙ ap (further (t.last + 1)) (out_at cs t.level 0 s w) in
       ap (λ o. begins_at o q.first) (sym a) ∙ first_is t.level between q after (rising ks e)
@@ -83,7 +83,7 @@ module _ (t : Run) (between : List Run) (q : Run) (after : List Run) where
         ] refl
 
   -- the runs after `t` are the runs of the text after a character that is kept at its level
-  module _ (s : State) (char : Kept) (ks : List (Option Kept)) (same : char.level ≡ t.level) (later : runs_from (t.last + 1) ks ≡ rest)
+  module _ (s : State) (char : ExplicitChar) (ks : List (Option ExplicitChar)) (same : char.level ≡ t.level) (later : runs_from (t.last + 1) ks ≡ rest)
       (unlike : IsUnlike t.level rest) where
     after_initiator : (level : ℕ) (cs : List Class) → (top s).level < level → (top s).level ≡ char.level → explicit_from (isolate s level) cs ≡ ks
         → begins_at (elim (before_pdi 1 cs) as (λ x. Option ℕ) [ None ↦ None | Some k ↦ Some (t.last + 1 + k) ]) q.first ≡ is_first
@@ -115,11 +115,11 @@ levels_drop (suc p) s (c ∷ cs) = levels_drop p (next_state (role_of c) cs s) c
 pub joined_by_level : (paragraph : ℕ) (cs : List Class) → paragraph ≤ 1 → (before : List Run) (t : Run) (between : List Run) (q : Run) (after : List Run)
     → runs_from 0 (explicit_levels paragraph cs) ≡ before ++ t ∷ between ++ q ∷ after → is_joined cs t q ≡ is_resumed cs t between q
 joined_by_level paragraph cs h before t between q after e =
-    let all : List (Option Kept) = explicit_levels paragraph cs in
+    let all : List (Option ExplicitChar) = explicit_levels paragraph cs in
     let w : EndsAt 0 all t (between ++ q ∷ after) = run_ends 0 all before t (between ++ q ∷ after) (e ∙ append_assoc before (t ∷ between) (q ∷ after)) in
     let p : w.skipped ≡ t.last = omega (arith, w.index) in
     let n : 0 + suc w.skipped ≡ t.last + 1 = omega (arith, w.index) in
-    let ks : List (Option Kept) = drop (suc w.skipped) all in
+    let ks : List (Option ExplicitChar) = drop (suc w.skipped) all in
     let here : explicit_from (state_at t.last cs (start paragraph)) (drop t.last cs) ≡ Some w.char ∷ ks = sym (levels_drop t.last (start paragraph) cs)
     ∙ ap (λ i. drop i all) (sym p) ∙ w.here in
     let later : runs_from (t.last + 1) ks ≡ between ++ q ∷ after = ap (λ i. runs_from i ks) (sym n) ∙ w.later in

@@ -2,7 +2,7 @@
 use Rattle.std.proofs.Common.{◌≡◌, ◌≢◌, ◌+◌, ◌∙◌, ℕ, suc, List, [], ◌∷◌, ◌++◌, drop, refl, ap, subst, arith, Bool, true, false, Option, Some, None}
 use Rattle.std.specs.Prelude.{◌==◌}
 use Rattle.std.proofs.lemmas.Bool.Decides.{nat_tests}
-use Rattle.bx_explicit.specs.declared.entry.Kept.{Kept}
+use Rattle.bx_explicit.specs.declared.entry.ExplicitChar.{ExplicitChar}
 use Rattle.bx_explicit.specs.declared.runs.Run.{Run}
 use Rattle.bx_explicit.specs.Runs.{run, join_run, runs_from}
 
@@ -12,16 +12,16 @@ IsUnlike l [] = Unit {0}
 IsUnlike l (r ∷ rs) = r.level ≢ l
 
 -- of the characters `ks` from index `k` on, the run `t` ends at one of its level, and `rest` are the runs after it
-pub record EndsAt (k : ℕ) (ks : List (Option Kept)) (t : Run) (rest : List Run) : Type 0 where
+pub record EndsAt (k : ℕ) (ks : List (Option ExplicitChar)) (t : Run) (rest : List Run) : Type 0 where
   pub skipped : ℕ
-  pub char : Kept
+  pub char : ExplicitChar
   pub index : t.last ≡ k + skipped
   pub here : drop skipped ks ≡ Some char ∷ drop (suc skipped) ks
   pub level : char.level ≡ t.level
   pub later : runs_from (k + suc skipped) (drop (suc skipped) ks) ≡ rest
   pub unlike : IsUnlike t.level rest
 
-end_more : (k : ℕ) (o : Option Kept) (ks : List (Option Kept)) (t : Run) (rest : List Run) → EndsAt (k + 1) ks t rest → EndsAt k (o ∷ ks) t rest
+end_more : (k : ℕ) (o : Option ExplicitChar) (ks : List (Option ExplicitChar)) (t : Run) (rest : List Run) → EndsAt (k + 1) ks t rest → EndsAt k (o ∷ ks) t rest
 end_more k o ks t rest w =
     let e : k + suc (suc w.skipped) ≡ k + 1 + suc w.skipped = omega arith in
     record {
@@ -34,7 +34,7 @@ end_more k o ks t rest w =
       unlike = w.unlike;
     }
 
-end_joined : (k : ℕ) (c : Kept) (ks : List (Option Kept)) (r : Run) (rest : List Run) → r.level ≡ c.level → EndsAt (k + 1) ks r rest
+end_joined : (k : ℕ) (c : ExplicitChar) (ks : List (Option ExplicitChar)) (r : Run) (rest : List Run) → r.level ≡ c.level → EndsAt (k + 1) ks r rest
     → EndsAt k (Some c ∷ ks) (run c.level k r.last) rest
 end_joined k c ks r rest e v =
     let w : EndsAt k (Some c ∷ ks) r rest = end_more k (Some c) ks r rest v in
@@ -48,7 +48,7 @@ end_joined k c ks r rest e v =
       unlike = subst (λ n. IsUnlike n rest) e w.unlike;
     }
 
-end_here : (k : ℕ) (c : Kept) (ks : List (Option Kept)) (rest : List Run) → runs_from (k + 1) ks ≡ rest → IsUnlike c.level rest
+end_here : (k : ℕ) (c : ExplicitChar) (ks : List (Option ExplicitChar)) (rest : List Run) → runs_from (k + 1) ks ≡ rest → IsUnlike c.level rest
     → EndsAt k (Some c ∷ ks) (run c.level k k) rest
 end_here k c ks rest e u = record { skipped = 0; char = c; index = omega arith; here = refl; level = refl; later = e; unlike = u }
 
@@ -56,7 +56,7 @@ no_run : (bs : List Run) (t : Run) (rest : List Run) → [] ≡ bs ++ t ∷ rest
 no_run [] t rest e = absurd (cc)
 no_run (b ∷ bs) t rest e = absurd (cc)
 
-module _ (k : ℕ) (c : Kept) (ks : List (Option Kept)) where
+module _ (k : ℕ) (c : ExplicitChar) (ks : List (Option ExplicitChar)) where
   abbrev Within : List Run → Type 0
   Within inner = (bs : List Run) (u : Run) (us : List Run) → inner ≡ bs ++ u ∷ us → EndsAt (k + 1) ks u us
 
@@ -87,7 +87,7 @@ module _ (k : ℕ) (c : Kept) (ks : List (Option Kept)) where
   end_join (r ∷ rs) g w before t rest e = end_by r rs (r.level == c.level) refl g w before t rest e
 
 -- each run ends at a character of its level, and the runs after it are the runs of the characters after that one
-pub run_ends : (k : ℕ) (ks : List (Option Kept)) (before : List Run) (t : Run) (rest : List Run) → runs_from k ks ≡ before ++ t ∷ rest → EndsAt k ks t rest
+pub run_ends : (k : ℕ) (ks : List (Option ExplicitChar)) (before : List Run) (t : Run) (rest : List Run) → runs_from k ks ≡ before ++ t ∷ rest → EndsAt k ks t rest
 run_ends k [] before t rest e = absurd (no_run before t rest e)
 run_ends k (None ∷ ks) before t rest e = end_more k None ks t rest (run_ends (k + 1) ks before t rest e)
 run_ends k (Some c ∷ ks) before t rest e = end_join k c ks (runs_from (k + 1) ks) refl (λ bs u us f. run_ends (k + 1) ks bs u us f) before t rest e

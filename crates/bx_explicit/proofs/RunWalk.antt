@@ -4,7 +4,7 @@ use Rattle.std.proofs.Common.{false, Option, Some, None, length-drop}
 use Rattle.std.specs.Prelude.{All, ◌==◌}
 use Rattle.std.proofs.lemmas.Bool.Decides.{nat_tests}
 use Rattle.std.proofs.lemmas.List.Elements.{All-head, All-drop}
-use Rattle.bx_explicit.specs.declared.entry.Kept.{Kept}
+use Rattle.bx_explicit.specs.declared.entry.ExplicitChar.{ExplicitChar}
 use Rattle.bx_explicit.specs.declared.runs.Run.{Run}
 use Rattle.bx_explicit.specs.LevelIndexes.{level_indexes}
 use Rattle.bx_explicit.specs.OpenChains.{run_at, first_run_of}
@@ -15,7 +15,7 @@ use Rattle.bx_explicit.proofs.LevelRuns.{runs_within, within_eq}
 use Rattle.bx_explicit.proofs.Bounds.{IsLow, IsLowRun, runs_low}
 
 -- a character of a level, and of another one
-indexes_at : (level k : ℕ) (c : Kept) (g : List (Option Kept)) (b : Bool) → (c.level == level) ≡ b
+indexes_at : (level k : ℕ) (c : ExplicitChar) (g : List (Option ExplicitChar)) (b : Bool) → (c.level == level) ≡ b
     → level_indexes level k (Some c ∷ g) ≡ elim b [ true ↦ k ∷ level_indexes level (k + 1) g | false ↦ [] ]
 indexes_at level k c g true e = rw (e, level_indexes)
 indexes_at level k c g false e = rw (e, level_indexes)
@@ -38,19 +38,19 @@ join_level k level (q ∷ rs) r qs e = elim (q.level == level) as
     ] e
 
 -- without runs, no character is kept
-no_indexes : (g : List (Option Kept)) (k n : ℕ) → runs_from k g ≡ [] → kept_indexes k (take n g) ≡ []
+no_indexes : (g : List (Option ExplicitChar)) (k n : ℕ) → runs_from k g ≡ [] → kept_indexes k (take n g) ≡ []
 no_indexes g k zero e = refl
 no_indexes [] k (suc n) e = refl
 no_indexes (None ∷ g) k (suc n) e = no_indexes g (k + 1) n e
 no_indexes (Some c ∷ g) k (suc n) e = absurd (join_some k c.level (runs_from (k + 1) g) e)
 
-none_of_level : (level : ℕ) (g : List (Option Kept)) (k : ℕ) → runs_from k g ≡ [] → level_indexes level k g ≡ []
+none_of_level : (level : ℕ) (g : List (Option ExplicitChar)) (k : ℕ) → runs_from k g ≡ [] → level_indexes level k g ≡ []
 none_of_level level [] k e = refl
 none_of_level level (None ∷ g) k e = none_of_level level g (k + 1) e
 none_of_level level (Some c ∷ g) k e = absurd (join_some k c.level (runs_from (k + 1) g) e)
 
 -- where the first run has another level, none of this level comes before it
-other_level : (level : ℕ) (g : List (Option Kept)) (k : ℕ) (r : Run) (rs : List Run) → runs_from k g ≡ r ∷ rs → r.level ≢ level → level_indexes level k g ≡ []
+other_level : (level : ℕ) (g : List (Option ExplicitChar)) (k : ℕ) (r : Run) (rs : List Run) → runs_from k g ≡ r ∷ rs → r.level ≢ level → level_indexes level k g ≡ []
 other_level level [] k r rs e h = absurd (cc)
 other_level level (None ∷ g) k r rs e h = other_level level g (k + 1) r rs e h
 other_level level (Some c ∷ g) k r rs e h =
@@ -58,13 +58,13 @@ other_level level (Some c ∷ g) k r rs e h =
     let t : (c.level == level) ≡ false = grind (arith, nat_tests) in
     indexes_at level k c g false t
 
-reaches : (g : List (Option Kept)) (k : ℕ) (r : Run) (rs : List Run) → runs_from k g ≡ r ∷ rs → k ≤ r.last
+reaches : (g : List (Option ExplicitChar)) (k : ℕ) (r : Run) (rs : List Run) → runs_from k g ≡ r ∷ rs → k ≤ r.last
 reaches g k r rs e =
     let w : IsRunWithin k (k + length g) r = All-head (IsRunWithin k (k + length g)) r rs (subst (All (IsRunWithin k (k + length g))) e (runs_within k g)) in
     omega (arith, w.starts, w.ordered)
 
 -- the indexes of a run after its first one, by the runs of the rest
-later : (level k : ℕ) (g : List (Option Kept)) (qs : List Run) (r : Run) (rs : List Run) → runs_from (k + 1) g ≡ qs → join_run k level qs ≡ r ∷ rs
+later : (level k : ℕ) (g : List (Option ExplicitChar)) (qs : List Run) (r : Run) (rs : List Run) → runs_from (k + 1) g ≡ qs → join_run k level qs ≡ r ∷ rs
     → ((q : Run) (qs' : List Run) → runs_from (k + 1) g ≡ q ∷ qs' → q.level ≡ level
     → kept_indexes (k + 1) (take (q.last + 1 - (k + 1)) g) ≡ level_indexes level (k + 1) g)
     → kept_indexes (k + 1) (take (r.last + 1 - (k + 1)) g) ≡ level_indexes level (k + 1) g
@@ -83,7 +83,7 @@ later level k g (q ∷ qs) r rs e j ih =
           ap (λ n. kept_indexes (k + 1) (take n g)) z ∙ sym (other_level level g (k + 1) q qs e s)
     ] refl j
 
-pub run_indexes : (level : ℕ) (g : List (Option Kept)) (k : ℕ) (r : Run) (rs : List Run) → runs_from k g ≡ r ∷ rs → r.level ≡ level
+pub run_indexes : (level : ℕ) (g : List (Option ExplicitChar)) (k : ℕ) (r : Run) (rs : List Run) → runs_from k g ≡ r ∷ rs → r.level ≡ level
     → kept_indexes k (take (r.last + 1 - k) g) ≡ level_indexes level k g
 run_indexes level [] k r rs e s = absurd (cc)
 run_indexes level (None ∷ g) k r rs e s =
@@ -101,12 +101,12 @@ run_indexes level (Some c ∷ g) k r rs e s =
     ∙ sym (indexes_at level k c g true t)
 
 -- the same for the first run of a list, if any
-first_run_indexes : (level : ℕ) (g : List (Option Kept)) (k : ℕ) (rs : List Run) → runs_from k g ≡ rs → (first_run_of rs).level ≡ level
+first_run_indexes : (level : ℕ) (g : List (Option ExplicitChar)) (k : ℕ) (rs : List Run) → runs_from k g ≡ rs → (first_run_of rs).level ≡ level
     → kept_indexes k (take ((first_run_of rs).last + 1 - k) g) ≡ level_indexes level k g
 first_run_indexes level g k [] e s = no_indexes g k (0 + 1 - k) e ∙ sym (none_of_level level g k e)
 first_run_indexes level g k (r ∷ rs) e s = run_indexes level g k r rs e s
 
-pub indexes_walked : (kept : List (Option Kept)) (level p : ℕ) → BeginsRun kept level p → indexes_of kept (run_at kept p) ≡ level_indexes level p (drop p kept)
+pub indexes_walked : (kept : List (Option ExplicitChar)) (level p : ℕ) → BeginsRun kept level p → indexes_of kept (run_at kept p) ≡ level_indexes level p (drop p kept)
 indexes_walked kept level p w =
     ap (λ n. kept_indexes n (take ((run_at kept p).last + 1 - n) (drop n kept))) w.here
     ∙ first_run_indexes level (drop p kept) p (runs_from p (drop p kept)) refl w.of_level
@@ -116,7 +116,7 @@ last_in : (n k : ℕ) (rs : List Run) → 0 < n → All (IsRunWithin k n) rs →
 last_in n k [] h a = h
 last_in n k (r ∷ rs) h a = (All-head (IsRunWithin k n) r rs a).ends
 
-pub last_below : (kept : List (Option Kept)) (p : ℕ) → p < length kept → (run_at kept p).last < length kept
+pub last_below : (kept : List (Option ExplicitChar)) (p : ℕ) → p < length kept → (run_at kept p).last < length kept
 last_below kept p h =
     let e : p + length (drop p kept) ≡ length kept = omega (arith, length-drop p kept) in
     last_in (length kept) p (runs_from p (drop p kept)) (omega arith)
@@ -126,5 +126,5 @@ low_in : (rs : List Run) → All IsLowRun rs → (first_run_of rs).level ≤ max
 low_in [] a = omega arith
 low_in (r ∷ rs) a = All-head IsLowRun r rs a
 
-pub level_low : (kept : List (Option Kept)) (p : ℕ) → All IsLow kept → (run_at kept p).level ≤ max_depth
+pub level_low : (kept : List (Option ExplicitChar)) (p : ℕ) → All IsLow kept → (run_at kept p).level ≤ max_depth
 level_low kept p a = low_in (runs_from p (drop p kept)) (runs_low p (drop p kept) (All-drop IsLow p kept a))

@@ -4,9 +4,9 @@ use Rattle.std.proofs.Common.{false, Option, Some, None}
 use Rattle.std.specs.Prelude.{◌==◌}
 use Rattle.std.proofs.lemmas.Bool.Decides.{nat_tests}
 use Rattle.std.proofs.lemmas.List.{at_drop_more, at_drop_all}
-use Rattle.bx_explicit.specs.declared.entry.Kept.{Kept}
+use Rattle.bx_explicit.specs.declared.entry.ExplicitChar.{ExplicitChar}
 use Rattle.bx_explicit.specs.declared.runs.Run.{Run}
-use Rattle.bx_explicit.specs.Kept.{HasLevel}
+use Rattle.bx_explicit.specs.CharLevel.{HasLevel}
 use Rattle.bx_explicit.specs.Runs.{run, join_run, runs_from}
 use Rattle.bx_explicit.proofs.LevelRuns.{runs_some}
 
@@ -57,34 +57,34 @@ extend_other level f last k other (r ∷ rs) h =
     ] refl
 
 -- the same in a text: the first character of a run, one more of it, and where it ends
-begun_by : (k level : ℕ) (o : Option Kept) (g : List (Option Kept)) → HasLevel level o → runs_from k (o ∷ g) ≡ extend level k k (runs_from (k + 1) g)
+begun_by : (k level : ℕ) (o : Option ExplicitChar) (g : List (Option ExplicitChar)) → HasLevel level o → runs_from k (o ∷ g) ≡ extend level k k (runs_from (k + 1) g)
 begun_by k level None g h = absurd h
 begun_by k level (Some c) g h = ap (λ l. join_run k l (runs_from (k + 1) g)) h ∙ join_is k level (runs_from (k + 1) g)
 
-pub begins_at : (g : List (Option Kept)) (k level : ℕ) → k < length g → HasLevel level (get_or g k None)
+pub begins_at : (g : List (Option ExplicitChar)) (k level : ℕ) → k < length g → HasLevel level (get_or g k None)
     → runs_from k (drop k g) ≡ extend level k k (runs_from (k + 1) (drop (k + 1) g))
 begins_at g k level h l = at_drop_more (runs_from k) g k None h ∙ begun_by k level (get_or g k None) (drop (k + 1) g) l
 
-pub goes_on : (g : List (Option Kept)) (k level f last : ℕ) (c : Kept) → k < length g → get_or g k None ≡ Some c → c.level ≡ level
+pub goes_on : (g : List (Option ExplicitChar)) (k level f last : ℕ) (c : ExplicitChar) → k < length g → get_or g k None ≡ Some c → c.level ≡ level
     → extend level f last (runs_from k (drop k g)) ≡ extend level f k (runs_from (k + 1) (drop (k + 1) g))
 goes_on g k level f last c h e s =
     ap (extend level f last) (runs_some g k c h e ∙ ap (λ l. join_run k l (runs_from (k + 1) (drop (k + 1) g))) s)
     ∙ extend_join level f last k (runs_from (k + 1) (drop (k + 1) g))
 
-pub ends_before : (g : List (Option Kept)) (k level f last : ℕ) (c : Kept) → k < length g → get_or g k None ≡ Some c → c.level ≢ level
+pub ends_before : (g : List (Option ExplicitChar)) (k level f last : ℕ) (c : ExplicitChar) → k < length g → get_or g k None ≡ Some c → c.level ≢ level
     → extend level f last (runs_from k (drop k g)) ≡ run level f last ∷ runs_from k (drop k g)
 ends_before g k level f last c h e s =
     let a : runs_from k (drop k g) ≡ join_run k c.level (runs_from (k + 1) (drop (k + 1) g)) = runs_some g k c h e in
     ap (extend level f last) a ∙ extend_other level f last k c.level (runs_from (k + 1) (drop (k + 1) g)) s ∙ sym (ap (λ qs. run level f last ∷ qs) a)
 
-pub no_more : (g : List (Option Kept)) (k : ℕ) → length g ≤ k → runs_from k (drop k g) ≡ []
+pub no_more : (g : List (Option ExplicitChar)) (k : ℕ) → length g ≤ k → runs_from k (drop k g) ≡ []
 no_more g k h = at_drop_all (runs_from k) g k h
 
-pub ends_last : (g : List (Option Kept)) (k level f last : ℕ) → length g ≤ k
+pub ends_last : (g : List (Option ExplicitChar)) (k level f last : ℕ) → length g ≤ k
     → extend level f last (runs_from k (drop k g)) ≡ run level f last ∷ runs_from k (drop k g)
 ends_last g k level f last h = ap (extend level f last) (no_more g k h) ∙ sym (ap (λ qs. run level f last ∷ qs) (no_more g k h))
 
 -- nothing is kept before the first character that is
-pub level_of_some : (o : Option Kept) (c : Kept) → o ≡ Some c → HasLevel c.level o
+pub level_of_some : (o : Option ExplicitChar) (c : ExplicitChar) → o ≡ Some c → HasLevel c.level o
 level_of_some None c e = absurd (cc)
 level_of_some (Some d) c e = cc

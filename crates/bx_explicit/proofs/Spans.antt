@@ -3,7 +3,7 @@ use Rattle.std.proofs.Common.{◌<◌, ◌≤◌, ◌+◌, ◌-◌, ℕ, List, [
 use Rattle.std.specs.Prelude.{All}
 use Rattle.std.proofs.lemmas.List.{length-take, reverse-append}
 use Rattle.std.proofs.lemmas.List.Elements.{All-cons, All-nil, All-head, All-tail, All-append}
-use Rattle.bx_explicit.specs.declared.entry.Kept.{Kept}
+use Rattle.bx_explicit.specs.declared.entry.ExplicitChar.{ExplicitChar}
 use Rattle.bx_explicit.specs.declared.runs.Run.{Run}
 use Rattle.bx_explicit.specs.Runs.{kept_indexes, indexes_of, IsRunWithin}
 use Rattle.bx_explicit.specs.Sequences.{chain_indexes}
@@ -11,7 +11,7 @@ use Rattle.bx_explicit.specs.Walk.{IsIn, IsOut}
 
 -- a property of all indexes of a run holds of its kept ones, and so of a chain's
 module _ (P : ℕ → Type 0) where
-  each_kept : (k : ℕ) (g : List (Option Kept)) → ((p : ℕ) → k ≤ p → p < k + length g → P p) → All P (kept_indexes k g)
+  each_kept : (k : ℕ) (g : List (Option ExplicitChar)) → ((p : ℕ) → k ≤ p → p < k + length g → P p) → All P (kept_indexes k g)
   each_kept k [] h = All-nil P
   each_kept k (None ∷ g) h = each_kept (k + 1) g (λ p a b. h p (omega arith) (omega arith))
   each_kept k (Some c ∷ g) h = All-cons P k (kept_indexes (k + 1) g) (h k (omega arith) (omega arith))
@@ -20,14 +20,14 @@ module _ (P : ℕ → Type 0) where
   abbrev pub Spans : Run → Type 0
   Spans r = (r.first ≤ r.last) × ((p : ℕ) → r.first ≤ p → p ≤ r.last → P p)
 
-  each_of_run : (kept : List (Option Kept)) (r : Run) → Spans r → All P (indexes_of kept r)
+  each_of_run : (kept : List (Option ExplicitChar)) (r : Run) → Spans r → All P (indexes_of kept r)
   each_of_run kept r s =
       let ordered : r.first ≤ r.last = s.0 in
       let t : length (take (r.last + 1 - r.first) (drop r.first kept)) ≤ r.last + 1 - r.first =
       omega (arith, length-take (r.last + 1 - r.first) (drop r.first kept)) in
       each_kept r.first (take (r.last + 1 - r.first) (drop r.first kept)) (λ p a b. s.1 p a (omega arith))
 
-  pub each_of_chain : (kept : List (Option Kept)) (rs : List Run) → All Spans rs → All P (chain_indexes kept rs)
+  pub each_of_chain : (kept : List (Option ExplicitChar)) (rs : List Run) → All Spans rs → All P (chain_indexes kept rs)
   each_of_chain kept [] a = All-nil P
   each_of_chain kept (r ∷ rs) a = All-append P (indexes_of kept r) (chain_indexes kept rs) (each_of_run kept r (All-head Spans r rs a))
       (each_of_chain kept rs (All-tail Spans r rs a))

@@ -3,7 +3,7 @@ use Rattle.std.proofs.Common.{◌≡◌, ◌≤◌, ◌+◌, List, [], ◌∷◌
 use Rattle.std.specs.Prelude.{All}
 use Rattle.std.proofs.lemmas.List.Elements.{All-cons, All-nil}
 use Rattle.bx_ucd.specs.declared.class.Class.{Class}
-use Rattle.bx_explicit.specs.declared.entry.Kept.{Kept}
+use Rattle.bx_explicit.specs.declared.entry.ExplicitChar.{ExplicitChar}
 use Rattle.bx_explicit.specs.declared.state.State.{State}
 use Rattle.bx_explicit.specs.Role.{role_of}
 use Rattle.bx_explicit.specs.Stack.{max_depth, IsRising, top_of}
@@ -33,7 +33,7 @@ give_from s [] = refl
 give_from s (c ∷ []) = refl
 give_from s (c ∷ d ∷ cs) =
     let t : State = next_state (role_of c) (d ∷ cs) s in
-    ap (λ (ks : List (Option Kept)). kept_by (role_of c) c s t ∷ ks) (give_from t (d ∷ cs))
+    ap (λ (ks : List (Option ExplicitChar)). kept_by (role_of c) c s t ∷ ks) (give_from t (d ∷ cs))
 
 pub states_give_levels : StatesGiveLevels
 states_give_levels level cs = give_from (start level) cs

@@ -5,14 +5,14 @@ use Rattle.std.specs.Prelude.{All, ◌==◌}
 use Rattle.std.proofs.lemmas.Bool.Decides.{nat_tests}
 use Rattle.std.proofs.lemmas.List.{drop_at, take_at, drop-append-le, take-append-le, map_push, reverse-append, get_or_push, length_push}
 use Rattle.std.proofs.lemmas.List.Elements.{All-cons, All-nil, All-append}
-use Rattle.bx_explicit.specs.declared.entry.Kept.{Kept}
+use Rattle.bx_explicit.specs.declared.entry.ExplicitChar.{ExplicitChar}
 use Rattle.bx_explicit.specs.declared.open_chains.OpenChain.{OpenChain}
 use Rattle.bx_explicit.specs.declared.runs.Run.{Run}
 use Rattle.bx_explicit.specs.OpenChains.{run_at, with_run}
 use Rattle.bx_explicit.specs.Stacked.{open_chain, open_with, BeginsRun, IsOpenChain, AreOpen, chains_of}
 use Rattle.bx_explicit.proofs.Newest.{newest_index, newest_first, older, last_begins}
 
-pub chains_length : (kept : List (Option Kept)) (os : List OpenChain) (ps : List ℕ) → length (chains_of kept os ps) ≡ length os
+pub chains_length : (kept : List (Option ExplicitChar)) (os : List OpenChain) (ps : List ℕ) → length (chains_of kept os ps) ≡ length os
 chains_length kept [] ps = refl
 chains_length kept (o ∷ os) ps = ap (λ n. suc n) (chains_length kept os (take o.begin ps))
 
@@ -26,7 +26,7 @@ open_with_at : (q : Run) (begin : ℕ) (o : OpenChain) (os : List OpenChain) (b 
 open_with_at q begin o os true e = rw (e, open_with)
 open_with_at q begin o os false e = rw (e, open_with)
 
-module _ (kept : List (Option Kept)) (ps : List ℕ) (q : Run) (own : q ≡ run_at kept q.first) where
+module _ (kept : List (Option ExplicitChar)) (ps : List ℕ) (q : Run) (own : q ≡ run_at kept q.first) where
   abbrev more : List ℕ
   more = ps ++ q.first ∷ []
 

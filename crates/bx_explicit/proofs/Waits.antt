@@ -3,7 +3,7 @@ use Rattle.std.proofs.Common.{◌≡◌, ◌<◌, ◌≤◌, ◌∙◌, ℕ, Lis
 use Rattle.std.specs.Prelude.{All}
 use Rattle.std.proofs.lemmas.List.Elements.{All-cons, All-nil, All-head, All-tail, All-append}
 use Rattle.bx_ucd.specs.declared.class.Class.{Class}
-use Rattle.bx_explicit.specs.declared.entry.Kept.{Kept}
+use Rattle.bx_explicit.specs.declared.entry.ExplicitChar.{ExplicitChar}
 use Rattle.bx_explicit.specs.declared.runs.Run.{Run}
 use Rattle.bx_explicit.specs.Runs.{IsRunWithin}
 use Rattle.bx_explicit.specs.Sequences.{RunSequence, is_joined, followers, chain_indexes, sequences_from}
@@ -33,16 +33,16 @@ AreWaiting done ([] ∷ chains) high = ⊥
 AreWaiting done ((r ∷ rs) ∷ chains) high = (low : ℕ) × IsWaiting done r rs (heads chains) low high × AreWaiting done chains low
 
 -- the whole sequence of a chain, where `rest` are the runs to come
-abbrev pub completed : ℕ → List Class → List (Option Kept) → List Run → List Run → RunSequence
+abbrev pub completed : ℕ → List Class → List (Option ExplicitChar) → List Run → List Run → RunSequence
 completed paragraph cs kept c rest = sequence_of_runs paragraph cs kept (reverse c ++ followers cs (first_run_of c) rest)
 
 -- the sequences of the chains, the oldest first
-abbrev pub waiting : ℕ → List Class → List (Option Kept) → List (List Run) → List Run → List RunSequence
+abbrev pub waiting : ℕ → List Class → List (Option ExplicitChar) → List (List Run) → List Run → List RunSequence
 waiting paragraph cs kept [] rest = []
 waiting paragraph cs kept (c ∷ chains) rest = waiting paragraph cs kept chains rest ++ completed paragraph cs kept c rest ∷ []
 
 -- the sequences that are not given yet
-abbrev pub ungiven : ℕ → List Class → List (Option Kept) → List (List Run) → List Run → List Run → List RunSequence
+abbrev pub ungiven : ℕ → List Class → List (Option ExplicitChar) → List (List Run) → List Run → List Run → List RunSequence
 ungiven paragraph cs kept chains done rest = waiting paragraph cs kept chains rest ++ sequences_from paragraph cs kept done rest
 
 widen : (low high bottom top : ℕ) (r : Run) → bottom ≤ low → high ≤ top → IsRunWithin low high r → IsRunWithin bottom top r
@@ -109,7 +109,7 @@ none_joined cs all law done ((r ∷ rs) ∷ chains) high q rest e l w =
     (other_level cs all law c.before r c.between q rest here (omega arith))
     (none_joined cs all law done chains w.0 q rest e (All-tail (λ (u : Run). u.level < q.level) r (heads chains) l) w.2)
 
-module _ (paragraph : ℕ) (cs : List Class) (kept : List (Option Kept)) where
+module _ (paragraph : ℕ) (cs : List Class) (kept : List (Option ExplicitChar)) where
   -- chains that a run is joined to none of wait on
   pub wait_on : (chains : List (List Run)) (q : Run) (rest : List Run) → All (λ u. is_joined cs u q ≡ false) (heads chains)
       → waiting paragraph cs kept chains (q ∷ rest) ≡ waiting paragraph cs kept chains rest

@@ -8,7 +8,7 @@ use Rattle.bx_explicit.specs.declared.role.Role.TheVariants.{Lre, Rle, Lro, Rlo,
 use Rattle.bx_explicit.specs.Role.{role_of}
 use Rattle.bx_explicit.specs.declared.entry.Entry.{Entry}
 use Rattle.bx_explicit.specs.declared.state.State.{State}
-use Rattle.bx_explicit.specs.declared.entry.Kept.{Kept}
+use Rattle.bx_explicit.specs.declared.entry.ExplicitChar.{ExplicitChar}
 use Rattle.bx_explicit.specs.declared.entry.Override.{Override}
 use Rattle.bx_explicit.specs.declared.entry.Override.TheVariants.{Neutral, Left, Right}
 use Rattle.bx_explicit.specs.Stack.{max_depth, entry, top_of, after_isolate, after_embedding}
@@ -58,7 +58,7 @@ forced_class Neutral c = c
 forced_class Left c = L
 forced_class Right c = R
 
-abbrev pub kept_under : Entry → Class → Option Kept
+abbrev pub kept_under : Entry → Class → Option ExplicitChar
 kept_under e c = Some (record { level = e.level; class = forced_class e.forced c })
 
 -- X6a, a PDI: ends an overflow isolate, else the last valid isolate with the embeddings in it
@@ -112,7 +112,7 @@ next_state Fsi cs s = state_after Fsi (isolate_level cs) s
 next_state role cs s = state_after role 0 s
 
 -- the result for a character of a role, from the states before and after it
-abbrev pub kept_by : Role → Class → State → State → Option Kept
+abbrev pub kept_by : Role → Class → State → State → Option ExplicitChar
 -- X2 to X5 and X9: it is removed
 kept_by Rle c s t = None
 kept_by Lre c s t = None
@@ -129,10 +129,10 @@ kept_by Pdi c s t = kept_under (top t) c
 kept_by Pdf c s t = None
 kept_by Bn c s t = None
 
-abbrev pub explicit_from : State → List Class → List (Option Kept)
+abbrev pub explicit_from : State → List Class → List (Option ExplicitChar)
 explicit_from s [] = []
 explicit_from s (c ∷ cs) = let t = next_state (role_of c) cs s in kept_by (role_of c) c s t ∷ explicit_from t cs
 
 -- for each character of a paragraph, its level and its type after overrides, or nothing where X9 removes it
-abbrev pub explicit_levels : ℕ → List Class → List (Option Kept)
+abbrev pub explicit_levels : ℕ → List Class → List (Option ExplicitChar)
 explicit_levels level cs = explicit_from (start level) cs

@@ -1,7 +1,7 @@
 -- A law of the rules for explicit levels.
 use Rattle.std.specs.Prelude.{◌≡◌, ◌≤◌, ℕ, ◌+◌, List, [], ◌∷◌, Option, All, length}
 use Rattle.bx_ucd.specs.declared.class.Class.{Class}
-use Rattle.bx_explicit.specs.declared.entry.Kept.{Kept}
+use Rattle.bx_explicit.specs.declared.entry.ExplicitChar.{ExplicitChar}
 use Rattle.bx_explicit.specs.declared.state.State.{State}
 use Rattle.bx_explicit.specs.Role.{role_of}
 use Rattle.bx_explicit.specs.Stack.{max_depth}
@@ -17,7 +17,7 @@ abbrev pub states : ℕ → List Class → List State
 states level cs = states_from (start level) cs
 
 -- the result for each character, from the states before and after it
-abbrev pub given_between : List State → List Class → List (Option Kept)
+abbrev pub given_between : List State → List Class → List (Option ExplicitChar)
 given_between [] cs = []
 given_between (s ∷ []) cs = []
 given_between (s ∷ t ∷ ss) [] = []

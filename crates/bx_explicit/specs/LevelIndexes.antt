@@ -1,14 +1,14 @@
 -- The indexes of the runs of a chain, found from the first index of each.
 use Rattle.std.specs.Prelude.{◌==◌, ℕ, ◌+◌, true, false, List, [], ◌∷◌, ◌++◌, Option, Some, None, drop}
-use Rattle.bx_explicit.specs.declared.entry.Kept.{Kept}
+use Rattle.bx_explicit.specs.declared.entry.ExplicitChar.{ExplicitChar}
 
 -- the indexes of the kept characters from `k` on, up to the first of another level
-abbrev pub level_indexes : ℕ → ℕ → List (Option Kept) → List ℕ
+abbrev pub level_indexes : ℕ → ℕ → List (Option ExplicitChar) → List ℕ
 level_indexes level k [] = []
 level_indexes level k (None ∷ cs) = level_indexes level (k + 1) cs
 level_indexes level k (Some c ∷ cs) = elim (c.level == level) [ true ↦ k ∷ level_indexes level (k + 1) cs | false ↦ [] ]
 
 -- the same from each first index
-abbrev pub indexes_from : ℕ → List (Option Kept) → List ℕ → List ℕ
+abbrev pub indexes_from : ℕ → List (Option ExplicitChar) → List ℕ → List ℕ
 indexes_from level kept [] = []
 indexes_from level kept (p ∷ ps) = level_indexes level p (drop p kept) ++ indexes_from level kept ps

@@ -3,7 +3,7 @@ pub mod Matching
 pub mod ParagraphLevel
 pub mod Stack
 pub mod Explicit
-pub mod Kept
+pub mod CharLevel
 pub mod Runs
 pub mod Sequences
 pub mod TextLevels

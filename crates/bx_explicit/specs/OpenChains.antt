@@ -4,7 +4,7 @@ use Rattle.std.specs.Prelude.{◌==◌, ◌&&◌, ◌||◌, ℕ, nat_lt, Bool, t
 use Rattle.bx_ucd.specs.declared.class.Class.{Class}
 use Rattle.bx_ucd.specs.declared.class.Class.TheVariants.{L}
 use Rattle.bx_explicit.specs.declared.entry.Explicit.{Explicit}
-use Rattle.bx_explicit.specs.declared.entry.Kept.{Kept}
+use Rattle.bx_explicit.specs.declared.entry.ExplicitChar.{ExplicitChar}
 use Rattle.bx_explicit.specs.declared.runs.Run.{Run}
 use Rattle.bx_explicit.specs.Runs.{run, runs_from}
 use Rattle.bx_explicit.specs.Sequences.{RunSequence, starts_with_initiator, sequence_of}
@@ -14,7 +14,7 @@ abbrev pub first_run_of : List Run → Run
 first_run_of [] = run 0 0 0
 first_run_of (r ∷ rs) = r
 
-abbrev pub run_at : List (Option Kept) → ℕ → Run
+abbrev pub run_at : List (Option ExplicitChar) → ℕ → Run
 run_at kept p = first_run_of (runs_from p (drop p kept))
 
 abbrev pub ends_in_initiator : List Class → Run → Bool
@@ -51,7 +51,7 @@ others [] = []
 others (c ∷ chains) = chains
 
 -- the sequence of the runs of a chain, in order
-abbrev pub sequence_of_runs : ℕ → List Class → List (Option Kept) → List Run → RunSequence
+abbrev pub sequence_of_runs : ℕ → List Class → List (Option ExplicitChar) → List Run → RunSequence
 sequence_of_runs paragraph cs kept [] = record { indexes = []; level = 0; sos = L; eos = L }
 sequence_of_runs paragraph cs kept (r ∷ rs) = sequence_of paragraph cs kept r rs
 

@@ -1,6 +1,6 @@
 -- Level runs, BD7.
 use Rattle.std.specs.Prelude.{◌≤◌, ◌<◌, ◌==◌, ℕ, ◌+◌, ◌-◌, true, false, List, [], ◌∷◌, Option, Some, None, All, take, drop}
-use Rattle.bx_explicit.specs.declared.entry.Kept.{Kept}
+use Rattle.bx_explicit.specs.declared.entry.ExplicitChar.{ExplicitChar}
 use Rattle.bx_explicit.specs.declared.runs.Run.{Run}
 
 abbrev pub run : ℕ → ℕ → ℕ → Run
@@ -12,19 +12,19 @@ join_run k level [] = run level k k ∷ []
 join_run k level (r ∷ rs) = elim (r.level == level) [ true ↦ run level k r.last ∷ rs | false ↦ run level k k ∷ r ∷ rs ]
 
 -- the level runs of the characters from index `k` on; removed characters do not count
-abbrev pub runs_from : ℕ → List (Option Kept) → List Run
+abbrev pub runs_from : ℕ → List (Option ExplicitChar) → List Run
 runs_from k [] = []
 runs_from k (None ∷ cs) = runs_from (k + 1) cs
 runs_from k (Some c ∷ cs) = join_run k c.level (runs_from (k + 1) cs)
 
 -- the indexes of the kept characters, counted from `k`
-abbrev pub kept_indexes : ℕ → List (Option Kept) → List ℕ
+abbrev pub kept_indexes : ℕ → List (Option ExplicitChar) → List ℕ
 kept_indexes k [] = []
 kept_indexes k (None ∷ cs) = kept_indexes (k + 1) cs
 kept_indexes k (Some c ∷ cs) = k ∷ kept_indexes (k + 1) cs
 
 -- the indexes of a run
-abbrev pub indexes_of : List (Option Kept) → Run → List ℕ
+abbrev pub indexes_of : List (Option ExplicitChar) → Run → List ℕ
 indexes_of kept r = kept_indexes r.first (take (r.last + 1 - r.first) (drop r.first kept))
 
 -- a run lies within `low..high`

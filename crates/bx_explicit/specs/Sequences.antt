@@ -4,7 +4,7 @@ use Rattle.std.specs.Prelude.{◌==◌, ℕ, ◌+◌, Bool, true, false, List, [
 use Rattle.std.specs.List.{list_any}
 use Rattle.bx_ucd.specs.declared.class.Class.{Class}
 use Rattle.bx_ucd.specs.Class.{is_initiator}
-use Rattle.bx_explicit.specs.declared.entry.Kept.{Kept}
+use Rattle.bx_explicit.specs.declared.entry.ExplicitChar.{ExplicitChar}
 use Rattle.bx_explicit.specs.declared.runs.Run.{Run}
 use Rattle.bx_explicit.specs.Matching.{match_of}
 use Rattle.bx_explicit.specs.Runs.{runs_from, indexes_of}
@@ -31,7 +31,7 @@ followers cs r [] = []
 followers cs r (q ∷ qs) = elim (is_joined cs r q) [ true ↦ q ∷ followers cs q qs | false ↦ followers cs r qs ]
 
 -- the indexes of all runs of a chain
-abbrev pub chain_indexes : List (Option Kept) → List Run → List ℕ
+abbrev pub chain_indexes : List (Option ExplicitChar) → List Run → List ℕ
 chain_indexes kept [] = []
 chain_indexes kept (r ∷ rs) = indexes_of kept r ++ chain_indexes kept rs
 
@@ -41,13 +41,13 @@ last_run r [] = r
 last_run r (q ∷ qs) = last_run q qs
 
 -- the level of the first kept character of a list, or the paragraph level
-abbrev pub level_of_first : ℕ → List (Option Kept) → ℕ
+abbrev pub level_of_first : ℕ → List (Option ExplicitChar) → ℕ
 level_of_first paragraph [] = paragraph
 level_of_first paragraph (None ∷ cs) = level_of_first paragraph cs
 level_of_first paragraph (Some c ∷ cs) = c.level
 
 -- sos: the direction of the higher of two levels, the run's and the one of the kept character before it
-abbrev pub start_class : ℕ → List (Option Kept) → Run → Class
+abbrev pub start_class : ℕ → List (Option ExplicitChar) → Run → Class
 start_class paragraph kept r = direction (max r.level (level_of_first paragraph (reverse (take r.first kept))))
 
 abbrev pub starts_with_initiator : List Class → Bool
@@ -55,18 +55,18 @@ starts_with_initiator [] = false
 starts_with_initiator (c ∷ cs) = is_initiator c
 
 -- the level of the next kept character after index `p`; the paragraph level if none follows, or if `p` holds an initiator
-abbrev pub level_after : ℕ → List Class → List (Option Kept) → ℕ → ℕ
+abbrev pub level_after : ℕ → List Class → List (Option ExplicitChar) → ℕ → ℕ
 level_after paragraph cs kept p = elim (starts_with_initiator (drop p cs)) [
   | true ↦ paragraph
   | false ↦ level_of_first paragraph (drop (p + 1) kept)
 ]
 
 -- eos: the direction of the higher of the run's level and the level after its last character
-abbrev pub end_class : ℕ → List Class → List (Option Kept) → Run → Class
+abbrev pub end_class : ℕ → List Class → List (Option ExplicitChar) → Run → Class
 end_class paragraph cs kept r = direction (max r.level (level_after paragraph cs kept r.last))
 
 -- the sequence of a run and its followers
-abbrev pub sequence_of : ℕ → List Class → List (Option Kept) → Run → List Run → RunSequence
+abbrev pub sequence_of : ℕ → List Class → List (Option ExplicitChar) → Run → List Run → RunSequence
 sequence_of paragraph cs kept r rs = record {
   indexes = chain_indexes kept (r ∷ rs);
   level = r.level;
@@ -75,14 +75,14 @@ sequence_of paragraph cs kept r rs = record {
 }
 
 -- one sequence for each run to which no earlier run is joined
-abbrev pub sequences_from : ℕ → List Class → List (Option Kept) → List Run → List Run → List RunSequence
+abbrev pub sequences_from : ℕ → List Class → List (Option ExplicitChar) → List Run → List Run → List RunSequence
 sequences_from paragraph cs kept before [] = []
 sequences_from paragraph cs kept before (r ∷ rs) = elim (follows cs before r) [
   | true ↦ sequences_from paragraph cs kept (before ++ r ∷ []) rs
   | false ↦ sequence_of paragraph cs kept r (followers cs r rs) ∷ sequences_from paragraph cs kept (before ++ r ∷ []) rs
 ]
 
-abbrev pub sequences : ℕ → List Class → List (Option Kept) → List RunSequence
+abbrev pub sequences : ℕ → List Class → List (Option ExplicitChar) → List RunSequence
 sequences paragraph cs kept = sequences_from paragraph cs kept [] (runs_from 0 kept)
 
 -- the first index of a sequence, or 0

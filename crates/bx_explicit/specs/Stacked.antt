@@ -1,7 +1,7 @@
 -- How open chains are stored: for each chain, the newest first, its level, the last index of its newest run and the number
 -- of runs before it; and the first index of each run, the oldest first.
 use Rattle.std.specs.Prelude.{◌≡◌, ◌<◌, ◌==◌, ◌-◌, ℕ, true, false, List, [], ◌∷◌, Option, All, length, take, drop, map, reverse, slice_index_or}
-use Rattle.bx_explicit.specs.declared.entry.Kept.{Kept}
+use Rattle.bx_explicit.specs.declared.entry.ExplicitChar.{ExplicitChar}
 use Rattle.bx_explicit.specs.declared.open_chains.OpenChain.{OpenChain}
 use Rattle.bx_explicit.specs.declared.runs.Run.{Run}
 use Rattle.bx_explicit.specs.OpenChains.{run_at}
@@ -10,23 +10,23 @@ abbrev pub open_chain : ℕ → ℕ → ℕ → OpenChain
 open_chain level last begin = record { level = level; last = last; begin = begin }
 
 -- the chains, each with its newest run first
-abbrev pub chains_of : List (Option Kept) → List OpenChain → List ℕ → List (List Run)
+abbrev pub chains_of : List (Option ExplicitChar) → List OpenChain → List ℕ → List (List Run)
 chains_of kept [] ps = []
 chains_of kept (o ∷ os) ps = reverse (map (run_at kept) (drop o.begin ps)) ∷ chains_of kept os (take o.begin ps)
 
 -- a run of a level begins at an index
-pub record BeginsRun (kept : List (Option Kept)) (level p : ℕ) : Type 0 where
+pub record BeginsRun (kept : List (Option ExplicitChar)) (level p : ℕ) : Type 0 where
   pub within : p < length kept
   pub here : (run_at kept p).first ≡ p
   pub of_level : (run_at kept p).level ≡ level
 
 -- the stored values of the newest chain agree with its runs
-pub record IsOpenChain (kept : List (Option Kept)) (o : OpenChain) (ps : List ℕ) : Type 0 where
+pub record IsOpenChain (kept : List (Option ExplicitChar)) (o : OpenChain) (ps : List ℕ) : Type 0 where
   pub begin_within : o.begin < length ps
   pub runs : All (BeginsRun kept o.level) (drop o.begin ps)
   pub ends : (run_at kept (slice_index_or ps (length ps - 1) 0)).last ≡ o.last
 
-abbrev pub AreOpen : List (Option Kept) → List OpenChain → List ℕ → Type 0
+abbrev pub AreOpen : List (Option ExplicitChar) → List OpenChain → List ℕ → Type 0
 AreOpen kept [] ps = ps ≡ []
 AreOpen kept (o ∷ os) ps = IsOpenChain kept o ps × AreOpen kept os (take o.begin ps)
 

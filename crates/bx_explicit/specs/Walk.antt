@@ -2,7 +2,7 @@
 use Rattle.std.specs.Prelude.{◌≡◌, ◌<◌, ◌≤◌, ◌+◌, ◌⊎◌, ℕ, Bool, true, false, List, [], ◌∷◌, ◌++◌, Option, Some, None, All, drop, length, reverse}
 use Rattle.bx_ucd.specs.declared.class.Class.{Class}
 use Rattle.bx_explicit.specs.declared.entry.Explicit.{Explicit}
-use Rattle.bx_explicit.specs.declared.entry.Kept.{Kept}
+use Rattle.bx_explicit.specs.declared.entry.ExplicitChar.{ExplicitChar}
 use Rattle.bx_explicit.specs.declared.runs.Run.{Run}
 use Rattle.bx_explicit.specs.Runs.{runs_from, IsRunWithin}
 use Rattle.bx_explicit.specs.Sequences.{RunSequence}
@@ -19,12 +19,12 @@ still_open cs [] q = []
 still_open cs (c ∷ chains) q = elim (is_over cs (c ∷ chains) q) [ true ↦ still_open cs chains q | false ↦ c ∷ chains ]
 
 -- the sequences of chains
-abbrev pub sequences_of : ℕ → List Class → List (Option Kept) → List (List Run) → List RunSequence
+abbrev pub sequences_of : ℕ → List Class → List (Option ExplicitChar) → List (List Run) → List RunSequence
 sequences_of paragraph cs kept [] = []
 sequences_of paragraph cs kept (c ∷ chains) = sequence_of_runs paragraph cs kept (reverse c) ∷ sequences_of paragraph cs kept chains
 
 -- the sequences of the open chains and the runs to come, in the order in which the chains end
-abbrev pub ending : ℕ → List Class → List (Option Kept) → List (List Run) → List Run → List RunSequence
+abbrev pub ending : ℕ → List Class → List (Option ExplicitChar) → List (List Run) → List Run → List RunSequence
 ending paragraph cs kept chains [] = sequences_of paragraph cs kept chains
 ending paragraph cs kept chains (q ∷ rest) = sequences_of paragraph cs kept (over_before cs chains q)
     ++ ending paragraph cs kept (with_run (still_open cs chains q) q) rest
@@ -51,16 +51,16 @@ AreGiven (s ∷ given) all = (before : List RunSequence) × (after : List RunSeq
     × AreGiven given (before ++ after)
 
 -- the next run and the runs after it
-abbrev pub runs_to_come : List (Option Kept) → Option Run → List Run
+abbrev pub runs_to_come : List (Option ExplicitChar) → Option Run → List Run
 runs_to_come kept None = []
 runs_to_come kept (Some r) = r ∷ runs_from (r.last + 1) (drop (r.last + 1) kept)
 
 -- `r` is a run of the text
-pub record IsRunOf (kept : List (Option Kept)) (r : Run) : Type 0 where
+pub record IsRunOf (kept : List (Option ExplicitChar)) (r : Run) : Type 0 where
   pub own : r ≡ run_at kept r.first
   pub within : IsRunWithin 0 (length kept) r
 
-abbrev pub IsToCome : List (Option Kept) → Option Run → Type 0
+abbrev pub IsToCome : List (Option ExplicitChar) → Option Run → Type 0
 IsToCome kept None = Unit {0}
 IsToCome kept (Some r) = IsRunOf kept r
 

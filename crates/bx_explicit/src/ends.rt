@@ -2,14 +2,14 @@
 ghost use Rattle.std.specs.Prelude.{◌≡◌, ◌<◌, ◌≤◌, length, reverse};
 ghost use Rattle.bx_explicit.specs.Sequences.{direction, level_of_first, start_class, level_after, end_class};
 
-use crate::entry::{Explicit, Kept};
+use crate::entry::{Explicit, ExplicitChar};
 use crate::runs::Run;
 use bx_ucd::Class;
 use bx_ucd::class::{direction, is_initiator};
 
 /// The level of the last kept character, or the paragraph level.
 #[tactic(auto, using(crate::proofs::Nearest::before_more, crate::proofs::Nearest::before_here))]
-fn level_before(paragraph: u8, kept: &[Option<Kept>]) -> u8
+fn level_before(paragraph: u8, kept: &[Option<ExplicitChar>]) -> u8
     ensures { result ≡ level_of_first paragraph (reverse kept.now) }
 {
     let mut k = kept.len();
@@ -24,7 +24,7 @@ fn level_before(paragraph: u8, kept: &[Option<Kept>]) -> u8
 
 /// The level of the first kept character, or the paragraph level.
 #[tactic(auto, using(crate::proofs::Nearest::first_more, crate::proofs::Nearest::first_here, crate::proofs::Nearest::first_none))]
-fn level_of_first(paragraph: u8, kept: &[Option<Kept>]) -> u8
+fn level_of_first(paragraph: u8, kept: &[Option<ExplicitChar>]) -> u8
     ensures { result ≡ level_of_first paragraph kept.now }
 {
     for c in kept {

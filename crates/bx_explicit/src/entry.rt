@@ -1,7 +1,7 @@
 //! The entries and the results of the rules for explicit levels.
 ghost use Rattle.std.specs.Prelude.{◌≡◌, ◌≤◌, All, length};
 ghost use Rattle.bx_explicit.specs.Explicit.{explicit_levels};
-ghost use Rattle.bx_explicit.specs.Kept.{level_or_0};
+ghost use Rattle.bx_explicit.specs.CharLevel.{level_or_0};
 ghost use Rattle.bx_explicit.specs.Stack.{max_depth};
 
 use bx_ucd::Class;
@@ -23,9 +23,9 @@ pub struct Entry {
     pub isolate: bool,
 }
 
-/// The result of the explicit rules for a character that X9 keeps.
+/// The level and type of a character after the explicit rules, if X9 keeps it.
 #[derive(Clone, Copy, PartialEq, Eq, Debug)]
-pub struct Kept {
+pub struct ExplicitChar {
     /// Its explicit level, at most `MAX_DEPTH`.
     pub level: u8,
     /// Its type after overrides.
@@ -38,7 +38,7 @@ pub struct Explicit {
     /// The original class of each character.
     pub classes: Vec<Class>,
     /// The result for each character: `None` where X9 removes it.
-    pub kept: Vec<Option<Kept>>,
+    pub kept: Vec<Option<ExplicitChar>>,
     /// The paragraph level.
     pub level: u8,
     pub ghost by_rules: { kept.items ≡ explicit_levels level classes.items },

@@ -5,7 +5,7 @@ ghost use Rattle.bx_explicit.specs.Sequences.{RunSequence, first_index, sequence
 ghost use Rattle.bx_explicit.specs.Stack.{max_depth};
 ghost use Rattle.bx_explicit.specs.Walk.{AreGiven};
 
-use crate::entry::{Explicit, Kept};
+use crate::entry::{Explicit, ExplicitChar};
 use crate::error::ExplicitError;
 use crate::walk::SequenceWalk;
 use bx_ucd::Class;
@@ -74,7 +74,7 @@ impl Sequence {
 /// Appends the indexes of the run that begins at `first`.
 fn add_run(
     indexes: &mut Indexes,
-    kept: &[Option<Kept>],
+    kept: &[Option<ExplicitChar>],
     level: u8,
     first: usize,
 ) -> Result<(), AllocError>
@@ -96,7 +96,7 @@ fn add_run(
 /// The indexes of the runs of one level that begin at `firsts`.
 fn indexes_from(
     alloc: Global,
-    kept: &[Option<Kept>],
+    kept: &[Option<ExplicitChar>],
     level: u8,
     firsts: &[usize],
 ) -> Result<Indexes, AllocError>
@@ -113,7 +113,7 @@ fn indexes_from(
 fn lent_sequence(
     alloc: Global,
     walk: &SequenceWalk<'_>,
-    kept: &[Option<Kept>],
+    kept: &[Option<ExplicitChar>],
 ) -> Result<Sequence, AllocError>
     requires lent { walk.now.has_current ≡ true }
     requires same { kept.now ≡ walk.now.explicit.kept.items }

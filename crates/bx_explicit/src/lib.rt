@@ -16,7 +16,7 @@ mod stack;
 mod state;
 mod walk;
 
-pub use entry::{Explicit, Kept};
+pub use entry::{Explicit, ExplicitChar};
 pub use error::ExplicitError;
 pub use isolating::{Sequence, sequences};
 pub use laws::stack_has_room;

@@ -2,7 +2,7 @@
 ghost use Rattle.std.specs.Prelude.{◌≡◌, ◌≤◌, IfOk};
 ghost use Rattle.bx_explicit.specs.Explicit.{explicit_levels};
 
-use crate::entry::{Explicit, Kept};
+use crate::entry::{Explicit, ExplicitChar};
 use crate::error::ExplicitError;
 use crate::isolates::isolate_levels;
 use crate::state::State;
@@ -11,7 +11,11 @@ use std::alloc::{AllocError, Global};
 
 /// The result for each character: `None` where X9 removes it.
 #[tactic(auto, using(crate::proofs::Steps::levels_more, crate::proofs::Steps::levels_all, crate::proofs::Steps::total_next))]
-fn kept_of(alloc: Global, classes: &[Class], level: u8) -> Result<Vec<Option<Kept>>, AllocError>
+fn kept_of(
+    alloc: Global,
+    classes: &[Class],
+    level: u8,
+) -> Result<Vec<Option<ExplicitChar>>, AllocError>
     requires { level ≤ 1 }
     ensures { IfOk result (λ v. v.items ≡ explicit_levels level classes.now) }
 {

@@ -1,11 +1,11 @@
 //! Level runs (BD7).
 ghost use Rattle.std.specs.Prelude.{◌≡◌, ◌+◌, ◌<◌, ◌≤◌, IfOk, IfNone, IfSome, OnOk, OnErr, All, [], ◌∷◌, drop, length, reverse, Some, slice_index_or, vec_len};
 ghost use Rattle.std.specs.Prelude.{vec_capacity};
-ghost use Rattle.bx_explicit.specs.Kept.{HasLevel};
+ghost use Rattle.bx_explicit.specs.CharLevel.{HasLevel};
 ghost use Rattle.bx_explicit.specs.OpenChains.{run_at};
 ghost use Rattle.bx_explicit.specs.Runs.{run, join_run, runs_from, IsRunWithin, AreRising};
 
-use crate::entry::Kept;
+use crate::entry::ExplicitChar;
 use std::alloc::AllocError;
 
 /// A level run: the kept characters from index `first` to `last`, both included.
@@ -32,7 +32,7 @@ pub fn make_room<T>(items: &mut Vec<T>) -> Result<(), AllocError>
 
 /// The last index of the run that begins at `first`.
 #[tactic(auto, using(crate::proofs::RunsAt::begins_at, crate::proofs::RunsAt::goes_on, crate::proofs::RunsAt::ends_before, crate::proofs::RunsAt::ends_last, crate::proofs::LevelRuns::runs_none))]
-fn last_of_run(kept: &[Option<Kept>], first: usize, level: u8) -> usize
+fn last_of_run(kept: &[Option<ExplicitChar>], first: usize, level: u8) -> usize
     requires within { first < length kept.now }
     requires kept { HasLevel level (slice_index_or kept.now first None) }
     ensures run { runs_from first (drop first kept.now) ≡ run level first result ∷ runs_from (result + 1) (drop (result + 1) kept.now) }
@@ -55,7 +55,7 @@ fn last_of_run(kept: &[Option<Kept>], first: usize, level: u8) -> usize
 
 /// The first level run at or after index `from`.
 #[tactic(auto, using(crate::proofs::LevelRuns::runs_none, crate::proofs::RunsAt::no_more, crate::proofs::RunsAt::level_of_some))]
-pub fn next_run(kept: &[Option<Kept>], from: usize) -> Option<Run>
+pub fn next_run(kept: &[Option<ExplicitChar>], from: usize) -> Option<Run>
     requires { from ≤ length kept.now }
     ensures none { IfNone result (runs_from from (drop from kept.now) ≡ []) }
     ensures some { IfSome result (λ r. runs_from from (drop from kept.now) ≡ r ∷ runs_from (r.last + 1) (drop (r.last + 1) kept.now)) }

@@ -5,7 +5,7 @@ ghost use Rattle.bx_explicit.specs.Stack.{max_depth};
 ghost use Rattle.bx_explicit.specs.Explicit.{start, top, odd_above, even_above, is_valid, embed, isolate, end_isolate, end_embedding, forced_class, kept_under};
 ghost use Rattle.bx_explicit.specs.Explicit.{first_above, state_after, kept_by};
 
-use crate::entry::{Entry, Kept, Override};
+use crate::entry::{Entry, ExplicitChar, Override};
 use crate::role::{Role, role_of};
 use crate::stack::{EntryStack, MAX_DEPTH};
 use bx_ucd::Class;
@@ -142,18 +142,18 @@ impl State {
     }
 
     /// The result that the last entry gives a character (X6).
-    pub fn kept_under(&self, class: Class) -> Option<Kept>
+    pub fn kept_under(&self, class: Class) -> Option<ExplicitChar>
         ensures { result ≡ kept_under (top self.now) class }
     {
         let top = self.stack.top();
-        Some(Kept {
+        Some(ExplicitChar {
             level: top.level,
             class: forced_class(top.forced, class),
         })
     }
 
     /// Takes a character and returns its result. For an FSI, `first` is the paragraph level of its isolate's text.
-    pub fn step(&mut self, class: Class, first: u8) -> Option<Kept>
+    pub fn step(&mut self, class: Class, first: u8) -> Option<ExplicitChar>
         requires isolates_fit { self.old.overflow_isolates < usize.MAX }
         requires embeddings_fit { self.old.overflow_embeddings < usize.MAX }
         requires valid_fit { self.old.valid_isolates < usize.MAX }

@@ -8,7 +8,7 @@ use Rattle.std.proofs.Math.Nat.{mul-le-mul_right}
 use Rattle.bx_grid.specs.Columns.{Col, Glyph, blank, paste, run_columns, AreBlank, run_width}
 use Rattle.bx_grid.specs.Columns.{is_one_glyph}
 use Rattle.bx_grid.specs.Glyphs.{WholeGlyph, IsGlyph, columns_of}
-use Rattle.bx_grid.specs.Codes.{code_of, codes_of}
+use Rattle.bx_grid.specs.Codes.{code_of, codes_of, blank_code}
 use Rattle.bx_grid.specs.Seen.{seen, all_seen}
 use Rattle.bx_grid.specs.declared.column.Column.{Column}
 use Rattle.bx_grid.specs.Picture.{GridState, HasRoom, IsGrid, IsWithin}
@@ -106,11 +106,11 @@ put_kept g line column text negative is can =
 
 -- ---- the codes of a grid, and a row of it
 
-codes_of_blanks : (n : ℕ) → codes_of (replicate n blank) ≡ replicate n 9224
+codes_of_blanks : (n : ℕ) → codes_of (replicate n blank) ≡ replicate n blank_code
 codes_of_blanks zero = refl
-codes_of_blanks (suc n) = ap (λ ls. 9224 ∷ ls) (codes_of_blanks n)
+codes_of_blanks (suc n) = ap (λ ls. blank_code ∷ ls) (codes_of_blanks n)
 
-pub blank_codes : (codes : List ℕ) (columns : List Col) (n : ℕ) → codes ≡ replicate n 9224 → columns ≡ replicate n blank → codes ≡ codes_of columns
+pub blank_codes : (codes : List ℕ) (columns : List Col) (n : ℕ) → codes ≡ replicate n blank_code → columns ≡ replicate n blank → codes ≡ codes_of columns
 blank_codes codes columns n e f = e ∙ sym (codes_of_blanks n) ∙ sym (ap codes_of f)
 
 pub row_seen : (row width : ℕ) (columns : List Column) → all_seen (take (row * width + width - row * width) (drop (row * width) columns))

@@ -1,5 +1,5 @@
 -- The codes of columns, numbers by which rows are compared.
-use Rattle.std.specs.Prelude.{ℕ, ◌+◌, ◌*◌, ◌/◌, ◌%◌, ◌==◌, Bool, ◌&&◌, nat_le, nat_lt, List, [], ◌∷◌, map, length, if◌then◌else◌}
+use Rattle.std.specs.Prelude.{ℕ, ◌+◌, ◌*◌, ◌/◌, ◌%◌, ◌==◌, Bool, false, ◌&&◌, nat_le, nat_lt, List, [], ◌∷◌, map, length, if◌then◌else◌}
 use Rattle.std.specs.List.{list_all}
 use Rattle.bx_grid.specs.Columns.{Col, Unknown, Glyph}
 
@@ -30,6 +30,10 @@ abbrev pub code_of : Col → ℕ
 code_of Unknown = no_code
 code_of (Glyph text columns offset negative) =
     if (nat_lt columns 4 && nat_lt offset 4) && is_short text then code_in (packed text) columns offset negative else no_code
+
+-- the code of a blank: U+0020 in one column, not negative
+abbrev pub blank_code : ℕ
+blank_code = code_in (packed (0x20 ∷ [])) 1 0 false
 
 abbrev pub codes_of : List Col → List ℕ
 codes_of columns = map code_of columns

@@ -4,7 +4,7 @@ ghost use Rattle.std.specs.Prelude.{◌≡◌, ◌≤◌, ◌-◌, ◌<◌, ◌^
 ghost use Rattle.std.specs.List.{list_all};
 ghost use Rattle.bx_grid.specs.Columns.{Glyph, are_equal};
 ghost use Rattle.bx_grid.specs.Codes as spec;
-ghost use Rattle.bx_grid.specs.Codes.{no_code, code_of, is_code, codes_of, are_same_code, columns_in, offset_in};
+ghost use Rattle.bx_grid.specs.Codes.{no_code, blank_code, code_of, is_code, codes_of, are_same_code, columns_in, offset_in};
 ghost use Rattle.bx_grid.specs.Seen.{seen, all_seen};
 
 use crate::column::{Column, all_same};
@@ -12,6 +12,9 @@ use std::alloc::{AllocError, Global};
 
 /// The code of all columns that have none of their own.
 const NO_CODE: u64 = 0x8000_0000_0000_0000;
+
+/// The code of a blank: `code_in(0x120, 1, 0, false)`, where 0x120 is the packed text of U+0020.
+const BLANK_CODE: u64 = 9224;
 
 fn code_in(number: u64, columns: u16, offset: u16, negative: bool) -> u64
     requires { number < 2 ^ 57 }
@@ -50,11 +53,11 @@ pub fn set_column(columns: &mut Vec<Column>, codes: &mut Vec<u64>, index: usize,
     columns[index] = column;
 }
 
-/// The codes of `count` blanks. A blank is U+0020 (packed, 288), one column, offset 0, not negative: its code is 9224.
+/// The codes of `count` blanks.
 pub fn blank_codes(alloc: Global, count: usize) -> Result<Vec<u64>, AllocError>
-    ensures { IfOk result (λ codes. codes.items ≡ replicate count 9224) }
+    ensures { IfOk result (λ codes. codes.items ≡ replicate count blank_code) }
 {
-    vec![in alloc; 9224; count]
+    vec![in alloc; BLANK_CODE; count]
 }
 
 /// Sets the codes of columns from an index up to another.

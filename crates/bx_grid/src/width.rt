@@ -1,4 +1,7 @@
 //! Width of texts, in columns.
+//!
+//! The ranges of letters and combining marks are chosen by hand from the table of `unicode_width` (Unicode 18.0.0). They save
+//! its look-up for the characters that screens show most; `proofs/Marks.antt` computes their widths from the table.
 
 ghost use Rattle.std.specs.Prelude.{◌≡◌, false, IfSome};
 ghost use Rattle.std.specs.List.{list_all};
@@ -10,7 +13,7 @@ ghost use Rattle.unicode_width.specs.Width.{char_width};
 use bx_terms::run_width;
 use unicode_width::UnicodeWidthChar;
 
-/// Whether a character is one of the marks known without a table look-up.
+/// Whether a character is a combining mark known without a table look-up.
 #[inline(always)]
 fn is_mark(c: char) -> bool
     ensures { result ≡ is_mark c }
@@ -58,7 +61,7 @@ fn base(text: &str) -> Option<char>
     None
 }
 
-/// Whether a character is one of the letters of one column known without a table look-up.
+/// Whether a character is a letter of one column known without a table look-up.
 #[inline(always)]
 fn is_letter(c: char) -> bool
     ensures { result ≡ is_letter c }

@@ -16,7 +16,7 @@ use bx_terms::OutOfMemory;
 use std::alloc::{AllocError, Global};
 use std::mem;
 
-/// Room for the bytes of a few glyphs.
+/// Initial capacity in bytes, enough for a few glyphs.
 const ROOM: usize = 64;
 
 /// Sends normal rendition, and moves to the cursor.

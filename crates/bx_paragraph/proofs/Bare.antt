@@ -10,7 +10,7 @@ use Rattle.bx_ucd.specs.declared.class.Class.TheVariants.{L, R, AL, EN, ES, ET, 
 use Rattle.bx_ucd.specs.declared.data.Side.{Side}
 use Rattle.bx_ucd.specs.Class.{is_strong}
 use Rattle.bx_resolve.specs.Edited.{HasNoFormatting, is_listed, one_way}
-use Rattle.bx_resolve.specs.Plain.{all_pass, is_unformatted}
+use Rattle.bx_resolve.specs.Uniform.{all_pass, is_unformatted}
 use Rattle.bx_resolve.proofs.PlainKept.{Each}
 use Rattle.bx_resolve.proofs.PlainTypes.{each_append}
 use Rattle.bx_resolve.proofs.PlainLevels.{each_pass}

@@ -12,7 +12,7 @@ use Rattle.bx_ucd.specs.declared.data.Side.{Side}
 use Rattle.bx_ucd.specs.Class.{is_strong}
 use Rattle.bx_resolve.specs.declared.paragraph.Levels.{Levels}
 use Rattle.bx_resolve.specs.Edited.{FollowsBetween, FollowsToEnd, HasNoFormatting, IsCutBetween, IsCutToEnd, IsSafe}
-use Rattle.bx_resolve.specs.Plain.{all_pass}
+use Rattle.bx_resolve.specs.Uniform.{all_pass}
 use Rattle.bx_resolve.specs.Edited.{between, end_piece, is_listed, old_index, old_text, one_way, piece}
 use Rattle.bx_paragraph.specs.Cuts.{FollowsEdit, IsBareEdit, IsCutOffEdit, IsOpenEdit, IsStrongIn}
 use Rattle.bx_paragraph.specs.Cuts.{edit_of, has_no_bracket, is_bare, is_of_way, way_between}

@@ -14,7 +14,7 @@ use Rattle.bx_terms.specs.declared.base.Base.{Base}
 use Rattle.bx_resolve.specs.declared.paragraph.Levels.{Levels}
 use Rattle.bx_resolve.specs.Edited.{AreLevelsOf, HasNoFormatting, new_text, old_text}
 use Rattle.bx_resolve.specs.Levels.{levels_under, paragraph_level_under, sequence_levels}
-use Rattle.bx_resolve.specs.Plain.{is_unformatted}
+use Rattle.bx_resolve.specs.Uniform.{is_unformatted}
 use Rattle.bx_explicit.specs.Sequences.{direction}
 use Rattle.bx_resolve.proofs.PlainKept.{Each}
 use Rattle.bx_resolve.proofs.PlainLengths.{levels_length}

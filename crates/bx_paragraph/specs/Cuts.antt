@@ -11,7 +11,7 @@ use Rattle.bx_terms.specs.declared.base.Base.{Base}
 use Rattle.bx_resolve.specs.declared.paragraph.Levels.{Levels}
 use Rattle.bx_resolve.specs.Body.{IsOffset}
 use Rattle.bx_resolve.specs.Edited.{AreLevelsOf, Edit, HasNoFormatting, is_listed, new_text, old_text}
-use Rattle.bx_resolve.specs.Plain.{is_from_right, is_plain, is_unformatted}
+use Rattle.bx_resolve.specs.Uniform.{is_from_right, is_plain, is_unformatted}
 use Rattle.bx_rows.specs.declared.start_search.RowStart.{RowStart}
 use Rattle.bx_paragraph.specs.declared.strong.Strong.{Strong}
 use Rattle.bx_paragraph.specs.declared.way.Way.{Way}

@@ -10,7 +10,7 @@ use Rattle.bx_paras.specs.Paragraphs.{lengths}
 use Rattle.bx_paras.specs.Positions.{bytes_of, total}
 use Rattle.bx_paras.specs.Ended.{first, further}
 use Rattle.bx_paras.specs.Scan.{HasNone}
-use Rattle.bx_paras.specs.Windows.{rest_of}
+use Rattle.bx_paras.specs.ScanRanges.{rest_of}
 use Rattle.bx_paras.proofs.Changes.{AreAround, cut_at}
 use Rattle.bx_paras.proofs.Counts.{count_is_some, paired_ends}
 use Rattle.bx_paras.proofs.Cuts.{width, width_is_some, widths, widths_more, widths_append, one_width, lens, ends, is_paired, lens_plain}

@@ -12,7 +12,7 @@ use Rattle.bx_ucd.specs.declared.class.Class.{Class}
 use Rattle.bx_paras.specs.Paragraphs.{Paragraph, after_character, after_cr, bare, begins_with_lf, cut, paragraphs, lengths_of}
 use Rattle.bx_paras.specs.Positions.{spans_from}
 use Rattle.bx_paras.specs.Scan.{HasNone}
-use Rattle.bx_paras.specs.Laws.{joined, between, IsSeparator, EachEnds, JoinToText, StandAtSpans, BodiesHaveNone, EndWithSeparators, KeepCrLf, KeepEachCrLf}
+use Rattle.bx_paras.specs.Laws.{joined, between, IsSeparator, EachEnds, JoinToText, MatchSpans, BodiesHaveNone, EndWithSeparators, KeepCrLf, KeepEachCrLf}
 use Rattle.bx_paras.proofs.Changes.{scalars_back}
 use Rattle.bx_paras.proofs.Cuts.{width_is_some, ends, is_paired}
 
@@ -253,8 +253,8 @@ end_with_separators says text = each_ends says (chars text)
 pub join_to_text : JoinToText
 join_to_text says text utf8 = join_text says text utf8
 
-pub stand_at_spans : StandAtSpans
-stand_at_spans says text utf8 = at_spans (paragraphs says text) text [] 0 (sym (join_text says text utf8)) refl
+pub match_spans : MatchSpans
+match_spans says text utf8 = at_spans (paragraphs says text) text [] 0 (sym (join_text says text utf8)) refl
 
 pub bodies_have_none : BodiesHaveNone
 bodies_have_none says text utf8 = none_cut says (chars text) (scalars-chars text utf8)

@@ -8,7 +8,7 @@ use Rattle.std.proofs.lemmas.Str.{IsCharBoundary-at_seam}
 use Rattle.std.proofs.Math.Seq.{drop-append_seam}
 use lib.Utf8.{scalars}
 use Rattle.bx_text.specs.declared.change.Change.{Change}
-use Rattle.bx_text.specs.Edits.{Leads}
+use Rattle.bx_text.specs.Edits.{IsChange}
 use Rattle.bx_paras.proofs.Cuts.{widths}
 
 -- ---- a text cut between its characters
@@ -70,17 +70,17 @@ middle_len text i j utf8 b e =
     let inside : i + j ≤ length text = e.0 in
     spelt (take j (drop i text)) (between text i j utf8 b e) ∙ length-take-le j (drop i text) (omega (arith, length-drop i text))
 
-pub around : (old : List ℕ) (c : Change) (new : List ℕ) → IsUtf8 old → IsUtf8 new → Leads old c new
+pub around : (old : List ℕ) (c : Change) (new : List ℕ) → IsUtf8 old → IsUtf8 new → IsChange old c new
     → AreAround old c new (chars (take c.start old)) (chars (take c.removed (drop c.start old))) (chars (take c.added (drop c.start new)))
     (chars (drop (c.start + c.removed) old))
 around old c new utf8 utf8' h =
-    let b = h.came.start_bounds in
+    let b = h.new_range.start_bounds in
     record {
-      old_chars = three old c.start c.removed utf8 h.gave_way.start_bounds h.gave_way.stop_bounds;
-      new_chars = three new c.start c.added utf8' b h.came.stop_bounds
+      old_chars = three old c.start c.removed utf8 h.old_range.start_bounds h.old_range.stop_bounds;
+      new_chars = three new c.start c.added utf8' b h.new_range.stop_bounds
           ∙ ap (λ f. chars f ++ (chars (take c.added (drop c.start new)) ++ chars (drop (c.start + c.added) new))) h.same_before
           ∙ ap (λ r. chars (take c.start old) ++ (chars (take c.added (drop c.start new)) ++ chars r)) h.same_after;
-      before = front_len old c.start utf8 h.gave_way.start_bounds;
-      gone = middle_len old c.start c.removed utf8 h.gave_way.start_bounds h.gave_way.stop_bounds;
-      come = middle_len new c.start c.added utf8' b h.came.stop_bounds;
+      before = front_len old c.start utf8 h.old_range.start_bounds;
+      gone = middle_len old c.start c.removed utf8 h.old_range.start_bounds h.old_range.stop_bounds;
+      come = middle_len new c.start c.added utf8' b h.new_range.stop_bounds;
     }

@@ -6,7 +6,7 @@ use Rattle.std.specs.Char.{encode_utf8}
 use Rattle.bx_ucd.specs.Data.{Data}
 use Rattle.bx_ucd.specs.declared.class.Class.{Class}
 use Rattle.bx_ucd.specs.declared.class.Class.TheVariants.{B, L}
-use Rattle.bx_paras.specs.Laws.{BodiesHaveNone, EachEnds, EndWithSeparators, IsSeparator, JoinToText, KeepCrLf, KeepEachCrLf, StandAtSpans, joined}
+use Rattle.bx_paras.specs.Laws.{BodiesHaveNone, EachEnds, EndWithSeparators, IsSeparator, JoinToText, KeepCrLf, KeepEachCrLf, MatchSpans, joined}
 use Rattle.bx_paras.specs.Paragraphs.{Paragraph, paragraphs, lengths}
 use Rattle.bx_paras.specs.Positions.{spans, separators, paragraph_of}
 use Rattle.bx_paras.specs.Scan.{HasNone}
@@ -108,7 +108,7 @@ one_paragraph : EndWithSeparators → (text : List ℕ) → length (paragraphs l
 one_paragraph law text = one_alone (paragraphs letters text) (law letters text)
 
 -- the bodies between the line ends are 1, 2 and 3
-bodies_between : StandAtSpans → map (λ (p : Paragraph). p.body) (paragraphs says line_ends) ≡ (49 ∷ []) ∷ (50 ∷ []) ∷ (51 ∷ []) ∷ []
+bodies_between : MatchSpans → map (λ (p : Paragraph). p.body) (paragraphs says line_ends) ≡ (49 ∷ []) ∷ (50 ∷ []) ∷ (51 ∷ []) ∷ []
 unfolding chars encode_utf8
 bodies_between law = sym (law says line_ends line_ends_utf8)
 

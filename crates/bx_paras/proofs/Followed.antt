@@ -6,7 +6,7 @@ use Rattle.std.proofs.lemmas.Bool.Decides.{nat_tests}
 use Rattle.std.proofs.lemmas.List.{take-append-drop, take-take, drop_more, take_all, drop_all}
 use Rattle.bx_ucd.specs.Data.{Data}
 use Rattle.bx_text.specs.declared.change.Change.{Change}
-use Rattle.bx_text.specs.Edits.{Leads, largest_text}
+use Rattle.bx_text.specs.Edits.{IsChange, largest_text}
 use Rattle.bx_paras.specs.declared.lengths.Lengths.{Lengths}
 use Rattle.bx_paras.specs.declared.position.Position.{Position}
 use Rattle.bx_paras.specs.Paragraphs.{lengths, separator_count}
@@ -84,7 +84,7 @@ module _ {says : Data} {old : List ℕ} {c : Change} {new : List ℕ} {ps : List
   before = parted_by ps u (c.start - 1) first first.end refl touched.first_is
 
   pub start_inside : c.start ≤ length old
-  start_inside = touched.leads.gave_way.start_bounds.0
+  start_inside = touched.is_change.old_range.start_bounds.0
 
   pub old_bytes : total (ps ++ u ∷ []) ≡ length old
   old_bytes = ap total touched.were ∙ total_lengths says old touched.old_utf8
@@ -100,7 +100,7 @@ module _ {says : Data} {old : List ℕ} {c : Change} {new : List ℕ} {ps : List
   added_separators = separator_count says (take c.added (drop c.start new))
 
   pub few_added : added_separators ≤ c.added
-  few_added = few_separators says old c new touched.old_utf8 touched.new_utf8 touched.leads
+  few_added = few_separators says old c new touched.old_utf8 touched.new_utf8 touched.is_change
 
   ordered_at : {end : ℕ} → HasEnd ps (c.start + c.removed) last end → (less : Bool) → nat_le first.number (last.number + 1) ≡ less
       → first.number ≤ last.number + 1
@@ -115,9 +115,9 @@ module _ {says : Data} {old : List ℕ} {c : Change} {new : List ℕ} {ps : List
       → c.start + c.removed < total (take n ps) + bytes_of q
       → IsRewritten says new (take first.number ps) (((total (take n ps) + bytes_of q) - (c.start + c.removed)) + (c.start + c.added)) added_separators
       (ds ++ u ∷ [])
-  inside_of q n [] e f g = change_inside says old c new touched.old_utf8 touched.new_utf8 touched.leads (take first.number ps) before.here before.behind
+  inside_of q n [] e f g = change_inside says old c new touched.old_utf8 touched.new_utf8 touched.is_change (take first.number ps) before.here before.behind
       (sym touched.were ∙ before.whole) starts holds (take n ps) q u [] e f g
-  inside_of q n (d ∷ ds) e f g = change_inside says old c new touched.old_utf8 touched.new_utf8 touched.leads (take first.number ps) before.here before.behind
+  inside_of q n (d ∷ ds) e f g = change_inside says old c new touched.old_utf8 touched.new_utf8 touched.is_change (take first.number ps) before.here before.behind
       (sym touched.were ∙ before.whole) starts holds (take n ps) q d (ds ++ u ∷ []) e f g
 
   -- where a paragraph ends after the change
@@ -139,7 +139,7 @@ module _ {says : Data} {old : List ℕ} {c : Change} {new : List ℕ} {ps : List
       let h = touched.last_is in
       let n : last.number ≡ length ps = no_end ps (c.start + c.removed) last h k in
       let all : take last.number ps ≡ ps = take_all last.number ps (omega (arith, n)) in
-      change_at_end says old c new touched.old_utf8 touched.new_utf8 touched.leads (take first.number ps) before.here before.behind
+      change_at_end says old c new touched.old_utf8 touched.new_utf8 touched.is_change (take first.number ps) before.here before.behind
       (sym touched.were ∙ before.whole) starts holds ps u (sym touched.were) (omega (arith, h.start, h.start_before, ap total all))
 
   -- the first paragraph of the change is not after its last
@@ -204,10 +204,10 @@ module _ {says : Data} {old : List ℕ} {c : Change} {new : List ℕ} {ps : List
 
   -- the old text is within the bounds of the index
   pub old_in : (n : ℕ) → total (ps ++ u ∷ []) ≤ n → c.start + c.removed ≤ n
-  old_in n h = let inside : c.start + c.removed ≤ length old = touched.leads.gave_way.stop_bounds.0 in omega (arith, old_bytes)
+  old_in n h = let inside : c.start + c.removed ≤ length old = touched.is_change.old_range.stop_bounds.0 in omega (arith, old_bytes)
 
   pub added_in : c.start + c.added ≤ length new
-  added_in = touched.leads.came.stop_bounds.0
+  added_in = touched.is_change.new_range.stop_bounds.0
 
   -- how many there are
   pub few_in : (fs : List Lengths) (v : Lengths) → fs ++ v ∷ [] ≡ lengths says new → length fs ≤ length new
@@ -220,10 +220,10 @@ has_spares None spares separators h k few = absurd k
 has_spares (Some room) spares separators h k few = let enough : min room largest_text + 2 * block_capacity + 2 ≤ block_capacity * spares = h in omega (arith, k)
 
 -- so does as much room as bytes
-pub room_for_bytes : (says : Data) (old : List ℕ) (c : Change) (new : List ℕ) → IsUtf8 old → IsUtf8 new → Leads old c new
+pub room_for_bytes : (says : Data) (old : List ℕ) (c : Change) (new : List ℕ) → IsUtf8 old → IsUtf8 new → IsChange old c new
     → (room : Option ℕ) (n : ℕ) → room ≡ Some n → c.added ≤ n → HasRoomFor room (separator_count says (take c.added (drop c.start new)))
-room_for_bytes says old c new utf8 utf8' leads room n e enough =
-    let few : separator_count says (take c.added (drop c.start new)) ≤ n = omega (arith, few_separators says old c new utf8 utf8' leads, enough) in
+room_for_bytes says old c new utf8 utf8' is_change room n e enough =
+    let few : separator_count says (take c.added (drop c.start new)) ≤ n = omega (arith, few_separators says old c new utf8 utf8' is_change, enough) in
     rw e few
 
 pub covers_bytes : (room : Option ℕ) (n : ℕ) → room ≡ Some n → CoversBytes room n

@@ -10,7 +10,7 @@ mod Counts
 mod Edits
 pub mod Changes
 mod Rewritten
-pub mod LeadBytes
+pub mod FirstBytes
 pub mod Scans
 pub mod Firsts
 pub mod Beside

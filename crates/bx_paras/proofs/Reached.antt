@@ -1,4 +1,4 @@
--- The window to scan after a change: from the end of the part of a body that stayed before it to its end.
+-- The range to scan after a change: from the end of the part of a body that stayed before it to its end.
 use Rattle.std.proofs.Common.{◌≡◌, ◌≤◌, ◌+◌, ◌-◌, ◌∙◌, inl, inr, ℕ, min, List, [], ◌∷◌, ◌++◌, length, take, drop, chars, get_or, Option, Some, None}
 use Rattle.std.proofs.Common.{MatchOption, IsCharBoundary, refl, ap, sym, subst, arith}
 use Rattle.std.proofs.lemmas.List.{take_all}
@@ -6,12 +6,12 @@ use Rattle.bx_ucd.specs.Data.{Data}
 use Rattle.bx_text.specs.declared.change.Change.{Change}
 use Rattle.bx_paras.specs.declared.lengths.Lengths.{Lengths}
 use Rattle.bx_paras.specs.declared.position.Position.{Position}
-use Rattle.bx_paras.specs.declared.window.Window.{Window}
+use Rattle.bx_paras.specs.declared.scan_range.ScanRange.{ScanRange}
 use Rattle.bx_paras.specs.Paragraphs.{lengths}
 use Rattle.bx_paras.specs.Positions.{bytes_of, total}
 use Rattle.bx_paras.specs.Ended.{first}
 use Rattle.bx_paras.specs.Touched.{IsTouched}
-use Rattle.bx_paras.specs.Windows.{rest_of, IsWindow}
+use Rattle.bx_paras.specs.ScanRanges.{rest_of, IsScanRange}
 use Rattle.bx_paras.proofs.Beside.{GoesOn, goes_on_in_body, rest_behind, HoldsAll}
 use Rattle.bx_paras.proofs.Changes.{AreAround, around}
 use Rattle.bx_paras.proofs.Cuts.{unended, lens}
@@ -29,7 +29,7 @@ module _ {says : Data} {old : List ℕ} {c : Change} {new : List ℕ} {ps : List
 
   abbrev pub around_change : AreAround old c new (chars (take c.start old)) (chars (take c.removed (drop c.start old))) (chars (take c.added
       (drop c.start new))) behind_change
-  around_change = around old c new touched.old_utf8 touched.new_utf8 touched.leads
+  around_change = around old c new touched.old_utf8 touched.new_utf8 touched.is_change
 
   -- the offset goes on from where the first paragraph begins
   abbrev pub From : ℕ → ℕ → Type 0
@@ -67,7 +67,7 @@ module _ {says : Data} {old : List ℕ} {c : Change} {new : List ℕ} {ps : List
       → first (lengths says (drop (c.start + c.added) new)) ≡ rest_of (c.start + c.removed - q.start) l
   rest_at l back e holds =
       let at : q.start ≡ total (take q.number ps) = touched.last_is.start in
-      ap (λ bs. first (lengths says bs)) touched.leads.same_after
+      ap (λ bs. first (lengths says bs)) touched.is_change.same_after
       ∙ subst (λ s. first (lens says behind_change) ≡ rest_of (c.start + c.removed - s) l) (sym at)
       (rest_behind says old c new touched.new_utf8 _ _ _ _ around_change (take q.number ps) l back e (omega (arith, at, touched.last_is.start_before))
       (subst (λ s. HoldsAll says (c.start + c.removed - s) l) at holds))
@@ -78,8 +78,8 @@ module _ {says : Data} {old : List ℕ} {c : Change} {new : List ℕ} {ps : List
   rest_is None left r k e w =
       let n : q.number ≡ length ps = no_end ps (c.start + c.removed) q touched.last_is e in
       let all : total (take q.number ps) ≡ total ps = ap total (take_all q.number ps (omega (arith, n))) in
-      let inside : c.start + c.removed ≤ length old = touched.leads.gave_way.stop_bounds.0 in
-      let grown : length new + c.removed ≡ length old + c.added = touched.leads.grown in
+      let inside : c.start + c.removed ≤ length old = touched.is_change.old_range.stop_bounds.0 in
+      let grown : length new + c.removed ≡ length old + c.added = touched.is_change.grown in
       rest_at (unended last) [] (last_whole q.number n) (inl (omega (arith, inside, all_bytes, touched.last_is.start, all)))
       ∙ same_lengths _ r.0 _ r.1 (omega (
         arith,
@@ -102,15 +102,15 @@ module _ {says : Data} {old : List ℕ} {c : Change} {new : List ℕ} {ps : List
       ∙ same_lengths _ r.0 _ r.1 (omega (arith, ap (λ (i : ℕ × ℕ). i.0) w, sum, touched.last_is.start_before, touched.last_is.separator_is))
       (omega (arith, ap (λ (i : ℕ × ℕ). i.1) w, sum, h.past, touched.last_is.start_before, touched.last_is.separator_is))
 
-  pub window_is : (w : Window) (left : ℕ) (r : ℕ × ℕ) → MatchOption p.end (w.start ≡ c.start) (λ e. w.start ≡ min c.start (e - p.separator))
+  pub range_is : (w : ScanRange) (left : ℕ) (r : ℕ × ℕ) → MatchOption p.end (w.start ≡ c.start) (λ e. w.start ≡ min c.start (e - p.separator))
       → w.stop ≡ c.start + c.added → w.body ≡ r.0 → w.separator ≡ r.1 → left ≡ length new - (c.start + c.added)
       → MatchOption q.end (r ≡ (left, 0)) (λ e. r ≡ (e - q.separator - (c.start + c.removed), min q.separator (e - (c.start + c.removed))))
-      → IsWindow says new p.start w
-  window_is w left r a b d e f g =
+      → IsScanRange says new p.start w
+  range_is w left r a b d e f g =
       let k = from_is p.end w.start refl a in
       record {
         start_bounds = k.bounds;
-        stop_bounds = subst (IsCharBoundary new) (sym b) touched.leads.came.stop_bounds;
+        stop_bounds = subst (IsCharBoundary new) (sym b) touched.is_change.new_range.stop_bounds;
         start_before = k.start_before;
         goes_on = k.goes_on;
         behind = ap (λ s. first (lengths says (drop s new))) b ∙ rest_is q.end left r f refl g ∙ same_lengths r.0 w.body r.1 w.separator (sym d) (sym e);

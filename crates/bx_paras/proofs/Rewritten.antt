@@ -5,7 +5,7 @@ use Rattle.std.proofs.lemmas.Str.{length-le-encodes}
 use Rattle.bx_ucd.specs.Data.{Data}
 use Rattle.bx_ucd.specs.declared.class.Class.{Class}
 use Rattle.bx_text.specs.declared.change.Change.{Change}
-use Rattle.bx_text.specs.Edits.{Leads}
+use Rattle.bx_text.specs.Edits.{IsChange}
 use Rattle.bx_paras.specs.declared.lengths.Lengths.{Lengths}
 use Rattle.bx_paras.specs.Paragraphs.{lengths, separator_count}
 use Rattle.bx_paras.specs.Positions.{bytes_of, total}
@@ -24,11 +24,11 @@ pub record IsRewritten (says : Data) (text : List ℕ) (front : List Lengths) (s
   pub few : length (ended_within (stop - total front) (lengths says (drop (total front) text))) ≤ separators + 2
 
 -- the text that a change adds has no more separators than bytes
-pub few_separators : (says : Data) (old : List ℕ) (c : Change) (new : List ℕ) → IsUtf8 old → IsUtf8 new → Leads old c new
+pub few_separators : (says : Data) (old : List ℕ) (c : Change) (new : List ℕ) → IsUtf8 old → IsUtf8 new → IsChange old c new
     → separator_count says (take c.added (drop c.start new)) ≤ c.added
-few_separators says old c new utf8 utf8' leads =
+few_separators says old c new utf8 utf8' is_change =
     let cs : List ℕ = chars (take c.added (drop c.start new)) in
-    omega (arith, count_few says cs, length-le-encodes cs, (around old c new utf8 utf8' leads).come)
+    omega (arith, count_few says cs, length-le-encodes cs, (around old c new utf8 utf8' is_change).come)
 
 module _ (says : Data) where
   ended_before : (g : List ℕ) → AreEnded (before_last (lens says g))
@@ -95,7 +95,7 @@ module _ (says : Data) where
         few = omega (arith, ap length again, f.few);
       }
 
-  module _ (old : List ℕ) (c : Change) (new : List ℕ) (utf8 : IsUtf8 old) (utf8' : IsUtf8 new) (h : Leads old c new)
+  module _ (old : List ℕ) (c : Change) (new : List ℕ) (utf8 : IsUtf8 old) (utf8' : IsUtf8 new) (h : IsChange old c new)
       (front : List Lengths) (l : Lengths) (behind : List Lengths) (first : lengths says old ≡ front ++ l ∷ behind)
       (start_before : total front ≤ c.start - 1) (holds : c.start ≤ total front + bytes_of l) where
     a : List ℕ

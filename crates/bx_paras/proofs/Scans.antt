@@ -10,7 +10,7 @@ use Rattle.bx_ucd.specs.Data.{Data}
 use lib.Utf8.{scalar, scalars}
 use Rattle.bx_ucd.specs.declared.class.Class.{Class}
 use Rattle.bx_paras.specs.Paragraphs.{is_separator, begins_with_lf}
-use Rattle.bx_paras.specs.Leads.{lead_of, TellLeads}
+use Rattle.bx_paras.specs.LeadBytes.{lead_of, CoversSeparators}
 use Rattle.bx_paras.specs.Scan.{HasNone, NoneAt, NoneBefore, BeginsAt, IsAt}
 use Rattle.bx_paras.proofs.Changes.{scalars_back, cut_at, front_len, spelt}
 use Rattle.bx_paras.proofs.Cuts.{width_is_some, widths, widths_more, widths_append, one_width}
@@ -47,13 +47,13 @@ module _ (says : Data) (text : List ℕ) (utf8 : IsUtf8 text) where
   unflagged_at c lead flags false e tells f = e
   unflagged_at c lead flags true e tells f = let g : get_or flags lead false ≡ true = tells e in absurd (cc)
 
-  unflagged : (flags : List Bool) (n : ℕ) → TellLeads says flags → get_or flags (get_or text n 0) false ≡ false → NoneAt says text n
+  unflagged : (flags : List Bool) (n : ℕ) → CoversSeparators says flags → get_or flags (get_or text n 0) false ≡ false → NoneAt says text n
   unflagged flags n tells f front c rest e w =
       let lead : get_or text n 0 ≡ lead_of c = ap (λ i. get_or text i 0) (sym w) ∙ byte_at front c rest e in
       unflagged_at c (lead_of c) flags (is_separator (says.class c)) refl (λ s. tells c (scalar_there front c rest e) s)
       (ap (λ b. get_or flags b false) (sym lead) ∙ f)
 
-  unflagged_from_at : (flags : List Bool) (n m : ℕ) → TellLeads says flags → NoneBefore says text n
+  unflagged_from_at : (flags : List Bool) (n m : ℕ) → CoversSeparators says flags → NoneBefore says text n
       → ((i : ℕ) → n ≤ i → i < m → get_or flags (get_or text i 0) false ≡ false) → (front : List ℕ) (c : ℕ) (rest : List ℕ)
       → chars text ≡ front ++ c ∷ rest → widths front < m → (less : Bool) → nat_lt (widths front) n ≡ less → is_separator (says.class c) ≡ false
   unflagged_from_at flags n m tells h k front c rest e l true f = h front c rest e (grind (arith, nat_tests))
@@ -61,7 +61,7 @@ module _ (says : Data) (text : List ℕ) (utf8 : IsUtf8 text) where
       let behind : n ≤ widths front = grind (arith, nat_tests) in
       unflagged flags (widths front) tells (k (widths front) behind l) front c rest e refl
 
-  pub unflagged_from : (flags : List Bool) (n m : ℕ) → TellLeads says flags → NoneBefore says text n
+  pub unflagged_from : (flags : List Bool) (n m : ℕ) → CoversSeparators says flags → NoneBefore says text n
       → ((i : ℕ) → n ≤ i → i < m → get_or flags (get_or text i 0) false ≡ false) → NoneBefore says text m
   unflagged_from flags n m tells h k front c rest e l = unflagged_from_at flags n m tells h k front c rest e l (nat_lt (widths front) n) refl
 

@@ -10,8 +10,8 @@ use Rattle.bx_paras.specs.declared.lengths.Lengths.{Lengths}
 use Rattle.bx_paras.specs.Paragraphs.{lengths}
 use Rattle.bx_paras.specs.Positions.{bytes_of, total}
 use Rattle.bx_paras.specs.Ended.{ended_within, first, further}
-use Rattle.bx_paras.specs.Windows.{IsWindow}
-use Rattle.bx_paras.specs.declared.window.Window.{Window}
+use Rattle.bx_paras.specs.ScanRanges.{IsScanRange}
+use Rattle.bx_paras.specs.declared.scan_range.ScanRange.{ScanRange}
 use Rattle.bx_paras.proofs.Changes.{cut_at, front_len, spelt}
 use Rattle.bx_paras.proofs.Counts.{count_few, total_lens}
 use Rattle.bx_paras.proofs.Cuts.{widths, widths_append, unended, lens, IsFirst, beginning}
@@ -134,8 +134,8 @@ module _ (says : Data) (text : List ℕ) where
     length-drop at text,
   )
 
-  -- a window that begins where a paragraph does
-  pub moved : (at to : ℕ) (w : Window) → IsWindow says text at w → IsCharBoundary text to → IsWindow says text to (record w { start = to })
+  -- a range that begins where a paragraph does
+  pub moved : (at to : ℕ) (w : ScanRange) → IsScanRange says text at w → IsCharBoundary text to → IsScanRange says text to (record w { start = to })
   moved at to w h b =
       let none : 0 ≡ to - to = omega arith in
       record {
@@ -146,7 +146,7 @@ module _ (says : Data) (text : List ℕ) where
         behind = h.behind;
       }
 
-  pub stop_within : (start at : ℕ) (w : Window) → IsWindow says text start w → IsUtf8 text → IsCharBoundary text at → at ≡ w.stop
+  pub stop_within : (start at : ℕ) (w : ScanRange) → IsScanRange says text start w → IsUtf8 text → IsCharBoundary text at → at ≡ w.stop
       → at + w.body + w.separator ≤ length text
   stop_within start at w h utf8 b e =
       let inside : at ≤ length text = b.0 in

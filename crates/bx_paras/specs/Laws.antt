@@ -20,8 +20,8 @@ abbrev pub between : List ℕ → ℕ × ℕ → List ℕ
 between text span = take (span.1 - span.0) (drop span.0 text)
 
 -- the text at each span is the body of the paragraph
-abbrev pub StandAtSpans : Type 0
-StandAtSpans = (says : Data) (text : List ℕ) → IsUtf8 text
+abbrev pub MatchSpans : Type 0
+MatchSpans = (says : Data) (text : List ℕ) → IsUtf8 text
     → map (between text) (spans (lengths says text)) ≡ map (λ (p : Paragraph). p.body) (paragraphs says text)
 
 -- no character of a body is a separator

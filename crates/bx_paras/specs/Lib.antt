@@ -2,8 +2,8 @@ pub mod Paragraphs
 pub mod Positions
 pub mod Ended
 pub mod Scan
-pub mod Leads
-pub mod Windows
+pub mod LeadBytes
+pub mod ScanRanges
 pub mod Capacity
 pub mod OneBlock
 pub mod Flat

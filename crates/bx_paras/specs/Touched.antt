@@ -3,7 +3,7 @@ use Rattle.std.specs.Prelude.{◌≡◌, ℕ, ◌+◌, ◌-◌, List, [], ◌∷
 use Rattle.bx_ucd.specs.Data.{Data}
 use Rattle.bx_ucd.specs.declared.class.Class.{Class}
 use Rattle.bx_text.specs.declared.change.Change.{Change}
-use Rattle.bx_text.specs.Edits.{Leads}
+use Rattle.bx_text.specs.Edits.{IsChange}
 use Rattle.bx_paras.specs.declared.lengths.Lengths.{Lengths}
 use Rattle.bx_paras.specs.declared.position.Position.{Position}
 use Rattle.bx_paras.specs.Paragraphs.{lengths}
@@ -15,7 +15,7 @@ pub record IsTouched (says : Data) (old : List ℕ) (change : Change) (new : Lis
     (first last : Position) : Type 0 where
   pub old_utf8 : IsUtf8 old
   pub new_utf8 : IsUtf8 new
-  pub leads : Leads old change new
+  pub is_change : IsChange old change new
   pub were : front ++ behind ∷ [] ≡ lengths says old
   pub first_is : IsPosition front (change.start - 1) first
   pub last_is : IsPosition front (change.start + change.removed) last

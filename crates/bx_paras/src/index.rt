@@ -2,7 +2,7 @@
 
 ghost use Rattle.std.specs.Prelude.{◌≡◌, ℕ, ◌+◌, ◌-◌, ◌<◌, ◌≤◌, ◌++◌, ◌∷◌, List, [], None, Some, length};
 ghost use Rattle.std.specs.Prelude.{take, drop, slice_get, min, IsUtf8, IfOk, OnOk, OnErr, MatchOption};
-ghost use Rattle.bx_text.specs.Edits.{Leads, largest_text};
+ghost use Rattle.bx_text.specs.Edits.{IsChange, largest_text};
 ghost use Rattle.bx_text.specs.Text.{HasRoomFor};
 ghost use Rattle.bx_paras.specs.Paragraphs.{lengths, separator_count};
 ghost use Rattle.bx_paras.specs.Positions.{total, spans, separators, paragraph_of};
@@ -10,16 +10,16 @@ ghost use Rattle.bx_paras.specs.Flat.{flat};
 ghost use Rattle.bx_paras.specs.Spots.{closed};
 ghost use Rattle.bx_paras.specs.Touched.{IsTouched};
 ghost use Rattle.bx_paras.specs.Index.{CoversBytes, IndexState};
-ghost use Rattle.bx_paras.specs.Windows.{IsWindow};
+ghost use Rattle.bx_paras.specs.ScanRanges.{IsScanRange};
 
 use crate::block::BLOCK_CAPACITY;
 use crate::blocks::Blocks;
-use crate::fill::replace;
-use crate::leads::leads_of;
+use crate::lead_bytes::lead_bytes_of;
 use crate::position::Position;
+use crate::rescan::replace;
 use crate::scan::paragraph_from;
+use crate::scan_range::{ScanRange, range_to_end};
 use crate::walk::ParagraphWalk;
-use crate::window::{Window, window_to_end};
 use bx_terms::{LARGEST_TEXT, OutOfMemory};
 use bx_text::{Change, Text};
 use bx_ucd::BidiData;
@@ -58,7 +58,7 @@ fn touched<D: BidiData>(
     requires was { (old : List ℕ)
         × IsUtf8 old
         × (closed front.now.blocks last ≡ lengths (D.data tables.now) old)
-        × Leads old change.now text.now.edited.text }
+        × IsChange old change.now text.now.edited.text }
     requires short { total (closed front.now.blocks last) ≤ largest_text }
     ensures { (old : List ℕ)
         × IsTouched (D.data tables.now) old change.now text.now.edited.text (flat front.now.blocks)
@@ -97,20 +97,20 @@ fn rest_behind(last: Position, offset: usize, left: usize) -> (usize, usize)
     }
 }
 
-/// The window to scan after a change.
-fn window_of<D: BidiData>(
+/// The range to scan after a change.
+fn range_after<D: BidiData>(
     front: &Blocks,
     last: u32,
     text: &Text,
     tables: &D,
     change: &Change,
     reached: (Position, Position),
-) -> Window
+) -> ScanRange
     requires touched { (old : List ℕ)
         × IsTouched (D.data tables.now) old change.now text.now.edited.text (flat front.now.blocks)
         (record { body = last; separator = 0 }) reached.0 reached.1 }
     requires short { total (closed front.now.blocks last) ≤ largest_text }
-    ensures { IsWindow (D.data tables.now) text.now.edited.text reached.0.start result }
+    ensures { IsScanRange (D.data tables.now) text.now.edited.text reached.0.start result }
 {
     // used by the contract alone
     let _ = front;
@@ -119,7 +119,7 @@ fn window_of<D: BidiData>(
     let len = text.len();
     let stop = change.start + change.added;
     let (body, separator) = rest_behind(reached.1, change.start + change.removed, len - stop);
-    Window {
+    ScanRange {
         start: quiet_until(reached.0, change),
         stop,
         body,
@@ -138,10 +138,10 @@ impl Index {
         let mut front = Blocks::new(alloc);
         let mut position = 0;
         let mut at = 0;
-        let mut window = window_to_end(text, at);
-        let leads = leads_of(tables, len);
+        let mut range = range_to_end(text, at);
+        let lead_bytes = lead_bytes_of(tables, len);
         while at < len {
-            let paragraph = paragraph_from(text, tables, &leads, at, window);
+            let paragraph = paragraph_from(text, tables, &lead_bytes, at, range);
             if paragraph.separator == 0 {
                 return Ok(Index {
                     front,
@@ -152,7 +152,7 @@ impl Index {
             front.ready(1)?;
             position = front.push(position, paragraph);
             at += paragraph.bytes();
-            window.start = at;
+            range.start = at;
         }
         Ok(Index {
             front,
@@ -185,15 +185,15 @@ impl Index {
         requires was { (old : List ℕ)
             × IsUtf8 old
             × (self.old.paragraphs ≡ lengths (D.data tables.now) old)
-            × Leads old change.now text.now.edited.text }
+            × IsChange old change.now text.now.edited.text }
         requires room { HasRoomFor self.old.room
             (separator_count (D.data tables.now) (take change.now.added (drop change.now.start text.now.edited.text))) }
         ensures { self.new ≡ record { paragraphs = lengths (D.data tables.now) text.now.edited.text; room = None } }
     {
         let len = text.len();
         let reached = touched(&self.front, self.last, text, tables, change);
-        let window = window_of(&self.front, self.last, text, tables, change, reached);
-        let leads = leads_of(tables, window.stop.saturating_sub(window.start));
+        let range = range_after(&self.front, self.last, text, tables, change, reached);
+        let lead_bytes = lead_bytes_of(tables, range.stop.saturating_sub(range.start));
         let (first, last) = reached;
         if let Some(end) = last.end {
             let behind = end - change.removed + change.added;
@@ -201,11 +201,11 @@ impl Index {
                 &mut self.front,
                 text,
                 tables,
-                &leads,
+                &lead_bytes,
                 first,
                 last.number + 1,
                 behind,
-                window,
+                range,
             );
             self.room = None;
             return;
@@ -214,11 +214,11 @@ impl Index {
             &mut self.front,
             text,
             tables,
-            &leads,
+            &lead_bytes,
             first,
             last.number,
             len,
-            window,
+            range,
         );
         self.last = (len - at) as u32;
         self.room = None;

@@ -1,6 +1,6 @@
 //! Laws of the paragraphs of any text. Each function's contract is a law; its body is empty.
 
-ghost use Rattle.bx_paras.specs.Laws.{BodiesHaveNone, EndWithSeparators, JoinToText, KeepEachCrLf, StandAtSpans};
+ghost use Rattle.bx_paras.specs.Laws.{BodiesHaveNone, EndWithSeparators, JoinToText, KeepEachCrLf, MatchSpans};
 
 /// The paragraphs of a text, concatenated, are the text. All but the last end with one separator. No CR LF is cut.
 pub fn paragraphs_join_to_text()
@@ -10,7 +10,7 @@ pub fn paragraphs_join_to_text()
 {}
 
 /// The body of a paragraph is the text at the paragraph's span, and has no separator in it.
-pub fn bodies_stand_at_spans()
-    ensures spans { StandAtSpans }
+pub fn bodies_match_spans()
+    ensures spans { MatchSpans }
     ensures none_inside { BodiesHaveNone }
 {}

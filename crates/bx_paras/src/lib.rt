@@ -5,19 +5,19 @@
 
 mod block;
 mod blocks;
-mod fill;
 mod index;
 mod laws;
-mod leads;
+mod lead_bytes;
 mod lengths;
 mod position;
+mod rescan;
 mod scan;
+mod scan_range;
 mod splices;
 mod spot;
 mod walk;
-mod window;
 
 pub use index::Index;
-pub use laws::{bodies_stand_at_spans, paragraphs_join_to_text};
+pub use laws::{bodies_match_spans, paragraphs_join_to_text};
 pub use scan::separates;
 pub use walk::ParagraphWalk;

@@ -5,12 +5,12 @@ ghost use Rattle.std.specs.Prelude.{get_or, length, slice_get, encode_utf8, if�
 ghost use Rattle.bx_paras.specs.Paragraphs.{is_separator, begins_with_lf, lengths};
 ghost use Rattle.bx_paras.specs.Ended.{first};
 ghost use Rattle.bx_paras.specs.Scan.{HasNone, NoneAt, BeginsAt, IsAt};
-ghost use Rattle.bx_paras.specs.Leads.{TellLeads};
-ghost use Rattle.bx_paras.specs.Windows.{IsWindow};
+ghost use Rattle.bx_paras.specs.LeadBytes.{CoversSeparators};
+ghost use Rattle.bx_paras.specs.ScanRanges.{IsScanRange};
 
-use crate::leads::Leads;
+use crate::lead_bytes::LeadBytes;
 use crate::lengths::Lengths;
-use crate::window::Window;
+use crate::scan_range::ScanRange;
 use bx_text::Text;
 use bx_ucd::{BidiData, Class};
 
@@ -21,19 +21,12 @@ pub fn separates<D: BidiData>(tables: &D, c: char) -> bool
     matches!(tables.class(c), Class::B)
 }
 
-/// The first character of a text.
-fn first_char(text: &str) -> Option<char>
-    ensures { result ≡ slice_get (chars text.now) 0 }
-{
-    text.chars().next()
-}
-
 /// The character that begins at an offset of a text.
 fn char_at(text: &str, at: usize) -> Option<char>
     requires { IsCharBoundary text.now at }
     ensures { result ≡ slice_get (chars (drop at text.now)) 0 }
 {
-    first_char(&text[at..])
+    text[at..].chars().next()
 }
 
 /// The separator that begins at an offset of a piece of text, if one does.
@@ -50,31 +43,35 @@ fn separator_at<D: BidiData>(piece: &str, tables: &D, at: usize) -> Option<char>
 }
 
 /// Offset of the first byte from `from` on that may begin a separator; the number of bytes if none may.
-fn next_lead(bytes: &[u8], leads: &Leads, from: usize) -> usize
+fn next_lead(bytes: &[u8], lead_bytes: &LeadBytes, from: usize) -> usize
     requires { from ≤ length bytes.now }
     ensures order { from ≤ result }
     ensures inside { result ≤ length bytes.now }
-    ensures none_between { (at : ℕ) → from ≤ at → at < result → get_or leads.now.may_separate (get_or bytes.now at 0) false ≡ false }
+    ensures none_between { (at : ℕ) → from ≤ at → at < result → get_or lead_bytes.now.may_separate (get_or bytes.now at 0) false ≡ false }
 {
     let mut at = from;
-    while at < bytes.len() && !leads.may_separate[bytes[at] as usize] {
+    while at < bytes.len() && !lead_bytes.may_separate[bytes[at] as usize] {
         at += 1;
     }
     at
 }
 
 /// The offset of the first paragraph separator of a piece of text, and the separator.
-fn separator_in<D: BidiData>(piece: &str, tables: &D, leads: &Leads) -> Option<(usize, char)>
-    requires { TellLeads (D.data tables.now) leads.now.may_separate }
+fn separator_in<D: BidiData>(
+    piece: &str,
+    tables: &D,
+    lead_bytes: &LeadBytes,
+) -> Option<(usize, char)>
+    requires { CoversSeparators (D.data tables.now) lead_bytes.now.may_separate }
     ensures { MatchOption result (HasNone (D.data tables.now) (chars piece.now)) (λ found. IsAt (D.data tables.now) (chars piece.now) found.0 found.1) }
 {
     let bytes = piece.as_bytes();
-    let mut at = next_lead(bytes, leads, 0);
+    let mut at = next_lead(bytes, lead_bytes, 0);
     while at < bytes.len() {
         if let Some(c) = separator_at(piece, tables, at) {
             return Some((at, c));
         }
-        at = next_lead(bytes, leads, at + 1);
+        at = next_lead(bytes, lead_bytes, at + 1);
     }
     None
 }
@@ -119,30 +116,30 @@ fn part_before(text: &Text, at: usize, stop: usize) -> &str
 }
 
 /// The lengths of the paragraph that begins at an offset, or of its rest if the offset is within it. Reads only the
-/// window, and an LF after a CR.
+/// range, and an LF after a CR.
 pub fn paragraph_from<D: BidiData>(
     text: &Text,
     tables: &D,
-    leads: &Leads,
+    lead_bytes: &LeadBytes,
     start: usize,
-    window: Window,
+    range: ScanRange,
 ) -> Lengths
-    requires leads { TellLeads (D.data tables.now) leads.now.may_separate }
-    requires window { IsWindow (D.data tables.now) text.now.edited.text start window }
+    requires lead_bytes { CoversSeparators (D.data tables.now) lead_bytes.now.may_separate }
+    requires range { IsScanRange (D.data tables.now) text.now.edited.text start range }
     ensures first { result ≡ first (lengths (D.data tables.now) (drop start text.now.edited.text)) }
     ensures utf8 { IsUtf8 text.now.edited.text }
 {
     let len = text.len();
-    let mut at = window.start;
+    let mut at = range.start;
     while at < len {
-        if at == window.stop {
+        if at == range.stop {
             return Lengths {
-                body: (at - start + window.body) as u32,
-                separator: window.separator as u32,
+                body: (at - start + range.body) as u32,
+                separator: range.separator as u32,
             };
         }
-        let piece = part_before(text, at, window.stop);
-        if let Some((before, c)) = separator_in(piece, tables, leads) {
+        let piece = part_before(text, at, range.stop);
+        if let Some((before, c)) = separator_in(piece, tables, lead_bytes) {
             let end = at + before;
             return Lengths {
                 body: (end - start) as u32,

@@ -4,8 +4,7 @@ use Rattle.std.specs.Prelude.{All}
 use Rattle.std.proofs.lemmas.List.{set_comm}
 use Rattle.std.proofs.lemmas.List.Elements.{All-head, All-tail}
 use Rattle.bx_ucd.specs.Data.{Data}
-use Rattle.bx_ucd.specs.declared.data.Side.{Side}
-use Rattle.bx_explicit.specs.declared.entry.Kept.{Kept}
+use Rattle.bx_explicit.specs.declared.entry.ExplicitChar.{ExplicitChar}
 use Rattle.bx_explicit.specs.Sequences.{RunSequence}
 use Rattle.bx_explicit.specs.Walk.{IsIn, IsOut, IsApart, AreGiven}
 use Rattle.bx_resolve.specs.Levels.{with_levels, with_sequences, levels_in}
@@ -30,7 +29,7 @@ levels_comm low high ps ls (q ∷ qs) (m ∷ ms) each a b = levels_comm low high
     ∙ ap (with_levels qs ms) (set_first low high q m ps ls each (All-head (IsOut low high) q qs b) a)
 
 -- so one of several sequences may be written first
-module _ (says : Data) (chars : List ℕ) (kept : List (Option Kept)) (low high : ℕ) where
+module _ (says : Data) (chars : List ℕ) (kept : List (Option ExplicitChar)) (low high : ℕ) where
   written_first : (ss rest : List RunSequence) (s : RunSequence) (each : List (Option ℕ)) → All (λ (u : RunSequence). All (IsOut low high) u.indexes) ss
       → All (IsIn low high) s.indexes → with_sequences says chars kept (ss ++ s ∷ rest) each
       ≡ with_sequences says chars kept (ss ++ rest) (with_levels s.indexes (levels_in says chars kept s) each)
@@ -42,7 +41,7 @@ module _ (says : Data) (chars : List ℕ) (kept : List (Option Kept)) (low high 
       (levels_comm low high s.indexes (levels_in says chars kept s) u.indexes (levels_in says chars kept u) each a (All-head outs u ss o))
 
 -- the sequences in the order in which they are given write the same
-module _ (says : Data) (chars : List ℕ) (kept : List (Option Kept)) where
+module _ (says : Data) (chars : List ℕ) (kept : List (Option ExplicitChar)) where
   pub given_written : (given all : List RunSequence) (each : List (Option ℕ)) → AreGiven given all
       → with_sequences says chars kept all each ≡ with_sequences says chars kept given each
   given_written [] all each a = ap (λ ss. with_sequences says chars kept ss each) a

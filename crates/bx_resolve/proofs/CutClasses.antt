@@ -14,7 +14,7 @@ use Rattle.bx_brackets.specs.Pairs.{is_on, bracket_at}
 use Rattle.bx_brackets.specs.Resolve.{is_left, is_right, counts_as}
 use Rattle.bx_resolve.specs.Weak.{weak, w3_at}
 use Rattle.bx_resolve.specs.Edited.{one_way, is_listed_as, is_listed, IsCutOff}
-use Rattle.bx_resolve.specs.Plain.{is_plain, is_from_right, all_pass}
+use Rattle.bx_resolve.specs.Uniform.{is_plain, is_from_right, all_pass}
 use Rattle.bx_resolve.proofs.PlainTypes.{each_append, left_kept}
 use Rattle.bx_resolve.proofs.RightLevels.{right_kept}
 use Rattle.bx_resolve.proofs.PlainLevels.{each_pass}

@@ -8,7 +8,6 @@ use Rattle.std.proofs.lemmas.List.{map-append, length-map, take-map, drop-map, l
 use Rattle.bx_ucd.specs.Data.{Data}
 use Rattle.bx_ucd.specs.declared.class.Class.{Class}
 use Rattle.bx_ucd.specs.declared.class.Class.TheVariants.{L, R, AL, LRI, RLI, FSI}
-use Rattle.bx_ucd.specs.declared.data.Side.{Side}
 use Rattle.bx_ucd.specs.Class.{is_strong, is_initiator}
 use Rattle.bx_terms.specs.declared.base.Base.{Base}
 use Rattle.bx_terms.specs.declared.base.Base.TheVariants.{Auto, Ltr, Rtl}
@@ -16,7 +15,7 @@ use Rattle.bx_explicit.specs.ParagraphLevel.{base_level, first_strong, level_of,
 use Rattle.bx_explicit.specs.Matching.{isolated}
 use Rattle.bx_explicit.specs.Sequences.{direction}
 use Rattle.bx_resolve.specs.Weak.{is_left_or_right}
-use Rattle.bx_resolve.specs.Plain.{is_unformatted, all_pass}
+use Rattle.bx_resolve.specs.Uniform.{is_unformatted, all_pass}
 use Rattle.bx_resolve.specs.Levels.{paragraph_levels, sequence_levels}
 use Rattle.bx_resolve.proofs.PlainKept.{Each}
 use Rattle.bx_resolve.proofs.PlainTypes.{each_append}

@@ -8,7 +8,7 @@ use Rattle.std.proofs.lemmas.List.Elements.{All-head}
 use Rattle.std.proofs.lemmas.List.Sorted.{IsPermutation-refl, IsPermutation-sym, IsPermutation-trans}
 use Rattle.std.proofs.lemmas.List.Sorted.{IsPermutation-append, IsPermutation-append_comm, IsPermutation-append_left, IsPermutation-append_right}
 use Rattle.bx_ucd.specs.declared.class.Class.{Class}
-use Rattle.bx_explicit.specs.declared.entry.Kept.{Kept}
+use Rattle.bx_explicit.specs.declared.entry.ExplicitChar.{ExplicitChar}
 use Rattle.bx_explicit.specs.declared.runs.Run.{Run}
 use Rattle.bx_explicit.specs.Explicit.{explicit_levels}
 use Rattle.bx_explicit.specs.Runs.{run, join_run, runs_from, kept_indexes, indexes_of, IsRunWithin}
@@ -23,16 +23,16 @@ use Rattle.bx_explicit.proofs.Ordered.{drop_on}
 use Rattle.bx_resolve.specs.Laws.{all_indexes}
 
 -- the level runs hold the kept characters, in order
-module _ (kept : List (Option Kept)) where
+module _ (kept : List (Option ExplicitChar)) where
   -- the indexes of the first run, from `k` on
-  abbrev HoldsFrom : ℕ → List (Option Kept) → List Run → Type 0
+  abbrev HoldsFrom : ℕ → List (Option ExplicitChar) → List Run → Type 0
   HoldsFrom k g [] = Unit {0}
   HoldsFrom k g (r ∷ rs) = kept_indexes k (take (r.last + 1 - k) g) ≡ indexes_of kept r
 
-  alone : (k level : ℕ) (c : Kept) (g : List (Option Kept)) → drop k kept ≡ Some c ∷ g → indexes_of kept (run level k k) ≡ k ∷ []
+  alone : (k level : ℕ) (c : ExplicitChar) (g : List (Option ExplicitChar)) → drop k kept ≡ Some c ∷ g → indexes_of kept (run level k k) ≡ k ∷ []
   alone k level c g e = let n : k + 1 - k ≡ suc 0 = omega arith in ap₂ (λ m xs. kept_indexes k (take m xs)) n e
 
-  holds_join : (k top : ℕ) (c : Kept) (g : List (Option Kept)) (rs : List Run) → drop k kept ≡ Some c ∷ g → All (IsRunWithin (k + 1) top) rs
+  holds_join : (k top : ℕ) (c : ExplicitChar) (g : List (Option ExplicitChar)) (rs : List Run) → drop k kept ≡ Some c ∷ g → All (IsRunWithin (k + 1) top) rs
       → HoldsFrom (k + 1) g rs → chain_indexes kept rs ≡ kept_indexes (k + 1) g
       → HoldsFrom k (Some c ∷ g) (join_run k c.level rs) × (chain_indexes kept (join_run k c.level rs) ≡ kept_indexes k (Some c ∷ g))
   holds_join k top c g [] e w h i = (
@@ -61,14 +61,14 @@ module _ (kept : List (Option Kept)) where
         )
       ]
 
-  holds_none : (k top : ℕ) (g : List (Option Kept)) (rs : List Run) → All (IsRunWithin (k + 1) top) rs → HoldsFrom (k + 1) g rs → HoldsFrom k (None ∷ g) rs
+  holds_none : (k top : ℕ) (g : List (Option ExplicitChar)) (rs : List Run) → All (IsRunWithin (k + 1) top) rs → HoldsFrom (k + 1) g rs → HoldsFrom k (None ∷ g) rs
   holds_none k top g [] w h = tt
   holds_none k top g (r ∷ rs) w h =
       let v : IsRunWithin (k + 1) top r = All-head (IsRunWithin (k + 1) top) r rs w in
       let n : r.last + 1 - k ≡ suc (r.last + 1 - (k + 1)) = omega (arith, v.starts, v.ordered) in
       ap (λ m. kept_indexes k (take m (None ∷ g))) n ∙ h
 
-  holds_all : (g : List (Option Kept)) (k : ℕ) → drop k kept ≡ g
+  holds_all : (g : List (Option ExplicitChar)) (k : ℕ) → drop k kept ≡ g
       → HoldsFrom k g (runs_from k g) × (chain_indexes kept (runs_from k g) ≡ kept_indexes k g)
   holds_all [] k e = (tt, refl)
   holds_all (None ∷ g) k e =
@@ -108,7 +108,7 @@ given_indexes (s ∷ given) all a =
     (IsPermutation-append_right s.indexes (all_indexes given) (x ++ y) rest) (moves_behind s.indexes x y))
 
 -- the chains hold the indexes of all runs, as they end
-module _ (paragraph : ℕ) (cs : List Class) (kept : List (Option Kept)) where
+module _ (paragraph : ℕ) (cs : List Class) (kept : List (Option ExplicitChar)) where
   abbrev chains_indexes : List (List Run) → List ℕ
   chains_indexes [] = []
   chains_indexes (c ∷ chains) = chain_indexes kept c ++ chains_indexes chains
@@ -188,7 +188,7 @@ module _ (paragraph : ℕ) (cs : List Class) (kept : List (Option Kept)) where
 pub each_once : (level : ℕ) (cs : List Class) → level ≤ 1
     → IsPermutation (kept_indexes 0 (explicit_levels level cs)) (all_indexes (sequences level cs (explicit_levels level cs)))
 each_once level cs low =
-    let kept : List (Option Kept) = explicit_levels level cs in
+    let kept : List (Option ExplicitChar) = explicit_levels level cs in
     let given : List RunSequence = ending level cs kept [] (runs_from 0 kept) in
     let own : IsPermutation (all_indexes given) (kept_indexes 0 kept) =
     subst (IsPermutation (all_indexes given)) (runs_hold kept) (ending_all level cs kept (runs_from 0 kept) []) in

@@ -4,12 +4,10 @@ use Rattle.std.proofs.Common.{ap₂, sym, subst, arith, true, false, Option, len
 use Rattle.std.specs.List.{list_any}
 use Rattle.std.proofs.lemmas.List.{at_drop_more, take_more, take-append-drop, length-take-le, map-append}
 use Rattle.bx_ucd.specs.Data.{Data}
-use Rattle.bx_ucd.specs.declared.class.Class.{Class}
-use Rattle.bx_ucd.specs.declared.data.Side.{Side}
 use Rattle.bx_ucd.specs.Class.{is_strong}
 use Rattle.bx_terms.specs.declared.base.Base.{Base}
 use Rattle.bx_explicit.specs.ParagraphLevel.{base_level}
-use Rattle.bx_resolve.specs.Plain.{is_unformatted}
+use Rattle.bx_resolve.specs.Uniform.{is_unformatted}
 use Rattle.bx_resolve.specs.Levels.{paragraph_levels, levels_under, paragraph_level_under}
 use Rattle.bx_resolve.proofs.PlainKept.{Each}
 use Rattle.bx_resolve.proofs.PlainLevels.{each_pass}

@@ -1,8 +1,6 @@
 -- The levels updated after an edit are the levels of the new text.
 use Rattle.std.proofs.Common.{◌≡◌, ◌∙◌, ℕ, List, ◌++◌, take, drop, ap, ap₂, sym, Option}
 use Rattle.bx_ucd.specs.Data.{Data}
-use Rattle.bx_ucd.specs.declared.class.Class.{Class}
-use Rattle.bx_ucd.specs.declared.data.Side.{Side}
 use Rattle.bx_resolve.specs.declared.paragraph.Levels.{Levels}
 use Rattle.bx_resolve.specs.Levels.{paragraph_levels, levels_under}
 use Rattle.bx_resolve.specs.Edited.{FollowsBetween, FollowsFromStart, FollowsToEnd}

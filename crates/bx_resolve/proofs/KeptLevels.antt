@@ -11,10 +11,9 @@ use Rattle.std.proofs.lemmas.List.Sorted.{IsPermutation-sym, list_any-IsPermutat
 use Rattle.bx_ucd.specs.Data.{Data}
 use Rattle.bx_ucd.specs.declared.class.Class.{Class}
 use Rattle.bx_ucd.specs.declared.class.Class.TheVariants.{L, R, AL, EN, ES, ET, AN, CS, NSM, BN, B, S, WS, ON, LRE, LRO, RLE, RLO, PDF, LRI, RLI, FSI, PDI}
-use Rattle.bx_ucd.specs.declared.data.Side.{Side}
 use Rattle.bx_terms.specs.declared.base.Base.{Base}
 use Rattle.bx_terms.specs.declared.base.Base.TheVariants.{Auto, Ltr, Rtl}
-use Rattle.bx_explicit.specs.declared.entry.Kept.{Kept}
+use Rattle.bx_explicit.specs.declared.entry.ExplicitChar.{ExplicitChar}
 use Rattle.bx_explicit.specs.declared.state.State.{State}
 use Rattle.bx_explicit.specs.Stack.{max_depth}
 use Rattle.bx_explicit.specs.Role.{role_of}
@@ -81,14 +80,14 @@ flagged_same : (k : ℕ) (ps qs : List ℕ) (fs : List Bool) → IsPermutation p
 flagged_same k ps qs [] h = refl
 flagged_same k ps qs (f ∷ fs) h = ap₂ (λ b gs. (b || f) ∷ gs) (list_any-IsPermutation (λ p. p == k) ps qs h) (flagged_same (k + 1) ps qs fs h)
 
-none_at : (k m : ℕ) (g : List (Option Kept)) → k < m → list_any (λ p. p == k) (kept_indexes m g) ≡ false
+none_at : (k m : ℕ) (g : List (Option ExplicitChar)) → k < m → list_any (λ p. p == k) (kept_indexes m g) ≡ false
 none_at k m [] h = refl
 none_at k m (None ∷ g) h = none_at k (m + 1) g (omega arith)
 none_at k m (Some c ∷ g) h =
     let other : (m == k) ≡ false = grind (arith, nat_tests) in
     ap (λ b. b || list_any (λ p. p == k) (kept_indexes (m + 1) g)) other ∙ none_at k (m + 1) g (omega arith)
 
-flagged_kept : (k : ℕ) (g : List (Option Kept)) → flagged k (kept_indexes k g) (replicate (length g) false) ≡ map is_some g
+flagged_kept : (k : ℕ) (g : List (Option ExplicitChar)) → flagged k (kept_indexes k g) (replicate (length g) false) ≡ map is_some g
 flagged_kept k [] = refl
 flagged_kept k (None ∷ g) = ap₂ (λ b gs. (b || false) ∷ gs) (none_at k (k + 1) g (omega arith)) (flagged_kept (k + 1) g)
 flagged_kept k (Some c ∷ g) =
@@ -177,7 +176,7 @@ with_low (p ∷ ps) [] each a b = b
 with_low (p ∷ ps) (l ∷ ls) each a b = with_low ps ls (set each p (Some l)) (All-tail (λ n. n ≤ max_level) l ls a)
     (All-set IsLowLevel each p (Some l) (All-head (λ n. n ≤ max_level) l ls a) b)
 
-module _ (says : Data) (chars : List ℕ) (kept : List (Option Kept)) where
+module _ (says : Data) (chars : List ℕ) (kept : List (Option ExplicitChar)) where
   sequences_raise : (ss : List RunSequence) (each : List (Option ℕ))
       → map is_some (with_sequences says chars kept ss each) ≡ raised (all_indexes ss) (map is_some each)
   sequences_raise [] each = refl
@@ -200,7 +199,7 @@ module _ (says : Data) where
   paragraph_kept : (level : ℕ) (chars : List ℕ) → level ≤ 1 → map is_some (paragraph_levels says level chars) ≡ map is_kept (map says.class chars)
   paragraph_kept level chars low =
       let cs : List Class = map says.class chars in
-      let kept : List (Option Kept) = explicit_levels level cs in
+      let kept : List (Option ExplicitChar) = explicit_levels level cs in
       let all : List ℕ = all_indexes (sequences level cs kept) in
       let n : length chars ≡ length kept = sym (explicit_length (start level) cs ∙ length-map chars says.class) in
       sequences_raise says chars kept (sequences level cs kept) (replicate (length chars) None)
@@ -211,7 +210,7 @@ module _ (says : Data) where
   paragraph_low : (level : ℕ) (chars : List ℕ) → level ≤ 1 → All IsLowLevel (paragraph_levels says level chars)
   paragraph_low level chars low =
       let cs : List Class = map says.class chars in
-      let kept : List (Option Kept) = explicit_levels level cs in
+      let kept : List (Option ExplicitChar) = explicit_levels level cs in
       sequences_stay_low says chars kept (sequences level cs kept) (replicate (length chars) None)
       (sequences_low level cs kept (levels_low level cs (omega arith))) (All-replicate IsLowLevel (length chars) None tt)
 

@@ -1,12 +1,11 @@
 -- A text of class L alone: no rule changes a type, and each character has one level.
-use Rattle.std.proofs.Common.{◌≡◌, ◌∙◌, ℕ, zero, suc, List, [], ◌∷◌, length, map, replicate, refl, ap, Bool, true, false, Option, Some}
+use Rattle.std.proofs.Common.{◌≡◌, ◌∙◌, ℕ, zero, suc, List, [], ◌∷◌, length, map, replicate, refl, ap, Bool, true, false, Some}
 use Rattle.std.specs.Prelude.{All}
 use Rattle.std.specs.List.{list_any}
 use Rattle.std.proofs.lemmas.List.Elements.{All-head, All-tail}
 use Rattle.bx_ucd.specs.Data.{Data}
 use Rattle.bx_ucd.specs.declared.class.Class.{Class}
 use Rattle.bx_ucd.specs.declared.class.Class.TheVariants.{L}
-use Rattle.bx_ucd.specs.declared.data.Side.{Side}
 use Rattle.bx_terms.specs.declared.base.Base.{Base}
 use Rattle.bx_terms.specs.declared.base.Base.TheVariants.{Auto, Ltr, Rtl}
 use Rattle.bx_explicit.specs.ParagraphLevel.{paragraph_level, base_level}
@@ -17,7 +16,7 @@ use Rattle.bx_resolve.specs.AtEach.{at_each}
 use Rattle.bx_resolve.specs.Weak.{w1_at, w2_at, w3_at, w4_at, w5_at, w6_at, w7_at, w1, w2, w3, w4, w5, w6, w7, weak, is_nsm}
 use Rattle.bx_resolve.specs.Neutral.{n1, n2, n1_at, n2_at, implicit, implicit_at}
 use Rattle.bx_resolve.specs.Levels.{sequence_levels, paragraph_levels, paragraph_level_under}
-use Rattle.bx_resolve.specs.Plain.{is_unformatted, all_pass}
+use Rattle.bx_resolve.specs.Uniform.{is_unformatted, all_pass}
 use Rattle.bx_resolve.specs.Laws.{LeftTextsHave}
 use Rattle.bx_resolve.proofs.NoBrackets.{no_pairs}
 use Rattle.bx_resolve.proofs.PlainLevels.{found, unformatted_levels}

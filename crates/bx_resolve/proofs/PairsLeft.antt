@@ -6,10 +6,9 @@ use Rattle.std.proofs.lemmas.List.{drop_all, at_drop_more}
 use Rattle.bx_ucd.specs.Data.{Data}
 use Rattle.bx_ucd.specs.declared.class.Class.{Class}
 use Rattle.bx_ucd.specs.declared.class.Class.TheVariants.{L}
-use Rattle.bx_ucd.specs.declared.data.Side.{Side}
 use Rattle.bx_brackets.specs.Pairs.{bracket_at}
 use Rattle.bx_brackets.specs.Search.{Progress, after, pairs_after}
-use Rattle.bx_explicit.specs.declared.entry.Kept.{Kept}
+use Rattle.bx_explicit.specs.declared.entry.ExplicitChar.{ExplicitChar}
 use Rattle.bx_explicit.specs.LevelIndexes.{level_indexes}
 use Rattle.bx_resolve.specs.Levels.{chars_at}
 
@@ -41,22 +40,22 @@ chars_behind (suc k) c [] xs e = absurd (cc)
 chars_behind (suc k) c (a ∷ all) xs e = chars_behind k c all xs e ∙ drop_suc (k + 1) a all ∙ ap (λ i. drop i (a ∷ all)) (suc_more k)
 
 -- a character of a run
-run_at : (level k : ℕ) (g : Kept) (ks : List (Option Kept)) → g.level ≡ level → level_indexes level k (Some g ∷ ks) ≡ k ∷ level_indexes level (k + 1) ks
+run_at : (level k : ℕ) (g : ExplicitChar) (ks : List (Option ExplicitChar)) → g.level ≡ level → level_indexes level k (Some g ∷ ks) ≡ k ∷ level_indexes level (k + 1) ks
 run_at level k g ks e = let same : (g.level == level) ≡ true = search rules in rw (same, level_indexes)
 
-pub run_kept : (level k : ℕ) (g : Kept) (kept : List (Option Kept)) → k < length kept → get_or kept k None ≡ Some g → g.level ≡ level
+pub run_kept : (level k : ℕ) (g : ExplicitChar) (kept : List (Option ExplicitChar)) → k < length kept → get_or kept k None ≡ Some g → g.level ≡ level
     → level_indexes level k (drop k kept) ≡ k ∷ level_indexes level (k + 1) (drop (k + 1) kept)
 run_kept level k g kept h e s = at_drop_more (level_indexes level k) kept k None h ∙ ap (λ x. level_indexes level k (x ∷ drop (k + 1) kept)) e
     ∙ run_at level k g (drop (k + 1) kept) s
 
-pub run_removed : (level k : ℕ) (kept : List (Option Kept)) → k < length kept → get_or kept k None ≡ None
+pub run_removed : (level k : ℕ) (kept : List (Option ExplicitChar)) → k < length kept → get_or kept k None ≡ None
     → level_indexes level k (drop k kept) ≡ level_indexes level (k + 1) (drop (k + 1) kept)
 run_removed level k kept h e = at_drop_more (level_indexes level k) kept k None h ∙ ap (λ x. level_indexes level k (x ∷ drop (k + 1) kept)) e
 
 -- the pairs that a search finds after it
-module _ (says : Data) (all : List ℕ) (kept : List (Option Kept)) (ts : List Class) (level k met : ℕ) (p : Progress) (h : k < length kept)
+module _ (says : Data) (all : List ℕ) (kept : List (Option ExplicitChar)) (ts : List Class) (level k met : ℕ) (p : Progress) (h : k < length kept)
     (more : List ℕ) where
-  pub kept_left : (c : ℕ) (g : Kept) (q : Progress) → get_or kept k None ≡ Some g → g.level ≡ level → met < length ts → c ≡ get_or all k 0
+  pub kept_left : (c : ℕ) (g : ExplicitChar) (q : Progress) → get_or kept k None ≡ Some g → g.level ≡ level → met < length ts → c ≡ get_or all k 0
       → q ≡ after met c (bracket_at says c (get_or ts met L)) p
       → pairs_after says p met (chars_at all (level_indexes level k (drop k kept) ++ more)) (drop met ts)
       ≡ pairs_after says q (met + 1) (chars_at all (level_indexes level (k + 1) (drop (k + 1) kept) ++ more)) (drop (met + 1) ts)

@@ -5,7 +5,7 @@ use Rattle.bx_ucd.specs.declared.class.Class.TheVariants.{L, R, AL, EN, ES, ET, 
 use Rattle.bx_explicit.specs.Explicit.{explicit_from, explicit_levels, start}
 use Rattle.bx_explicit.proofs.OneSequence.{kept_as, indexes_from, kept_length}
 use Rattle.bx_resolve.specs.Levels.{type_of, types_at, chars_at}
-use Rattle.bx_resolve.specs.Plain.{is_unformatted}
+use Rattle.bx_resolve.specs.Uniform.{is_unformatted}
 
 -- each class passes a test
 abbrev pub Each : (Class → Bool) → List Class → Type 0

@@ -3,7 +3,6 @@ use Rattle.std.proofs.Common.{◌≡◌, ◌<◌, ◌+◌, ◌-◌, ◌∙◌, �
 use Rattle.std.proofs.lemmas.List.{length-map}
 use Rattle.bx_ucd.specs.Data.{Data}
 use Rattle.bx_ucd.specs.declared.class.Class.{Class}
-use Rattle.bx_ucd.specs.declared.data.Side.{Side}
 use Rattle.bx_brackets.specs.Pairs.{pairs}
 use Rattle.bx_brackets.specs.Resolve.{context_of, pair_direction, change_bracket, resolve_in, resolve_pairs}
 use Rattle.bx_brackets.proofs.Context.{change_length}

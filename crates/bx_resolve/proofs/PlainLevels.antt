@@ -7,15 +7,14 @@ use Rattle.std.proofs.Math.Seq.{drop-length}
 use Rattle.bx_ucd.specs.Data.{Data}
 use Rattle.bx_ucd.specs.declared.class.Class.{Class}
 use Rattle.bx_ucd.specs.declared.class.Class.TheVariants.{L, R, AL, EN, AN, ES, ET, CS, NSM, B, S, WS, ON}
-use Rattle.bx_ucd.specs.declared.data.Side.{Side}
-use Rattle.bx_explicit.specs.declared.entry.Kept.{Kept}
+use Rattle.bx_explicit.specs.declared.entry.ExplicitChar.{ExplicitChar}
 use Rattle.bx_explicit.specs.Sequences.{sequences, direction}
 use Rattle.bx_resolve.specs.Levels.{with_levels, with_sequences, levels_in, sequence_types, sequence_levels, paragraph_levels, types_at}
 use Rattle.bx_brackets.specs.Pairs.{pairs}
 use Rattle.bx_brackets.specs.Resolve.{resolve_pairs}
 use Rattle.bx_resolve.specs.Weak.{weak, is_nsm}
 use Rattle.bx_resolve.specs.Neutral.{n1, n2, implicit_at}
-use Rattle.bx_resolve.specs.Plain.{is_plain, is_plain_right, is_from_right, is_unformatted, all_pass}
+use Rattle.bx_resolve.specs.Uniform.{is_plain, is_plain_right, is_from_right, is_unformatted, all_pass}
 use Rattle.bx_explicit.proofs.OneSequence.{kept_as, indexes_from, whole, sequences_plain}
 use Rattle.bx_resolve.proofs.PlainKept.{Each, explicit_plain, chars_whole, types_whole}
 use Rattle.bx_resolve.proofs.PlainLengths.{levels_length}
@@ -66,7 +65,7 @@ by_classes says p [] [] zero e f = refl
 by_classes says p (c ∷ chars) [] zero e f = absurd (omega arith)
 by_classes says p chars [] (suc n) e f = absurd (omega arith)
 by_classes says p chars (c ∷ cs) n e f =
-    let kept : List (Option Kept) = map (kept_as p) (c ∷ cs) in
+    let kept : List (Option ExplicitChar) = map (kept_as p) (c ∷ cs) in
     let levels : List ℕ = sequence_levels says p (direction p) (direction p) chars (c ∷ cs) in
     let s : sequences p (c ∷ cs) kept ≡ whole p n ∷ [] = sequences_plain p c cs ∙ ap (λ k. whole p k ∷ []) f in
     ap (λ ss. with_sequences says chars kept ss (replicate n None)) s

@@ -7,7 +7,6 @@ use Rattle.std.specs.List.{list_any}
 use Rattle.bx_ucd.specs.Data.{Data}
 use Rattle.bx_ucd.specs.declared.class.Class.{Class}
 use Rattle.bx_ucd.specs.declared.class.Class.TheVariants.{L, R, AL, AN, EN, ES, ET, CS, NSM, B, S, WS, ON}
-use Rattle.bx_ucd.specs.declared.data.Side.{Side}
 use Rattle.bx_brackets.specs.Pairs.{is_on, pairs}
 use Rattle.bx_brackets.specs.Resolve.{counts_as, opposite, context_of, pair_direction, change_marks, change_bracket, resolve_in, resolve_pairs}
 use Rattle.bx_ucd.specs.Class.{is_strong}
@@ -16,7 +15,7 @@ use Rattle.bx_resolve.specs.Weak.{mark_class, nearest_that, number_after, left_n
 use Rattle.bx_resolve.specs.Neutral.{n2, n1_at, n2_at, side, agreed, rise_odd, implicit, implicit_at}
 use Rattle.bx_resolve.specs.AtEach.{at_each}
 use Rattle.bx_resolve.specs.Levels.{sequence_levels}
-use Rattle.bx_resolve.specs.Plain.{is_from_right}
+use Rattle.bx_resolve.specs.Uniform.{is_from_right}
 use Rattle.bx_resolve.proofs.PlainKept.{Each}
 use Rattle.bx_resolve.proofs.PlainPairs.{AreInside, pairs_inside}
 use Rattle.bx_resolve.proofs.PlainTypes.{each_by_rule, each_map, each_take, each_drop, each_append}

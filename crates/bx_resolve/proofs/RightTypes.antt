@@ -1,16 +1,14 @@
 -- A right-to-left sequence of plain classes, after each rule.
 use Rattle.std.proofs.Common.{◌≡◌, ◌∙◌, ℕ, List, [], ◌∷◌, length, replicate, refl, ap, Bool, true, false}
-use Rattle.std.proofs.Common.{Option}
 use Rattle.std.specs.Prelude.{◌&&◌}
 use Rattle.bx_ucd.specs.Data.{Data}
 use Rattle.bx_ucd.specs.declared.class.Class.{Class}
 use Rattle.bx_ucd.specs.declared.class.Class.TheVariants.{R, AL, AN, EN, ES, ET, CS, NSM, B, S, WS, ON}
-use Rattle.bx_ucd.specs.declared.data.Side.{Side}
 use Rattle.bx_resolve.specs.Weak.{w1, w2, w3, w4, w5, w6, w1_at, w2_at, w3_at, w4_at, w5_at, w6_at, w7_at, weak, is_en, is_an, mark_class, beside}
 use Rattle.bx_resolve.specs.Weak.{terminator_of, is_en_past}
 use Rattle.bx_resolve.specs.Neutral.{implicit}
 use Rattle.bx_resolve.specs.Levels.{sequence_levels}
-use Rattle.bx_resolve.specs.Plain.{is_plain_right, is_from_right}
+use Rattle.bx_resolve.specs.Uniform.{is_plain_right, is_from_right}
 use Rattle.bx_resolve.proofs.PlainKept.{Each}
 use Rattle.bx_resolve.proofs.PlainLengths.{weak_length}
 use Rattle.bx_resolve.proofs.RightLevels.{right_sequence}

@@ -3,8 +3,8 @@ use Rattle.std.proofs.Common.{◌≡◌, ◌<◌, ◌+◌, ◌-◌, ◌*◌, ◌
 use Rattle.std.proofs.Common.{◌∷◌, ◌++◌, length, get_or, drop, chars, refl, ap, sym, subst, arith, length-append}
 use Rattle.std.proofs.Common.{◌⊎◌, inl, inr}
 use Rattle.std.specs.Str.{IsUtf8}
-use Rattle.std.proofs.lemmas.List.{drop-drop, drop_at}
-use Rattle.std.proofs.lemmas.Str.{IsCharBoundary-from_drop}
+use Rattle.std.proofs.lemmas.List.{drop-drop, drop_at, nil_from_length}
+use Rattle.std.proofs.lemmas.Str.{IsCharBoundary-from_drop, chars-nil}
 use Rattle.std.proofs.Math.Seq.{get_or-append_seam}
 use Rattle.std.proofs.Math.ListN.{get_or-append}
 use Rattle.bx_resolve.specs.Body.{IsEndOf, IsOffset, AreOffsets}
@@ -33,6 +33,9 @@ drop_cons (suc k) cs ds c h e = let n : suc k - 1 ≡ k = omega arith in ap (λ 
 pub drop_none : (k : ℕ) (cs : List ℕ) → cs ≡ [] → cs ≡ drop k cs
 drop_none zero cs e = refl
 drop_none (suc k) cs e = e ∙ ap (drop (suc k)) (sym e)
+
+pub chars_none : (t : List ℕ) → length t ≡ 0 → chars t ≡ []
+chars_none t e = ap chars (nil_from_length t e) ∙ chars-nil
 
 -- one offset more
 at_most : (k n : ℕ) → k < n + 1 → (k < n) ⊎ (k ≡ n)

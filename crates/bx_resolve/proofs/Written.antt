@@ -4,8 +4,7 @@ use Rattle.std.proofs.Common.{Some}
 use Rattle.std.proofs.lemmas.List.{at_drop_more, drop_all}
 use Rattle.std.proofs.Math.ListN.{length-set}
 use Rattle.bx_ucd.specs.Data.{Data}
-use Rattle.bx_ucd.specs.declared.data.Side.{Side}
-use Rattle.bx_explicit.specs.declared.entry.Kept.{Kept}
+use Rattle.bx_explicit.specs.declared.entry.ExplicitChar.{ExplicitChar}
 use Rattle.bx_ucd.specs.declared.class.Class.{Class}
 use Rattle.bx_explicit.specs.Sequences.{RunSequence}
 use Rattle.bx_resolve.specs.Neutral.{implicit}
@@ -37,7 +36,7 @@ levels_length [] ls each = refl
 levels_length (p ∷ ps) [] each = refl
 levels_length (p ∷ ps) (l ∷ ls) each = levels_length ps ls (set each p (Some l)) ∙ length-set each p (Some l)
 
-module _ (says : Data) (chars : List ℕ) (kept : List (Option Kept)) where
+module _ (says : Data) (chars : List ℕ) (kept : List (Option ExplicitChar)) where
   pub sequences_more : (ss : List RunSequence) (each : List (Option ℕ)) (i : ℕ) (d : RunSequence) → i < length ss
       → with_sequences says chars kept (drop i ss) each
       ≡ with_sequences says chars kept (drop (i + 1) ss) (with_levels (get_or ss i d).indexes (levels_in says chars kept (get_or ss i d)) each)

@@ -10,7 +10,7 @@ use Rattle.bx_brackets.specs.Resolve.{is_left}
 use Rattle.bx_terms.specs.declared.base.Base.{Base}
 use Rattle.bx_resolve.specs.declared.paragraph.Levels.{Levels}
 use Rattle.bx_resolve.specs.Levels.{levels_under, paragraph_level_under}
-use Rattle.bx_resolve.specs.Plain.{is_plain, is_from_right, is_unformatted, all_pass}
+use Rattle.bx_resolve.specs.Uniform.{is_plain, is_from_right, is_unformatted, all_pass}
 
 -- an edit of a text: the text before it, the removed and the inserted text, and the text after it
 pub record Edit : Type 0 where

@@ -1,10 +1,9 @@
 -- Laws of the isolating run sequences of every text, and of the levels of a text of class L.
-use Rattle.std.specs.Prelude.{◌≡◌, ◌≤◌, ℕ, List, [], ◌∷◌, ◌++◌, All, Option, Some, length, replicate}
+use Rattle.std.specs.Prelude.{◌≡◌, ◌≤◌, ℕ, List, [], ◌∷◌, ◌++◌, All, Some, length, replicate}
 use Rattle.std.specs.List.Sorted.{IsPermutation}
 use Rattle.bx_ucd.specs.Data.{Data}
 use Rattle.bx_ucd.specs.declared.class.Class.{Class}
 use Rattle.bx_ucd.specs.declared.class.Class.TheVariants.{L}
-use Rattle.bx_ucd.specs.declared.data.Side.{Side}
 use Rattle.bx_terms.specs.declared.base.Base.{Base}
 use Rattle.bx_explicit.specs.Explicit.{explicit_levels}
 use Rattle.bx_explicit.specs.Runs.{kept_indexes}

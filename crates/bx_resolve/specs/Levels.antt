@@ -3,8 +3,7 @@ use Rattle.std.specs.Prelude.{ℕ, ◌+◌, Bool, true, false, List, [], ◌∷�
 use Rattle.bx_ucd.specs.Data.{Data}
 use Rattle.bx_ucd.specs.declared.class.Class.{Class}
 use Rattle.bx_ucd.specs.declared.class.Class.TheVariants.{BN, LRE, LRO, ON, PDF, RLE, RLO}
-use Rattle.bx_ucd.specs.declared.data.Side.{Side}
-use Rattle.bx_explicit.specs.declared.entry.Kept.{Kept}
+use Rattle.bx_explicit.specs.declared.entry.ExplicitChar.{ExplicitChar}
 use Rattle.bx_terms.specs.declared.base.Base.{Base}
 use Rattle.bx_explicit.specs.ParagraphLevel.{base_level}
 use Rattle.bx_explicit.specs.Explicit.{explicit_levels}
@@ -15,7 +14,7 @@ use Rattle.bx_brackets.specs.Resolve.{resolve_pairs}
 use Rattle.bx_resolve.specs.Weak.{weak, is_nsm}
 use Rattle.bx_resolve.specs.Neutral.{n1, n2, implicit}
 
-abbrev pub type_of : Option Kept → Class
+abbrev pub type_of : Option ExplicitChar → Class
 type_of None = ON
 type_of (Some k) = k.class
 
@@ -23,7 +22,7 @@ type_of (Some k) = k.class
 abbrev pub chars_at : List ℕ → List ℕ → List ℕ
 chars_at chars ps = map (λ p. slice_index_or chars p 0) ps
 
-abbrev pub types_at : List (Option Kept) → List ℕ → List Class
+abbrev pub types_at : List (Option ExplicitChar) → List ℕ → List Class
 types_at kept ps = map (λ p. type_of (slice_index_or kept p None)) ps
 
 -- the resolved types of a sequence, from its characters and types: W1 to W7, N0, N1 and N2
@@ -39,7 +38,7 @@ abbrev pub sequence_levels : Data → ℕ → Class → Class → List ℕ → L
 sequence_levels says level sos eos chars ts = implicit level (sequence_types says level sos eos chars ts)
 
 -- the same for a sequence of a paragraph
-abbrev pub levels_in : Data → List ℕ → List (Option Kept) → RunSequence → List ℕ
+abbrev pub levels_in : Data → List ℕ → List (Option ExplicitChar) → RunSequence → List ℕ
 levels_in says chars kept s = sequence_levels says s.level s.sos s.eos (chars_at chars s.indexes) (types_at kept s.indexes)
 
 -- each level written at its index
@@ -49,7 +48,7 @@ with_levels (p ∷ ps) [] each = each
 with_levels (p ∷ ps) (l ∷ ls) each = with_levels ps ls (slice_set each p (Some l))
 
 -- the levels of all sequences written
-abbrev pub with_sequences : Data → List ℕ → List (Option Kept) → List RunSequence → List (Option ℕ) → List (Option ℕ)
+abbrev pub with_sequences : Data → List ℕ → List (Option ExplicitChar) → List RunSequence → List (Option ℕ) → List (Option ℕ)
 with_sequences says chars kept [] each = each
 with_sequences says chars kept (s ∷ ss) each = with_sequences says chars kept ss (with_levels s.indexes (levels_in says chars kept s) each)
 

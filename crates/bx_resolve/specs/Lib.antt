@@ -6,7 +6,7 @@ pub mod Neutral
 pub mod Levels
 pub mod LevelRuns
 pub mod LevelBytes
-pub mod Plain
+pub mod Uniform
 pub mod Edited
 pub mod Laws
 pub mod TestTables

@@ -3,7 +3,7 @@ ghost use Rattle.std.specs.Prelude.{◌≡◌, ◌<◌, ◌≤◌, IfOk, All, No
 ghost use Rattle.bx_resolve.specs.Levels.{type_of, chars_at, max_level, types_at, with_levels};
 
 use crate::paragraph::Level;
-use bx_explicit::Kept;
+use bx_explicit::ExplicitChar;
 use bx_ucd::Class;
 use std::alloc::{AllocError, Global};
 
@@ -20,7 +20,7 @@ pub fn chars_at(alloc: Global, chars: &[char], indexes: &[usize]) -> Result<Vec<
 }
 
 /// The type of the character at an index, after overrides; ON where X9 removes it.
-fn type_at(kept: &[Option<Kept>], index: usize) -> Class
+fn type_at(kept: &[Option<ExplicitChar>], index: usize) -> Class
     requires { index < length kept.now }
     ensures { result ≡ type_of (slice_index_or kept.now index None) }
 {
@@ -33,7 +33,7 @@ fn type_at(kept: &[Option<Kept>], index: usize) -> Class
 /// The types of the characters at these indexes, after overrides.
 pub fn types_at(
     alloc: Global,
-    kept: &[Option<Kept>],
+    kept: &[Option<ExplicitChar>],
     indexes: &[usize],
 ) -> Result<Vec<Class>, AllocError>
     requires { All (λ p. p < length kept.now) indexes.now }

@@ -1,7 +1,8 @@
 //! The characters of a paragraph body, and their classes.
-ghost use Rattle.std.specs.Prelude.{◌≡◌, ℕ, ◌<◌, ◌^◌, ◌-◌, IfOk, MatchOption, List, [], ◌∷◌, chars, drop, length, map};
+ghost use Rattle.std.specs.Prelude.{◌≡◌, ℕ, ◌<◌, ◌^◌, IfOk, List, chars, drop, length, map};
 ghost use Rattle.bx_resolve.specs.Body.{IsEndOf, AreOffsets};
 
+use bx_terms::first_char;
 use bx_ucd::{BidiData, Class};
 use std::alloc::{AllocError, Global};
 use std::marker::Model;
@@ -46,21 +47,8 @@ pub fn chars_of(alloc: Global, text: &str) -> Result<Vec<char>, AllocError>
     Ok(found)
 }
 
-/// The first character of a text, and the rest.
-#[inline(always)]
-pub fn first_char(text: &str) -> Option<(char, &str)>
-    ensures { MatchOption result ((chars text.now ≡ []) × (length text.now ≡ 0))
-        (λ (c, rest). (chars text.now ≡ c ∷ chars rest.now) × (length rest.now < length text.now) × IsEndOf text.now rest.now) }
-{
-    let mut chars = text.chars();
-    match chars.next() {
-        Some(c) => Some((c, chars.as_str())),
-        None => None,
-    }
-}
-
 /// The text after `count` characters, or the empty text at its end.
-#[tactic(auto, using(crate::proofs::TextEnds::end_self, crate::proofs::TextEnds::end_of_end, crate::proofs::TextEnds::drop_cons, crate::proofs::TextEnds::drop_none))]
+#[tactic(auto, using(crate::proofs::TextEnds::end_self, crate::proofs::TextEnds::end_of_end, crate::proofs::TextEnds::end_behind, crate::proofs::TextEnds::chars_none, crate::proofs::TextEnds::drop_cons, crate::proofs::TextEnds::drop_none))]
 fn skip(text: &str, count: usize) -> &str
     ensures chars { chars result.now ≡ drop count (chars text.now) }
     ensures end { IsEndOf text.now result.now }

@@ -8,14 +8,16 @@ ghost use Rattle.bx_explicit.specs.LevelIndexes.{level_indexes, indexes_from};
 ghost use Rattle.bx_resolve.specs.Levels.{chars_at};
 ghost use Rattle.bx_resolve.specs.LevelRuns.{MeetsRun};
 
-use crate::body::{Body, first_char};
+use crate::body::Body;
 use crate::error::ResolveError;
 use crate::scratch::{Ends, Scratch, may_have_brackets};
 use bx_brackets::{BracketError, PairSearch};
-use bx_explicit::Kept;
+use bx_explicit::ExplicitChar;
+use bx_terms::first_char;
 use bx_ucd::{BidiData, Class};
 
 /// Passes the characters of a text to a search, each with its type.
+#[tactic(auto, using(crate::proofs::TextEnds::chars_none))]
 fn meet_text<D: BidiData>(
     search: &mut PairSearch,
     text: &str,
@@ -44,7 +46,7 @@ fn meet_run<D: BidiData>(
     search: &mut PairSearch,
     body: &Body<'_>,
     tables: &D,
-    kept: &[Option<Kept>],
+    kept: &[Option<ExplicitChar>],
     level: u8,
     first: usize,
     types: &[Class],
@@ -87,7 +89,7 @@ fn meet_sequence<D: BidiData>(
     search: &mut PairSearch,
     body: &Body<'_>,
     tables: &D,
-    kept: &[Option<Kept>],
+    kept: &[Option<ExplicitChar>],
     firsts: &[usize],
     level: u8,
     types: &[Class],
@@ -136,7 +138,7 @@ pub fn resolve_brackets_in<D: BidiData>(
     scratch: &mut Scratch,
     body: &mut Body<'_>,
     tables: &D,
-    kept: &[Option<Kept>],
+    kept: &[Option<ExplicitChar>],
     firsts: &[usize],
     types: &mut [Class],
     ends: Ends,

@@ -10,7 +10,7 @@ use crate::neutral::{implicit, n1, n2};
 use crate::paragraph::{Level, Levels};
 use crate::weak::{marks, w1, w2, w3, w4, w5, w6, w7};
 use bx_brackets::{pairs, resolve_pairs};
-use bx_explicit::{Kept, Sequence, base_level, explicit, sequences};
+use bx_explicit::{ExplicitChar, Sequence, base_level, explicit, sequences};
 use bx_terms::Base;
 use bx_ucd::BidiData;
 use bx_ucd::class::direction;
@@ -22,7 +22,7 @@ fn levels_in<D: BidiData>(
     alloc: Global,
     tables: &D,
     chars: &[char],
-    kept: &[Option<Kept>],
+    kept: &[Option<ExplicitChar>],
     sequence: &Sequence,
 ) -> Result<Vec<u8>, ResolveError>
     requires low { sequence.now.level ≤ max_depth }

@@ -13,7 +13,7 @@ use crate::error::ResolveError;
 use crate::neutral::found_level;
 use crate::paragraph::{Level, Levels};
 use crate::scratch::{Ends, Scratch, resolve_neutral};
-use bx_explicit::{Explicit, Kept, SequenceWalk, explicit};
+use bx_explicit::{Explicit, ExplicitChar, SequenceWalk, explicit};
 use bx_ucd::{BidiData, Class};
 use std::alloc::{AllocError, Global};
 
@@ -32,7 +32,7 @@ fn make_room(types: &mut Vec<Class>, left: usize) -> Result<(), AllocError>
 /// Appends the types of the run that begins at index `first`.
 fn gather_types(
     types: &mut Vec<Class>,
-    kept: &[Option<Kept>],
+    kept: &[Option<ExplicitChar>],
     level: u8,
     first: usize,
 ) -> Result<(), AllocError>
@@ -55,7 +55,7 @@ fn gather_types(
 /// Collects the types of a sequence's characters after overrides. `firsts` has the first index of each run.
 fn sequence_types(
     types: &mut Vec<Class>,
-    kept: &[Option<Kept>],
+    kept: &[Option<ExplicitChar>],
     firsts: &[usize],
     level: u8,
 ) -> Result<(), AllocError>
@@ -72,7 +72,7 @@ fn sequence_types(
 /// sequence. Returns the new count.
 fn write_run(
     each: &mut Vec<Level>,
-    kept: &[Option<Kept>],
+    kept: &[Option<ExplicitChar>],
     level: u8,
     first: usize,
     types: &[Class],
@@ -102,7 +102,7 @@ fn write_run(
 /// Writes the levels of a sequence from its resolved types. `firsts` has the first index of each run.
 fn write_levels(
     each: &mut Vec<Level>,
-    kept: &[Option<Kept>],
+    kept: &[Option<ExplicitChar>],
     firsts: &[usize],
     level: u8,
     types: &[Class],
@@ -125,7 +125,7 @@ fn write_sequence<D: BidiData>(
     tables: &D,
     types: &mut [Class],
     walk: &SequenceWalk<'_>,
-    kept: &[Option<Kept>],
+    kept: &[Option<ExplicitChar>],
 ) -> Result<(), ResolveError>
     requires lent { walk.now.has_current ≡ true }
     requires same { kept.now ≡ walk.now.explicit.kept.items }
@@ -152,7 +152,7 @@ fn write_sequence<D: BidiData>(
 
 /// Buffers reused from sequence to sequence.
 #[derive(Drop)]
-struct Room<'t> {
+struct Buffers<'t> {
     body: Body<'t>,
     types: Vec<Class>,
     scratch: Scratch,
@@ -161,27 +161,27 @@ struct Room<'t> {
 /// Writes the levels of the sequence that the walk lends.
 fn write_lent<D: BidiData>(
     each: &mut Vec<Level>,
-    room: &mut Room<'_>,
+    buffers: &mut Buffers<'_>,
     tables: &D,
     walk: &SequenceWalk<'_>,
-    kept: &[Option<Kept>],
+    kept: &[Option<ExplicitChar>],
 ) -> Result<(), ResolveError>
     requires lent { walk.now.has_current ≡ true }
     requires same { kept.now ≡ walk.now.explicit.kept.items }
     requires small { length walk.now.current.indexes ≤ 2 ^ 32 }
-    requires as_long { length room.old.body ≡ length kept.now }
+    requires as_long { length buffers.old.body ≡ length kept.now }
     requires all { length each.old.items ≡ length kept.now }
     ensures written { OnOk result (each.new.items ≡ with_levels walk.now.current.indexes
-        (levels_in (D.data tables.now) room.old.body kept.now walk.now.current) each.old.items) }
-    ensures body { room.new.body ≡ room.old.body }
+        (levels_in (D.data tables.now) buffers.old.body kept.now walk.now.current) each.old.items) }
+    ensures body { buffers.new.body ≡ buffers.old.body }
 {
-    sequence_types(&mut room.types, kept, walk.firsts(), walk.level())?;
+    sequence_types(&mut buffers.types, kept, walk.firsts(), walk.level())?;
     write_sequence(
         each,
-        &mut room.scratch,
-        &mut room.body,
+        &mut buffers.scratch,
+        &mut buffers.body,
         tables,
-        &mut room.types,
+        &mut buffers.types,
         walk,
         kept,
     )
@@ -201,14 +201,14 @@ fn each_level<D: BidiData>(
         (sequences explicit.now.level explicit.now.classes.items explicit.now.kept.items) (replicate (length (chars body.now)) None)) }
 {
     let mut each = vec![in alloc; Level::none(); explicit.kept.len()]?;
-    let mut room = Room {
+    let mut buffers = Buffers {
         body: Body::new(alloc, body),
         types: Vec::new(alloc),
         scratch: Scratch::new(alloc),
     };
     let mut walk = SequenceWalk::new(alloc, explicit);
     while walk.advance()? {
-        write_lent(&mut each, &mut room, tables, &walk, &explicit.kept)?;
+        write_lent(&mut each, &mut buffers, tables, &walk, &explicit.kept)?;
     }
     Ok(each)
 }

@@ -11,10 +11,10 @@ mod formatted;
 mod laws;
 mod neutral;
 mod paragraph;
-mod plain;
 mod resolve;
 mod scratch;
 mod splice;
+mod uniform;
 mod weak;
 
 pub use by_rules::levels_by_rules;

@@ -4,7 +4,7 @@ ghost use Rattle.bx_explicit.specs.Stack.{max_depth};
 ghost use Rattle.bx_resolve.specs.Weak.{weak};
 ghost use Rattle.bx_resolve.specs.Neutral.{implicit_at};
 ghost use Rattle.bx_resolve.specs.Levels.{is_kept, levels_under, max_level, paragraph_levels, paragraph_level_under};
-ghost use Rattle.bx_resolve.specs.Plain.{is_unformatted, all_pass};
+ghost use Rattle.bx_resolve.specs.Uniform.{is_unformatted, all_pass};
 
 use crate::body::classes_of;
 use crate::brackets::resolve_brackets_of;
@@ -13,8 +13,8 @@ use crate::error::ResolveError;
 use crate::formatted::formatted_levels;
 use crate::neutral::found_level;
 use crate::paragraph::{Level, Levels};
-use crate::plain::{are_from_right, are_plain, are_plain_right, are_unformatted};
 use crate::scratch::{Ends, Scratch, resolve_neutral};
+use crate::uniform::{are_from_right, are_plain, are_plain_right, are_unformatted};
 use crate::weak::weak_in_one_pass;
 use bx_explicit::base_level;
 use bx_terms::Base;

@@ -6,8 +6,8 @@ ghost use Rattle.bx_rows.specs.Wrapping.{is_one_blank};
 
 use crate::ascii_part::ascii_run;
 use crate::wrapping::is_blank;
-use bx_cells::first_char;
 use bx_cells::simple::{Simple, common_kind, simple_kind};
+use bx_terms::first_char;
 use bx_ucd::BidiData;
 
 /// A run of units of one column each: the offset after it, its unit count, the count up to its last break, and the offset
@@ -91,7 +91,7 @@ pub(crate) fn narrow_run<D: BidiData>(body: &str, at: usize, most: u16, tables: 
                 }
                 is_break = is_blank(tables.class(c));
             }
-            Simple::Mark => is_break = false,
+            Simple::Extends => is_break = false,
             Simple::Other => return run,
         }
         rest = behind;

@@ -13,8 +13,8 @@ use crate::narrow_run::{is_blank_cluster, narrow_run};
 use crate::row_scan::{Extent, Scan, new_scan, take_run, take_unit};
 use crate::wrapping::is_break;
 use bx_cells::simple::{Simple, common_kind};
-use bx_cells::{Face, SimpleCluster, first_char, ruled_unit, simple_cluster, simple_face};
-use bx_terms::OutOfMemory;
+use bx_cells::{Face, SimpleCluster, ruled_unit, simple_cluster, simple_face};
+use bx_terms::{OutOfMemory, first_char};
 use bx_ucd::BidiData;
 use std::alloc::{AllocError, Global};
 

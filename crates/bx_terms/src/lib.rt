@@ -3,14 +3,18 @@
 
 mod base;
 mod characters;
+mod equality;
 mod glyphs;
 mod memory;
 mod sizes;
+mod texts;
 
 pub use base::{Base, UnknownBase};
 pub use characters::{
     are_ascii_printable, are_printable, ascii_glyph, is_ascii_printable, is_control,
 };
+pub use equality::are_equal;
 pub use glyphs::{is_glyph, run_width};
 pub use memory::OutOfMemory;
 pub use sizes::{LARGEST_SIDE, LARGEST_TEXT, is_side};
+pub use texts::first_char;

@@ -5,7 +5,7 @@ use Rattle.bx_pieces.specs.declared.piece.Piece.{Piece}
 use Rattle.bx_pieces.specs.Pieces.{total, front, back}
 use Rattle.bx_text.specs.declared.step.Step.{Step}
 use Rattle.bx_text.specs.Buffers.{Buffers, bytes_of, AreInBuffers}
-use Rattle.bx_text.specs.Edits.{Edit, IsRange, Leads, splice, undone, redone, next_undo, next_redo, largest_text}
+use Rattle.bx_text.specs.Edits.{Edit, IsRange, IsChange, splice, undone, redone, next_undo, next_redo, largest_text}
 use Rattle.bx_text.specs.Steps.{after_swap, past_of, future_of, AreSteps, turned_pieces, turned_step, Turns}
 use Rattle.bx_text.proofs.Characters.{IsRange-splice}
 use Rattle.bx_text.proofs.Bytes.{length-bytes_of, IsUtf8-bytes_of}
@@ -148,7 +148,7 @@ redone_view b ps from to P from' to' in_buffers from_steps t =
 -- the change that a step makes
 step_leads : (b : Buffers) (ps : List Piece) (s : Step) (place : ℕ) → AreInBuffers b ps → IsRange (bytes_of b ps) s.start (s.start + s.len)
     → AreInBuffers b s.span
-    → Leads (bytes_of b ps) (record { start = s.start; removed = s.len; added = total s.span; place = place }) (bytes_of b (turned_pieces ps s))
+    → IsChange (bytes_of b ps) (record { start = s.start; removed = s.len; added = total s.span; place = place }) (bytes_of b (turned_pieces ps s))
 step_leads b ps s place in_buffers range span_in_buffers =
     rw (turned_bytes b ps s in_buffers range span_in_buffers, ← length-bytes_of b s.span span_in_buffers)
     (splice_leads (bytes_of b ps) (bytes_of b s.span) s.start s.len place (IsUtf8-bytes_of b ps in_buffers) (IsUtf8-bytes_of b s.span span_in_buffers) range)
@@ -156,7 +156,7 @@ step_leads b ps s place in_buffers range span_in_buffers =
 pub undone_leads : (b : Buffers) (ps : List Piece) (from to : List Step) (future : List Edit) (P : List Piece) (from' to' : List Step) → AreInBuffers b ps
     → AreSteps b (bytes_of b ps) (reverse from) → Turns ps from to P from' to'
     → IfSome (next_undo (record { text = bytes_of b ps; past = past_of b (bytes_of b ps) (reverse from); future = future }))
-    (λ c. Leads (bytes_of b ps) c (bytes_of b P))
+    (λ c. IsChange (bytes_of b ps) c (bytes_of b P))
 undone_leads b ps from to future P from' to' in_buffers from_steps t =
     let s = t.0 in
     let next = reverse_last from' from s t.1 in
@@ -166,7 +166,7 @@ undone_leads b ps from to future P from' to' in_buffers from_steps t =
 pub redone_leads : (b : Buffers) (ps : List Piece) (from to : List Step) (past : List Edit) (P : List Piece) (from' to' : List Step) → AreInBuffers b ps
     → AreSteps b (bytes_of b ps) (reverse from) → Turns ps from to P from' to'
     → IfSome (next_redo (record { text = bytes_of b ps; past = past; future = future_of b (bytes_of b ps) (reverse from) }))
-    (λ c. Leads (bytes_of b ps) c (bytes_of b P))
+    (λ c. IsChange (bytes_of b ps) c (bytes_of b P))
 redone_leads b ps from to past P from' to' in_buffers from_steps t =
     let s = t.0 in
     let next = reverse_last from' from s t.1 in

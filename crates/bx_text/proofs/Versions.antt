@@ -8,7 +8,7 @@ use Rattle.bx_pieces.specs.Pieces.{total, front, back}
 use Rattle.bx_text.specs.declared.step.Step.{Step}
 use Rattle.std.specs.Str.{IsUtf8, IsCharBoundary}
 use Rattle.bx_text.specs.Buffers.{Buffers, buffer_bytes, piece_bytes, bytes_of, IsInBuffer, AreInBuffers}
-use Rattle.bx_text.specs.Edits.{Edit, IsRange, Leads, splice}
+use Rattle.bx_text.specs.Edits.{Edit, IsRange, IsChange, splice}
 use Rattle.bx_text.proofs.Characters.{IsCharBoundary-drop, IsRange-splice}
 use Rattle.bx_text.specs.Steps.{after_swap, past_of, AreSteps}
 use Rattle.bx_text.proofs.Bytes.{bytes_of-append, bytes_of-front, bytes_of-back, AreInBuffers-append, AreInBuffers-front, AreInBuffers-back}
@@ -90,10 +90,10 @@ splice_back text new start len h =
     ∙ take-append-drop start text)
 
 pub splice_leads : (text new : List ℕ) (start len place : ℕ) → IsUtf8 text → IsUtf8 new → IsRange text start (start + len)
-    → Leads text (record { start = start; removed = len; added = length new; place = place }) (splice text start (start + len) new)
+    → IsChange text (record { start = start; removed = len; added = length new; place = place }) (splice text start (start + len) new)
 splice_leads text new start len place utf8 more range = record {
-  gave_way = range;
-  came = IsRange-splice text new start len utf8 more range;
+  old_range = range;
+  new_range = IsRange-splice text new start len utf8 more range;
   same_before = splice_before text new start (start + len) range.start_bounds.0;
   same_after = splice_after text new start (start + len) range.start_bounds.0;
   grown = length-splice text new start len range.stop_bounds.0;

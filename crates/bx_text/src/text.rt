@@ -3,7 +3,7 @@
 ghost use Rattle.std.specs.Prelude.{◌≡◌, ℕ, List, slice_range, ◌+◌, ◌-◌, IsSome, ◌<◌, ◌≤◌, ◌^◌, ◌↔◌, [], None, Some, true, false, IfSome, take, drop, length};
 ghost use Rattle.std.specs.Prelude.{IsOk, string_bytes, IsTrue, IsCharBoundary, IfOk, OnOk, OnErr, IsErrOf};
 ghost use Rattle.std.specs.Str.{IsUtf8};
-ghost use Rattle.bx_text.specs.Edits.{opened, largest_text, next_undo, next_redo, replaced, inserted, removed, undone, redone, fits, IsRange, Leads};
+ghost use Rattle.bx_text.specs.Edits.{opened, largest_text, next_undo, next_redo, replaced, inserted, removed, undone, redone, fits, IsRange, IsChange};
 ghost use Rattle.bx_text.specs.Text.{TextState, HasRoomFor};
 ghost use Rattle.bx_text.specs.Slices.{lends, joined};
 ghost use Rattle.std.specs.Iterator.{Drains};
@@ -167,7 +167,7 @@ impl Text {
         requires short { length self.old.edited.text + length text.now ≤ largest_text + len }
         ensures text { self.new ≡ record { edited = replaced self.old.edited start (start + len) text.now before after; room = None } }
         ensures change { result ≡ record { start = start; removed = len; added = length text.now; place = after } }
-        ensures leads { Leads self.old.edited.text result self.new.edited.text }
+        ensures is_change { IsChange self.old.edited.text result self.new.edited.text }
     {
         let old = put(
             &mut self.pieces,
@@ -292,7 +292,7 @@ impl Text {
     ) -> Result<Change, TextError>
         ensures ok { OnOk result (self.new ≡ record { edited = inserted self.old.edited pos text.now before after; room = None }) }
         ensures change { IfOk result (λ c. c ≡ record { start = pos; removed = 0; added = length text.now; place = after }) }
-        ensures leads { IfOk result (λ c. Leads self.old.edited.text c self.new.edited.text) }
+        ensures is_change { IfOk result (λ c. IsChange self.old.edited.text c self.new.edited.text) }
         ensures err { OnErr result (self.new ≡ self.old) }
 
         // Each error comes for its own cause alone.
@@ -326,7 +326,7 @@ impl Text {
     ) -> Result<Change, TextError>
         ensures ok { OnOk result (self.new ≡ record { edited = removed self.old.edited start stop before after; room = None }) }
         ensures change { IfOk result (λ c. c ≡ record { start = start; removed = stop - start; added = 0; place = after }) }
-        ensures leads { IfOk result (λ c. Leads self.old.edited.text c self.new.edited.text) }
+        ensures is_change { IfOk result (λ c. IsChange self.old.edited.text c self.new.edited.text) }
         ensures err { OnErr result (self.new ≡ self.old) }
 
         // Each error comes for its own cause alone.
@@ -349,7 +349,7 @@ impl Text {
     pub fn undo(&mut self) -> Result<Option<Change>, TextError>
         ensures ok { OnOk result (self.new.edited ≡ undone self.old.edited) }
         ensures change { IfOk result (λ c. c ≡ next_undo self.old.edited) }
-        ensures leads { IfOk result (λ change. IfSome change (λ c. Leads self.old.edited.text c self.new.edited.text)) }
+        ensures is_change { IfOk result (λ change. IfSome change (λ c. IsChange self.old.edited.text c self.new.edited.text)) }
         ensures nothing { next_undo self.old.edited ≡ None → IsOk result }
         ensures err { OnErr result ((self.new ≡ self.old) × (result ≡ Err TextError.OutOfMemory)) }
     {
@@ -373,7 +373,7 @@ impl Text {
     pub fn redo(&mut self) -> Result<Option<Change>, TextError>
         ensures ok { OnOk result (self.new.edited ≡ redone self.old.edited) }
         ensures change { IfOk result (λ c. c ≡ next_redo self.old.edited) }
-        ensures leads { IfOk result (λ change. IfSome change (λ c. Leads self.old.edited.text c self.new.edited.text)) }
+        ensures is_change { IfOk result (λ change. IfSome change (λ c. IsChange self.old.edited.text c self.new.edited.text)) }
         ensures nothing { next_redo self.old.edited ≡ None → IsOk result }
         ensures err { OnErr result ((self.new ≡ self.old) × (result ≡ Err TextError.OutOfMemory)) }
     {

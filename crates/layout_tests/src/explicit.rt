@@ -1,7 +1,7 @@
 //! Worked examples, and each public call once with ample memory.
 use crate::words::{text_of, two_of};
 use bx_explicit::{
-    Explicit, Kept, Sequence, SequenceWalk, base_level, explicit, paragraph_level, sequences,
+    Explicit, ExplicitChar, Sequence, SequenceWalk, base_level, explicit, paragraph_level, sequences,
 };
 use bx_terms::Base;
 use bx_ucd::{BidiData, Class, Tables, sample_tables};
@@ -105,7 +105,7 @@ fn removed_characters_and_bases(rt: HostRuntime) -> Result<(), Fail> {
     assert_eq!(rt; base_level(&classes, Base::Ltr), 0);
     assert_eq!(rt; base_level(&classes, Base::Rtl), 1);
     let explicit = explicit(rt.alloc(), &classes, 1)?;
-    let kept = Kept {
+    let kept = ExplicitChar {
         level: 3,
         class: Class::L,
     };

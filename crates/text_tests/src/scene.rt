@@ -2,7 +2,7 @@
 
 ghost use Rattle.std.specs.Prelude.{◌≡◌, ℕ, List, Some, IsUtf8};
 ghost use Rattle.bx_paras.specs.Paragraphs.{lengths};
-ghost use Rattle.bx_text.specs.Edits.{Leads};
+ghost use Rattle.bx_text.specs.Edits.{IsChange};
 
 use crate::counting::Counting;
 use crate::words::{change_of, three_of};
@@ -40,7 +40,7 @@ fn follow<D: BidiData>(index: &mut Index, text: &Text, tables: &D, change: &Chan
     requires was { (old : List ℕ)
         × IsUtf8 old
         × (index.old.paragraphs ≡ lengths (D.data tables.now) old)
-        × Leads old change.now text.now.edited.text }
+        × IsChange old change.now text.now.edited.text }
     requires room { index.old.room ≡ Some change.now.added }
     ensures { index.new.paragraphs ≡ lengths (D.data tables.now) text.now.edited.text }
 {

@@ -7,4 +7,4 @@ pub edited-requires-clause-room : goal.edited-requires-clause-room
 edited-requires-clause-room g c =
     room_for_bytes (g.D.BidiData.data c.args.tables.now) c.args.text.now.edited.text c.in_ok-change.change c.remove.new.self.edited.text
     c.len-len.ensures.utf8 c.len-still.ensures.utf8
-    c.in_ok-change.ensures.leads c.ready.new.self.room 0 c.in_ok-ready.ensures.ok (omega (arith, ap (λ (x : Change). x.added) c.in_ok-change.ensures.change))
+    c.in_ok-change.ensures.is_change c.ready.new.self.room 0 c.in_ok-ready.ensures.ok (omega (arith, ap (λ (x : Change). x.added) c.in_ok-change.ensures.change))

@@ -6,7 +6,7 @@ use Rattle.bench.proofs.paragraphs.take_back.Goals as goal
 pub edited-requires-clause-room : goal.edited-requires-clause-room
 edited-requires-clause-room g c =
     let same : c.in-Some-2.change ≡ c.in-Some.next = cc (c.in_ok-change.ensures.change, c.next_undo.ensures) in
-    let leads = rw c.in-Some-2.is at c.in_ok-change.ensures.leads in
+    let is_change = rw c.in-Some-2.is at c.in_ok-change.ensures.is_change in
     room_for_bytes (g.D.BidiData.data c.args.tables.now) c.ready.new.self.edited.text c.in-Some-2.change c.undo.new.self.edited.text c.len-utf8.ensures.utf8
     c.len-still.ensures.utf8
-    leads c.ready-2.new.self.room c.in-Some.next.added c.in_ok-ready-2.ensures.ok (omega (arith, ap (λ (x : Change). x.added) same))
+    is_change c.ready-2.new.self.room c.in-Some.next.added c.in_ok-ready-2.ensures.ok (omega (arith, ap (λ (x : Change). x.added) same))

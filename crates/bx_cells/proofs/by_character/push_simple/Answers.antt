@@ -41,7 +41,7 @@ chars-preserved g c =
       boundary = i.boundary;
       columns = i.columns;
       cluster = open-mark c.args.body.now c.chars.start c.chars.first c.chars.is_marked c.chars.rest.now c.in-Some-first_char.c _ i.cluster next.0
-          c.in-Mark.ensures;
+          c.in-Extends.ensures;
       within = omega arith;
       all = i.all;
     }

@@ -22,7 +22,7 @@ chars-preserved c =
     let within = i.within in
     record {
       text = IsUtf8-past_char c.chars.rest.now _ c.in-Some.c i.text next.0;
-      cluster = open-mark c.args.body.now c.args.at c.in_ok-first.first c.chars.is_marked c.chars.rest.now c.in-Some.c _ i.cluster next.0 c.in-Mark.ensures;
+      cluster = open-mark c.args.body.now c.args.at c.in_ok-first.first c.chars.is_marked c.chars.rest.now c.in-Some.c _ i.cluster next.0 c.in-Extends.ensures;
       within = omega arith;
     }
 

@@ -8,20 +8,20 @@ use Rattle.bx_paras.proofs.scan.paragraph_from.Goals as goal
 
 pub overflow_add-result : goal.overflow_add-result
 overflow_add-result g c =
-    let within = stop_within (g.D.BidiData.data c.args.tables.now) c.args.text.now.edited.text c.args.start c.loop-at.at c.args.window c.requires.window
-    c.len-len.ensures.utf8 c.loop-at.invariant.bounds (omega (arith, c.if-at-window.true)) in
+    let within = stop_within (g.D.BidiData.data c.args.tables.now) c.args.text.now.edited.text c.args.start c.loop-at.at c.args.range c.requires.range
+    c.len-len.ensures.utf8 c.loop-at.invariant.bounds (omega (arith, c.if-at-range.true)) in
     omega (arith, within, c.len-len.ensures.short)
 
 pub overflow_cast-result : goal.overflow_cast-result
 overflow_cast-result g c =
-    let within = stop_within (g.D.BidiData.data c.args.tables.now) c.args.text.now.edited.text c.args.start c.loop-at.at c.args.window c.requires.window
-    c.len-len.ensures.utf8 c.loop-at.invariant.bounds (omega (arith, c.if-at-window.true)) in
+    let within = stop_within (g.D.BidiData.data c.args.tables.now) c.args.text.now.edited.text c.args.start c.loop-at.at c.args.range c.requires.range
+    c.len-len.ensures.utf8 c.loop-at.invariant.bounds (omega (arith, c.if-at-range.true)) in
     omega (arith, within, c.len-len.ensures.short)
 
-pub overflow_cast-result-then-at-window : goal.overflow_cast-result-then-at-window
-overflow_cast-result-then-at-window g c =
-    let within = stop_within (g.D.BidiData.data c.args.tables.now) c.args.text.now.edited.text c.args.start c.loop-at.at c.args.window c.requires.window
-    c.len-len.ensures.utf8 c.loop-at.invariant.bounds (omega (arith, c.if-at-window.true)) in
+pub overflow_cast-result-then-at-range : goal.overflow_cast-result-then-at-range
+overflow_cast-result-then-at-range g c =
+    let within = stop_within (g.D.BidiData.data c.args.tables.now) c.args.text.now.edited.text c.args.start c.loop-at.at c.args.range c.requires.range
+    c.len-len.ensures.utf8 c.loop-at.invariant.bounds (omega (arith, c.if-at-range.true)) in
     omega (arith, within, c.len-len.ensures.short)
 
 pub overflow_add-end : goal.overflow_add-end

@@ -1,7 +1,8 @@
-use Rattle.std.proofs.Common.{◌≡◌, ◌∷◌, ◌++◌, ◌∙◌, ℕ, List, sym, arith, rules, chars, drop}
+use Rattle.std.proofs.Common.{◌≡◌, ◌∷◌, ◌++◌, ◌∙◌, ℕ, List, [], sym, ap, arith, rules, chars, drop, length, length-drop}
 use Rattle.bx_explicit.specs.LevelIndexes.{level_indexes}
 use Rattle.bx_resolve.specs.Levels.{chars_at}
 use Rattle.bx_resolve.proofs.PairsLeft.{types_out, char_here, chars_behind, kept_left, removed_left}
+use Rattle.bx_resolve.proofs.TextEnds.{chars_none}
 use Rattle.bx_resolve.proofs.brackets.meet_run.Goals as goal
 use Rattle.bx_resolve.proofs.brackets.meet_run.Goals.{in-Some-kept+else-given-level+else-met-types+in_ok-meet-in-Some-kept, in-None}
 
@@ -15,12 +16,18 @@ returns-then-met-types-clause-met g c = λ rest.
     (chars_at all (level_indexes c.args.level c.loop-k.k (drop c.loop-k.k c.args.kept.now) ++ rest)) c.args.types.now c.if-met-types.true
     ∙ sym (types_out says c.loop-k.search.progress met met (chars_at all rest) c.args.types.now c.if-met-types.true)
 
+pub returns-in_default-clause-met : goal.returns-in_default-clause-met
+returns-in_default-clause-met g c =
+    let all : List ℕ = c.args.body.now in
+    let none : drop c.loop-k.k all ≡ [] = sym c.loop-k.invariant.chars_are ∙ chars_none c.loop-k.rest.now c.in_default.ensures in
+    absurd (omega (arith, ap length none, length-drop c.loop-k.k all, c.requires.as_long, c.loop-k-test.true, c.loop-k.auto.k-end))
+
 pub loop-k-preserved : goal.loop-k-preserved
 loop-k-preserved g c =
     let says = g.D.BidiData.data c.args.tables.now in
     let all : List ℕ = c.args.body.now in
     let k : ℕ = c.loop-k.k in
-    let left : drop k all ≡ c.in-Some.c ∷ chars c.in-Some.behind.now = sym c.loop-k.invariant.chars_are ∙ c.in-Some.ensures.0 in
+    let left : drop k all ≡ c.in-Some.c ∷ chars c.in-Some.behind.now = sym c.loop-k.invariant.chars_are ∙ c.in-Some.ensures.2 in
     elim c.match-kept-k.branch [
       | in-Some-kept+else-given-level+else-met-types+in_ok-meet-in-Some-kept w ↦ rw (w.search-is, w.met-is) (record {
         text = search rules;

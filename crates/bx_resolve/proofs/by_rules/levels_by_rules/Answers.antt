@@ -1,6 +1,5 @@
 use Rattle.std.proofs.Common.{◌≡◌, ◌∙◌, ◌+◌, ℕ, List, Option, ap, sym, arith, drop, length}
-use Rattle.bx_ucd.specs.declared.data.Side.{Side}
-use Rattle.bx_explicit.specs.declared.entry.Kept.{Kept}
+use Rattle.bx_explicit.specs.declared.entry.ExplicitChar.{ExplicitChar}
 use Rattle.bx_explicit.specs.Sequences.{RunSequence}
 use Rattle.bx_resolve.specs.Levels.{with_levels, with_sequences, levels_in}
 use Rattle.bx_resolve.proofs.Written.{sequences_more, levels_length}
@@ -10,7 +9,7 @@ pub loop-sequence-preserved : goal.loop-sequence-preserved
 loop-sequence-preserved g c =
     let says = g.D.BidiData.data c.args.tables.now in
     let chars : List ℕ = c.in_ok-chars.chars.items in
-    let kept : List (Option Kept) = c.in_ok-explicit.explicit.kept.items in
+    let kept : List (Option ExplicitChar) = c.in_ok-explicit.explicit.kept.items in
     let ss : List RunSequence = c.deref-sequence-items.result.now in
     let i : ℕ = c.loop-sequence.sequence-index in
     let s : RunSequence = c.sequence-item.result in

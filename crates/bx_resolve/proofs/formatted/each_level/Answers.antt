@@ -1,6 +1,5 @@
 use Rattle.std.proofs.Common.{◌≡◌, ◌≤◌, ◌∷◌, ◌∙◌, ℕ, List, Option, ap, arith, chars, length, rules, sym}
-use Rattle.bx_ucd.specs.declared.data.Side.{Side}
-use Rattle.bx_explicit.specs.declared.entry.Kept.{Kept}
+use Rattle.bx_explicit.specs.declared.entry.ExplicitChar.{ExplicitChar}
 use Rattle.bx_explicit.specs.Sequences.{RunSequence}
 use Rattle.bx_resolve.specs.Levels.{levels_in, with_levels, with_sequences}
 use Rattle.bx_resolve.proofs.Small.{few_chars, next_is_few, others_are_few}
@@ -18,7 +17,7 @@ pub loop-walk-preserved : goal.loop-walk-preserved
 loop-walk-preserved g c =
     let says = g.D.BidiData.data c.args.tables.now in
     let text : List ℕ = chars c.args.body.now in
-    let kept : List (Option Kept) = c.args.explicit.now.kept.items in
+    let kept : List (Option ExplicitChar) = c.args.explicit.now.kept.items in
     let s : RunSequence = c.advance.new.self.current in
     let rest : List RunSequence = c.advance.new.self.left in
     let each : List (Option ℕ) = c.loop-walk.each.items in

@@ -8,7 +8,7 @@ use Rattle.bx_resolve.proofs.formatted.each_level.Given as goal
 abbrev pub invariant-loop-walk : goal.invariant-loop-walk
 invariant-loop-walk g l = record {
   own : l.walk.explicit ≡ l.explicit;
-  text : l.room.body ≡ chars l.body;
+  text : l.buffers.body ≡ chars l.body;
   all : length l.each.items ≡ length (chars l.body);
   few : All (λ (s : RunSequence). length s.indexes ≤ length l.explicit.kept.items) l.walk.left;
   written : with_sequences (g.D.BidiData.data l.tables) (chars l.body) l.explicit.kept.items

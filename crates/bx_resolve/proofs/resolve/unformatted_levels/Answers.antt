@@ -1,7 +1,6 @@
-use Rattle.std.proofs.Common.{◌≡◌, ◌∙◌, ℕ, List, Option, ap, arith, chars, length}
+use Rattle.std.proofs.Common.{◌≡◌, ◌∙◌, ℕ, List, ap, arith, chars, length}
 use Rattle.std.proofs.lemmas.List.{length-map}
 use Rattle.bx_ucd.specs.declared.class.Class.{Class}
-use Rattle.bx_ucd.specs.declared.data.Side.{Side}
 use Rattle.bx_resolve.specs.Levels.{sequence_types}
 use Rattle.bx_resolve.proofs.PlainLengths.{weak_length}
 use Rattle.bx_resolve.proofs.PlainLevels.{types_from, found_from}

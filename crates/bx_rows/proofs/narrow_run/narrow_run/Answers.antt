@@ -112,7 +112,7 @@ chars-preserved g c =
     record {
       text = IsUtf8-past_char c.chars.rest.now _ c.in-Some-first_char.c i.text next.0;
       cluster = mark-narrow (g.D.BidiData.data c.args.tables.now) c.args.body.now c.chars.run.stop c.in-Some-first_char.c c.chars.is_break
-          c.chars.rest.now _ i.cluster next.0 c.in-Mark.ensures;
+          c.chars.rest.now _ i.cluster next.0 c.in-Extends.ensures;
       within = omega arith;
       most = i.most;
       bounds = i.bounds;

@@ -1,5 +1,5 @@
 use Rattle.std.proofs.Common.{◌≡◌, ◌∙◌, ℕ, List, Option, ap, sym, subst, reverse, length}
-use Rattle.bx_explicit.specs.declared.entry.Kept.{Kept}
+use Rattle.bx_explicit.specs.declared.entry.ExplicitChar.{ExplicitChar}
 use Rattle.bx_explicit.specs.declared.open_chains.OpenChain.{OpenChain}
 use Rattle.bx_explicit.specs.OpenChains.{OpenRuns, run_at, with_run}
 use Rattle.bx_explicit.specs.Stacked.{open_with, chains_of}
@@ -8,7 +8,7 @@ use Rattle.bx_explicit.proofs.open_chains.OpenChains.take.Goals as goal
 
 pub invariant_of-self-2 : goal.invariant_of-self-2
 invariant_of-self-2 c =
-    let kept : List (Option Kept) = c.self.inside.explicit.now.kept.items in
+    let kept : List (Option ExplicitChar) = c.self.inside.explicit.now.kept.items in
     let ps : List ℕ = c.self.inside.firsts.items in
     let os : List OpenChain = reverse c.self.inside.chains.items in
     rw (c.in_ok-take_run.ensures.chains, c.in_ok-take_run.ensures.firsts)
@@ -16,7 +16,7 @@ invariant_of-self-2 c =
 
 pub returns-clause-chains : goal.returns-clause-chains
 returns-clause-chains c =
-    let kept : List (Option Kept) = c.self.inside.explicit.now.kept.items in
+    let kept : List (Option ExplicitChar) = c.self.inside.explicit.now.kept.items in
     let ps : List ℕ = c.self.inside.firsts.items in
     let os : List OpenChain = reverse c.self.inside.chains.items in
     let own : c.args.run ≡ run_at kept c.args.run.first =

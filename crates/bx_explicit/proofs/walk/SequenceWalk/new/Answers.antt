@@ -1,6 +1,6 @@
 use Rattle.std.proofs.Common.{◌≡◌, [], List, Option, ap, sym, subst, drop}
 use Rattle.bx_explicit.specs.declared.entry.Explicit.{Explicit}
-use Rattle.bx_explicit.specs.declared.entry.Kept.{Kept}
+use Rattle.bx_explicit.specs.declared.entry.ExplicitChar.{ExplicitChar}
 use Rattle.bx_explicit.specs.declared.runs.Run.{Run}
 use Rattle.bx_explicit.specs.Runs.{runs_from}
 use Rattle.bx_explicit.specs.Sequences.{sequences}
@@ -13,7 +13,7 @@ use Rattle.bx_explicit.proofs.walk.SequenceWalk.new.Goals as goal
 pub returns-clause-given : goal.returns-clause-given
 returns-clause-given c =
     let e : Explicit = c.args.explicit.now in
-    let kept : List (Option Kept) = e.kept.items in
+    let kept : List (Option ExplicitChar) = e.kept.items in
     let o : Option Run = c.next_run.result in
     let found : runs_to_come c.deref.result.now o ≡ runs_from 0 (drop 0 c.deref.result.now) =
     come_is c.deref.result.now 0 o c.next_run.ensures.none c.next_run.ensures.some in

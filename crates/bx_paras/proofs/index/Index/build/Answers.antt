@@ -10,13 +10,13 @@ use Rattle.bx_paras.proofs.Totals.{total_push}
 use Rattle.bx_paras.proofs.Turns.{next, last, moved, end_lengths, total_lengths, few_lengths, still_all}
 use Rattle.bx_paras.proofs.index.Index.build.Goals as goal
 
-pub window_to_end-window-requires : goal.window_to_end-window-requires
-window_to_end-window-requires g c = IsCharBoundary-start c.args.text.now.edited.text c.len-len.ensures.utf8
+pub range_to_end-range-requires : goal.range_to_end-range-requires
+range_to_end-range-requires g c = IsCharBoundary-start c.args.text.now.edited.text c.len-len.ensures.utf8
 
 pub loop-at-init : goal.loop-at-init
 loop-at-init g c = record {
   bounds = IsCharBoundary-start c.args.text.now.edited.text c.len-len.ensures.utf8;
-  window = c.window_to_end-window.ensures (g.D.BidiData.data c.args.tables.now);
+  range = c.range_to_end-range.ensures (g.D.BidiData.data c.args.tables.now);
   position = omega arith;
   front = ap (λ (s : BlocksState). flat s.blocks ++ lengths (g.D.BidiData.data c.args.tables.now) c.args.text.now.edited.text) c.new-front.ensures;
   behind = ap (λ (s : BlocksState). flat s.blocks) c.new-front.ensures;
@@ -74,7 +74,7 @@ loop-at-preserved g c =
     ∙ ap (λ bs. flat bs ++ p ∷ []) c.in_ok-ready.ensures.blocks in
     record {
       bounds = t.ends_between;
-      window = moved (g.D.BidiData.data c.args.tables.now) c.args.text.now.edited.text c.loop-at.at _ c.loop-at.window c.loop-at.invariant.window
+      range = moved (g.D.BidiData.data c.args.tables.now) c.args.text.now.edited.text c.loop-at.at _ c.loop-at.range c.loop-at.invariant.range
           t.ends_between;
       position = c.push-position.ensures.position;
       front = still_all _ _ _ _ _ p more t.more c.loop-at.invariant.front;

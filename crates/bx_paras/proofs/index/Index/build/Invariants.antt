@@ -3,13 +3,13 @@ use Rattle.std.proofs.Common.{◌≡◌, ◌≤◌, ◌-◌, ◌++◌, [], IsCha
 use Rattle.bx_paras.specs.Paragraphs.{lengths}
 use Rattle.bx_paras.specs.Positions.{total}
 use Rattle.bx_paras.specs.Flat.{flat}
-use Rattle.bx_paras.specs.Windows.{IsWindow}
+use Rattle.bx_paras.specs.ScanRanges.{IsScanRange}
 use Rattle.bx_paras.proofs.index.Index.build.Given as goal
 
 abbrev pub invariant-loop-at : goal.invariant-loop-at
 invariant-loop-at g l = record {
   bounds : IsCharBoundary l.text.edited.text l.at;
-  window : IsWindow (g.D.BidiData.data l.tables) l.text.edited.text l.at l.window;
+  range : IsScanRange (g.D.BidiData.data l.tables) l.text.edited.text l.at l.range;
   position : l.position ≤ length l.front.blocks;
   front : flat l.front.blocks ++ lengths (g.D.BidiData.data l.tables) (drop l.at l.text.edited.text)
       ≡ lengths (g.D.BidiData.data l.tables) l.text.edited.text;

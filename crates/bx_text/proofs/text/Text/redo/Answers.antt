@@ -2,7 +2,7 @@ use Rattle.std.proofs.Common.{ℕ, List, reverse, Option, IfSome, sym, subst, �
 use Rattle.bx_text.specs.Text.{TextState, buffers_of}
 use Rattle.bx_text.specs.declared.change.Change.{Change}
 use Rattle.bx_text.specs.Buffers.{bytes_of}
-use Rattle.bx_text.specs.Edits.{Leads, redone, next_redo}
+use Rattle.bx_text.specs.Edits.{IsChange, redone, next_redo}
 use Rattle.bx_text.specs.Steps.{past_of}
 use Rattle.bx_text.proofs.Bytes.{IsAddressable-in_buffers}
 use Rattle.bx_text.proofs.Turned.{span_short, turned_sound, redone_view, redone_leads}
@@ -40,11 +40,11 @@ returns-clause-ok c =
     c.self.invariant.in_buffers c.self.invariant.future_steps c.in_ok-turn.ensures.ok
     ∙ ap (λ (x : TextState). redone x.edited) c.self.view_is
 
-pub returns-clause-leads : goal.returns-clause-leads
-returns-clause-leads c =
+pub returns-clause-is_change : goal.returns-clause-is_change
+returns-clause-is_change c =
     let t = c.self.inside in
     let after : List ℕ = bytes_of (buffers_of t) c.turn.new.pieces in
-    subst (λ (o : Option Change). IfSome o (λ d. Leads c.args.self.now.edited.text d after)) (sym c.next_redo-change.ensures)
-    (subst (λ (x : TextState). IfSome (next_redo x.edited) (λ d. Leads x.edited.text d after)) c.self.view_is
+    subst (λ (o : Option Change). IfSome o (λ d. IsChange c.args.self.now.edited.text d after)) (sym c.next_redo-change.ensures)
+    (subst (λ (x : TextState). IfSome (next_redo x.edited) (λ d. IsChange x.edited.text d after)) c.self.view_is
     (redone_leads (buffers_of t) t.pieces t.future.items t.past.items (past_of (buffers_of t) (bytes_of (buffers_of t) t.pieces) (reverse t.past.items))
     c.turn.new.pieces c.turn.new.from.items c.turn.new.to.items c.self.invariant.in_buffers c.self.invariant.future_steps c.in_ok-turn.ensures.ok))

@@ -5,7 +5,7 @@ use Rattle.bx_pieces.specs.declared.piece.Piece.{Piece}
 use Rattle.bx_pieces.specs.Pieces.{front, back}
 use Rattle.bx_text.specs.declared.step.Step.{Step}
 use Rattle.bx_text.specs.Buffers.{Buffers, bytes_of, with_added}
-use Rattle.bx_text.specs.Edits.{Edited, IsRange, Leads, replaced}
+use Rattle.bx_text.specs.Edits.{Edited, IsRange, IsChange, replaced}
 use Rattle.bx_text.specs.Steps.{future_of}
 use Rattle.std.specs.Str.{IsUtf8}
 use Rattle.bx_text.proofs.Versions.{grown, splice_leads}
@@ -91,12 +91,12 @@ returns-clause-text c =
     ∙ ap (λ (x : TextState). record { edited = replaced x.edited c.args.start (c.args.start + c.args.len) more c.args.before c.args.after; room = None })
     c.self.view_is
 
-pub returns-clause-leads : goal.returns-clause-leads
-returns-clause-leads c =
+pub returns-clause-is_change : goal.returns-clause-is_change
+returns-clause-is_change c =
     let t = c.self.inside in
     let utf8 : IsUtf8 c.args.self.now.edited.text =
     subst (λ (x : TextState). IsUtf8 x.edited.text) c.self.view_is (IsUtf8-bytes_of (buffers_of t) t.pieces c.self.invariant.in_buffers) in
-    subst (λ (x : List ℕ). Leads c.args.self.now.edited.text
+    subst (λ (x : List ℕ). IsChange c.args.self.now.edited.text
     (record { start = c.args.start; removed = c.args.len; added = length c.args.text.now; place = c.args.after }) x)
     (sym (ap (λ (x : TextState). x.edited.text) (returns-clause-text c)))
     (splice_leads c.args.self.now.edited.text c.args.text.now c.args.start c.args.len c.args.after utf8 c.utf8.text c.requires.range)

@@ -2,7 +2,7 @@ use Rattle.std.proofs.Common.{ℕ, List, reverse, Option, IfSome, sym, subst, �
 use Rattle.bx_text.specs.Text.{TextState, buffers_of}
 use Rattle.bx_text.specs.declared.change.Change.{Change}
 use Rattle.bx_text.specs.Buffers.{bytes_of}
-use Rattle.bx_text.specs.Edits.{Leads, undone, next_undo}
+use Rattle.bx_text.specs.Edits.{IsChange, undone, next_undo}
 use Rattle.bx_text.specs.Steps.{future_of}
 use Rattle.bx_text.proofs.Bytes.{IsAddressable-in_buffers}
 use Rattle.bx_text.proofs.Turned.{span_short, turned_sound, undone_view, undone_leads}
@@ -40,11 +40,11 @@ returns-clause-ok c =
     c.self.invariant.in_buffers c.self.invariant.past_steps c.in_ok-turn.ensures.ok
     ∙ ap (λ (x : TextState). undone x.edited) c.self.view_is
 
-pub returns-clause-leads : goal.returns-clause-leads
-returns-clause-leads c =
+pub returns-clause-is_change : goal.returns-clause-is_change
+returns-clause-is_change c =
     let t = c.self.inside in
     let after : List ℕ = bytes_of (buffers_of t) c.turn.new.pieces in
-    subst (λ (o : Option Change). IfSome o (λ d. Leads c.args.self.now.edited.text d after)) (sym c.next_undo-change.ensures)
-    (subst (λ (x : TextState). IfSome (next_undo x.edited) (λ d. Leads x.edited.text d after)) c.self.view_is
+    subst (λ (o : Option Change). IfSome o (λ d. IsChange c.args.self.now.edited.text d after)) (sym c.next_undo-change.ensures)
+    (subst (λ (x : TextState). IfSome (next_undo x.edited) (λ d. IsChange x.edited.text d after)) c.self.view_is
     (undone_leads (buffers_of t) t.pieces t.past.items t.future.items (future_of (buffers_of t) (bytes_of (buffers_of t) t.pieces) (reverse t.future.items))
     c.turn.new.pieces c.turn.new.from.items c.turn.new.to.items c.self.invariant.in_buffers c.self.invariant.past_steps c.in_ok-turn.ensures.ok))
