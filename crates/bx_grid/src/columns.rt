@@ -4,7 +4,7 @@ ghost use Rattle.std.specs.Prelude.{◌≡◌, ℕ, ◌+◌, ◌≤◌, [], ◌�
 ghost use Rattle.std.specs.Prelude.{true, nat_le, ◌&&◌, false, IfOk, IsOk, OnOk, OnErr, IsTrue};
 ghost use Rattle.std.specs.Prelude.{◌↔◌};
 ghost use Rattle.std.specs.List.{list_all};
-ghost use Rattle.bx_grid.specs.Columns.{are_ascii_printable, run_width, blank, is_blank, put, paste, AreBlank, AreSameAround, put_in_row, cut_before};
+ghost use Rattle.bx_grid.specs.Columns.{are_ascii_printable, blank, is_blank, put, paste, AreBlank, AreSameAround, put_in_row, cut_before};
 ghost use Rattle.bx_grid.specs.Columns.{cut_after, columns_after, columns_before, plain_columns, glyph_columns, run_columns};
 ghost use Rattle.bx_grid.specs.Columns as spec;
 ghost use Rattle.bx_grid.specs.Seen.{seen, all_seen};
@@ -12,6 +12,7 @@ ghost use Rattle.bx_grid.specs.Uncut.{AreUncut};
 ghost use Rattle.bx_terms.specs.Sizes.{largest_side};
 
 use crate::column::Column;
+use crate::glyph_run::GlyphRun;
 use crate::glyph_text::{GlyphText, SHORT};
 use bx_terms::are_ascii_printable;
 use std::alloc::{AllocError, Global};
@@ -23,7 +24,7 @@ fn blank_column() -> Column
     Column::of_byte(b' ', false)
 }
 
-pub fn blank_columns(alloc: Global, count: usize) -> Result<Vec<Column>, AllocError>
+pub(crate) fn blank_columns(alloc: Global, count: usize) -> Result<Vec<Column>, AllocError>
     ensures { IfOk result (λ columns. all_seen columns.items ≡ replicate count blank) }
 {
     let mut columns = Vec::with_capacity(alloc, count)?;
@@ -33,7 +34,7 @@ pub fn blank_columns(alloc: Global, count: usize) -> Result<Vec<Column>, AllocEr
     Ok(columns)
 }
 
-pub fn unknown_columns(alloc: Global, count: usize) -> Result<Vec<Column>, AllocError>
+pub(crate) fn unknown_columns(alloc: Global, count: usize) -> Result<Vec<Column>, AllocError>
     ensures { IfOk result (λ columns. all_seen columns.items ≡ replicate count spec.Unknown) }
 {
     let mut columns = Vec::with_capacity(alloc, count)?;
@@ -43,7 +44,7 @@ pub fn unknown_columns(alloc: Global, count: usize) -> Result<Vec<Column>, Alloc
     Ok(columns)
 }
 
-pub fn fill_unknown(columns: &mut [Column])
+pub(crate) fn fill_unknown(columns: &mut [Column])
     ensures { all_seen columns.new ≡ replicate (length columns.old) spec.Unknown }
 {
     for column in columns.iter_mut() {
@@ -52,7 +53,7 @@ pub fn fill_unknown(columns: &mut [Column])
 }
 
 /// Fills columns with blanks, from an index up to another.
-pub fn fill_blank(columns: &mut [Column], from: usize, to: usize)
+pub(crate) fn fill_blank(columns: &mut [Column], from: usize, to: usize)
     requires order { from ≤ to }
     requires inside { to ≤ length columns.old }
     ensures { all_seen columns.new ≡ paste (all_seen columns.old) from (replicate (to - from) blank) }
@@ -73,20 +74,19 @@ fn put_run(columns: &mut [Column], from: usize, run: &[u8], negative: bool)
     }
 }
 
-/// Puts a glyph of `count` columns. If memory runs out, part of the glyph is written, and nothing else.
+/// Puts a run that is one glyph. If memory runs out, part of the glyph is written, and nothing else.
 fn put_glyph(
     alloc: Global,
     columns: &mut [Column],
     from: usize,
-    text: &str,
-    count: u16,
-    negative: bool,
+    glyph: GlyphRun<'_>,
 ) -> Result<(), AllocError>
-    requires inside { from + count ≤ length columns.old }
-    ensures ok { OnOk result (all_seen columns.new ≡ paste (all_seen columns.old) from (glyph_columns text.now count negative)) }
-    ensures short { length text.now ≤ 7 → IsOk result }
-    ensures err { OnErr result (AreSameAround from count (all_seen columns.old) (all_seen columns.new)) }
+    requires inside { from + glyph.width ≤ length columns.old }
+    ensures ok { OnOk result (all_seen columns.new ≡ paste (all_seen columns.old) from (glyph_columns glyph.entry.text.now glyph.entry.width glyph.entry.negative)) }
+    ensures short { length glyph.entry.text.now ≤ 7 → IsOk result }
+    ensures err { OnErr result (AreSameAround from glyph.entry.width (all_seen columns.old) (all_seen columns.new)) }
 {
+    let (text, count, negative) = (glyph.text, glyph.width, glyph.negative);
     for offset in 0..count {
         columns[from + offset as usize] = Column::Glyph {
             text: GlyphText::from_str(alloc, text)?,
@@ -98,36 +98,33 @@ fn put_glyph(
     Ok(())
 }
 
-/// Puts a run of `count` columns. If memory runs out, part of the run is written, and nothing else.
+/// Puts a run. If memory runs out, part of the run is written, and nothing else.
 #[inline(always)]
 fn put_glyphs(
     alloc: Global,
     columns: &mut [Column],
     from: usize,
-    run: &str,
-    count: u16,
-    negative: bool,
+    run: GlyphRun<'_>,
 ) -> Result<(), AllocError>
-    requires counted { count ≡ run_width run.now }
-    requires inside { from + count ≤ length columns.old }
-    ensures ok { OnOk result (all_seen columns.new ≡ paste (all_seen columns.old) from (run_columns negative run.now)) }
-    ensures short { length run.now ≤ 7 → IsOk result }
-    ensures err { OnErr result (AreSameAround from count (all_seen columns.old) (all_seen columns.new)) }
+    requires inside { from + run.width ≤ length columns.old }
+    ensures ok { OnOk result (all_seen columns.new ≡ paste (all_seen columns.old) from (run_columns run.entry.negative run.entry.text.now)) }
+    ensures short { length run.entry.text.now ≤ 7 → IsOk result }
+    ensures err { OnErr result (AreSameAround from run.entry.width (all_seen columns.old) (all_seen columns.new)) }
 {
-    if count == 1 && run.len() <= SHORT {
-        columns[from] = Column::narrow(run, negative);
+    if run.width == 1 && run.text.len() <= SHORT {
+        columns[from] = Column::narrow(run.text, run.negative);
         return Ok(());
     }
-    if are_ascii_printable(run) {
-        put_run(columns, from, run.as_bytes(), negative);
+    if are_ascii_printable(run.text) {
+        put_run(columns, from, run.text.as_bytes(), run.negative);
         return Ok(());
     }
-    put_glyph(alloc, columns, from, run, count, negative)
+    put_glyph(alloc, columns, from, run)
 }
 
 /// Whether all columns are blanks.
 #[tactic(auto, using(crate::proofs::Blanks::blanks_told))]
-pub fn are_blank(columns: &[Column]) -> bool
+pub(crate) fn are_blank(columns: &[Column]) -> bool
     ensures { IsTrue result ↔ (all_seen columns.now ≡ replicate (length columns.now) blank) }
 {
     all_blank(columns)
@@ -145,24 +142,21 @@ fn all_blank(columns: &[Column]) -> bool
 }
 
 /// Puts a run over blanks. If memory runs out, they are blanks again.
-pub fn put_over_blanks(
+pub(crate) fn put_over_blanks(
     alloc: Global,
     columns: &mut [Column],
     from: usize,
-    run: &str,
-    count: u16,
-    negative: bool,
+    run: GlyphRun<'_>,
 ) -> Result<(), AllocError>
-    requires counted { count ≡ run_width run.now }
-    requires inside { from + count ≤ length columns.old }
-    requires blank { AreBlank from count (all_seen columns.old) }
-    ensures ok { OnOk result (all_seen columns.new ≡ paste (all_seen columns.old) from (run_columns negative run.now)) }
-    ensures short { length run.now ≤ 7 → IsOk result }
+    requires inside { from + run.width ≤ length columns.old }
+    requires blank { AreBlank from run.width (all_seen columns.old) }
+    ensures ok { OnOk result (all_seen columns.new ≡ paste (all_seen columns.old) from (run_columns run.entry.negative run.entry.text.now)) }
+    ensures short { length run.entry.text.now ≤ 7 → IsOk result }
     ensures err { OnErr result (all_seen columns.new ≡ all_seen columns.old) }
 {
-    let put = put_glyphs(alloc, columns, from, run, count, negative);
+    let put = put_glyphs(alloc, columns, from, run);
     if put.is_err() {
-        fill_blank(columns, from, from + count as usize);
+        fill_blank(columns, from, from + run.width as usize);
     }
     put
 }
@@ -225,25 +219,22 @@ fn forget_right(row: &mut [Column])
 }
 
 /// Puts a run in a row. If memory runs out, part of it is written.
-pub fn show_in_row(
+fn show_in_row(
     alloc: Global,
     row: &mut [Column],
     from: usize,
-    run: &str,
-    count: u16,
-    negative: bool,
+    run: GlyphRun<'_>,
 ) -> Result<(), AllocError>
     requires uncut { AreUncut (all_seen row.old) }
-    requires counted { count ≡ run_width run.now }
-    requires inside { from + count ≤ length row.old }
-    ensures { OnOk result (all_seen row.new ≡ put_in_row (all_seen row.old) from (run_columns negative run.now)) }
+    requires inside { from + run.width ≤ length row.old }
+    ensures { OnOk result (all_seen row.new ≡ put_in_row (all_seen row.old) from (run_columns run.entry.negative run.entry.text.now)) }
 {
     forget_left(&mut row[..from]);
-    forget_right(&mut row[from + count as usize..]);
-    put_glyphs(alloc, row, from, run, count, negative)
+    forget_right(&mut row[from + run.width as usize..]);
+    put_glyphs(alloc, row, from, run)
 }
 
-pub fn erase_in_row(row: &mut [Column], from: usize)
+pub(crate) fn erase_in_row(row: &mut [Column], from: usize)
     requires uncut { AreUncut (all_seen row.old) }
     requires inside { from ≤ length row.old }
     ensures { all_seen row.new ≡ put_in_row (all_seen row.old) from (replicate (length row.old - from) blank) }
@@ -254,40 +245,30 @@ pub fn erase_in_row(row: &mut [Column], from: usize)
 }
 
 /// Puts a run in one row of a grid's columns. If memory runs out, all columns become unknown.
-pub fn show_at(
+pub(crate) fn show_at(
     alloc: Global,
     columns: &mut [Column],
     width: usize,
     row: usize,
     from: usize,
-    run: &str,
-    count: u16,
-    negative: bool,
+    run: GlyphRun<'_>,
 ) -> Result<(), AllocError>
     requires small { (row < largest_side) × (width ≤ largest_side) }
     requires rows { row * width + width ≤ length columns.old }
     requires uncut { AreUncut (take width (drop (row * width) (all_seen columns.old))) }
-    requires counted { count ≡ run_width run.now }
-    requires inside { from + count ≤ width }
-    ensures ok { OnOk result (all_seen columns.new ≡ put width (all_seen columns.old) row from (run_columns negative run.now)) }
+    requires inside { from + run.width ≤ width }
+    ensures ok { OnOk result (all_seen columns.new ≡ put width (all_seen columns.old) row from (run_columns run.entry.negative run.entry.text.now)) }
     ensures err { OnErr result (all_seen columns.new ≡ replicate (length columns.old) spec.Unknown) }
 {
     let start = row * width;
-    let shown = show_in_row(
-        alloc,
-        &mut columns[start..start + width],
-        from,
-        run,
-        count,
-        negative,
-    );
+    let shown = show_in_row(alloc, &mut columns[start..start + width], from, run);
     if shown.is_err() {
         fill_unknown(columns);
     }
     shown
 }
 
-pub fn erase_at(columns: &mut [Column], width: usize, row: usize, from: usize)
+pub(crate) fn erase_at(columns: &mut [Column], width: usize, row: usize, from: usize)
     requires small { (row < largest_side) × (width ≤ largest_side) }
     requires rows { row * width + width ≤ length columns.old }
     requires uncut { AreUncut (take width (drop (row * width) (all_seen columns.old))) }

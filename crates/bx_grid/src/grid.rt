@@ -13,6 +13,7 @@ use crate::codes::{blank_codes, note_codes, set_column};
 use crate::column::Column;
 use crate::columns::{are_blank, blank_columns, put_over_blanks};
 use crate::error::GridError;
+use crate::glyph_run::GlyphRun;
 use crate::glyph_text::SHORT;
 use bx_terms::{OutOfMemory, is_side, run_width};
 use std::alloc::{AllocError, Global};
@@ -109,20 +110,17 @@ impl Grid {
             return Ok(());
         }
         let alloc = *self.columns.allocator();
-        let count = count as u16;
-        put_over_blanks(
-            alloc,
-            self.columns.as_mut_slice(),
-            index,
+        let run = GlyphRun {
             text,
-            count,
+            width: count as u16,
             negative,
-        )?;
+        };
+        put_over_blanks(alloc, self.columns.as_mut_slice(), index, run)?;
         note_codes(
             self.codes.as_mut_slice(),
             &self.columns,
             index,
-            index + count as usize,
+            index + count,
         );
         Ok(())
     }

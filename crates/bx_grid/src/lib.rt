@@ -14,6 +14,7 @@ mod codes;
 mod column;
 mod columns;
 mod error;
+mod glyph_run;
 mod glyph_text;
 mod grid;
 mod laws;

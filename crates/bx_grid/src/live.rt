@@ -13,6 +13,7 @@ ghost use Rattle.bx_terms.specs.Sizes.{largest_side};
 
 use crate::column::{Column, all_same};
 use crate::columns::{erase_at, fill_blank, fill_unknown, show_at, unknown_columns};
+use crate::glyph_run::GlyphRun;
 use crate::picture::Picture;
 use crate::token::{Command, ESCAPE, command_in, fate_of};
 use crate::width::text_width;
@@ -161,17 +162,14 @@ impl Live {
             self.forget();
             return Ok(());
         }
-        let width = self.width as usize;
-        show_at(
-            alloc,
-            self.columns.as_mut_slice(),
-            width,
-            row as usize,
-            column as usize,
+        let run = GlyphRun {
             text,
-            count as u16,
+            width: count as u16,
             negative,
-        )?;
+        };
+        let width = self.width as usize;
+        let columns = self.columns.as_mut_slice();
+        show_at(alloc, columns, width, row as usize, column as usize, run)?;
         let end = column + count as u16;
         self.position = if end < self.width {
             Some((row, end))

@@ -3,7 +3,17 @@ use Rattle.std.specs.Prelude.{◌≡◌, ℕ, List, ◌++◌, Option, drop}
 use Rattle.bx_ucd.specs.Data.{Data}
 use Rattle.bx_ucd.specs.declared.class.Class.{Class}
 use Rattle.bx_brackets.specs.Search.{Progress, pairs_after}
+use Rattle.bx_explicit.specs.LevelIndexes.{level_indexes, indexes_from}
+use Rattle.bx_resolve.specs.declared.lent_sequence.LentSequence.{LentSequence}
+use Rattle.bx_resolve.specs.declared.lent_sequence.LevelRun.{LevelRun}
 use Rattle.bx_resolve.specs.Levels.{chars_at, with_levels}
+
+-- the indexes of a level run's characters, and of a sequence's
+abbrev pub run_indexes : LevelRun → List ℕ
+run_indexes run = level_indexes run.level run.first (drop run.first run.kept.now)
+
+abbrev pub sequence_indexes : LentSequence → List ℕ
+sequence_indexes s = indexes_from s.ends.level s.kept.now s.firsts.now
 
 -- after levels are written at the indexes `ps`, the levels left go to the rest of the indexes
 abbrev pub WritesRun : List ℕ → List ℕ → List (Option ℕ) → List ℕ → List (Option ℕ) → Type 0

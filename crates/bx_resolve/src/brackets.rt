@@ -1,18 +1,17 @@
 //! N0 for a sequence whose characters are read from the body.
-ghost use Rattle.std.specs.Prelude.{◌≡◌, ℕ, ◌≤◌, ◌^◌, ◌++◌, List, IfOk, OnOk, chars, drop, length};
+ghost use Rattle.std.specs.Prelude.{◌≡◌, ℕ, ◌≤◌, ◌^◌, IfOk, OnOk, chars, length};
 ghost use Rattle.bx_ucd.specs.Class.{direction};
 ghost use Rattle.bx_brackets.specs.Pairs.{pairs};
 ghost use Rattle.bx_brackets.specs.Resolve.{resolve_pairs};
 ghost use Rattle.bx_brackets.specs.Search.{pairs_after};
-ghost use Rattle.bx_explicit.specs.LevelIndexes.{level_indexes, indexes_from};
 ghost use Rattle.bx_resolve.specs.Levels.{chars_at};
-ghost use Rattle.bx_resolve.specs.LevelRuns.{MeetsRun};
+ghost use Rattle.bx_resolve.specs.LevelRuns.{MeetsRun, run_indexes, sequence_indexes};
 
 use crate::body::Body;
 use crate::error::ResolveError;
+use crate::lent_sequence::{LentSequence, LevelRun};
 use crate::scratch::{Ends, Scratch, may_have_brackets};
 use bx_brackets::{BracketError, PairSearch};
-use bx_explicit::ExplicitChar;
 use bx_terms::first_char;
 use bx_ucd::{BidiData, Class};
 
@@ -40,29 +39,28 @@ fn meet_text<D: BidiData>(
     Ok(())
 }
 
-/// Passes the characters of the run that begins at index `first` to a search, after `met` characters of the sequence.
-/// Returns the new count.
+/// Passes the characters of a run to a search, each with its type, after the `met` characters of the sequence's earlier
+/// runs. Returns the new count.
 fn meet_run<D: BidiData>(
     search: &mut PairSearch,
     body: &Body<'_>,
     tables: &D,
-    kept: &[Option<ExplicitChar>],
-    level: u8,
-    first: usize,
+    run: LevelRun<'_>,
     types: &[Class],
     met: usize,
 ) -> Result<usize, BracketError>
-    requires as_long { length body.now ≡ length kept.now }
+    requires as_long { length body.now ≡ length run.kept.now }
     requires next { search.old.next ≤ met }
     requires count { search.old.count ≡ length types.now }
-    ensures met { IfOk result (λ m. MeetsRun (D.data tables.now) body.now types.now (level_indexes level first (drop first kept.now))
+    ensures met { IfOk result (λ m. MeetsRun (D.data tables.now) body.now types.now (run_indexes run.entry)
         search.old.progress met search.new.progress m) }
     ensures next { IfOk result (λ m. search.new.next ≤ m) }
     ensures count { search.new.count ≡ search.old.count }
 {
+    let (kept, level) = (run.kept, run.level);
     let mut met = met;
-    let mut rest = body.rest_from(first);
-    for k in first..kept.len() {
+    let mut rest = body.rest_from(run.first);
+    for k in run.first..kept.len() {
         let Some((c, behind)) = first_char(rest) else {
             return Ok(met);
         };
@@ -84,26 +82,24 @@ fn meet_run<D: BidiData>(
     Ok(met)
 }
 
-/// Passes the characters of a sequence to a search, each with its type. `firsts` has the first index of each run.
+/// Passes the characters of a sequence to a search, each with its type.
 fn meet_sequence<D: BidiData>(
     search: &mut PairSearch,
     body: &Body<'_>,
     tables: &D,
-    kept: &[Option<ExplicitChar>],
-    firsts: &[usize],
-    level: u8,
+    sequence: LentSequence<'_>,
     types: &[Class],
 ) -> Result<(), BracketError>
-    requires as_long { length body.now ≡ length kept.now }
+    requires as_long { length body.now ≡ length sequence.kept.now }
     requires next { search.old.next ≡ 0 }
     requires count { search.old.count ≡ length types.now }
     ensures pairs { OnOk result (search.new.progress.pairs
-        ≡ pairs_after (D.data tables.now) search.old.progress 0 (chars_at body.now (indexes_from level kept.now firsts.now)) types.now) }
+        ≡ pairs_after (D.data tables.now) search.old.progress 0 (chars_at body.now (sequence_indexes sequence.entry)) types.now) }
     ensures count { search.new.count ≡ search.old.count }
 {
     let mut met = 0;
-    for first in firsts {
-        met = meet_run(search, body, tables, kept, level, *first, types, met)?;
+    for first in sequence.firsts {
+        met = meet_run(search, body, tables, sequence.run(*first), types, met)?;
     }
     Ok(())
 }
@@ -111,7 +107,7 @@ fn meet_sequence<D: BidiData>(
 /// Resolves the bracket pairs of a body that is one sequence, in place (N0). Reads the body only if one of its characters may
 /// be a bracket.
 #[tactic(auto, using(crate::proofs::NoBrackets::no_pairs))]
-pub fn resolve_brackets_of<D: BidiData>(
+pub(crate) fn resolve_brackets_of<D: BidiData>(
     scratch: &mut Scratch,
     body: &str,
     tables: &D,
@@ -134,20 +130,18 @@ pub fn resolve_brackets_of<D: BidiData>(
 
 /// Resolves the bracket pairs of a sequence in place (N0). Reads its characters only if one of them may be a bracket.
 #[tactic(auto, using(crate::proofs::NoBrackets::no_pairs))]
-pub fn resolve_brackets_in<D: BidiData>(
+pub(crate) fn resolve_brackets_in<D: BidiData>(
     scratch: &mut Scratch,
     body: &mut Body<'_>,
     tables: &D,
-    kept: &[Option<ExplicitChar>],
-    firsts: &[usize],
+    sequence: LentSequence<'_>,
     types: &mut [Class],
-    ends: Ends,
 ) -> Result<(), ResolveError>
-    requires as_long { length body.old ≡ length kept.now }
+    requires as_long { length body.old ≡ length sequence.kept.now }
     requires small { length types.old ≤ 2 ^ 32 }
     requires marks { length scratch.old.marks.items ≡ length types.old }
-    ensures types { OnOk result (types.new ≡ resolve_pairs (direction ends.level) ends.sos scratch.old.marks.items
-        (pairs (D.data tables.now) (chars_at body.old (indexes_from ends.level kept.now firsts.now)) types.old) types.old) }
+    ensures types { OnOk result (types.new ≡ resolve_pairs (direction sequence.entry.ends.level) sequence.entry.ends.sos scratch.old.marks.items
+        (pairs (D.data tables.now) (chars_at body.old (sequence_indexes sequence.entry)) types.old) types.old) }
     ensures body { body.new ≡ body.old }
 {
     if !may_have_brackets(types) {
@@ -155,15 +149,7 @@ pub fn resolve_brackets_in<D: BidiData>(
     }
     body.read()?;
     scratch.search.begin(types.len());
-    meet_sequence(
-        &mut scratch.search,
-        body,
-        tables,
-        kept,
-        firsts,
-        ends.level,
-        types,
-    )?;
-    scratch.resolve_brackets(types, ends);
+    meet_sequence(&mut scratch.search, body, tables, sequence, types)?;
+    scratch.resolve_brackets(types, sequence.ends);
     Ok(())
 }

@@ -1,15 +1,15 @@
 //! The levels of a paragraph body with formatting characters, sequence by sequence.
 ghost use Rattle.std.specs.Prelude.{◌≡◌, ◌≤◌, ◌<◌, ◌^◌, ◌++◌, IfOk, OnOk, None, true, chars, drop, length, map, replicate};
 ghost use Rattle.bx_explicit.specs.Stack.{max_depth};
-ghost use Rattle.bx_explicit.specs.LevelIndexes.{level_indexes, indexes_from};
 ghost use Rattle.bx_explicit.specs.Sequences.{sequences};
 ghost use Rattle.bx_resolve.specs.Neutral.{implicit};
-ghost use Rattle.bx_resolve.specs.Levels.{types_at, levels_in, with_levels, with_sequences, paragraph_levels};
-ghost use Rattle.bx_resolve.specs.LevelRuns.{WritesRun};
+ghost use Rattle.bx_resolve.specs.Levels.{chars_at, sequence_levels, types_at, levels_in, with_levels, with_sequences, paragraph_levels};
+ghost use Rattle.bx_resolve.specs.LevelRuns.{WritesRun, run_indexes, sequence_indexes};
 
 use crate::body::Body;
 use crate::brackets::resolve_brackets_in;
 use crate::error::ResolveError;
+use crate::lent_sequence::{LentSequence, LevelRun};
 use crate::neutral::found_level;
 use crate::paragraph::{Level, Levels};
 use crate::scratch::{Ends, Scratch, resolve_neutral};
@@ -29,16 +29,12 @@ fn make_room(types: &mut Vec<Class>, left: usize) -> Result<(), AllocError>
     Ok(())
 }
 
-/// Appends the types of the run that begins at index `first`.
-fn gather_types(
-    types: &mut Vec<Class>,
-    kept: &[Option<ExplicitChar>],
-    level: u8,
-    first: usize,
-) -> Result<(), AllocError>
-    ensures { OnOk result (types.new.items ≡ types.old.items ++ types_at kept.now (level_indexes level first (drop first kept.now))) }
+/// Appends the types of a run.
+fn gather_types(types: &mut Vec<Class>, run: LevelRun<'_>) -> Result<(), AllocError>
+    ensures { OnOk result (types.new.items ≡ types.old.items ++ types_at run.entry.kept.now (run_indexes run.entry)) }
 {
-    let mut k = first;
+    let (kept, level) = (run.kept, run.level);
+    let mut k = run.first;
     while k < kept.len() {
         if let Some(c) = kept[k] {
             if c.level != level {
@@ -52,40 +48,29 @@ fn gather_types(
     Ok(())
 }
 
-/// Collects the types of a sequence's characters after overrides. `firsts` has the first index of each run.
-fn sequence_types(
-    types: &mut Vec<Class>,
-    kept: &[Option<ExplicitChar>],
-    firsts: &[usize],
-    level: u8,
-) -> Result<(), AllocError>
-    ensures { OnOk result (types.new.items ≡ types_at kept.now (indexes_from level kept.now firsts.now)) }
+/// Collects the types of a sequence's characters after overrides.
+fn sequence_types(types: &mut Vec<Class>, sequence: LentSequence<'_>) -> Result<(), AllocError>
+    ensures { OnOk result (types.new.items ≡ types_at sequence.entry.kept.now (sequence_indexes sequence.entry)) }
 {
     types.clear();
-    for first in firsts {
-        gather_types(types, kept, level, *first)?;
+    for first in sequence.firsts {
+        gather_types(types, sequence.run(*first))?;
     }
     Ok(())
 }
 
-/// Writes the levels of the run that begins at index `first`, from its resolved types, after `written` types of the
-/// sequence. Returns the new count.
-fn write_run(
-    each: &mut Vec<Level>,
-    kept: &[Option<ExplicitChar>],
-    level: u8,
-    first: usize,
-    types: &[Class],
-    written: usize,
-) -> usize
-    requires low { level ≤ max_depth }
-    requires all { length each.old.items ≡ length kept.now }
-    ensures all { length each.new.items ≡ length kept.now }
-    ensures written { WritesRun (level_indexes level first (drop first kept.now)) (implicit level (drop written types.now)) each.old.items
-        (implicit level (drop result types.now)) each.new.items }
+/// Writes the levels of a run from the resolved types of its sequence, after the `written` types of earlier runs. Returns the
+/// new count.
+fn write_run(each: &mut Vec<Level>, run: LevelRun<'_>, types: &[Class], written: usize) -> usize
+    requires low { run.level ≤ max_depth }
+    requires all { length each.old.items ≡ length run.kept.now }
+    ensures all { length each.new.items ≡ length run.entry.kept.now }
+    ensures written { WritesRun (run_indexes run.entry) (implicit run.entry.level (drop written types.now)) each.old.items
+        (implicit run.entry.level (drop result types.now)) each.new.items }
 {
+    let (kept, level) = (run.kept, run.level);
     let mut written = written;
-    let mut k = first;
+    let mut k = run.first;
     while k < kept.len() && written < types.len() {
         if let Some(c) = kept[k] {
             if c.level != level {
@@ -99,54 +84,40 @@ fn write_run(
     written
 }
 
-/// Writes the levels of a sequence from its resolved types. `firsts` has the first index of each run.
-fn write_levels(
-    each: &mut Vec<Level>,
-    kept: &[Option<ExplicitChar>],
-    firsts: &[usize],
-    level: u8,
-    types: &[Class],
-)
-    requires low { level ≤ max_depth }
-    requires all { length each.old.items ≡ length kept.now }
-    ensures { each.new.items ≡ with_levels (indexes_from level kept.now firsts.now) (implicit level types.now) each.old.items }
+/// Writes the levels of a sequence from its resolved types.
+fn write_levels(each: &mut Vec<Level>, sequence: LentSequence<'_>, types: &[Class])
+    requires low { sequence.ends.level ≤ max_depth }
+    requires all { length each.old.items ≡ length sequence.kept.now }
+    ensures { each.new.items ≡ with_levels (sequence_indexes sequence.entry) (implicit sequence.entry.ends.level types.now) each.old.items }
 {
     let mut written = 0;
-    for first in firsts {
-        written = write_run(each, kept, level, *first, types, written);
+    for first in sequence.firsts {
+        written = write_run(each, sequence.run(*first), types, written);
     }
 }
 
-/// Resolves the types of the lent sequence and writes its levels.
+/// Resolves the types of a sequence and writes its levels.
 fn write_sequence<D: BidiData>(
     each: &mut Vec<Level>,
     scratch: &mut Scratch,
     body: &mut Body<'_>,
     tables: &D,
     types: &mut [Class],
-    walk: &SequenceWalk<'_>,
-    kept: &[Option<ExplicitChar>],
+    sequence: LentSequence<'_>,
 ) -> Result<(), ResolveError>
-    requires lent { walk.now.has_current ≡ true }
-    requires same { kept.now ≡ walk.now.explicit.kept.items }
-    requires small { length walk.now.current.indexes ≤ 2 ^ 32 }
-    requires as_long { length body.old ≡ length kept.now }
-    requires types { types.old ≡ types_at kept.now walk.now.current.indexes }
-    requires all { length each.old.items ≡ length kept.now }
-    ensures written { OnOk result (each.new.items ≡ with_levels walk.now.current.indexes
-        (levels_in (D.data tables.now) body.old kept.now walk.now.current) each.old.items) }
+    requires low { sequence.ends.level ≤ max_depth }
+    requires small { length types.old ≤ 2 ^ 32 }
+    requires as_long { length body.old ≡ length sequence.kept.now }
+    requires all { length each.old.items ≡ length sequence.kept.now }
+    ensures written { OnOk result (each.new.items ≡ with_levels (sequence_indexes sequence.entry)
+        (sequence_levels (D.data tables.now) sequence.entry.ends.level sequence.entry.ends.sos sequence.entry.ends.eos
+        (chars_at body.old (sequence_indexes sequence.entry)) types.old) each.old.items) }
     ensures body { body.new ≡ body.old }
 {
-    let ends = Ends {
-        level: walk.level(),
-        sos: walk.sos(),
-        eos: walk.eos(),
-    };
-    let firsts = walk.firsts();
-    scratch.resolve_weak(types, ends.sos)?;
-    resolve_brackets_in(scratch, body, tables, kept, firsts, types, ends)?;
-    resolve_neutral(types, ends);
-    write_levels(each, kept, firsts, ends.level, types);
+    scratch.resolve_weak(types, sequence.ends.sos)?;
+    resolve_brackets_in(scratch, body, tables, sequence, types)?;
+    resolve_neutral(types, sequence.ends);
+    write_levels(each, sequence, types);
     Ok(())
 }
 
@@ -175,15 +146,23 @@ fn write_lent<D: BidiData>(
         (levels_in (D.data tables.now) buffers.old.body kept.now walk.now.current) each.old.items) }
     ensures body { buffers.new.body ≡ buffers.old.body }
 {
-    sequence_types(&mut buffers.types, kept, walk.firsts(), walk.level())?;
+    let sequence = LentSequence {
+        kept,
+        firsts: walk.firsts(),
+        ends: Ends {
+            level: walk.level(),
+            sos: walk.sos(),
+            eos: walk.eos(),
+        },
+    };
+    sequence_types(&mut buffers.types, sequence)?;
     write_sequence(
         each,
         &mut buffers.scratch,
         &mut buffers.body,
         tables,
         &mut buffers.types,
-        walk,
-        kept,
+        sequence,
     )
 }
 

@@ -9,6 +9,7 @@ mod edited;
 mod error;
 mod formatted;
 mod laws;
+mod lent_sequence;
 mod neutral;
 mod paragraph;
 mod resolve;

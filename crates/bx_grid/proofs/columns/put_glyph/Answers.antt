@@ -9,15 +9,15 @@ use Rattle.bx_grid.proofs.columns.put_glyph.Goals as goal
 
 pub loop-offset-preserved : goal.loop-offset-preserved
 loop-offset-preserved c =
-    glyph_put c.loop-offset.columns (all_seen c.args.columns.now) c.args.from c.loop-offset.offset c.args.count c.args.text.now c.args.negative
-    (Glyph c.in_ok-from_str.field-0 c.args.count c.loop-offset.offset c.args.negative)
+    glyph_put c.loop-offset.columns (all_seen c.args.columns.now) c.args.from c.loop-offset.offset c.args.glyph.width c.args.glyph.text.now c.args.glyph.negative
+    (Glyph c.in_ok-from_str.field-0 c.args.glyph.width c.loop-offset.offset c.args.glyph.negative)
     (omega (arith, length-map c.args.columns.now seen)) c.loop-offset.invariant
-    (ap (λ (bytes : List ℕ). spec.Glyph bytes c.args.count c.loop-offset.offset c.args.negative) c.in_ok-from_str.ensures.ok)
+    (ap (λ (bytes : List ℕ). spec.Glyph bytes c.args.glyph.width c.loop-offset.offset c.args.glyph.negative) c.in_ok-from_str.ensures.ok)
 
 pub returns-in_err-from_str-clause-err : goal.returns-in_err-from_str-clause-err
 returns-in_err-from_str-clause-err c =
     let old = all_seen c.args.columns.now in
-    let some = spec.glyph_columns_from c.args.text.now c.args.count c.args.negative 0 c.loop-offset.offset in
-    let few : length some ≤ c.args.count = omega (arith, length-glyph c.args.text.now c.args.count 0 c.loop-offset.offset c.args.negative) in
-    err_always _ _ (subst (λ (cs : List spec.Col). spec.AreSameAround c.args.from c.args.count old cs) (sym c.loop-offset.invariant)
-    (paste_around old some c.args.from c.args.count few (omega (arith, length-map c.args.columns.now seen))))
+    let some = spec.glyph_columns_from c.args.glyph.text.now c.args.glyph.width c.args.glyph.negative 0 c.loop-offset.offset in
+    let few : length some ≤ c.args.glyph.width = omega (arith, length-glyph c.args.glyph.text.now c.args.glyph.width 0 c.loop-offset.offset c.args.glyph.negative) in
+    err_always _ _ (subst (λ (cs : List spec.Col). spec.AreSameAround c.args.from c.args.glyph.width old cs) (sym c.loop-offset.invariant)
+    (paste_around old some c.args.from c.args.glyph.width few (omega (arith, length-map c.args.columns.now seen))))

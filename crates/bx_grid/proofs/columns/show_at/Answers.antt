@@ -7,7 +7,7 @@ use Rattle.std.proofs.lemmas.Result.{on_ok_weaker}
 pub returns-else-is_err-clause-ok : goal.returns-else-is_err-clause-ok
 returns-else-is_err-clause-ok c =
     on_ok_weaker c.show_in_row-shown.result
-    (λ e. row_put c.args.columns.now c.show_in_row-shown.new.row c.args.width c.args.row c.args.from (run_columns c.args.negative c.args.run.now) e)
+    (λ e. row_put c.args.columns.now c.show_in_row-shown.new.row c.args.width c.args.row c.args.from (run_columns c.args.run.negative c.args.run.text.now) e)
     c.show_in_row-shown.ensures
 
 pub show_in_row-shown-requires-clause-uncut : goal.show_in_row-shown-requires-clause-uncut

@@ -13,7 +13,7 @@ returns-then-met-types-clause-met g c = λ rest.
     let met : ℕ = c.loop-k.met in
     c.loop-k.invariant.left rest
     ∙ types_out says c.loop-k.search.progress met met
-    (chars_at all (level_indexes c.args.level c.loop-k.k (drop c.loop-k.k c.args.kept.now) ++ rest)) c.args.types.now c.if-met-types.true
+    (chars_at all (level_indexes c.args.run.level c.loop-k.k (drop c.loop-k.k c.args.run.kept.now) ++ rest)) c.args.types.now c.if-met-types.true
     ∙ sym (types_out says c.loop-k.search.progress met met (chars_at all rest) c.args.types.now c.if-met-types.true)
 
 pub returns-in_default-clause-met : goal.returns-in_default-clause-met
@@ -34,7 +34,7 @@ loop-k-preserved g c =
         chars_are = chars_behind k c.in-Some.c all (chars c.in-Some.behind.now) left;
         next = w.meet.ensures.next;
         count = w.meet.ensures.count ∙ c.loop-k.invariant.count;
-        left = λ more. c.loop-k.invariant.left more ∙ kept_left says all c.args.kept.now c.args.types.now c.args.level k c.loop-k.met
+        left = λ more. c.loop-k.invariant.left more ∙ kept_left says all c.args.run.kept.now c.args.types.now c.args.run.level k c.loop-k.met
             c.loop-k.search.progress (omega arith) more c.in-Some.c w.in-Some-kept.given w.meet.new.self.progress w.in-Some-kept.is w.if-given-level.false
             (omega arith) (char_here k c.in-Some.c all (chars c.in-Some.behind.now) left) w.in_ok-meet-in-Some-kept.ensures.progress;
       })
@@ -43,7 +43,7 @@ loop-k-preserved g c =
         chars_are = chars_behind k c.in-Some.c all (chars c.in-Some.behind.now) left;
         next = c.loop-k.invariant.next;
         count = c.loop-k.invariant.count;
-        left = λ more. c.loop-k.invariant.left more ∙ removed_left says all c.args.kept.now c.args.types.now c.args.level k c.loop-k.met
+        left = λ more. c.loop-k.invariant.left more ∙ removed_left says all c.args.run.kept.now c.args.types.now c.args.run.level k c.loop-k.met
             c.loop-k.search.progress (omega arith) more w.in-None.is;
       })
     ]

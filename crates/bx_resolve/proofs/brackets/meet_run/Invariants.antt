@@ -4,6 +4,7 @@ use denote.Text.{Utf8}
 use denote.Shadow.{shadow}
 use Rattle.bx_brackets.specs.Search.{pairs_after}
 use Rattle.bx_explicit.specs.LevelIndexes.{level_indexes}
+use Rattle.bx_resolve.specs.LevelRuns.{run_indexes}
 use Rattle.bx_resolve.specs.Levels.{chars_at}
 use Rattle.bx_resolve.proofs.brackets.meet_run.Given as goal
 
@@ -15,7 +16,7 @@ invariant-loop-k g l = record {
   count : l.search.count ≡ l.fn.search.count;
   left : (more : List ℕ)
       → pairs_after (g.D.BidiData.data l.tables) l.fn.search.progress l.fn.met
-      (chars_at l.body (level_indexes l.level l.first (drop l.first l.kept) ++ more)) (drop l.fn.met l.types)
+      (chars_at l.body (run_indexes l.run ++ more)) (drop l.fn.met l.types)
       ≡ pairs_after (g.D.BidiData.data l.tables) l.search.progress l.met
-      (chars_at l.body (level_indexes l.level l.k (drop l.k l.kept) ++ more)) (drop l.met l.types);
+      (chars_at l.body (level_indexes l.run.level l.k (drop l.k l.run.kept.now) ++ more)) (drop l.met l.types);
 }

@@ -2,12 +2,14 @@
 use Rattle.std.proofs.Common.{◌≡◌, drop, length}
 use Rattle.bx_explicit.specs.LevelIndexes.{indexes_from}
 use Rattle.bx_resolve.specs.Neutral.{implicit}
+use Rattle.bx_resolve.specs.LevelRuns.{sequence_indexes}
 use Rattle.bx_resolve.specs.Levels.{with_levels}
 use Rattle.bx_resolve.proofs.formatted.write_levels.Given as goal
 
 abbrev pub invariant-loop-first : goal.invariant-loop-first
 invariant-loop-first l = record {
-  all : length l.each.items ≡ length l.kept;
-  written : with_levels (indexes_from l.level l.kept l.firsts) (implicit l.level l.types) l.fn.each.items
-      ≡ with_levels (indexes_from l.level l.kept (drop l.first-index l.firsts)) (implicit l.level (drop l.written l.types)) l.each.items;
+  all : length l.each.items ≡ length l.sequence.kept.now;
+  written : with_levels (sequence_indexes l.sequence) (implicit l.sequence.ends.level l.types) l.fn.each.items
+      ≡ with_levels (indexes_from l.sequence.ends.level l.sequence.kept.now (drop l.first-index l.sequence.firsts.now))
+      (implicit l.sequence.ends.level (drop l.written l.types)) l.each.items;
 }

@@ -6,5 +6,5 @@ use Rattle.bx_resolve.proofs.formatted.write_run.Goals as goal
 pub returns-else-written-types-clause-written : goal.returns-else-written-types-clause-written
 returns-else-written-types-clause-written c = λ rest.
     let none : length c.args.types.now ≤ c.loop-k.written = omega arith in
-    c.loop-k.invariant.written rest ∙ written_out c.args.level (level_indexes c.args.level c.loop-k.k (drop c.loop-k.k c.args.kept.now) ++ rest) rest
+    c.loop-k.invariant.written rest ∙ written_out c.args.run.level (level_indexes c.args.run.level c.loop-k.k (drop c.loop-k.k c.args.run.kept.now) ++ rest) rest
     c.args.types.now c.loop-k.written c.loop-k.each.items none

@@ -2,15 +2,16 @@
 use Rattle.std.proofs.Common.{◌≡◌, ◌-◌, ◌++◌, ℕ, List, drop, length}
 use Rattle.bx_explicit.specs.LevelIndexes.{level_indexes}
 use Rattle.bx_resolve.specs.Neutral.{implicit}
+use Rattle.bx_resolve.specs.LevelRuns.{run_indexes}
 use Rattle.bx_resolve.specs.Levels.{with_levels}
 use Rattle.bx_resolve.proofs.formatted.write_run.Given as goal
 
 abbrev pub invariant-loop-k : goal.invariant-loop-k
 invariant-loop-k l = record {
-  all : length l.each.items ≡ length l.kept;
-  written : (rest : List ℕ) → with_levels (level_indexes l.level l.first (drop l.first l.kept) ++ rest) (implicit l.level (drop l.fn.written l.types))
-      l.fn.each.items ≡ with_levels (level_indexes l.level l.k (drop l.k l.kept) ++ rest) (implicit l.level (drop l.written l.types)) l.each.items;
+  all : length l.each.items ≡ length l.run.kept.now;
+  written : (rest : List ℕ) → with_levels (run_indexes l.run ++ rest) (implicit l.run.level (drop l.fn.written l.types)) l.fn.each.items
+      ≡ with_levels (level_indexes l.run.level l.k (drop l.k l.run.kept.now) ++ rest) (implicit l.run.level (drop l.written l.types)) l.each.items;
 }
 
 abbrev pub decreases-loop-k : goal.decreases-loop-k
-decreases-loop-k l = length l.kept - l.k
+decreases-loop-k l = length l.run.kept.now - l.k

@@ -34,14 +34,14 @@ returns c =
     let new = run_columns c.args.negative c.args.text.now in
     let columns : all_seen c.show_at.new.columns ≡ put u.width u.columns c.args.row c.args.column new =
     c.in_ok-show_at.ensures.ok
-    ∙ ap (λ xs. put u.width (all_seen xs) c.args.row c.args.column new) c.as_mut_slice.ensures.value in
+    ∙ ap (λ xs. put u.width (all_seen xs) c.args.row c.args.column new) c.as_mut_slice-columns.ensures.value in
     let with_columns : List Column → Terminal = λ xs. record u { columns = all_seen xs; position = c.if-end-self.self; run = string_bytes c.clear.new.self } in
     let position : c.if-end-self.self ≡ within u.width c.args.row (c.args.column + count) =
     elim c.if-end-self.branch [
       | then-end-self w ↦ w.self-is ∙ sym (within_at u.width c.args.row (c.args.column + count) w.if-end-self.true)
       | else-end-self w ↦ w.self-is ∙ sym (within_past u.width c.args.row (c.args.column + count) w.if-end-self.false)
     ] in
-    ap with_columns (take_at c.show_at.new.columns _ c.self.inside.columns.len (c.show_at.auto.columns ∙ c.as_mut_slice.ensures.len))
+    ap with_columns (take_at c.show_at.new.columns _ c.self.inside.columns.len (c.show_at.auto.columns ∙ c.as_mut_slice-columns.ensures.len))
     ∙ put_is u c.args.row c.args.column count c.args.negative c.args.text.now _ _ _ c.text_width-count.ensures
     c.if-count-lt1.false (omega (arith, c.if-count-self.false)) columns position
     c.clear.ensures.bytes
@@ -51,15 +51,15 @@ pub show_at-requires-clause-uncut : goal.show_at-requires-clause-uncut
 show_at-requires-clause-uncut c =
     let s = c.self.inside in
     let height : s.height ≡ c.args.self.now.height = ap (λ (t : Terminal). t.height) c.self.view_is in
-    rw (c.as_mut_slice.ensures.value)
+    rw (c.as_mut_slice-columns.ensures.value)
     (uncut_at s.height s.width c.args.row (all_seen s.columns.items) (omega (arith, height, c.requires.0)) c.self.invariant.uncut)
 
 pub invariant_of-self : goal.invariant_of-self
 invariant_of-self c =
     let s = c.self.inside in
     let sound = sound_unknown s.height s.width _ c.show_at.new.columns s.columns.items
-    (take_at c.show_at.new.columns _ s.columns.len (c.show_at.auto.columns ∙ c.as_mut_slice.ensures.len))
-    (c.in_err-show_at.ensures.err ∙ ap (λ xs. replicate (length xs) Unknown) c.as_mut_slice.ensures.value) c.self.invariant.sized in
+    (take_at c.show_at.new.columns _ s.columns.len (c.show_at.auto.columns ∙ c.as_mut_slice-columns.ensures.len))
+    (c.in_err-show_at.ensures.err ∙ ap (λ xs. replicate (length xs) Unknown) c.as_mut_slice-columns.ensures.value) c.self.invariant.sized in
     record { sized = sound.sized; position = c.self.invariant.position; waits = c.self.invariant.waits; uncut = sound.uncut }
 
 pub invariant_of-self-2 : goal.invariant_of-self-2
@@ -77,10 +77,10 @@ invariant_of-self-2 c =
       | else-end-self w ↦ rw w.self-is tt
     ] in
     let sound = sound_put s.height s.width c.args.row c.args.column _ c.show_at.new.columns s.columns.items new
-    (take_at c.show_at.new.columns _ s.columns.len (c.show_at.auto.columns ∙ c.as_mut_slice.ensures.len))
-    (c.show_at.auto.columns ∙ ap length c.as_mut_slice.ensures.value)
+    (take_at c.show_at.new.columns _ s.columns.len (c.show_at.auto.columns ∙ c.as_mut_slice-columns.ensures.len))
+    (c.show_at.auto.columns ∙ ap length c.as_mut_slice-columns.ensures.value)
     (c.in_ok-show_at.ensures.ok
-    ∙ ap (λ xs. put s.width (all_seen xs) c.args.row c.args.column new) c.as_mut_slice.ensures.value)
+    ∙ ap (λ xs. put s.width (all_seen xs) c.args.row c.args.column new) c.as_mut_slice-columns.ensures.value)
     (alone_run c.args.negative run) (omega (arith, height, c.requires.0)) (omega (arith, length_new, c.if-count-self.false, c.ranges.column.fits))
     (record { sized = c.self.invariant.sized; uncut = c.self.invariant.uncut }) in
     record { sized = sound.sized; position = position; waits = c.self.invariant.waits; uncut = sound.uncut }
