@@ -1,4 +1,4 @@
--- What the rows of a body are that stands with its rows, its levels and the tables.
+-- The units, levels and glyphs of a body's rows, by the rows' numbers from 0.
 use Rattle.std.specs.Prelude.{ℕ, List}
 use Rattle.bx_ucd.specs.declared.data.BidiData.{Ghosts}
 use Rattle.bx_cells.specs.declared.unit.Unit.{Unit}
@@ -14,7 +14,7 @@ module _ {D : Type 0} {g : Ghosts D} (s : Lines D g) where
   abbrev pub units_at : ℕ → List Unit
   units_at k = units_of_row (g.data s.tables.now) s.w s.body.now k
 
-  -- a unit has the face of its text
+  -- a unit has the face that its text has in the window
   abbrev pub ShowsFace : Unit → Type 0
   ShowsFace u = HasFace (g.data s.tables.now) s.w s.body.now u
 
@@ -22,6 +22,6 @@ module _ {D : Type 0} {g : Ghosts D} (s : Lines D g) where
   abbrev pub levels_of : List Unit → List ℕ
   levels_of us = row_levels (g.data s.tables.now) s.body.now s.levels.now.paragraph s.levels.now.each.items us
 
-  -- what row `k` shows
+  -- the glyphs of row `k` from left to right
   abbrev pub glyphs_at : ℕ → List Glyph
   glyphs_at k = draw_numbered (g.data s.tables.now) s.w s.body.now s.levels.now.paragraph s.levels.now.each.items k

@@ -143,26 +143,32 @@ fn shown_text<'a, D: BidiData>(
     }
 }
 
-/// Appends the glyphs of a face in its columns, with the unit's own text at a level.
+/// The face of a unit, its columns and its level.
+#[derive(Clone, Copy)]
+pub(crate) struct LeveledFace {
+    pub(crate) face: Face,
+    pub(crate) columns: u16,
+    pub(crate) level: u8,
+}
+
+/// Appends the glyphs of a unit of this text.
 pub(crate) fn push_face<'a, D: BidiData>(
     glyphs: &mut Vec<Drawn<'a>>,
     alloc: Global,
     text: &'a str,
-    face: Face,
-    columns: u16,
-    level: u8,
+    unit: LeveledFace,
     tables: &D,
     w: u16,
 ) -> Result<(), AllocError>
-    requires { HasLetter face }
+    requires { HasLetter unit.face }
     ensures { OnOk result (map glyph_of glyphs.new.items ≡ map glyph_of glyphs.old.items
-        ++ face_glyphs (D.data tables.now) w text.entry.now face columns level) }
+        ++ face_glyphs (D.data tables.now) w text.entry.now unit.face unit.columns unit.level) }
 {
-    match face {
-        Face::Tab => push_blanks(glyphs, columns),
+    match unit.face {
+        Face::Tab => push_blanks(glyphs, unit.columns),
         Face::Mark(byte) => push_letter(glyphs, byte, true),
         Face::Own(own) => {
-            let shown = shown_text(alloc, text, own, level, tables, w)?;
+            let shown = shown_text(alloc, text, own, unit.level, tables, w)?;
             push_text(glyphs, shown, own)
         }
     }

@@ -101,28 +101,34 @@ fn read_more<D: BidiData>(
     read_class(found, waiting, tables.class(c), paragraph)
 }
 
-/// Reads a character of a unit; `is_known`: the unit's level is found already.
+/// A character and its level, if X9 keeps it.
+#[derive(Clone, Copy)]
+struct LeveledChar {
+    c: char,
+    level: Option<u8>,
+}
+
+/// Reads a character of a unit. `is_known`: the unit's level is found already.
 #[inline(always)]
 fn read_char<D: BidiData>(
     found: &mut Vec<u8>,
     waiting: usize,
     is_known: bool,
-    c: char,
-    level: Option<u8>,
+    next: LeveledChar,
     paragraph: u8,
     tables: &D,
 ) -> Result<usize, AllocError>
     requires { waiting ≤ length found.old.items }
     ensures within { IfOk result (λ next. next ≤ length found.new.items) }
-    ensures levels { IfOk result (λ next. ReadsChar paragraph ((D.data tables.now).class c) is_known level found.old.items waiting found.new.items next) }
+    ensures levels { IfOk result (λ stop. ReadsChar paragraph ((D.data tables.now).class next.c) is_known next.level found.old.items waiting found.new.items stop) }
 {
-    let Some(level) = level else {
+    let Some(level) = next.level else {
         return Ok(waiting);
     };
     if is_known {
-        return Ok(read_more(found, waiting, c, paragraph, tables));
+        return Ok(read_more(found, waiting, next.c, paragraph, tables));
     }
-    read_first(found, waiting, c, level, paragraph, tables)
+    read_first(found, waiting, next.c, level, paragraph, tables)
 }
 
 /// The level of a unit without a kept character: that of the unit before it, or the paragraph level.
@@ -189,7 +195,8 @@ pub(crate) fn read_unit<'a, D: BidiData>(
     let mut left = levels;
     'chars: while let Some((c, behind)) = first_char(rest) {
         let (level, after) = first_level(left);
-        first = read_char(found, first, is_known, c, level, paragraph, tables)?;
+        let next = LeveledChar { c, level };
+        first = read_char(found, first, is_known, next, paragraph, tables)?;
         is_known = is_known || level.is_some();
         rest = behind;
         left = after;

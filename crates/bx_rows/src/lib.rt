@@ -8,11 +8,11 @@ mod drawn;
 mod glyphs;
 mod laws;
 mod level_read;
+mod library;
 mod lines;
 mod mirrors;
 mod narrow_run;
 mod numbered_row;
-mod one_row;
 mod picture;
 mod plain_picture;
 mod plain_row;
@@ -26,13 +26,13 @@ mod wrapping;
 
 pub use drawn::{Drawn, RowPicture};
 pub use laws::{
-    orders_are_permutations, rows_are_of_rest, rows_cut_units, rows_meet_again, units_make_body,
+    lowest_levels_order_units, orders_are_permutations, pictures_show_units, rows_are_of_rest,
+    rows_cut_units, rows_meet_again, units_make_body,
 };
+pub use library::{has_one_row, row_levels, wrap};
 pub use lines::Lines;
-pub use one_row::has_one_row;
-pub use picture::{draw, unit_columns};
+pub use picture::{LeveledRow, draw, unit_columns};
 pub use row::Row;
 pub use start_search::{RowStart, row_starts};
-pub use unit_levels::{row_levels, row_levels_behind};
+pub use unit_levels::char_count;
 pub use visual_order::visual;
-pub use wrapping::wrap;

@@ -1,4 +1,4 @@
-//! A body's rows, each to be asked for by its number.
+//! A body's rows, read by their numbers.
 ghost use Rattle.std.specs.Prelude.{◌≡◌, ⊤, IsUtf8, chars};
 ghost use Rattle.bx_resolve.specs.Levels.{levels_under, paragraph_level_under};
 ghost use Rattle.bx_rows.specs.RowStarts.{row_starts};
@@ -10,8 +10,8 @@ use bx_terms::Base;
 use bx_ucd::BidiData;
 use std::alloc::AllocError;
 
-/// A body with where its rows begin in a window of `w` columns and its levels under a base direction, and the tables that
-/// both are by.
+/// A paragraph's body with its row starts in a window of `w` columns, its levels under a base direction, and the tables
+/// that both are computed from. It borrows them, so making one for a single row costs nothing.
 pub struct Lines<'a, 't, D: BidiData> {
     pub body: &'a str,
     pub starts: &'a [RowStart],

@@ -1,4 +1,4 @@
-//! The picture of a row of a body, by its number.
+//! The levels and the picture of one row.
 ghost use Rattle.std.specs.Prelude.{◌≡◌, ◌<◌, All, IfOk, length, map, sum_by, true};
 ghost use Rattle.std.specs.Cow.{cow_str_bytes};
 ghost use Rattle.bx_terms.specs.Glyphs.{is_one_glyph, run_width};
@@ -8,16 +8,18 @@ ghost use Rattle.bx_rows.specs.Shown.{glyph_of};
 
 use crate::drawn::RowPicture;
 use crate::lines::Lines;
-use crate::picture::draw;
-use crate::row::Row;
-use crate::unit_levels::row_levels_behind;
+use crate::picture::{LeveledRow, draw};
+use crate::unit_levels::each_level;
 use bx_cells::Unit;
 use bx_terms::OutOfMemory;
 use bx_ucd::BidiData;
 use std::alloc::Global;
 
 impl<'a, 't, D: BidiData> Lines<'a, 't, D> {
-    /// The levels of the units of row `number` (from 0), by L1. It is refused only where memory runs out.
+    /// The levels of the units of row `number`, from 0, by L1.
+    ///
+    /// Errors: `OutOfMemory`.
+    #[tactic(auto, using(crate::proofs::Resets::one_each))]
     pub fn levels(
         &self,
         alloc: Global,
@@ -31,11 +33,13 @@ impl<'a, 't, D: BidiData> Lines<'a, 't, D> {
         ensures one_each { IfOk result (λ v. length v.items ≡ length units.now) }
     {
         let chars = self.starts[number].chars;
-        row_levels_behind(alloc, self.body, units, chars, self.levels, self.tables)
+        let found = each_level(alloc, self.body, units, chars, self.levels, self.tables)?;
+        Ok(found)
     }
 
-    /// What row `number` (from 0) shows, from left to right with its blanks. No other row is read. It is refused only where
-    /// memory runs out.
+    /// The glyphs of row `number`, from 0, from left to right, blanks included. Reads no other row.
+    ///
+    /// Errors: `OutOfMemory`.
     pub fn picture(&self, alloc: Global, number: usize) -> Result<RowPicture<'a>, OutOfMemory>
         requires { number < length self.now.starts.now }
         ensures picture { IfOk result (λ p. map glyph_of p.glyphs.items ≡ glyphs_at self.now number) }
@@ -47,20 +51,12 @@ impl<'a, 't, D: BidiData> Lines<'a, 't, D> {
             return Ok(found);
         }
         let units = self.units(alloc, number)?;
-        let row = Row {
-            start: 0,
-            stop: units.len(),
-        };
         let each = self.levels(alloc, number, &units)?;
-        draw(
-            alloc,
-            self.body,
-            &units,
-            row,
-            &each,
-            self.levels.paragraph,
-            self.tables,
-            self.w,
-        )
+        let row = LeveledRow {
+            units: &units,
+            levels: &each,
+            paragraph: self.levels.paragraph,
+        };
+        draw(alloc, self.body, &row, self.tables, self.w)
     }
 }

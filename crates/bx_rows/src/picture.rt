@@ -4,13 +4,11 @@ ghost use Rattle.std.specs.Cow.{cow_str_bytes};
 ghost use Rattle.bx_terms.specs.Glyphs.{is_one_glyph, run_width};
 ghost use Rattle.bx_cells.specs.Units.{HasFace, StandsIn};
 ghost use Rattle.bx_rows.specs.RowPicture.{draw, unit_columns, unit_glyphs, columns_used};
-ghost use Rattle.bx_rows.specs.Shown.{IsRowOf, glyph_of};
+ghost use Rattle.bx_rows.specs.Shown.{glyph_of};
 ghost use Rattle.bx_rows.specs.VisualOrder.{visual};
-ghost use Rattle.bx_rows.specs.Wrapping.{row_units};
 
 use crate::drawn::{Drawn, RowPicture};
-use crate::glyphs::{push_face, with_blanks};
-use crate::row::Row;
+use crate::glyphs::{LeveledFace, push_face, with_blanks};
 use crate::visual_order::visual;
 use crate::wrapping::columns_at;
 use bx_cells::Unit;
@@ -18,7 +16,26 @@ use bx_terms::OutOfMemory;
 use bx_ucd::BidiData;
 use std::alloc::{AllocError, Global};
 
-/// The columns of each unit of a row in a window of `w` columns, and their sum. The only error is `AllocError`.
+/// The units of a row and their levels, one for each, in a paragraph of the level `paragraph`.
+#[derive(Clone, Copy)]
+pub struct LeveledRow<'r> {
+    pub units: &'r [Unit],
+    pub levels: &'r [u8],
+    pub paragraph: u8,
+}
+
+/// The units of a row, the columns and the level of each, and the units' numbers, from 0, in visual order.
+#[derive(Clone, Copy)]
+struct OrderedRow<'r> {
+    units: &'r [Unit],
+    columns: &'r [u16],
+    levels: &'r [u8],
+    order: &'r [usize],
+}
+
+/// The columns of each unit of a row in a window of `w` columns, and their sum.
+///
+/// Errors: `AllocError`.
 pub fn unit_columns(alloc: Global, units: &[Unit], w: u16) -> Result<(Vec<u16>, u16), AllocError>
     requires { columns_used w units.now ≤ w }
     ensures columns { IfOk result (λ r. r.0.items ≡ unit_columns w 0 units.now) }
@@ -35,39 +52,32 @@ pub fn unit_columns(alloc: Global, units: &[Unit], w: u16) -> Result<(Vec<u16>, 
     Ok((columns, c))
 }
 
-/// Appends the glyphs of a row's units in a given order.
+/// Appends the glyphs of a row's units in visual order.
 fn push_units<'a, D: BidiData>(
     glyphs: &mut Vec<Drawn<'a>>,
     alloc: Global,
     body: &'a str,
-    units: &[Unit],
-    columns: &[u16],
-    levels: &[u8],
-    order: &[usize],
+    row: &OrderedRow<'_>,
     tables: &D,
     w: u16,
 ) -> Result<(), AllocError>
-    requires stand { All (StandsIn body.now) units.now }
-    requires faces { All (HasFace (D.data tables.now) w body.now) units.now }
-    requires columns { length columns.now ≡ length units.now }
-    requires levels { length levels.now ≡ length units.now }
-    requires order { All (λ k. k < length units.now) order.now }
+    requires stand { All (StandsIn body.now) row.now.units.now }
+    requires faces { All (HasFace (D.data tables.now) w body.now) row.now.units.now }
+    requires columns { length row.now.columns.now ≡ length row.now.units.now }
+    requires levels { length row.now.levels.now ≡ length row.now.units.now }
+    requires order { All (λ k. k < length row.now.units.now) row.now.order.now }
     ensures { OnOk result (map glyph_of glyphs.new.items ≡ map glyph_of glyphs.old.items
-        ++ flat_map (λ k. slice_index_or (unit_glyphs (D.data tables.now) w body.entry.now units.now columns.now levels.now) k
-        []) order.now) }
+        ++ flat_map (λ k. slice_index_or (unit_glyphs (D.data tables.now) w body.entry.now row.now.units.now row.now.columns.now
+        row.now.levels.now) k []) row.now.order.now) }
 {
-    for number in order {
-        let unit = units[*number];
-        push_face(
-            glyphs,
-            alloc,
-            &body[unit.start..unit.stop],
-            unit.face,
-            columns[*number],
-            levels[*number],
-            tables,
-            w,
-        )?;
+    for number in row.order {
+        let unit = row.units[*number];
+        let face = LeveledFace {
+            face: unit.face,
+            columns: row.columns[*number],
+            level: row.levels[*number],
+        };
+        push_face(glyphs, alloc, &body[unit.start..unit.stop], face, tables, w)?;
     }
     Ok(())
 }
@@ -76,59 +86,51 @@ fn push_units<'a, D: BidiData>(
 fn row_glyphs<'a, D: BidiData>(
     alloc: Global,
     body: &'a str,
-    units: &[Unit],
-    levels: &[u8],
-    paragraph: u8,
+    row: &LeveledRow<'_>,
     tables: &D,
     w: u16,
 ) -> Result<Vec<Drawn<'a>>, OutOfMemory>
-    requires stand { All (StandsIn body.now) units.now }
-    requires faces { All (HasFace (D.data tables.now) w body.now) units.now }
-    requires used { columns_used w units.now ≤ w }
-    requires levels { length levels.now ≡ length units.now }
-    ensures { IfOk result (λ v. map glyph_of v.items ≡ draw (D.data tables.now) w body.entry.now paragraph units.now levels.now) }
+    requires stand { All (StandsIn body.now) row.now.units.now }
+    requires faces { All (HasFace (D.data tables.now) w body.now) row.now.units.now }
+    requires used { columns_used w row.now.units.now ≤ w }
+    requires levels { length row.now.levels.now ≡ length row.now.units.now }
+    ensures { IfOk result (λ v. map glyph_of v.items
+        ≡ draw (D.data tables.now) w body.entry.now row.now.paragraph row.now.units.now row.now.levels.now) }
 {
-    let (columns, used) = unit_columns(alloc, units, w)?;
-    let order = visual(alloc, levels)?;
+    let (columns, used) = unit_columns(alloc, row.units, w)?;
+    let order = visual(alloc, row.levels)?;
     let mut glyphs = Vec::with_capacity(alloc, w as usize)?;
-    push_units(
-        &mut glyphs,
-        alloc,
-        body,
-        units,
-        &columns,
-        levels,
-        &order,
-        tables,
-        w,
-    )?;
-    let all = with_blanks(alloc, glyphs, w - used, paragraph)?;
+    let ordered = OrderedRow {
+        units: row.units,
+        columns: &columns,
+        levels: row.levels,
+        order: &order,
+    };
+    push_units(&mut glyphs, alloc, body, &ordered, tables, w)?;
+    let all = with_blanks(alloc, glyphs, w - used, row.paragraph)?;
     Ok(all)
 }
 
-/// Draws a row of a body's units in a window of `w` columns: its glyphs from left to right, blanks included. `levels` are
-/// those of the row's units, `paragraph` is the paragraph level. The only error is `OutOfMemory`.
+/// Draws a row of a body in a window of `w` columns: its glyphs from left to right, blanks included.
+///
+/// Errors: `OutOfMemory`.
 pub fn draw<'a, D: BidiData>(
     alloc: Global,
     body: &'a str,
-    units: &[Unit],
-    row: Row,
-    levels: &[u8],
-    paragraph: u8,
+    row: &LeveledRow<'_>,
     tables: &D,
     w: u16,
 ) -> Result<RowPicture<'a>, OutOfMemory>
-    requires stand { All (StandsIn body.now) units.now }
-    requires faces { All (HasFace (D.data tables.now) w body.now) units.now }
-    requires row { IsRowOf w units.now row }
-    requires levels { length levels.now ≡ length (row_units units.now row) }
+    requires stand { All (StandsIn body.now) row.now.units.now }
+    requires faces { All (HasFace (D.data tables.now) w body.now) row.now.units.now }
+    requires fits { columns_used w row.now.units.now ≤ w }
+    requires levels { length row.now.levels.now ≡ length row.now.units.now }
     ensures picture { IfOk result (λ p. map glyph_of p.glyphs.items
-        ≡ draw (D.data tables.now) w body.entry.now paragraph (row_units units.now row) levels.now) }
+        ≡ draw (D.data tables.now) w body.entry.now row.now.paragraph row.now.units.now row.now.levels.now) }
     ensures glyphs { IfOk result (λ p. All (λ g. is_one_glyph (cow_str_bytes g.text) ≡ true) p.glyphs.items) }
     ensures widths { IfOk result (λ p. All (λ g. run_width (cow_str_bytes g.text) ≡ g.columns) p.glyphs.items) }
     ensures columns { IfOk result (λ p. sum_by (λ g. g.columns) p.glyphs.items ≡ w) }
 {
-    let units = &units[row.start..row.stop];
-    let glyphs = row_glyphs(alloc, body, units, levels, paragraph, tables, w)?;
+    let glyphs = row_glyphs(alloc, body, row, tables, w)?;
     Ok(RowPicture { glyphs })
 }

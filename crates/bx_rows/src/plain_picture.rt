@@ -1,4 +1,4 @@
-//! What a row shows in which each unit is one character of one column.
+//! The picture of a row in which each unit is one character of one column.
 ghost use Rattle.std.specs.Prelude.{◌≡◌, ◌≤◌, ◌<◌, ◌-◌, All, IfOk, IfSome, List, ℕ, length, map, slice_index_or, sum_by, true};
 ghost use Rattle.std.specs.Cow.{cow_str_bytes};
 ghost use Rattle.bx_terms.specs.Glyphs.{is_one_glyph, run_width};
@@ -12,7 +12,7 @@ use crate::drawn::{Drawn, RowPicture};
 use crate::glyphs::with_blanks;
 use crate::lines::Lines;
 use crate::mirrors::mirror_odd;
-use crate::plain_row::{PlainRow, plain_row};
+use crate::plain_row::PlainRow;
 use crate::row_part::{most_units, start_of};
 use crate::visual_order::reorder;
 use bx_terms::OutOfMemory;
@@ -38,7 +38,7 @@ fn arranged<'a, D: BidiData>(
     Ok(glyphs)
 }
 
-/// The columns of a window that glyphs of one column each leave.
+/// The columns of a window that `count` glyphs of one column each leave free.
 fn columns_left(w: u16, count: usize) -> u16
     requires { count ≤ w }
     ensures { result ≡ w - count }
@@ -47,8 +47,9 @@ fn columns_left(w: u16, count: usize) -> u16
 }
 
 impl<'a, 't, D: BidiData> Lines<'a, 't, D> {
-    /// What row `number` shows, where each of its units is one character of one column; none of other rows, of which this
-    /// tells nothing.
+    /// The picture of row `number`, from 0, if each of its units is one character of one column. Other rows give none.
+    ///
+    /// Errors: `OutOfMemory`.
     pub(crate) fn plain_picture(
         &self,
         alloc: Global,
@@ -63,8 +64,7 @@ impl<'a, 't, D: BidiData> Lines<'a, 't, D> {
         let w = self.w;
         let start = self.starts[number];
         let count = most_units(start, start_of(self.starts, number + 1), self.body, w);
-        let Some(row) = plain_row(alloc, self.body, start, count, self.levels, self.tables, w)?
-        else {
+        let Some(row) = self.plain_row(alloc, start, count)? else {
             return Ok(None);
         };
         let glyphs = arranged(alloc, row, self.tables, w)?;

@@ -8,15 +8,16 @@ ghost use Rattle.bx_cells.specs.SimpleFace.{simple_face};
 ghost use Rattle.bx_cells.specs.Units.{units_from};
 ghost use Rattle.bx_rows.specs.LevelReads.{Reads};
 ghost use Rattle.bx_rows.specs.PlainRows.{AreSingle, IsClusterEnd};
-ghost use Rattle.bx_rows.specs.RowLevels.{chars_before, row_levels};
+ghost use Rattle.bx_rows.specs.Lines.{levels_of};
+ghost use Rattle.bx_rows.specs.RowLevels.{chars_before};
 
 use crate::drawn::Drawn;
 use crate::glyphs::is_own;
 use crate::level_read::{first_level, read_class, settle};
+use crate::lines::Lines;
 use crate::start_search::RowStart;
 use bx_cells::simple::{Simple, common_kind, simple_kind};
 use bx_cells::simple_face;
-use bx_resolve::Levels;
 use bx_terms::first_char;
 use bx_ucd::{BidiData, Class};
 use std::alloc::{AllocError, Global};
@@ -94,56 +95,57 @@ fn first_part(text: &str) -> Option<(char, &str, &str)>
     Some((c, &text[..text.len() - behind.len()], behind))
 }
 
-/// The first `count` units of a body, or all, from a row's start on, with their levels by L1; none if a unit is not a single
-/// character of one column, or its character has no level.
-pub(crate) fn plain_row<'a, D: BidiData>(
-    alloc: Global,
-    body: &'a str,
-    start: RowStart,
-    count: usize,
-    levels: &Levels,
-    tables: &D,
-    w: u16,
-) -> Result<Option<PlainRow<'a>>, AllocError>
-    requires { IsCharBoundary body.now start.offset }
-    ensures units { IfOk result (λ o. IfSome o (λ r. AreSingle (D.data tables.now) w body.entry.now start.offset count r.glyphs.items)) }
-    ensures count { IfOk result (λ o. IfSome o (λ r. length r.levels.items ≡ length r.glyphs.items)) }
-    ensures levels { IfOk result (λ o. IfSome o (λ r. (us : List Unit) → us ≡ take count (units_from (D.data tables.now) w body.entry.now start.offset)
-        → (0 < length us → start.chars ≡ chars_before body.entry.now us)
-        → r.levels.items ≡ row_levels (D.data tables.now) body.entry.now levels.now.paragraph levels.now.each.items us)) }
-{
-    let each = levels.each.as_slice();
-    let mut glyphs = Vec::with_capacity(alloc, count.min(FIRST_ROOM))?;
-    let mut found = Vec::with_capacity(alloc, count.min(FIRST_ROOM))?;
-    let mut rest = &body[start.offset..];
-    let mut left = &each[start.chars.min(each.len())..];
-    let mut waiting = 0;
-    'chars: while glyphs.len() < count && !rest.is_empty() {
-        let Some((c, text, behind)) = first_part(rest) else {
+impl<'a, 't, D: BidiData> Lines<'a, 't, D> {
+    /// The first `count` units, or all, from a row's start on, with their levels by L1; none if a unit is not a single
+    /// character of one column, or its character has no level.
+    pub(crate) fn plain_row(
+        &self,
+        alloc: Global,
+        start: RowStart,
+        count: usize,
+    ) -> Result<Option<PlainRow<'a>>, AllocError>
+        requires { IsCharBoundary self.now.body.now start.offset }
+        ensures units { IfOk result (λ o. IfSome o (λ r. AreSingle (D.data self.now.tables.now) self.now.w self.now.body.now start.offset count r.glyphs.items)) }
+        ensures count { IfOk result (λ o. IfSome o (λ r. length r.levels.items ≡ length r.glyphs.items)) }
+        ensures levels { IfOk result (λ o. IfSome o (λ r. (us : List Unit)
+            → us ≡ take count (units_from (D.data self.now.tables.now) self.now.w self.now.body.now start.offset)
+            → (0 < length us → start.chars ≡ chars_before self.now.body.now us)
+            → r.levels.items ≡ levels_of self.now us)) }
+    {
+        let levels = self.levels;
+        let each = levels.each.as_slice();
+        let mut glyphs = Vec::with_capacity(alloc, count.min(FIRST_ROOM))?;
+        let mut found = Vec::with_capacity(alloc, count.min(FIRST_ROOM))?;
+        let mut rest = &self.body[start.offset..];
+        let mut left = &each[start.chars.min(each.len())..];
+        let mut waiting = 0;
+        'chars: while glyphs.len() < count && !rest.is_empty() {
+            let Some((c, text, behind)) = first_part(rest) else {
+                return Ok(None);
+            };
+            let Some(class) = plain_class(c, self.tables, self.w) else {
+                return Ok(None);
+            };
+            let (level, after) = first_level(left);
+            let Some(level) = level else {
+                return Ok(None);
+            };
+            glyphs.push(Drawn {
+                text: CowStr::Borrowed(text),
+                columns: 1,
+                negative: false,
+            })?;
+            waiting = read_only(&mut found, waiting, class, level, levels.paragraph)?;
+            rest = behind;
+            left = after;
+        }
+        if !is_cluster_end(rest) {
             return Ok(None);
-        };
-        let Some(class) = plain_class(c, tables, w) else {
-            return Ok(None);
-        };
-        let (level, after) = first_level(left);
-        let Some(level) = level else {
-            return Ok(None);
-        };
-        glyphs.push(Drawn {
-            text: CowStr::Borrowed(text),
-            columns: 1,
-            negative: false,
-        })?;
-        waiting = read_only(&mut found, waiting, class, level, levels.paragraph)?;
-        rest = behind;
-        left = after;
+        }
+        settle(&mut found, waiting, levels.paragraph);
+        Ok(Some(PlainRow {
+            glyphs,
+            levels: found,
+        }))
     }
-    if !is_cluster_end(rest) {
-        return Ok(None);
-    }
-    settle(&mut found, waiting, levels.paragraph);
-    Ok(Some(PlainRow {
-        glyphs,
-        levels: found,
-    }))
 }

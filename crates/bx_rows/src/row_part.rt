@@ -1,4 +1,4 @@
-//! The units of one row, found from where it begins.
+//! The units of one row, read from its start.
 ghost use Rattle.std.specs.Prelude.{◌≡◌, ◌≤◌, ◌<◌, All, IfOk, IfSome, length, slice_get};
 ghost use Rattle.bx_cells.specs.Units.{StandsIn};
 ghost use Rattle.bx_rows.specs.Lines.{ShowsFace, units_at};
@@ -34,8 +34,9 @@ pub(crate) fn most_units(start: RowStart, next: Option<RowStart>, body: &str, w:
 }
 
 impl<'a, 't, D: BidiData> Lines<'a, 't, D> {
-    /// The units of row `number` (from 0). No other row is read. Their offsets are the body's. It is refused only where memory
-    /// runs out.
+    /// The units of row `number`, from 0. Offsets are bytes of the body. Reads no other row.
+    ///
+    /// Errors: `OutOfMemory`.
     pub fn units(&self, alloc: Global, number: usize) -> Result<Vec<Unit>, OutOfMemory>
         requires { number < length self.now.starts.now }
         ensures units { IfOk result (λ v. v.items ≡ units_at self.now number) }

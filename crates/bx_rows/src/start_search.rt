@@ -121,8 +121,9 @@ fn read_unit<D: BidiData>(
     Ok((scan, unit.stop))
 }
 
-/// The starts of a body's rows in a window of `w` columns, the rows of `wrap`. Makes no list of units. The only error is
-/// `OutOfMemory`.
+/// The starts of a body's rows in a window of `w` columns, the rows of `wrap`. Makes no list of units.
+///
+/// Errors: `OutOfMemory`.
 pub fn row_starts<D: BidiData>(
     alloc: Global,
     body: &str,

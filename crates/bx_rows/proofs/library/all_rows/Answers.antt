@@ -5,7 +5,7 @@ use Rattle.bx_cells.specs.declared.unit.Unit.{Unit}
 use Rattle.bx_rows.specs.declared.row.Row.{Row}
 use Rattle.bx_rows.specs.Wrapping.{is_break, row_len, rows_from}
 use Rattle.bx_rows.proofs.Wraps.{rows_turn}
-use Rattle.bx_rows.proofs.wrapping.all_rows.Goals as goal
+use Rattle.bx_rows.proofs.library.all_rows.Goals as goal
 
 -- one more row is done
 row-more : (p : Unit → Bool) (w i n m : ℕ) (us : List Unit) (done new all : List Row) → i < length us → n ≡ row_len p w (drop i us) → m ≡ max n 1

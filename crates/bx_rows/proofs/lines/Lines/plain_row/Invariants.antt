@@ -3,13 +3,13 @@ use Rattle.std.proofs.Common.{◌≤◌, length, drop}
 use denote.Text.{Utf8}
 use denote.Shadow.{shadow}
 use Rattle.bx_rows.proofs.PlainRows.{IsReadTo}
-use Rattle.bx_rows.proofs.plain_row.plain_row.Given as goal
+use Rattle.bx_rows.proofs.lines.Lines.plain_row.Given as goal
 
 abbrev pub invariant-chars : goal.invariant-chars
 invariant-chars g l = record {
   text : shadow (Utf8 l.rest);
   few : length l.glyphs.items ≤ l.count;
-  read : IsReadTo (g.D.BidiData.data l.tables) l.w l.levels.paragraph l.body l.fn.start.offset (drop l.fn.start.chars l.levels.each.items) l.glyphs.items
+  read : IsReadTo (g.D.BidiData.data l.self.tables.now) l.self.w l.self.levels.now.paragraph l.self.body.now l.fn.start.offset (drop l.fn.start.chars l.self.levels.now.each.items) l.glyphs.items
       l.found.items l.waiting l.left l.rest;
 }
 

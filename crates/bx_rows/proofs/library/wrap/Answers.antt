@@ -1,7 +1,7 @@
 use Rattle.bx_rows.proofs.EachRow.{faces-fit}
 use Rattle.bx_rows.proofs.Joined.{cut_if_wrapped}
 use Rattle.bx_rows.proofs.RowsFit.{fit_if_wrapped}
-use Rattle.bx_rows.proofs.wrapping.wrap.Goals as goal
+use Rattle.bx_rows.proofs.library.wrap.Goals as goal
 
 pub returns-clause-fit : goal.returns-clause-fit
 returns-clause-fit g c = fit_if_wrapped (g.D.BidiData.data c.args.tables.now) c.args.w c.args.body.now c.args.units.now _ c.in_ok-rows.ensures

@@ -1,7 +1,7 @@
 -- No unit from number n on is a break.
 use Rattle.std.proofs.Common.{◌≡◌, ◌≤◌, length, take}
 use Rattle.bx_rows.specs.Wrapping.{is_break, up_to_last}
-use Rattle.bx_rows.proofs.wrapping.up_to_last_break.Given as goal
+use Rattle.bx_rows.proofs.library.up_to_last_break.Given as goal
 
 abbrev pub invariant-loop-n : goal.invariant-loop-n
 invariant-loop-n g l = record {

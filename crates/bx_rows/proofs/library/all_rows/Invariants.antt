@@ -1,7 +1,7 @@
 -- The rows so far, and those of the units after them, are all.
 use Rattle.std.proofs.Common.{◌≡◌, ◌++◌, ◌-◌, ◌≤◌, length, drop}
 use Rattle.bx_rows.specs.Wrapping.{is_break, rows_from}
-use Rattle.bx_rows.proofs.wrapping.all_rows.Given as goal
+use Rattle.bx_rows.proofs.library.all_rows.Given as goal
 
 abbrev pub invariant-loop-start : goal.invariant-loop-start
 invariant-loop-start g l = record {

@@ -3,8 +3,8 @@ use Rattle.std.proofs.lemmas.Str.{IsUtf8-past_char}
 use Rattle.bx_rows.specs.LevelReads.{Reads}
 use Rattle.bx_rows.specs.RowPicture.{glyph}
 use Rattle.bx_rows.proofs.PlainRows.{levels-are, none_if, pushed-length, read-more, units-single}
-use Rattle.bx_rows.proofs.plain_row.plain_row.Goals as goal
-use Rattle.bx_rows.proofs.plain_row.plain_row.Goals.{then-chars-test+else-not-is_empty, else-chars-test}
+use Rattle.bx_rows.proofs.lines.Lines.plain_row.Goals as goal
+use Rattle.bx_rows.proofs.lines.Lines.plain_row.Goals.{then-chars-test+else-not-is_empty, else-chars-test}
 
 pub chars-preserved : goal.chars-preserved
 chars-preserved g c =
@@ -16,13 +16,13 @@ chars-preserved g c =
     record {
       text = IsUtf8-past_char c.chars.rest.now c.in-Some.behind.now c.in-Some.c i.text e;
       few = omega (arith, less, counted, pushed-length c.chars.glyphs.items c.push.new.self.items _ pushed);
-      read = read-more (g.D.BidiData.data c.args.tables.now) c.args.w c.args.levels.now.paragraph c.args.body.now c.args.start.offset
-          (drop c.args.start.chars c.args.levels.now.each.items) c.chars.glyphs.items c.push.new.self.items c.chars.found.items c.read_only.new.found.items
+      read = read-more (g.D.BidiData.data c.args.self.now.tables.now) c.args.self.now.w c.args.self.now.levels.now.paragraph c.args.self.now.body.now c.args.start.offset
+          (drop c.args.start.chars c.args.self.now.levels.now.each.items) c.chars.glyphs.items c.push.new.self.items c.chars.found.items c.read_only.new.found.items
           c.chars.waiting c.in_ok-waiting.waiting c.chars.left.now c.first_level-level.result.1.now c.chars.rest.now c.in-Some.behind.now c.in-Some.c
           c.in-Some-level.level _ c.first_level-level.result.0 i.read e c.in-Some-plain_class.ensures.begin c.in-Some-plain_class.ensures.face pushed
           (ap (λ t. glyph t 1 false) c.in-Some.ensures.1) c.first_level-level.ensures.first c.first_level-level.ensures.behind c.in-Some-level.is
           c.in_ok-waiting.ensures.within
-          (subst (λ k. Reads c.args.levels.now.paragraph k (c.chars.found.items ++ c.in-Some-level.level ∷ []) c.chars.waiting c.read_only.new.found.items
+          (subst (λ k. Reads c.args.self.now.levels.now.paragraph k (c.chars.found.items ++ c.in-Some-level.level ∷ []) c.chars.waiting c.read_only.new.found.items
           c.in_ok-waiting.waiting) c.in-Some-plain_class.ensures.class c.in_ok-waiting.ensures.levels);
     }
 
@@ -33,9 +33,9 @@ returns-clause-units g c =
       cs = i.read.cs;
       rest = c.chars.rest.now;
       bytes = i.read.bytes;
-      units = units-single (g.D.BidiData.data c.args.tables.now) c.args.w c.args.levels.now.paragraph c.args.body.now c.args.start.offset c.args.count
-          (drop c.args.start.chars c.args.levels.now.each.items) c.chars.glyphs.items c.chars.found.items c.chars.waiting c.chars.left.now c.chars.rest.now
-          c.utf8.body c.requires i.read (c.if-not-is_cluster_end.ensures refl) i.few
+      units = units-single (g.D.BidiData.data c.args.self.now.tables.now) c.args.self.now.w c.args.self.now.levels.now.paragraph c.args.self.now.body.now c.args.start.offset c.args.count
+          (drop c.args.start.chars c.args.self.now.levels.now.each.items) c.chars.glyphs.items c.chars.found.items c.chars.waiting c.chars.left.now c.chars.rest.now
+          c.args.self.now.utf8 c.requires i.read (c.if-not-is_cluster_end.ensures refl) i.few
           (elim c.chars-test.branch [
             | then-chars-test+else-not-is_empty w ↦ (λ less. none_if (length c.chars.rest.now) w.if-not-is_empty.ensures)
             | else-chars-test w ↦ (λ less. let counted = c.len.ensures in let test = w.chars-test.false in absurd (omega (arith, less, counted, test)))
@@ -47,6 +47,6 @@ pub returns-clause-levels : goal.returns-clause-levels
 unfolding returns-clause-units
 returns-clause-levels g c = λ us own before.
     let i = c.chars.invariant in
-    levels-are (g.D.BidiData.data c.args.tables.now) c.args.w c.args.levels.now.paragraph c.args.body.now c.args.start.offset c.args.count
-    c.args.start.chars c.args.levels.now.each.items c.chars.glyphs.items c.chars.found.items c.settle.new.found.items c.chars.waiting c.chars.left.now
-    c.chars.rest.now us c.utf8.body c.requires i.read (own ∙ (returns-clause-units g c).units) before c.settle.ensures.levels
+    levels-are (g.D.BidiData.data c.args.self.now.tables.now) c.args.self.now.w c.args.self.now.levels.now.paragraph c.args.self.now.body.now c.args.start.offset c.args.count
+    c.args.start.chars c.args.self.now.levels.now.each.items c.chars.glyphs.items c.chars.found.items c.settle.new.found.items c.chars.waiting c.chars.left.now
+    c.chars.rest.now us c.args.self.now.utf8 c.requires i.read (own ∙ (returns-clause-units g c).units) before c.settle.ensures.levels
