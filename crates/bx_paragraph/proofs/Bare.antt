@@ -1,4 +1,4 @@
--- Texts of one way without brackets.
+-- Texts of one direction without brackets.
 use Rattle.std.proofs.Common.{◌≡◌, ◌∙◌, ◌||◌, ℕ, true, false, not, List, [], ◌∷◌, ◌++◌, map, refl, ap₂, sym, subst, Option}
 use Rattle.std.specs.List.{list_all, list_any}
 use Rattle.std.proofs.lemmas.Bool.{and_parts, and_from, not-true}
@@ -15,12 +15,12 @@ use Rattle.bx_resolve.proofs.PlainKept.{Each}
 use Rattle.bx_resolve.proofs.PlainTypes.{each_append}
 use Rattle.bx_resolve.proofs.PlainLevels.{each_pass}
 use Rattle.bx_resolve.proofs.CutParagraph.{pass_each}
-use Rattle.bx_paragraph.specs.Cuts.{is_bare, is_of_way, way_between}
-use Rattle.bx_paragraph.specs.declared.way.Way.{Way}
-use Rattle.bx_paragraph.specs.declared.way.Way.TheVariants.{Either, FromLeft, FromRight}
+use Rattle.bx_paragraph.specs.Cuts.{is_bare, is_of_direction, direction_between}
+use Rattle.bx_paragraph.specs.declared.direction.Direction.{Direction}
+use Rattle.bx_paragraph.specs.declared.direction.Direction.TheVariants.{Either, LeftToRight, RightToLeft}
 
 -- between two strong characters
-pub of-one-way : (x y : Class) (m : List Class) → is_strong x ≡ true → is_strong y ≡ true → all_pass (is_of_way (way_between x y)) m ≡ true
+pub of-one-way : (x y : Class) (m : List Class) → is_strong x ≡ true → is_strong y ≡ true → all_pass (is_of_direction (direction_between x y)) m ≡ true
     → one_way x y m ≡ true
 of-one-way L L m h k e = e
 of-one-way L R m h k e = refl
@@ -36,49 +36,49 @@ of-one-way R _ m h k e = absurd (cc)
 of-one-way AL _ m h k e = absurd (cc)
 of-one-way _ y m h k e = absurd (cc)
 
-way-unformatted : (way : Way) (c : Class) → is_of_way way c ≡ true → is_unformatted c ≡ true
-way-unformatted Either c h = h
-way-unformatted _ L h = refl
-way-unformatted _ R h = refl
-way-unformatted _ EN h = refl
-way-unformatted _ ES h = refl
-way-unformatted _ ET h = refl
-way-unformatted _ AN h = refl
-way-unformatted _ CS h = refl
-way-unformatted _ AL h = refl
-way-unformatted _ NSM h = refl
-way-unformatted _ B h = refl
-way-unformatted _ S h = refl
-way-unformatted _ WS h = refl
-way-unformatted _ ON h = refl
-way-unformatted FromLeft _ h = absurd (cc)
-way-unformatted FromRight _ h = absurd (cc)
+direction-unformatted : (direction : Direction) (c : Class) → is_of_direction direction c ≡ true → is_unformatted c ≡ true
+direction-unformatted Either c h = h
+direction-unformatted _ L h = refl
+direction-unformatted _ R h = refl
+direction-unformatted _ EN h = refl
+direction-unformatted _ ES h = refl
+direction-unformatted _ ET h = refl
+direction-unformatted _ AN h = refl
+direction-unformatted _ CS h = refl
+direction-unformatted _ AL h = refl
+direction-unformatted _ NSM h = refl
+direction-unformatted _ B h = refl
+direction-unformatted _ S h = refl
+direction-unformatted _ WS h = refl
+direction-unformatted _ ON h = refl
+direction-unformatted LeftToRight _ h = absurd (cc)
+direction-unformatted RightToLeft _ h = absurd (cc)
 
-each-unformatted : (way : Way) (ts : List Class) → Each (is_of_way way) ts → Each is_unformatted ts
-each-unformatted way [] h = tt
-each-unformatted way (t ∷ ts) h = (way-unformatted way t h.0, each-unformatted way ts h.1)
+each-unformatted : (direction : Direction) (ts : List Class) → Each (is_of_direction direction) ts → Each is_unformatted ts
+each-unformatted direction [] h = tt
+each-unformatted direction (t ∷ ts) h = (direction-unformatted direction t h.0, each-unformatted direction ts h.1)
 
 module _ (says : Data) where
-  each-of-way : (way : Way) (cs : List ℕ) → list_all (is_bare says way) cs ≡ true → Each (is_of_way way) (map says.class cs)
-  each-of-way way [] h = tt
-  each-of-way way (c ∷ cs) h =
-      let p = and_parts (is_bare says way c) (list_all (is_bare says way) cs) h in
-      ((and_parts (is_of_way way (says.class c)) (not (is_listed says c)) p.0).0, each-of-way way cs p.1)
+  each-of-direction : (direction : Direction) (cs : List ℕ) → list_all (is_bare says direction) cs ≡ true → Each (is_of_direction direction) (map says.class cs)
+  each-of-direction direction [] h = tt
+  each-of-direction direction (c ∷ cs) h =
+      let p = and_parts (is_bare says direction c) (list_all (is_bare says direction) cs) h in
+      ((and_parts (is_of_direction direction (says.class c)) (not (is_listed says c)) p.0).0, each-of-direction direction cs p.1)
 
-  -- all are of the way
-  pub bare-way : (way : Way) (cs : List ℕ) → list_all (is_bare says way) cs ≡ true → all_pass (is_of_way way) (map says.class cs) ≡ true
-  bare-way way cs h = pass_each (is_of_way way) (map says.class cs) (each-of-way way cs h)
+  -- all are of the direction
+  pub bare-direction : (direction : Direction) (cs : List ℕ) → list_all (is_bare says direction) cs ≡ true → all_pass (is_of_direction direction) (map says.class cs) ≡ true
+  bare-direction direction cs h = pass_each (is_of_direction direction) (map says.class cs) (each-of-direction direction cs h)
 
   -- none is a formatting character
-  pub bare-unformatted : (way : Way) (cs : List ℕ) → list_all (is_bare says way) cs ≡ true → HasNoFormatting says cs
-  bare-unformatted way cs h = pass_each is_unformatted (map says.class cs) (each-unformatted way (map says.class cs) (each-of-way way cs h))
+  pub bare-unformatted : (direction : Direction) (cs : List ℕ) → list_all (is_bare says direction) cs ≡ true → HasNoFormatting says cs
+  bare-unformatted direction cs h = pass_each is_unformatted (map says.class cs) (each-unformatted direction (map says.class cs) (each-of-direction direction cs h))
 
   -- none is a bracket
-  pub bare-unlisted : (way : Way) (cs : List ℕ) → list_all (is_bare says way) cs ≡ true → list_any (is_listed says) cs ≡ false
-  bare-unlisted way [] h = refl
-  bare-unlisted way (c ∷ cs) h =
-      let p = and_parts (is_bare says way c) (list_all (is_bare says way) cs) h in
-      ap₂ (λ x y. x || y) (not-true _ (and_parts (is_of_way way (says.class c)) (not (is_listed says c)) p.0).1) (bare-unlisted way cs p.1)
+  pub bare-unlisted : (direction : Direction) (cs : List ℕ) → list_all (is_bare says direction) cs ≡ true → list_any (is_listed says) cs ≡ false
+  bare-unlisted direction [] h = refl
+  bare-unlisted direction (c ∷ cs) h =
+      let p = and_parts (is_bare says direction c) (list_all (is_bare says direction) cs) h in
+      ap₂ (λ x y. x || y) (not-true _ (and_parts (is_of_direction direction (says.class c)) (not (is_listed says c)) p.0).1) (bare-unlisted direction cs p.1)
 
   -- the same of a text that is known to have none
   pub unlisted : (cs : List ℕ) → list_all (λ c. not (is_listed says c)) cs ≡ true → list_any (is_listed says) cs ≡ false
@@ -91,13 +91,13 @@ module _ (says : Data) where
       → list_any (is_listed says) (xs ++ ys) ≡ false
   unlisted-append xs ys h k = unlisted (xs ++ ys) (list_all-append (λ c. not (is_listed says c)) xs ys ∙ and_from _ _ h k)
 
-  pub bare-append : (way : Way) (xs ys : List ℕ) → list_all (is_bare says way) xs ≡ true → list_all (is_bare says way) ys ≡ true
-      → list_all (is_bare says way) (xs ++ ys) ≡ true
-  bare-append way xs ys h k = list_all-append (is_bare says way) xs ys ∙ and_from _ _ h k
+  pub bare-append : (direction : Direction) (xs ys : List ℕ) → list_all (is_bare says direction) xs ≡ true → list_all (is_bare says direction) ys ≡ true
+      → list_all (is_bare says direction) (xs ++ ys) ≡ true
+  bare-append direction xs ys h k = list_all-append (is_bare says direction) xs ys ∙ and_from _ _ h k
 
-  pub bare-three : (way : Way) (xs ys zs : List ℕ) → list_all (is_bare says way) xs ≡ true → list_all (is_bare says way) ys ≡ true
-      → list_all (is_bare says way) zs ≡ true → list_all (is_bare says way) (xs ++ (ys ++ zs)) ≡ true
-  bare-three way xs ys zs h k l = bare-append way xs (ys ++ zs) h (bare-append way ys zs k l)
+  pub bare-three : (direction : Direction) (xs ys zs : List ℕ) → list_all (is_bare says direction) xs ≡ true → list_all (is_bare says direction) ys ≡ true
+      → list_all (is_bare says direction) zs ≡ true → list_all (is_bare says direction) (xs ++ (ys ++ zs)) ≡ true
+  bare-three direction xs ys zs h k l = bare-append direction xs (ys ++ zs) h (bare-append direction ys zs k l)
 
   -- texts without formatting characters
   pub plain-append : (xs ys : List ℕ) → HasNoFormatting says xs → HasNoFormatting says ys → HasNoFormatting says (xs ++ ys)

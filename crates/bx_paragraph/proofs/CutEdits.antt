@@ -15,12 +15,12 @@ use Rattle.bx_resolve.specs.Edited.{FollowsBetween, FollowsToEnd, HasNoFormattin
 use Rattle.bx_resolve.specs.Uniform.{all_pass}
 use Rattle.bx_resolve.specs.Edited.{between, end_piece, is_listed, old_index, old_text, one_way, piece}
 use Rattle.bx_paragraph.specs.Cuts.{FollowsEdit, IsBareEdit, IsCutOffEdit, IsOpenEdit, IsStrongIn}
-use Rattle.bx_paragraph.specs.Cuts.{edit_of, has_no_bracket, is_bare, is_of_way, way_between}
+use Rattle.bx_paragraph.specs.Cuts.{edit_of, has_no_bracket, is_bare, is_of_direction, direction_between}
 use Rattle.bx_paragraph.specs.declared.strong.Strong.{Strong}
-use Rattle.bx_paragraph.specs.declared.way.Way.{Way}
-use Rattle.bx_paragraph.specs.declared.way.Way.TheVariants.{Either}
+use Rattle.bx_paragraph.specs.declared.direction.Direction.{Direction}
+use Rattle.bx_paragraph.specs.declared.direction.Direction.TheVariants.{Either}
 use Rattle.bx_paragraph.specs.declared.text_edit.TextEdit.{TextEdit}
-use Rattle.bx_paragraph.proofs.Bare.{bare-three, bare-unformatted, bare-unlisted, bare-way, of-one-way, unlisted, unlisted-append}
+use Rattle.bx_paragraph.proofs.Bare.{bare-three, bare-unformatted, bare-unlisted, bare-direction, of-one-way, unlisted, unlisted-append}
 use Rattle.bx_paragraph.proofs.Places.{chars-before}
 
 module _ (says : Data) (t : TextEdit) (x : Strong) (at_x : IsStrongIn says t.near.now x) (i : ℕ)
@@ -73,24 +73,24 @@ module _ (says : Data) (t : TextEdit) (x : Strong) (at_x : IsStrongIn says t.nea
     IsOut m = (one_way x.class y.class m ≡ true) ⊎ ((list_any (is_listed says) (take i (front ++ near)) ≡ false)
         ⊎ (list_any (is_listed says) (drop (y.index + 1) (chars t.behind.now)) ≡ false))
 
-    module _ (way : Way) (bare : IsBareEdit says way t (drop x.stop t.near.now) (take y.start t.behind.now))
-        (out : (m : List Class) → all_pass (is_of_way way) m ≡ true → IsOut m) where
-      bare-between : (s : List ℕ) → list_all (is_bare says way) s ≡ true
-          → list_all (is_bare says way) (between (front ++ near) i s (chars t.behind.now) y.index) ≡ true
+    module _ (direction : Direction) (bare : IsBareEdit says direction t (drop x.stop t.near.now) (take y.start t.behind.now))
+        (out : (m : List Class) → all_pass (is_of_direction direction) m ≡ true → IsOut m) where
+      bare-between : (s : List ℕ) → list_all (is_bare says direction) s ≡ true
+          → list_all (is_bare says direction) (between (front ++ near) i s (chars t.behind.now) y.index) ≡ true
       bare-between s h =
-          ap₂ (λ a b. list_all (is_bare says way) (a ++ (s ++ b))) behind-x up-to-y
-          ∙ bare-three says way (chars (drop x.stop t.near.now)) s (chars (take y.start t.behind.now)) bare.left_is h bare.right_is
+          ap₂ (λ a b. list_all (is_bare says direction) (a ++ (s ++ b))) behind-x up-to-y
+          ∙ bare-three says direction (chars (drop x.stop t.near.now)) s (chars (take y.start t.behind.now)) bare.left_is h bare.right_is
 
-      safe : (s : List ℕ) → list_all (is_bare says way) s ≡ true → IsSafe says (front ++ near) i s (chars t.behind.now) y.index
+      safe : (s : List ℕ) → list_all (is_bare says direction) s ≡ true → IsSafe says (front ++ near) i s (chars t.behind.now) y.index
       safe s h =
           let m = between (front ++ near) i s (chars t.behind.now) y.index in
           let whole = bare-between s h in
           let none_before = list_any (is_listed says) (take i (front ++ near)) ≡ false in
           let none_behind = list_any (is_listed says) (drop (y.index + 1) (chars t.behind.now)) ≡ false in (
-            bare-unlisted says way m whole,
+            bare-unlisted says direction m whole,
             subst (λ d. (one_way (says.class (get_or (front ++ near) i 0)) d (map says.class m) ≡ true) ⊎ (none_before ⊎ none_behind)) at_y.class_is
                 (subst (λ c. (one_way c y.class (map says.class m) ≡ true) ⊎ (none_before ⊎ none_behind)) class-x
-                (out (map says.class m) (bare-way says way m whole))),
+                (out (map says.class m) (bare-direction says direction m whole))),
           )
 
       cut-between : HasNoFormatting says (old_text (edit_of t)) → IsCutBetween says (edit_of t) i y.index
@@ -100,7 +100,7 @@ module _ (says : Data) (t : TextEdit) (x : Strong) (at_x : IsStrongIn says t.nea
         strong_before = strong-x;
         strong_behind = strong-y;
         old_unformatted = old;
-        new_unformatted = bare-unformatted says way (chars t.inserted.now) bare.inserted_is;
+        new_unformatted = bare-unformatted says direction (chars t.inserted.now) bare.inserted_is;
         old_safe = safe (chars t.removed.now) bare.removed_is;
         new_safe = safe (chars t.inserted.now) bare.inserted_is;
       }
@@ -133,13 +133,13 @@ module _ (says : Data) (t : TextEdit) (x : Strong) (at_x : IsStrongIn says t.nea
         → last ≡ length front + (length near + (length (chars t.removed.now) + (y.index + 1)))
         → FollowsBetween says (chars text) i last was now → IsCutOffEdit says t x y → FollowsEdit says t was now
     follows-within was now last text un ui e l law (inl bare) =
-        follows-by (way_between x.class y.class) bare (λ m pass. inl (of-one-way x.class y.class m at_x.strong at_y.strong pass)) was now last text un ui e l law
+        follows-by (direction_between x.class y.class) bare (λ m pass. inl (of-one-way x.class y.class m at_x.strong at_y.strong pass)) was now last text un ui e l law
     follows-within was now last text un ui e l law (inr cut) =
         follows-by Either cut.0 (λ m pass. out-open un cut.1 m) was now last text un ui e l law
 
     -- the inserted text has no formatting characters
     pub cut-unformatted : IsCutOffEdit says t x y → HasNoFormatting says (chars t.inserted.now)
-    cut-unformatted (inl bare) = bare-unformatted says (way_between x.class y.class) (chars t.inserted.now) bare.inserted_is
+    cut-unformatted (inl bare) = bare-unformatted says (direction_between x.class y.class) (chars t.inserted.now) bare.inserted_is
     cut-unformatted (inr cut) = bare-unformatted says Either (chars t.inserted.now) cut.0.inserted_is
 
   -- ---- up to the end of the text
@@ -175,8 +175,8 @@ module _ (says : Data) (t : TextEdit) (x : Strong) (at_x : IsStrongIn says t.nea
         law base (edit_of t) (cut-to-end old) (piece-to-end text un ui e) levels
 
 -- the same between equal texts
-pub bare-same : (says : Data) (way other : Way) (t : TextEdit) (left left_is right right_is : List ℕ) → way ≡ other
-    → left ≡ left_is → right ≡ right_is → IsBareEdit says way t left right → IsBareEdit says other t left_is right_is
-bare-same says way other t left left_is right right_is e f h bare =
+pub bare-same : (says : Data) (direction other : Direction) (t : TextEdit) (left left_is right right_is : List ℕ) → direction ≡ other
+    → left ≡ left_is → right ≡ right_is → IsBareEdit says direction t left right → IsBareEdit says other t left_is right_is
+bare-same says direction other t left left_is right right_is e f h bare =
     subst (λ y. IsBareEdit says y t left_is right_is) e
-    (subst (λ xs. IsBareEdit says way t xs right_is) f (subst (λ xs. IsBareEdit says way t left xs) h bare))
+    (subst (λ xs. IsBareEdit says direction t xs right_is) f (subst (λ xs. IsBareEdit says direction t left xs) h bare))

@@ -25,10 +25,10 @@ use Rattle.bx_rows.specs.declared.start_search.RowStart.{RowStart}
 use Rattle.bx_rows.specs.RowStarts.{start_of}
 use Rattle.bx_rows.specs.Wrapping.{wrap}
 use Rattle.bx_cells.specs.Units.{units}
-use Rattle.bx_paragraph.specs.Cuts.{FollowsEdit, IsCounted, IsEditOf, edit_of, is_of_way}
+use Rattle.bx_paragraph.specs.Cuts.{FollowsEdit, IsCounted, IsEditOf, edit_of, is_of_direction}
 use Rattle.bx_paragraph.specs.Layout.{IsLayoutBy, LayoutState}
 use Rattle.bx_paragraph.specs.declared.text_edit.TextEdit.{TextEdit}
-use Rattle.bx_paragraph.specs.declared.way.Way.TheVariants.{Either}
+use Rattle.bx_paragraph.specs.declared.direction.Direction.TheVariants.{Either}
 use Rattle.bx_paragraph.proofs.Bare.{plain-append}
 
 -- ---- the parts of a body
@@ -119,13 +119,13 @@ module _ (old new : List ℕ) (t : TextEdit) (e : IsEditOf old new t) where
         (plain-append says front (chars t.inserted.now ++ behind) (pass_each is_unformatted (map says.class front) before)
         (plain-append says (chars t.inserted.now) behind k (pass_each is_unformatted (map says.class behind) after)))
 
-plain-each : (says : Data) (cs : List ℕ) → list_all (λ c. is_of_way Either (says.class c)) cs ≡ true → Each is_unformatted (map says.class cs)
+plain-each : (says : Data) (cs : List ℕ) → list_all (λ c. is_of_direction Either (says.class c)) cs ≡ true → Each is_unformatted (map says.class cs)
 plain-each says [] h = tt
 plain-each says (c ∷ cs) h =
-    let p = and_parts (is_of_way Either (says.class c)) (list_all (λ c. is_of_way Either (says.class c)) cs) h in (p.0, plain-each says cs p.1)
+    let p = and_parts (is_of_direction Either (says.class c)) (list_all (λ c. is_of_direction Either (says.class c)) cs) h in (p.0, plain-each says cs p.1)
 
 -- a text that passes the test has none
-pub plain-if : (says : Data) (cs : List ℕ) → list_all (λ c. is_of_way Either (says.class c)) cs ≡ true → HasNoFormatting says cs
+pub plain-if : (says : Data) (cs : List ℕ) → list_all (λ c. is_of_direction Either (says.class c)) cs ≡ true → HasNoFormatting says cs
 plain-if says cs h = pass_each is_unformatted (map says.class cs) (plain-each says cs h)
 
 -- ---- rows

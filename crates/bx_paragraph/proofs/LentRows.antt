@@ -1,4 +1,4 @@
--- The rows of a layout that is lent.
+-- The rows of the lines that a layout lends are the layout's rows.
 use Rattle.std.proofs.Common.{◌≡◌, ◌+◌, ◌++◌, ◌∷◌, ◌∙◌, ◌<◌, ◌==◌, ℕ, Bool, true, false, List, [], length, refl}
 use Rattle.std.specs.Prelude.{map}
 use Rattle.bx_ucd.specs.declared.data.BidiData.{Ghosts}
@@ -15,7 +15,7 @@ use Rattle.bx_paragraph.proofs.LayoutRows.{glyphs-are, offsets-are, row-is, unit
 
 module _ {D : Type 0} {g : Ghosts D} (l : LayoutState) (t : D) (s : Lines D g) (k : ℕ) (lent : IsLent l t s)
     (is : IsLayoutBy (g.data t) l) (within : k < length l.starts) where
-  -- what row `k` shows
+  -- row `k` has the same glyphs
   pub lent_glyphs : glyphs_at s k ≡ row_glyphs (g.data t) l.w (row_by (g.data t) l k)
   lent_glyphs =
       let same : glyphs_at s k ≡ draw_numbered (g.data t) l.w l.body l.paragraph l.each k
@@ -28,7 +28,7 @@ module _ {D : Type 0} {g : Ghosts D} (l : LayoutState) (t : D) (s : Lines D g) (
   lent_levels : (us : List Unit) → levels_of s us ≡ row_levels (g.data t) l.body l.paragraph l.each us
   lent_levels us = rw (lent.tables_are, lent.body_is, lent.paragraph_is, lent.each_is) refl
 
-  -- its units and their levels
+  -- it is the same row, with its units and their levels
   pub lent_row : (us : List Unit) (levels : List ℕ) (is_last : Bool) → us ≡ units_at s k → levels ≡ levels_of s us
       → is_last ≡ (k + 1 == length l.starts)
       → record { body = l.body; paragraph = l.paragraph; units = us; levels = levels; is_last = is_last } ≡ row_by (g.data t) l k
@@ -36,7 +36,7 @@ module _ {D : Type 0} {g : Ghosts D} (l : LayoutState) (t : D) (s : Lines D g) (
       row-is l (g.data t) k us levels is_last is within (units ∙ lent_units ∙ units-of-row (g.data t) l.w l.body k)
       (each ∙ lent_levels us) last
 
-  -- the offsets of its places
+  -- its places have the same offsets
   pub lent_offsets : (us : List Unit) (is_last : Bool) (offsets : List ℕ) → us ≡ units_at s k → is_last ≡ (k + 1 == length l.starts)
       → offsets ≡ map (λ (u : Unit). u.start) us ++ elim is_last [ true ↦ length l.body ∷ [] | false ↦ [] ]
       → offsets ≡ offsets_of (row_by (g.data t) l k)

@@ -14,8 +14,8 @@ use Rattle.bx_resolve.specs.Edited.{AreLevelsOf, Edit, HasNoFormatting, is_liste
 use Rattle.bx_resolve.specs.Uniform.{is_from_right, is_plain, is_unformatted}
 use Rattle.bx_rows.specs.declared.start_search.RowStart.{RowStart}
 use Rattle.bx_paragraph.specs.declared.strong.Strong.{Strong}
-use Rattle.bx_paragraph.specs.declared.way.Way.{Way}
-use Rattle.bx_paragraph.specs.declared.way.Way.TheVariants.{Either, FromLeft, FromRight}
+use Rattle.bx_paragraph.specs.declared.direction.Direction.{Direction}
+use Rattle.bx_paragraph.specs.declared.direction.Direction.TheVariants.{Either, LeftToRight, RightToLeft}
 use Rattle.bx_paragraph.specs.declared.text_edit.TextEdit.{TextEdit}
 
 -- a strong character of a text
@@ -26,37 +26,37 @@ pub record IsStrongIn (says : Data) (text : List ℕ) (s : Strong) : Type 0 wher
   pub start : IsOffset text s.index s.start
   pub stop : IsOffset text (s.index + 1) s.stop
 
--- a class of a way; the classes of a direction leave a text of that direction as it is
-abbrev pub is_of_way : Way → Class → Bool
-is_of_way Either c = is_unformatted c
-is_of_way FromLeft c = is_plain c
-is_of_way FromRight c = is_from_right c
+-- a class that a text of a direction may have; left-to-right text stays so with its classes, right-to-left text likewise
+abbrev pub is_of_direction : Direction → Class → Bool
+is_of_direction Either c = is_unformatted c
+is_of_direction LeftToRight c = is_plain c
+is_of_direction RightToLeft c = is_from_right c
 
--- the way between two strong characters: theirs, if they have the same
-abbrev pub way_between : Class → Class → Way
-way_between L L = FromLeft
-way_between L _ = Either
-way_between _ L = Either
-way_between _ _ = FromRight
+-- the direction between two strong characters: theirs, if they have the same
+abbrev pub direction_between : Class → Class → Direction
+direction_between L L = LeftToRight
+direction_between L _ = Either
+direction_between _ L = Either
+direction_between _ _ = RightToLeft
 
--- a character of a way that is no bracket
-abbrev pub is_bare : Data → Way → ℕ → Bool
-is_bare says way c = is_of_way way (says.class c) && not (is_listed says c)
+-- a character that a text of a direction may have, and that is no bracket
+abbrev pub is_bare : Data → Direction → ℕ → Bool
+is_bare says direction c = is_of_direction direction (says.class c) && not (is_listed says c)
 
 -- all characters of a text are bare
-abbrev pub are_bare : Data → Way → List ℕ → Bool
-are_bare says way text = list_all (is_bare says way) (chars text)
+abbrev pub are_bare : Data → Direction → List ℕ → Bool
+are_bare says direction text = list_all (is_bare says direction) (chars text)
 
 -- no character of a text is a formatting character
 abbrev pub are_unformatted : Data → List ℕ → Bool
-are_unformatted says text = list_all (λ c. is_of_way Either (says.class c)) (chars text)
+are_unformatted says text = list_all (λ c. is_of_direction Either (says.class c)) (chars text)
 
 -- an edit between two texts; all characters of its own texts and of these are bare
-pub record IsBareEdit (says : Data) (way : Way) (t : TextEdit) (left right : List ℕ) : Type 0 where
-  pub left_is : are_bare says way left ≡ true
-  pub removed_is : are_bare says way t.removed.now ≡ true
-  pub inserted_is : are_bare says way t.inserted.now ≡ true
-  pub right_is : are_bare says way right ≡ true
+pub record IsBareEdit (says : Data) (direction : Direction) (t : TextEdit) (left right : List ℕ) : Type 0 where
+  pub left_is : are_bare says direction left ≡ true
+  pub removed_is : are_bare says direction t.removed.now ≡ true
+  pub inserted_is : are_bare says direction t.inserted.now ≡ true
+  pub right_is : are_bare says direction right ≡ true
 
 -- no character of a text is a bracket
 abbrev pub has_no_bracket : Data → List ℕ → Bool
@@ -67,9 +67,9 @@ abbrev pub IsOpenEdit : Data → TextEdit → Strong → Strong → Type 0
 IsOpenEdit says t x y = ((has_no_bracket says t.front.now ≡ true) × (has_no_bracket says (take x.start t.near.now) ≡ true))
     ⊎ (has_no_bracket says (drop y.stop t.behind.now) ≡ true)
 
--- all characters between these two are of their way, or of any way if one side outside them has no brackets
+-- all characters between these two are of their direction, or of either direction if one side outside them has no brackets
 abbrev pub IsCutOffEdit : Data → TextEdit → Strong → Strong → Type 0
-IsCutOffEdit says t x y = IsBareEdit says (way_between x.class y.class) t (drop x.stop t.near.now) (take y.start t.behind.now)
+IsCutOffEdit says t x y = IsBareEdit says (direction_between x.class y.class) t (drop x.stop t.near.now) (take y.start t.behind.now)
     ⊎ (IsBareEdit says Either t (drop x.stop t.near.now) (take y.start t.behind.now) × IsOpenEdit says t x y)
 
 -- the edit's characters

@@ -2,37 +2,16 @@
 ghost use Rattle.std.specs.Prelude.{◌≡◌, ◌<◌, ◌++◌, ◌∷◌, [], true, false, IfOk, length, map};
 ghost use Rattle.bx_paragraph.specs.BodyRows.{last_of, offsets_of};
 ghost use Rattle.bx_paragraph.specs.Layout.{IsLayoutBy, row_by};
-ghost use Rattle.bx_paragraph.specs.Slots.{beside, covering, entry, opposite, or_else};
-ghost use Rattle.bx_paragraph.specs.Slots.{reading_end, reading_side, reading_start, slot_offsets, toward};
+ghost use Rattle.bx_paragraph.specs.Slots.{beside, covering, entry, or_else};
+ghost use Rattle.bx_paragraph.specs.Slots.{reading_end, reading_start, slot_offsets, toward};
 
 use crate::layout::ParagraphLayout;
-use crate::moves::Visual;
+use crate::moves::{Visual, opposite, reading_side};
 use crate::reading::{covering_in, first_in, last_offset, next_in, offsets_toward};
 use bx_cells::Unit;
 use bx_terms::OutOfMemory;
 use bx_ucd::BidiData;
 use std::alloc::{AllocError, Global};
-
-/// The reading direction of a paragraph of a level.
-fn reading_side(level: u8) -> Visual
-    ensures { result ≡ reading_side level }
-{
-    if level % 2 == 0 {
-        Visual::Right
-    } else {
-        Visual::Left
-    }
-}
-
-/// The other side.
-fn opposite(side: Visual) -> Visual
-    ensures { result ≡ opposite side }
-{
-    match side {
-        Visual::Left => Visual::Right,
-        Visual::Right => Visual::Left,
-    }
-}
 
 /// The start of each unit.
 fn unit_offsets(alloc: Global, units: &[Unit]) -> Result<Vec<usize>, AllocError>

@@ -2,29 +2,29 @@
 ghost use Rattle.std.specs.Prelude.{◌≡◌, true, take};
 ghost use Rattle.bx_paragraph.specs.Cuts.{are_bare, has_no_bracket, IsBareEdit, IsCutOffEdit, IsOpenEdit, IsStrongIn};
 
+use crate::direction::{Direction, are_bare, direction_between, has_no_bracket};
 use crate::strong::Strong;
 use crate::text_edit::TextEdit;
-use crate::way::{Way, are_bare, has_no_bracket, way_between};
 use bx_ucd::BidiData;
 
-/// Whether the edit's texts and those on either side of it, up to the strong characters, are of one way and have no
+/// Whether the edit's texts and those on either side of it, up to the strong characters, are of one direction and have no
 /// brackets.
 pub(crate) fn is_bare_edit<D: BidiData>(
     edit: &TextEdit<'_>,
     left: &str,
     right: &str,
-    way: Way,
+    direction: Direction,
     tables: &D,
 ) -> bool
-    ensures { result ≡ true → IsBareEdit (D.data tables.now) way edit.now left.now right.now }
+    ensures { result ≡ true → IsBareEdit (D.data tables.now) direction edit.now left.now right.now }
 {
-    if !are_bare(left, way, tables) || !are_bare(right, way, tables) {
+    if !are_bare(left, direction, tables) || !are_bare(right, direction, tables) {
         return false;
     }
-    if !are_bare(edit.removed, way, tables) {
+    if !are_bare(edit.removed, direction, tables) {
         return false;
     }
-    are_bare(edit.inserted, way, tables)
+    are_bare(edit.inserted, direction, tables)
 }
 
 /// Whether no bracket precedes the strong character before an edit.
@@ -54,8 +54,8 @@ fn is_open<D: BidiData>(edit: &TextEdit<'_>, before: Strong, behind: Strong, tab
     is_open_before(edit, before, tables)
 }
 
-/// Whether the strong characters on its sides cut off an edit: all characters between them are of their way, or of any way
-/// if no bracket pair can enclose both.
+/// Whether the strong characters on its sides cut off an edit: all characters between them are of their direction, or of
+/// either direction if no bracket pair can enclose both.
 pub(crate) fn is_cut_off<D: BidiData>(
     edit: &TextEdit<'_>,
     before: Strong,
@@ -68,11 +68,11 @@ pub(crate) fn is_cut_off<D: BidiData>(
 {
     let left = &edit.near[before.stop..];
     let right = &edit.behind[..behind.start];
-    let way = way_between(before.class, behind.class);
-    if is_bare_edit(edit, left, right, way, tables) {
+    let direction = direction_between(before.class, behind.class);
+    if is_bare_edit(edit, left, right, direction, tables) {
         return true;
     }
-    if !is_bare_edit(edit, left, right, Way::Either, tables) {
+    if !is_bare_edit(edit, left, right, Direction::Either, tables) {
         return false;
     }
     is_open(edit, before, behind, tables)

@@ -1,61 +1,60 @@
 //! The characters allowed between two strong characters that cut off an edit.
 ghost use Rattle.std.specs.Prelude.{◌≡◌, chars, not};
 ghost use Rattle.bx_resolve.specs.Edited.{is_listed};
-ghost use Rattle.bx_paragraph.specs.Cuts.{are_bare, are_unformatted, has_no_bracket, is_bare, is_of_way, way_between};
-ghost use Rattle.bx_paragraph.specs.declared.way.Way.TheVariants.{Either};
+ghost use Rattle.bx_paragraph.specs.Cuts.{are_bare, are_unformatted, direction_between, has_no_bracket, is_bare, is_of_direction};
+ghost use Rattle.bx_paragraph.specs.declared.direction.Direction.TheVariants.{Either};
 
 use bx_ucd::{BidiData, Class};
 
-/// The characters allowed in a text: all but formatting characters, or only those that leave a text of one direction as
-/// it is.
+/// The characters that a text may have: all but formatting characters, or only those that keep a text in one direction.
 #[derive(Clone, Copy, PartialEq, Eq, Debug)]
-pub(crate) enum Way {
+pub(crate) enum Direction {
     Either,
-    FromLeft,
-    FromRight,
+    LeftToRight,
+    RightToLeft,
 }
 
-/// The way between two strong characters, by their classes.
-pub(crate) fn way_between(before: Class, behind: Class) -> Way
-    ensures { result ≡ way_between before behind }
+/// The direction between two strong characters, by their classes.
+pub(crate) fn direction_between(before: Class, behind: Class) -> Direction
+    ensures { result ≡ direction_between before behind }
 {
     match before {
         Class::L => match behind {
-            Class::L => Way::FromLeft,
-            _ => Way::Either,
+            Class::L => Direction::LeftToRight,
+            _ => Direction::Either,
         },
         _ => match behind {
-            Class::L => Way::Either,
-            _ => Way::FromRight,
+            Class::L => Direction::Either,
+            _ => Direction::RightToLeft,
         },
     }
 }
 
-/// Whether a class is of a way.
-fn is_of_way(way: Way, class: Class) -> bool
-    ensures { result ≡ is_of_way way class }
+/// Whether a text of a direction may have characters of a class.
+fn is_of_direction(direction: Direction, class: Class) -> bool
+    ensures { result ≡ is_of_direction direction class }
 {
     match class {
         Class::EN | Class::ES | Class::ET | Class::CS | Class::NSM => true,
         Class::B | Class::S | Class::WS | Class::ON => true,
-        Class::L => way != Way::FromRight,
-        Class::R | Class::AL | Class::AN => way != Way::FromLeft,
+        Class::L => direction != Direction::RightToLeft,
+        Class::R | Class::AL | Class::AN => direction != Direction::LeftToRight,
         _ => false,
     }
 }
 
-/// Whether a character is of a way and no bracket.
-fn is_bare<D: BidiData>(c: char, way: Way, tables: &D) -> bool
-    ensures { result ≡ is_bare (D.data tables.now) way c }
+/// Whether a text of a direction may have a character, and it is no bracket.
+fn is_bare<D: BidiData>(c: char, direction: Direction, tables: &D) -> bool
+    ensures { result ≡ is_bare (D.data tables.now) direction c }
 {
-    is_of_way(way, tables.class(c)) && tables.bracket(c).is_none()
+    is_of_direction(direction, tables.class(c)) && tables.bracket(c).is_none()
 }
 
-/// Whether all characters of a text are of a way, and none is a bracket.
-pub(crate) fn are_bare<D: BidiData>(text: &str, way: Way, tables: &D) -> bool
-    ensures { result ≡ are_bare (D.data tables.now) way text.now }
+/// Whether a text is of a direction and has no brackets.
+pub(crate) fn are_bare<D: BidiData>(text: &str, direction: Direction, tables: &D) -> bool
+    ensures { result ≡ are_bare (D.data tables.now) direction text.now }
 {
-    text.chars().all(|c| is_bare(c, way, tables))
+    text.chars().all(|c| is_bare(c, direction, tables))
 }
 
 /// Whether a character is no bracket.
@@ -74,9 +73,9 @@ pub(crate) fn has_no_bracket<D: BidiData>(text: &str, tables: &D) -> bool
 
 /// Whether a character is no formatting character.
 fn is_unformatted<D: BidiData>(c: char, tables: &D) -> bool
-    ensures { result ≡ is_of_way Either ((D.data tables.now).class c) }
+    ensures { result ≡ is_of_direction Either ((D.data tables.now).class c) }
 {
-    is_of_way(Way::Either, tables.class(c))
+    is_of_direction(Direction::Either, tables.class(c))
 }
 
 /// Whether a text has no formatting characters.

@@ -8,11 +8,11 @@ ghost use Rattle.bx_paragraph.specs.Cuts.{AreAsBefore, IsCounted, IsEditOf};
 ghost use Rattle.bx_paragraph.specs.Layout.{IsLayoutBy};
 
 use crate::body_edit::{BodyEdit, changed_from};
+use crate::direction::are_unformatted;
 use crate::edited_rows::edited_starts;
 use crate::in_place::{make_room, replace};
 use crate::layout::{ParagraphLayout, starts_up_to};
 use crate::text_edit::{TextEdit, follow};
-use crate::way::are_unformatted;
 use bx_resolve::Levels;
 use bx_rows::RowStart;
 use bx_terms::{Base, OutOfMemory};

@@ -17,7 +17,7 @@ use crate::row_parts::RowParts;
 use crate::slot::Slot;
 use crate::slots::row_slots;
 use bx_resolve::{Levels, levels};
-use bx_rows::{Lines, RowPicture, RowStart, row_starts};
+use bx_rows::{LeveledRow, Lines, RowPicture, RowStart, row_starts};
 use bx_terms::{Base, OutOfMemory};
 use bx_ucd::BidiData;
 use std::alloc::Global;
@@ -173,7 +173,7 @@ impl ParagraphLayout {
         self.starts[row].units
     }
 
-    /// Its body with its rows and its levels, and the tables that it is laid out by.
+    /// Lends the body with its row starts and levels, to read rows by the tables that they were computed from.
     pub(crate) fn lines<'t, D: BidiData>(&self, tables: &'t D) -> Lines<'_, 't, D>
         requires { IsLayoutBy (D.data tables.now) self.now }
         ensures { IsLent self.now tables.now result }
@@ -216,15 +216,13 @@ impl ParagraphLayout {
         requires levels { length parts.now.levels.items ≡ length parts.now.units.items }
         ensures { IfOk result (λ v. v.items ≡ row_slots self.now.w (row_of_parts self.now parts.now)) }
     {
-        let slots = row_slots(
-            *parts.units.allocator(),
-            self.body(),
-            &parts.units,
-            &parts.levels,
-            self.level(),
-            parts.is_last,
-            self.width(),
-        )?;
+        let alloc = *parts.units.allocator();
+        let row = LeveledRow {
+            units: &parts.units,
+            levels: &parts.levels,
+            paragraph: self.level(),
+        };
+        let slots = row_slots(alloc, self.body(), &row, parts.is_last, self.width())?;
         Ok(slots)
     }
 

@@ -6,6 +6,7 @@
 mod body_edit;
 mod cursor;
 mod cut_off;
+mod direction;
 mod edited;
 mod edited_rows;
 mod in_place;
@@ -20,10 +21,9 @@ mod slots;
 mod standing;
 mod strong;
 mod text_edit;
-mod way;
 
 pub use laws::rows_before_stay;
 pub use layout::ParagraphLayout;
-pub use moves::Visual;
+pub use moves::{Visual, reading_side};
 pub use slot::Slot;
 pub use standing::Standing;

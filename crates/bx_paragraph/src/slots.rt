@@ -2,11 +2,12 @@
 ghost use Rattle.std.specs.Prelude.{◌≡◌, ◌≤◌, ◌<◌, ◌+◌, ◌++◌, ◌∷◌, [], true, false, All, IfOk, OnOk, length, map};
 ghost use Rattle.bx_terms.specs.Sizes.{is_side, largest_side};
 ghost use Rattle.bx_rows.specs.RowPicture.{columns_used};
+ghost use Rattle.bx_paragraph.specs.RowParts.{body_row};
 ghost use Rattle.bx_paragraph.specs.Slots.{columns_of, extent_of, row_slots, side_by_side};
 
 use crate::slot::Slot;
 use bx_cells::Unit;
-use bx_rows::{unit_columns, visual};
+use bx_rows::{LeveledRow, unit_columns, visual};
 use bx_terms::OutOfMemory;
 use std::alloc::{AllocError, Global};
 
@@ -61,27 +62,25 @@ fn push_end(
 pub(crate) fn row_slots(
     alloc: Global,
     body: &str,
-    units: &[Unit],
-    levels: &[u8],
-    paragraph: u8,
+    row: &LeveledRow<'_>,
     is_last: bool,
     w: u16,
 ) -> Result<Vec<Slot>, OutOfMemory>
     requires side { is_side w ≡ true }
-    requires fits { columns_used w units.now ≤ w }
-    requires levels { length levels.now ≡ length units.now }
-    ensures { IfOk result (λ v. v.items
-        ≡ row_slots w (record { body = body.now; paragraph = paragraph; units = units.now; levels = levels.now; is_last = is_last })) }
+    requires fits { columns_used w row.now.units.now ≤ w }
+    requires levels { length row.now.levels.now ≡ length row.now.units.now }
+    ensures { IfOk result (λ v. v.items ≡ row_slots w (body_row body.now row.now is_last)) }
 {
-    let (columns, used) = unit_columns(alloc, units, w)?;
-    let order = visual(alloc, levels)?;
-    let mut slots = Vec::with_capacity(alloc, units.len() + 1)?;
+    let paragraph = row.paragraph;
+    let (columns, used) = unit_columns(alloc, row.units, w)?;
+    let order = visual(alloc, row.levels)?;
+    let mut slots = Vec::with_capacity(alloc, row.units.len() + 1)?;
     if paragraph % 2 == 0 {
-        push_units(&mut slots, units, &columns, &order, 1)?;
+        push_units(&mut slots, row.units, &columns, &order, 1)?;
         push_end(&mut slots, is_last, body.len(), (used + 1).min(w))?;
         return Ok(slots);
     }
     push_end(&mut slots, is_last, body.len(), (w - used).max(1))?;
-    push_units(&mut slots, units, &columns, &order, w - used + 1)?;
+    push_units(&mut slots, row.units, &columns, &order, w - used + 1)?;
     Ok(slots)
 }

@@ -4,9 +4,10 @@ ghost use Rattle.bx_resolve.specs.Edited.{HasNoFormatting};
 ghost use Rattle.bx_paragraph.specs.Cuts.{AreAsBefore, FollowsEdit, IsStrongIn};
 
 use crate::cut_off::{is_bare_edit, is_cut_off};
+use crate::direction::Direction;
 use crate::strong::{Strong, first_strong, last_strong};
-use crate::way::Way;
 use bx_resolve::{Levels, Span, follow_between, follow_to_end};
+use bx_rows::char_count;
 use bx_terms::OutOfMemory;
 use bx_ucd::BidiData;
 use std::alloc::{AllocError, Global};
@@ -38,13 +39,6 @@ pub(crate) fn joined(
     text.push_str(middle)?;
     text.push_str(last)?;
     Ok(text)
-}
-
-/// The number of a text's characters.
-fn char_count(text: &str) -> usize
-    ensures { result ≡ length (chars text.now) }
-{
-    text.chars().count()
 }
 
 /// Updates levels for an edit between two strong characters. Returns false, and changes nothing, if they do not cut it off.
@@ -97,7 +91,7 @@ fn follow_behind<D: BidiData>(
     ensures err { OnErr result (AreAsBefore levels.old levels.new) }
 {
     let left = &edit.near[before.stop..];
-    if !is_bare_edit(edit, left, edit.behind, Way::Either, tables) {
+    if !is_bare_edit(edit, left, edit.behind, Direction::Either, tables) {
         return Ok(false);
     }
     let alloc = *levels.each.allocator();

@@ -1,6 +1,6 @@
 use Rattle.std.proofs.Common.{◌≡◌, ◌+◌, ◌++◌, ◌∙◌, true, chars, ap, refl, rules}
 use Rattle.std.specs.Str.{IsUtf8}
-use Rattle.bx_paragraph.specs.declared.way.Way.TheVariants.{Either}
+use Rattle.bx_paragraph.specs.declared.direction.Direction.TheVariants.{Either}
 use Rattle.bx_paragraph.proofs.Bare.{bare-unformatted}
 use Rattle.bx_paragraph.proofs.CutEdits.{bare-same, follows-behind}
 use Rattle.bx_paragraph.proofs.text_edit.follow_behind.Goals as goal
