@@ -14,7 +14,7 @@ use Rattle.bx_view.proofs.KeptPlaces.{text-places-kept}
 use Rattle.bx_view.proofs.Told.{side-some}
 use Rattle.bx_document.specs.Document.{DocumentState}
 
--- of a document that is `now`, and is opened as `inner`
+-- `inner` is the opened value of the document `now`
 module _ {D : Type 0} (says : D → Data) (inner now : DocumentState D) (same : inner ≡ now)
     (side : is_side inner.document.w ≡ true) (utf8 : IsUtf8 inner.document.content.text) where
   abbrev w : ℕ
