@@ -1,9 +1,7 @@
 -- The moves of a document lead from a place of its text to a place.
-use Rattle.std.proofs.Common.{◌≡◌, ℕ, true, List, Option, IsUtf8, sym, subst}
+use Rattle.std.proofs.Common.{◌≡◌, ℕ, true, List, IsUtf8, sym, subst}
 use Rattle.bx_terms.specs.Sizes.{is_side}
 use Rattle.bx_ucd.specs.Data.{Data}
-use Rattle.bx_ucd.specs.declared.class.Class.{Class}
-use Rattle.bx_ucd.specs.declared.data.Side.{Side}
 use Rattle.bx_view.specs.declared.moves.Move.{Move}
 use Rattle.bx_view.specs.declared.moves.Move.TheVariants as variants
 use Rattle.bx_view.specs.Laws.{MovesKeep}

@@ -1,5 +1,5 @@
 -- The places recorded with the edits of a text's past and future.
-use Rattle.std.specs.Prelude.{ℕ, All}
+use Rattle.std.specs.Prelude.{All}
 use Rattle.bx_ucd.specs.Data.{Data}
 use Rattle.bx_text.specs.Edits.{Edit, Edited}
 use Rattle.bx_view.specs.Places.{IsTextPlace}
