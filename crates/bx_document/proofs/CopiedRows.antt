@@ -9,7 +9,7 @@ use Rattle.bx_document.specs.Cache.{AreDrawnBy, DrawnRowState, HoldsRow, IsDrawn
 use Rattle.bx_ucd.specs.Data.{Data}
 use Rattle.bx_document.specs.Drawing.{body_row_columns, with_rows}
 
--- these are the columns of row `k` of a body, as many as the window has
+-- these are the columns of row `k` of a body, `w` of them
 pub record AreRowColumns (d : Data) (text : List ℕ) (direction : Base) (k w : ℕ) (columns : List Col) : Type 0 where
   pub are : columns ≡ numbered_row_columns d text direction k w
   pub wide : length columns ≡ w
@@ -25,7 +25,7 @@ is_row d text direction k w r by of = record {
   wide = of.width_is;
 }
 
--- those that are found
+-- the columns of a cached row
 found : (d : Data) (text : List ℕ) (direction : Base) (k w : ℕ) (rows : List DrawnRowState) (i : ℕ) (columns : List Col) → AreDrawnBy d rows
     → HoldsRow text direction k w rows i → HoldsAt (λ r. columns ≡ r.columns) rows i → AreRowColumns d text direction k w columns
 found d text direction k w rows i columns all h e =
@@ -33,7 +33,7 @@ found d text direction k w rows i columns all h e =
     let r = get_or rows i none in
     subst (AreRowColumns d text direction k w) (sym (e none)) (is_row d text direction k w r (all i none h.within) (h.is none))
 
--- a row that is kept anew
+-- a row to be cached
 kept_by : (d : Data) (text : List ℕ) (direction : Base) (k w : ℕ) (columns : List Col) → AreRowColumns d text direction k w columns
     → IsDrawnBy d (record { body = text; base = direction; number = k; columns = columns })
 kept_by d text direction k w columns h = record { columns_are = h.are ∙ ap (numbered_row_columns d text direction k) (sym h.wide) }
@@ -59,15 +59,15 @@ module _ (d : Data) (text : List ℕ) (direction base : Base) (k w width : ℕ) 
     same : columns ≡ body_row_columns d w r
     same = is.are ∙ sym numbered
 
-    -- the row is filled
+    -- the row fills the window
     pub found_fills : length (body_row_columns d w r) ≡ w
     found_fills = ap length (sym same) ∙ found_wide
 
-    -- the columns put are those of the row
+    -- the row's columns are put into the grid
     pub found_put : (old later : GridState) (row : ℕ) → later ≡ with_rows old row columns → later ≡ with_rows old row (body_row_columns d w r)
     found_put old later row step = step ∙ ap (with_rows old row) same
 
-  -- a row that was drawn anew is kept as it is
+  -- a newly drawn row can be cached
   pub drawn_kept : (new : List Col) → length new ≡ w → new ≡ body_row_columns d w r
       → IsDrawnBy d (record { body = text; base = base; number = k; columns = new })
   drawn_kept new fills e = kept_by d text base k width new (record { are = e ∙ numbered; wide = fills ∙ sym sized })

@@ -1,20 +1,20 @@
 -- The place after an edit, found in the touched paragraphs, is the document's place after it.
-use Rattle.std.proofs.Common.{◌≡◌, ℕ, ◌+◌, ◌-◌, ◌≤◌, true, List, ◌++◌, length, take, drop, Option, IsUtf8, IsCharBoundary, sym, ap, subst, ◌∙◌}
+use Rattle.std.proofs.Common.{◌≡◌, ℕ, ◌+◌, ◌-◌, ◌≤◌, true, List, ◌++◌, length, take, drop, IsUtf8, IsCharBoundary, sym, ap, subst, ◌∙◌}
 use Rattle.std.proofs.Common.{arith, length-append, length-drop}
 use Rattle.std.proofs.lemmas.Bool.Decides.{nat_tests}
 use Rattle.std.proofs.lemmas.List.{length-take-le}
 use Rattle.bx_terms.specs.Sizes.{is_side}
 use Rattle.bx_ucd.specs.Data.{Data}
-use Rattle.bx_ucd.specs.declared.class.Class.{Class}
-use Rattle.bx_ucd.specs.declared.data.Side.{Side}
 use Rattle.bx_terms.specs.declared.base.Base.{Base}
 use Rattle.bx_text.specs.Edits.{IsRange, fits, largest_text, splice}
 use Rattle.bx_view.specs.Moves.{place_from}
 use Rattle.bx_view.specs.Places.{IsTextPlace}
-use Rattle.bx_view.specs.TextRows.{text_rows}
+use Rattle.bx_view.specs.FoundRow.{rows_by}
+use Rattle.bx_view.specs.Holding.{Keeps, ViewState}
+use Rattle.bx_view.specs.TextRows.{TextRow, text_rows}
 use Rattle.bx_view.proofs.KeptPlaces.{text-places-kept}
 use Rattle.bx_view.proofs.TextPlaces.{place-between}
-use Rattle.bx_document.specs.Document.{DocumentState}
+use Rattle.bx_view.proofs.Told.{rows-kept, side-some}
 use Rattle.bx_document.specs.Touched.{touched, touched_start}
 use Rattle.bx_document.proofs.TouchedPlace.{splice_utf8, touched_place}
 
@@ -33,14 +33,14 @@ splice_bytes text start stop new range =
       range.in_order,
     )
 
--- an edit that fits makes no text too long
+-- a text is within the limit after an edit that fits
 pub splice_short : (text : List ℕ) (start stop : ℕ) (new : List ℕ) → IsRange text start stop → fits text start stop new ≡ true
     → length (splice text start stop new) ≤ largest_text
 splice_short text start stop new range e =
     let most : length text - (stop - start) + length new ≤ largest_text = grind (arith, nat_tests) in
     omega (arith, most, splice_bytes text start stop new range)
 
--- the place after an edit
+-- `o` is the place after an edit
 pub record IsBehind (says : Data) (base : Base) (w : ℕ) (text : List ℕ) (start stop : ℕ) (new : List ℕ)
     (o : ℕ) : Type 0 where
   pub place : o ≡ place_from (text_rows says base w (splice text start stop new)) (start + length new)
@@ -60,35 +60,18 @@ behind says base w text start stop new o side utf8 range new_utf8 is =
     let own : IsTextPlace says now o = subst (IsTextPlace says now) (sym is) kept in
     record { place = is; text_place = own; boundary = place-between says now o valid own }
 
--- found in the touched paragraphs
-pub found : (says : Data) (base : Base) (w : ℕ) (text : List ℕ) (start stop : ℕ) (new bytes : List ℕ)
-    (first offset place : ℕ) → is_side w ≡ true → IsUtf8 text → IsRange text start stop → IsUtf8 new → first ≡ touched_start says text start
-    → bytes ≡ touched says text start stop new → offset ≡ start - first + length new → place ≡ place_from (text_rows says base w bytes) offset
-    → IsBehind says base w text start stop new (first + place)
-found says base w text start stop new bytes first offset place side utf8 range new_utf8 a b e f =
-    let some : 1 ≤ w = grind (arith, nat_tests) in
+-- it is found in the touched paragraphs, by a layout that held other paragraphs before
+pub found : (says : Data) (old v : ViewState) (text : List ℕ) (start stop : ℕ) (new bytes : List ℕ) (first offset place : ℕ) → Keeps says old v
+    → is_side old.w ≡ true → IsUtf8 text → IsRange text start stop → IsUtf8 new → first ≡ touched_start says text start
+    → bytes ≡ touched says text start stop new → offset ≡ start - first + length new → place ≡ place_from (rows_by says v bytes) offset
+    → IsBehind says old.base old.w text start stop new (first + place)
+found says old v text start stop new bytes first offset place keeps side utf8 range new_utf8 a b e f =
+    let some : 1 ≤ old.w = side-some old.w side in
+    let rows : List ℕ → List TextRow = rows_by says old in
     let same : offset ≡ start - touched_start says text start + length new = omega (arith, e, a) in
-    let is : first + place ≡ place_from (text_rows says base w (splice text start stop new)) (start + length new) =
+    let is : first + place ≡ place_from (rows (splice text start stop new)) (start + length new) =
     ap (λ n. n + place) a ∙ ap (λ n. touched_start says text start + n)
-    (f ∙ ap (λ bs. place_from (text_rows says base w bs) offset) b
-    ∙ ap (place_from (text_rows says base w (touched says text start stop new))) same)
-    ∙ sym (touched_place says text utf8 start stop new range new_utf8 base w some) in
-    behind says base w text start stop new (first + place) side utf8 range new_utf8 is
-
--- and as a document says it
-pub behind_by : {D : Type 0} (says : D → Data) (inner now : DocumentState D) (start stop : ℕ)
-    (new : List ℕ) (o : ℕ) (base : Base) (w : ℕ) → inner ≡ now → is_side inner.document.w ≡ true → IsUtf8 inner.document.content.text
-    → IsRange now.document.content.text start stop → IsUtf8 new → base ≡ inner.document.base → w ≡ inner.document.w
-    → o ≡ place_from (text_rows (says inner.tables) base w (splice inner.document.content.text start stop new))
-    (start + length new)
-    → IsBehind (says now.tables) now.document.base now.document.w now.document.content.text start stop new o
-behind_by {D} says inner now start stop new o base w same side utf8 range new_utf8 same_base same_w is =
-    let by : Data = says inner.tables in
-    let text = inner.document.content.text in
-    let own : o ≡ place_from (text_rows by inner.document.base inner.document.w (splice text start stop new)) (start + length new) =
-    is ∙ ap (λ based. place_from (text_rows by based w (splice text start stop new)) (start + length new)) same_base
-    ∙ ap (λ n. place_from (text_rows by inner.document.base n (splice text start stop new)) (start + length new)) same_w in
-    subst (λ (s : DocumentState D).
-    IsBehind (says s.tables) s.document.base s.document.w s.document.content.text start stop new o) same
-    (behind by inner.document.base inner.document.w text start stop new o side utf8
-    (subst (λ (s : DocumentState D). IsRange s.document.content.text start stop) (sym same) range) new_utf8 own)
+    (f ∙ ap (λ rs. place_from rs offset) (rows-kept says old v bytes keeps) ∙ ap (λ bs. place_from (rows bs) offset) b
+    ∙ ap (place_from (rows (touched says text start stop new))) same)
+    ∙ sym (touched_place says text utf8 start stop new range new_utf8 old.base old.w some) in
+    behind says old.base old.w text start stop new (first + place) side utf8 range new_utf8 is

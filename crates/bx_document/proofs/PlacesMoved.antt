@@ -1,9 +1,7 @@
 -- The moves of a document lead from a place of its text to a place.
-use Rattle.std.proofs.Common.{◌≡◌, ℕ, true, List, Option, IsUtf8, sym, subst}
+use Rattle.std.proofs.Common.{◌≡◌, ℕ, true, List, IsUtf8, sym, subst}
 use Rattle.bx_terms.specs.Sizes.{is_side}
 use Rattle.bx_ucd.specs.Data.{Data}
-use Rattle.bx_ucd.specs.declared.class.Class.{Class}
-use Rattle.bx_ucd.specs.declared.data.Side.{Side}
 use Rattle.bx_view.specs.declared.moves.Move.{Move}
 use Rattle.bx_view.specs.declared.moves.Move.TheVariants as variants
 use Rattle.bx_view.specs.Laws.{MovesKeep}
@@ -14,7 +12,7 @@ use Rattle.bx_view.proofs.KeptPlaces.{text-places-kept}
 use Rattle.bx_view.proofs.Told.{side-some}
 use Rattle.bx_document.specs.Document.{DocumentState}
 
--- of a document that is `now`, and is opened as `inner`
+-- `inner` is the opened value of the document `now`
 module _ {D : Type 0} (says : D → Data) (inner now : DocumentState D) (same : inner ≡ now)
     (side : is_side inner.document.w ≡ true) (utf8 : IsUtf8 inner.document.content.text) where
   abbrev w : ℕ

@@ -1,11 +1,11 @@
 -- Columns put one after another into a row of blanks.
-use Rattle.std.proofs.Common.{◌≡◌, ℕ, ◌+◌, ◌-◌, ◌*◌, ◌≤◌, List, [], ◌++◌, length, replicate, ap, ◌∙◌, length-append, arith}
+use Rattle.std.proofs.Common.{◌≡◌, ℕ, ◌+◌, ◌-◌, ◌*◌, ◌≤◌, List, ◌++◌, length, replicate, ap, ◌∙◌, length-append, arith}
 use Rattle.std.proofs.lemmas.List.{append-nil}
 use Rattle.bx_grid.specs.Columns.{Col, blank, paste}
 use Rattle.bx_grid.specs.Picture.{GridState, HasRoom, IsWithin}
 use Rattle.bx_grid.proofs.Laid.{blank_next, laid_next}
 
--- a grid of one row, which begins with these columns and goes on with blanks
+-- a grid of one row: these columns, then blanks
 abbrev pub one_row : ℕ → List Col → GridState
 one_row w done = record { height = 1; width = w; columns = done ++ replicate (w - length done) blank }
 
@@ -41,7 +41,7 @@ module _ (w : ℕ) (done : List Col) (new : GridState) (column : ℕ) (is : new 
       ∙ ap (λ cs. record (one_row w done) { columns = paste (one_row w done).columns ((1 - 1) * w + (column - 1)) cs }) same
       ∙ ap (λ cs. record (one_row w done) { columns = cs }) (laid_next done one ((1 - 1) * w + (column - 1)) (w - length done) rest index split)
 
--- all are put
+-- no blank is left
 pub all_put : (w : ℕ) (all : List Col) (new : GridState) → new ≡ one_row w all → length all ≡ w → new.columns ≡ all
 all_put w all new is len =
     let none : w - length all ≡ 0 = omega (arith, len) in

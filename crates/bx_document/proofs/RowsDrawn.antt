@@ -1,6 +1,6 @@
 -- Rows of text, put one below another into a grid.
 use Rattle.std.proofs.Common.{◌≡◌, ℕ, ◌+◌, ◌-◌, ◌*◌, ◌<◌, ◌≤◌, List, [], ◌∷◌, ◌++◌, length, take, drop, replicate, get_or, sym, ap, subst, ◌∙◌}
-use Rattle.std.proofs.Common.{arith, append_assoc, length-append, length-drop, take_all, Option, IsUtf8}
+use Rattle.std.proofs.Common.{arith, append_assoc, length-append, length-drop, take_all, IsUtf8}
 use Rattle.std.specs.Prelude.{flat_map}
 use Rattle.std.proofs.lemmas.Grind.{flat_map-append}
 use Rattle.std.proofs.lemmas.List.{append-nil, drop-drop, get_or-drop, length-replicate, length-take-le, take_more}
@@ -8,8 +8,6 @@ use Rattle.std.proofs.lemmas.List.Concat.{flat_map-cons}
 use Rattle.bx_grid.specs.Columns.{Col, blank, paste}
 use Rattle.bx_grid.specs.Picture.{GridState}
 use Rattle.bx_grid.proofs.Pasted.{paste_after}
-use Rattle.bx_ucd.specs.declared.class.Class.{Class}
-use Rattle.bx_ucd.specs.declared.data.Side.{Side}
 use Rattle.bx_view.specs.declared.row_at.RowAt.{RowAt}
 use Rattle.bx_view.specs.FoundRow.{StandsOn, rows_by}
 use Rattle.bx_view.specs.Holding.{Keeps, ViewState}
@@ -19,7 +17,7 @@ use Rattle.bx_view.proofs.Walking.{row-within}
 use Rattle.bx_ucd.specs.Data.{Data}
 use Rattle.bx_document.specs.Drawing.{row_columns, rows_columns, with_rows}
 
--- columns put where the first ones end
+-- columns written at the end of the first ones
 put_behind : (front rest news : List Col) (k : ℕ) → length front ≡ k → paste (front ++ rest) k news ≡ front ++ (news ++ drop (length news) rest)
 put_behind front rest news k len =
     let at : k ≡ length front + 0 = omega (arith, len) in
@@ -48,7 +46,7 @@ module _ (old : GridState) (cols : TextRow → List Col) (rows : List TextRow) w
     pub width-is : mid.width ≡ old.width
     width-is = ap (λ (g : GridState). g.width) is.grid
 
-    -- other columns where those that are drawn end
+    -- columns written below the drawn rows
     pub put-next : (news : List Col) (new : GridState) → new ≡ with_rows mid n news
         → new ≡ record old { columns = front cols rows n ++ (news ++ drop (n * old.width + length news) old.columns) }
     put-next news new step =
@@ -58,7 +56,7 @@ module _ (old : GridState) (cols : TextRow → List Col) (rows : List TextRow) w
         ∙ ap (λ cs. record old { columns = cs }) (put_behind (front cols rows n) rest news (n * w) is.filled
         ∙ ap (λ cs. front cols rows n ++ (news ++ cs)) (drop-drop (length news) (n * w) old.columns))
 
-    -- one more
+    -- one more row
     pub next-drawn : (r : TextRow) (new : GridState) → n < length rows → r ≡ get_or rows n no_text_row → length (cols r) ≡ old.width
         → new ≡ with_rows mid n (cols r) → AreDrawn old cols rows (n + 1) new
     next-drawn r new within e wide step =
@@ -101,7 +99,7 @@ all-drawn d old mid w rows n count new width few e same is step =
     ∙ ap (λ cs. record old { columns = cs })
     (sym (append_assoc (flat_map cols shown) (replicate ((count - length shown) * w) blank) (drop (count * old.width) old.columns)))
 
--- as many as are asked for, where there are as many
+-- the text has `count` rows
 pub count-drawn : (d : Data) (old : GridState) (w : ℕ) (rows : List TextRow) (count : ℕ) (new : GridState) → count ≤ length rows
     → AreDrawn old (row_columns d w) rows count new
     → new ≡ record old { columns = rows_columns d w count (take count rows) ++ drop (count * old.width) old.columns }
@@ -114,7 +112,7 @@ count-drawn d old w rows count new many is =
     ∙ ap (λ cs. record old { columns = cs ++ drop (count * old.width) old.columns })
     (sym (append-nil (flat_map (row_columns d w) shown)) ∙ ap (λ k. flat_map (row_columns d w) shown ++ replicate k blank) (sym whole))
 
--- or all that there are
+-- the text has fewer rows
 pub rest-drawn : (d : Data) (old mid : GridState) (w : ℕ) (rows : List TextRow) (n count : ℕ) (new : GridState) → old.width ≡ w
     → n ≤ count → n ≡ length rows → AreDrawn old (row_columns d w) rows n mid
     → new ≡ with_rows mid n (replicate ((count - n) * mid.width) blank)
@@ -149,7 +147,7 @@ module _ (says : Data) (old : ViewState) (text : List ℕ) (utf8 : IsUtf8 text) 
       next-drawn was cols (drop k rows) 0 was (none-drawn was cols (drop k rows)) (row_at rows k) new
       (omega (arith, within, length-drop k rows)) start (wide ∙ sym width) step
 
-  -- of a later state of the layout
+  -- with a later state of the layout
   module _ (v : ViewState) (keeps : Keeps says old v) where
     pub kept : rows_by says v text ≡ rows
     kept = rows-kept says old v text keeps

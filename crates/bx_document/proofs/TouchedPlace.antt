@@ -1,5 +1,5 @@
 -- The place after an edit can be found in the paragraphs that the edit touches.
-use Rattle.std.proofs.Common.{◌≡◌, ℕ, ◌+◌, ◌-◌, ◌<◌, ◌≤◌, ◌⊎◌, inl, inr, true, List, [], ◌++◌, length, take, drop, chars, slice_range, Option}
+use Rattle.std.proofs.Common.{◌≡◌, ℕ, ◌+◌, ◌-◌, ◌<◌, ◌≤◌, ◌⊎◌, inl, inr, true, List, [], ◌++◌, length, take, drop, chars, slice_range}
 use Rattle.std.proofs.Common.{IsUtf8, IsCharBoundary, refl, sym, ap, subst, ◌∙◌, arith, append_assoc, append-nil, length-append, length-drop}
 use Rattle.std.proofs.Common.{⊎_elim}
 use Rattle.std.proofs.lemmas.Bool.{cases_lt}
@@ -8,8 +8,6 @@ use Rattle.std.proofs.lemmas.List.{length-take-le, take_all}
 use Rattle.std.proofs.lemmas.Str.{chars-append, IsUtf8-append, IsUtf8-between, IsUtf8-drop}
 use Rattle.std.proofs.lemmas.Str.{IsUtf8-take, IsCharBoundary-end}
 use Rattle.bx_ucd.specs.Data.{Data}
-use Rattle.bx_ucd.specs.declared.class.Class.{Class}
-use Rattle.bx_ucd.specs.declared.data.Side.{Side}
 use Rattle.bx_terms.specs.declared.base.Base.{Base}
 use Rattle.bx_text.specs.Edits.{IsRange, splice}
 use Rattle.bx_paras.specs.Paragraphs.{lengths}
@@ -138,7 +136,7 @@ module _ (says : Data) (text : List ℕ) (utf8 : IsUtf8 text) where
     mine_bytes : length mine ≡ start - a + length new + length tail
     mine_bytes = omega (arith, length-append (head ++ new) tail, length-append head new, head_bytes)
 
-    -- in front of them the same paragraphs end as before the edit
+    -- the paragraphs before the touched ones end as before the edit
     front_at : (a ≡ 0) ⊎ (a < start) → parts says (chars before) (chars (mine ++ behind_all)) ≡ true
     front_at (inl none) =
         let bare : chars before ≡ [] = ap (λ n. chars (take n text)) none ∙ no_chars in
@@ -152,7 +150,7 @@ module _ (says : Data) (text : List ℕ) (utf8 : IsUtf8 text) where
         ∙ parts_ahead says (chars before) (chars head) (chars (drop start text)) (chars rest) some
         (ap (parts says (chars before)) (sym (ap chars was ∙ chars-append head (drop start text) head_utf8)) ∙ front.parts)
 
-    -- the place at their end is the place before the bytes after them
+    -- the place in the touched paragraphs is the same with the bytes after them
     back_at_end : (offset : ℕ) (base : Base) (w : ℕ) → 1 ≤ w → offset ≤ length mine
         → (b ≡ length text) ⊎ ((stop < b) × (parts says (chars (take b text)) (chars (drop b text)) ≡ true))
         → place_from (text_rows says base w (mine ++ behind_all)) offset ≡ place_from (text_rows says base w mine) offset

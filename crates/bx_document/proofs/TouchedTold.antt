@@ -1,32 +1,32 @@
--- The start and end of the touched paragraphs, from the paragraph index.
+-- The start and end of the touched paragraphs, from the paragraph index, and a copy of them after an edit.
 use Rattle.std.proofs.Common.{◌≡◌, ℕ, ◌+◌, ◌-◌, ◌<◌, ◌≤◌, List, ◌++◌, length, take, drop, get_or, slice_get, slice_range, Some, IsUtf8, IsCharBoundary}
-use Rattle.std.proofs.Common.{sym, ap, subst, ◌∙◌, arith, append_assoc}
-use Rattle.std.proofs.lemmas.List.{drop-drop}
+use Rattle.std.proofs.Common.{sym, ap, subst, ◌∙◌, arith}
+use Rattle.std.proofs.lemmas.List.{drop-drop, drop-take, take-take}
 use Rattle.std.proofs.lemmas.Option.{same_Some, some_pair_parts}
 use Rattle.bx_ucd.specs.Data.{Data}
-use Rattle.bx_ucd.specs.declared.class.Class.{Class}
 use Rattle.bx_text.specs.Edits.{IsRange}
 use Rattle.bx_paras.specs.declared.lengths.Lengths.{Lengths}
 use Rattle.bx_paras.specs.Paragraphs.{lengths}
 use Rattle.bx_paras.specs.Positions.{paragraph_of, separators, spans, total}
 use Rattle.bx_paras.proofs.Asked.{separator_at, span_at}
 use Rattle.bx_paras.proofs.Totals.{total_more}
-use Rattle.bx_view.proofs.Begins.{take_parts}
 use Rattle.bx_view.proofs.Numbers.{falls-at, lengths-count}
 use Rattle.bx_document.specs.Touched.{touched_start, touched_stop}
 use Rattle.bx_document.proofs.TouchedPlace.{back_is, front_is}
 
--- one more part of the bytes between two offsets
-pub pushed_part : (text was part now all : List ℕ) (at stop : ℕ) → now ≡ was ++ part → take (length part) (drop at text) ≡ part → at + length part ≤ stop
-    → was ++ slice_range text at stop ≡ all → now ++ slice_range text (at + length part) stop ≡ all
-pushed_part text was part now all at stop e f inside g =
-    let size : stop - at - length part ≡ stop - (at + length part) = omega arith in
-    let parts : slice_range text at stop ≡ part ++ slice_range text (at + length part) stop =
-    take_parts (length part) (stop - at) (drop at text) (omega (arith, inside))
-    ∙ ap (λ bs. bs ++ take (stop - at - length part) (drop (length part) (drop at text))) f
-    ∙ ap (λ bs. part ++ take (stop - at - length part) bs) (drop-drop (length part) at text) ∙ ap (λ n. part ++ take n (drop (at + length part) text)) size in
-    ap (λ bs. bs ++ slice_range text (at + length part) stop) e ∙ append_assoc was part (slice_range text (at + length part) stop)
-    ∙ ap (λ bs. was ++ bs) (sym parts) ∙ g
+-- a part of a text is copied, and the bytes from `start` to `stop` are replaced in the copy
+pub edited_copy : (text copy new : List ℕ) (a start stop b : ℕ) → a ≤ start → start ≤ stop → stop ≤ b → copy ≡ slice_range text a b
+    → (take (start - a) copy ++ new) ++ drop (stop - a) copy ≡ slice_range text a start ++ new ++ slice_range text stop b
+edited_copy text copy new a start stop b low order high e =
+    let rest = drop a text in
+    let sum : b - a ≡ (stop - a) + (b - stop) = omega (arith, low, order, high) in
+    let there : a + (stop - a) ≡ stop = omega (arith, low, order) in
+    let front : take (start - a) (take (b - a) rest) ≡ take (start - a) rest = take-take (start - a) (b - a) rest (omega (arith, order, high)) in
+    let back : drop (stop - a) (take (b - a) rest) ≡ slice_range text stop b =
+    ap (λ n. drop (stop - a) (take n rest)) sum ∙ drop-take (stop - a) (b - stop) rest
+    ∙ ap (take (b - stop)) (drop-drop (stop - a) a text ∙ ap (λ n. drop n text) there) in
+    ap (λ bs. (take (start - a) bs ++ new) ++ drop (stop - a) bs) e
+    ∙ ap (λ bs. (bs ++ new) ++ drop (stop - a) (take (b - a) rest)) front ∙ ap (λ bs. (slice_range text a start ++ new) ++ bs) back
 
 abbrev none : Lengths
 none = record { body = 0; separator = 0 }

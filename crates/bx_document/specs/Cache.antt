@@ -21,11 +21,11 @@ numbered_row_columns d body base number w = body_row_columns d w (row_at (body_r
 pub record IsDrawnBy (d : Data) (r : DrawnRowState) : Type 0 where
   pub columns_are : r.columns ≡ numbered_row_columns d r.body r.base r.number (length r.columns)
 
--- all rows do
+-- each of these rows has
 abbrev pub AreDrawnBy : Data → List DrawnRowState → Type 0
 AreDrawnBy d rows = All (IsDrawnBy d) rows
 
--- the drawn row is row `k` of a body, under a base direction, in a window of `w` columns
+-- this is row `k` of a body, drawn under a base direction, in a window of `w` columns
 pub record IsRowOf (text : List ℕ) (direction : Base) (k w : ℕ) (r : DrawnRowState) : Type 0 where
   pub body_is : r.body ≡ text
   pub base_is : r.base ≡ direction

@@ -21,10 +21,11 @@ pub record DocumentState (D : Type 0) : Type 0 where
 abbrev pub at_opening : List ℕ → ℕ → Base → Document
 at_opening text w base = record { content = opened text; base = base; w = w }
 
--- the rows of any text in the document's layout, and those of its own text
+-- the rows of any text in the document's layout
 abbrev pub rows_of : Data → Document → List ℕ → List TextRow
 rows_of d t text = text_rows d t.base t.w text
 
+-- the rows of the document's text
 abbrev pub rows : Data → Document → List TextRow
 rows d t = rows_of d t t.content.text
 

@@ -19,7 +19,7 @@ body_row_columns d width r = side_by_side (row_glyphs d width r)
 abbrev pub row_columns : Data → ℕ → TextRow → List Col
 row_columns d width r = body_row_columns d width r.row
 
--- the columns of `count` rows: those shown, then blank rows past the text's end
+-- the columns of `count` rows: the shown rows of text, then blank rows
 abbrev pub rows_columns : Data → ℕ → ℕ → List TextRow → List Col
 rows_columns d width count shown = flat_map (row_columns d width) shown ++ replicate ((count - length shown) * width) blank
 
@@ -28,6 +28,6 @@ pub record IsAmong (rows : List TextRow) (top place count : ℕ) : Type 0 where
   pub above : row_of rows top ≤ row_of rows place
   pub below : row_of rows place < row_of rows top + count
 
--- the grid with its columns overwritten by these from row `row` on, from 0
+-- the grid with these columns written over its own, from row `row` on; rows count from 0
 abbrev pub with_rows : GridState → ℕ → List Col → GridState
 with_rows g row columns = record g { columns = paste g.columns (row * g.width) columns }

@@ -1,6 +1,7 @@
 pub mod Cache
 pub mod Document
 pub mod Drawing
+pub mod History
 pub mod Past
 pub mod Shown
 pub mod Touched

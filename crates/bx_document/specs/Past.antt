@@ -1,7 +1,6 @@
 -- The places recorded with the edits of a text's past and future.
-use Rattle.std.specs.Prelude.{ℕ, All}
+use Rattle.std.specs.Prelude.{All}
 use Rattle.bx_ucd.specs.Data.{Data}
-use Rattle.bx_ucd.specs.declared.class.Class.{Class}
 use Rattle.bx_text.specs.Edits.{Edit, Edited}
 use Rattle.bx_view.specs.Places.{IsTextPlace}
 
@@ -10,7 +9,7 @@ pub record HasPlaces (says : Data) (e : Edit) : Type 0 where
   pub before : IsTextPlace says e.before.text e.before.place
   pub after : IsTextPlace says e.after.text e.after.place
 
--- so are those of all edits
+-- each edit of the past and the future has such places
 pub record KeepsPlaces (says : Data) (content : Edited) : Type 0 where
   pub past : All (HasPlaces says) content.past
   pub future : All (HasPlaces says) content.future

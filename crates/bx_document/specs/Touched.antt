@@ -1,7 +1,6 @@
 -- The paragraphs that an edit touches, as they are after it: they determine the place after the edit.
 use Rattle.std.specs.Prelude.{ℕ, ◌+◌, ◌-◌, List, ◌++◌, slice_range}
 use Rattle.bx_ucd.specs.Data.{Data}
-use Rattle.bx_ucd.specs.declared.class.Class.{Class}
 use Rattle.bx_paras.specs.Paragraphs.{lengths}
 use Rattle.bx_paras.specs.Positions.{paragraph_of}
 use Rattle.bx_view.specs.Standing.{start_at}
@@ -14,7 +13,7 @@ touched_start says text start = start_at says text (paragraph_of (lengths says t
 abbrev pub touched_stop : Data → List ℕ → ℕ → ℕ
 touched_stop says text stop = start_at says text (paragraph_of (lengths says text) stop + 1)
 
--- the bytes between them after the edit that replaces those from `start` to `stop` with `new`
+-- the bytes between these two after an edit that replaces the bytes from `start` to `stop` with `new`
 abbrev pub touched : Data → List ℕ → ℕ → ℕ → List ℕ → List ℕ
 touched says text start stop new =
     slice_range text (touched_start says text start) start ++ new ++ slice_range text stop (touched_stop says text stop)

@@ -1,24 +1,23 @@
 //! Drawing one row of text.
-ghost use Rattle.std.specs.Prelude.{◌≡◌, true, All, IfOk, map, sum_by};
+ghost use Rattle.std.specs.Prelude.{◌≡◌, true, All, IfOk, length, map, sum_by};
 ghost use Rattle.std.specs.Cow.{cow_str_bytes};
 ghost use Rattle.bx_terms.specs.Glyphs.{is_one_glyph, run_width};
 ghost use Rattle.bx_terms.specs.Sizes.{is_side};
 ghost use Rattle.bx_rows.specs.Shown.{glyph_of};
-ghost use Rattle.bx_document.specs.Drawing.{side_by_side};
+ghost use Rattle.bx_view.specs.Source.{OfRow, Stands};
+ghost use Rattle.bx_document.specs.Drawing.{row_columns, side_by_side};
 
 use bx_grid::{Cell, Grid, OwnedRow};
 use bx_rows::RowPicture;
 use bx_terms::OutOfMemory;
+use bx_ucd::BidiData;
+use bx_view::{Layout, RowAt, Source};
 use std::alloc::Global;
 
 /// Draws the glyphs of a row's picture side by side. They fill `width` columns.
 ///
 /// Errors: `OutOfMemory`.
-pub(crate) fn drawn(
-    alloc: Global,
-    picture: &RowPicture<'_>,
-    width: u16,
-) -> Result<OwnedRow, OutOfMemory>
+fn drawn(alloc: Global, picture: &RowPicture<'_>, width: u16) -> Result<OwnedRow, OutOfMemory>
     requires side { is_side width ≡ true }
     requires glyphs { All (λ g. is_one_glyph (cow_str_bytes g.text) ≡ true) picture.now.glyphs.items }
     requires widths { All (λ g. run_width (cow_str_bytes g.text) ≡ g.columns) picture.now.glyphs.items }
@@ -36,4 +35,21 @@ pub(crate) fn drawn(
         column += glyph.columns;
     }
     Ok(grid.into_row())
+}
+
+/// Draws a row of the text.
+///
+/// Errors: `OutOfMemory`.
+pub(crate) fn draw_row<D: BidiData>(
+    alloc: Global,
+    layout: &Layout,
+    source: &Source<'_, D>,
+    at: RowAt,
+) -> Result<OwnedRow, OutOfMemory>
+    requires row { Stands source.now layout.now at }
+    ensures drawn { OfRow source.now layout.now at (λ r. IfOk result (λ row. row ≡ row_columns (D.data source.now.tables.now) layout.now.w r)) }
+    ensures filled { IfOk result (λ row. length row ≡ layout.now.w) }
+{
+    let picture = layout.picture(source, at)?;
+    drawn(alloc, &picture, layout.width())
 }

@@ -1,21 +1,20 @@
-//! Edits, each with the cursor's place after it. Each allocates first and then changes the text.
-ghost use Rattle.std.specs.Prelude.{◌≡◌, ℕ, List, [], Some, true, false, IfOk, IfSome, IsErrOf, IsUtf8, MatchOption, OnErr, OnOk, option_map};
+//! Insertions and removals, each with the cursor's place after it. Each allocates first and then changes the text.
+ghost use Rattle.std.specs.Prelude.{◌≡◌, ℕ, List, [], Some, true, false, IfOk, IfSome, IsErrOf, IsUtf8, MatchOption, OnErr, OnOk};
 ghost use Rattle.bx_paras.specs.Paragraphs.{lengths};
-ghost use Rattle.bx_text.specs.Edits.{IsRange, IsChange, fits, next_redo, next_undo, redone, splice, undone};
+ghost use Rattle.bx_text.specs.Edits.{IsRange, IsChange, fits, splice};
 ghost use Rattle.bx_view.specs.Places.{IsTextPlace};
-ghost use Rattle.bx_view.specs.Holding.{IsViewBy, Keeps};
 ghost use Rattle.bx_document.specs.Document.{after_insertion, after_removal, place_after};
 
 use crate::document::Document;
-use crate::touched::place_in_touched;
+use crate::touched::place_after;
 use bx_paras::Index;
 use bx_terms::{LARGEST_TEXT, OutOfMemory};
 use bx_text::{Change, Text};
 use bx_ucd::BidiData;
-use bx_view::{HeldRange, Layout, Source};
+use bx_view::Source;
 
 /// Updates the index after an edit, in the room reserved for one separator per added byte. No memory.
-fn follow<D: BidiData>(index: &mut Index, text: &Text, tables: &D, change: &Change)
+pub(crate) fn follow<D: BidiData>(index: &mut Index, text: &Text, tables: &D, change: &Change)
     requires was { (old : List ℕ)
         × IsUtf8 old
         × (index.old.paragraphs ≡ lengths (D.data tables.now) old)
@@ -26,41 +25,6 @@ fn follow<D: BidiData>(index: &mut Index, text: &Text, tables: &D, change: &Chan
     // proof only: the text is UTF-8
     let _utf8 = text.len();
     index.edited(text, tables, change);
-}
-
-/// The range of a pending change within its cached paragraph; none if the paragraph is not cached or the change exceeds
-/// it. No memory.
-fn held_change<D: BidiData>(
-    layout: &mut Layout,
-    source: &Source<'_, D>,
-    change: &Change,
-) -> Option<HeldRange>
-    ensures { layout.new ≡ layout.old }
-{
-    let stop = change.start.saturating_add(change.removed);
-    layout.held_range(source, change.start, stop)
-}
-
-/// Applies a change of the text to its cached paragraph. Running out of memory does no harm: the stale paragraph no
-/// longer matches the text, so it is laid out again.
-fn follow_in_layout<D: BidiData>(
-    layout: &mut Layout,
-    held: Option<HeldRange>,
-    text: &Text,
-    tables: &D,
-    change: &Change,
-)
-    requires data { IsViewBy (D.data tables.now) layout.old }
-    ensures keeps { Keeps (D.data tables.now) layout.old layout.new }
-{
-    let Some(range) = held else {
-        return;
-    };
-    let stop = change.start.saturating_add(change.added);
-    let Ok(new) = text.copy_range(change.start, stop) else {
-        return;
-    };
-    let _followed = layout.follow_edit(range, new.as_str(), tables);
 }
 
 impl<D: BidiData + Drop> Document<D> {
@@ -82,10 +46,7 @@ impl<D: BidiData + Drop> Document<D> {
             index: &self.index,
             tables: &self.tables,
         };
-        if let Some(place) = self.layout.edit(&source, start, stop, new)? {
-            return Ok(place);
-        }
-        let place = place_in_touched(self.alloc, &source, &mut self.layout, start..stop, new)?;
+        let place = place_after(self.alloc, &source, &mut self.layout, start..stop, new)?;
         Ok(place)
     }
 
@@ -139,63 +100,5 @@ impl<D: BidiData + Drop> Document<D> {
         };
         follow(&mut self.index, &self.text, &self.tables, &change);
         Ok(after)
-    }
-
-    /// Undoes the latest edit and returns the place before it; none if the past is empty.
-    ///
-    /// Errors: `OutOfMemory`, and nothing has changed.
-    pub fn undo(&mut self) -> Result<Option<usize>, OutOfMemory>
-        ensures ok { OnOk result (self.new ≡ record self.old { document = record self.old.document { content = undone self.old.document.content } }) }
-        ensures place { IfOk result (λ o. o ≡ option_map (λ c. c.place) (next_undo self.old.document.content)) }
-        ensures text_place { IfOk result (λ place. IfSome place (IsTextPlace (D.data self.new.tables) self.new.document.content.text)) }
-        ensures err { OnErr result (self.new ≡ self.old) }
-    {
-        // proof only: the text is UTF-8
-        let _utf8 = self.text.len();
-        let Some(next) = self.text.next_undo() else {
-            return Ok(None);
-        };
-        let source = Source {
-            text: &self.text,
-            index: &self.index,
-            tables: &self.tables,
-        };
-        let held = held_change(&mut self.layout, &source, &next);
-        self.index.ready(next.added)?;
-        let Ok(Some(change)) = self.text.undo() else {
-            return Err(OutOfMemory);
-        };
-        follow(&mut self.index, &self.text, &self.tables, &change);
-        follow_in_layout(&mut self.layout, held, &self.text, &self.tables, &change);
-        Ok(Some(change.place))
-    }
-
-    /// Redoes the next edit and returns the place after it; none if the future is empty.
-    ///
-    /// Errors: `OutOfMemory`, and nothing has changed.
-    pub fn redo(&mut self) -> Result<Option<usize>, OutOfMemory>
-        ensures ok { OnOk result (self.new ≡ record self.old { document = record self.old.document { content = redone self.old.document.content } }) }
-        ensures place { IfOk result (λ o. o ≡ option_map (λ c. c.place) (next_redo self.old.document.content)) }
-        ensures text_place { IfOk result (λ place. IfSome place (IsTextPlace (D.data self.new.tables) self.new.document.content.text)) }
-        ensures err { OnErr result (self.new ≡ self.old) }
-    {
-        // proof only: the text is UTF-8
-        let _utf8 = self.text.len();
-        let Some(next) = self.text.next_redo() else {
-            return Ok(None);
-        };
-        let source = Source {
-            text: &self.text,
-            index: &self.index,
-            tables: &self.tables,
-        };
-        let held = held_change(&mut self.layout, &source, &next);
-        self.index.ready(next.added)?;
-        let Ok(Some(change)) = self.text.redo() else {
-            return Err(OutOfMemory);
-        };
-        follow(&mut self.index, &self.text, &self.tables, &change);
-        follow_in_layout(&mut self.layout, held, &self.text, &self.tables, &change);
-        Ok(Some(change.place))
     }
 }

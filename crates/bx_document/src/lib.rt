@@ -6,6 +6,7 @@ mod drawing;
 mod drawn_rows;
 mod edits;
 mod error;
+mod history;
 mod moves;
 mod row_cache;
 mod shown;
@@ -13,4 +14,5 @@ mod touched;
 
 pub use document::Document;
 pub use error::DocumentError;
+pub use history::HistoryStep;
 pub use shown::Shown;

@@ -1,10 +1,15 @@
 //! A cache of drawn rows.
-ghost use Rattle.std.specs.Prelude.{◌≡◌, ◌<◌, ◌*◌, [], length, drop, take, All, HoldsAt, IfOk, IfSome, IsTrue};
-ghost use Rattle.bx_document.specs.Cache.{AreDrawnBy, DrawnRowState, HoldsRow, IsDrawnBy, IsRowOf};
+ghost use Rattle.std.specs.Prelude.{◌≡◌, ◌<◌, [], length, HoldsAt, IfSome, IsTrue, OnOk};
 ghost use Rattle.bx_ucd.specs.Data.{Data};
+ghost use Rattle.bx_view.specs.Source.{OfRow, Stands};
+ghost use Rattle.bx_document.specs.Cache.{AreDrawnBy, HoldsRow, IsDrawnBy, IsRowOf};
+ghost use Rattle.bx_document.specs.Drawing.{row_columns, with_rows};
 
-use bx_grid::OwnedRow;
-use bx_terms::Base;
+use crate::drawing::draw_row;
+use bx_grid::{Grid, OwnedRow};
+use bx_terms::{Base, OutOfMemory};
+use bx_ucd::BidiData;
+use bx_view::{Layout, RowAt, Source};
 use std::alloc::{AllocError, Global};
 use std::marker::Model;
 
@@ -13,15 +18,15 @@ const LARGEST_BODY: usize = 16_384;
 
 /// A row's key: everything that determines its columns, except Unicode's tables.
 #[derive(Clone, Copy)]
-pub(crate) struct RowKey<'b> {
+struct RowKey<'b> {
     /// The body of the row's paragraph.
-    pub(crate) body: &'b str,
+    body: &'b str,
     /// The base direction.
-    pub(crate) base: Base,
+    base: Base,
     /// The row's number in the body, from 0.
-    pub(crate) number: usize,
+    number: usize,
     /// The window's columns.
-    pub(crate) width: u16,
+    width: u16,
 }
 
 /// A drawn row with its key: the body of its paragraph, the base direction and its number in the body, from 0. The width
@@ -43,8 +48,8 @@ impl Model for DrawnRow {
     ghost view = { λ r. record { body = string_bytes r.body; base = r.base; number = r.number; columns = r.columns } };
 }
 
-/// Drawn rows. A row's columns depend only on its key and Unicode's tables, so no edit invalidates one. The rows of the
-/// latest page come first, each at its number in the page if all before it could be cached.
+/// A cache of drawn rows. A row's columns depend only on its key and Unicode's tables, so no edit invalidates one. The rows
+/// of the latest page come first, each at its number in the page if all before it could be cached.
 #[derive(Drop)]
 pub(crate) struct RowCache {
     rows: Vec<DrawnRow>,
@@ -142,19 +147,19 @@ impl RowCache {
     }
 
     /// The allocator of cached rows.
-    pub(crate) fn allocator(&self) -> Global {
+    fn allocator(&self) -> Global {
         *self.rows.allocator()
     }
 
     /// The index of a cached row, searched from its number in the page on. No memory.
-    pub(crate) fn find(&self, at: u16, key: &RowKey<'_>) -> Option<usize>
+    fn find(&self, at: u16, key: &RowKey<'_>) -> Option<usize>
         ensures { IfSome result (HoldsRow key.now.body.now key.now.base key.now.number key.now.width self.now) }
     {
         position(&self.rows, at as usize, key)
     }
 
     /// The columns of the cached row at index `i`.
-    pub(crate) fn columns(&self, i: usize) -> &OwnedRow
+    fn columns(&self, i: usize) -> &OwnedRow
         requires { i < length self.now }
         ensures { HoldsAt (λ r. result.now ≡ r.columns) self.now i }
     {
@@ -163,14 +168,14 @@ impl RowCache {
     }
 
     /// Moves the cached row at index `i` to its number in the page. No memory.
-    pub(crate) fn bring(&mut self, i: usize, at: u16)
+    fn bring(&mut self, i: usize, at: u16)
         ensures { (d : Data) → AreDrawnBy d self.old → AreDrawnBy d self.new }
     {
         bring(&mut self.rows, i, at as usize);
     }
 
     /// Caches a row at its number in the page, unless its body is too long or memory runs out.
-    pub(crate) fn keep(&mut self, key: &RowKey<'_>, columns: OwnedRow, at: u16)
+    fn keep(&mut self, key: &RowKey<'_>, columns: OwnedRow, at: u16)
         ensures { (d : Data) → AreDrawnBy d self.old
             → IsDrawnBy d (record { body = key.now.body.now; base = key.now.base; number = key.now.number; columns = columns })
             → AreDrawnBy d self.new }
@@ -190,5 +195,44 @@ impl RowCache {
         let at = usize::from(at);
         let after = at.saturating_add(self.page);
         let _kept = put_in(&mut self.rows, at, after, new);
+    }
+
+    /// Puts a row of the text into row `row` of a grid, from 0. A cached row is copied; any other is drawn and cached.
+    ///
+    /// Errors: `OutOfMemory`.
+    pub(crate) fn put_row<D: BidiData>(
+        &mut self,
+        layout: &Layout,
+        source: &Source<'_, D>,
+        at: RowAt,
+        grid: &mut Grid,
+        row: u16,
+    ) -> Result<(), OutOfMemory>
+        requires row { Stands source.now layout.now at }
+        requires inside { row < grid.old.height }
+        requires width { grid.old.width ≡ layout.now.w }
+        requires cache { AreDrawnBy (D.data source.now.tables.now) self.old }
+        ensures drawn { OfRow source.now layout.now at (λ r.
+            OnOk result (grid.new ≡ with_rows grid.old row (row_columns (D.data source.now.tables.now) layout.now.w r))) }
+        ensures filled { OfRow source.now layout.now at (λ r.
+            OnOk result (length (row_columns (D.data source.now.tables.now) layout.now.w r) ≡ layout.now.w)) }
+        ensures cache { AreDrawnBy (D.data source.now.tables.now) self.new }
+    {
+        let (body, number) = layout.row_in_body(source, at);
+        let key = RowKey {
+            body,
+            base: layout.base(),
+            number,
+            width: layout.width(),
+        };
+        if let Some(i) = self.find(row, &key) {
+            grid.put_row(row, self.columns(i))?;
+            self.bring(i, row);
+            return Ok(());
+        }
+        let new = draw_row(self.allocator(), layout, source, at)?;
+        grid.put_row(row, &new)?;
+        self.keep(&key, new, row);
+        Ok(())
     }
 }

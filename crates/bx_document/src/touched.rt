@@ -1,9 +1,10 @@
-//! The place after an edit, found in a copy of the paragraphs that the edit touches.
-ghost use Rattle.std.specs.Prelude.{◌≡◌, ◌≤◌, ◌+◌, ◌++◌, true, IfOk, IsCharBoundary, IsErrOf, OnErr, OnOk, length, slice_range, string_bytes};
+//! The place after an edit, found in the held paragraph or in a copy of the paragraphs that the edit touches.
+ghost use Rattle.std.specs.Prelude.{◌≡◌, ◌≤◌, ◌+◌, true, IfOk, IsCharBoundary, length, string_bytes};
 ghost use Rattle.bx_text.specs.Edits.{IsRange, fits, splice};
 ghost use Rattle.bx_view.specs.FoundRow.{rows_by};
 ghost use Rattle.bx_view.specs.Holding.{IsViewBy, Keeps};
 ghost use Rattle.bx_view.specs.Moves.{place_from};
+ghost use Rattle.bx_view.specs.Places.{IsTextPlace};
 ghost use Rattle.bx_view.specs.Source.{bytes};
 ghost use Rattle.bx_document.specs.Touched.{touched, touched_start, touched_stop};
 
@@ -12,7 +13,7 @@ use bx_terms::OutOfMemory;
 use bx_text::Text;
 use bx_ucd::BidiData;
 use bx_view::{Layout, Source};
-use std::alloc::{AllocError, Global};
+use std::alloc::Global;
 use std::ops::Range;
 
 /// The start of the paragraph that contains the byte before an offset. No memory.
@@ -35,46 +36,27 @@ fn stop_after<D: BidiData>(source: &Source<'_, D>, stop: usize) -> usize
     source.index.span(number).1 + source.index.separator(number)
 }
 
-/// Appends the bytes of a text from `start` to `stop`.
-fn push_range(
-    text: &Text,
-    start: usize,
-    stop: usize,
-    characters: &mut String,
-) -> Result<(), AllocError>
-    requires range { IsRange text.now.edited.text start stop }
-    ensures { OnOk result (string_bytes characters.new ≡ string_bytes characters.old ++ slice_range text.now.edited.text start stop) }
-{
-    let mut at = start;
-    while at < stop {
-        let part = text.part_at(at, stop);
-        characters.push_str(part)?;
-        at += part.len();
-    }
-    Ok(())
-}
-
-/// The start of the paragraphs that an edit touches, and their text after it.
+/// The start of the paragraphs that an edit touches, and a copy of their text after it.
+///
+/// Errors: `OutOfMemory`.
 fn touched<D: BidiData>(
-    alloc: Global,
     source: &Source<'_, D>,
     start: usize,
     stop: usize,
     new: &str,
-) -> Result<(usize, String), AllocError>
+) -> Result<(usize, String), OutOfMemory>
     requires range { IsRange (bytes source.now) start stop }
-    requires fits { fits (bytes source.now) start stop new.now ≡ true }
     ensures start { IfOk result (λ w. w.0 ≡ touched_start (D.data source.now.tables.now) (bytes source.now) start) }
     ensures order { IfOk result (λ w. w.0 ≤ start) }
     ensures text { IfOk result (λ w. string_bytes w.1 ≡ touched (D.data source.now.tables.now) (bytes source.now) start stop new.now) }
 {
     let first = start_before(source, start);
     let last = stop_after(source, stop);
-    let size = start - first + new.len() + (last - stop);
-    let mut characters = String::with_capacity(alloc, size)?;
-    push_range(source.text, first, start, &mut characters)?;
-    characters.push_str(new)?;
-    push_range(source.text, stop, last, &mut characters)?;
+    // Both ends are between characters, so only memory can run out.
+    let Ok(mut characters) = source.text.copy_range(first, last) else {
+        return Err(OutOfMemory);
+    };
+    characters.replace_range(start - first..stop - first, new)?;
     Ok((first, characters))
 }
 
@@ -101,11 +83,11 @@ fn place_in<D: BidiData>(
     Ok(place)
 }
 
-/// The place after a pending edit that replaces the bytes of a range with `new`, found in a copy of the paragraphs that
-/// it touches.
+/// The place after a pending edit that replaces the bytes of a range with `new`. The held paragraph follows the edit and
+/// tells the place; where there is none, or the edit exceeds it, a copy of the touched paragraphs does.
 ///
 /// Errors: `OutOfMemory`.
-pub(crate) fn place_in_touched<D: BidiData>(
+pub(crate) fn place_after<D: BidiData>(
     alloc: Global,
     source: &Source<'_, D>,
     layout: &mut Layout,
@@ -119,10 +101,15 @@ pub(crate) fn place_in_touched<D: BidiData>(
     ensures place { IfOk result (λ o. o ≡ place_from
         (rows_by (D.data source.now.tables.now) layout.old
         (splice (bytes source.now) range.start range.end new.now)) (range.start + length new.now)) }
+    ensures text_place { IfOk result (IsTextPlace (D.data source.now.tables.now)
+        (splice (bytes source.now) range.start range.end new.now)) }
 {
     // proof only: the width is within its limits
     let _side = layout.width();
-    let (first, characters) = touched(alloc, source, range.start, range.end, new)?;
+    if let Some(place) = layout.edit(source, range.start, range.end, new)? {
+        return Ok(place);
+    }
+    let (first, characters) = touched(source, range.start, range.end, new)?;
     // The copy is no longer than the text after the edit, so it is not too long.
     let offset = range.start - first + new.len();
     let place = place_in(alloc, characters, source.tables, layout, offset)?;

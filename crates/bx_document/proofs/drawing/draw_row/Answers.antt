@@ -1,7 +1,7 @@
 use Rattle.std.proofs.Common.{◌≡◌, ◌∙◌, ap, length}
 use Rattle.std.proofs.lemmas.Result.{IfOk-weaker}
 use Rattle.bx_document.proofs.RowGlyphs.{glyphs_columns, length-glyphs}
-use Rattle.bx_document.proofs.drawn_rows.draw_anew.Goals as goal
+use Rattle.bx_document.proofs.drawing.draw_row.Goals as goal
 
 pub returns-clause-filled : goal.returns-clause-filled
 returns-clause-filled g c =

@@ -1,0 +1,16 @@
+-- Undo and redo.
+use Rattle.std.specs.Prelude.{Option}
+use Rattle.bx_text.specs.declared.change.Change.{Change}
+use Rattle.bx_text.specs.Edits.{Edited, next_redo, next_undo, redone, undone}
+use Rattle.bx_document.specs.declared.history.HistoryStep.{HistoryStep}
+use Rattle.bx_document.specs.declared.history.HistoryStep.TheVariants.{Undo, Redo}
+
+-- the text after a step, with its past and future; the same, if there is no edit to undo, or to redo
+abbrev pub stepped : HistoryStep → Edited → Edited
+stepped Undo t = undone t
+stepped Redo t = redone t
+
+-- the change that a step makes, if there is one
+abbrev pub next_change : HistoryStep → Edited → Option Change
+next_change Undo t = next_undo t
+next_change Redo t = next_redo t
