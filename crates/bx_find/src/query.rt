@@ -42,10 +42,10 @@ fn letters_of<D: BidiData>(tables: &D, text: &str) -> ArrayVec<char, ROOM>
     let mut letters = ArrayVec::new();
     let mut rest = text;
     while let Some((c, behind)) = first_char(rest) {
+        rest = behind;
         if let Some(letter) = letter_if_any(tables, c) {
             letters.push(letter);
         }
-        rest = behind;
     }
     letters
 }
