@@ -26,12 +26,13 @@ fn hold(query: &Query, held: &mut Ring, at: usize) -> Option<usize>
     ensures found { (ps : List (ℕ × ℕ)) → found_after query.now held.old ((at, get_or query.now (length held.old) 0) ∷ ps)
         ≡ option_to_list result ++ found_after query.now held.new ps }
 {
+    let all = query.len();
     held.push(at);
-    if held.len() < query.len() {
+    if held.len() < all {
         return None;
     }
     let found = held.oldest();
-    held.keep_newest(query.border(query.len()));
+    held.keep_newest(query.border(all));
     Some(found)
 }
 
