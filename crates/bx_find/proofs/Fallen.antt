@@ -45,7 +45,7 @@ found-here ls p ps e = rw (e, found) refl
 
 -- ---- offsets with letters
 
-length-with : (os ls : List ℕ) → length os ≤ length ls → length (with_letters os ls) ≡ length os
+pub length-with : (os ls : List ℕ) → length os ≤ length ls → length (with_letters os ls) ≡ length os
 length-with [] ls h = refl
 length-with (o ∷ os) [] h = absurd (omega arith)
 length-with (o ∷ os) (l ∷ ls) h = ap suc (length-with os ls (omega arith))
@@ -106,12 +106,12 @@ module _ (ls : List ℕ) (k f : ℕ) (within : k ≤ length ls) (border : IsBord
   -- an end of the first k letters that is longer than the border begins nothing
   begins-nothing : (ys zs : List ℕ) → f < length ys → length ys < k → ys ≡ drop (k - length ys) (take k ls) → begins ls (ys ++ zs) ≡ false
   begins-nothing ys zs above below e = not_true _ (λ b.
-    let n : (k - length ys) + length ys ≡ k = omega arith in
-    let m : length ys ≡ k - (k - length ys) = omega arith in
-    let cut : drop (k - length ys) (take k ls) ≡ take (length ys) (drop (k - length ys) ls) =
-    ap (λ i. drop (k - length ys) (take i ls)) (sym n) ∙ drop-take (k - length ys) (length ys) ls in
-    border.greatest (length ys) above below
-    (begins-front ls ys zs (omega arith) b ∙ e ∙ cut ∙ ap (λ i. take i (drop (k - length ys) ls)) m))
+      let n : (k - length ys) + length ys ≡ k = omega arith in
+      let m : length ys ≡ k - (k - length ys) = omega arith in
+      let cut : drop (k - length ys) (take k ls) ≡ take (length ys) (drop (k - length ys) ls) =
+      ap (λ i. drop (k - length ys) (take i ls)) (sym n) ∙ drop-take (k - length ys) (length ys) ls in
+      border.greatest (length ys) above below
+      (begins-front ls ys zs (omega arith) b ∙ e ∙ cut ∙ ap (λ i. take i (drop (k - length ys) ls)) m))
 
   falls-by : (w t : List (ℕ × ℕ)) → length w < k → f ≤ length w → letters_in w ≡ drop (k - length w) (take k ls)
       → found ls (w ++ t) ≡ found ls (drop (length w - f) w ++ t)
@@ -177,11 +177,11 @@ fallen ls os at c k f ps e some below other border =
     let held : letters_in (first ∷ w) ≡ take k ls = ap letters_in (sym whole) ∙ letters-with os ls fits ∙ ap (λ i. take i ls) e in
     let len : length (take k ls) ≡ k = length-take-le k ls (omega arith) in
     let none : begins ls (take k ls ++ c ∷ letters_in ps) ≡ false = not_true _ (λ b.
-      let seam = append_assoc (take k ls) (c ∷ []) (letters_in ps) in
-      let long : length (take k ls ++ c ∷ []) ≡ k + 1 = length-append (take k ls) (c ∷ []) ∙ ap (λ i. i + 1) len in
-      let front = begins-front ls (take k ls ++ c ∷ []) (letters_in ps) (omega arith) (ap (begins ls) seam ∙ b) in
-      let pushed = sym (take_more ls k 0 below) ∙ ap (λ i. take i ls) (sym long) ∙ front in
-      other (same_from_push (take k ls) (take k ls) (get_or ls k 0) c pushed).1) in
+    let seam = append_assoc (take k ls) (c ∷ []) (letters_in ps) in
+    let long : length (take k ls ++ c ∷ []) ≡ k + 1 = length-append (take k ls) (c ∷ []) ∙ ap (λ i. i + 1) len in
+    let front = begins-front ls (take k ls ++ c ∷ []) (letters_in ps) (omega arith) (ap (begins ls) seam ∙ b) in
+    let pushed = sym (take_more ls k 0 below) ∙ ap (λ i. take i ls) (sym long) ∙ front in
+    other (same_from_push (take k ls) (take k ls) (get_or ls k 0) c pushed).1) in
     let spelt : letters_in (first ∷ w ++ (at, c) ∷ ps) ≡ take k ls ++ c ∷ letters_in ps =
     map-append (λ (q : ℕ × ℕ). q.1) (first ∷ w) ((at, c) ∷ ps) ∙ ap (λ ks. ks ++ c ∷ letters_in ps) held in
     ap (λ (qs : List (ℕ × ℕ)). found ls (qs ++ (at, c) ∷ ps)) whole

@@ -1,3 +1,4 @@
 pub mod Windows
 pub mod Fallen
 pub mod ReadOn
+pub mod Offsets

@@ -1,6 +1,5 @@
 -- A text that is lent piece by piece.
-use Rattle.std.specs.Prelude.{◌≡◌, ℕ, ◌+◌, ◌<◌, ◌↔◌, List, length, take, drop, Option, Some, None, IsSome, IfSome, IsUtf8, IsCharBoundary}
-use Rattle.std.specs.Borrow.{Bor}
+use Rattle.std.specs.Prelude.{◌≡◌, ℕ, ◌+◌, ◌<◌, List, length, take, drop, IsCharBoundary}
 
 -- the piece at an offset: its bytes are those of the text from there on, and it ends between characters
 pub record IsPieceAt (text : List ℕ) (at : ℕ) (piece : List ℕ) : Type 0 where

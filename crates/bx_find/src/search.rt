@@ -29,9 +29,8 @@ fn first_in<D: BidiData>(
     let mut at = start;
     let mut rest = piece;
     while let Some((c, behind)) = first_char(rest) {
-        let found = read(query, tables, held, c, at);
-        if found.is_some() {
-            return found;
+        if let Some(found) = read(query, tables, held, c, at) {
+            return Some(found);
         }
         at += c.len_utf8();
         rest = behind;
@@ -49,12 +48,15 @@ pub fn first_from<P: Pieces, D: BidiData>(
     requires { IsCharBoundary (P.text source.now) x }
     ensures { result ≡ first_from (D.data tables.now) query.now (P.text source.now) x }
 {
+    // used by the contract alone
+    let _some = query.len();
+    let len = source.len();
     let mut held = Ring::new();
     let mut at = x;
-    while let Some(piece) = source.piece_at(at) {
-        let found = first_in(query, tables, &mut held, piece, at);
-        if found.is_some() {
-            return found;
+    while at < len {
+        let piece = source.piece_at(at);
+        if let Some(found) = first_in(query, tables, &mut held, piece, at) {
+            return Some(found);
         }
         at += piece.len();
     }
@@ -120,13 +122,17 @@ pub fn last_before<P: Pieces, D: BidiData>(
 ) -> Option<usize>
     ensures { result ≡ last_before (D.data tables.now) query.now (P.text source.now) x }
 {
+    // used by the contract alone
+    let _some = query.len();
+    let len = source.len();
     let mut held = Ring::new();
     let mut latest = Latest {
         before: x,
         found: None,
     };
     let mut at = 0;
-    while let Some(piece) = source.piece_at(at) {
+    while at < len {
+        let piece = source.piece_at(at);
         last_in(query, tables, &mut held, &mut latest, piece, at);
         at += piece.len();
     }

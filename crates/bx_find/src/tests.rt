@@ -5,23 +5,24 @@ use crate::{Pieces, Query, first_from, last_before};
 use bx_ucd::{Tables, sample_tables};
 use std::test::Fail;
 
-/// A text that lends itself in pieces of at most four bytes, or of one character.
+/// A text that lends each character as a piece.
 #[derive(Drop)]
 struct Cut<'t>(&'t str);
 
 impl<'t> Pieces for Cut<'t> {
     ghost text = { λ w. w.0.now };
 
-    fn piece_at(&self, offset: usize) -> Option<&str> {
-        if offset >= self.0.len() || !self.0.is_char_boundary(offset) {
-            return None;
-        }
+    fn len(&self) -> usize {
+        self.0.len()
+    }
+
+    fn piece_at(&self, offset: usize) -> &str {
         for len in 1..5 {
-            if self.0.is_char_boundary(offset + len) {
-                return Some(&self.0[offset..offset + len]);
+            if offset + len <= self.0.len() && self.0.is_char_boundary(offset + len) {
+                return &self.0[offset..offset + len];
             }
         }
-        Some(&self.0[offset..])
+        &self.0[offset..]
     }
 }
 
