@@ -2,3 +2,4 @@ pub mod Windows
 pub mod Fallen
 pub mod ReadOn
 pub mod Offsets
+pub mod Nearest
