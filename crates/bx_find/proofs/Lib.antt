@@ -1,0 +1,5 @@
+pub mod Windows
+pub mod Fallen
+pub mod ReadOn
+pub mod Offsets
+pub mod Nearest

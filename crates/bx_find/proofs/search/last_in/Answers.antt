@@ -1,0 +1,37 @@
+use Rattle.std.proofs.Common.{ℕ, List, ◌≡◌, ◌<◌, ◌+◌, ◌∙◌, ◌∷◌, [], ◌++◌, length, chars, ap, ap₂, sym, arith, length-append}
+use Rattle.std.specs.Prelude.{encode_utf8, option_to_list}
+use Rattle.std.proofs.lemmas.Str.{chars_past_char, IsUtf8-past_char}
+use Rattle.bx_find.specs.Held.{to_come}
+use Rattle.bx_find.specs.Standing.{last_below}
+use Rattle.bx_find.proofs.ReadOn.{no_chars}
+use Rattle.bx_find.proofs.search.last_in.Goals as goal
+
+pub loop-c-preserved : goal.loop-c-preserved
+loop-c-preserved g c =
+    let come = to_come (g.D.BidiData.data c.args.tables.now) c.args.query.now in
+    let behind = c.in-Some.behind.now in
+    let read = chars_past_char c.loop-c.rest.now behind c.in-Some.c c.loop-c.invariant.text c.in-Some.ensures.0 in
+    let bytes = ap length c.in-Some.ensures.0 ∙ length-append (encode_utf8 c.in-Some.c) behind in
+    let before = c.loop-c.invariant.before in
+    record {
+      text = IsUtf8-past_char c.loop-c.rest.now behind c.in-Some.c c.loop-c.invariant.text c.in-Some.ensures.0;
+      fewer = c.read.ensures.fewer;
+      bytes = omega (arith, bytes, c.len_utf8-at.ensures.len, c.loop-c.invariant.bytes);
+      before = c.take.ensures.before ∙ before;
+      found = λ cs.
+          let left = come c.read.new.held (c.loop-c.at + length (encode_utf8 c.in-Some.c)) (chars behind ++ cs) in
+          c.loop-c.invariant.found cs
+          ∙ ap (λ (xs : List ℕ). last_below c.args.latest.now.before c.loop-c.latest.found (come c.loop-c.held c.loop-c.at (xs ++ cs))) read
+          ∙ ap (last_below c.args.latest.now.before c.loop-c.latest.found) (c.read.ensures.found (chars behind ++ cs))
+          ∙ ap (λ b. last_below b c.loop-c.latest.found (option_to_list c.read.result ++ left)) (sym before)
+          ∙ c.take.ensures.found left
+          ∙ ap₂ (λ b n. last_below b c.take.new.self.found (come c.read.new.held (c.loop-c.at + n) (chars behind ++ cs))) before (sym c.len_utf8-at.ensures.len);
+    }
+
+pub returns-clause-found : goal.returns-clause-found
+returns-clause-found g c cs =
+    let come = to_come (g.D.BidiData.data c.args.tables.now) c.args.query.now in
+    let at : c.loop-c.at ≡ c.args.start + length c.args.piece.now = omega (arith, c.in_default.ensures, c.loop-c.invariant.bytes) in
+    c.loop-c.invariant.found cs
+    ∙ ap₂ (λ n (xs : List ℕ). last_below c.args.latest.now.before c.loop-c.latest.found (come c.loop-c.held n (xs ++ cs))) at
+    (no_chars c.loop-c.rest.now c.in_default.ensures)

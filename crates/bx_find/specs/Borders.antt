@@ -1,0 +1,23 @@
+-- How much of what is held remains, where the next letter does not fit.
+use Rattle.std.specs.Prelude.{◌≡◌, ℕ, ◌<◌, ◌-◌, ◌+◌, ◌≤◌, List, length, take, slice_range, get_or}
+
+-- the first i letters are the last i of the first k
+abbrev pub Ends : List ℕ → ℕ → ℕ → Type 0
+Ends ls k i = take i ls ≡ slice_range ls (k - i) k
+
+-- f is the greatest such i below k
+pub record IsBorder (ls : List ℕ) (k f : ℕ) : Type 0 where
+  pub below : f < k
+  pub ends : Ends ls k f
+  pub greatest : (i : ℕ) → f < i → i < k → ¬ (Ends ls k i)
+
+-- each beginning of the letters has its border in the table
+abbrev pub AreBorders : List ℕ → List ℕ → Type 0
+AreBorders ls borders = (k : ℕ) → 0 < k → k ≤ length ls → IsBorder ls k (get_or borders k 0)
+
+-- some letters, at most 64, with the border of each beginning
+pub record IsQuery (ls table : List ℕ) : Type 0 where
+  pub some : 0 < length ls
+  pub few : length ls ≤ 64
+  pub count : length table ≡ length ls + 1
+  pub borders : AreBorders ls table

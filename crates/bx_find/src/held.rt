@@ -1,0 +1,74 @@
+//! The letters that a search holds: the longest end of those read with which the query begins.
+ghost use Rattle.std.specs.Prelude.{◌≡◌, ℕ, ◌+◌, ◌<◌, ◌++◌, List, [], ◌∷◌, get_or, length, encode_utf8, option_to_list};
+ghost use Rattle.bx_find.specs.Held.{found_after, to_come};
+
+use crate::letters::letter_if_any;
+use crate::query::Query;
+use crate::ring::Ring;
+use bx_ucd::BidiData;
+
+/// Drops the oldest letters that are held until the next one fits behind the others, or none is held.
+fn fall_back(query: &Query, held: &mut Ring, letter: char)
+    requires { length held.old < length query.now }
+    ensures fewer { length held.new < length query.now }
+    ensures fits { 0 < length held.new → get_or query.now (length held.new) 0 ≡ letter }
+    ensures found { (at : ℕ) (ps : List (ℕ × ℕ)) → found_after query.now held.old ((at, letter) ∷ ps) ≡ found_after query.now held.new ((at, letter) ∷ ps) }
+{
+    while held.len() > 0 && query.letter(held.len()) != letter {
+        held.keep_newest(query.border(held.len()));
+    }
+}
+
+/// Holds one more letter. Returns the offset at which the query stands, if this is the last letter of it.
+fn hold(query: &Query, held: &mut Ring, at: usize) -> Option<usize>
+    requires { length held.old < length query.now }
+    ensures fewer { length held.new < length query.now }
+    ensures found { (ps : List (ℕ × ℕ)) → found_after query.now held.old ((at, get_or query.now (length held.old) 0) ∷ ps)
+        ≡ option_to_list result ++ found_after query.now held.new ps }
+{
+    let all = query.len();
+    held.push(at);
+    if held.len() < all {
+        return None;
+    }
+    let found = held.oldest();
+    held.keep_newest(query.border(all));
+    Some(found)
+}
+
+/// Reads a letter at an offset. Returns the offset at which the query stands, if the letter ends it.
+#[inline(always)]
+fn read_letter(query: &Query, held: &mut Ring, letter: char, at: usize) -> Option<usize>
+    requires { length held.old < length query.now }
+    ensures fewer { length held.new < length query.now }
+    ensures found { (ps : List (ℕ × ℕ)) → found_after query.now held.old ((at, letter) ∷ ps)
+        ≡ option_to_list result ++ found_after query.now held.new ps }
+{
+    if held.len() > 0 {
+        fall_back(query, held, letter);
+    }
+    if query.letter(held.len()) != letter {
+        return None;
+    }
+    hold(query, held, at)
+}
+
+/// Reads a character at an offset. Returns the offset at which the query stands, if the character ends it.
+#[inline(always)]
+pub fn read<D: BidiData>(
+    query: &Query,
+    tables: &D,
+    held: &mut Ring,
+    c: char,
+    at: usize,
+) -> Option<usize>
+    requires { length held.old < length query.now }
+    ensures fewer { length held.new < length query.now }
+    ensures found { (cs : List ℕ) → to_come (D.data tables.now) query.now held.old at (c ∷ cs)
+        ≡ option_to_list result ++ to_come (D.data tables.now) query.now held.new (at + length (encode_utf8 c)) cs }
+{
+    match letter_if_any(tables, c) {
+        None => None,
+        Some(letter) => read_letter(query, held, letter, at),
+    }
+}

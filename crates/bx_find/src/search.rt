@@ -1,0 +1,140 @@
+//! The search of a text for a query, forward and backward.
+ghost use Rattle.std.specs.Prelude.{◌≡◌, ℕ, ◌+◌, ◌≤◌, ◌<◌, ◌^◌, ◌++◌, ◌∷◌, [], List, length, chars, encode_utf8, option_to_list, slice_get, MatchOption, IsCharBoundary};
+ghost use Rattle.bx_find.specs.Held.{to_come};
+ghost use Rattle.bx_find.specs.Standing.{first_from, last_below, last_before};
+
+use crate::held::read;
+use crate::letters::first_char;
+use crate::pieces::Pieces;
+use crate::query::Query;
+use crate::ring::Ring;
+use bx_ucd::BidiData;
+
+/// Reads a piece that begins at an offset, up to the first offset at which the query stands.
+fn first_in<D: BidiData>(
+    query: &Query,
+    tables: &D,
+    held: &mut Ring,
+    piece: &str,
+    start: usize,
+) -> Option<usize>
+    requires fewer { length held.old < length query.now }
+    requires short { start + length piece.now < 2 ^ 64 }
+    ensures fewer { length held.new < length query.now }
+    ensures found { (cs : List ℕ) → MatchOption result
+        (to_come (D.data tables.now) query.now held.old start (chars piece.now ++ cs)
+        ≡ to_come (D.data tables.now) query.now held.new (start + length piece.now) cs)
+        (λ at. slice_get (to_come (D.data tables.now) query.now held.old start (chars piece.now ++ cs)) 0 ≡ Some at) }
+{
+    let mut at = start;
+    let mut rest = piece;
+    while let Some((c, behind)) = first_char(rest) {
+        if let Some(found) = read(query, tables, held, c, at) {
+            return Some(found);
+        }
+        at += c.len_utf8();
+        rest = behind;
+    }
+    None
+}
+
+/// The least offset in bytes, not before `x`, at which the query stands in a text. Reads the text from `x` on.
+pub fn first_from<P: Pieces, D: BidiData>(
+    source: &P,
+    tables: &D,
+    query: &Query,
+    x: usize,
+) -> Option<usize>
+    requires { IsCharBoundary (P.text source.now) x }
+    ensures { result ≡ first_from (D.data tables.now) query.now (P.text source.now) x }
+{
+    // used by the contract alone
+    let _some = query.len();
+    let len = source.len();
+    let mut held = Ring::new();
+    let mut at = x;
+    while at < len {
+        let piece = source.piece_at(at);
+        if let Some(found) = first_in(query, tables, &mut held, piece, at) {
+            return Some(found);
+        }
+        at += piece.len();
+    }
+    None
+}
+
+/// The last offset before another that was found so far.
+#[derive(Drop)]
+struct Latest {
+    before: usize,
+    found: Option<usize>,
+}
+
+impl Latest {
+    /// Takes the next offset that was found, if any.
+    #[inline(always)]
+    fn take(&mut self, next: Option<usize>)
+        ensures before { self.new.before ≡ self.old.before }
+        ensures found { (ats : List ℕ) → last_below self.old.before self.old.found (option_to_list next ++ ats)
+            ≡ last_below self.old.before self.new.found ats }
+    {
+        if let Some(at) = next {
+            if at < self.before {
+                self.found = next;
+            }
+        }
+    }
+}
+
+/// Reads a piece that begins at an offset, and takes each offset at which the query stands.
+fn last_in<D: BidiData>(
+    query: &Query,
+    tables: &D,
+    held: &mut Ring,
+    latest: &mut Latest,
+    piece: &str,
+    start: usize,
+)
+    requires fewer { length held.old < length query.now }
+    requires short { start + length piece.now < 2 ^ 64 }
+    ensures fewer { length held.new < length query.now }
+    ensures before { latest.new.before ≡ latest.old.before }
+    ensures found { (cs : List ℕ)
+        → last_below latest.old.before latest.old.found (to_come (D.data tables.now) query.now held.old start (chars piece.now ++ cs))
+        ≡ last_below latest.old.before latest.new.found (to_come (D.data tables.now) query.now held.new (start + length piece.now) cs) }
+{
+    let mut at = start;
+    let mut rest = piece;
+    while let Some((c, behind)) = first_char(rest) {
+        latest.take(read(query, tables, held, c, at));
+        at += c.len_utf8();
+        rest = behind;
+    }
+}
+
+/// The greatest offset in bytes before `x` at which the query stands in a text. Reads the text from its start, up to the
+/// first character after `x` from which on nothing is held.
+pub fn last_before<P: Pieces, D: BidiData>(
+    source: &P,
+    tables: &D,
+    query: &Query,
+    x: usize,
+) -> Option<usize>
+    ensures { result ≡ last_before (D.data tables.now) query.now (P.text source.now) x }
+{
+    // used by the contract alone
+    let _some = query.len();
+    let len = source.len();
+    let mut held = Ring::new();
+    let mut latest = Latest {
+        before: x,
+        found: None,
+    };
+    let mut at = 0;
+    while at < len {
+        let piece = source.piece_at(at);
+        last_in(query, tables, &mut held, &mut latest, piece, at);
+        at += piece.len();
+    }
+    latest.found
+}
