@@ -11,10 +11,10 @@ ghost use Rattle.bx_view.specs.Source.{IsBefore, IsNext, IsOfText, IsViewBy, Kee
 ghost use Rattle.bx_view.specs.TextRows.{cell_of, row_of};
 
 use crate::error::ViewError;
-use crate::holder::{hold, lay_out_in, position, room_beside};
+use crate::holder::{held_limit, hold, lay_out_in, position};
 use crate::row_at::RowAt;
 use crate::source::Source;
-use crate::span::{paragraph_under, walked_span};
+use crate::span::{current_span, paragraph_under};
 use bx_paragraph::ParagraphLayout;
 use bx_terms::{Base, OutOfMemory};
 use bx_ucd::BidiData;
@@ -111,8 +111,8 @@ impl Layout {
         };
         let alloc = *self.held.allocator();
         let layout = ParagraphLayout::of(alloc, body, source.tables, self.w, self.base)?;
-        let room = room_beside(source.text.len());
-        let i = hold(&mut self.held, layout, source.tables, self.base, room)?;
+        let limit = held_limit(source.text.len());
+        let i = hold(&mut self.held, layout, source.tables, self.base, limit)?;
         self.recent = i;
         Ok(i)
     }
@@ -187,7 +187,7 @@ impl Layout {
             return Ok(None);
         }
         let number = walk.number();
-        let (start, stop) = walked_span(source, &walk);
+        let (start, stop) = current_span(source, &walk);
         let held = self.find(source, number, start, stop)?;
         Ok(Some(RowAt {
             paragraph: number,
@@ -223,7 +223,7 @@ impl Layout {
             return Ok(None);
         }
         let number = walk.number();
-        let (start, stop) = walked_span(source, &walk);
+        let (start, stop) = current_span(source, &walk);
         let held = self.find(source, number, start, stop)?;
         let rows = self.paragraph(source, number, held).row_count();
         Ok(Some(RowAt {
@@ -249,7 +249,7 @@ impl Layout {
         ensures paragraph { IfOk result (λ at. at.paragraph ≡ paragraph_of (lengths (D.data source.now.tables.now) (bytes source.now)) offset) }
         ensures order { IfOk result (λ at. at.start ≤ offset) }
     {
-        let (number, start, _) = paragraph_under(source, offset);
+        let (number, start, stop) = paragraph_under(source, offset);
         if number == at.paragraph {
             let paragraph = self.paragraph(source, number, at.held);
             return Ok(RowAt {
@@ -259,8 +259,15 @@ impl Layout {
                 held: at.held,
             });
         }
-        let there = self.row_at(source, offset)?;
-        Ok(there)
+        let held = self.find(source, number, start, stop)?;
+        let paragraph = self.paragraph(source, number, held);
+        let row = paragraph.row_of(offset - start);
+        Ok(RowAt {
+            paragraph: number,
+            start,
+            row,
+            held,
+        })
     }
 
     /// The column, from 1, of the cell of a place.
