@@ -1,6 +1,4 @@
-use Rattle.std.proofs.Common.{◌≡◌, ◌<◌, ◌+◌, ◌-◌, ◌∙◌, ap, arith, length, refl}
-use Rattle.bx_paragraph.specs.BodyRows.{row_of as row_of_body}
-use Rattle.bx_paragraph.specs.Layout.{rows_by}
+use Rattle.std.proofs.Common.{◌+◌, ◌∙◌, ap, arith, refl}
 use Rattle.bx_view.specs.Holding.{Keeps}
 use Rattle.bx_view.proofs.Told.{cell-told, row-counted, row-own}
 use Rattle.bx_view.proofs.UnitNumbers.{number-short, number-told}
