@@ -1,14 +1,15 @@
 -- The bytes that a recorder appends, holds and loses.
-use Rattle.std.proofs.Common.{◌≡◌, ◌≢◌, ◌≤◌, ◌+◌, ◌-◌, ℕ, Bool, false, Result, Ok, Err, zero, suc, List, [], ◌++◌, Option, drop, take, length, refl, sym, ap, subst, ◌∙◌, append_assoc, ◌⊎◌, inl, inr, arith}
+use Rattle.std.proofs.Common.{◌≡◌, ◌≢◌, ◌≤◌, ◌+◌, ◌-◌, ℕ, zero, suc, Bool, false, Result, Ok, Err, List, [], ◌++◌, Option, drop, take, length}
+use Rattle.std.proofs.Common.{refl, sym, ap, subst, ◌∙◌, append_assoc, ◌⊎◌, inl, inr, arith}
 use Rattle.std.specs.Prelude.{is_err, is_ok, vec_items, if◌then◌else◌}
 use Rattle.std.specs.Io.KnownBytes.{Appends}
 use Rattle.std.proofs.KnownBytes.{Appends-nil, Appends-trans}
 use Rattle.std.proofs.lemmas.List.{append-nil, length-drop, take-append-drop, take_rest}
 use Rattle.std.proofs.Math.Seq.{take-add}
 use Rattle.bx_store.specs.Stores.{one_more}
-use Rattle.bx_session.specs.declared.journal.Kept.{Kept}
-use Rattle.bx_session.specs.declared.journal.Kept.TheVariants.{Whole, Waiting, Cut}
-use Rattle.bx_session.specs.Journal.{RecorderState, HasKept, Holds, waiting, after_faults}
+use Rattle.bx_session.specs.declared.journal.Backlog.{Backlog}
+use Rattle.bx_session.specs.declared.journal.Backlog.TheVariants.{Empty, Waiting, Lost}
+use Rattle.bx_session.specs.Journal.{RecorderState, HasKept, Holds, IfWaiting, waiting, after_faults}
 
 -- ---- writes
 
@@ -28,15 +29,21 @@ extended (Err error) failed items all some is works e = absurd (let g = sym is �
 
 -- ---- one call
 
+-- a fact, whatever the backlog
+pub if_waiting : (P : Type 0) (k : Backlog) → P → IfWaiting k P
+if_waiting P Empty h = tt
+if_waiting P (Waiting held) h = h
+if_waiting P Lost h = tt
+
 module _ {J : Type 0} (contents : J → Option (List ℕ)) (failures : J → ℕ) (old new : RecorderState J) (bytes : List ℕ) where
   -- all is appended
-  pub kept_whole : new.kept ≡ Whole → Appends (contents old.journal) (contents new.journal) (waiting old.kept ++ bytes)
-      → failures new.journal ≡ failures old.journal → old.kept ≢ Cut → HasKept contents failures old new bytes
-  kept_whole is grows well there = record {
-    appended = waiting old.kept ++ bytes;
+  pub kept_all : new.backlog ≡ Empty → Appends (contents old.journal) (contents new.journal) (waiting old.backlog ++ bytes)
+      → failures new.journal ≡ failures old.journal → old.backlog ≢ Lost → HasKept contents failures old new bytes
+  kept_all is grows well there = record {
+    appended = waiting old.backlog ++ bytes;
     lost = [];
     faults = 0;
-    order = sym (ap (λ k. (waiting old.kept ++ bytes) ++ (waiting k ++ [])) is ∙ append-nil (waiting old.kept ++ bytes));
+    order = sym (ap (λ k. (waiting old.backlog ++ bytes) ++ (waiting k ++ [])) is ∙ append-nil (waiting old.backlog ++ bytes));
     grows = grows;
     all = λ h. refl;
     stays = λ h. absurd (there h);
@@ -45,18 +52,18 @@ module _ {J : Type 0} (contents : J → Option (List ℕ)) (failures : J → ℕ
   }
 
   -- the first ones are appended, and the others held, if there is memory for them
-  pub kept_part : (n : ℕ) → Holds new.kept (drop n (waiting old.kept ++ bytes))
-      → Appends (contents old.journal) (contents new.journal) (take n (waiting old.kept ++ bytes))
-      → failures new.journal ≡ one_more (failures old.journal) → old.kept ≢ Cut → HasKept contents failures old new bytes
-  kept_part n holds grows fault there = by_kept new.kept refl where
+  pub kept_part : (n : ℕ) → Holds new.backlog (drop n (waiting old.backlog ++ bytes))
+      → Appends (contents old.journal) (contents new.journal) (take n (waiting old.backlog ++ bytes))
+      → failures new.journal ≡ one_more (failures old.journal) → old.backlog ≢ Lost → HasKept contents failures old new bytes
+  kept_part n holds grows fault there = by_kept new.backlog refl where
     all : List ℕ
-    all = waiting old.kept ++ bytes
+    all = waiting old.backlog ++ bytes
 
     split : all ≡ take n all ++ drop n all
     split = sym (take-append-drop n all)
 
-    by_kept : (k : Kept) → new.kept ≡ k → HasKept contents failures old new bytes
-    by_kept Whole e = absurd (subst (λ x. Holds x (drop n all)) e holds)
+    by_kept : (k : Backlog) → new.backlog ≡ k → HasKept contents failures old new bytes
+    by_kept Empty e = absurd (subst (λ x. Holds x (drop n all)) e holds)
     by_kept (Waiting held) e =
         let is : vec_items held ≡ drop n all = subst (λ x. Holds x (drop n all)) e holds in record {
           appended = take n all;
@@ -72,7 +79,7 @@ module _ {J : Type 0} (contents : J → Option (List ℕ)) (failures : J → ℕ
           counted = fault;
           fault = λ h k. omega arith;
         }
-    by_kept Cut e = record {
+    by_kept Lost e = record {
       appended = take n all;
       lost = drop n all;
       faults = 1;
@@ -85,12 +92,12 @@ module _ {J : Type 0} (contents : J → Option (List ℕ)) (failures : J → ℕ
     }
 
   -- out of memory for bytes after those that wait
-  pub kept_lost : new.kept ≡ Cut → new.journal ≡ old.journal → old.kept ≢ Whole → old.kept ≢ Cut → HasKept contents failures old new bytes
+  pub kept_lost : new.backlog ≡ Lost → new.journal ≡ old.journal → old.backlog ≢ Empty → old.backlog ≢ Lost → HasKept contents failures old new bytes
   kept_lost is same waits there = record {
     appended = [];
-    lost = waiting old.kept ++ bytes;
+    lost = waiting old.backlog ++ bytes;
     faults = 0;
-    order = ap (λ x. waiting x ++ (waiting old.kept ++ bytes)) (sym is);
+    order = ap (λ x. waiting x ++ (waiting old.backlog ++ bytes)) (sym is);
     grows = subst (λ (x : J). Appends (contents old.journal) (contents x) []) (sym same) (Appends-nil (contents old.journal));
     all = λ h. absurd (h is);
     stays = λ h. absurd (there h);
@@ -98,8 +105,8 @@ module _ {J : Type 0} (contents : J → Option (List ℕ)) (failures : J → ℕ
     fault = λ h k. absurd (waits h);
   }
 
--- a journal that is cut is left alone
-pub kept_alone : {J : Type 0} (contents : J → Option (List ℕ)) (failures : J → ℕ) (s : RecorderState J) (bytes : List ℕ) → s.kept ≡ Cut
+-- after a loss nothing changes
+pub kept_alone : {J : Type 0} (contents : J → Option (List ℕ)) (failures : J → ℕ) (s : RecorderState J) (bytes : List ℕ) → s.backlog ≡ Lost
     → HasKept contents failures s s bytes
 kept_alone contents failures s bytes cut = record {
   appended = [];
@@ -134,66 +141,66 @@ faults_more zero m count = let same : m ≡ 0 + m = omega arith in ap (λ k. aft
 faults_more (suc n) m count =
     let same : suc (n + m) ≡ suc n + m = omega arith in ap one_more (faults_more n m count) ∙ ap (λ k. after_faults k count) same
 
-is_cut : (k : Kept) → (k ≡ Cut) ⊎ (k ≢ Cut)
-is_cut Whole = inr (λ h. cc h)
-is_cut (Waiting held) = inr (λ h. cc h)
-is_cut Cut = inl refl
+has_lost : (k : Backlog) → (k ≡ Lost) ⊎ (k ≢ Lost)
+has_lost Empty = inr (λ h. cc h)
+has_lost (Waiting held) = inr (λ h. cc h)
+has_lost Lost = inl refl
 
-pub is_whole : (k : Kept) → (k ≡ Whole) ⊎ (k ≢ Whole)
-is_whole Whole = inl refl
-is_whole (Waiting held) = inr (λ h. cc h)
-is_whole Cut = inr (λ h. cc h)
+pub has_none : (k : Backlog) → (k ≡ Empty) ⊎ (k ≢ Empty)
+has_none Empty = inl refl
+has_none (Waiting held) = inr (λ h. cc h)
+has_none Lost = inr (λ h. cc h)
 
 -- bytes after others
 pub kept_more : {J : Type 0} (contents : J → Option (List ℕ)) (failures : J → ℕ) (old mid new : RecorderState J) (bytes more : List ℕ)
     → HasKept contents failures old mid bytes → HasKept contents failures mid new more → HasKept contents failures old new (bytes ++ more)
-kept_more {J} contents failures old mid new bytes more first next = elim (is_cut mid.kept) [
+kept_more {J} contents failures old mid new bytes more first next = elim (has_lost mid.backlog) [
   | inl cut ↦ alone cut
   | inr there ↦ joined there
 ] where
   counts : failures new.journal ≡ after_faults (next.faults + first.faults) (failures old.journal)
   counts = next.counted ∙ ap (after_faults next.faults) first.counted ∙ faults_more next.faults first.faults (failures old.journal)
 
-  faulty : old.kept ≡ Whole → new.kept ≢ Whole → 1 ≤ next.faults + first.faults
-  faulty h k = elim (is_whole mid.kept) [
+  faulty : old.backlog ≡ Empty → new.backlog ≢ Empty → 1 ≤ next.faults + first.faults
+  faulty h k = elim (has_none mid.backlog) [
     | inl whole ↦ let some = next.fault whole k in omega (arith, some)
     | inr part ↦ let some = first.fault h part in omega (arith, some)
   ]
 
-  alone : mid.kept ≡ Cut → HasKept contents failures old new (bytes ++ more)
+  alone : mid.backlog ≡ Lost → HasKept contents failures old new (bytes ++ more)
   alone cut =
       let same : new ≡ mid = next.stays cut in record {
         appended = first.appended;
         lost = first.lost ++ more;
         faults = next.faults + first.faults;
-        order = sym (append_assoc (waiting old.kept) bytes more)
+        order = sym (append_assoc (waiting old.backlog) bytes more)
             ∙ ap (λ xs. xs ++ more) first.order
-            ∙ append_assoc first.appended (waiting mid.kept ++ first.lost) more
-            ∙ ap (λ xs. first.appended ++ xs) (append_assoc (waiting mid.kept) first.lost more)
-            ∙ ap (λ (x : RecorderState J). first.appended ++ (waiting x.kept ++ (first.lost ++ more))) (sym same);
+            ∙ append_assoc first.appended (waiting mid.backlog ++ first.lost) more
+            ∙ ap (λ xs. first.appended ++ xs) (append_assoc (waiting mid.backlog) first.lost more)
+            ∙ ap (λ (x : RecorderState J). first.appended ++ (waiting x.backlog ++ (first.lost ++ more))) (sym same);
         grows = subst (λ (x : RecorderState J). Appends (contents old.journal) (contents x.journal) first.appended) (sym same) first.grows;
-        all = λ h. absurd (h (ap (λ (x : RecorderState J). x.kept) same ∙ cut));
+        all = λ h. absurd (h (ap (λ (x : RecorderState J). x.backlog) same ∙ cut));
         stays = λ h. same ∙ first.stays h;
         counted = counts;
         fault = faulty;
       }
 
-  joined : mid.kept ≢ Cut → HasKept contents failures old new (bytes ++ more)
+  joined : mid.backlog ≢ Lost → HasKept contents failures old new (bytes ++ more)
   joined there =
       let none : first.lost ≡ [] = first.all there in record {
         appended = first.appended ++ next.appended;
         lost = next.lost;
         faults = next.faults + first.faults;
-        order = sym (append_assoc (waiting old.kept) bytes more)
+        order = sym (append_assoc (waiting old.backlog) bytes more)
             ∙ ap (λ xs. xs ++ more) first.order
-            ∙ ap (λ xs. (first.appended ++ (waiting mid.kept ++ xs)) ++ more) none
-            ∙ ap (λ xs. (first.appended ++ xs) ++ more) (append-nil (waiting mid.kept))
-            ∙ append_assoc first.appended (waiting mid.kept) more
+            ∙ ap (λ xs. (first.appended ++ (waiting mid.backlog ++ xs)) ++ more) none
+            ∙ ap (λ xs. (first.appended ++ xs) ++ more) (append-nil (waiting mid.backlog))
+            ∙ append_assoc first.appended (waiting mid.backlog) more
             ∙ ap (λ xs. first.appended ++ xs) next.order
-            ∙ sym (append_assoc first.appended next.appended (waiting new.kept ++ next.lost));
+            ∙ sym (append_assoc first.appended next.appended (waiting new.backlog ++ next.lost));
         grows = Appends-trans (contents old.journal) (contents mid.journal) (contents new.journal) first.appended next.appended first.grows next.grows;
         all = next.all;
-        stays = λ h. absurd (there (ap (λ (x : RecorderState J). x.kept) (first.stays h) ∙ h));
+        stays = λ h. absurd (there (ap (λ (x : RecorderState J). x.backlog) (first.stays h) ∙ h));
         counted = counts;
         fault = faulty;
       }

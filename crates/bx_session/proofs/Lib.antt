@@ -1,3 +1,4 @@
+pub mod Applied
 pub mod Bytes
 pub mod Computed
 pub mod Input

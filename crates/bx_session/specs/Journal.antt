@@ -3,28 +3,28 @@ use Rattle.std.specs.Prelude.{◌≡◌, ◌≢◌, ◌≤◌, ℕ, zero, suc, L
 use Rattle.std.specs.Io.KnownBytes.{Appends}
 use Rattle.bx_ucd.specs.Data.{Data}
 use Rattle.bx_store.specs.Stores.{one_more}
-use Rattle.bx_session.specs.declared.journal.Kept.{Kept}
-use Rattle.bx_session.specs.declared.journal.Kept.TheVariants.{Whole, Waiting, Cut}
+use Rattle.bx_session.specs.declared.journal.Backlog.{Backlog}
+use Rattle.bx_session.specs.declared.journal.Backlog.TheVariants.{Empty, Waiting, Lost}
 use Rattle.bx_session.specs.Session.{Session}
 use Rattle.bx_session.specs.Saving.{StoreState}
 use Rattle.bx_session.specs.Running.{ByteAnswer, HasRun, bytes_of}
 
--- a journal, and how much of the input it has
+-- a journal, and the end of the input that it does not have
 pub record RecorderState (J : Type 0) : Type 0 where
   pub journal : J
-  pub kept : Kept
+  pub backlog : Backlog
 
 -- the bytes that wait in memory
-abbrev pub waiting : Kept → List ℕ
-waiting Whole = []
+abbrev pub waiting : Backlog → List ℕ
+waiting Empty = []
 waiting (Waiting bytes) = vec_items bytes
-waiting Cut = []
+waiting Lost = []
 
 -- these bytes wait in memory, or they were lost
-abbrev pub Holds : Kept → List ℕ → Type 0
-Holds Whole bytes = ⊥
+abbrev pub Holds : Backlog → List ℕ → Type 0
+Holds Empty bytes = ⊥
 Holds (Waiting held) bytes = vec_items held ≡ bytes
-Holds Cut bytes = Unit {0}
+Holds Lost bytes = Unit {0}
 
 -- a count of failures after `n` more
 abbrev pub after_faults : ℕ → ℕ → ℕ
@@ -32,19 +32,28 @@ after_faults zero count = count
 after_faults (suc n) count = one_more (after_faults n count)
 
 -- Bytes are handed to a recorder. The bytes that waited, followed by the new ones, fall into three parts in this order: the first are
--- appended to the journal, the next wait, the last are lost. Bytes are lost only if the journal is cut, and a cut journal never
--- changes. So the journal always has a beginning of the input, and all of it if it is whole. A whole journal stops being whole only
--- if one of its calls fails.
+-- appended to the journal, the next wait, the last are lost. After a loss the recorder never changes. So the journal always has a
+-- beginning of the input, and all of it if the backlog is empty. An empty backlog grows only if a call of the journal fails.
 pub record HasKept {J : Type 0} (contents : J → Option (List ℕ)) (failures : J → ℕ) (old new : RecorderState J) (bytes : List ℕ) : Type 0 where
   pub appended : List ℕ
   pub lost : List ℕ
   pub faults : ℕ
-  pub order : waiting old.kept ++ bytes ≡ appended ++ (waiting new.kept ++ lost)
+  pub order : waiting old.backlog ++ bytes ≡ appended ++ (waiting new.backlog ++ lost)
   pub grows : Appends (contents old.journal) (contents new.journal) appended
-  pub all : new.kept ≢ Cut → lost ≡ []
-  pub stays : old.kept ≡ Cut → new ≡ old
+  pub all : new.backlog ≢ Lost → lost ≡ []
+  pub stays : old.backlog ≡ Lost → new ≡ old
   pub counted : failures new.journal ≡ after_faults faults (failures old.journal)
-  pub fault : old.kept ≡ Whole → new.kept ≢ Whole → 1 ≤ faults
+  pub fault : old.backlog ≡ Empty → new.backlog ≢ Empty → 1 ≤ faults
+
+-- a property that is asked for only while bytes wait, even if they are none
+abbrev pub IfWaiting : Backlog → Type 0 → Type 0
+IfWaiting Empty P = Unit {0}
+IfWaiting (Waiting bytes) P = P
+IfWaiting Lost P = Unit {0}
+
+-- one call of a recorder: bytes wait after it only if the journal failed in it, so all that waited before were tried again
+abbrev pub HasTried : {J : Type 0} → (J → ℕ) → RecorderState J → RecorderState J → Type 0
+HasTried failures old new = IfWaiting new.backlog (failures new.journal ≡ one_more (failures old.journal))
 
 -- a run whose input, the dropped bytes included, is handed to a recorder
 abbrev pub RunsRecorded : {J : Type 0} → (J → Option (List ℕ)) → (J → ℕ) → Data → Session → Session → StoreState → StoreState

@@ -19,7 +19,7 @@ use bx_terms::is_side;
 use bx_ucd::BidiData;
 
 /// Whether the screen's content counts as unknown after a key.
-pub(crate) fn asks_for_whole(key: Key) -> bool
+fn asks_for_whole(key: Key) -> bool
     ensures { result ≡ keys.asks_for_whole key }
 {
     matches!(key, Key::Repaint | Key::Size(_, _))
@@ -32,56 +32,29 @@ fn is_size(height: u16, width: u16) -> bool
     is_side(height) && is_side(width)
 }
 
-/// Applies a key other than Save.
+/// Applies a key to the editor. After Save, `saved` says whether the store has the text.
 ///
 /// Errors: `Edit` if memory runs out, only for a key that edits or moves; nothing has changed.
-pub(crate) fn apply_unsaved<D: BidiData + Drop>(
-    editor: &mut Editor<D>,
-    key: Key,
-) -> Result<(), Refused>
-    requires no_save { keys.is_save key ≡ false }
+fn apply<D: BidiData + Drop>(editor: &mut Editor<D>, key: Key, saved: bool) -> Result<(), Refused>
     requires sides { HasSides key }
-    ensures after_key { OnOk result (editor.new ≡ record editor.old { editor = keys.after_key (D.data editor.old.tables) false editor.old.editor key }) }
-    ensures err { OnErr result (editor.new ≡ editor.old) }
-    ensures edits { OnErr result (keys.is_edit_or_move key ≡ true) }
-    ensures refused { OnErr result (result ≡ Err Refused.Edit) }
-{
-    match key {
-        Key::Size(height, width) => editor.resize(height, width),
-        _ => {
-            if editor.apply(key).is_err() {
-                return Err(Refused::Edit);
-            }
-        }
-    }
-    Ok(())
-}
-
-/// Applies a key; a Save goes to the store.
-///
-/// Errors: `Edit` if memory runs out, only for a key that edits or moves; nothing has changed.
-fn apply<D: BidiData + Drop, S: Store>(
-    editor: &mut Editor<D>,
-    key: Key,
-    store: &mut S,
-) -> Result<(), Refused>
-    requires sides { HasSides key }
-    ensures after_key { (saved : Bool)
-        × StoreAfter (keys.is_save key) saved editor.old.editor.content.text (store_state S.contents S.failure_count store.old)
-        (store_state S.contents S.failure_count store.new)
-        × OnOk result (editor.new ≡ record editor.old { editor = keys.after_key (D.data editor.old.tables) saved editor.old.editor key }) }
-    ensures untouched { keys.is_save key ≡ false → store.new ≡ store.old }
+    ensures after_key { OnOk result (editor.new ≡ record editor.old { editor = keys.after_key (D.data editor.old.tables) saved editor.old.editor key }) }
     ensures err { OnErr result (editor.new ≡ editor.old) }
     ensures edits { OnErr result (keys.is_edit_or_move key ≡ true) }
     ensures refused { OnErr result (result ≡ Err Refused.Edit) }
 {
     match key {
         Key::Save => {
-            let saved = save_pieces(editor.pieces(), store).is_ok();
             editor.finish_save(saved);
             Ok(())
         }
-        _ => apply_unsaved(editor, key),
+        Key::Size(height, width) => {
+            editor.resize(height, width);
+            Ok(())
+        }
+        _ => match editor.apply(key) {
+            Ok(()) => Ok(()),
+            Err(_) => Err(Refused::Edit),
+        },
     }
 }
 
@@ -98,21 +71,29 @@ impl<D: BidiData + Drop> Session<D> {
         self.decoder.feed(byte)
     }
 
-    /// Applies a key without painting.
+    /// Stores the text if the key is Save. Returns whether it was stored.
+    fn save_on<S: Store>(&self, key: Key, store: &mut S) -> bool
+        ensures after { StoreAfter (keys.is_save key) result self.now.session.editor.content.text
+            (store_state S.contents S.failure_count store.old) (store_state S.contents S.failure_count store.new) }
+        ensures untouched { keys.is_save key ≡ false → store.new ≡ store.old }
+    {
+        match key {
+            Key::Save => save_pieces(self.editor.pieces(), store).is_ok(),
+            _ => false,
+        }
+    }
+
+    /// Applies a key without painting. After Save, `saved` says whether the store has the text.
     ///
     /// Errors: `Edit` if memory runs out, only for a key that edits or moves; nothing has changed.
-    fn press<S: Store>(&mut self, key: Key, store: &mut S) -> Result<(), Refused>
+    pub(crate) fn press(&mut self, key: Key, saved: bool) -> Result<(), Refused>
         requires sides { HasSides key }
-        ensures after_key { (saved : Bool)
-            × StoreAfter (keys.is_save key) saved self.old.session.editor.content.text (store_state S.contents S.failure_count store.old)
-            (store_state S.contents S.failure_count store.new)
-            × OnOk result (self.new ≡ record self.old { session = session_after_key (D.data self.old.tables) saved self.old.session key }) }
-        ensures untouched { keys.is_save key ≡ false → store.new ≡ store.old }
+        ensures after_key { OnOk result (self.new ≡ record self.old { session = session_after_key (D.data self.old.tables) saved self.old.session key }) }
         ensures err { OnErr result (self.new ≡ self.old) }
         ensures edits { OnErr result (keys.is_edit_or_move key ≡ true) }
         ensures refused { OnErr result (result ≡ Err Refused.Edit) }
     {
-        apply(&mut self.editor, key, store)?;
+        apply(&mut self.editor, key, saved)?;
         if asks_for_whole(key) || self.editor.ended() {
             self.is_known = false;
         }
@@ -135,7 +116,8 @@ impl<D: BidiData + Drop> Session<D> {
     {
         match self.decode(byte) {
             Some(key) => {
-                self.press(key, store)?;
+                let saved = self.save_on(key, store);
+                self.press(key, saved)?;
                 Ok(true)
             }
             None => Ok(self.painting_owed),

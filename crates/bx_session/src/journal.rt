@@ -2,7 +2,7 @@
 
 ghost use Rattle.std.specs.Prelude.{◌≡◌, ◌≤◌, ◌++◌, ◌↔◌, ℕ, List, IsTrue, IfErr, OnErr, OnOk, length, take, drop};
 ghost use Rattle.std.specs.Io.KnownBytes.{Appends};
-ghost use Rattle.bx_session.specs.Journal.{HasKept, Holds};
+ghost use Rattle.bx_session.specs.Journal.{HasKept, HasTried, Holds};
 
 use std::alloc::Global;
 use std::io::Write;
@@ -114,25 +114,25 @@ fn write_out<W: Write>(writer: &mut W, bytes: &[u8]) -> Result<(), JournalFault>
     }
 }
 
-/// How much of the input a journal has.
+/// The end of the input that a journal does not have.
 #[derive(Drop)]
-pub enum Kept {
-    /// All of it.
-    Whole,
-    /// All but these last bytes, which wait in memory.
+pub enum Backlog {
+    /// None: all bytes were appended.
+    Empty,
+    /// These bytes wait in memory to be appended.
     Waiting(Vec<u8>),
-    /// Only the beginning. The rest was lost: out of memory.
-    Cut,
+    /// The bytes from some point on were lost when memory ran out. The journal gets no more.
+    Lost,
 }
 
 /// Appends the input to a journal. Bytes that the journal refuses wait in memory, and the next call appends them first, so the
-/// journal never has a gap. If memory runs out for them, the journal is cut there and gets no more bytes. The session's input
+/// journal never has a gap. If memory runs out for them, they are lost, and the journal gets no more bytes. The session's input
 /// is the same in every case.
 #[derive(Drop)]
 pub struct Recorder<J: Journal + Drop> {
     alloc: Global,
     journal: J,
-    kept: Kept,
+    backlog: Backlog,
 }
 
 impl<J: Journal + Drop> Model for Recorder<J> {
@@ -140,78 +140,86 @@ impl<J: Journal + Drop> Model for Recorder<J> {
 
     ghost Value = { RecorderState J };
 
-    ghost view = { λ s. record { journal = s.journal; kept = s.kept } };
+    ghost view = { λ s. record { journal = s.journal; backlog = s.backlog } };
 }
 
 impl<J: Journal + Drop> Recorder<J> {
     ghost use Rattle.std.specs.Prelude.{◌≡◌};
-    ghost use Rattle.bx_session.specs.Journal.{HasKept};
+    ghost use Rattle.bx_session.specs.Journal.{HasKept, HasTried};
 
     /// A recorder that appends to `journal`.
     pub fn new(alloc: Global, journal: J) -> Recorder<J>
-        ensures { result ≡ record { journal = journal; kept = Kept.Whole } }
+        ensures { result ≡ record { journal = journal; backlog = Backlog.Empty } }
     {
         Recorder {
             alloc,
             journal,
-            kept: Kept::Whole,
+            backlog: Backlog::Empty,
         }
     }
 
     /// Whether the journal has all of the input. Allocates nothing.
     pub fn has_all(&self) -> bool
-        ensures { IsTrue result ↔ (self.now.kept ≡ Kept.Whole) }
+        ensures { IsTrue result ↔ (self.now.backlog ≡ Backlog.Empty) }
     {
-        matches!(&self.kept, Kept::Whole)
+        matches!(&self.backlog, Backlog::Empty)
     }
 
-    /// Appends the waiting bytes, then `bytes`, to the journal.
+    /// Appends the waiting bytes, then `bytes`, to the journal. Bytes wait afterwards only if the journal fails in this call.
     pub(crate) fn keep(&mut self, bytes: &[u8])
         ensures keeps { HasKept J.contents J.failure_count self.old self.new bytes.now }
+        ensures tries { HasTried J.failure_count self.old self.new }
     {
-        let kept = mem::replace(&mut self.kept, Kept::Cut);
-        self.kept = append_to(&mut self.journal, self.alloc, kept, bytes);
+        let backlog = mem::replace(&mut self.backlog, Backlog::Lost);
+        self.backlog = append_to(&mut self.journal, self.alloc, backlog, bytes);
     }
 }
 
-/// Appends bytes to a journal, after those of `kept` that wait.
-fn append_to<J: Journal + Drop>(journal: &mut J, alloc: Global, kept: Kept, bytes: &[u8]) -> Kept
-    ensures { HasKept J.contents J.failure_count (record { journal = journal.old; kept = kept }) (record { journal = journal.new; kept = result }) bytes.now }
+/// Appends the bytes that wait, then `bytes`, to a journal. Returns the new backlog.
+fn append_to<J: Journal + Drop>(
+    journal: &mut J,
+    alloc: Global,
+    backlog: Backlog,
+    bytes: &[u8],
+) -> Backlog
+    ensures keeps { HasKept J.contents J.failure_count (record { journal = journal.old; backlog = backlog }) (record { journal = journal.new; backlog = result }) bytes.now }
+    ensures tries { HasTried J.failure_count (record { journal = journal.old; backlog = backlog }) (record { journal = journal.new; backlog = result }) }
 {
-    match kept {
-        Kept::Whole => match journal.append(bytes) {
-            Ok(()) => Kept::Whole,
+    match backlog {
+        Backlog::Empty => match journal.append(bytes) {
+            Ok(()) => Backlog::Empty,
             Err(fault) => held(alloc, &bytes[fault.written..]),
         },
-        Kept::Waiting(waiting) => append_waiting(journal, waiting, bytes),
-        Kept::Cut => Kept::Cut,
+        Backlog::Waiting(waiting) => append_waiting(journal, waiting, bytes),
+        Backlog::Lost => Backlog::Lost,
     }
 }
 
-/// Appends the waiting bytes and these in one call. Refused bytes wait on. If memory runs out, all are lost.
-fn append_waiting<J: Journal + Drop>(journal: &mut J, mut waiting: Vec<u8>, bytes: &[u8]) -> Kept
-    ensures { HasKept J.contents J.failure_count (record { journal = journal.old; kept = Kept.Waiting waiting }) (record { journal = journal.new; kept = result }) bytes.now }
+/// Appends the waiting bytes and `bytes` in one call. Refused bytes wait on. If memory runs out, all are lost.
+fn append_waiting<J: Journal + Drop>(journal: &mut J, mut waiting: Vec<u8>, bytes: &[u8]) -> Backlog
+    ensures keeps { HasKept J.contents J.failure_count (record { journal = journal.old; backlog = Backlog.Waiting waiting }) (record { journal = journal.new; backlog = result }) bytes.now }
+    ensures tries { HasTried J.failure_count (record { journal = journal.old; backlog = Backlog.Waiting waiting }) (record { journal = journal.new; backlog = result }) }
 {
     if waiting.extend_from_slice(bytes).is_err() {
-        return Kept::Cut;
+        return Backlog::Lost;
     }
     match journal.append(waiting.as_slice()) {
-        Ok(()) => Kept::Whole,
+        Ok(()) => Backlog::Empty,
         Err(fault) => {
             drop_first(&mut waiting, fault.written);
-            Kept::Waiting(waiting)
+            Backlog::Waiting(waiting)
         }
     }
 }
 
-/// Copies refused bytes to memory, where they wait; cuts the journal if memory runs out.
-fn held(alloc: Global, bytes: &[u8]) -> Kept
+/// Copies refused bytes to memory, where they wait. If memory runs out, they are lost.
+fn held(alloc: Global, bytes: &[u8]) -> Backlog
     ensures { Holds result bytes.now }
 {
     let mut waiting = Vec::new(alloc);
     match waiting.extend_from_slice(bytes) {
-        Ok(()) => Kept::Waiting(waiting),
-        Err(_) => Kept::Cut,
+        Ok(()) => Backlog::Waiting(waiting),
+        Err(_) => Backlog::Lost,
     }
 }
 

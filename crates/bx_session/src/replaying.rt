@@ -1,14 +1,11 @@
 //! Replay of a journal's bytes: keys are applied again, and the store is left alone.
 
 ghost use Rattle.std.specs.Prelude.{◌≡◌, ◌↔◌, IsTrue, false, true, OnErr, OnOk};
-ghost use Rattle.bx_keys.specs.Keys.{HasSides};
-ghost use Rattle.bx_editor.specs.Keys as keys;
 ghost use Rattle.bx_session.specs.Saving.{is_edit_or_move_key, store_state, with_text};
-ghost use Rattle.bx_session.specs.Session.{after_replay, after_spending, is_replayed, key_of_byte, session_after_key};
+ghost use Rattle.bx_session.specs.Session.{after_replay, after_spending, is_replayed, key_of_byte};
 ghost use Rattle.bx_store.specs.Stores.{one_more};
 
 use crate::error::Refused;
-use crate::feeding::{apply_unsaved, asks_for_whole};
 use crate::saving::{is_text, save_pieces};
 use crate::session::Session;
 use bx_keys::Key;
@@ -23,24 +20,6 @@ fn is_replayed(key: Key) -> bool
 }
 
 impl<D: BidiData + Drop> Session<D> {
-    /// Applies a key other than Save and Quit without painting.
-    ///
-    /// Errors: `Edit` if memory runs out, only for a key that edits or moves; nothing has changed.
-    fn press_again(&mut self, key: Key) -> Result<(), Refused>
-        requires replayed { is_replayed key ≡ true }
-        requires sides { HasSides key }
-        ensures after_key { OnOk result (self.new ≡ record self.old { session = session_after_key (D.data self.old.tables) false self.old.session key }) }
-        ensures err { OnErr result (self.new ≡ self.old) }
-        ensures edits { OnErr result (keys.is_edit_or_move key ≡ true) }
-        ensures refused { OnErr result (result ≡ Err Refused.Edit) }
-    {
-        apply_unsaved(&mut self.editor, key)?;
-        if asks_for_whole(key) || self.editor.ended() {
-            self.is_known = false;
-        }
-        Ok(())
-    }
-
     /// Decodes a byte of a journal and applies the key that it completes. Skips Save and Quit, and paints nothing; call
     /// [`Session::paint`] after the last byte.
     ///
@@ -53,7 +32,7 @@ impl<D: BidiData + Drop> Session<D> {
     {
         if let Some(key) = self.decode(byte) {
             if is_replayed(key) {
-                self.press_again(key)?;
+                self.press(key, false)?;
             }
         }
         self.painting_owed = true;

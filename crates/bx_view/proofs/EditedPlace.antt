@@ -1,6 +1,6 @@
 -- The place after an edit within one paragraph is the place in the edited body.
-use Rattle.std.proofs.Common.{◌≡◌, ℕ, ◌+◌, ◌-◌, ◌<◌, ◌≤◌, ◌==◌, ◌||◌, nat_lt, zero, suc, ◌⊎◌, inl, inr, true, List, [], ◌∷◌, ◌++◌, map, length, take, drop, chars, encode_utf8_all}
-use Rattle.std.proofs.Common.{Option, IsUtf8, IsCharBoundary, refl, sym, ap, subst, ◌∙◌, arith, append_assoc, length-append, length-drop, get_or, slice_range}
+use Rattle.std.proofs.Common.{◌≡◌, ℕ, ◌+◌, ◌-◌, ◌<◌, ◌≤◌, ◌==◌, ◌||◌, nat_lt, zero, suc, ◌⊎◌, inl, inr, true, List, [], ◌∷◌, ◌++◌, map, length, take}
+use Rattle.std.proofs.Common.{drop, chars, encode_utf8_all, Option, IsUtf8, IsCharBoundary, refl, sym, ap, subst, ◌∙◌, arith, append_assoc, length-append, length-drop, get_or, slice_range}
 use Rattle.std.specs.List.{splice as list_splice}
 use Rattle.std.specs.Prelude.{All}
 use Rattle.std.proofs.lemmas.Bool.Decides.{nat_tests}
@@ -38,7 +38,7 @@ use Rattle.bx_view.proofs.Told.{side-some}
 
 -- ---- a text that begins with a body
 
--- its first places are those of the body
+-- its first places are the body's
 pub place_first : (says : Data) (base : Base) (w : ℕ) → 1 ≤ w → (body back q : List ℕ) (others : List Paragraph)
     (offset : ℕ) → IsUtf8 body → HasNone says (chars body) → paragraphs says back ≡ bare q ∷ others → offset ≤ length body
     → place_from (text_rows says base w (body ++ back)) offset ≡ place_in_body (body_rows says base w body) offset

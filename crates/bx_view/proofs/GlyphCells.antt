@@ -275,7 +275,7 @@ module _ (says : Data) (w : ℕ) (r : TextRow) (levels : HasLevels r.row) (faces
       let at : r.start + f.one.offset ≡ place = omega (arith, f.offset_is, low) in
       subst (λ column. IsUnitCell says w r place column ⊎ IsEndCell w r place column) (sym f.column_is) (slot-cell f.one place f.among at)
 
--- an offset of the text among those of a body
+-- an offset of the text among a body's offsets
 unmoved : (start : ℕ) (os : List ℕ) (p : ℕ) → Contains (map (λ o. start + o) os) p → (start ≤ p) × Contains os (p - start)
 unmoved start os p (k, h, e) =
     let within : k < length os = omega (arith, h, length-map os (λ o. start + o)) in

@@ -31,7 +31,7 @@ module _ (says : Data) (base : Base) (w : ℕ) (h : 1 ≤ w) (body : List ℕ) (
   abbrev mine : List BodyRow
   mine = body_rows says base w body
 
-  -- its rows, as those of a text
+  -- its rows, as rows of a text
   abbrev alone : List TextRow
   alone = map (text_row 0) mine
 

@@ -1,7 +1,7 @@
 -- The rows of a held paragraph as rows of the text.
 use Rattle.std.proofs.Common.{◌≡◌, ℕ, ◌+◌, ◌-◌, ◌<◌, ◌≤◌, Bool, true, List, length}
 use Rattle.std.proofs.Common.{reverse, find, get_or, nat_le, Option, Some, None, option_map, IsUtf8, IsCharBoundary}
-use Rattle.std.proofs.Common.{sym, ap, ap₂, subst, ◌∙◌, arith, leb-true}
+use Rattle.std.proofs.Common.{refl, sym, ap, ap₂, subst, ◌∙◌, arith, leb-true}
 use Rattle.std.specs.Prelude.{All, IfSome, map}
 use Rattle.std.proofs.lemmas.Bool.{and_parts}
 use Rattle.bx_ucd.specs.Data.{Data}
@@ -70,6 +70,15 @@ module _ (says : Data) where
     held_is = held;
   }
 
+  -- and its number in the paragraph, from its number in the text
+  pub row-own : (v : ViewState) (text : List ℕ) (offset : ℕ) (at : RowAt) (l : LayoutState) → IsUtf8 text
+      → at.paragraph ≡ paragraph_of (lengths says text) offset → StandsOn says v text at (row_of (of v text) offset)
+      → IsOfText says v text at.paragraph l → at.row ≡ row_of_body (rows_by says l) (offset - at.start)
+  row-own v text offset at l utf8 number on is =
+      let there : RowAt = record at { row = row_of_body (rows_by says l) (offset - at.start) } in
+      let same = stands v text offset there l utf8 on.by number on.start_is on.held_is is refl in
+      omega (arith, on.is.is, same.is.is)
+
   -- row `n` of the text is a row of the paragraph that is held
   module _ (v : ViewState) (text : List ℕ) (at : RowAt) (n : ℕ) (l : LayoutState) (utf8 : IsUtf8 text)
       (on : StandsOn says v text at n) (is : IsOfText says v text at.paragraph l) where
@@ -86,7 +95,7 @@ module _ (says : Data) where
         ∙ ap (λ rs. text_row (start_at says text at.paragraph) (row_at_body rs at.row)) (sym is.rows_are)
         ∙ ap (λ s. text_row s (row_by says l at.row)) (sym on.start_is)
 
-    -- its properties are those of row `n`
+    -- its properties are row `n`'s
     pub told : {A : Type 0} (F : TextRow → A) → F (text_row at.start (row_by says l at.row)) ≡ F (row_at (of v text) n)
     told F = sym (ap F row-told)
 

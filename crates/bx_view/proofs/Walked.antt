@@ -1,8 +1,14 @@
 -- Where a walk over the paragraphs goes from one of them.
-use Rattle.std.proofs.Common.{◌≡◌, ◌<◌, ◌≤◌, ◌+◌, ◌-◌, ◌∙◌, ℕ, Bool, true, false, nat_lt, List, length, if◌then◌else◌, ap, arith, sym}
+use Rattle.std.proofs.Common.{◌≡◌, ◌<◌, ◌≤◌, ◌+◌, ◌-◌, ◌∙◌, ℕ, Bool, true, false, nat_lt, List, length, take, if◌then◌else◌, ap, arith, sym}
 use Rattle.std.proofs.lemmas.Bool.Decides.{nat_tests}
 use Rattle.bx_paras.specs.declared.lengths.Lengths.{Lengths}
+use Rattle.bx_paras.specs.Paragraphs.{lengths}
+use Rattle.bx_paras.specs.Positions.{total}
 use Rattle.bx_paras.specs.Walk.{WalkState}
+use Rattle.bx_ucd.specs.Data.{Data}
+use Rattle.bx_view.specs.Standing.{count, start_at}
+use Rattle.bx_view.specs.declared.row_at.RowAt.{RowAt}
+use Rattle.bx_view.proofs.Numbers.{lengths-count}
 
 module _ (ps : List Lengths) (n : ℕ) (walk : WalkState) (stands : walk ≡ record { paragraphs = ps; number = n }) (moved : Bool) where
   number-is : walk.number ≡ n
@@ -37,3 +43,16 @@ module _ (ps : List Lengths) (n : ℕ) (walk : WalkState) (stands : walk ≡ rec
       let k : nat_lt 0 walk.number ≡ true = sym there ∙ went in
       let l : 0 < walk.number = grind (arith, nat_tests) in
       omega (arith, l, e, number-is)
+
+-- ---- a walk at a row's paragraph
+
+module _ (says : Data) (text : List ℕ) (ps : List Lengths) (indexed : ps ≡ lengths says text) (at : RowAt) where
+  pub at-inside : at.paragraph < count says text → at.paragraph < length ps
+  at-inside within = omega (arith, within, ap length indexed, lengths-count says text)
+
+  pub at-begin : at.start ≡ start_at says text at.paragraph → at.start ≡ total (take at.paragraph ps)
+  at-begin begins = begins ∙ ap (λ ls. total (take at.paragraph ls)) (sym indexed)
+
+pub along-at : {ps qs : List Lengths} {n : ℕ} {walk : WalkState} → ps ≡ qs → walk ≡ record { paragraphs = ps; number = n }
+    → (walk.paragraphs ≡ qs) × (walk.number ≡ n)
+along-at indexed is = (ap (λ (w : WalkState). w.paragraphs) is ∙ indexed, ap (λ (w : WalkState). w.number) is)

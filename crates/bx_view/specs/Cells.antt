@@ -1,6 +1,6 @@
 -- The cell of a place: one slot of one row, in the column at which the glyphs of its unit begin.
-use Rattle.std.specs.Prelude.{◌≡◌, ◌≢◌, ◌⊎◌, ℕ, zero, suc, ◌+◌, ◌-◌, ◌%◌, ◌<◌, ◌==◌, true, List, [], ◌∷◌, ◌++◌, length, count_by, sum_by, flat_map, replicate}
-use Rattle.std.specs.Prelude.{slice_index_or, Contains, HoldsAt, MatchOption, Option}
+use Rattle.std.specs.Prelude.{◌≡◌, ◌≢◌, ◌⊎◌, ℕ, zero, suc, ◌+◌, ◌-◌, ◌%◌, ◌<◌, ◌==◌, true, List, [], ◌∷◌, ◌++◌, length, count_by, sum_by, flat_map}
+use Rattle.std.specs.Prelude.{replicate, slice_index_or, Contains, HoldsAt, MatchOption, Option}
 use Rattle.bx_ucd.specs.Data.{Data}
 use Rattle.bx_ucd.specs.declared.class.Class.{Class}
 use Rattle.bx_rows.specs.RowPicture.{Glyph, blank, columns_used, unit_columns, unit_glyphs}
@@ -42,7 +42,7 @@ pub record IsUnitCell (says : Data) (w : ℕ) (r : TextRow) (place column : ℕ)
   pub shown : text_row_glyphs says w r ≡ glyphs_before says w r.row before ++ (glyphs_of says w r.row number ++ rest)
   pub column_is : column ≡ sum_by (λ g. g.columns) (glyphs_before says w r.row before) + 1
 
--- the place is the paragraph's end, and the column is that of the slot past all units
+-- the place is the paragraph's end, and its slot's column is past all units
 pub record IsEndCell (w : ℕ) (r : TextRow) (place column : ℕ) : Type 0 where
   pub last : r.row.is_last ≡ true
   pub place_is : place ≡ r.start + length r.row.body

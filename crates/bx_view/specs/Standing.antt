@@ -1,4 +1,4 @@
--- A paragraph of a text by its number, and the number of its rows among those of the text.
+-- A paragraph of a text by its number, and the numbers of its rows in the text.
 use Rattle.std.specs.Prelude.{◌≡◌, ℕ, ◌+◌, ◌<◌, List, [], length, take, slice_index_or, Option}
 use Rattle.bx_ucd.specs.Data.{Data}
 use Rattle.bx_ucd.specs.declared.class.Class.{Class}

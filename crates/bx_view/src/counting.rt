@@ -11,7 +11,7 @@ ghost use Rattle.bx_view.specs.TextRows.{first, row_of};
 use crate::error::ViewError;
 use crate::layout::Layout;
 use crate::source::Source;
-use crate::span::walked_span;
+use crate::span::current_span;
 use bx_paras::ParagraphWalk;
 use bx_rows::{RowStart, row_starts};
 use bx_terms::{Base, OutOfMemory};
@@ -29,7 +29,7 @@ fn starts_in<D: BidiData>(
     requires number { walk.now.number < count source.now }
     ensures { IfOk result (λ v. v.items ≡ row_starts (D.data source.now.tables.now) w (body_at source.now walk.now.number)) }
 {
-    let (start, stop) = walked_span(source, walk);
+    let (start, stop) = current_span(source, walk);
     let Ok(body) = source.text.copy_range(start, stop) else {
         return Err(OutOfMemory);
     };
@@ -115,7 +115,7 @@ impl Layout {
         while done < count {
             let starts = starts_in(alloc, source, &walk, w)?;
             if left < starts.len() {
-                let (start, _) = walked_span(source, &walk);
+                let (start, _) = current_span(source, &walk);
                 return Ok(Some(start + starts[left].offset));
             }
             left -= starts.len();

@@ -111,8 +111,8 @@ impl Layout {
         Ok(Some(first + place))
     }
 
-    /// A range of the text as a range of a held paragraph; none if the paragraph is not held or the range exceeds it. No
-    /// memory.
+    /// A range of the text as a range of a held paragraph; none if the paragraph is not held or the range exceeds it.
+    /// Allocates nothing.
     pub fn held_range<D: BidiData>(
         &mut self,
         source: &Source<'_, D>,

@@ -8,7 +8,6 @@ ghost use Rattle.bx_view.specs.Holding.{HasBody, HoldsBody, IsHeld};
 use crate::error::ViewError;
 use crate::in_text::stands_at;
 use bx_paragraph::ParagraphLayout;
-use bx_paras::Index;
 use bx_terms::Base;
 use bx_text::Text;
 use bx_ucd::BidiData;
@@ -19,8 +18,8 @@ use std::ops::Range;
 // More than the rows of any window.
 const MOST_HELD: usize = 512;
 
-// The least room for held bodies, in bytes, so that typing into a small text does not evict its pages.
-const LEAST_ROOM: usize = 65_536;
+// The least limit for all held bodies, in bytes, so that typing into a small text does not evict its pages.
+const LEAST_LIMIT: usize = 65_536;
 
 /// Whether there is a held paragraph at index `i` and its body is the text's bytes from `start` to `stop`.
 fn is_held(held: &[ParagraphLayout], i: usize, text: &Text, start: usize, stop: usize) -> bool
@@ -71,10 +70,10 @@ fn bytes_held(held: &[ParagraphLayout]) -> usize {
     bytes
 }
 
-/// The room for held bodies, in bytes, for a text of `text` bytes: the text once, and as much again for edited
+/// The most bytes that all held bodies may have, for a text of `text` bytes: the text once, and as much again for edited
 /// paragraphs.
-pub(crate) fn room_beside(text: usize) -> usize {
-    text.saturating_mul(2).max(LEAST_ROOM)
+pub(crate) fn held_limit(text: usize) -> usize {
+    text.saturating_mul(2).max(LEAST_LIMIT)
 }
 
 /// Evicts the oldest paragraph if `MOST_HELD` are held.
@@ -91,13 +90,13 @@ fn drop_oldest<D: BidiData>(held: &mut Vec<ParagraphLayout>, tables: &D, base: B
 }
 
 /// Adds a paragraph and returns its index. Evicts the oldest if `MOST_HELD` are held, and all others if the bodies would
-/// exceed `room` bytes.
+/// exceed `limit` bytes.
 pub(crate) fn hold<D: BidiData>(
     held: &mut Vec<ParagraphLayout>,
     new: ParagraphLayout,
     tables: &D,
     base: Base,
-    room: usize,
+    limit: usize,
 ) -> Result<usize, AllocError>
     requires held { All (IsHeld (D.data tables.now) base) held.old.items }
     requires new { IsHeld (D.data tables.now) base new }
@@ -109,7 +108,7 @@ pub(crate) fn hold<D: BidiData>(
     let _ = base;
     let count = held.len();
     let bytes = bytes_held(held).saturating_add(new.body().len());
-    if count > 0 && bytes > room {
+    if count > 0 && bytes > limit {
         held.truncate(1);
         held[0] = new;
         return Ok(0);

@@ -1,5 +1,5 @@
 //! The layout of a text.
-ghost use Rattle.std.specs.Prelude.{◌≡◌, ℕ, ◌<◌, ◌≤◌, [], true, length, slice_range, IfOk};
+ghost use Rattle.std.specs.Prelude.{◌≡◌, ℕ, ◌+◌, ◌-◌, ◌^◌, ◌<◌, ◌≤◌, [], true, length, slice_range, IfOk, IfSome};
 ghost use Rattle.bx_terms.specs.Sizes.{is_side};
 ghost use Rattle.bx_paras.specs.Paragraphs.{lengths};
 ghost use Rattle.bx_paras.specs.Positions.{paragraph_of};
@@ -7,15 +7,16 @@ ghost use Rattle.bx_text.specs.Edits.{IsRange, largest_text};
 ghost use Rattle.bx_view.specs.FoundRow.{IsSameAtEnd};
 ghost use Rattle.bx_view.specs.Holding.{HoldsBody};
 ghost use Rattle.bx_view.specs.Moves.{row_home};
-ghost use Rattle.bx_view.specs.Source.{IsBefore, IsNext, IsOfText, IsViewBy, Keeps, Stands, StandsOn, body_at, bytes, rows};
+ghost use Rattle.bx_view.specs.Source.{IsAlong, IsBefore, IsNext, IsOfText, IsViewBy, Keeps, Stands, StandsOn, body_at, bytes, rows};
 ghost use Rattle.bx_view.specs.TextRows.{cell_of, row_of};
 
 use crate::error::ViewError;
-use crate::holder::{hold, lay_out_in, position, room_beside};
+use crate::holder::{held_limit, hold, lay_out_in, position};
 use crate::row_at::RowAt;
 use crate::source::Source;
-use crate::span::{paragraph_under, walked_span};
+use crate::span::{current_span, paragraph_under};
 use bx_paragraph::ParagraphLayout;
+use bx_paras::ParagraphWalk;
 use bx_terms::{Base, OutOfMemory};
 use bx_ucd::BidiData;
 use std::alloc::Global;
@@ -42,6 +43,32 @@ impl Model for Layout {
     ghost view = { λ l. record { base = l.base; w = l.w; held = l.held.items } };
 
     ghost invariant = { λ l. is_side l.w ≡ true };
+}
+
+/// The row before one that is not the first of its paragraph.
+fn above(at: RowAt) -> RowAt
+    requires { 0 < at.row }
+    ensures { result ≡ record at { row = at.row - 1 } }
+{
+    RowAt {
+        paragraph: at.paragraph,
+        start: at.start,
+        row: at.row - 1,
+        held: at.held,
+    }
+}
+
+/// The row after one that is not the last of its paragraph.
+fn below(at: RowAt) -> RowAt
+    requires { at.row + 1 < 2 ^ 64 }
+    ensures { result ≡ record at { row = at.row + 1 } }
+{
+    RowAt {
+        paragraph: at.paragraph,
+        start: at.start,
+        row: at.row + 1,
+        held: at.held,
+    }
 }
 
 impl Layout {
@@ -111,8 +138,8 @@ impl Layout {
         };
         let alloc = *self.held.allocator();
         let layout = ParagraphLayout::of(alloc, body, source.tables, self.w, self.base)?;
-        let room = room_beside(source.text.len());
-        let i = hold(&mut self.held, layout, source.tables, self.base, room)?;
+        let limit = held_limit(source.text.len());
+        let i = hold(&mut self.held, layout, source.tables, self.base, limit)?;
         self.recent = i;
         Ok(i)
     }
@@ -175,19 +202,36 @@ impl Layout {
     {
         let rows = self.paragraph(source, at.paragraph, at.held).row_count();
         if at.row + 1 < rows {
-            return Ok(Some(RowAt {
-                paragraph: at.paragraph,
-                start: at.start,
-                row: at.row + 1,
-                held: at.held,
-            }));
+            return Ok(Some(below(at)));
         }
         let mut walk = source.index.walk_at(at.paragraph, at.start);
+        let next = self.next_row_along(source, &mut walk, at)?;
+        Ok(next)
+    }
+
+    /// The row after `at`, if there is one, for many steps in turn: the walk is at the paragraph of `at`, and goes along.
+    pub(crate) fn next_row_along<D: BidiData>(
+        &mut self,
+        source: &Source<'_, D>,
+        walk: &mut ParagraphWalk<'_>,
+        at: RowAt,
+    ) -> Result<Option<RowAt>, ViewError>
+        requires row { Stands source.now self.old at }
+        requires along { IsAlong source.now walk.old at }
+        ensures keeps { Keeps source.now self.old self.new }
+        ensures next { (n : ℕ) → StandsOn source.now self.old at n → IfOk result (IsNext source.now self.new n) }
+        ensures same { IfOk result (IsSameAtEnd self.old self.new) }
+        ensures along { IfOk result (λ o. IfSome o (IsAlong source.now walk.new)) }
+    {
+        let rows = self.paragraph(source, at.paragraph, at.held).row_count();
+        if at.row + 1 < rows {
+            return Ok(Some(below(at)));
+        }
         if !walk.to_next() {
             return Ok(None);
         }
         let number = walk.number();
-        let (start, stop) = walked_span(source, &walk);
+        let (start, stop) = current_span(source, walk);
         let held = self.find(source, number, start, stop)?;
         Ok(Some(RowAt {
             paragraph: number,
@@ -211,19 +255,35 @@ impl Layout {
         ensures same { IfOk result (IsSameAtEnd self.old self.new) }
     {
         if at.row > 0 {
-            return Ok(Some(RowAt {
-                paragraph: at.paragraph,
-                start: at.start,
-                row: at.row - 1,
-                held: at.held,
-            }));
+            return Ok(Some(above(at)));
         }
         let mut walk = source.index.walk_at(at.paragraph, at.start);
+        let before = self.row_before_along(source, &mut walk, at)?;
+        Ok(before)
+    }
+
+    /// The row before `at`, if there is one, for many steps in turn: the walk is at the paragraph of `at`, and goes along.
+    pub(crate) fn row_before_along<D: BidiData>(
+        &mut self,
+        source: &Source<'_, D>,
+        walk: &mut ParagraphWalk<'_>,
+        at: RowAt,
+    ) -> Result<Option<RowAt>, ViewError>
+        requires row { Stands source.now self.old at }
+        requires along { IsAlong source.now walk.old at }
+        ensures keeps { Keeps source.now self.old self.new }
+        ensures before { (n : ℕ) → StandsOn source.now self.old at n → IfOk result (IsBefore source.now self.new n) }
+        ensures same { IfOk result (IsSameAtEnd self.old self.new) }
+        ensures along { IfOk result (λ o. IfSome o (IsAlong source.now walk.new)) }
+    {
+        if at.row > 0 {
+            return Ok(Some(above(at)));
+        }
         if !walk.to_previous() {
             return Ok(None);
         }
         let number = walk.number();
-        let (start, stop) = walked_span(source, &walk);
+        let (start, stop) = current_span(source, walk);
         let held = self.find(source, number, start, stop)?;
         let rows = self.paragraph(source, number, held).row_count();
         Ok(Some(RowAt {
@@ -249,7 +309,7 @@ impl Layout {
         ensures paragraph { IfOk result (λ at. at.paragraph ≡ paragraph_of (lengths (D.data source.now.tables.now) (bytes source.now)) offset) }
         ensures order { IfOk result (λ at. at.start ≤ offset) }
     {
-        let (number, start, _) = paragraph_under(source, offset);
+        let (number, start, stop) = paragraph_under(source, offset);
         if number == at.paragraph {
             let paragraph = self.paragraph(source, number, at.held);
             return Ok(RowAt {
@@ -259,8 +319,15 @@ impl Layout {
                 held: at.held,
             });
         }
-        let there = self.row_at(source, offset)?;
-        Ok(there)
+        let held = self.find(source, number, start, stop)?;
+        let paragraph = self.paragraph(source, number, held);
+        let row = paragraph.row_of(offset - start);
+        Ok(RowAt {
+            paragraph: number,
+            start,
+            row,
+            held,
+        })
     }
 
     /// The column, from 1, of the cell of a place.

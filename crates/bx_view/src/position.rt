@@ -3,7 +3,8 @@ ghost use Rattle.std.specs.Prelude.{◌≡◌, ◌≤◌, IfOk};
 ghost use Rattle.bx_paras.specs.Paragraphs.{lengths};
 ghost use Rattle.bx_paras.specs.Positions.{paragraph_of};
 ghost use Rattle.bx_view.specs.Position.{IsPosition};
-ghost use Rattle.bx_view.specs.Source.{IsViewBy, Stands, bytes, rows};
+ghost use Rattle.bx_view.specs.Source.{StandsOn, bytes, rows};
+ghost use Rattle.bx_view.specs.TextRows.{row_of};
 
 use crate::error::ViewError;
 use crate::layout::Layout;
@@ -23,7 +24,7 @@ pub struct Position {
 }
 
 impl Layout {
-    /// The position of a place in the paragraph of the row `at`.
+    /// The position of a place in its row, `at`.
     ///
     /// Errors: `OutOfMemory`.
     pub(crate) fn position<D: BidiData>(
@@ -32,7 +33,7 @@ impl Layout {
         at: RowAt,
         place: usize,
     ) -> Result<Position, ViewError>
-        requires row { Stands source.now self.now at }
+        requires row { StandsOn source.now self.now at (row_of (rows source.now self.now) place) }
         requires paragraph { at.paragraph ≡ paragraph_of (lengths (D.data source.now.tables.now) (bytes source.now)) place }
         requires order { at.start ≤ place }
         ensures { IfOk result (IsPosition (D.data source.now.tables.now) self.now.w (bytes source.now) (rows source.now self.now) place) }
@@ -40,12 +41,11 @@ impl Layout {
         // proof only: the number of paragraphs is within its limit
         let _count = source.index.count();
         let paragraph = self.paragraph(source, at.paragraph, at.held);
-        let row = paragraph.row_of(place - at.start);
-        let standing = paragraph.standing(row, place - at.start, source.tables)?;
+        let standing = paragraph.standing(at.row, place - at.start, source.tables)?;
         Ok(Position {
             column: standing.column,
             paragraph: at.paragraph + 1,
-            unit: paragraph.units_ahead(row) + standing.units_before + 1,
+            unit: paragraph.units_ahead(at.row) + standing.units_before + 1,
         })
     }
 }

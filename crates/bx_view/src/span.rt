@@ -10,7 +10,7 @@ use bx_paras::ParagraphWalk;
 use bx_ucd::BidiData;
 
 /// The start and end of the body of the walk's current paragraph.
-pub(crate) fn walked_span<D: BidiData>(
+pub(crate) fn current_span<D: BidiData>(
     source: &Source<'_, D>,
     walk: &ParagraphWalk<'_>,
 ) -> (usize, usize)

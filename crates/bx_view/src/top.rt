@@ -43,13 +43,14 @@ impl Layout {
             → IfOk result (λ r. nearest_top k n t + r.1 ≡ n) }
         ensures few { IfOk result (λ r. r.1 < t) }
     {
+        let mut walk = source.index.walk_at(at.paragraph, at.start);
         let mut here = at;
         let mut above = 0;
         while above + 1 < t {
             if self.first_in(source, here) <= old {
                 return Ok((here, above));
             }
-            let Some(before) = self.row_before(source, here)? else {
+            let Some(before) = self.row_before_along(source, &mut walk, here)? else {
                 return Ok((here, above));
             };
             here = before;

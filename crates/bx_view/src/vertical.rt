@@ -22,10 +22,11 @@ impl Layout {
         ensures keeps { Keeps source.now self.old self.new }
         ensures row { (n : ℕ) → StandsOn source.now self.old at n → IfOk result (λ b. StandsOn source.now self.new b (n - count)) }
     {
+        let mut walk = source.index.walk_at(at.paragraph, at.start);
         let mut here = at;
         let mut done = 0;
         while done < count {
-            let Some(before) = self.row_before(source, here)? else {
+            let Some(before) = self.row_before_along(source, &mut walk, here)? else {
                 return Ok(here);
             };
             here = before;
@@ -46,10 +47,11 @@ impl Layout {
         ensures row { (n : ℕ) → StandsOn source.now self.old at n
             → IfOk result (λ b. StandsOn source.now self.new b (min (n + count) (length (rows source.now self.old) - 1))) }
     {
+        let mut walk = source.index.walk_at(at.paragraph, at.start);
         let mut here = at;
         let mut done = 0;
         while done < count {
-            let Some(next) = self.next_row(source, here)? else {
+            let Some(next) = self.next_row_along(source, &mut walk, here)? else {
                 return Ok(here);
             };
             here = next;

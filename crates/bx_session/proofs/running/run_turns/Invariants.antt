@@ -6,8 +6,9 @@ use Rattle.bx_session.proofs.running.run_turns.Given as goal
 
 abbrev pub invariant-reads : goal.invariant-reads
 invariant-reads g l =
-    RunsRecorded g.J.Journal.contents g.J.Journal.failure_count (g.D.BidiData.data l.fn.session.tables) l.fn.session.session l.session.session (store_state g.S.Store.contents g.S.Store.failure_count l.fn.store)
-    (store_state g.S.Store.contents g.S.Store.failure_count l.store) (g.R.Read.remaining l.fn.reader) (g.R.Read.remaining l.reader)
+    let store = store_state g.S.Store.contents g.S.Store.failure_count in
+    RunsRecorded g.J.Journal.contents g.J.Journal.failure_count (g.D.BidiData.data l.fn.session.tables) l.fn.session.session l.session.session
+    (store l.fn.store) (store l.store) (g.R.Read.remaining l.fn.reader) (g.R.Read.remaining l.reader)
     (g.W.Write.contents l.fn.writer) (g.W.Write.contents l.writer) l.fn.recorder l.recorder
     × (l.session.session.pending ≡ [])
     × HasRead l.read (g.R.Read.remaining l.fn.reader) (g.R.Read.remaining l.reader)

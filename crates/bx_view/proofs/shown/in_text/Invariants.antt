@@ -1,4 +1,4 @@
--- The offsets so far, and those of the slots after, are all.
+-- The offsets so far, then the offsets of the remaining slots, are all offsets.
 use Rattle.std.proofs.Common.{◌≡◌, ◌+◌, ◌++◌, drop, map}
 use Rattle.bx_view.proofs.shown.in_text.Given as goal
 

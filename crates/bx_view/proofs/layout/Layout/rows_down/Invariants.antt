@@ -1,6 +1,6 @@
 -- The row is `done` rows below `at`.
 use Rattle.std.proofs.Common.{ℕ, ◌+◌, ◌-◌, ◌≤◌}
-use Rattle.bx_view.specs.Source.{Keeps, Stands, StandsOn}
+use Rattle.bx_view.specs.Source.{IsAlong, Keeps, Stands, StandsOn}
 use Rattle.bx_view.proofs.layout.Layout.rows_down.Given as goal
 
 abbrev pub invariant-loop-done : goal.invariant-loop-done
@@ -8,6 +8,7 @@ invariant-loop-done g l = record {
   keeps : Keeps l.source l.initial.self l.self;
   within : l.done ≤ l.count;
   row : Stands l.source l.self l.here;
+  along : IsAlong l.source l.walk l.here;
   stands : (n : ℕ) → StandsOn l.source l.initial.self l.fn.at n → StandsOn l.source l.self l.here (n + l.done);
 }
 

@@ -3,7 +3,20 @@ use Rattle.bx_view.specs.FoundRow.{IsBefore, StandsOn}
 use Rattle.bx_view.specs.Top.{nearest_top}
 use Rattle.bx_view.proofs.Beyond.{keeps-then}
 use Rattle.bx_view.proofs.TopRow.{at-or-above, behind-it, top-furthest, top-reached}
+use Rattle.bx_view.proofs.Walked.{along-at, at-begin, at-inside}
+use Rattle.bx_view.specs.Source.{IsAlong}
+use Rattle.std.specs.Prelude.{IfSome}
 use Rattle.bx_view.proofs.layout.Layout.top_above.Goals as goal
+
+pub walk_at-walk-requires-clause-inside : goal.walk_at-walk-requires-clause-inside
+walk_at-walk-requires-clause-inside g c =
+    let s = c.args.source.now in
+    at-inside (g.D.BidiData.data s.tables.now) s.text.now.edited.text s.index.now.paragraphs s.indexed c.args.at c.requires.row.1.is.paragraph
+
+pub walk_at-walk-requires-clause-begins : goal.walk_at-walk-requires-clause-begins
+walk_at-walk-requires-clause-begins g c =
+    let s = c.args.source.now in
+    at-begin (g.D.BidiData.data s.tables.now) s.text.now.edited.text s.index.now.paragraphs s.indexed c.args.at c.requires.row.1.start_is
 
 pub loop-above-init : goal.loop-above-init
 loop-above-init g c =
@@ -13,6 +26,7 @@ loop-above-init g c =
       keeps = record { base = refl; w = refl; held = c.requires.row.1.by };
       few = c.requires.some;
       row = c.requires.row;
+      along = along-at c.args.source.now.indexed c.walk_at-walk.ensures;
       within = λ n on. omega arith;
       stands = λ n on. let e : n ≡ n - 0 = omega arith in subst (StandsOn says c.args.self.now text c.args.at) e on;
       behind = λ n k on begins some. absurd (omega (arith, some));
@@ -58,7 +72,7 @@ returns-in_default-clause-top g c = λ n k on begins.
     let a = c.loop-above.above in
     let past = behind-it says old v text utf8 i.keeps c.loop-above.here (n - a) (i.stands n on) k c.first_in.result c.args.old
     (c.first_in.ensures (n - a) (i.stands n on)) begins.0 begins.1 (omega (arith, c.if-first_in-old.false)) in
-    let none : n - a ≡ 0 = subst (IsBefore says c.row_before.new.self text (n - a)) c.in_default.is (c.in_ok-before.ensures.before (n - a) (i.stands n on)) in
+    let none : n - a ≡ 0 = subst (IsBefore says c.row_before_along.new.self text (n - a)) c.in_default.is (c.in_ok-before.ensures.before (n - a) (i.stands n on)) in
     absurd (omega (arith, past, none))
 
 pub returns-in_default-clause-above : goal.returns-in_default-clause-above
@@ -72,7 +86,7 @@ returns-in_default-clause-above g c = λ n k on begins.
     let a = c.loop-above.above in
     let past = behind-it says old v text utf8 i.keeps c.loop-above.here (n - a) (i.stands n on) k c.first_in.result c.args.old
     (c.first_in.ensures (n - a) (i.stands n on)) begins.0 begins.1 (omega (arith, c.if-first_in-old.false)) in
-    let none : n - a ≡ 0 = subst (IsBefore says c.row_before.new.self text (n - a)) c.in_default.is (c.in_ok-before.ensures.before (n - a) (i.stands n on)) in
+    let none : n - a ≡ 0 = subst (IsBefore says c.row_before_along.new.self text (n - a)) c.in_default.is (c.in_ok-before.ensures.before (n - a) (i.stands n on)) in
     absurd (omega (arith, past, none))
 
 pub loop-above-preserved : goal.loop-above-preserved
@@ -84,7 +98,7 @@ loop-above-preserved g c =
     let utf8 = c.args.source.now.utf8 in
     let i = c.loop-above.invariant in
     let a = c.loop-above.above in
-    let new = c.row_before.new.self in
+    let new = c.row_before_along.new.self in
     let there : (n : ℕ) → StandsOn says old text c.args.at n
     → (0 < n - a) × StandsOn says new text c.in-Some.before (n - a - 1) = λ n on.
     subst (IsBefore says new text (n - a)) c.in-Some.is (c.in_ok-before.ensures.before (n - a) (i.stands n on)) in
@@ -92,8 +106,9 @@ loop-above-preserved g c =
     let next : (0 < row.0) × StandsOn says new text c.in-Some.before (row.0 - 1) =
     subst (IsBefore says new text row.0) c.in-Some.is (c.in_ok-before.ensures.before row.0 row.1) in
     record {
-      keeps = keeps-then says old v new i.keeps c.row_before.ensures.keeps;
+      keeps = keeps-then says old v new i.keeps c.row_before_along.ensures.keeps;
       few = c.loop-above-test.true;
+      along = subst (λ o. IfSome o (IsAlong c.args.source.now c.row_before_along.new.walk)) c.in-Some.is c.in_ok-before.ensures.along;
       row = (row.0 - 1, next.1);
       within = λ n on. let some = (there n on).0 in omega (arith, some, i.within n on);
       stands = λ n on.

@@ -1,5 +1,5 @@
 use Rattle.bx_view.proofs.Numbers.{span-told}
-use Rattle.bx_view.proofs.span.walked_span.Goals as goal
+use Rattle.bx_view.proofs.span.current_span.Goals as goal
 
 pub returns-clause-start : goal.returns-clause-start
 returns-clause-start g c =
