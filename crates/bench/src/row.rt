@@ -1,20 +1,19 @@
-//! The parts of showing a row: PART TEXT BYTES TIMES. PART is `units_of_row`, `row_levels_behind`, `visual` or `draw` (which
+//! The parts of showing a row: PART TEXT BYTES TIMES. PART is `units`, `levels`, `visual` or `draw` (which
 //! includes `visual`), and TEXT is a text of `units`. A part runs for each row of the text's lines, in a window of 80 columns.
 //! Its inputs are computed once, so they cancel in the difference of two runs.
 
-ghost use Rattle.std.specs.Prelude.{◌≡◌, ◌<◌, All, length, Some, slice_get};
-ghost use Rattle.bx_cells.specs.Units.{HasFace, StandsIn};
-ghost use Rattle.bx_rows.specs.RowLevels.{chars_before};
-ghost use Rattle.bx_rows.specs.RowStarts.{row_starts};
-ghost use Rattle.bx_rows.specs.Shown.{IsRowOf};
+ghost use Rattle.std.specs.Prelude.{◌≡◌, ◌≤◌, ◌<◌, All, length};
+ghost use Rattle.bx_cells.specs.Units.{StandsIn};
+ghost use Rattle.bx_rows.specs.Lines.{ShowsFace, units_at};
+ghost use Rattle.bx_rows.specs.RowPicture.{columns_used};
 
 use crate::outcome::{Outcome, number};
 use crate::units::text_of;
 use crate::visual::leftmost;
 use anyhow::{Context, Result, bail};
 use bx_cells::Unit;
-use bx_resolve::{Levels, levels};
-use bx_rows::{Row, RowStart, draw, row_levels_behind, row_starts, units_of_row};
+use bx_resolve::levels;
+use bx_rows::{LeveledRow, Lines, draw, row_starts};
 use bx_terms::Base;
 use bx_ucd::{BidiData, Tables, sample_tables};
 use std::alloc::Global;
@@ -33,8 +32,8 @@ impl Part {
     /// The part with this name.
     fn named(name: &str) -> Option<Part> {
         match name {
-            "units_of_row" => Some(Part::Units),
-            "row_levels_behind" => Some(Part::Levels),
+            "units" => Some(Part::Units),
+            "levels" => Some(Part::Levels),
             "visual" => Some(Part::Order),
             "draw" => Some(Part::Picture),
             _ => None,
@@ -42,66 +41,54 @@ impl Part {
     }
 }
 
-/// Runs a part once. Returns the number of units, levels or glyphs, or the leftmost unit.
+/// Runs a part of row `number` once; `each` has the levels of the row's units. Returns the number of units, levels or glyphs, or
+/// the leftmost unit.
 fn once<D: BidiData>(
     alloc: Global,
     part: Part,
-    body: &str,
-    starts: &[RowStart],
+    lines: &Lines<'_, '_, D>,
     number: usize,
     units: &[Unit],
     each: &[u8],
-    levels: &Levels,
-    tables: &D,
 ) -> Result<usize>
-    requires starts { starts.now ≡ row_starts (D.data tables.now) 80 body.now }
-    requires number { number < length starts.now }
-    requires stand { All (StandsIn body.now) units.now }
-    requires faces { All (HasFace (D.data tables.now) 80 body.now) units.now }
-    requires row { IsRowOf 80 units.now (record { start = 0; stop = length units.now }) }
-    requires chars { (s : RowStart) → slice_get starts.now number ≡ Some s → 0 < length units.now → s.chars ≡ chars_before body.now units.now }
+    requires number { number < length lines.now.starts.now }
+    requires units { units.now ≡ units_at lines.now number }
+    requires stand { All (StandsIn lines.now.body.now) units.now }
+    requires faces { All (ShowsFace lines.now) units.now }
+    requires fits { columns_used lines.now.w units.now ≤ lines.now.w }
     requires each { length each.now ≡ length units.now }
 {
     match part {
-        Part::Units => Ok(units_of_row(alloc, body, starts, number, tables, 80)?.len()),
-        Part::Levels => {
-            let chars = starts[number].chars;
-            Ok(row_levels_behind(alloc, body, units, chars, levels, tables)?.len())
-        }
+        Part::Units => Ok(lines.units(alloc, number)?.len()),
+        Part::Levels => Ok(lines.levels(alloc, number, units)?.len()),
         Part::Order => leftmost(alloc, each),
         Part::Picture => {
-            let row = Row {
-                start: 0,
-                stop: units.len(),
+            let row = LeveledRow {
+                units,
+                levels: each,
+                paragraph: lines.levels.paragraph,
             };
-            let picture = draw(alloc, body, units, row, each, levels.paragraph, tables, 80)?;
+            let picture = draw(alloc, lines.body, &row, lines.tables, lines.w)?;
             Ok(picture.glyphs.len())
         }
     }
 }
 
-/// Runs a part of a row `times` times.
+/// Runs a part of row `number` `times` times.
 fn often<D: BidiData>(
     alloc: Global,
     part: Part,
-    body: &str,
-    starts: &[RowStart],
+    lines: &Lines<'_, '_, D>,
     number: usize,
-    levels: &Levels,
-    tables: &D,
     times: usize,
 ) -> Result<u64>
-    requires starts { starts.now ≡ row_starts (D.data tables.now) 80 body.now }
-    requires number { number < length starts.now }
+    requires { number < length lines.now.starts.now }
 {
-    let units = units_of_row(alloc, body, starts, number, tables, 80)?;
-    let chars = starts[number].chars;
-    let each = row_levels_behind(alloc, body, &units, chars, levels, tables)?;
+    let units = lines.units(alloc, number)?;
+    let each = lines.levels(alloc, number, &units)?;
     let mut sum: u64 = 0;
     for _ in 0..times {
-        let count = once(
-            alloc, part, body, starts, number, &units, &each, levels, tables,
-        )?;
+        let count = once(alloc, part, lines, number, &units, &each)?;
         sum = sum.wrapping_add(count as u64);
     }
     Ok(sum)
@@ -117,9 +104,17 @@ fn sum_of_line(
 ) -> Result<u64> {
     let levels = levels(alloc, line, tables, Base::Auto)?;
     let starts = row_starts(alloc, line, tables, 80)?;
+    let lines = Lines {
+        body: line,
+        starts: &starts,
+        levels: &levels,
+        tables,
+        base: Base::Auto,
+        w: 80,
+    };
     let mut sum: u64 = 0;
-    for number in 0..starts.len() {
-        let more = often(alloc, part, line, &starts, number, &levels, tables, times)?;
+    for number in 0..lines.starts.len() {
+        let more = often(alloc, part, &lines, number, times)?;
         sum = sum.wrapping_add(more);
     }
     Ok(sum)

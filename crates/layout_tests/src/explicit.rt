@@ -1,7 +1,8 @@
 //! Worked examples, and each public call once with ample memory.
 use crate::words::{text_of, two_of};
 use bx_explicit::{
-    Explicit, ExplicitChar, Sequence, SequenceWalk, base_level, explicit, paragraph_level, sequences,
+    Explicit, ExplicitChar, Sequence, SequenceWalk, base_level, explicit, paragraph_level,
+    sequences,
 };
 use bx_terms::Base;
 use bx_ucd::{BidiData, Class, Tables, sample_tables};

@@ -53,40 +53,15 @@ impl Shown {
         &mut self,
         alloc: Global,
         body: &str,
-        found: &[Unit],
-        row: Row,
+        units: &[Unit],
         levels: &Levels,
         tables: &Tables,
     ) -> Result<(), Fail>
-        requires { All (StandsIn body.now) found.now }
+        requires { All (StandsIn body.now) units.now }
     {
-        if row.start > row.stop || row.stop > found.len() {
-            return Err("a row past the units".into());
-        }
-        if row.start > 0 {
-            self.levels.push('|')?;
-            self.orders.push('|')?;
-        }
-        let each = row_levels(alloc, body, found, row, levels, tables)?;
+        let each = row_levels(alloc, body, units, levels, tables)?;
         self.add_levels(alloc, &each)?;
         self.add_order(alloc, &visual(alloc, &each)?)
-    }
-
-    fn add_rows(
-        &mut self,
-        alloc: Global,
-        body: &str,
-        found: &[Unit],
-        rows: &[Row],
-        levels: &Levels,
-        tables: &Tables,
-    ) -> Result<(), Fail>
-        requires { All (StandsIn body.now) found.now }
-    {
-        for row in rows {
-            self.add_row(alloc, body, found, *row, levels, tables)?;
-        }
-        Ok(())
     }
 
     /// Appends the rows of a body in `w` columns.
@@ -101,7 +76,14 @@ impl Shown {
         let found = units(alloc, body, tables, w)?;
         let rows = wrap(alloc, body, &found, tables, w)?;
         let levels = levels(alloc, body, tables, base)?;
-        self.add_rows(alloc, body, &found, &rows, &levels, tables)
+        for row in &rows {
+            if row.start > 0 {
+                self.levels.push('|')?;
+                self.orders.push('|')?;
+            }
+            self.add_row(alloc, body, &found[row.start..row.stop], &levels, tables)?;
+        }
+        Ok(())
     }
 
     /// Whether the levels and the orders are these.

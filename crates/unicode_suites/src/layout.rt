@@ -5,7 +5,7 @@ ghost use Rattle.bx_cells.specs.Units.{StandsIn};
 use anyhow::{Result, bail};
 use bx_cells::{Face, Unit};
 use bx_resolve::{Level, Levels, levels};
-use bx_rows::{Row, row_levels, visual};
+use bx_rows::{row_levels, visual};
 use bx_terms::Base;
 use bx_ucd::{BidiData, Class, Tables};
 use std::alloc::Global;
@@ -100,11 +100,7 @@ fn levels_in_row(
     let body = body_of(text, tables);
     let found = levels_of(alloc, body, tables, base)?;
     let units = character_units(alloc, body)?;
-    let row = Row {
-        start: 0,
-        stop: units.len(),
-    };
-    let mut each = row_levels(alloc, body, &units, row, &found, tables)?;
+    let mut each = row_levels(alloc, body, &units, &found, tables)?;
     // L1: a separator gets the paragraph level
     if body.len() < text.len() {
         each.push(found.paragraph)?;

@@ -2,7 +2,7 @@
 use crate::words::{field_of, two_of, with_tabs};
 use bx_cells::units;
 use bx_resolve::levels;
-use bx_rows::{RowPicture, draw, row_levels, row_picture, row_starts, wrap};
+use bx_rows::{LeveledRow, Lines, RowPicture, draw, row_levels, row_starts, wrap};
 use bx_terms::Base;
 use bx_ucd::sample::{BRACKETS, CLASSES};
 use bx_ucd::{Tables, sample_tables};
@@ -21,7 +21,7 @@ fn add_picture(text: &mut String, picture: &RowPicture<'_>) -> Result<(), Fail> 
     Ok(())
 }
 
-/// The picture of a body's rows.
+/// The pictures of a body's rows, each drawn from its units.
 fn pictures(
     alloc: Global,
     tables: &Tables,
@@ -34,17 +34,14 @@ fn pictures(
     let levels = levels(alloc, body, tables, base)?;
     let mut text = String::new(alloc);
     for row in &rows {
-        let each = row_levels(alloc, body, &found, *row, &levels, tables)?;
-        let picture = draw(
-            alloc,
-            body,
-            &found,
-            *row,
-            &each,
-            levels.paragraph,
-            tables,
-            w,
-        )?;
+        let units = &found[row.start..row.stop];
+        let each = row_levels(alloc, body, units, &levels, tables)?;
+        let leveled = LeveledRow {
+            units,
+            levels: &each,
+            paragraph: levels.paragraph,
+        };
+        let picture = draw(alloc, body, &leveled, tables, w)?;
         if row.start > 0 {
             text.push('|')?;
         }
@@ -63,9 +60,17 @@ fn numbered_pictures(
 ) -> Result<String, Fail> {
     let levels = levels(alloc, body, tables, base)?;
     let starts = row_starts(alloc, body, tables, w)?;
+    let lines = Lines {
+        body,
+        starts: &starts,
+        levels: &levels,
+        tables,
+        base,
+        w,
+    };
     let mut text = String::new(alloc);
-    for number in 0..starts.len() {
-        let picture = row_picture(alloc, body, &starts, number, &levels, tables, w)?;
+    for number in 0..lines.starts.len() {
+        let picture = lines.picture(alloc, number)?;
         if number > 0 {
             text.push('|')?;
         }
