@@ -2,7 +2,6 @@
 use Rattle.std.proofs.Common.{ℕ, List, [], ◌∷◌, refl, arith}
 use Rattle.std.specs.Prelude.{Contains}
 use Rattle.bx_ucd.specs.Data.{Data}
-use Rattle.bx_ucd.specs.declared.class.Class.{Class}
 use Rattle.bx_view.specs.Places.{IsTextPlace, boundaries, pieces}
 
 begin-in : (gs : List (List ℕ)) → Contains (boundaries 0 gs) 0

@@ -5,6 +5,8 @@ use Rattle.bx_terms.specs.declared.base.Base.TheVariants.{Auto, Ltr, Rtl}
 use Rattle.bx_text.specs.Edits.{Edited, Edit, opened, inserted, removed, splice, fits, undone, redone}
 use Rattle.bx_view.specs.TextRows.{TextRow, text_rows}
 use Rattle.bx_view.specs.Moves.{place_from}
+use Rattle.bx_document.specs.declared.history.HistoryStep.{HistoryStep}
+use Rattle.bx_document.specs.declared.history.HistoryStep.TheVariants as steps
 use Rattle.bx_editor.specs.declared.message.Message.{Message}
 use Rattle.bx_editor.specs.declared.message.Message.TheVariants as messages
 use Rattle.bx_ucd.specs.Data.{Data}
@@ -44,10 +46,11 @@ at_start text height width base = record {
   width = width;
 }
 
--- the rows of any text in the editor's layout, and those of its own text
+-- the rows of any text in the editor's layout
 abbrev pub rows_of : Data → Editor → List ℕ → List TextRow
 rows_of d e text = text_rows d e.base e.width text
 
+-- the rows of the editor's text
 abbrev pub rows : Data → Editor → List TextRow
 rows d e = rows_of d e e.content.text
 
@@ -88,6 +91,15 @@ after_undo e (edit ∷ past) = record e { content = undone e.content; place = ed
 abbrev pub after_redo : Editor → List Edit → Editor
 after_redo e [] = record e { message = Some messages.NothingToRedo }
 after_redo e (edit ∷ future) = record e { content = redone e.content; place = edit.after.place; changed = true }
+
+abbrev pub after_step : HistoryStep → Editor → Editor
+after_step steps.Undo e = after_undo e e.content.past
+after_step steps.Redo e = after_redo e e.content.future
+
+-- the message where there is no edit to undo, or to redo
+abbrev pub nothing_left : HistoryStep → Message
+nothing_left steps.Undo = messages.NothingToUndo
+nothing_left steps.Redo = messages.NothingToRedo
 
 -- ---- keys that do not edit
 

@@ -48,7 +48,7 @@ pub record AreMirrored (d : Data) (e : Editor) : Type 0 where
   pub redo : e.content.past ≢ [] → (after_keys d false e (Undo ∷ Redo ∷ [])).content ≡ e.content
   pub undo : e.content.future ≢ [] → (after_keys d false e (Redo ∷ Undo ∷ [])).content ≡ e.content
 
--- so it is after anything that was typed over an opened text
+-- undo and redo mirror each other after anything that was typed over an opened text
 abbrev pub RedoMirrorsUndo : Type 0
 RedoMirrorsUndo =
     (d : Data) (text : List ℕ) (height width : ℕ) (base : Base) (typed : List (Key × Bool))

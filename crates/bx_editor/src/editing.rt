@@ -1,16 +1,35 @@
 //! The keys that edit, undo and redo.
-ghost use Rattle.std.specs.Prelude.{◌≡◌, OnErr, OnOk, encode_utf8};
+ghost use Rattle.std.specs.Prelude.{◌≡◌, true, OnErr, OnOk, encode_utf8};
 ghost use Rattle.bx_text.specs.Edits.{IsRange};
 ghost use Rattle.bx_view.specs.Moves.{step_logical};
-ghost use Rattle.bx_editor.specs.Editor.{after_insertion, after_redo, after_removal, after_undo, rows, without_message};
+ghost use Rattle.bx_editor.specs.Editor.{after_insertion, after_removal, after_step, nothing_left, rows, without_message};
 
 use crate::editor::Editor;
 use crate::message::Message;
+use bx_document::HistoryStep;
 use bx_terms::OutOfMemory;
 use bx_ucd::BidiData;
 use bx_view::{Logical, Move};
 
+/// The message where there is nothing to undo, or to redo.
+fn nothing_left(step: HistoryStep) -> Message
+    ensures { result ≡ nothing_left step }
+{
+    match step {
+        HistoryStep::Undo => Message::NothingToUndo,
+        HistoryStep::Redo => Message::NothingToRedo,
+    }
+}
+
 impl<D: BidiData + Drop> Editor<D> {
+    /// Counts the text as changed and clears the message, as each edit does once the cursor is at the new place.
+    fn finish_edit(&mut self)
+        ensures { self.new ≡ record self.old { editor = record (without_message self.old.editor) { changed = true } } }
+    {
+        self.changed = true;
+        self.forget();
+    }
+
     /// Inserts a character at the place; if the text is full, sets a message instead.
     pub(crate) fn insert(&mut self, c: char) -> Result<(), OutOfMemory>
         ensures ok { OnOk result (self.new ≡ record self.old {
@@ -25,9 +44,7 @@ impl<D: BidiData + Drop> Editor<D> {
             return Ok(());
         };
         self.place = place;
-        self.changed = true;
-        self.message = None;
-        self.quit_before = false;
+        self.finish_edit();
         Ok(())
     }
 
@@ -45,9 +62,7 @@ impl<D: BidiData + Drop> Editor<D> {
         }
         let place = self.document.remove(start, stop, self.place)?;
         self.place = place;
-        self.changed = true;
-        self.message = None;
-        self.quit_before = false;
+        self.finish_edit();
         Ok(())
     }
 
@@ -83,35 +98,17 @@ impl<D: BidiData + Drop> Editor<D> {
         Ok(())
     }
 
-    /// Undoes the latest edit; if there is none, sets a message.
-    pub(crate) fn undo(&mut self) -> Result<(), OutOfMemory>
-        ensures ok { OnOk result (self.new ≡ record self.old { editor = after_undo (without_message self.old.editor) self.old.editor.content.past }) }
+    /// Undoes or redoes an edit; if there is none, sets a message.
+    pub(crate) fn step(&mut self, step: HistoryStep) -> Result<(), OutOfMemory>
+        ensures ok { OnOk result (self.new ≡ record self.old { editor = after_step step (without_message self.old.editor) }) }
         ensures err { OnErr result (self.new ≡ self.old) }
     {
-        let Some(place) = self.document.undo()? else {
-            self.tell(Message::NothingToUndo);
+        let Some(place) = self.document.step(step)? else {
+            self.tell(nothing_left(step));
             return Ok(());
         };
         self.place = place;
-        self.changed = true;
-        self.message = None;
-        self.quit_before = false;
-        Ok(())
-    }
-
-    /// Redoes the next edit; if there is none, sets a message.
-    pub(crate) fn redo(&mut self) -> Result<(), OutOfMemory>
-        ensures ok { OnOk result (self.new ≡ record self.old { editor = after_redo (without_message self.old.editor) self.old.editor.content.future }) }
-        ensures err { OnErr result (self.new ≡ self.old) }
-    {
-        let Some(place) = self.document.redo()? else {
-            self.tell(Message::NothingToRedo);
-            return Ok(());
-        };
-        self.place = place;
-        self.changed = true;
-        self.message = None;
-        self.quit_before = false;
+        self.finish_edit();
         Ok(())
     }
 }

@@ -13,8 +13,7 @@ use bx_text::Slices;
 use bx_ucd::BidiData;
 use std::marker::Model;
 
-/// A text that is edited, the cursor's place in it, and what the last key had to say, in a window
-/// of rows and columns.
+/// A text under edit, the cursor's place in it and the message of the last key, in a window of rows and columns.
 #[derive(Drop)]
 pub struct Editor<D: BidiData + Drop> {
     pub(crate) document: Document<D>,
@@ -53,7 +52,7 @@ impl<D: BidiData + Drop> Model for Editor<D> {
 }
 
 impl<D: BidiData + Drop> Editor<D> {
-    /// Another size of the window, in rows and columns. No memory.
+    /// Sets the window's size, in rows and columns. No memory.
     pub fn resize(&mut self, height: u16, width: u16)
         requires sized { is_size height width ≡ true }
         ensures { self.new ≡ record self.old { editor = with_size self.old.editor height width } }
@@ -69,7 +68,7 @@ impl<D: BidiData + Drop> Editor<D> {
         self.changed = true;
     }
 
-    /// The text's pieces in order, which joined are the text. No memory.
+    /// The text in consecutive pieces. No memory.
     pub fn pieces(&self) -> Slices<'_>
         ensures text { result ≡ self.now.editor.content.text }
         ensures joined { (slices : List (Bor (List ℕ))) → Drains lends result slices → joined slices ≡ self.now.editor.content.text }

@@ -5,6 +5,7 @@ ghost use Rattle.bx_editor.specs.Keys.{after_key, is_edit_or_move, is_save, is_s
 
 use crate::editor::Editor;
 use crate::message::Message;
+use bx_document::HistoryStep;
 use bx_keys::Key;
 use bx_terms::{Base, OutOfMemory};
 use bx_ucd::BidiData;
@@ -98,8 +99,8 @@ impl<D: BidiData + Drop> Editor<D> {
             Key::RowEnd => self.moved(Move::RowEnd),
             Key::PageUp => self.moved(Move::Rows(Vertical::Up, page)),
             Key::PageDown => self.moved(Move::Rows(Vertical::Down, page)),
-            Key::Undo => self.undo(),
-            Key::Redo => self.redo(),
+            Key::Undo => self.step(HistoryStep::Undo),
+            Key::Redo => self.step(HistoryStep::Redo),
             Key::Quit => {
                 self.quit();
                 Ok(())

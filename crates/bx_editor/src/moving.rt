@@ -11,8 +11,8 @@ use bx_ucd::BidiData;
 use bx_view::Move;
 
 impl<D: BidiData + Drop> Editor<D> {
-    /// Moves the cursor to a place.
-    fn stand_at(&mut self, place: usize)
+    /// Moves the cursor to a place, and clears the message.
+    fn set_place(&mut self, place: usize)
         requires text_place { IsTextPlace (D.data self.old.tables) self.old.editor.content.text place }
         ensures { self.new ≡ record self.old { editor = with_place (without_message self.old.editor) place } }
     {
@@ -32,11 +32,11 @@ impl<D: BidiData + Drop> Editor<D> {
         ensures err { OnErr result (self.new ≡ self.old) }
     {
         let place = self.document.place_from(offset)?;
-        self.stand_at(place);
+        self.set_place(place);
         Ok(())
     }
 
-    /// The number of rows of a page: those that the window shows.
+    /// The number of rows that PageUp and PageDown move by: the window's text rows.
     pub(crate) fn page(&self) -> usize
         ensures { result ≡ text_height self.now.editor.height }
     {
@@ -52,7 +52,7 @@ impl<D: BidiData + Drop> Editor<D> {
         ensures err { OnErr result (self.new ≡ self.old) }
     {
         let place = self.document.moved(m, self.place)?;
-        self.stand_at(place);
+        self.set_place(place);
         Ok(())
     }
 }

@@ -60,7 +60,7 @@ impl<D: BidiData + Drop> Editor<D> {
     }
 
     /// Scrolls from the offset `top` to the cursor and draws the window. Returns the offset of the new top row, and the
-    /// picture. `page` is a grid of the window's size to draw on; its rows that are right already are kept.
+    /// picture. `page` is a grid of the window's size to draw on. Rows that it shows already are left as they are.
     ///
     /// Errors: `OutOfMemory`.
     pub fn picture(

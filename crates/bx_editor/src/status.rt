@@ -34,7 +34,7 @@ fn write_line(
 }
 
 /// The text of the status row: a star if there are unsaved changes, else a hyphen; the numbers of the cursor's paragraph
-/// and of its unit in it, both from 1; and a message.
+/// and of its unit in the paragraph, both from 1; and a message.
 ///
 /// Errors: `AllocError`.
 pub(crate) fn status_line(
