@@ -172,8 +172,7 @@ module _ (says : Data) (sought : List ℕ) where
       let at : widths k.front ≡ i = omega (arith, k.offset) in
       let rest : chars (drop i text) ≡ k.rest =
       ap chars (ap (drop i) whole ∙ drop_at (encode_utf8_all k.front) (encode_utf8_all k.rest) i at)
-      ∙ chars-encodes k.rest (scalars-end k.front k.rest (ap scalars (sym k.whole) ∙ scalars-chars text u)) in
-      (
+      ∙ chars-encodes k.rest (scalars-end k.front k.rest (ap scalars (sym k.whole) ∙ scalars-chars text u)) in (
         subst (IsCharBoundary text) at
             (IsCharBoundary-at_seam text (encode_utf8_all k.front) (encode_utf8_all k.rest) whole
             (k.rest, (scalars-end k.front k.rest (ap scalars (sym k.whole) ∙ scalars-chars text u), refl))),

@@ -4,7 +4,7 @@ use Rattle.std.proofs.Common.{refl, ap, ap₂, sym, arith, length-append, append
 use Rattle.std.specs.Prelude.{Option, Some, None, slice_get, find, nat_le, nat_lt, encode_utf8, encode_utf8_all, IsUtf8}
 use Rattle.std.specs.Char.{to_ascii_lowercase}
 use Rattle.std.proofs.lemmas.Bool.Decides.{nat_tests}
-use Rattle.std.proofs.lemmas.List.{length-map, take-append-drop, length-take-le, drop-drop, drop_all}
+use Rattle.std.proofs.lemmas.List.{nil_from_length, length-map, take-append-drop, length-take-le, drop-drop, drop_all}
 use Rattle.std.proofs.lemmas.Str.{chars-append, chars-nil, encodes-chars, IsUtf8-take, IsUtf8-drop, IsUtf8-between, length-encode, len_utf8_bounds}
 use Rattle.bx_ucd.specs.Data.{Data}
 use Rattle.bx_find.specs.Letters.{is_passed_over, letters}
@@ -142,6 +142,12 @@ module _ (says : Data) (sought : List ℕ) where
   none_before x at o [] h = refl
   none_before x at o (c ∷ cs) h =
       none-by x at c o cs (stands says sought (c ∷ cs)) h refl (none_before x (at + length (encode_utf8 c)) o cs (omega (arith, h)))
+
+  -- nothing is held, and all that follows is past x
+  pub none_left : (x at : ℕ) (o : Option ℕ) (held cs : List ℕ) → length held ≡ 0 → x ≤ at → last_below x o (to_come says sought held at cs) ≡ o
+  none_left x at o held cs none h =
+      ap (λ (os : List ℕ). last_below x o (to_come says sought os at cs)) (nil_from_length held none)
+      ∙ ap (last_below x o) (sym (standing-placed at cs)) ∙ none_before x at o cs h
 
   -- ---- a text from an offset on
 

@@ -86,7 +86,8 @@ impl Latest {
     }
 }
 
-/// Reads a piece that begins at an offset, and takes each offset at which the query stands.
+/// Reads a piece that begins at an offset, and takes each offset at which the query stands. Reads no further where all
+/// others are past the bound.
 fn last_in<D: BidiData>(
     query: &Query,
     tables: &D,
@@ -106,14 +107,17 @@ fn last_in<D: BidiData>(
     let mut at = start;
     let mut rest = piece;
     while let Some((c, behind)) = first_char(rest) {
+        if at >= latest.before && held.len() == 0 {
+            return;
+        }
         latest.take(read(query, tables, held, c, at));
         at += c.len_utf8();
         rest = behind;
     }
 }
 
-/// The greatest offset in bytes before `x` at which the query stands in a text. Reads the text from its start, up to the
-/// first character after `x` from which on nothing is held.
+/// The greatest offset in bytes before `x` at which the query stands in a text. Reads the text from its start to `x`, and
+/// what it needs behind.
 pub fn last_before<P: Pieces, D: BidiData>(
     source: &P,
     tables: &D,

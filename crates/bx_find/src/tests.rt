@@ -13,7 +13,8 @@ impl<'t> Pieces for Cut<'t> {
     ghost text = { λ w. w.0.now };
 
     fn len(&self) -> usize {
-        self.0.len()
+        let text = &self.0[..];
+        text.len()
     }
 
     fn piece_at(&self, offset: usize) -> &str {

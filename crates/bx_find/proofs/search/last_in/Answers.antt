@@ -1,10 +1,22 @@
-use Rattle.std.proofs.Common.{ℕ, List, ◌≡◌, ◌<◌, ◌+◌, ◌∙◌, ◌∷◌, [], ◌++◌, length, chars, ap, ap₂, sym, arith, length-append}
+use Rattle.std.proofs.Common.{ℕ, List, ◌≡◌, ◌<◌, ◌≤◌, ◌+◌, ◌∙◌, ◌∷◌, [], ◌++◌, length, chars, ap, ap₂, sym, arith, length-append}
 use Rattle.std.specs.Prelude.{encode_utf8, option_to_list}
 use Rattle.std.proofs.lemmas.Str.{chars_past_char, IsUtf8-past_char}
 use Rattle.bx_find.specs.Held.{to_come}
 use Rattle.bx_find.specs.Standing.{last_below}
+use Rattle.bx_find.proofs.Offsets.{none_left}
 use Rattle.bx_find.proofs.ReadOn.{no_chars}
 use Rattle.bx_find.proofs.search.last_in.Goals as goal
+
+-- nothing is held, and what follows is past the bound, in this piece and behind it
+pub returns-then-len-eq0-clause-found : goal.returns-then-len-eq0-clause-found
+returns-then-len-eq0-clause-found g c cs =
+    let says = g.D.BidiData.data c.args.tables.now in
+    let none : length c.loop-c.held ≡ 0 = sym c.len.ensures ∙ c.if-len-eq0.true in
+    let past : c.args.latest.now.before ≤ c.loop-c.at = omega (arith, c.if-at-latest.true, c.loop-c.invariant.before) in
+    let left = none_left says c.args.query.now c.args.latest.now.before c.loop-c.at c.loop-c.latest.found c.loop-c.held (chars c.loop-c.rest.now ++ cs) none past in
+    let behind = none_left says c.args.query.now c.args.latest.now.before (c.args.start + length c.args.piece.now) c.loop-c.latest.found c.loop-c.held cs none
+    (omega (arith, past, c.loop-c.invariant.bytes)) in
+    c.loop-c.invariant.found cs ∙ left ∙ sym behind
 
 pub loop-c-preserved : goal.loop-c-preserved
 loop-c-preserved g c =
