@@ -13,7 +13,7 @@ use Rattle.bx_bytes.specs.declared.fate.Fate.TheVariants.{Waits, Ends, Breaks}
 use Rattle.bx_input.specs.Table.{Row, rows, fate, row_of, paste_end}
 use Rattle.bx_input.specs.Paste.{pasted_byte, pasted_part, paste_fate}
 use Rattle.bx_input.specs.Filter.{State, Outside, Within, Step, step_by, paste_step_by, fresh_in_paste, broken, ended, step, start, run, at_end, apart_from}
-use Rattle.bx_input.specs.Laws.{waiting_in, GrowsByThird, NoLongerWithoutQ}
+use Rattle.bx_input.specs.Laws.{waiting_in, is_p_or_q, GrowsByThird, NoLongerWithoutPQ}
 
 -- bytes that go out, or wait, count for those that came
 abbrev weight : Step → ℕ
@@ -119,25 +119,25 @@ grows_by_third bs =
     let all : Step = run start bs in
     omega (arith, run_weighs start bs, length-append all.output (at_end all.state), end_is_shorter all.state)
 
--- ---- input without the letter Q
+-- ---- input without the letters P and Q
 
 -- bytes that go out, or wait, each once
 abbrev count : Step → ℕ
 count s = length s.output + length (waiting_in s.state)
 
-abbrev ends_in_q : List ℕ → Bool
-ends_in_q [] = false
-ends_in_q (b ∷ []) = nat_eq b 0x51
-ends_in_q (b ∷ c ∷ bs) = ends_in_q (c ∷ bs)
+abbrev ends_in_pq : List ℕ → Bool
+ends_in_pq [] = false
+ends_in_pq (b ∷ []) = is_p_or_q b
+ends_in_pq (b ∷ c ∷ bs) = ends_in_pq (c ∷ bs)
 
-last_is : (waiting : List ℕ) (b : ℕ) → ends_in_q (waiting ++ b ∷ []) ≡ nat_eq b 0x51
+last_is : (waiting : List ℕ) (b : ℕ) → ends_in_pq (waiting ++ b ∷ []) ≡ is_p_or_q b
 last_is [] b = refl
 last_is (x ∷ []) b = refl
 last_is (x ∷ y ∷ waiting) b = last_is (y ∷ waiting) b
 
 abbrev counts : Row → Bool
 counts r =
-    ends_in_q r.sequence
+    ends_in_pq r.sequence
     || (nat_le (length (apart_from true r.becomes)) (length r.sequence) && nat_le (length (apart_from false r.becomes)) (length r.sequence))
 
 either_counts : (is_open : Bool) (r : Row) → length (apart_from true r.becomes) ≤ length r.sequence
@@ -145,22 +145,22 @@ either_counts : (is_open : Bool) (r : Row) → length (apart_from true r.becomes
 either_counts true r h g = h
 either_counts false r h g = g
 
-row_counts : (is_open : Bool) (r : Row) → counts r ≡ true → ends_in_q r.sequence ≡ false → length (apart_from is_open r.becomes) ≤ length r.sequence
-row_counts is_open r h q = elim (or_cases (ends_in_q r.sequence) _ h) [
-  | inl ends ↦ absurd (both_ways (ends_in_q r.sequence) q ends)
+row_counts : (is_open : Bool) (r : Row) → counts r ≡ true → ends_in_pq r.sequence ≡ false → length (apart_from is_open r.becomes) ≤ length r.sequence
+row_counts is_open r h q = elim (or_cases (ends_in_pq r.sequence) _ h) [
+  | inl ends ↦ absurd (both_ways (ends_in_pq r.sequence) q ends)
   | inr fit ↦ (
       let parts = and_parts (nat_le (length (apart_from true r.becomes)) (length r.sequence)) (nat_le (length (apart_from false r.becomes)) (length r.sequence)) fit in
       either_counts is_open r (leb-true (length (apart_from true r.becomes)) (length r.sequence) parts.0)
       (leb-true (length (apart_from false r.becomes)) (length r.sequence) parts.1))
 ]
 
-ended_counts : (is_open : Bool) (read : List ℕ) (o : Option Row) → row_of read ≡ o → 1 ≤ length read → ends_in_q read ≡ false
+ended_counts : (is_open : Bool) (read : List ℕ) (o : Option Row) → row_of read ≡ o → 1 ≤ length read → ends_in_pq read ≡ false
     → count (ended is_open o) ≤ length read
 ended_counts is_open read None h some q = omega (arith, nothing_fits is_open)
 ended_counts is_open read (Some r) h some q =
     let is = found (λ (x : Row). bytes_eq x.sequence read) counts rows r refl h in
     let same : r.sequence ≡ read = (bytes_eq-Decides r.sequence read).0 is.passes in
-    omega (arith, row_counts is_open r is.fits (ap ends_in_q same ∙ q), ap length same)
+    omega (arith, row_counts is_open r is.fits (ap ends_in_pq same ∙ q), ap length same)
 
 broken_counts : (waiting : List ℕ) (is_open : Bool) (b : ℕ) → count (broken waiting is_open b) ≤ length waiting + 1
 broken_counts waiting is_open b = elim (cases_Bool (nat_eq b 0x1B)) [
@@ -168,7 +168,7 @@ broken_counts waiting is_open b = elim (cases_Bool (nat_eq b 0x1B)) [
   | inr other ↦ rw other (omega (arith, length_push waiting b))
 ]
 
-outside_counts : (f : Fate) (waiting : List ℕ) (is_open : Bool) (b : ℕ) → nat_eq b 0x51 ≡ false → count (step_by f waiting is_open b) ≤ length waiting + 1
+outside_counts : (f : Fate) (waiting : List ℕ) (is_open : Bool) (b : ℕ) → is_p_or_q b ≡ false → count (step_by f waiting is_open b) ≤ length waiting + 1
 outside_counts Waits waiting is_open b q = omega (arith, length_push waiting b)
 outside_counts Ends waiting is_open b q =
     omega (
@@ -190,18 +190,18 @@ within_counts Breaks waiting after_return b =
     let fresh : Step = fresh_in_paste (paste_fate (b ∷ [])) after_return b in
     omega (arith, length-append (pasted_part waiting) fresh.output, part_is_shorter waiting, fresh_counts (paste_fate (b ∷ [])) after_return b)
 
-step_counts : (s : State) (b : ℕ) → nat_eq b 0x51 ≡ false → count (step s b) ≤ length (waiting_in s) + 1
+step_counts : (s : State) (b : ℕ) → is_p_or_q b ≡ false → count (step s b) ≤ length (waiting_in s) + 1
 step_counts (Outside waiting is_open) b q = outside_counts (fate (waiting ++ b ∷ [])) waiting is_open b q
 step_counts (Within waiting after_return) b q = within_counts (paste_fate (waiting ++ b ∷ [])) waiting after_return b
 
-run_counts : (s : State) (bs : List ℕ) → list_all (λ b. not (nat_eq b 0x51)) bs ≡ true → count (run s bs) ≤ length (waiting_in s) + length bs
+run_counts : (s : State) (bs : List ℕ) → list_all (λ b. not (is_p_or_q b)) bs ≡ true → count (run s bs) ≤ length (waiting_in s) + length bs
 run_counts s [] q = omega arith
 run_counts s (b ∷ bs) q =
     let first : Step = step s b in
-    let parts = and_parts (not (nat_eq b 0x51)) (list_all (λ x. not (nat_eq x 0x51)) bs) q in
-    omega (arith, step_counts s b (not-true (nat_eq b 0x51) parts.0), run_counts first.state bs parts.1, length-append first.output (run first.state bs).output)
+    let parts = and_parts (not (is_p_or_q b)) (list_all (λ x. not (is_p_or_q x)) bs) q in
+    omega (arith, step_counts s b (not-true (is_p_or_q b) parts.0), run_counts first.state bs parts.1, length-append first.output (run first.state bs).output)
 
-pub no_longer_without_q : NoLongerWithoutQ
-no_longer_without_q bs q =
+pub no_longer_without_pq : NoLongerWithoutPQ
+no_longer_without_pq bs q =
     let all : Step = run start bs in
     omega (arith, run_counts start bs q, length-append all.output (at_end all.state), end_is_shorter all.state)

@@ -15,7 +15,7 @@ use Rattle.bx_keys.specs.declared.key.Key.TheVariants.{Insert, Up}
 use Rattle.bx_input.specs.Table.{rows, sequences, exact, paste_start, paste_end}
 use Rattle.bx_input.specs.Paste.{kept_characters, pasted}
 use Rattle.bx_input.specs.Filter.{Outside, Within, Step, step_to, step, start, run, at_end, filtered}
-use Rattle.bx_input.specs.Laws.{ComesInPieces, WaitsForFive, waiting_in, BecomesRow, HasNone, OthersPass, PastesText, IsText, PastesAreClean, GrowsByThird, NoLongerWithoutQ}
+use Rattle.bx_input.specs.Laws.{ComesInPieces, WaitsForFive, waiting_in, BecomesRow, HasNone, OthersPass, PastesText, IsText, PastesAreClean, GrowsByThird, NoLongerWithoutPQ}
 use Rattle.bx_input.specs.Laws.{HasKey, AddsKey, PastesInsert, PastesKeepCharacters}
 use Rattle.bx_input.specs.Running.{HasPassed, IsBrokenOff, IsFiltered, IsOneReadLate}
 
@@ -87,7 +87,7 @@ of_others_pass law bs n = law bs (no_sequence sequences bs refl n)
 pub of_grows_by_third : GrowsByThird → (bs : List ℕ) → length bs ≡ 3 → length (filtered bs) ≤ 4
 of_grows_by_third law bs three = omega (arith, law bs, three)
 
-pub of_no_longer : NoLongerWithoutQ → length (filtered (codes "\u{1b}OA")) ≤ 3
+pub of_no_longer : NoLongerWithoutPQ → length (filtered (codes "\u{1b}OA")) ≤ 3
 of_no_longer law = law (codes "\u{1b}OA") refl
 
 pub of_rows_have_keys : AllByRecursion HasKey rows → decoding (codes "\u{1b}[A") ≡ record { keys = Up ∷ []; rest = [] }

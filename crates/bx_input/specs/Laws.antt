@@ -61,13 +61,17 @@ pub record PastesAreClean : Type 0 where
   pub input_ends : (waiting : List ℕ) (after_return : Bool) → IsText (at_end (Within waiting after_return))
   pub whole : (text : List ℕ) → IsText (pasted text)
 
--- F2 as ESC O Q is three bytes and becomes four, and nothing else grows
+-- F2 as ESC O Q and Delete as CSI P are three bytes and become four, and nothing else grows
 abbrev pub GrowsByThird : Type 0
 GrowsByThird = (bs : List ℕ) → 3 * length (filtered bs) ≤ 4 * length bs
 
--- input without the letter Q has no such F2, and nothing longer goes out
-abbrev pub NoLongerWithoutQ : Type 0
-NoLongerWithoutQ = (bs : List ℕ) → list_all (λ b. not (b == 0x51)) bs ≡ true → length (filtered bs) ≤ length bs
+-- the last byte of both
+abbrev pub is_p_or_q : ℕ → Bool
+is_p_or_q b = b == 0x50 || b == 0x51
+
+-- input without the letters P and Q has neither, and nothing longer goes out
+abbrev pub NoLongerWithoutPQ : Type 0
+NoLongerWithoutPQ = (bs : List ℕ) → list_all (λ b. not (is_p_or_q b)) bs ≡ true → length (filtered bs) ≤ length bs
 
 -- the editor decodes the bytes of a row as the row's key
 abbrev pub HasKey : Row → Type 0

@@ -5,7 +5,7 @@ use Rattle.bx_bytes.specs.Fate.{fate_in}
 use Rattle.bx_bytes.specs.Pattern.{Piece, One}
 use Rattle.bx_bytes.specs.declared.fate.Fate.{Fate}
 use Rattle.bx_keys.specs.declared.key.Key.{Key}
-use Rattle.bx_keys.specs.declared.key.Key.TheVariants.{Insert, Up, Down, Right, Left, RowHome, RowEnd, Direction}
+use Rattle.bx_keys.specs.declared.key.Key.TheVariants.{Insert, Delete, Up, Down, Right, Left, RowHome, RowEnd, Direction}
 
 -- a sequence of a terminal, the bytes that it becomes, and the editor's key for these
 pub record Row : Type 0 where
@@ -48,6 +48,21 @@ shifted_keys =
     ∷ row (csi (codes "1;2F")) (csi (codes "F")) RowEnd
     ∷ []
 
+-- the same of rxvt
+abbrev shifted_rxvt_keys : List Row
+shifted_rxvt_keys =
+    row (csi (codes "a")) (csi (codes "A")) Up
+    ∷ row (csi (codes "b")) (csi (codes "B")) Down
+    ∷ row (csi (codes "c")) (csi (codes "C")) Right
+    ∷ row (csi (codes "d")) (csi (codes "D")) Left
+    ∷ row (csi (codes "7$")) (csi (codes "H")) RowHome
+    ∷ row (csi (codes "8$")) (csi (codes "F")) RowEnd
+    ∷ []
+
+-- Delete of st outside its keypad mode
+abbrev delete_keys : List Row
+delete_keys = row (csi (codes "P")) (csi (codes "3~")) Delete ∷ []
+
 -- F2, of xterm, tmux and screen; of rxvt and PuTTY; of the Linux console
 abbrev direction_keys : List Row
 direction_keys =
@@ -72,7 +87,7 @@ keypad_digits =
     ∷ []
 
 abbrev pub rows : List Row
-rows = application_keys ++ (rxvt_keys ++ (shifted_keys ++ (direction_keys ++ keypad_digits)))
+rows = application_keys ++ (rxvt_keys ++ (shifted_keys ++ (shifted_rxvt_keys ++ (delete_keys ++ (direction_keys ++ keypad_digits)))))
 
 -- the two marks that a terminal puts around a paste
 abbrev pub paste_start : List ℕ

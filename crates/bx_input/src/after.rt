@@ -80,11 +80,11 @@ pub fn sequence_after(waiting: Beginning, byte: u8) -> After
             _ => After::Breaks,
         },
         Beginning::Seven => match byte {
-            b'~' => After::Becomes(b"\x1b[H"),
+            b'~' | b'$' => After::Becomes(b"\x1b[H"),
             _ => After::Breaks,
         },
         Beginning::Eight => match byte {
-            b'~' => After::Becomes(b"\x1b[F"),
+            b'~' | b'$' => After::Becomes(b"\x1b[F"),
             _ => After::Breaks,
         },
         Beginning::Bracket => match byte {
@@ -128,6 +128,11 @@ fn after_csi(byte: u8) -> After
         b'7' => After::Waits(Beginning::Seven),
         b'8' => After::Waits(Beginning::Eight),
         b'[' => After::Waits(Beginning::Bracket),
+        b'a' => After::Becomes(b"\x1b[A"),
+        b'b' => After::Becomes(b"\x1b[B"),
+        b'c' => After::Becomes(b"\x1b[C"),
+        b'd' => After::Becomes(b"\x1b[D"),
+        b'P' => After::Becomes(b"\x1b[3~"),
         _ => After::Breaks,
     }
 }

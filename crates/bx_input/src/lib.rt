@@ -1,8 +1,9 @@
 //! A filter between a terminal and the editor: turns the sequences that terminals send into those that the editor reads.
 //!
 //! Terminals send sequences that the editor does not know: arrows in application mode, the Home and End of rxvt, keys with
-//! Shift, F2, the keypad's digits, and pastes. `specs/Table.antt` has the table. All else passes unchanged, broken sequences
-//! too. A paste becomes text: of its control bytes only TAB and LF are left, so it can neither save nor quit nor move.
+//! Shift, the Delete of st, F2, the keypad's digits, and pastes. `specs/Table.antt` has the table. All else passes unchanged,
+//! broken sequences too. A paste becomes text: of its control bytes only TAB and LF are left, so it can neither save nor quit
+//! nor move.
 #![tactic(auto)]
 
 mod after;

@@ -5,4 +5,4 @@ pub returns-clause-third : goal.returns-clause-third
 returns-clause-third c = growth.grows_by_third
 
 pub returns-clause-no_longer : goal.returns-clause-no_longer
-returns-clause-no_longer c = growth.no_longer_without_q
+returns-clause-no_longer c = growth.no_longer_without_pq
