@@ -5,7 +5,6 @@ pub mod SimpleUnits
 pub mod SimplePush
 pub mod RangeFacts
 pub mod Printable
-pub mod AsciiUnits
 pub mod Standing
 pub mod BreakTables
 pub mod Locality

@@ -10,7 +10,6 @@ use Rattle.std.proofs.lemmas.Str.{chars-nil, chars-encodes, chars_past_char, sca
 use Rattle.bx_ucd.specs.Data.{Data}
 use Rattle.unicode_segmentation.specs.Grapheme.{graphemes, is_grapheme_break}
 use Rattle.unicode_segmentation.specs.Segments.{prepend, cut, segments, with_offsets}
-use Rattle.bx_ucd.specs.declared.class.Class.{Class}
 use Rattle.bx_terms.specs.Characters.{is_control}
 use Rattle.bx_cells.specs.declared.unit.Face.{Face}
 use Rattle.bx_cells.specs.declared.unit.Face.TheVariants.{Mark}
@@ -158,9 +157,6 @@ module _ (body : List ℕ) (start c : ℕ) (k : Bool) (rest : List ℕ) (u : IsU
       let valid = IsUtf8-past_all (c ∷ o.marks) rest (drop start body) (IsUtf8-drop body start u b) o.bytes in
       IsCharBoundary-from_drop body stop (omega (arith, e)) (subst IsUtf8 (sym (open-left stop e)) valid)
 
-  pub open-after : (stop : ℕ) → stop + length rest ≡ length body → start ≤ stop
-  open-after stop e = let width = open-width stop e in omega (arith, width)
-
   -- the next character begins: the cluster ends before it
   pub open-next : (says : Data) (w stop d : ℕ) (more : List ℕ) → stop + length rest ≡ length body → rest ≡ encode_utf8 d ++ more → begins d ≡ true
       → units_from says w body start ≡ open_unit says w start stop c k ∷ units_from says w body stop
@@ -199,23 +195,6 @@ module _ (body : List ℕ) (start c : ℕ) (k : Bool) (rest : List ℕ) (u : IsU
       let whole : stop + length rest ≡ length body = omega (arith, e, z) in
       ap (λ x. map (unit_at says w) (with_offsets stop (map encode_utf8_all (cut (is_grapheme_break true) [] (chars x) [])))) (open-left stop whole ∙ none)
       ∙ ap (λ x. map (unit_at says w) (with_offsets stop (map encode_utf8_all (cut (is_grapheme_break true) [] x [])))) chars-nil
-
-  -- its unit is added
-  pub unit-more : (says : Data) (w stop d : ℕ) (more : List ℕ) (f : Face) (done new all : List Unit) → stop + length rest ≡ length body
-      → rest ≡ encode_utf8 d ++ more → begins d ≡ true → f ≡ simple_face says w c k → new ≡ done ++ record { start = start; stop = stop; face = f } ∷ []
-      → done ++ units_from says w body start ≡ all → new ++ units_from says w body stop ≡ all
-  unit-more says w stop d more f done new all e next begin face pushed inv =
-      ap (λ x. x ++ units_from says w body stop) (pushed ∙ ap (λ x. done ++ record { start = start; stop = stop; face = x } ∷ []) face)
-      ∙ append_assoc done (open_unit says w start stop c k ∷ []) (units_from says w body stop)
-      ∙ ap (λ x. done ++ x) (sym (open-next says w stop d more e next begin)) ∙ inv
-
-  pub unit-last : (says : Data) (w stop : ℕ) (f : Face) (done new all : List Unit) → stop ≡ length body → length rest ≡ 0 → f ≡ simple_face says w c k
-      → new ≡ done ++ record { start = start; stop = stop; face = f } ∷ [] → done ++ units_from says w body start ≡ all
-      → new ++ units_from says w body stop ≡ all
-  unit-last says w stop f done new all e z face pushed inv =
-      ap₂ (λ x y. x ++ y) (pushed ∙ ap (λ x. done ++ record { start = start; stop = stop; face = x } ∷ []) face) (open-none says w stop e z)
-      ∙ append-nil (done ++ open_unit says w start stop c k ∷ [])
-      ∙ ap (λ x. done ++ x) (sym (open-last says w stop e z)) ∙ inv
 
   open-only : (stop : ℕ) → stop + length rest ≡ length body → only_char (chars (slice_range body start stop)) ≡ cond k None (Some c)
   open-only stop e =

@@ -1,18 +1,17 @@
 -- A body's clusters one after another: the first cluster of the rest, and the units after it.
-use Rattle.std.proofs.Common.{◌≡◌, ℕ, zero, suc, ◌+◌, ◌<◌, ◌≤◌, true, List, [], ◌∷◌, ◌++◌, map, length, drop, refl, sym, ap, ap₂, subst, ◌∙◌, arith}
+use Rattle.std.proofs.Common.{◌≡◌, ℕ, zero, suc, ◌+◌, ◌<◌, ◌≤◌, true, List, [], ◌∷◌, ◌++◌, map, length, drop, take, refl, sym, ap, ap₂, subst, ◌∙◌, arith}
 use Rattle.std.proofs.Common.{append_assoc, append-nil, length-append, encode_utf8, encode_utf8_all}
 use Rattle.std.specs.List.{concat}
 use Rattle.std.specs.Str.{chars, IsUtf8, IsCharBoundary, all_scalars}
 use Rattle.bx_ucd.specs.Data.{Data}
 use lib.Utf8.{scalar}
 use Rattle.std.proofs.lemmas.Bool.{and_parts, and_from}
-use Rattle.std.proofs.lemmas.List.{drop-drop, drop_at, drop_all, length-drop}
+use Rattle.std.proofs.lemmas.List.{drop-drop, drop_at, drop_all, length-drop, take_all}
 use Rattle.std.proofs.lemmas.Str.{chars-nil, chars_past_char, encodes-append, encodes-chars, IsUtf8-past_char, IsUtf8-drop}
 use Rattle.std.proofs.lemmas.Str.{IsCharBoundary-from_drop, IsCharBoundary-start}
 use Rattle.unicode_segmentation.specs.Grapheme.{graphemes, is_grapheme_break}
 use Rattle.unicode_segmentation.specs.Segments.{cut, segments, with_offsets}
 use Rattle.unicode_segmentation.proofs.SegmentsLemmas.{AllPieces, segments_nonempty}
-use Rattle.bx_ucd.specs.declared.class.Class.{Class}
 use Rattle.bx_cells.specs.declared.unit.Unit.{Unit}
 use Rattle.bx_cells.specs.declared.unit.Face.{Face}
 use Rattle.bx_cells.specs.Faces.{face}
@@ -118,15 +117,6 @@ none-behind says w body at h =
 pub past-all : (body : List ℕ) (at : ℕ) → IsUtf8 body → IsCharBoundary body at → graphemes true (drop at body) ≡ [] → length body ≤ at
 past-all body at u b h = omega (arith, ap length (no-cluster (drop at body) (IsUtf8-drop body at u b) h), length-drop at body)
 
--- one more unit is added
-pub unit-added : (says : Data) (w : ℕ) (body : List ℕ) (at : ℕ) (p : List ℕ) (ps : List (List ℕ)) (f : Face) (done new all : List Unit)
-    → IsNext says w body at p ps → f ≡ face says w p → new ≡ done ++ record { start = at; stop = at + length p; face = f } ∷ []
-    → done ++ units_from says w body at ≡ all → new ++ units_from says w body (at + length p) ≡ all
-unit-added says w body at p ps f done new all n e pushed inv =
-    ap (λ x. x ++ units_from says w body (at + length p)) (pushed ∙ ap (λ x. done ++ record { start = at; stop = at + length p; face = x } ∷ []) e)
-    ∙ append_assoc done (unit_at says w (at, p) ∷ []) (units_from says w body (at + length p))
-    ∙ ap (λ x. done ++ x) (sym n.units) ∙ inv
-
 head_some : (ps : List (List ℕ)) (p : List ℕ) (rest : List (List ℕ)) → AllPieces (λ p. 0 < length p) ps → ps ≡ p ∷ rest → 0 < length p
 head_some [] p rest h e = cc
 head_some (q ∷ qs) p rest h e = let same : q ≡ p = cc in omega (arith, h.0, ap length same)
@@ -188,3 +178,8 @@ few-from says w body valid (p ∷ ps) at b e =
 pub few-units : (says : Data) (w : ℕ) (body : List ℕ) → IsUtf8 body → length (units says w body) ≤ length body
 few-units says w body valid =
     let few = few-from says w body valid (graphemes true body) 0 (IsCharBoundary-start body valid) refl in omega (arith, few)
+
+-- so the first units, as many as bytes, are all
+pub all_taken : (says : Data) (w : ℕ) (body : List ℕ) (us : List Unit) → IsUtf8 body → us ≡ take (length body) (units_from says w body 0)
+    → us ≡ units says w body
+all_taken says w body us valid e = e ∙ take_all (length body) (units says w body) (few-units says w body valid)

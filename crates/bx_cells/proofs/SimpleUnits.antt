@@ -8,7 +8,6 @@ use Rattle.std.proofs.lemmas.Str.{chars-encodes}
 use Rattle.bx_ucd.specs.Data.{Data}
 use Rattle.unicode_segmentation.specs.Grapheme.{graphemes}
 use Rattle.unicode_segmentation.specs.Segments.{segments}
-use Rattle.bx_ucd.specs.declared.class.Class.{Class}
 use Rattle.bx_terms.specs.Characters.{is_control}
 use Rattle.bx_cells.specs.declared.unit.Face.{Face}
 use Rattle.bx_cells.specs.declared.unit.Face.TheVariants.{Tab, Mark, Own}

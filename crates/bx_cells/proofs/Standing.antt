@@ -8,7 +8,6 @@ use Rattle.bx_ucd.specs.Data.{Data}
 use Rattle.unicode_segmentation.specs.Grapheme.{graphemes, is_grapheme_break}
 use Rattle.unicode_segmentation.specs.Segments.{with_offsets}
 use Rattle.unicode_segmentation.proofs.SegmentsLemmas.{IsPieceOf, All-IsPieceOf}
-use Rattle.bx_ucd.specs.declared.class.Class.{Class}
 use Rattle.bx_cells.specs.declared.unit.Unit.{Unit}
 use Rattle.bx_cells.specs.Faces.{face}
 use Rattle.bx_cells.specs.Units.{units, units_from, unit_at, StandsIn, HasFace}
@@ -28,9 +27,6 @@ faces-units says w body u =
     All-map (HasFace says w body) (unit_at says w) (with_offsets 0 (graphemes true body))
     (All-weaker (IsPieceOf body) (λ x. HasFace says w body (unit_at says w x)) (λ x p. ap (face says w) p.bytes) _
     (All-IsPieceOf (is_grapheme_break true) body u))
-
-pub faces_if_units : (says : Data) (w : ℕ) (body : List ℕ) (us : List Unit) → IsUtf8 body → us ≡ units says w body → All (HasFace says w body) us
-faces_if_units says w body us u e = All-same (HasFace says w body) us (units says w body) e (faces-units says w body u)
 
 -- ---- the units from an offset on
 

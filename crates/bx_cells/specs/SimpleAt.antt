@@ -2,7 +2,6 @@
 use Rattle.std.specs.Prelude.{◌≡◌, ℕ, ◌<◌, cond, List, ◌∷◌, chars, slice_range, Some, None}
 use Rattle.std.specs.Str.{IsCharBoundary}
 use Rattle.bx_ucd.specs.Data.{Data}
-use Rattle.bx_ucd.specs.declared.class.Class.{Class}
 use Rattle.bx_cells.specs.declared.simple_clusters.SimpleCluster.{SimpleCluster}
 use Rattle.bx_cells.specs.Faces.{only_char}
 use Rattle.bx_cells.specs.Simple.{own_columns}

@@ -2,6 +2,8 @@
 ghost use Rattle.std.specs.Prelude.{◌≡◌, chars, false, length, None, ◌≤◌};
 ghost use Rattle.std.specs.List.{list_any};
 ghost use Rattle.bx_terms.specs.Characters.{is_control};
+ghost use Rattle.bx_cells.specs.Simple.{own_columns};
+ghost use Rattle.bx_cells.specs.SimpleFace.{simple_face};
 ghost use Rattle.bx_cells.specs.Faces.{face, letter_of, sized_face, only_char, is_tab, format_letter};
 
 use crate::unit::Face;
@@ -10,7 +12,7 @@ use bx_ucd::{BidiData, Class};
 use unicode_width::UnicodeWidthStr;
 
 /// The letter that a mark shows for an explicit formatting character.
-pub(crate) fn letter_of(class: Class) -> Option<u8>
+fn letter_of(class: Class) -> Option<u8>
     ensures { result ≡ letter_of class }
 {
     match class {
@@ -48,7 +50,7 @@ fn may_have_letter(class: Class) -> bool
 
 /// `letter_of`, with a short inlined test for the many classes that have no letter.
 #[inline(always)]
-pub(crate) fn letter_if_any(class: Class) -> Option<u8>
+fn letter_if_any(class: Class) -> Option<u8>
     ensures { result ≡ letter_of class }
 {
     if may_have_letter(class) {
@@ -60,7 +62,7 @@ pub(crate) fn letter_if_any(class: Class) -> Option<u8>
 
 /// `sized_face` for a simple cluster, with a shortcut for one column.
 #[inline(always)]
-pub(crate) fn small_face(w: u16, columns: u8) -> Face
+fn small_face(w: u16, columns: u8) -> Face
     ensures { result ≡ sized_face w columns }
 {
     if columns == 1 && w > 0 {
@@ -70,7 +72,7 @@ pub(crate) fn small_face(w: u16, columns: u8) -> Face
 }
 
 /// The face of a text of these columns that is no tab, control or formatting character.
-pub(crate) fn sized_face(w: u16, columns: usize) -> Face
+fn sized_face(w: u16, columns: usize) -> Face
     ensures { result ≡ sized_face w columns }
 {
     if columns == 0 {
@@ -79,6 +81,27 @@ pub(crate) fn sized_face(w: u16, columns: usize) -> Face
         Face::Mark(b'#')
     } else {
         Face::Own(columns as u16)
+    }
+}
+
+/// The face of a cluster whose first character takes `columns` columns; `is_marked` if marks follow it.
+#[inline(always)]
+pub fn simple_face<D: BidiData>(
+    first: char,
+    columns: u8,
+    is_marked: bool,
+    tables: &D,
+    w: u16,
+) -> Face
+    requires { own_columns first ≡ columns }
+    ensures { result ≡ simple_face (D.data tables.now) w first is_marked }
+{
+    if is_marked {
+        return small_face(w, columns);
+    }
+    match letter_if_any(tables.class(first)) {
+        Some(letter) => Face::Mark(letter),
+        None => small_face(w, columns),
     }
 }
 

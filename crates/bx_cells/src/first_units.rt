@@ -3,14 +3,16 @@ ghost use Rattle.std.specs.Prelude.{◌≡◌, ◌<◌, ◌∷◌, All, IfOk, le
 ghost use Rattle.std.specs.Str.{IsCharBoundary};
 ghost use Rattle.bx_cells.specs.Units.{HasFace, StandsIn, units_from};
 
-use crate::by_character::simple_face;
 use crate::by_rules::ruled_unit;
-use crate::clusters::FIRST_ROOM;
 use crate::error::CellError;
+use crate::faces::simple_face;
 use crate::simple_clusters::simple_cluster;
 use crate::unit::Unit;
 use bx_ucd::BidiData;
 use std::alloc::{AllocError, Global};
+
+/// The largest initial capacity, in units; a longer list reallocates while the body is read.
+const FIRST_ROOM: usize = 256;
 
 /// The unit that begins at byte offset `at`: by simple characters if possible, else by the rules on breaks.
 fn unit_at<D: BidiData>(body: &str, at: usize, tables: &D, w: u16) -> Unit

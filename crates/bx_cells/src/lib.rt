@@ -4,24 +4,22 @@
 #![tactic(auto)]
 
 mod ascii_run;
-mod by_character;
 mod by_rules;
-mod clusters;
 mod error;
 mod faces;
 mod first_units;
 mod fitting;
+mod library;
 pub mod simple;
 mod simple_clusters;
 mod unit;
 
 pub use ascii_run::printable_stop;
-pub use by_character::simple_face;
 pub use by_rules::ruled_unit;
-pub use clusters::units;
 pub use error::CellError;
-pub use faces::{face, only_char};
+pub use faces::{face, only_char, simple_face};
 pub use first_units::units_from;
 pub use fitting::{is_printable, is_simple_within};
+pub use library::units;
 pub use simple_clusters::{SimpleCluster, simple_cluster};
 pub use unit::{Face, Unit};

@@ -19,6 +19,7 @@ use crate::position::Position;
 use crate::rescan::replace;
 use crate::scan::paragraph_from;
 use crate::scan_range::{ScanRange, range_to_end};
+use crate::scanned_text::ScannedText;
 use crate::walk::ParagraphWalk;
 use bx_terms::{LARGEST_TEXT, OutOfMemory};
 use bx_text::{Change, Text};
@@ -194,14 +195,17 @@ impl Index {
         let reached = touched(&self.front, self.last, text, tables, change);
         let range = range_after(&self.front, self.last, text, tables, change, reached);
         let lead_bytes = lead_bytes_of(tables, range.stop.saturating_sub(range.start));
+        let scanned = ScannedText {
+            text,
+            tables,
+            lead_bytes: &lead_bytes,
+        };
         let (first, last) = reached;
         if let Some(end) = last.end {
             let behind = end - change.removed + change.added;
             replace(
                 &mut self.front,
-                text,
-                tables,
-                &lead_bytes,
+                &scanned,
                 first,
                 last.number + 1,
                 behind,
@@ -210,16 +214,7 @@ impl Index {
             self.room = None;
             return;
         }
-        let at = replace(
-            &mut self.front,
-            text,
-            tables,
-            &lead_bytes,
-            first,
-            last.number,
-            len,
-            range,
-        );
+        let at = replace(&mut self.front, &scanned, first, last.number, len, range);
         self.last = (len - at) as u32;
         self.room = None;
     }

@@ -13,6 +13,7 @@ mod position;
 mod rescan;
 mod scan;
 mod scan_range;
+mod scanned_text;
 mod splices;
 mod spot;
 mod walk;

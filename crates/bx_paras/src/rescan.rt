@@ -5,15 +5,13 @@ ghost use Rattle.bx_paras.specs.Capacity.{block_capacity};
 ghost use Rattle.bx_paras.specs.Positions.{total};
 ghost use Rattle.bx_paras.specs.Ended.{ended_between};
 ghost use Rattle.bx_paras.specs.Flat.{flat, room_at};
-ghost use Rattle.bx_paras.specs.LeadBytes.{CoversSeparators};
 ghost use Rattle.bx_paras.specs.ScanRanges.{IsScanRange};
 
 use crate::blocks::Blocks;
-use crate::lead_bytes::LeadBytes;
 use crate::position::Position;
 use crate::scan::paragraph_from;
 use crate::scan_range::ScanRange;
-use bx_text::Text;
+use crate::scanned_text::ScannedText;
 use bx_ucd::BidiData;
 
 /// Scans paragraphs from `start` and inserts at a position among the blocks those that end with a separator at or before
@@ -21,31 +19,28 @@ use bx_ucd::BidiData;
 fn insert_scanned<D: BidiData>(
     blocks: &mut Blocks,
     position: usize,
-    text: &Text,
-    tables: &D,
-    lead_bytes: &LeadBytes,
+    scanned: &ScannedText<'_, D>,
     start: usize,
     stop: usize,
     range: ScanRange,
 ) -> (usize, usize)
-    requires bounds { IsCharBoundary text.now.edited.text start }
-    requires lead_bytes { CoversSeparators (D.data tables.now) lead_bytes.now.may_separate }
-    requires range { IsScanRange (D.data tables.now) text.now.edited.text start range }
+    requires bounds { IsCharBoundary scanned.now.text.now.edited.text start }
+    requires range { IsScanRange (D.data scanned.now.tables.now) scanned.now.text.now.edited.text start range }
     requires position { position ≤ length blocks.old.blocks }
-    requires room { length (ended_between (D.data tables.now) text.now.edited.text start stop) ≤ room_at blocks.old position }
-    requires short { total (flat blocks.old.blocks) + total (ended_between (D.data tables.now) text.now.edited.text start stop) < 2 ^ 64 }
-    requires few { length (flat blocks.old.blocks) + length (ended_between (D.data tables.now) text.now.edited.text start stop) < 2 ^ 64 }
+    requires room { length (ended_between (D.data scanned.now.tables.now) scanned.now.text.now.edited.text start stop) ≤ room_at blocks.old position }
+    requires short { total (flat blocks.old.blocks) + total (ended_between (D.data scanned.now.tables.now) scanned.now.text.now.edited.text start stop) < 2 ^ 64 }
+    requires few { length (flat blocks.old.blocks) + length (ended_between (D.data scanned.now.tables.now) scanned.now.text.now.edited.text start stop) < 2 ^ 64 }
     ensures position { result.0 ≤ length blocks.new.blocks }
     ensures front { flat (take result.0 blocks.new.blocks)
-        ≡ flat (take position blocks.old.blocks) ++ ended_between (D.data tables.now) text.now.edited.text start stop }
+        ≡ flat (take position blocks.old.blocks) ++ ended_between (D.data scanned.now.tables.now) scanned.now.text.now.edited.text start stop }
     ensures back { flat (drop result.0 blocks.new.blocks) ≡ flat (drop position blocks.old.blocks) }
-    ensures stop { result.1 ≡ start + total (ended_between (D.data tables.now) text.now.edited.text start stop) }
+    ensures stop { result.1 ≡ start + total (ended_between (D.data scanned.now.tables.now) scanned.now.text.now.edited.text start stop) }
 {
     let mut position = position;
     let mut at = start;
     let mut range = range;
     while at < stop {
-        let paragraph = paragraph_from(text, tables, lead_bytes, at, range);
+        let paragraph = paragraph_from(scanned.text, scanned.tables, scanned.lead_bytes, at, range);
         if paragraph.separator == 0 || paragraph.bytes() > stop - at {
             return (position, at);
         }
@@ -58,34 +53,29 @@ fn insert_scanned<D: BidiData>(
 
 /// Replaces the paragraphs from `from` up to the number `to` by those scanned from the text, which begin at `from.start` and
 /// end with a separator at or before `stop`. Returns the offset where the last of them ends. Frees spare blocks.
-pub fn replace<D: BidiData>(
+pub(crate) fn replace<D: BidiData>(
     blocks: &mut Blocks,
-    text: &Text,
-    tables: &D,
-    lead_bytes: &LeadBytes,
+    scanned: &ScannedText<'_, D>,
     from: Position,
     to: usize,
     stop: usize,
     range: ScanRange,
 ) -> usize
-    requires bounds { IsCharBoundary text.now.edited.text from.start }
-    requires lead_bytes { CoversSeparators (D.data tables.now) lead_bytes.now.may_separate }
-    requires range { IsScanRange (D.data tables.now) text.now.edited.text from.start range }
+    requires bounds { IsCharBoundary scanned.now.text.now.edited.text from.start }
+    requires range { IsScanRange (D.data scanned.now.tables.now) scanned.now.text.now.edited.text from.start range }
     requires order { from.number ≤ to }
     requires inside { to ≤ length (flat blocks.old.blocks) }
-    requires room { 2 * block_capacity + length (ended_between (D.data tables.now) text.now.edited.text from.start stop)
+    requires room { 2 * block_capacity + length (ended_between (D.data scanned.now.tables.now) scanned.now.text.now.edited.text from.start stop)
         ≤ block_capacity * blocks.old.spares }
-    requires short { total (flat blocks.old.blocks) + total (ended_between (D.data tables.now) text.now.edited.text from.start stop) < 2 ^ 64 }
-    requires few { length (flat blocks.old.blocks) + length (ended_between (D.data tables.now) text.now.edited.text from.start stop) < 2 ^ 64 }
+    requires short { total (flat blocks.old.blocks) + total (ended_between (D.data scanned.now.tables.now) scanned.now.text.now.edited.text from.start stop) < 2 ^ 64 }
+    requires few { length (flat blocks.old.blocks) + length (ended_between (D.data scanned.now.tables.now) scanned.now.text.now.edited.text from.start stop) < 2 ^ 64 }
     ensures paragraphs { flat blocks.new.blocks
         ≡ take from.number (flat blocks.old.blocks)
-        ++ (ended_between (D.data tables.now) text.now.edited.text from.start stop ++ drop to (flat blocks.old.blocks)) }
-    ensures stop { result ≡ from.start + total (ended_between (D.data tables.now) text.now.edited.text from.start stop) }
+        ++ (ended_between (D.data scanned.now.tables.now) scanned.now.text.now.edited.text from.start stop ++ drop to (flat blocks.old.blocks)) }
+    ensures stop { result ≡ from.start + total (ended_between (D.data scanned.now.tables.now) scanned.now.text.now.edited.text from.start stop) }
 {
     let position = blocks.take_out(from.number, to);
-    let (position, at) = insert_scanned(
-        blocks, position, text, tables, lead_bytes, from.start, stop, range,
-    );
+    let (position, at) = insert_scanned(blocks, position, scanned, from.start, stop, range);
     blocks.join(position);
     blocks.release();
     at

@@ -1,4 +1,4 @@
--- The ends of a sequence act like strong types: with its sos put before it, or its eos after it, each level stays the same.
+-- The end of a sequence acts like a strong type: with its eos put after it, each level stays the same.
 use Rattle.std.proofs.Common.{◌≡◌, ◌∙◌, ℕ, List, [], ◌∷◌, ◌++◌, refl, ap, ap₂}
 use Rattle.std.proofs.Common.{Bool, true, false}
 use Rattle.std.proofs.lemmas.List.{map-append}
@@ -7,34 +7,17 @@ use Rattle.bx_ucd.specs.declared.class.Class.TheVariants.{L, R, ES, CS, ON}
 use Rattle.bx_ucd.specs.Class.{is_strong, is_neutral}
 use Rattle.bx_resolve.specs.AtEach.{at_each}
 use Rattle.bx_resolve.specs.Weak.{w1, w2, w3, w4, w5, w6, w7, w1_at, w2_at, w3_at, w4_at, w5_at, w6_at, w7_at, weak, is_nsm, is_en, is_et, mark_class}
-use Rattle.bx_resolve.specs.Weak.{mark_after, nearest_that, number_after, left_number, is_left_or_right, beside, separator, terminator_of, is_en_past}
+use Rattle.bx_resolve.specs.Weak.{nearest_that, number_after, left_number, is_left_or_right, beside, separator, terminator_of, is_en_past}
 use Rattle.bx_resolve.specs.Neutral.{n1, n2, n1_at, n2_at, side, side_of, agreed, implicit, implicit_at}
-use Rattle.bx_resolve.proofs.Cuts.{if_not, if_so, strong_no_nsm, strong_no_en, turned_strong}
+use Rattle.bx_resolve.proofs.Cuts.{if_not, strong_no_nsm, strong_no_en, turned_strong}
 use Rattle.bx_resolve.proofs.Cuts.{turned_no_et, turned_no_neutral, turned_no_separator, turned_by_w6}
 
--- a rule that sees a type at the start of a list as it sees the start itself
-module _ (f : List Class → Class → List Class → Class) (x : Class) (first : (a : List Class) → f [] x a ≡ x)
-    (start : (c : List Class) (t : Class) (a : List Class) → f (c ++ x ∷ []) t a ≡ f c t a) where
-  start_each : (c ts : List Class) → at_each f (c ++ x ∷ []) ts ≡ at_each f c ts
-  start_each c [] = refl
-  start_each c (t ∷ ts) =
-      let r : at_each f (t ∷ c ++ x ∷ []) ts ≡ at_each f (t ∷ c) ts = start_each (t ∷ c) ts in
-      ap (λ z. z ∷ at_each f (t ∷ c ++ x ∷ []) ts) (start c t ts) ∙ ap (λ zs. f c t ts ∷ zs) r
-
-  at_start : (ts : List Class) → at_each f [] (x ∷ ts) ≡ x ∷ at_each f [] ts
-  at_start ts = ap₂ (λ z zs. z ∷ zs) (first ts) (start_each [] ts)
-
--- and one that sees it at the end as the end
+-- a rule that sees a type at the end of a list as it sees the end itself
 module _ (f : List Class → Class → List Class → Class) (x : Class) (last : (b : List Class) → f b x [] ≡ x)
     (end : (b : List Class) (t : Class) (a : List Class) → f b t (a ++ x ∷ []) ≡ f b t a) where
   at_end : (b ts : List Class) → at_each f b (ts ++ x ∷ []) ≡ at_each f b ts ++ x ∷ []
   at_end b [] = ap (λ z. z ∷ []) (last b)
   at_end b (t ∷ ts) = ap₂ (λ z zs. z ∷ zs) (end b t ts) (at_end (t ∷ b) ts)
-
-mark_same : (x : Class) → is_left_or_right x ≡ true → mark_after x ≡ x
-mark_same L e = refl
-mark_same R e = refl
-mark_same _ e = absurd (cc)
 
 side_same : (x : Class) → is_left_or_right x ≡ true → side_of x ≡ x
 side_same L e = refl
@@ -46,14 +29,6 @@ w3_same L e = refl
 w3_same R e = refl
 w3_same _ e = absurd (cc)
 
-mark_start : (x : Class) (c : List Class) → is_left_or_right x ≡ true → mark_class x (c ++ x ∷ []) ≡ mark_class x c
-mark_start x [] e = if_not (is_nsm x) x (mark_after x) (strong_no_nsm x (turned_strong x e)) ∙ mark_same x e
-mark_start x (t ∷ c) e = ap (λ s. elim (is_nsm t) as (λ z. Class) [ true ↦ s | false ↦ mark_after t ]) (mark_start x c e)
-
-nearest_start : (p : Class → Bool) (x : Class) (c : List Class) → p x ≡ true → nearest_that p x (c ++ x ∷ []) ≡ nearest_that p x c
-nearest_start p x [] e = if_so (p x) x x e
-nearest_start p x (t ∷ c) e = ap (λ s. elim (p t) as (λ z. Class) [ true ↦ t | false ↦ s ]) (nearest_start p x c e)
-
 past_start : (x : Class) (c : List Class) → is_left_or_right x ≡ true → is_en_past (c ++ x ∷ []) ≡ is_en_past c
 past_start x [] e = if_not (is_et x) false (is_en x) (turned_no_et x e) ∙ strong_no_en x (turned_strong x e)
 past_start x (t ∷ c) e = ap (λ s. elim (is_et t) as (λ z. Bool) [ true ↦ s | false ↦ is_en t ]) (past_start x c e)
@@ -63,15 +38,6 @@ side_start x [] e = if_not (is_neutral x) x (side_of x) (turned_no_neutral x e) 
 side_start x (t ∷ c) e = ap (λ s. elim (is_neutral t) as (λ z. Class) [ true ↦ s | false ↦ side_of t ]) (side_start x c e)
 
 -- W4 needs of the adjacent types only whether they are numbers
-separator_before : (x t a : Class) → is_left_or_right x ≡ true → separator x t a ≡ separator ON t a
-separator_before L ES a e = refl
-separator_before L CS a e = refl
-separator_before L t a e = refl
-separator_before R ES a e = refl
-separator_before R CS a e = refl
-separator_before R t a e = refl
-separator_before x t a e = absurd (cc)
-
 separator_behind : (x b t : Class) → is_left_or_right x ≡ true → separator b t x ≡ separator b t ON
 separator_behind L b ES e = refl
 separator_behind L b CS e = refl
@@ -80,10 +46,6 @@ separator_behind R b ES e = refl
 separator_behind R b CS e = refl
 separator_behind R b t e = refl
 separator_behind x b t e = absurd (cc)
-
-w4_start : (x : Class) (c : List Class) (t : Class) (a : List Class) → is_left_or_right x ≡ true → w4_at (c ++ x ∷ []) t a ≡ w4_at c t a
-w4_start x [] t a e = separator_before x t (beside a) e
-w4_start x (s ∷ c) t a e = refl
 
 w4_end : (x : Class) (b : List Class) (t : Class) (a : List Class) → is_left_or_right x ≡ true → w4_at b t (a ++ x ∷ []) ≡ w4_at b t a
 w4_end x b t [] e = separator_behind x (beside b) t e
@@ -111,50 +73,8 @@ module _ (x : Class) (e : is_left_or_right x ≡ true) where
   n1_first : (sos eos : Class) (b a : List Class) → n1_at sos eos b x a ≡ x
   n1_first sos eos b a = if_not (is_neutral x) (agreed x (side sos b) (side eos a)) x (turned_no_neutral x e)
 
-  -- sos before the list
-  w1_start : (ts : List Class) → w1 x (x ∷ ts) ≡ x ∷ w1 x ts
-  w1_start = at_start (w1_at x) x (w1_first x [])
-      (λ c t a. ap (λ s. elim (is_nsm t) as (λ z. Class) [ true ↦ s | false ↦ t ]) (mark_start x c e))
-
-  w2_start : (ts : List Class) → w2 x (x ∷ ts) ≡ x ∷ w2 x ts
-  w2_start = at_start (w2_at x) x (w2_first x [])
-      (λ c t a. ap (λ s. elim (is_en t) as (λ z. Class) [ true ↦ number_after s | false ↦ t ]) (nearest_start is_strong x c strong))
-
-  w4_begin : (ts : List Class) → w4 (x ∷ ts) ≡ x ∷ w4 ts
-  w4_begin = at_start w4_at x (w4_first []) (λ c t a. w4_start x c t a e)
-
-  w5_start : (ts : List Class) → w5 (x ∷ ts) ≡ x ∷ w5 ts
-  w5_start = at_start w5_at x (w5_first [])
-      (λ c t a. ap (λ s. elim (is_et t) as (λ z. Class) [ true ↦ terminator_of s (is_en_past a) | false ↦ t ]) (past_start x c e))
-
-  w7_start : (ts : List Class) → w7 x (x ∷ ts) ≡ x ∷ w7 x ts
-  w7_start = at_start (w7_at x) x (w7_first x [])
-      (λ c t a. ap (λ s. elim (is_en t) as (λ z. Class) [ true ↦ left_number s | false ↦ t ]) (nearest_start is_left_or_right x c e))
-
-  pub weak_start : (ts : List Class) → weak x (x ∷ ts) ≡ x ∷ weak x ts
-  weak_start ts =
-      let w3s : (us : List Class) → w3 (x ∷ us) ≡ x ∷ w3 us = λ us. ap (λ z. z ∷ w3 us) (w3_same x e) in
-      let w6s : (us : List Class) → w6 (x ∷ us) ≡ x ∷ w6 us = λ us. ap (λ z. z ∷ w6 us) (turned_by_w6 x e) in
-      let a : List Class = w1 x ts in
-      let b : List Class = w2 x a in
-      let c : List Class = w3 b in
-      let d : List Class = w4 c in
-      let f : List Class = w5 d in
-      ap (λ zs. w7 x (w6 (w5 (w4 (w3 (w2 x zs)))))) (w1_start ts) ∙ ap (λ zs. w7 x (w6 (w5 (w4 (w3 zs))))) (w2_start a)
-      ∙ ap (λ zs. w7 x (w6 (w5 (w4 zs)))) (w3s b) ∙ ap (λ zs. w7 x (w6 (w5 zs))) (w4_begin c) ∙ ap (λ zs. w7 x (w6 zs)) (w5_start d)
-      ∙ ap (w7 x) (w6s f) ∙ w7_start (w6 f)
-
-  n1_start : (eos : Class) (ts : List Class) → n1 x eos (x ∷ ts) ≡ x ∷ n1 x eos ts
-  n1_start eos = at_start (n1_at x eos) x (n1_first x eos [])
-      (λ c t a. ap (λ s. elim (is_neutral t) as (λ z. Class) [ true ↦ agreed t s (side eos a) | false ↦ t ]) (side_start x c e))
-
   n2_same : (embedding : Class) → n2_at embedding x ≡ x
   n2_same embedding = if_not (is_neutral x) embedding x (turned_no_neutral x e)
-
-  pub ends_start : (level : ℕ) (embedding eos : Class) (ts : List Class)
-      → implicit level (n2 embedding (n1 x eos (x ∷ ts))) ≡ implicit_at level x ∷ implicit level (n2 embedding (n1 x eos ts))
-  ends_start level embedding eos ts = ap (λ zs. implicit level (n2 embedding zs)) (n1_start eos ts)
-      ∙ ap (λ z. implicit_at level z ∷ implicit level (n2 embedding (n1 x eos ts))) (n2_same embedding)
 
   -- eos after it
   w1_end : (sos : Class) (ts : List Class) → w1 sos (ts ++ x ∷ []) ≡ w1 sos ts ++ x ∷ []

@@ -22,10 +22,10 @@ use Rattle.bx_resolve.proofs.PlainTypes.{each_append}
 use Rattle.bx_resolve.proofs.PlainLengths.{levels_length}
 use Rattle.bx_resolve.proofs.PlainLevels.{unformatted_levels, each_pass, found}
 use Rattle.bx_resolve.proofs.Cuts.{if_so, if_not}
-use Rattle.bx_resolve.proofs.CutLevels.{take_front, drop_front}
+use Rattle.bx_resolve.proofs.CutLevels.{take_front}
 use Rattle.bx_resolve.specs.Edited.{is_listed, IsCutOff}
 use Rattle.bx_resolve.proofs.CutClasses.{cut_edit}
-use Rattle.bx_resolve.proofs.EndLevels.{cut_off_start, cut_off_end}
+use Rattle.bx_resolve.proofs.EndLevels.{cut_off_end}
 
 direction_by : (n : ℕ) → is_left_or_right (elim n as (λ z. Class) [ zero ↦ L | suc k ↦ R ]) ≡ true
 direction_by zero = refl
@@ -118,36 +118,7 @@ module _ (says : Data) (level : ℕ) where
       ∙ ap₂ (λ xs ys. take (length u) xs ++ (ys ++ drop (length u + (length (map says.class cm) + 2)) xs)) (sym was) (sym mid)
       ∙ ap₂ (λ a b. take a (levels whole) ++ (levels (cx ∷ (cn ++ cy ∷ [])) ++ drop (a + (b + 2)) (levels whole))) (sym l) (sym k)
 
-  -- an edit before the first strong character
-  pub edit_start_levels : (cm cn : List ℕ) (cy : ℕ) (cb : List ℕ) → is_strong (says.class cy) ≡ true
-      → all_pass is_unformatted (map says.class (cm ++ cy ∷ cb)) ≡ true → all_pass is_unformatted (map says.class cn) ≡ true
-      → list_any (is_listed says) cm ≡ false → list_any (is_listed says) cn ≡ false
-      → levels (cn ++ cy ∷ cb) ≡ levels (cn ++ cy ∷ []) ++ drop (length cm + 1) (levels (cm ++ cy ∷ cb))
-  edit_start_levels cm cn cy cb y_is old new none_old none_new =
-      let d : Class = direction level in
-      let v : List Class = map says.class cb in
-      let y : Class = says.class cy in
-      let hw : IsUnformatted (cm ++ cy ∷ cb) = each_pass is_unformatted (map says.class (cm ++ cy ∷ cb)) old in
-      let hb : IsUnformatted (cy ∷ cb) = less_back cm (cy ∷ cb) hw in
-      let hn : IsUnformatted cn = each_pass is_unformatted (map says.class cn) new in
-      let y_un : is_unformatted y ≡ true = strong_unformatted y y_is in
-      let back : List ℕ = drop 1 (of_types (cy ∷ cb) (y ∷ v)) in
-      let bl : length cb ≡ length v = sym (length-map cb says.class) in
-      let front : (cs : List ℕ) → List ℕ = λ cs. of_types (cs ++ cy ∷ []) (map says.class cs ++ y ∷ []) in
-      let cut : (cs : List ℕ) → list_any (is_listed says) cs ≡ false → of_types (cs ++ cy ∷ cb) (map says.class cs ++ y ∷ v) ≡ front cs ++ back =
-      λ cs none. cut_off_start says level d d y (direction_is level) y_is cs cy cb (map says.class cs) v (sym (length-map cs says.class)) bl none in
-      let fl : length (front cm) ≡ length cm + 1 = levels_length says level d d (cm ++ cy ∷ []) (map says.class cm ++ y ∷ [])
-      ∙ length-append (map says.class cm) (y ∷ []) ∙ ap (λ n. n + 1) (length-map cm says.class) in
-      let was : levels (cm ++ cy ∷ cb) ≡ map found (front cm ++ back) =
-      by_types (cm ++ cy ∷ cb) (map says.class cm ++ y ∷ v) hw (map-append says.class cm (cy ∷ cb)) ∙ ap (map found) (cut cm none_old) in
-      let mid : levels (cn ++ cy ∷ []) ≡ map found (front cn) =
-      by_types (cn ++ cy ∷ []) (map says.class cn ++ y ∷ []) (more cn (cy ∷ []) hn (y_un, tt)) (map-append says.class cn (cy ∷ [])) in
-      let rest : drop (length cm + 1) (levels (cm ++ cy ∷ cb)) ≡ map found back =
-      ap (drop (length cm + 1)) was ∙ drop-map found (length cm + 1) (front cm ++ back) ∙ ap (map found) (drop_front (front cm) back (length cm + 1) fl) in
-      by_types (cn ++ cy ∷ cb) (map says.class cn ++ y ∷ v) (more cn (cy ∷ cb) hn hb) (map-append says.class cn (cy ∷ cb)) ∙ ap (map found) (cut cn none_new)
-      ∙ map-append found (front cn) back ∙ ap₂ (λ xs ys. xs ++ ys) (sym mid) (sym rest)
-
-  -- an edit after the last one
+  -- an edit after the last strong character
   pub edit_end_levels : (cf : List ℕ) (cx : ℕ) (cm cn : List ℕ) → is_strong (says.class cx) ≡ true
       → all_pass is_unformatted (map says.class (cf ++ (cx ∷ cm))) ≡ true → all_pass is_unformatted (map says.class cn) ≡ true
       → list_any (is_listed says) cm ≡ false → list_any (is_listed says) cn ≡ false

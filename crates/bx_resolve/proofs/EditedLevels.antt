@@ -11,8 +11,8 @@ use Rattle.bx_resolve.specs.Uniform.{is_unformatted}
 use Rattle.bx_resolve.specs.Levels.{paragraph_levels, levels_under, paragraph_level_under}
 use Rattle.bx_resolve.proofs.PlainKept.{Each}
 use Rattle.bx_resolve.proofs.PlainLevels.{each_pass}
-use Rattle.bx_resolve.specs.Edited.{HasNoFormatting, IsSafe, between, end_piece, is_listed, piece, start_piece}
-use Rattle.bx_resolve.proofs.CutParagraph.{pass_each, more, less_front, less_back, edit_levels, edit_start_levels, edit_end_levels, base_stays}
+use Rattle.bx_resolve.specs.Edited.{HasNoFormatting, IsSafe, between, end_piece, is_listed, piece}
+use Rattle.bx_resolve.proofs.CutParagraph.{pass_each, more, less_front, less_back, edit_levels, edit_end_levels, base_stays}
 
 -- a list at an index
 split_at : (xs : List ℕ) (i : ℕ) → i < length xs → xs ≡ take i xs ++ (get_or xs i 0 ∷ drop (i + 1) xs)
@@ -108,39 +108,7 @@ module _ (says : Data) where
         ap (λ l. paragraph_levels says l (a ++ (inserted ++ b))) edited_paragraph_level
         ∙ edited_levels (paragraph_level_under says base (a ++ (removed ++ b))) a removed inserted b i j in_a in_b x_is y_is old new safe_old safe_new
 
-  -- no strong character before the edit, or none after it
-  join_back : (s b : List ℕ) (j : ℕ) → j < length b → s ++ b ≡ (s ++ take j b) ++ (get_or b j 0 ∷ drop (j + 1) b)
-  join_back s b j h = ap (λ xs. s ++ xs) (split_at b j h) ∙ sym (append_assoc s (take j b) (get_or b j 0 ∷ drop (j + 1) b))
-
-  module _ (base : Base) (removed inserted b : List ℕ) (j : ℕ) (in_b : j < length b) (y_is : is_strong (says.class (get_or b j 0)) ≡ true)
-      (old : HasNoFormatting says (removed ++ b)) (new : HasNoFormatting says inserted)
-      (safe_old : list_any (is_listed says) (removed ++ take j b) ≡ false) (safe_new : list_any (is_listed says) (inserted ++ take j b) ≡ false)
-      (same : paragraph_level_under says base (inserted ++ b) ≡ paragraph_level_under says base (removed ++ b)) where
-    pub edited_start_under : levels_under says base (inserted ++ b)
-        ≡ paragraph_levels says (paragraph_level_under says base (removed ++ b)) (inserted ++ take (j + 1) b)
-        ++ drop (length removed + (j + 1)) (levels_under says base (removed ++ b))
-    edited_start_under =
-        let level : ℕ = paragraph_level_under says base (removed ++ b) in
-        let levels : List ℕ → List (Option ℕ) = paragraph_levels says level in
-        let mb : List ℕ = take j b in
-        let cb : List ℕ = drop (j + 1) b in
-        let cy : ℕ = get_or b j 0 in
-        let was : removed ++ b ≡ (removed ++ mb) ++ cy ∷ cb = join_back removed b j in_b in
-        let now : inserted ++ b ≡ (inserted ++ mb) ++ cy ∷ cb = join_back inserted b j in_b in
-        let ub : Each is_unformatted (map says.class b) = less_back says 0 removed b (each_of (removed ++ b) old) in
-        let um : Each is_unformatted (map says.class mb) =
-        less_front says 0 mb (cy ∷ cb) (subst (λ xs. Each is_unformatted (map says.class xs)) (split_at b j in_b) ub) in
-        let new_is : HasNoFormatting says (inserted ++ mb) =
-        pass_each is_unformatted (map says.class (inserted ++ mb)) (more says 0 inserted mb (each_of inserted new) um) in
-        let lb : length mb ≡ j = length-take-le j b (omega arith) in
-        let n : length (removed ++ mb) + 1 ≡ length removed + (j + 1) = ap (λ k. k + 1) (length-append removed mb) ∙ omega arith in
-        let p : inserted ++ take (j + 1) b ≡ (inserted ++ mb) ++ cy ∷ [] =
-        ap (λ xs. inserted ++ xs) (take_more b j 0 in_b) ∙ sym (append_assoc inserted mb (cy ∷ [])) in
-        ap (λ l. paragraph_levels says l (inserted ++ b)) same ∙ ap levels now
-        ∙ edit_start_levels says level (removed ++ mb) (inserted ++ mb) cy cb y_is (subst (HasNoFormatting says) was old) new_is safe_old safe_new
-        ∙ ap₂ (λ xs k. levels xs ++ drop k (levels ((removed ++ mb) ++ cy ∷ cb))) (sym p) n
-        ∙ ap (λ xs. levels (inserted ++ take (j + 1) b) ++ drop (length removed + (j + 1)) (levels xs)) (sym was)
-
+  -- no strong character after the edit
   join_front : (a s : List ℕ) (i : ℕ) → i < length a → a ++ s ≡ take i a ++ (get_or a i 0 ∷ (drop (i + 1) a ++ s))
   join_front a s i h = ap (λ xs. xs ++ s) (split_at a i h) ∙ append_assoc (take i a) (get_or a i 0 ∷ drop (i + 1) a) s
 
@@ -173,33 +141,7 @@ module _ (says : Data) where
         ∙ ap₂ (λ k xs. take k (levels xs) ++ levels (cx ∷ (ma ++ inserted))) lf (sym was)
         ∙ ap (λ xs. take i (levels (a ++ removed)) ++ levels (xs ++ inserted)) (sym (at_drop_more (λ xs. xs) a i 0 in_a))
 
-  -- the same with an unchanged text before the edit, or after it
-  module _ (base : Base) (a removed inserted b : List ℕ) (j : ℕ) (in_b : j < length b) (y_is : is_strong (says.class (get_or b j 0)) ≡ true)
-      (old : HasNoFormatting says (a ++ (removed ++ b))) (new : HasNoFormatting says inserted)
-      (safe_old : list_any (is_listed says) (a ++ (removed ++ take j b)) ≡ false)
-      (safe_new : list_any (is_listed says) (a ++ (inserted ++ take j b)) ≡ false)
-      (same : paragraph_level_under says base (a ++ (inserted ++ b)) ≡ paragraph_level_under says base (a ++ (removed ++ b))) where
-    pub edited_from_start : levels_under says base (a ++ (inserted ++ b))
-        ≡ paragraph_levels says (paragraph_level_under says base (a ++ (removed ++ b))) (start_piece a inserted b j)
-        ++ drop (length a + length removed + (j + 1)) (levels_under says base (a ++ (removed ++ b)))
-    edited_from_start =
-        let was : (a ++ removed) ++ b ≡ a ++ (removed ++ b) = append_assoc a removed b in
-        let now : (a ++ inserted) ++ b ≡ a ++ (inserted ++ b) = append_assoc a inserted b in
-        let of_a : Each is_unformatted (map says.class a) = less_front says 0 a (removed ++ b) (each_of (a ++ (removed ++ b)) old) in
-        let of_new : HasNoFormatting says (a ++ inserted) =
-        pass_each is_unformatted (map says.class (a ++ inserted)) (more says 0 a inserted of_a (each_of inserted new)) in
-        let none : (s : List ℕ) → list_any (is_listed says) (a ++ (s ++ take j b)) ≡ false
-        → list_any (is_listed says) ((a ++ s) ++ take j b) ≡ false = λ s e. ap (list_any (is_listed says)) (append_assoc a s (take j b)) ∙ e in
-        let level : List ℕ → ℕ = λ xs. paragraph_level_under says base xs in
-        let levels : List ℕ → List (Option ℕ) = λ xs. levels_under says base xs in
-        ap levels (sym now)
-        ∙ edited_start_under base (a ++ removed) (a ++ inserted) b j in_b y_is (subst (HasNoFormatting says) (sym was) old) of_new
-        (none removed safe_old) (none inserted safe_new) (ap level now ∙ same ∙ ap level (sym was))
-        ∙ ap₂ (λ xs cs. paragraph_levels says (level xs) cs ++ drop (length (a ++ removed) + (j + 1)) (levels xs)) was
-        (append_assoc a inserted (take (j + 1) b))
-        ∙ ap (λ n. paragraph_levels says (level (a ++ (removed ++ b))) (start_piece a inserted b j)
-        ++ drop (n + (j + 1)) (levels (a ++ (removed ++ b)))) (length-append a removed)
-
+  -- the same with an unchanged text after it
   module _ (base : Base) (a removed inserted b : List ℕ) (i : ℕ) (in_a : i < length a) (x_is : is_strong (says.class (get_or a i 0)) ≡ true)
       (old : HasNoFormatting says (a ++ (removed ++ b))) (new : HasNoFormatting says inserted)
       (safe_old : list_any (is_listed says) (drop (i + 1) a ++ (removed ++ b)) ≡ false)

@@ -3,9 +3,9 @@ use Rattle.std.proofs.Common.{◌≡◌, ◌∙◌, ℕ, List, ◌++◌, take, d
 use Rattle.bx_ucd.specs.Data.{Data}
 use Rattle.bx_resolve.specs.declared.paragraph.Levels.{Levels}
 use Rattle.bx_resolve.specs.Levels.{paragraph_levels, levels_under}
-use Rattle.bx_resolve.specs.Edited.{FollowsBetween, FollowsFromStart, FollowsToEnd}
+use Rattle.bx_resolve.specs.Edited.{FollowsBetween, FollowsToEnd}
 use Rattle.bx_resolve.specs.Edited.{old_index, old_text}
-use Rattle.bx_resolve.proofs.EditedLevels.{edited_paragraph_level, edited_under, edited_from_start, level_to_end, edited_to_end}
+use Rattle.bx_resolve.proofs.EditedLevels.{edited_paragraph_level, edited_under, level_to_end, edited_to_end}
 
 module _ (says : Data) (chars : List ℕ) (was now : Levels) (level : now.paragraph ≡ was.paragraph) where
   alone : List (Option ℕ)
@@ -24,19 +24,6 @@ module _ (says : Data) (chars : List ℕ) (was now : Levels) (level : now.paragr
             ∙ ap₂ (λ p cs. take first old ++ (paragraph_levels says p cs ++ drop (old_index e j) old)) o.paragraph_is c
             ∙ sym (edited_under says base e.before e.removed e.inserted e.behind first j
             h.in_before h.in_behind h.strong_before h.strong_behind h.old_unformatted h.new_unformatted h.old_safe h.new_safe);
-      }
-
-  pub follows_from_start : (last : ℕ) → now.each.items ≡ paragraph_levels says was.paragraph chars ++ drop last was.each.items
-      → FollowsFromStart says chars last was now
-  follows_from_start last n base e j h c l o =
-      let old : List (Option ℕ) = levels_under says base (old_text e) in
-      record {
-        paragraph_is = level ∙ o.paragraph_is ∙ sym h.same_level;
-        each_is = n
-            ∙ ap₂ (λ ls k. paragraph_levels says was.paragraph chars ++ drop k ls) o.each_is l
-            ∙ ap₂ (λ p cs. paragraph_levels says p cs ++ drop (old_index e j) old) o.paragraph_is c
-            ∙ sym (edited_from_start says base e.before e.removed e.inserted e.behind j
-            h.in_behind h.strong_behind h.old_unformatted h.new_unformatted h.old_bare h.new_bare h.same_level);
       }
 
   pub follows_to_end : (first : ℕ) → now.each.items ≡ take first was.each.items ++ paragraph_levels says was.paragraph chars

@@ -59,10 +59,7 @@ piece a i s b j = drop i a ++ (s ++ take (j + 1) b)
 abbrev pub between : List ℕ → ℕ → List ℕ → List ℕ → ℕ → List ℕ
 between a i s b j = drop (i + 1) a ++ (s ++ take j b)
 
--- the pieces from the start of the text, and to its end
-abbrev pub start_piece : List ℕ → List ℕ → List ℕ → ℕ → List ℕ
-start_piece a s b j = a ++ (s ++ take (j + 1) b)
-
+-- the piece from the character at index `i` of `a` to the end of the text
 abbrev pub end_piece : List ℕ → ℕ → List ℕ → List ℕ → List ℕ
 end_piece a i s b = drop i a ++ (s ++ b)
 
@@ -81,16 +78,6 @@ pub record IsCutBetween (says : Data) (e : Edit) (i j : ℕ) : Type 0 where
   pub new_unformatted : HasNoFormatting says e.inserted
   pub old_safe : IsSafe says e.before i e.removed e.behind j
   pub new_safe : IsSafe says e.before i e.inserted e.behind j
-
--- an edit without brackets between the start of the text and the strong character at index `j` after it, which keeps the paragraph level
-pub record IsCutFromStart (says : Data) (base : Base) (e : Edit) (j : ℕ) : Type 0 where
-  pub in_behind : j < length e.behind
-  pub strong_behind : is_strong (says.class (slice_index_or e.behind j 0)) ≡ true
-  pub old_unformatted : HasNoFormatting says (old_text e)
-  pub new_unformatted : HasNoFormatting says e.inserted
-  pub old_bare : list_any (is_listed says) (e.before ++ (e.removed ++ take j e.behind)) ≡ false
-  pub new_bare : list_any (is_listed says) (e.before ++ (e.inserted ++ take j e.behind)) ≡ false
-  pub same_level : paragraph_level_under says base (new_text e) ≡ paragraph_level_under says base (old_text e)
 
 -- an edit without brackets between the strong character at index `i` before it and the end of the text
 pub record IsCutToEnd (says : Data) (e : Edit) (i : ℕ) : Type 0 where
@@ -115,12 +102,6 @@ old_index e j = length e.before + length e.removed + (j + 1)
 abbrev pub FollowsBetween : Data → List ℕ → ℕ → ℕ → Levels → Levels → Type 0
 FollowsBetween says chars first last was now = (base : Base) (e : Edit) (j : ℕ) → IsCutBetween says e first j
     → chars ≡ piece e.before first e.inserted e.behind j → last ≡ old_index e j
-    → AreLevelsOf says base (old_text e) was → AreLevelsOf says base (new_text e) now
-
--- the same from the start of the text
-abbrev pub FollowsFromStart : Data → List ℕ → ℕ → Levels → Levels → Type 0
-FollowsFromStart says chars last was now = (base : Base) (e : Edit) (j : ℕ) → IsCutFromStart says base e j
-    → chars ≡ start_piece e.before e.inserted e.behind j → last ≡ old_index e j
     → AreLevelsOf says base (old_text e) was → AreLevelsOf says base (new_text e) now
 
 -- the same to the end of the text

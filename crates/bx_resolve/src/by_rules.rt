@@ -1,4 +1,5 @@
-//! The levels of a paragraph, with each rule as a pass of its own.
+//! The levels of a paragraph, with each rule as a pass of its own. The editor does not run this: `levels` takes it only for a
+//! body of 4 GiB or more, and the editor's texts are shorter. With it the crate serves by itself as a library.
 ghost use Rattle.std.specs.Prelude.{◌≡◌, ◌≤◌, ◌<◌, IfOk, All, chars, length};
 ghost use Rattle.bx_explicit.specs.Stack.{max_depth};
 ghost use Rattle.bx_resolve.specs.Levels.{levels_in, max_level, paragraph_level_under, levels_under};

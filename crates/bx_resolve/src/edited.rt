@@ -1,9 +1,9 @@
 //! Updates levels after an edit of the text: the strong characters around the edit cut it off, so only the text between them
 //! is resolved again.
-ghost use Rattle.std.specs.Prelude.{◌≡◌, ◌≤◌, ◌++◌, IfOk, OnErr, OnOk, chars, drop, length, take};
+ghost use Rattle.std.specs.Prelude.{◌≡◌, ◌≤◌, ◌++◌, IfOk, OnErr, OnOk, chars, length, take};
 ghost use Rattle.std.specs.List.{splice};
 ghost use Rattle.bx_resolve.specs.Levels.{paragraph_levels};
-ghost use Rattle.bx_resolve.specs.Edited.{FollowsBetween, FollowsFromStart, FollowsToEnd};
+ghost use Rattle.bx_resolve.specs.Edited.{FollowsBetween, FollowsToEnd};
 
 use crate::error::ResolveError;
 use crate::paragraph::{Level, Levels};
@@ -73,28 +73,6 @@ pub fn follow_between<D: BidiData>(
     ensures err { OnErr result (levels.new.each.items ≡ levels.old.each.items) }
 {
     resolve_span(levels, tables, piece, span)?;
-    Ok(())
-}
-
-/// Updates the levels of a text after an edit with no strong character before it. `piece` is the new text from its start
-/// through a strong character after the edit, whose old index is `last` - 1.
-///
-/// Errors: `OutOfMemory`; the levels are unchanged.
-pub fn follow_from_start<D: BidiData>(
-    levels: &mut Levels,
-    tables: &D,
-    piece: &str,
-    last: usize,
-) -> Result<(), ResolveError>
-    requires low { levels.old.paragraph ≤ 1 }
-    requires inside { last ≤ length levels.old.each.items }
-    ensures paragraph { levels.new.paragraph ≡ levels.old.paragraph }
-    ensures each { OnOk result (levels.new.each.items ≡ paragraph_levels (D.data tables.now) levels.old.paragraph
-        (chars piece.now) ++ drop last levels.old.each.items) }
-    ensures law { OnOk result (FollowsFromStart (D.data tables.now) (chars piece.now) last levels.old levels.new) }
-    ensures err { OnErr result (levels.new.each.items ≡ levels.old.each.items) }
-{
-    resolve_span(levels, tables, piece, Span { first: 0, last })?;
     Ok(())
 }
 

@@ -19,7 +19,7 @@ mod uniform;
 mod weak;
 
 pub use by_rules::levels_by_rules;
-pub use edited::{follow_between, follow_from_start, follow_to_end};
+pub use edited::{follow_between, follow_to_end};
 pub use error::ResolveError;
 pub use laws::{each_in_one_sequence, left_texts_are_flat};
 pub use paragraph::{Level, Levels};

@@ -8,7 +8,7 @@ use Rattle.bx_paras.proofs.rescan.insert_scanned.Goals as goal
 pub loop-at-preserved : goal.loop-at-preserved
 loop-at-preserved g c =
     let p : Lengths = c.paragraph_from-paragraph.result in
-    let s = step (g.D.BidiData.data c.args.tables.now) c.args.text.now.edited.text c.loop-at.at c.paragraph_from-paragraph.ensures.utf8
+    let s = step (g.D.BidiData.data c.args.scanned.now.tables.now) c.args.scanned.now.text.now.edited.text c.loop-at.at c.paragraph_from-paragraph.ensures.utf8
     c.loop-at.invariant.bounds p c.args.stop c.bytes-at.result
     c.paragraph_from-paragraph.ensures.first (omega (arith, c.if-paragraph-eq0.false)) c.bytes-at.ensures
     (omega (arith, c.bytes-at.ensures, c.bytes.ensures, c.if-bytes-stop.false)) in
@@ -16,7 +16,7 @@ loop-at-preserved g c =
     c.push-position.ensures.back in
     record {
       bounds = s.ends_between;
-      range = moved (g.D.BidiData.data c.args.tables.now) c.args.text.now.edited.text c.loop-at.at _ c.loop-at.range
+      range = moved (g.D.BidiData.data c.args.scanned.now.tables.now) c.args.scanned.now.text.now.edited.text c.loop-at.at _ c.loop-at.range
           c.loop-at.invariant.range s.ends_between;
       position = c.push-position.ensures.position;
       front = still_all _ _ _ _ _ p c.push-position.ensures.front s.left c.loop-at.invariant.front;
@@ -29,10 +29,10 @@ loop-at-preserved g c =
 
 pub returns-clause-front : goal.returns-clause-front
 returns-clause-front g c =
-    let none = none_left (g.D.BidiData.data c.args.tables.now) c.args.text.now.edited.text c.loop-at.at c.args.stop (omega (arith, c.loop-at-test.false)) in
+    let none = none_left (g.D.BidiData.data c.args.scanned.now.tables.now) c.args.scanned.now.text.now.edited.text c.loop-at.at c.args.stop (omega (arith, c.loop-at-test.false)) in
     now_all _ _ _ c.loop-at.invariant.front none
 
 pub returns-clause-stop : goal.returns-clause-stop
 returns-clause-stop g c =
-    let none = none_left (g.D.BidiData.data c.args.tables.now) c.args.text.now.edited.text c.loop-at.at c.args.stop (omega (arith, c.loop-at-test.false)) in
+    let none = none_left (g.D.BidiData.data c.args.scanned.now.tables.now) c.args.scanned.now.text.now.edited.text c.loop-at.at c.args.stop (omega (arith, c.loop-at-test.false)) in
     omega (arith, c.loop-at.invariant.stop, ap total none)

@@ -9,8 +9,8 @@ use Rattle.bx_paras.proofs.rescan.insert_scanned.Given as goal
 
 abbrev pub invariant-loop-at : goal.invariant-loop-at
 invariant-loop-at g l =
-    let says = g.D.BidiData.data l.tables in
-    let text = l.text.edited.text in
+    let says = g.D.BidiData.data l.scanned.tables.now in
+    let text = l.scanned.text.now.edited.text in
     let left = ended_within (l.stop - l.at) (lengths says (drop l.at text)) in
     let all = ended_within (l.stop - l.start) (lengths says (drop l.start text)) in
     record {
