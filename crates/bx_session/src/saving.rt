@@ -5,6 +5,7 @@ ghost use Rattle.bx_store.specs.Stores.{one_more, with_bytes};
 ghost use Rattle.bx_session.specs.Saving.{store_state, with_text};
 
 use bx_store::{Store, StoreFault};
+use bx_terms::are_equal;
 use bx_text::Slices;
 
 /// Puts all pieces into the store's draft, in order.
@@ -36,19 +37,12 @@ pub fn save_pieces<S: Store>(pieces: Slices<'_>, store: &mut S) -> Result<(), St
     Ok(())
 }
 
-/// Whether two byte slices are equal.
-fn are_same(left: &[u8], right: &[u8]) -> bool
-    ensures { IsTrue result ↔ (left.now ≡ right.now) }
-{
-    left == right
-}
-
 /// Strips a prefix; none if the bytes do not begin with it.
 fn behind<'a>(bytes: &'a [u8], beginning: &[u8]) -> Option<&'a [u8]>
     ensures { MatchOption result ((rest : List ℕ) → beginning.now ++ rest ≢ bytes.now) (λ rest. bytes.now ≡ beginning.now ++ rest.now) }
 {
     let (front, rest) = bytes.split_at_checked(beginning.len())?;
-    if !are_same(front, beginning) {
+    if !are_equal(front, beginning) {
         return None;
     }
     Some(rest)

@@ -1,14 +1,8 @@
 //! Comparison of bytes with a text in place.
-ghost use Rattle.std.specs.Prelude.{◌≡◌, ◌+◌, ◌≤◌, ◌↔◌, drop, length, take, IsTrue};
+ghost use Rattle.std.specs.Prelude.{◌≡◌, ◌+◌, ◌≤◌, drop, length, take, IsTrue};
 
+use bx_terms::are_equal;
 use bx_text::Text;
-
-/// Whether two byte slices are equal.
-fn are_same(left: &[u8], right: &[u8]) -> bool
-    ensures { IsTrue result ↔ (left.now ≡ right.now) }
-{
-    left == right
-}
 
 /// Whether the text has these bytes at an offset.
 pub(crate) fn stands_at(text: &Text, start: usize, bytes: &[u8]) -> bool
@@ -23,7 +17,7 @@ pub(crate) fn stands_at(text: &Text, start: usize, bytes: &[u8]) -> bool
             return false;
         };
         let count = piece.len().min(bytes.len() - at);
-        if !are_same(&piece.as_bytes()[..count], &bytes[at..at + count]) {
+        if !are_equal(&piece.as_bytes()[..count], &bytes[at..at + count]) {
             return false;
         }
         at += count;

@@ -8,17 +8,14 @@ use crate::error::ViewError;
 use crate::layout::Layout;
 use crate::row_at::RowAt;
 use crate::source::Source;
-use bx_paragraph::Visual;
+use bx_paragraph::{Visual, reading_side};
 use bx_ucd::BidiData;
 
 /// Whether a side is the reading direction of a paragraph of a level: right for an even level, left for an odd one.
 fn is_read_on(side: Visual, level: u8) -> bool
     ensures { result ≡ reads_on side (record { body = []; paragraph = level; units = []; levels = []; is_last = true }) }
 {
-    match side {
-        Visual::Right => level % 2 == 0,
-        Visual::Left => level % 2 != 0,
-    }
+    side == reading_side(level)
 }
 
 impl Layout {

@@ -6,5 +6,5 @@ pub loop-at-preserved : goal.loop-at-preserved
 loop-at-preserved c = record {
   within = search rules;
   same = more-same _ _ _ _ _ _ c.loop-at.invariant.same c.in-Some.ensures.bytes (search rules)
-      (ap (take c.min-count.result) (sym c.as_bytes.ensures.value) ∙ c.are_same.ensures.0 c.if-not-are_same.false);
+      (ap (take c.min-count.result) (sym c.as_bytes.ensures.value) ∙ c.are_equal.ensures.0 c.if-not-are_equal.false);
 }
