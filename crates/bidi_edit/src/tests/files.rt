@@ -25,6 +25,7 @@ fn outcome<'a>(
         mirroring,
         file,
         text: None,
+        check: false,
         unsaved: false,
         journal: None,
         in_place: None,
