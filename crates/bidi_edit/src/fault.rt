@@ -1,5 +1,6 @@
 //! Faults that end the program with status 1.
 
+use bx_command::TextFault;
 use bx_session::{OpenError, Refused, RunFault};
 use bx_store::StoreFault;
 use bx_ucd::UcdError;
@@ -15,6 +16,9 @@ pub enum ProgramFault<'a> {
     Tables(UcdError),
     #[error("bidi_edit: {0}")]
     File(FileFault<'a>),
+    /// A file that was only checked cannot be opened.
+    #[error("bidi_edit: {0}")]
+    Text(TextFault),
     #[error("bidi_edit: {0}")]
     Open(OpenError),
     #[error("bidi_edit: {0}")]
@@ -40,6 +44,12 @@ impl From<UcdError> for ProgramFault<'_> {
 impl<'a> From<FileFault<'a>> for ProgramFault<'a> {
     fn from(fault: FileFault<'a>) -> Self {
         ProgramFault::File(fault)
+    }
+}
+
+impl From<TextFault> for ProgramFault<'_> {
+    fn from(fault: TextFault) -> Self {
+        ProgramFault::Text(fault)
     }
 }
 

@@ -1,9 +1,9 @@
 //! A full-screen editor: keys come from standard input, the screen goes to standard output.
 //!
 //! `bidi_edit [--rows N] [--cols N] [--direction auto|ltr|rtl] [--line N] [--text PATH] [--unsaved] [--journal PATH [--in-place
-//! MARK]] [--replay PATH [--to PATH]] --classes F --brackets F --mirroring F FILE`. Exit status 0: ended by Quit, or the input
-//! ended without unsaved changes; 1: a fault, with a line on standard error; 2: the command line was refused, and standard
-//! error says why.
+//! MARK]] [--replay PATH [--to PATH]] --classes F --brackets F --mirroring F FILE`. With `--check` it only checks that FILE can be
+//! opened. Exit status 0: ended by Quit, or the input ended without unsaved changes, or FILE can be opened; 1: a fault, with a
+//! line on standard error; 2: the command line was refused, and standard error says why.
 #![tactic(auto)]
 
 mod beginning;
@@ -15,7 +15,7 @@ mod recover;
 mod replaying;
 
 use beginning::Beginning;
-use bx_command::{Files, JournalFile, Options, command_line, empty_journal};
+use bx_command::{Files, JournalFile, Options, check_text, command_line, empty_journal};
 use bx_session::{Recorder, WrittenJournal};
 use bx_store::{FileStore, Store, StoreFault};
 use bx_words::{refuse, refuse_words, text_of};
@@ -132,8 +132,16 @@ fn is_changed(
     )
 }
 
-/// Carries out the command line.
-fn program<'a, R: Read + Drop, W: Write>(
+/// Checks that FILE can be opened. A file that does not exist can: it is an empty text.
+fn check_file<'a>(rt: &HostRuntime, path: &'a str) -> Result<(), ProgramFault<'a>> {
+    if let Some(bytes) = text_of(rt, path)? {
+        check_text(bytes.as_slice())?;
+    }
+    Ok(())
+}
+
+/// Edits FILE, or recovers a text from a journal.
+fn run<'a, R: Read + Drop, W: Write>(
     rt: &HostRuntime,
     options: &Options<'a>,
     reader: R,
@@ -151,6 +159,19 @@ fn program<'a, R: Read + Drop, W: Write>(
         None => edit_file(rt, options, beginning, reader, writer, &mut store),
         Some(_) => recover_to(rt, options, beginning, writer, &mut store),
     }
+}
+
+/// Carries out the command line.
+fn program<'a, R: Read + Drop, W: Write>(
+    rt: &HostRuntime,
+    options: &Options<'a>,
+    reader: R,
+    writer: &mut W,
+) -> Result<(), ProgramFault<'a>> {
+    if options.check {
+        return check_file(rt, options.file);
+    }
+    run(rt, options, reader, writer)
 }
 
 /// The command line's words after the program's name.

@@ -27,6 +27,8 @@ pub struct Options<'a> {
     pub file: &'a str,
     /// The path of the text to open; None to open FILE itself.
     pub text: Option<&'a str>,
+    /// Whether FILE is only checked, and not opened.
+    pub check: bool,
     /// Whether the text counts as changed from the start.
     pub unsaved: bool,
     /// The path of the journal that keys are appended to.
@@ -65,6 +67,17 @@ fn unsaved<'a>(alloc: Global) -> Arg<'a> {
         .action(ArgAction::SetTrue)
 }
 
+/// The flag for a check of FILE without a session.
+fn check<'a>(alloc: Global) -> Result<Arg<'a>, AllocError> {
+    Arg::new(alloc, "check")
+        .long("check")
+        .action(ArgAction::SetTrue)
+        .conflicts_with("text")?
+        .conflicts_with("journal")?
+        .conflicts_with("replay")?
+        .conflicts_with("to")
+}
+
 /// The option for saves that overwrite FILE. It requires a journal, from which the text can be recovered after an interrupted
 /// save.
 fn in_place<'a>(alloc: Global) -> Result<Arg<'a>, AllocError> {
@@ -88,6 +101,7 @@ fn command<'a>(alloc: Global) -> Result<Command<'a>, AllocError> {
         .arg(table(alloc, "brackets"))?
         .arg(table(alloc, "mirroring"))?
         .arg(line(alloc))?
+        .arg(check(alloc)?)?
         .arg(path(alloc, "text"))?
         .arg(unsaved(alloc))?
         .arg(path(alloc, "journal"))?
@@ -107,6 +121,7 @@ fn options_of<'a>(matches: &ArgMatches<'a>) -> Option<Options<'a>> {
         mirroring: matches.get_str("mirroring")?,
         file: matches.get_str("file")?,
         text: matches.get_str("text"),
+        check: matches.get_flag("check"),
         unsaved: matches.get_flag("unsaved"),
         journal: matches.get_str("journal"),
         in_place: matches.get_str("in-place"),

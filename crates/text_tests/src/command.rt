@@ -1,6 +1,6 @@
-//! The editor's command line: accepted and refused words, and the offset of a line.
+//! The editor's command line: accepted and refused words, the check of a text, and the offset of a line.
 
-use bx_command::{command_line, start_of_line};
+use bx_command::{TextFault, check_text, command_line, start_of_line};
 use bx_terms::Base;
 use bx_words::{refuse, refuse_words};
 use clap::error::ErrorKind;
@@ -41,7 +41,7 @@ fn three_tables_and_file(rt: HostRuntime) -> Result<(), Fail> {
     assert_eq!(rt; (options.classes, options.brackets), ("c", "b"));
     assert_eq!(rt; (options.mirroring, options.file), ("m", "f"));
     assert_eq!(rt; (options.text, options.line), (None, None));
-    assert!(rt; !options.unsaved);
+    assert!(rt; !options.unsaved && !options.check);
     assert_eq!(rt; (options.journal, options.replay), (None, None));
     assert_eq!(rt; options.in_place, None);
     Ok(())
@@ -67,6 +67,37 @@ fn options_of_a_session_that_goes_on(rt: HostRuntime) -> Result<(), Fail> {
     assert_eq!(rt; (options.journal, options.replay), (Some("j"), Some("r")));
     assert_eq!(rt; (options.to, options.line), (Some("o"), Some(7)));
     Ok(())
+}
+
+#[test]
+fn a_check_begins_no_session(rt: HostRuntime) -> Result<(), Fail> {
+    let tables = ["--classes=c", "--brackets=b", "--mirroring=m"];
+    let check = "--check";
+    let words = [check, tables[0], tables[1], tables[2], "--line=7", "f"];
+    assert!(rt; command_line(rt.alloc(), &words)?.check);
+    for option in ["--text=t", "--journal=j", "--replay=r"] {
+        let words = [check, option, tables[0], tables[1], tables[2], "f"];
+        assert_eq!(rt;
+            refusal(rt.alloc(), &words),
+            Some(ErrorKind::ArgumentConflict)
+        );
+    }
+    Ok(())
+}
+
+#[test]
+fn texts_that_can_be_opened(rt: HostRuntime) {
+    for text in [b"".as_slice(), b"\n", b"\xd7\x90\n", b"\0\r"] {
+        assert_eq!(rt; check_text(text), Ok(()));
+    }
+    for (text, line) in [
+        (b"\xff".as_slice(), 1),
+        (b"a\nb\n\xe0\n", 3),
+        (b"\r\r\n\xd7", 2),
+        (b"\n\xed\xa0\x80\n\xff", 2),
+    ] {
+        assert_eq!(rt; check_text(text), Err(TextFault::NotUtf8(line)));
+    }
 }
 
 #[test]

@@ -2,6 +2,7 @@
 
 use crate::exit::finish;
 use crate::fault::ProgramFault;
+use bx_command::TextFault;
 use bx_session::{OpenError, Refused, RunFault};
 use bx_store::StoreFault;
 use bx_words::FileFault;
@@ -14,6 +15,8 @@ fn faults_by_their_lines(rt: HostRuntime) -> Result<(), Fail> {
     for fault in [
         ProgramFault::from(FileFault::Unreadable("a path")),
         ProgramFault::from(FileFault::OutOfMemory),
+        ProgramFault::from(TextFault::TooLong),
+        ProgramFault::from(TextFault::NotUtf8(3)),
         ProgramFault::from(OpenError::TooLong),
         ProgramFault::from(OpenError::NotUtf8(1)),
         ProgramFault::from(OpenError::OutOfMemory),
@@ -33,6 +36,8 @@ fn faults_by_their_lines(rt: HostRuntime) -> Result<(), Fail> {
         text.as_str(),
         "bidi_edit: cannot read 'a path'\n\
          bidi_edit: out of memory\n\
+         bidi_edit: file too long\n\
+         bidi_edit: not UTF-8 in line 3\n\
          bidi_edit: file too long\n\
          bidi_edit: not UTF-8 at byte 1\n\
          bidi_edit: out of memory\n\

@@ -2,22 +2,21 @@
 
 use crate::fault::ProgramFault;
 use crate::program;
-use bx_command::Options;
+use bx_command::{Options, TextFault};
 use bx_session::OpenError;
 use bx_terms::Base;
 use bx_words::{FileFault, text_of};
 use std::test::Fail;
 use std::{env, fs, process};
 
-/// The outcome of a run over files of these paths, in a window of one row and five columns, with empty input.
-fn outcome<'a>(
-    rt: &HostRuntime,
+/// A session over files of these paths, in a window of one row and five columns.
+fn options<'a>(
     classes: &'a str,
     brackets: &'a str,
     mirroring: &'a str,
     file: &'a str,
-) -> Result<(), ProgramFault<'a>> {
-    let options = Options {
+) -> Options<'a> {
+    Options {
         rows: 1,
         cols: 5,
         classes,
@@ -25,6 +24,7 @@ fn outcome<'a>(
         mirroring,
         file,
         text: None,
+        check: false,
         unsaved: false,
         journal: None,
         in_place: None,
@@ -32,9 +32,30 @@ fn outcome<'a>(
         to: None,
         line: None,
         direction: Base::Auto,
-    };
+    }
+}
+
+/// The outcome of a run over files of these paths, with empty input.
+fn outcome<'a>(
+    rt: &HostRuntime,
+    classes: &'a str,
+    brackets: &'a str,
+    mirroring: &'a str,
+    file: &'a str,
+) -> Result<(), ProgramFault<'a>> {
+    let options = options(classes, brackets, mirroring, file);
     let mut written = Vec::new(rt.alloc());
     program(rt, &options, b"".as_slice(), &mut written)
+}
+
+/// The outcome of a check of a file, with tables that do not exist. A check writes nothing.
+fn outcome_of_check<'a>(rt: &HostRuntime, file: &'a str) -> Result<(), ProgramFault<'a>> {
+    let mut options = options("not here", "not here", "not here", file);
+    options.check = true;
+    let mut written = Vec::new(rt.alloc());
+    let outcome = program(rt, &options, b"x".as_slice(), &mut written);
+    assert!(rt; written.is_empty());
+    outcome
 }
 
 #[test]
@@ -52,6 +73,29 @@ fn the_first_file_that_cannot_be_read(rt: HostRuntime) {
         );
     }
     assert_eq!(rt; outcome(&rt, empty, empty, empty, "not here"), Ok(()));
+}
+
+#[test]
+fn a_check_reads_the_file_alone(rt: HostRuntime) -> Result<(), Fail> {
+    let name = format!(in rt.alloc(); "bidi_edit-{}-text", process::id(rt.process()))?;
+    let path = env::temp_dir(&rt)?.join(rt.alloc(), name.as_str())?;
+    fs::write(&rt, path.as_path(), b"a\n\xd7\x90\n")?;
+    let accepted = outcome_of_check(&rt, path.as_str());
+    fs::write(&rt, path.as_path(), b"a\nb\n\xe0\n")?;
+    let refused = outcome_of_check(&rt, path.as_str());
+    fs::remove_file(&rt, path.as_path())?;
+    assert_eq!(rt; accepted, Ok(()));
+    assert_eq!(rt; refused, Err(ProgramFault::Text(TextFault::NotUtf8(3))));
+    assert_eq!(rt; outcome_of_check(&rt, "not here either"), Ok(()));
+    assert_eq!(rt;
+        outcome_of_check(&rt, "/dev/zero"),
+        Err(ProgramFault::Text(TextFault::TooLong))
+    );
+    assert_eq!(rt;
+        outcome_of_check(&rt, "/"),
+        Err(ProgramFault::File(FileFault::Unreadable("/")))
+    );
+    Ok(())
 }
 
 #[test]
