@@ -1,15 +1,15 @@
 -- The offsets at which letters stand in a text: from the letters read on, and in order.
-use Rattle.std.proofs.Common.{◌≡◌, ◌≢◌, get_or, ◌≤◌, ◌<◌, ◌+◌, ◌-◌, ◌∙◌, ◌&&◌, ◌==◌, ℕ, Bool, true, false, not, List, [], ◌∷◌, ◌++◌, length, map, chars, take, drop}
+use Rattle.std.proofs.Common.{◌≡◌, ◌≢◌, get_or, ◌≤◌, ◌<◌, ◌+◌, ◌∙◌, ◌&&◌, ℕ, Bool, true, false, not, List, [], ◌∷◌, ◌++◌, length, chars, take, drop}
 use Rattle.std.proofs.Common.{refl, ap, ap₂, sym, arith, length-append, append-nil, IsCharBoundary}
 use Rattle.std.specs.Prelude.{Option, Some, None, slice_get, find, nat_le, nat_lt, encode_utf8, encode_utf8_all, IsUtf8}
 use Rattle.std.specs.Char.{to_ascii_lowercase}
 use Rattle.std.proofs.lemmas.Bool.Decides.{nat_tests}
 use Rattle.std.proofs.lemmas.List.{nil_from_length, length-map, take-append-drop, length-take-le, drop-drop, drop_all}
-use Rattle.std.proofs.lemmas.Str.{chars-append, chars-nil, encodes-chars, IsUtf8-take, IsUtf8-drop, IsUtf8-between, length-encode, len_utf8_bounds}
+use Rattle.std.proofs.lemmas.Str.{chars-append, chars-nil, encodes-chars, IsUtf8-take, length-encode, len_utf8_bounds}
 use Rattle.bx_ucd.specs.Data.{Data}
 use Rattle.bx_find.specs.Letters.{is_passed_over, letters}
 use Rattle.bx_find.specs.Standing.{begins, begins_some, stands, standing, first_from, last_below, last_before}
-use Rattle.bx_find.specs.Held.{placed, found, with_letters, found_after, to_come}
+use Rattle.bx_find.specs.Held.{placed, found, with_letters, to_come}
 use Rattle.bx_find.proofs.Fallen.{letters_in, found-not, found-here, begins-some, none_held, length-with}
 
 width-some : (c : ℕ) → 0 < length (encode_utf8 c)
