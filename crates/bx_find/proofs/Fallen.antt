@@ -1,10 +1,10 @@
 -- Letters that are held and those that follow: where the sought ones are found.
-use Rattle.std.proofs.Common.{◌≡◌, ◌≢◌, ◌≤◌, ◌<◌, ◌+◌, ◌-◌, ◌∙◌, ◌⊎◌, inl, inr, ◌==◌, ◌&&◌, ℕ, zero, suc, Bool, true, false, List, [], ◌∷◌, ◌++◌, length, map, get_or}
-use Rattle.std.proofs.Common.{take, drop, refl, ap, ap₂, sym, arith, length-append, length-drop, length-take-le, append_assoc, append-nil, slice_range}
+use Rattle.std.proofs.Common.{◌≡◌, ◌≢◌, ◌≤◌, ◌<◌, ◌+◌, ◌-◌, ◌∙◌, inl, inr, ℕ, zero, suc, Bool, true, false, List, [], ◌∷◌, ◌++◌, length, map, get_or}
+use Rattle.std.proofs.Common.{take, drop, refl, ap, ap₂, sym, arith, length-append, length-drop, length-take-le, append_assoc}
 use Rattle.std.proofs.lemmas.Bool.Decides.{nat_tests}
 use Rattle.std.proofs.lemmas.Bool.{cases_lt}
 use Rattle.std.proofs.lemmas.List.{map-append, length-map, drop-take, take_more, same_from_push, drop-map, take_all}
-use Rattle.bx_find.specs.Borders.{Ends, IsBorder}
+use Rattle.bx_find.specs.Borders.{IsBorder}
 use Rattle.bx_find.specs.Standing.{begins, begins_some}
 use Rattle.bx_find.specs.Held.{found, with_letters, found_after}
 

@@ -1,16 +1,16 @@
 -- The offsets at which letters stand in a text: from the letters read on, and in order.
-use Rattle.std.proofs.Common.{◌≡◌, ◌≤◌, ◌<◌, ◌+◌, ◌-◌, ◌∙◌, ◌&&◌, ◌==◌, ℕ, Bool, true, false, not, List, [], ◌∷◌, ◌++◌, length, map, chars, take, drop}
+use Rattle.std.proofs.Common.{◌≡◌, ◌≢◌, get_or, ◌≤◌, ◌<◌, ◌+◌, ◌∙◌, ◌&&◌, ℕ, Bool, true, false, not, List, [], ◌∷◌, ◌++◌, length, chars, take, drop}
 use Rattle.std.proofs.Common.{refl, ap, ap₂, sym, arith, length-append, append-nil, IsCharBoundary}
 use Rattle.std.specs.Prelude.{Option, Some, None, slice_get, find, nat_le, nat_lt, encode_utf8, encode_utf8_all, IsUtf8}
 use Rattle.std.specs.Char.{to_ascii_lowercase}
 use Rattle.std.proofs.lemmas.Bool.Decides.{nat_tests}
 use Rattle.std.proofs.lemmas.List.{nil_from_length, length-map, take-append-drop, length-take-le, drop-drop, drop_all}
-use Rattle.std.proofs.lemmas.Str.{chars-append, chars-nil, encodes-chars, IsUtf8-take, IsUtf8-drop, IsUtf8-between, length-encode, len_utf8_bounds}
+use Rattle.std.proofs.lemmas.Str.{chars-append, chars-nil, encodes-chars, IsUtf8-take, length-encode, len_utf8_bounds}
 use Rattle.bx_ucd.specs.Data.{Data}
 use Rattle.bx_find.specs.Letters.{is_passed_over, letters}
 use Rattle.bx_find.specs.Standing.{begins, begins_some, stands, standing, first_from, last_below, last_before}
-use Rattle.bx_find.specs.Held.{placed, found, with_letters, found_after, to_come}
-use Rattle.bx_find.proofs.Fallen.{letters_in, found-not, found-here, begins-some, length-with}
+use Rattle.bx_find.specs.Held.{placed, found, with_letters, to_come}
+use Rattle.bx_find.proofs.Fallen.{letters_in, found-not, found-here, begins-some, none_held, length-with}
 
 width-some : (c : ℕ) → 0 < length (encode_utf8 c)
 width-some c = omega (arith, length-encode c, (len_utf8_bounds c).0)
@@ -49,6 +49,22 @@ module _ (says : Data) (sought : List ℕ) where
   pub standing-not : (at c : ℕ) (cs : List ℕ) → stands says sought (c ∷ cs) ≡ false
       → standing says sought at (c ∷ cs) ≡ standing says sought (at + length (encode_utf8 c)) cs
   standing-not at c cs e = rw (e, standing) refl
+
+  begins-none-by : (at c : ℕ) (cs : List ℕ) (passed : Bool) → 0 < length sought → get_or sought 0 0 ≢ to_ascii_lowercase c → is_passed_over says c ≡ passed
+      → to_come says sought [] at (c ∷ cs) ≡ to_come says sought [] (at + length (encode_utf8 c)) cs
+  begins-none-by at c cs true some other e = ap (found sought) (placed-passed at c cs e)
+  begins-none-by at c cs false some other e =
+      ap (found sought) (placed-letter at c cs e)
+      ∙ none_held sought at (to_ascii_lowercase c) (placed says (at + length (encode_utf8 c)) cs) some other
+
+  -- nothing is held, and a character is not the first letter, passed over or not
+  pub begins_none : (held : List ℕ) (at c : ℕ) (cs : List ℕ) → length held ≡ 0 → length held < length sought → get_or sought 0 0 ≢ to_ascii_lowercase c
+      → to_come says sought held at (c ∷ cs) ≡ to_come says sought held (at + length (encode_utf8 c)) cs
+  begins_none held at c cs none fewer other =
+      let empty = nil_from_length held none in
+      ap (λ (os : List ℕ). to_come says sought os at (c ∷ cs)) empty
+      ∙ begins-none-by at c cs (is_passed_over says c) (omega (arith, none, fewer)) other refl
+      ∙ ap (λ (os : List ℕ). to_come says sought os (at + length (encode_utf8 c)) cs) (sym empty)
 
   -- ---- from characters to their letters
 

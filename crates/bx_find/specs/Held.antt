@@ -1,5 +1,5 @@
 -- What a search has read and may still need.
-use Rattle.std.specs.Prelude.{ℕ, ◌+◌, Bool, true, false, List, [], ◌∷◌, ◌++◌, length, map, encode_utf8}
+use Rattle.std.specs.Prelude.{ℕ, ◌+◌, true, false, List, [], ◌∷◌, ◌++◌, length, map, encode_utf8}
 use Rattle.std.specs.Char.{to_ascii_lowercase}
 use Rattle.bx_ucd.specs.Data.{Data}
 use Rattle.bx_find.specs.Letters.{is_passed_over}

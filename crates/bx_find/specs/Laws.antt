@@ -1,5 +1,5 @@
 -- The answers of a search are the nearest offsets at which the query stands.
-use Rattle.std.specs.Prelude.{◌≡◌, ℕ, ◌≤◌, ◌<◌, List, true, drop, chars, Option, MatchOption, IsUtf8, IsCharBoundary}
+use Rattle.std.specs.Prelude.{◌≡◌, ℕ, ◌≤◌, ◌<◌, List, true, drop, chars, MatchOption, IsUtf8, IsCharBoundary}
 use Rattle.bx_ucd.specs.Data.{Data}
 use Rattle.bx_find.specs.Standing.{stands, first_from, last_before}
 

@@ -1,5 +1,6 @@
 //! The letters that a search holds: the longest end of those read with which the query begins.
-ghost use Rattle.std.specs.Prelude.{◌≡◌, ℕ, ◌+◌, ◌<◌, ◌++◌, List, [], ◌∷◌, get_or, length, encode_utf8, option_to_list};
+ghost use Rattle.std.specs.Prelude.{◌≡◌, ◌≢◌, true, ℕ, ◌+◌, ◌<◌, ◌++◌, List, [], ◌∷◌, get_or, length, encode_utf8, option_to_list};
+ghost use Rattle.std.specs.Char.{to_ascii_lowercase};
 ghost use Rattle.bx_find.specs.Held.{found_after, to_come};
 
 use crate::letters::letter_if_any;
@@ -53,6 +54,16 @@ fn read_letter(query: &Query, held: &mut Ring, letter: char, at: usize) -> Optio
     hold(query, held, at)
 }
 
+/// Whether nothing is held, and the query does not begin with a character.
+#[inline(always)]
+fn begins_nothing(query: &Query, held: &Ring, c: char) -> bool
+    requires { length held.now < length query.now }
+    ensures none { result ≡ true → length held.now ≡ 0 }
+    ensures other { result ≡ true → get_or query.now 0 0 ≢ to_ascii_lowercase c }
+{
+    held.len() == 0 && query.letter(0) != c.to_ascii_lowercase()
+}
+
 /// Reads a character at an offset. Returns the offset at which the query stands, if the character ends it.
 #[inline(always)]
 pub fn read<D: BidiData>(
@@ -67,6 +78,10 @@ pub fn read<D: BidiData>(
     ensures found { (cs : List ℕ) → to_come (D.data tables.now) query.now held.old at (c ∷ cs)
         ≡ option_to_list result ++ to_come (D.data tables.now) query.now held.new (at + length (encode_utf8 c)) cs }
 {
+    // Most characters begin nothing, whatever their class.
+    if begins_nothing(query, held, c) {
+        return None;
+    }
     match letter_if_any(tables, c) {
         None => None,
         Some(letter) => read_letter(query, held, letter, at),

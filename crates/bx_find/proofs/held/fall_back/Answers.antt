@@ -1,4 +1,4 @@
-use Rattle.std.proofs.Common.{ℕ, List, ◌≡◌, ◌≢◌, ◌≤◌, ◌<◌, ◌∷◌, [], ◌∙◌, ap, sym, arith, length, length-drop, get_or, drop, ◌-◌}
+use Rattle.std.proofs.Common.{ℕ, List, ◌≡◌, ◌≢◌, ◌≤◌, ◌<◌, ◌∷◌, ◌∙◌, ap, sym, arith, length, length-drop, get_or, drop, ◌-◌}
 use Rattle.bx_find.specs.Held.{found_after}
 use Rattle.bx_find.proofs.Fallen.{fallen}
 use Rattle.bx_find.proofs.held.fall_back.Goals as goal

@@ -1,4 +1,4 @@
-use Rattle.std.proofs.Common.{ℕ, List, ◌≡◌, ◌∷◌, [], ◌∙◌, ap, sym, arith, length, length-append, get_or, drop, ◌-◌, ◌+◌, ap₂}
+use Rattle.std.proofs.Common.{ℕ, List, ◌≡◌, ◌∷◌, [], ◌∙◌, ap, sym, arith, length, length-append, drop, ◌-◌, ◌+◌, ap₂}
 use Rattle.bx_find.specs.Held.{found_after}
 use Rattle.bx_find.proofs.Fallen.{held_more, matched}
 use Rattle.bx_find.proofs.held.hold.Goals as goal

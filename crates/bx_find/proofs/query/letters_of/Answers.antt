@@ -1,4 +1,4 @@
-use Rattle.std.proofs.Common.{ℕ, List, ◌≡◌, ◌<◌, ◌∙◌, ◌∷◌, [], ◌++◌, length, chars, ap, sym, arith, rules, append_assoc, append-nil, length-append}
+use Rattle.std.proofs.Common.{ℕ, List, ◌<◌, ◌∙◌, ◌∷◌, [], ◌++◌, length, chars, ap, sym, arith, rules, append_assoc, append-nil, length-append}
 use Rattle.std.proofs.lemmas.Str.{chars_past_char, IsUtf8-past_char}
 use Rattle.bx_find.specs.Letters.{letters}
 use Rattle.bx_find.proofs.ReadOn.{letters_some, letters_none, no_chars}

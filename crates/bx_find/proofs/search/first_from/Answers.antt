@@ -1,4 +1,4 @@
-use Rattle.std.proofs.Common.{ℕ, List, ◌≡◌, ◌≤◌, ◌<◌, ◌+◌, ◌∙◌, ◌∷◌, [], ◌++◌, length, chars, drop, ap, ap₂, sym, arith, rules}
+use Rattle.std.proofs.Common.{ℕ, List, ◌≤◌, ◌+◌, ◌∙◌, length, chars, drop, ap, sym, arith}
 use Rattle.std.specs.Prelude.{slice_get}
 use Rattle.bx_find.specs.Held.{to_come}
 use Rattle.bx_find.proofs.Offsets.{from_offset, piece_read, none_behind, none_to_come}

@@ -1,4 +1,4 @@
-use Rattle.std.proofs.Common.{ℕ, List, ◌≡◌, ◌≤◌, ◌<◌, ◌+◌, ◌∙◌, ◌∷◌, [], ◌++◌, length, chars, drop, ap, ap₂, sym, arith, rules, refl}
+use Rattle.std.proofs.Common.{ℕ, List, ◌≤◌, ◌+◌, ◌∙◌, ◌++◌, length, chars, drop, ap, sym, arith, refl}
 use Rattle.std.specs.Prelude.{None}
 use Rattle.std.proofs.lemmas.Str.{IsCharBoundary-start}
 use Rattle.bx_find.specs.Held.{to_come}

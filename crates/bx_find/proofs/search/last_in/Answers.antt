@@ -1,4 +1,4 @@
-use Rattle.std.proofs.Common.{ℕ, List, ◌≡◌, ◌<◌, ◌≤◌, ◌+◌, ◌∙◌, ◌∷◌, [], ◌++◌, length, chars, ap, ap₂, sym, arith, length-append}
+use Rattle.std.proofs.Common.{ℕ, List, ◌≡◌, ◌≤◌, ◌+◌, ◌∙◌, ◌++◌, length, chars, ap, ap₂, sym, arith, length-append}
 use Rattle.std.specs.Prelude.{encode_utf8, option_to_list}
 use Rattle.std.proofs.lemmas.Str.{chars_past_char, IsUtf8-past_char}
 use Rattle.bx_find.specs.Held.{to_come}

@@ -1,4 +1,4 @@
-use Rattle.std.proofs.Common.{◌≡◌, ◌≤◌, ◌+◌, ◌-◌, ◌%◌, ℕ, List, length, drop, sym, ap, ap₂, ◌∙◌, arith}
+use Rattle.std.proofs.Common.{◌≡◌, ◌+◌, ◌-◌, ℕ, List, length, drop, sym, ap, ap₂, ◌∙◌, arith}
 use Rattle.bx_find.proofs.Windows.{length-window, drop-window, window-around}
 use Rattle.bx_find.proofs.ring.Ring.keep_newest.Goals as goal
 
