@@ -1,5 +1,5 @@
 //! The letters that a search compares.
-ghost use Rattle.std.specs.Prelude.{◌≡◌, ◌<◌, ◌∷◌, ◌++◌, [], chars, encode_utf8, length, MatchOption};
+ghost use Rattle.std.specs.Prelude.{◌≡◌};
 ghost use Rattle.bx_find.specs.Letters.{is_unlettered, is_stroke_or_mark, is_passed_over, letter_if_any};
 
 use bx_ucd::{BidiData, Class};
@@ -42,16 +42,4 @@ pub fn letter_if_any<D: BidiData>(tables: &D, c: char) -> Option<char>
         return None;
     }
     Some(c.to_ascii_lowercase())
-}
-
-/// The first character of a text, and the rest.
-#[inline(always)]
-pub fn first_char(text: &str) -> Option<(char, &str)>
-    ensures { MatchOption result (length text.now ≡ 0) (λ (c, rest). (text.now ≡ encode_utf8 c ++ rest.now) × (length rest.now < length text.now)) }
-{
-    let mut chars = text.chars();
-    match chars.next() {
-        Some(c) => Some((c, chars.as_str())),
-        None => None,
-    }
 }

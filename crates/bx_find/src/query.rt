@@ -4,8 +4,9 @@ ghost use Rattle.bx_find.specs.Borders.{IsBorder, AreBorders};
 ghost use Rattle.bx_find.specs.Letters.{letters};
 
 use crate::borders::border;
-use crate::letters::{first_char, letter_if_any};
+use crate::letters::letter_if_any;
 use arrayvec::ArrayVec;
+use bx_terms::first_char;
 use bx_ucd::BidiData;
 use std::marker::Model;
 

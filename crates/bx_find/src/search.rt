@@ -4,10 +4,10 @@ ghost use Rattle.bx_find.specs.Held.{to_come};
 ghost use Rattle.bx_find.specs.Standing.{first_from, last_below, last_before};
 
 use crate::held::read;
-use crate::letters::first_char;
 use crate::pieces::Pieces;
 use crate::query::Query;
 use crate::ring::Ring;
+use bx_terms::first_char;
 use bx_ucd::BidiData;
 
 /// Reads a piece that begins at an offset, up to the first offset at which the query stands.
