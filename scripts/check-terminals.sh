@@ -1,6 +1,6 @@
 #!/bin/sh
 # Runs the editor in terminals under Xvfb, types by xdotool and compares pictures: in xterm, urxvt, st, alacritty, kitty,
-# qterminal, VTE (xfce4-terminal), konsole and mlterm, and in tmux within VTE. It checks that the editor's picture is that of `cat` of the same rows,
+# qterminal, VTE (xfce4-terminal), konsole and mlterm, and in tmux within VTE and konsole. It checks that the editor's picture is that of `cat` of the same rows,
 # that the shell's rows are the same before and after, and what keys, titles and notes do. It is not part of `rt ci`. A missing
 # terminal is skipped. `--pictures FOLDER` keeps the pictures; names after it select terminals. The last line has the totals. Exit
 # status 1: a check failed; 77: Xvfb, xdotool, ImageMagick or the built programs are missing.
@@ -32,7 +32,7 @@ if [ "${1:-}" = --pictures ]; then
     mkdir -p "$2" && pictures=$(CDPATH='' cd -- "$2" && pwd) || exit 1
     shift 2
 fi
-[ $# -gt 0 ] || set -- xterm urxvt st alacritty kitty kitty_as_it_is qterminal vte vte_tmux konsole mlterm
+[ $# -gt 0 ] || set -- xterm urxvt st alacritty kitty kitty_as_it_is qterminal vte vte_tmux konsole konsole_tmux mlterm
 
 passed=0 failed=0 skipped=0
 room=$(mktemp -d) || exit 1

@@ -68,6 +68,7 @@ check_rows() { # KIND
     order 'clear; cat text'
     take_picture "$1-before"
     open_editor text "$1-editor"
+    ! prints_screen "$1" || check_text "$1"
     leave_editor "$1, rows"
     take_picture "$1-after"
     order 'cat text'
@@ -81,6 +82,14 @@ check_rows() { # KIND
     other_picture "$1, rows in the other order" "$1-editor" "$1-wrong"
     same_picture "$1, the shell's rows afterwards" "$1-before" "$1-after"
     same_picture "$1, more of them" "$1-twice" "$1-again"
+}
+
+# Has the terminal print its screen.
+check_text() { # KIND
+    rm -f "$room/read"
+    printf '\033[i' >"$(cat "$room/tty")"
+    wait_for 50 test -s "$room/read"
+    same "$1, the screen's text" "$(sed -e 's/[[:space:]]*$//' -e 2q "$room/read")" "$(cat "$room/files/rows")"
 }
 
 check_keys() { # KIND

@@ -2,8 +2,11 @@
 # shellcheck disable=SC2154 # variables shared with other parts
 # How each terminal is started, with 60 columns and 10 rows in one font, and what it is known for.
 
-start_xterm() { exec xterm -fa FreeMono -fs 12 -geometry 60x10+0+0 -e sh "$room/shell"; }
-start_urxvt() { exec urxvt -fn xft:FreeMono:size=12 -geometry 60x10+0+0 -e sh "$room/shell"; }
+start_xterm() {
+    exec xterm -fa FreeMono -fs 12 -geometry 60x10+0+0 -xrm "XTerm*printerCommand: cat >'$room/read'" -xrm 'XTerm*printAttributes: 0' \
+        -e sh "$room/shell"
+}
+start_urxvt() { exec urxvt -fn xft:FreeMono:size=12 -geometry 60x10+0+0 --print-pipe "cat >'$room/read'" -e sh "$room/shell"; }
 start_st() { exec st -f FreeMono:size=12 -g 60x10+0+0 -e sh "$room/shell"; }
 start_mlterm() {
     mkdir -p "$HOME/.mlterm"
@@ -34,10 +37,12 @@ exec_kitty() {
         -o initial_window_height=10c -o cursor_blink_interval=0 -o update_check_interval=0 sh "$room/shell"
 }
 start_vte_tmux() { start_vte; }
+start_konsole_tmux() { start_konsole; }
 
 program_of() { # KIND
     case $1 in
     vte*) echo xfce4-terminal ;;
+    konsole*) echo konsole ;;
     kitty*) echo kitty ;;
     *) echo "$1" ;;
     esac
@@ -45,7 +50,13 @@ program_of() { # KIND
 
 # Whether the terminal reorders by itself.
 reorders() { # KIND
-    case $1 in vte* | konsole | mlterm) return 0 ;; esac
+    case $1 in vte* | konsole* | mlterm) return 0 ;; esac
+    return 1
+}
+
+# Whether it prints its screen as text, to the file `read`.
+prints_screen() { # KIND
+    case $1 in xterm | urxvt) return 0 ;; esac
     return 1
 }
 

@@ -21,6 +21,7 @@ open_display() {
     cat >"$room/shell" <<'TEXT'
 cd "${0%/*}/files" || exit
 exec 9<>"${0%/*}/orders"
+tty >"${0%/*}/tty"
 : >"${0%/*}/ready"
 while IFS= read -r order <&9; do
     eval "$order" 9<&-
