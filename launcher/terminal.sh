@@ -71,37 +71,38 @@ find_kind() {
         ;;
     screen*) ;;
     xterm-kitty) kind=kitty ;;
-    rxvt-unicode*) kind=urxvt ;;
-    st | st-*) kind=st ;;
     xterm* | konsole* | mlterm*)
         set -- ${XTERM_VERSION:+xterm} ${VTE_VERSION:+vte} ${KONSOLE_VERSION:+konsole} ${MLTERM:+mlterm} ${KITTY_WINDOW_ID:+kitty} \
             ${ALACRITTY_WINDOW_ID:+alacritty} ${TERM_PROGRAM:+"$TERM_PROGRAM"} ${INSIDE_EMACS:+emacs}
         [ $# != 1 ] || kind=$1
         # qterminal has no variable of its own, and no number for its window
-        [ "$#${WINDOWID:-}" != 00 ] || ! is_started_by qterminal || kind=qterminal
+        [ "$#${WINDOWID:-}" != 00 ] || ! is_qterminal || kind=qterminal
         ;;
     esac
 }
 
-# Whether this program started the first process on the terminal.
-is_started_by() { # NAME
-    name=$1
+# Sets `starter` to the folder of the program that started the first process on the terminal, mostly of the terminal itself.
+find_starter() {
+    starter=''
     # shellcheck disable=SC2086 # fields behind the process's name: its state, parent, group and session
-    {
-        read -r fields <"/proc/$$/stat" && set -- ${fields##*) } && read -r fields <"/proc/$4/stat" && set -- ${fields##*) } &&
-            read -r starter <"/proc/$2/comm" && [ "$starter" = "$name" ]
-    } 2>/dev/null
+    ! {
+        read -r fields <"/proc/$$/stat" && set -- ${fields##*) } && read -r fields <"/proc/$4/stat" && set -- ${fields##*) }
+    } 2>/dev/null || starter=/proc/$2
 }
 
-# Sets the sequences for terminals that the modes do not keep from reordering. konsole's changes its profile for this window, so
-# it is on again at the end only where it was on.
+is_qterminal() {
+    find_starter
+    read -r name <"$starter/comm" && [ "$name" = qterminal ]
+}
+
+# Sets the sequences for terminals that the modes do not keep from reordering. They reorder again at the end only where they did.
 settle_reordering() {
     case $kind in
     konsole)
         reordering_off='\033]50;BidiRenderingEnabled=false\a'
         ! reorders_in_konsole || reordering_on='\033]50;BidiRenderingEnabled=true\a'
         ;;
-    mlterm) reordering_off='\033]5379;use_ctl=false\a' reordering_on='\033]5379;use_ctl=true\a' ;;
+    mlterm) reorders_not_in_mlterm || reordering_off='\033]5379;use_ctl=false\a' reordering_on='\033]5379;use_ctl=true\a' ;;
     esac
     # tmux would drop them
     [ -n "${TMUX:-}" ] || modes=$modes$reordering_off end_modes=$end_modes$reordering_on
@@ -113,8 +114,15 @@ reorders_in_konsole() {
         ! grep -qs '^BidiRenderingEnabled=false' "${XDG_DATA_HOME:-${HOME:-}/.local/share}"/konsole/*.profile /usr/share/konsole/*.profile
 }
 
-# Tells the setting for a terminal that mirrors words and takes no sequence against it.
+# Whether mlterm was set or started not to reorder.
+reorders_not_in_mlterm() {
+    find_starter
+    grep -qs '^ *use_ctl *= *false' "${HOME:-}/.mlterm/main" /etc/mlterm/main || grep -qsz '^--ctl=false$' "$starter/cmdline"
+}
+
+# Tells the setting for a terminal that mirrors words and takes no sequence against it. Over ssh its files are elsewhere.
 tell_mirroring() {
+    [ -z "${SSH_CONNECTION:-}" ] || return 0
     case $kind in
     kitty) tell_setting kitty kitty.conf 'force_ltr yes' "${KITTY_CONFIG_DIRECTORY:-${XDG_CONFIG_HOME:-${HOME:-}/.config}/kitty}"/*.conf ;;
     qterminal) tell_setting qterminal qterminal.ini 'enabledBidiSupport=false' "${XDG_CONFIG_HOME:-${HOME:-}/.config}"/qterminal.org/qterminal.ini ;;

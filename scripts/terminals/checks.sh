@@ -30,6 +30,7 @@ check_terminal() { # KIND
     *_tmux) check_in_tmux "$1" ;;
     *)
         check_rows "$1"
+        [ "$1" != xterm ] || check_inherited
         check_keys "$1"
         check_title "$1"
         ;;
@@ -40,13 +41,14 @@ check_terminal() { # KIND
 # Starts the editor, and waits for its picture.
 open_editor() { # FILE PICTURE
     give "'$top/bidi-edit' $1 2>../errors"
-    sleep 1
+    wait_for 200 is_raw
+    sleep 0.5
     take_picture "$2"
 }
 
 leave_editor() { # NAME
     press ctrl+q
-    wait_for 50 has_obeyed
+    wait_for 200 has_obeyed
     report "$1, its end" $? 'the editor goes on'
 }
 
@@ -82,6 +84,15 @@ check_rows() { # KIND
     other_picture "$1, rows in the other order" "$1-editor" "$1-wrong"
     same_picture "$1, the shell's rows afterwards" "$1-before" "$1-after"
     same_picture "$1, more of them" "$1-twice" "$1-again"
+}
+
+# xterm that konsole and mlterm seem to have started: konsole's sequence would change its font.
+check_inherited() {
+    order 'export KONSOLE_VERSION=221203 MLTERM=3.9.0'
+    open_editor text xterm-inherited
+    leave_editor 'xterm in another terminal'
+    order 'unset KONSOLE_VERSION MLTERM'
+    same_picture 'xterm in another terminal, the same rows' xterm-inherited xterm-editor
 }
 
 # Has the terminal print its screen.

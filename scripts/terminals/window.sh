@@ -36,13 +36,13 @@ close_display() {
     rm -rf -- "$room"
 }
 
-# Starts a terminal whose shell obeys `order`, and finds its window. Fails if none comes within 20 seconds.
+# Starts a terminal whose shell obeys `order`, and finds its window. Fails if none comes within a minute.
 open_terminal() { # KIND
     rm -f "$room/ready"
     "start_$1" >"$room/said" 2>&1 &
     terminal=$!
-    wait_for 200 test -e "$room/ready" || return 1
-    wait_for 50 has_window || return 1
+    wait_for 600 test -e "$room/ready" || return 1
+    wait_for 200 has_window || return 1
     xdotool mousemove 100 60 windowfocus "$window"
     sleep 0.5
 }
@@ -74,21 +74,27 @@ has_obeyed() {
 
 order() { # LINE
     give "$1"
-    wait_for 100 has_obeyed
+    wait_for 200 has_obeyed
+}
+
+# Whether a program has its terminal in raw mode.
+is_raw() {
+    stty -F "$(cat "$room/tty")" | grep -q -e -icanon
 }
 
 # ---- the window
 
-# Keeps the picture of the window under a name, once it is unchanged for three tenths of a second.
+# Keeps the picture of the window under a name, once three in a row are the same.
 take_picture() { # NAME
     import -silent -window root "$pictures/$1.png"
-    for _ in 1 2 3 4 5 6 7 8 9 10 11 12 13 14 15 16 17 18 19 20; do
+    quiet=0 tries=30
+    while [ "$quiet" -lt 2 ] && [ "$tries" -gt 0 ]; do
+        tries=$((tries - 1))
         sleep 0.3
         import -silent -window root "$pictures/next.png"
-        [ "$(different "$1" next)" != 0 ] || break
+        if [ "$(different "$1" next)" = 0 ]; then quiet=$((quiet + 1)); else quiet=0; fi
         mv "$pictures/next.png" "$pictures/$1.png"
     done
-    rm -f "$pictures/next.png"
 }
 
 # Prints the number of different pixels.
