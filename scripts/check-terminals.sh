@@ -10,7 +10,7 @@ export LC_ALL=C.UTF-8
 top=$(CDPATH='' cd -- "$(dirname "$0")/.." && pwd)
 # shellcheck source=scripts/report.sh
 . "$top/scripts/report.sh"
-for part in window kinds checks; do
+for part in window kinds variables checks; do
     # shellcheck source=/dev/null
     . "$top/scripts/terminals/$part.sh"
 done
@@ -32,7 +32,7 @@ if [ "${1:-}" = --pictures ]; then
     mkdir -p "$2" && pictures=$(CDPATH='' cd -- "$2" && pwd) || exit 1
     shift 2
 fi
-[ $# -gt 0 ] || set -- xterm urxvt st alacritty kitty kitty_as_it_is qterminal vte vte_tmux konsole konsole_tmux mlterm
+[ $# -gt 0 ] || set -- variables xterm urxvt st alacritty kitty kitty_as_it_is qterminal vte vte_tmux konsole konsole_tmux mlterm
 
 passed=0 failed=0 skipped=0
 room=$(mktemp -d) || exit 1

@@ -15,6 +15,10 @@ write_texts() {
 }
 
 check_terminal() { # KIND
+    if [ "$1" = variables ]; then
+        check_variables
+        return
+    fi
     if ! command -v "$(program_of "$1")" >/dev/null; then
         skip "$1" "there is no $(program_of "$1")"
         return
@@ -30,7 +34,6 @@ check_terminal() { # KIND
     *_tmux) check_in_tmux "$1" ;;
     *)
         check_rows "$1"
-        [ "$1" != xterm ] || check_inherited
         check_keys "$1"
         check_title "$1"
         ;;
@@ -84,15 +87,6 @@ check_rows() { # KIND
     other_picture "$1, rows in the other order" "$1-editor" "$1-wrong"
     same_picture "$1, the shell's rows afterwards" "$1-before" "$1-after"
     same_picture "$1, more of them" "$1-twice" "$1-again"
-}
-
-# xterm that konsole and mlterm seem to have started: konsole's sequence would change its font.
-check_inherited() {
-    order 'export KONSOLE_VERSION=221203 MLTERM=3.9.0'
-    open_editor text xterm-inherited
-    leave_editor 'xterm in another terminal'
-    order 'unset KONSOLE_VERSION MLTERM'
-    same_picture 'xterm in another terminal, the same rows' xterm-inherited xterm-editor
 }
 
 # Has the terminal print its screen.
