@@ -3,6 +3,7 @@
 # The terminal of a session: its modes, the processes on it, and its restoration.
 
 folder='' program='' keys='' attendant='' watcher='' outer='' is_running='' is_shown='' has_title='' end_signal=''
+kind='' reordering_off='' reordering_on=''
 unkept_note='(unsaved text is not kept)'
 # Number of seconds that a terminal may block at the end. A slow line has much to take, and a signal should end soon.
 patience=10
@@ -21,6 +22,7 @@ keeps_titles() {
     case ${TMUX:+tmux}${TERM:-} in
     tmux* | alacritty* | foot* | mlterm* | vte* | xterm-kitty) return 0 ;;
     esac
+    [ "$kind" != terminology ] || return 0
     [ -n "${XTERM_VERSION:-}${VTE_VERSION:-}" ]
 }
 
@@ -28,18 +30,109 @@ show_title() { # NOTE
     printf '\033]2;%s - ^S save ^Q quit%s\a' "$(shown "${file##*/}")" "${1:+ $1}"
 }
 
-# Finds the terminal that tmux runs in, if it is writable, since it may reorder tmux's output. A client in control mode is a
-# program that reads tmux's protocol, so it does not count.
+# Finds the terminal that tmux runs in, if it is writable, since it may reorder tmux's output, and its answer to tmux's question
+# for its name. A client in control mode is a program that reads tmux's protocol, so it does not count.
 find_outer() {
+    answer=''
     [ -n "${TMUX:-}" ] || return 0
-    outer=$(tmux display-message -p '#{?client_control_mode,,#{client_tty}}') || outer=''
+    outer=$(tmux display-message -p '#{?client_control_mode,,#{client_tty} #{client_termtype}}') || outer=''
+    case $outer in *' '*) answer=${outer#* } outer=${outer%% *} ;; esac
     [ -c "$outer" ] && [ -w "$outer" ] || outer=''
 }
 
-# Writes to that terminal for at most a second, since it may be blocked. Other signals are ignored at the end.
-tell_outer() { # SEQUENCE
-    # shellcheck disable=SC2016
-    [ -z "$outer" ] || timeout -s KILL 1 sh -c 'printf "%b" "$0" >"$1"' "$1" "$outer"
+# Tells that terminal to keep the order of what is sent (l) or to reorder again (h), for at most a second, since it may be
+# blocked. VTE keeps this mode by row, so it is told in each row, and its cursor is restored. Other signals are ignored at the end.
+# shellcheck disable=SC2016
+tell_outer() { # l|h MORE
+    [ -n "$outer" ] || return 0
+    if [ "$kind" = vte ]; then
+        timeout -s KILL 1 sh -c '
+            rows=$(tmux display-message -p -c "$0" "#{client_height}")
+            printf "%b" "\033[8$1\00337$(seq -s "" -f "\033[%.0f;1H\033[8$1" "$rows")\00338" >"$0"' "$outer" "$1"
+    else
+        timeout -s KILL 1 sh -c 'printf "%b" "$1" >"$0"' "$outer" "\033[8$1$2"
+    fi
+}
+
+# ---- terminals that need more than the modes
+
+# Sets `kind` to the terminal that draws the rows: by its answer to tmux, by TERM, or by the variable that it sets. A terminal
+# that another one starts inherits the variables, so two of them tell nothing, nor does any that GNU screen may hide.
+find_kind() {
+    kind=''
+    case ${TMUX:+tmux}${STY:+screen}${TERM:-} in
+    tmux*)
+        case $answer in
+        VTE*) kind=vte ;;
+        Konsole*) kind=konsole ;;
+        kitty*) kind=kitty ;;
+        '') kind=${VTE_VERSION:+vte} ;;
+        esac
+        ;;
+    screen*) ;;
+    xterm-kitty) kind=kitty ;;
+    xterm* | konsole* | mlterm*)
+        set -- ${XTERM_VERSION:+xterm} ${VTE_VERSION:+vte} ${KONSOLE_VERSION:+konsole} ${MLTERM:+mlterm} ${KITTY_WINDOW_ID:+kitty} \
+            ${ALACRITTY_WINDOW_ID:+alacritty} ${TERM_PROGRAM:+"$TERM_PROGRAM"} ${INSIDE_EMACS:+emacs}
+        [ $# != 1 ] || kind=$1
+        # qterminal has no variable of its own, and no number for its window
+        [ "$#${WINDOWID:-}" != 00 ] || ! is_qterminal || kind=qterminal
+        ;;
+    esac
+}
+
+# Sets `starter` to the folder of the program that started the first process on the terminal, mostly of the terminal itself.
+find_starter() {
+    starter=''
+    # shellcheck disable=SC2086 # fields behind the process's name: its state, parent, group and session
+    ! {
+        read -r fields <"/proc/$$/stat" && set -- ${fields##*) } && read -r fields <"/proc/$4/stat" && set -- ${fields##*) }
+    } 2>/dev/null || starter=/proc/$2
+}
+
+is_qterminal() {
+    find_starter
+    read -r name <"$starter/comm" && [ "$name" = qterminal ]
+}
+
+# Sets the sequences for terminals that the modes do not keep from reordering. They reorder again at the end only where they did.
+settle_reordering() {
+    case $kind in
+    konsole)
+        reordering_off='\033]50;BidiRenderingEnabled=false\a'
+        ! reorders_in_konsole || reordering_on='\033]50;BidiRenderingEnabled=true\a'
+        ;;
+    mlterm) reorders_not_in_mlterm || reordering_off='\033]5379;use_ctl=false\a' reordering_on='\033]5379;use_ctl=true\a' ;;
+    esac
+    # tmux would drop them
+    [ -n "${TMUX:-}" ] || modes=$modes$reordering_off end_modes=$end_modes$reordering_on
+}
+
+# Whether konsole reorders by itself: none of its profiles says otherwise, if it runs on this machine.
+reorders_in_konsole() {
+    [ -z "${SSH_CONNECTION:-}" ] &&
+        ! grep -qs '^BidiRenderingEnabled=false' "${XDG_DATA_HOME:-${HOME:-}/.local/share}"/konsole/*.profile /usr/share/konsole/*.profile
+}
+
+# Whether mlterm was set or started not to reorder.
+reorders_not_in_mlterm() {
+    find_starter
+    grep -qs '^ *use_ctl *= *false' "${HOME:-}/.mlterm/main" /etc/mlterm/main || grep -qsz '^--ctl=false$' "$starter/cmdline"
+}
+
+# Tells the setting for a terminal that mirrors words and takes no sequence against it. Over ssh its files are elsewhere.
+tell_mirroring() {
+    [ -z "${SSH_CONNECTION:-}" ] || return 0
+    case $kind in
+    kitty) tell_setting kitty kitty.conf 'force_ltr yes' "${KITTY_CONFIG_DIRECTORY:-${XDG_CONFIG_HOME:-${HOME:-}/.config}/kitty}"/*.conf ;;
+    qterminal) tell_setting qterminal qterminal.ini 'enabledBidiSupport=false' "${XDG_CONFIG_HOME:-${HOME:-}/.config}"/qterminal.org/qterminal.ini ;;
+    esac
+}
+
+tell_setting() { # TERMINAL NAME LINE FILE..
+    told="bidi-edit: $1 mirrors right-to-left words: the line '$3' in its $2 ends that" line_wanted=$3
+    shift 3
+    grep -qs "^ *$line_wanted *$" "$@" || printf '%s\n' "$told" >&7
 }
 
 # Sets raw mode, the alternate screen and the painter's modes. xterm's 1049 saves the cursor, 1047 keeps the saved one.
@@ -53,7 +146,10 @@ set_terminal() { # SCREEN
 show() {
     is_shown=1
     find_outer
-    tell_outer '\033[8l'
+    find_kind
+    settle_reordering
+    tell_mirroring
+    tell_outer l "$reordering_off"
     printf '\033[?1s'
     set_terminal 1049
     if keeps_titles; then
@@ -83,7 +179,7 @@ hide() {
     else
         within_patience 'printf "%b" "$0"; exec stty "$1"' "$ending" "$settings"
     fi
-    tell_outer '\033[8h'
+    tell_outer h "$reordering_on"
 }
 
 # ---- the end

@@ -1,0 +1,49 @@
+#!/bin/sh
+# Runs the editor in terminals under Xvfb, types by xdotool and compares pictures: in xterm, urxvt, st, alacritty, kitty,
+# qterminal, VTE (xfce4-terminal), konsole and mlterm, and in tmux within VTE and konsole. It checks that the editor's picture is that of `cat` of the same rows,
+# that the shell's rows are the same before and after, and what keys, titles and notes do. It is not part of `rt ci`. A missing
+# terminal is skipped. `--pictures FOLDER` keeps the pictures; names after it select terminals. The last line has the totals. Exit
+# status 1: a check failed; 77: Xvfb, xdotool, ImageMagick or the built programs are missing.
+set -u
+
+export LC_ALL=C.UTF-8
+top=$(CDPATH='' cd -- "$(dirname "$0")/.." && pwd)
+# shellcheck source=scripts/report.sh
+. "$top/scripts/report.sh"
+for part in window kinds variables checks; do
+    # shellcheck source=/dev/null
+    . "$top/scripts/terminals/$part.sh"
+done
+
+lacks() { # CAUSE
+    echo "skipped: $1"
+    exit 77
+}
+
+for program in Xvfb xdotool import compare; do
+    command -v "$program" >/dev/null || lacks "there is no $program"
+done
+for program in bidi_edit bidi_input; do
+    [ -x "$top/crates/$program/out/$program" ] || lacks "$program is not built (./bidi-edit FILE builds it)"
+done
+
+pictures=''
+if [ "${1:-}" = --pictures ]; then
+    mkdir -p "$2" && pictures=$(CDPATH='' cd -- "$2" && pwd) || exit 1
+    shift 2
+fi
+[ $# -gt 0 ] || set -- variables xterm urxvt st alacritty kitty kitty_as_it_is qterminal vte vte_tmux konsole konsole_tmux mlterm
+
+passed=0 failed=0 skipped=0
+room=$(mktemp -d) || exit 1
+: "${pictures:=$room}"
+# shellcheck disable=SC2034
+server='' bus='' terminal=''
+trap close_display EXIT
+trap 'exit 1' HUP INT TERM
+open_display
+write_texts
+for kind in "$@"; do check_terminal "$kind"; done
+echo "$passed passed, $failed failed, $skipped skipped"
+[ "$failed" = 0 ] || exit 1
+[ "$passed" -gt 0 ] || exit 77

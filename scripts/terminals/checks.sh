@@ -1,0 +1,156 @@
+# shellcheck shell=sh
+# shellcheck disable=SC2154 # variables shared with other parts
+# The checks in one terminal.
+
+skip() { # NAME WHY
+    skipped=$((skipped + 1))
+    echo "skipped $1: $2"
+}
+
+# Texts, with rows as they are to be seen. A terminal that reorders by itself shows `text` as these; another one shows `rows` so.
+write_texts() {
+    printf 'abc שלום def\none עברית two (שתיים) 12\n' >"$room/files/text"
+    printf 'abc םולש def\none תירבע two (םייתש) 12\n' >"$room/files/rows"
+    printf 'abcd\n' >"$room/opened"
+}
+
+check_terminal() { # KIND
+    if [ "$1" = variables ]; then
+        check_variables
+        return
+    fi
+    if ! command -v "$(program_of "$1")" >/dev/null; then
+        skip "$1" "there is no $(program_of "$1")"
+        return
+    fi
+    if ! open_terminal "$1"; then
+        report "$1, its start" 1 "no window with a shell: $(tail -n 1 "$room/said")"
+        close_terminal
+        return
+    fi
+    case $1 in
+    kitty_as_it_is) check_note "$1" 'force_ltr yes' .config/kitty/kitty.conf ;;
+    qterminal) check_note "$1" enabledBidiSupport=false .config/qterminal.org/qterminal.ini ;;
+    *_tmux) check_in_tmux "$1" ;;
+    *)
+        check_rows "$1"
+        check_keys "$1"
+        check_title "$1"
+        ;;
+    esac
+    close_terminal
+}
+
+# Starts the editor, and waits for its picture.
+open_editor() { # FILE PICTURE
+    give "'$top/bidi-edit' $1 2>../errors"
+    wait_for 200 is_raw
+    sleep 0.5
+    take_picture "$2"
+}
+
+leave_editor() { # NAME
+    press ctrl+q
+    wait_for 200 has_obeyed
+    report "$1, its end" $? 'the editor goes on'
+}
+
+same_picture() { # NAME PICTURE PICTURE
+    same "$1" "$(different "$2" "$3") different pixels" '0 different pixels'
+}
+
+other_picture() { # NAME PICTURE PICTURE
+    [ "$(different "$2" "$3")" != 0 ]
+    report "$1" $? 'no pixel is different'
+}
+
+# Compares the editor's picture with that of `cat`: of the text where the terminal reorders, else of the rows as they are to be
+# seen. The other one of these shows that the picture tells them apart.
+check_rows() { # KIND
+    if reorders "$1"; then right=text wrong=rows; else right=rows wrong=text; fi
+    order 'clear; cat text text'
+    take_picture "$1-twice"
+    order 'clear; cat text'
+    take_picture "$1-before"
+    open_editor text "$1-editor"
+    ! prints_screen "$1" || check_text "$1"
+    leave_editor "$1, rows"
+    take_picture "$1-after"
+    order 'cat text'
+    take_picture "$1-again"
+    last="printf '\033[10;1H- 1:1\033[1;1H'"
+    order "clear; cat $right; $last"
+    take_picture "$1-right"
+    order "clear; cat $wrong; $last"
+    take_picture "$1-wrong"
+    same_picture "$1, the editor's rows" "$1-editor" "$1-right"
+    other_picture "$1, rows in the other order" "$1-editor" "$1-wrong"
+    same_picture "$1, the shell's rows afterwards" "$1-before" "$1-after"
+    same_picture "$1, more of them" "$1-twice" "$1-again"
+}
+
+# Has the terminal print its screen.
+check_text() { # KIND
+    rm -f "$room/read"
+    printf '\033[i' >"$(cat "$room/tty")"
+    wait_for 50 test -s "$room/read"
+    same "$1, the screen's text" "$(sed -e 's/[[:space:]]*$//' -e 2q "$room/read")" "$(cat "$room/files/rows")"
+}
+
+check_keys() { # KIND
+    wanted=bXcde
+    cp "$room/opened" "$room/files/typed"
+    open_editor typed "$1-keys"
+    press End e Home Delete Right X
+    if sends_shift "$1"; then
+        wanted=TbSXcdUeV
+        press shift+Left S shift+Home T shift+End V shift+Left shift+Left U
+    fi
+    press ctrl+s
+    sleep 0.5
+    leave_editor "$1, keys"
+    same "$1, keys" "$(cat "$room/files/typed")" "$wanted"
+}
+
+check_title() { # KIND
+    order "printf '\033]2;before\007'"
+    wait_for 20 has_title '*before*' || report "$1, a title of before" 1 "$(title)"
+    open_editor text "$1-title"
+    if keeps_title "$1"; then
+        wait_for 20 has_title '*^S save ^Q quit*'
+        report "$1, title" $? "$(title)"
+    else
+        has_title '*before*'
+        report "$1, title" $? "$(title)"
+    fi
+    leave_editor "$1, title"
+    wait_for 20 has_title '*before*'
+    report "$1, title at the end" $? "$(title)"
+}
+
+# A terminal mirrors words unless it is set not to, and the launcher tells the setting.
+check_note() { # KIND LINE FILE
+    open_editor text "$1-editor"
+    leave_editor "$1"
+    case $(cat "$room/errors") in
+    *"$2"*) report "$1, the note" 0 '' ;;
+    *) report "$1, the note" 1 "$(cat "$room/errors")" ;;
+    esac
+    mkdir -p "$HOME/${3%/*}"
+    echo "$2" >>"$HOME/$3"
+    open_editor text "$1-set"
+    leave_editor "$1, set"
+    same "$1, set, no note" "$(cat "$room/errors")" ''
+}
+
+check_in_tmux() { # KIND
+    if ! command -v tmux >/dev/null; then
+        skip "$1" 'there is no tmux'
+        return
+    fi
+    give "tmux -u -L bx$$ -f /dev/null new-session 'sh $room/shell' ';' set -g status off"
+    wait_for 100 has_obeyed
+    check_rows "$1"
+    give 'tmux kill-server'
+    sleep 0.5
+}

@@ -1,0 +1,73 @@
+# shellcheck shell=sh
+# shellcheck disable=SC2154 # variables shared with other parts
+# How each terminal is started, with 60 columns and 10 rows in one font, and what it is known for.
+
+start_xterm() {
+    exec xterm -fa FreeMono -fs 12 -geometry 60x10+0+0 -xrm "XTerm*printerCommand: cat >'$room/read'" -xrm 'XTerm*printAttributes: 0' \
+        -e sh "$room/shell"
+}
+start_urxvt() { exec urxvt -fn xft:FreeMono:size=12 -geometry 60x10+0+0 --print-pipe "cat >'$room/read'" -e sh "$room/shell"; }
+start_st() { exec st -f FreeMono:size=12 -g 60x10+0+0 -e sh "$room/shell"; }
+start_mlterm() {
+    mkdir -p "$HOME/.mlterm"
+    printf 'DEFAULT=FreeMono-iso10646-1\nISO10646_UCS4_1=FreeMono-iso10646-1\n' >"$HOME/.mlterm/aafont"
+    exec mlterm --type=xft -w 16 -g 60x10 -e sh "$room/shell"
+}
+start_vte() { exec xfce4-terminal --disable-server --font='FreeMono 12' --geometry=60x10+0+0 --hide-menubar --hide-toolbar --hide-scrollbar -x sh "$room/shell"; }
+start_konsole() {
+    exec konsole --nofork --hide-menubar --hide-tabbar -p Font='FreeMono,12' -p TerminalColumns=60 -p TerminalRows=10 -p ScrollBarPosition=2 \
+        -p LocalTabTitleFormat=%w -e sh "$room/shell"
+}
+start_alacritty() {
+    exec alacritty -o font.normal.family=FreeMono -o font.size=12 -o window.dimensions.columns=60 -o window.dimensions.lines=10 -e sh "$room/shell"
+}
+# it has no option for its size
+start_qterminal() { exec qterminal -e "sh $room/shell"; }
+start_kitty() {
+    mkdir -p "$HOME/.config/kitty"
+    printf '%s\n' 'force_ltr yes' >"$HOME/.config/kitty/kitty.conf"
+    exec_kitty
+}
+start_kitty_as_it_is() {
+    rm -rf "$HOME/.config/kitty"
+    exec_kitty
+}
+exec_kitty() {
+    exec kitty -o font_family=FreeMono -o font_size=12 -o remember_window_size=no -o initial_window_width=60c \
+        -o initial_window_height=10c -o cursor_blink_interval=0 -o update_check_interval=0 sh "$room/shell"
+}
+start_vte_tmux() { start_vte; }
+start_konsole_tmux() { start_konsole; }
+
+program_of() { # KIND
+    case $1 in
+    vte*) echo xfce4-terminal ;;
+    konsole*) echo konsole ;;
+    kitty*) echo kitty ;;
+    *) echo "$1" ;;
+    esac
+}
+
+# Whether the terminal reorders by itself.
+reorders() { # KIND
+    case $1 in vte* | konsole* | mlterm) return 0 ;; esac
+    return 1
+}
+
+# Whether it prints its screen as text, to the file `read`.
+prints_screen() { # KIND
+    case $1 in xterm | urxvt) return 0 ;; esac
+    return 1
+}
+
+# Whether it sends keys with Shift, and takes none for itself.
+sends_shift() { # KIND
+    case $1 in xterm | urxvt) return 0 ;; esac
+    return 1
+}
+
+# Whether it gives an old title back.
+keeps_title() { # KIND
+    case $1 in xterm | vte | kitty | alacritty | mlterm) return 0 ;; esac
+    return 1
+}

@@ -1,0 +1,120 @@
+# shellcheck shell=sh
+# shellcheck disable=SC2154 # variables shared with other parts
+# A display without a screen, and the one terminal on it: its shell obeys a pipe, and its window has pictures, keys and a name.
+
+# Opens a free display with a bus of its own, and hides the terminal around the check.
+open_display() {
+    unset TMUX STY XTERM_VERSION VTE_VERSION KONSOLE_VERSION MLTERM TERMINOLOGY KITTY_WINDOW_ID ALACRITTY_WINDOW_ID TERM_PROGRAM
+    unset INSIDE_EMACS WINDOWID COLORTERM SSH_CONNECTION WAYLAND_DISPLAY XDG_CONFIG_HOME XDG_DATA_HOME
+    mkdir -m 700 "$room/runtime" "$room/home" "$room/files"
+    mkfifo "$room/display" "$room/orders"
+    export HOME="$room/home" XDG_RUNTIME_DIR="$room/runtime" XDG_STATE_HOME="$room/state" LIBGL_ALWAYS_SOFTWARE=1
+    Xvfb -displayfd 3 -screen 0 800x400x24 -nolisten tcp 3>"$room/display" >/dev/null 2>&1 &
+    server=$!
+    read -r number <"$room/display" || lacks 'Xvfb does not start'
+    export DISPLAY=":$number"
+    if command -v dbus-daemon >/dev/null; then
+        bus=$(dbus-daemon --session --fork --print-pid=1 --print-address=3 3>"$room/address" 2>/dev/null)
+        DBUS_SESSION_BUS_ADDRESS=$(cat "$room/address")
+        export DBUS_SESSION_BUS_ADDRESS
+    fi
+    cat >"$room/shell" <<'TEXT'
+cd "${0%/*}/files" || exit
+exec 9<>"${0%/*}/orders"
+tty >"${0%/*}/tty"
+: >"${0%/*}/ready"
+while IFS= read -r order <&9; do
+    eval "$order" 9<&-
+    : >"${0%/*}/ready"
+done
+TEXT
+}
+
+close_display() {
+    close_terminal
+    for process in $bus $server; do kill "$process" 2>/dev/null; done
+    rm -rf -- "$room"
+}
+
+# Starts a terminal whose shell obeys `order`, and finds its window. Fails if none comes within a minute.
+open_terminal() { # KIND
+    rm -f "$room/ready"
+    "start_$1" >"$room/said" 2>&1 &
+    terminal=$!
+    wait_for 600 test -e "$room/ready" || return 1
+    wait_for 200 has_window || return 1
+    xdotool mousemove 100 60 windowfocus "$window"
+    sleep 0.5
+}
+
+has_window() {
+    window=$(xdotool search --onlyvisible --maxdepth 1 --class . 2>/dev/null | tail -n 1)
+    [ -n "$window" ]
+}
+
+close_terminal() {
+    [ -n "$terminal" ] || return 0
+    kill "$terminal" 2>/dev/null
+    wait "$terminal" 2>/dev/null
+    terminal=''
+}
+
+# ---- the shell
+
+# Gives the shell a line without waiting for its end.
+give() { # LINE
+    rm -f "$room/ready"
+    # shellcheck disable=SC2016
+    timeout 10 sh -c 'printf "%s\n" "$0" >"$1"' "$1" "$room/orders"
+}
+
+has_obeyed() {
+    [ -e "$room/ready" ]
+}
+
+order() { # LINE
+    give "$1"
+    wait_for 200 has_obeyed
+}
+
+# Whether a program has its terminal in raw mode.
+is_raw() {
+    stty -F "$(cat "$room/tty")" | grep -q -e -icanon
+}
+
+# ---- the window
+
+# Keeps the picture of the window under a name, once three in a row are the same.
+take_picture() { # NAME
+    import -silent -window root "$pictures/$1.png"
+    quiet=0 tries=30
+    while [ "$quiet" -lt 2 ] && [ "$tries" -gt 0 ]; do
+        tries=$((tries - 1))
+        sleep 0.3
+        import -silent -window root "$pictures/next.png"
+        if [ "$(different "$1" next)" = 0 ]; then quiet=$((quiet + 1)); else quiet=0; fi
+        mv "$pictures/next.png" "$pictures/$1.png"
+    done
+}
+
+# Prints the number of different pixels.
+different() { # PICTURE PICTURE
+    compare -metric AE "$pictures/$1.png" "$pictures/$2.png" null: 2>&1
+}
+
+press() { # KEY..
+    for key in "$@"; do
+        xdotool key --clearmodifiers "$key"
+        sleep 0.05
+    done
+}
+
+title() {
+    xdotool getwindowname "$window"
+}
+
+has_title() { # PATTERN
+    # shellcheck disable=SC2254
+    case $(title) in $1) return 0 ;; esac
+    return 1
+}
