@@ -54,13 +54,6 @@ tell_when() { # SESSION
 
 # ---- replays
 
-# Replays a session's keys and stores the text as TO, within `limit` seconds if that is set.
-run_replay() { # SESSION TO
-    read_begin "$1"
-    ${limit:+timeout -s KILL "$limit"} "$editor" --rows "$rows" --cols "$cols" --direction "$direction" ${line:+--line "$line"} --classes "$classes" \
-        --brackets "$brackets" --mirroring "$mirroring" --text "$1/text" --replay "$1/journal" --to "$2" "$file"
-}
-
 # Replays a session into a new private folder `replay`. Sets `held` to FILE's current content: same (the session's text), known
 # (the opened text or a saved one) or foreign. Sets `count` to the number of keys typed.
 replay_session() { # SESSION

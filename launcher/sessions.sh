@@ -185,6 +185,12 @@ drop_session() { # SESSION
     (lock_session "$1" && rm -rf -- "$1")
 }
 
+# Whether there are any sessions, FILE's or others.
+has_sessions() {
+    for session in "${sessions:-/none}"/[0-9]*; do [ ! -d "$session" ] || return 0; done
+    return 1
+}
+
 # ---- a session begins
 
 copy_text() { # TO
@@ -302,6 +308,13 @@ read_begin() { # SESSION
 }
 
 # ---- a session ends
+
+# Replays a session's keys and stores the text as TO, within `limit` seconds if that is set.
+run_replay() { # SESSION TO
+    read_begin "$1"
+    ${limit:+timeout -s KILL "$limit"} "$editor" --rows "$rows" --cols "$cols" --direction "$direction" ${line:+--line "$line"} --classes "$classes" \
+        --brackets "$brackets" --mirroring "$mirroring" --text "$1/text" --replay "$1/journal" --to "$2" "$file"
+}
 
 # Stores the text at the session's end, for a recovery by another version.
 leave_snapshot() {

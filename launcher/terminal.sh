@@ -277,6 +277,7 @@ edit() {
     measure
     size="$rows $cols"
     begin_session
+    look_at_line_ends
     note_life
     show
     start_processes
