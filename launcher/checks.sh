@@ -164,6 +164,7 @@ check_file() {
     find_place
     check_folder
     find_path
+    find_sessions_folder
     find_in_place
     if [ -z "$is_forced" ]; then
         check_length

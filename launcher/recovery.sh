@@ -351,7 +351,7 @@ recover_elsewhere() { # OTHER
 # Prints the folders that may have sessions: the state folder, and the ones in temporary file systems.
 tell_folders() {
     find_state_folder
-    [ -z "$sessions" ] || printf '%s\n' "$sessions"
+    [ -z "$state_folder" ] || printf '%s\n' "$state_folder"
     {
         printf '%s\n' /tmp /var/tmp "${TMPDIR:-/tmp}" "${XDG_RUNTIME_DIR:-/dev/shm}"
         awk '$3 == "tmpfs" || $3 == "ramfs" { print $2 }' /proc/mounts 2>/dev/null
