@@ -112,7 +112,7 @@ check_text() {
         check_before_build
         return
     }
-    told=$("$editor" --check --classes "$classes" --brackets "$brackets" --mirroring "$mirroring" "$file" 2>&1 </dev/null) && return
+    told=$(exec "$editor" --check --classes "$classes" --brackets "$brackets" --mirroring "$mirroring" "$file" 2>&1 </dev/null) && return
     case $told in
     'bidi_edit: not UTF-8 in line '*) refuse_bytes "${told##* }" ;;
     'bidi_edit: file too long') refuse_size ;;

@@ -42,6 +42,7 @@ find_listed() { # MODES
 # Saves into FILE need a session, whose folder holds the whole text while FILE is written. Runs before the screen changes.
 settle_in_place() {
     [ -n "$in_place" ] || return 0
+    set_cooked
     if [ -n "$kept" ] && { printf '%s' "$path" >"$kept/place"; } 2>/dev/null; then
         printf 'bidi-edit: %s %s: saves are written into the file itself\n' "$(shown "$file")" "$in_place" >&7
         return

@@ -45,7 +45,8 @@ find_path() {
 # shellcheck disable=SC2016
 look_at_mounts() {
     find_there "${path%/*}"
-    told=$(LC_ALL=C awk '
+    # bash forks once less with exec
+    told=$(LC_ALL=C exec awk '
         function coded(name,    i, letter, at, result) {
             for (i = 1; i <= length(name); i++) {
                 letter = substr(name, i, 1)
@@ -107,7 +108,7 @@ look_at_modes() { # [FOLDER ABOVE]
     fi
     looked=$place
     [ -e "$place" ] || looked=$place_folder/.
-    told=$(LC_ALL=C ls -ldnqU --time-style=+%Y%m%d%H%M%S -- "$looked" "$place_folder/." /proc/self/. "$@" 2>/dev/null)
+    told=$(LC_ALL=C exec ls -ldnqU --time-style=+%Y%m%d%H%M%S -- "$looked" "$place_folder/." /proc/self/. "$@" 2>/dev/null)
     set -f
     IFS='
 '

@@ -178,7 +178,7 @@ sweep_sessions() {
 # Makes a session's folder, named by the time, and sets `new`.
 make_folder_of_session() {
     case $now in *[!0-9]* | '') now=$(date +%Y%m%d%H%M%S) ;; esac
-    new=$(mktemp -d "$sessions/$now.XXXXXX" 2>/dev/null)
+    new=$(exec mktemp -d "$sessions/$now.XXXXXX" 2>/dev/null)
 }
 
 # Notes a new session's path last, so that nobody finds the session before it is locked.
@@ -219,6 +219,7 @@ forget_session() {
 # Reports that unsaved text is not kept, before the screen changes. Pauses for a second unless -n asked for that.
 tell_unkept() {
     [ -n "$unkept" ] || return 0
+    set_cooked
     printf 'bidi-edit: unsaved text is not kept, since %s\n' "$unkept" >&7
     [ -n "$is_unkept" ] || { printf '\a' >&7 && sleep 1; }
 }
