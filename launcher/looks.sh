@@ -17,6 +17,7 @@ find_there() { # FOLDER
 }
 
 # Prints the real path of a folder and two slashes, even if the folder is gone. The root has no slash of its own.
+# shellcheck disable=SC3013 # dash and bash have -ef
 print_real() { # FOLDER
     if { CDPATH='' cd -P -- "$1" && [ "$PWD" -ef . ]; } 2>/dev/null; then
         printf '%s//' "${PWD%/}"
