@@ -122,6 +122,9 @@ check_checkers() {
         PATH=$folder/no-iconv:$PATH refused 'opening, by the program' "1 bidi-edit: bytes is not UTF-8 in line 3: $windows" bytes
         printf '\377\376a\000' >bytes
         PATH=$folder/no-iconv:$PATH refused 'opening, UTF-16 by the program' '1 bidi-edit: bytes is UTF-16 and not UTF-8: iconv -f UTF-16 -t UTF-8 may help' bytes
+        # accepted by iconv, but not by Unicode
+        printf 'a\n\364\220\200\200' >bytes
+        PATH=$folder/no-iconv:$PATH refused 'opening, beyond Unicode' "1 bidi-edit: bytes is not UTF-8 in line 2: $windows" bytes
         awk 'BEGIN { for (n = 0; n < 16000000; n += 17) print "\327\251\327\234\327\225\327\235 \327\234\327\232 ab" }' | head -c 16000000 >bytes
         PATH=$folder/no-iconv:$PATH refused 'opening, 16 MB of Hebrew' "$no_terminal" bytes
         same 'opening, without iconv' "$(cat "$folder/iconv-called" 2>/dev/null)" ''
