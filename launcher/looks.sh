@@ -3,7 +3,7 @@
 # Facts about FILE and the folder of sessions: their real paths, their mounts, and their modes. Each takes one process, since
 # processes are most of the cost of a start.
 
-place='' place_folder=. place_name='' mode_of_file='' mode_of_folder='' links='' size_of_file='' of_state='' real_state='' now=''
+place='' place_folder=/ place_name='' mode_of_file='' mode_of_folder='' links='' size_of_file='' of_state='' real_state='' now=''
 
 # Sets `at` to the nearest existing folder above FOLDER. A new folder will be on the same file system.
 find_there() { # FOLDER
@@ -107,29 +107,39 @@ look_at_modes() { # [FOLDER ABOVE]
         done
         set -- "$@" /
     fi
-    looked=$place
-    [ -e "$place" ] || looked=$place_folder/.
-    told=$(LC_ALL=C exec ls -ldnqU --time-style=+%Y%m%d%H%M%S -- "$looked" "$place_folder/." /proc/self/. "$@" 2>/dev/null)
+    # of a session to recover the folder may be gone
+    looked=$place looked_folder=$place_folder/.
+    [ -d "$looked_folder" ] || looked_folder=/.
+    [ -e "$place" ] || looked=$looked_folder
+    count=$(($# + 3))
+    told=$(LC_ALL=C exec ls -ldnqU --time-style=+%Y%m%d%H%M%S -- "$looked" "$looked_folder" /proc/self/. "$@" 2>/dev/null)
     set -f
     IFS='
 '
     set -- $told
     unset IFS
-    take_look ${1:-} - - - - - -
-    mode_of_file=$mode links=$link_count size_of_file=$size
-    take_look ${2:-} - - - - - -
-    mode_of_folder=$mode
-    take_look ${3:-} - - - - - -
-    now=$time
-    [ -e "$place" ] || mode_of_file=''
-    [ $# -lt 3 ] || shift 3
-    user=''
-    for look; do
-        take_look $look
-        is_closed "$owner" "$mode" || break
-        go_up
-    done
+    # what went meanwhile is not looked at
+    if [ $# = $count ]; then take_looks "$@"; fi
     set +f
+}
+
+# shellcheck disable=SC2086 # columns are split
+take_looks() { # LINE..
+    take_look $1
+    mode_of_file=$mode links=$link_count size_of_file=$size
+    [ -e "$place" ] || mode_of_file=''
+    take_look $2
+    mode_of_folder=$mode
+    take_look $3
+    now=$time
+    shift 3
+    user=''
+    while [ -n "$distrusted" ]; do
+        take_look $1
+        is_closed "$owner" "$mode" || return 0
+        go_up
+        shift
+    done
 }
 
 # Moves `distrusted` from a folder to the one above it; empty above the root.
