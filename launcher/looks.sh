@@ -30,7 +30,7 @@ print_real() { # FOLDER
 # Sets `path` to the absolute path that saves go to, and `real_state` to the real path of the nearest existing folder above that
 # of the sessions, `of_state`. No real path has two slashes in a row.
 find_path() {
-    mode_of_folder=''
+    mode_of_file='' mode_of_folder=''
     find_state_folder
     find_there "$state_folder"
     of_state=$at
@@ -89,7 +89,7 @@ is_memory() { # TYPE
 
 # Takes the columns of a line of `ls`.
 take_look() { # MODE LINKS OWNER GROUP SIZE TIME NAME..
-    mode=$1 link_count=$2 owner=$3 size=$5 time=$6
+    mode=$1 link_count=$2 owner=$3 byte_count=$5 time=$6
 }
 
 # Sets FILE's `mode_of_file` (empty if there is no FILE), `links` and `size_of_file`, `mode_of_folder`, and the present time
@@ -111,7 +111,7 @@ look_at_modes() { # [FOLDER ABOVE]
     looked=$place looked_folder=$place_folder/.
     [ -d "$looked_folder" ] || looked_folder=/.
     [ -e "$place" ] || looked=$looked_folder
-    count=$(($# + 3))
+    lines_wanted=$(($# + 3))
     told=$(LC_ALL=C exec ls -ldnqU --time-style=+%Y%m%d%H%M%S -- "$looked" "$looked_folder" /proc/self/. "$@" 2>/dev/null)
     set -f
     IFS='
@@ -119,14 +119,14 @@ look_at_modes() { # [FOLDER ABOVE]
     set -- $told
     unset IFS
     # what went meanwhile is not looked at
-    if [ $# = $count ]; then take_looks "$@"; fi
+    if [ $# = $lines_wanted ]; then take_looks "$@"; fi
     set +f
 }
 
 # shellcheck disable=SC2086 # columns are split
 take_looks() { # LINE..
     take_look $1
-    mode_of_file=$mode links=$link_count size_of_file=$size
+    mode_of_file=$mode links=$link_count size_of_file=$byte_count
     [ -e "$place" ] || mode_of_file=''
     take_look $2
     mode_of_folder=$mode
