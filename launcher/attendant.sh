@@ -12,6 +12,16 @@ send_size() {
     { printf '\033[8;%d;%dt' "$rows" "$cols" >&5; } 6<>"$folder/keys" 5>"$folder/keys" 6<&-
 }
 
+# Has the window's size sent by a process of its own, which starts at the first change.
+tell_size() {
+    is_told=1
+    if [ -z "$teller" ]; then
+        send_sizes &
+        teller=$!
+    fi
+    echo >&8
+}
+
 # Writes the window's size to the keys, in one write for each line read.
 send_sizes() {
     exec <&9 8>&- 9<&-
@@ -31,9 +41,9 @@ print_beside() { # COMMAND..
 
 # After a stop (SIGCONT): sets the terminal's modes again, and reports a size, which repaints the screen.
 take_up() {
+    is_raw=''
     print_beside set_terminal 1047
-    is_told=1
-    echo >&8
+    tell_size
 }
 
 # ---- the journal
@@ -44,7 +54,7 @@ ask_again() {
         had_room=''
     elif [ -z "$had_room" ]; then
         had_room=1
-        echo >&8
+        tell_size
     fi
 }
 
@@ -98,8 +108,15 @@ mind_journal() {
 leave() {
     for process in $teller $sleeper $printer $syncer $filler; do kill -s KILL "$process"; done
     # a slow disk may block its syncs for long
-    wait "$teller" "$sleeper" ${printer:+"$printer"}
+    wait ${teller:+"$teller"} "$sleeper" ${printer:+"$printer"}
     exit
+}
+
+# Sends the size if it changed before the traps were set.
+look_for_resize() { # SIZE
+    is_told=1
+    measure
+    [ "$rows $cols" = "$1" ] || tell_size
 }
 
 # Runs beside the program. Sends the size after each resize and each stop; the terminal and the shell signal these to the whole
@@ -111,21 +128,16 @@ attend() { # SIZE
     is_told='' had_room='' noted=${unkept:+$unkept_note} teller='' sleeper='' printer='' syncer='' filler=''
     trap '' HUP
     trap leave TERM
-    trap 'is_told=1; echo >&8' WINCH
+    trap tell_size WINCH
     trap take_up CONT
-    send_sizes &
-    teller=$!
     : >"$folder/attended"
-    exec 9<&-
-    # a resize before the traps were set
-    measure
-    [ "$rows $cols" = "$1" ] || [ -n "$is_told" ] || echo >&8
     : >"$folder/synced"
     while ! [ -e "$folder/over" ]; do
         sleep 1 &
         sleeper=$!
         # a trap interrupts a wait
         while kill -s 0 "$sleeper"; do wait "$sleeper"; done
+        [ -n "$is_told" ] || look_for_resize "$1"
         [ -z "$kept" ] || mind_journal
     done
     leave

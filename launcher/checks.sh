@@ -79,12 +79,13 @@ check_folder() {
     [ -x "$place_folder" ] || refuse_file "$place_folder" 'is a folder that is closed to you: its owner can open it by chmod a+x'
 }
 
-# Checks that the name is UTF-8. The program refuses such an argument too, but only after it has the terminal.
-check_name() {
-    case $file in
-    *[!\ -~]*) ! command -v iconv >/dev/null || printf '%s' "$file" | iconv -f UTF-8 -t UTF-8 >/dev/null 2>&1 ||
-        refuse_file "$file" 'has a name that is not UTF-8: mv gives it another' ;;
-    esac
+# Whether a name has bytes that are not ASCII.
+is_beyond_ascii() { # NAME
+    case $1 in *[!\ -~]*) ;; *) return 1 ;; esac
+}
+
+refuse_name() {
+    refuse_file "$file" 'has a name that is not UTF-8: mv gives it another'
 }
 
 # Checks that a draft's name, which is 3 bytes longer, fits. A character has at most 4 bytes, so short names need no count.
@@ -103,21 +104,49 @@ check_access() {
         refuse_file "$file" "is write-protected: chmod u+w lets its owner write it, and $force_hint"
 }
 
+# Asks the program whether it can open FILE, and refuses FILE otherwise. The program reads FILE once and shows nothing.
 check_text() {
     # the shell would print the raw name in its own error
-    { [ -r "$file" ] && size=$(wc -c <"$file"); } 2>/dev/null || refuse_file "$file" 'cannot be read by you: chmod u+r lets its owner read it'
-    [ "$size" -le 16777216 ] ||
-        refuse_file "$file" "has $((size)) bytes, and 16777216 are the most: split -C 16M cuts it at line ends"
-    ! command -v iconv >/dev/null || iconv -f UTF-8 -t UTF-8 <"$file" >/dev/null 2>&1 || refuse_bytes
+    [ ! -e "$file" ] || [ -r "$file" ] || refuse_unreadable
+    [ -x "$editor" ] || {
+        check_before_build
+        return
+    }
+    told=$(exec "$editor" --check --classes "$classes" --brackets "$brackets" --mirroring "$mirroring" "$file" 2>&1 </dev/null) && return
+    case $told in
+    'bidi_edit: not UTF-8 in line '*) refuse_bytes "${told##* }" ;;
+    'bidi_edit: file too long') refuse_size ;;
+    'bidi_edit: cannot read '*) refuse_unreadable ;;
+    'bidi_edit: a word is not UTF-8') refuse_name ;;
+    'bidi_edit: '*) fail "$(shown "$file") cannot be opened: ${told#*: }" ;;
+    # a program built before it had --check
+    *) check_before_build ;;
+    esac
 }
 
-# Counts the lines before the first byte that is not UTF-8, by converting them.
-refuse_bytes() {
-    number=$(($(iconv -f UTF-8 -t UTF-8 <"$file" 2>/dev/null | wc -l) + 1))
+# Checks FILE by iconv, at the very first start.
+check_before_build() {
+    [ ! -e "$file" ] || [ "$(wc -c <"$file")" -le 16777216 ] || refuse_size
+    command -v iconv >/dev/null || return 0
+    ! is_beyond_ascii "$file" || printf '%s' "$file" | iconv -f UTF-8 -t UTF-8 >/dev/null 2>&1 || refuse_name
+    [ -e "$file" ] || return 0
+    iconv -f UTF-8 -t UTF-8 <"$file" >/dev/null 2>&1 ||
+        refuse_bytes "$(($(iconv -f UTF-8 -t UTF-8 <"$file" 2>/dev/null | wc -l) + 1))"
+}
+
+refuse_unreadable() {
+    refuse_file "$file" 'cannot be read by you: chmod u+r lets its owner read it'
+}
+
+refuse_size() {
+    refuse_file "$file" "has $(($(wc -c <"$file"))) bytes, and 16777216 are the most: split -C 16M cuts it at line ends"
+}
+
+refuse_bytes() { # NUMBER OF THE LINE
     case $(head -c 2 -- "$file" 2>/dev/null | od -An -tx1) in
     ' ff fe' | ' fe ff') refuse_file "$file" "is UTF-16 and not UTF-8: iconv -f UTF-16 -t UTF-8 may help" ;;
     esac
-    refuse_file "$file" "is not UTF-8 in line $number: iconv -f CP1255 -t UTF-8 may help if it is in Windows' Hebrew (CP1256: Arabic)"
+    refuse_file "$file" "is not UTF-8 in line $1: iconv -f CP1255 -t UTF-8 may help if it is in Windows' Hebrew (CP1256: Arabic)"
 }
 
 # Lists files with names of drafts, which a killed save leaves.
@@ -134,14 +163,14 @@ check_file() {
     check_kind
     find_place
     check_folder
-    check_name
     find_path
+    find_sessions_folder
     find_in_place
     if [ -z "$is_forced" ]; then
         check_length
         check_access
     fi
     mend_before || [ -n "$is_forced" ] || exit 1
-    [ ! -e "$file" ] || check_text
+    if [ -e "$file" ] || is_beyond_ascii "$file"; then check_text; fi
     tell_leftovers
 }

@@ -9,46 +9,20 @@ in_place='' harm=''
 
 # ---- whether FILE needs such saves
 
-# Whether FILE is a mount point. The kernel escapes blank, tab, newline and backslash in mountinfo as octal numbers.
-# shellcheck disable=SC2016
-is_mounted() {
-    LC_ALL=C awk '
-        BEGIN {
-            for (i = 1; i <= length(ARGV[1]); i++) {
-                letter = substr(ARGV[1], i, 1)
-                at = index(" \t\n\134", letter)
-                name = name (at ? substr("\134040\134011\134012\134134", 4 * at - 3, 4) : letter)
-            }
-            ARGV[1] = "/proc/self/mountinfo"
-        }
-        $5 == name { is_found = 1 }
-        END { exit !is_found }' "$path" 2>/dev/null
-}
-
 # Whether the sticky bit of the folder lets only FILE's owner replace FILE, as in /tmp.
 # shellcheck disable=SC3067 # dash and bash have -O
 is_held_by_folder() {
     [ -k "$place_folder" ] && ! [ -O "$place" ] && ! [ -O "$place_folder" ] && [ "$(id -u)" != 0 ]
 }
 
-# Reads the modes of FILE and its folder from `ls`, with + for an access list, and FILE's link count.
-read_modes() {
-    {
-        read -r mode_of_file links _
-        read -r mode_of_folder _
-    } <<TOLD
-$(ls -ldqU -- "$place" "$place_folder/." 2>/dev/null)
-TOLD
-}
-
 # Sets `in_place` to the reason not to replace FILE, and `harm` to the effect of a rename.
 find_in_place() {
     in_place='' harm=''
     if ! [ -f "$place" ] || ! [ -w "$place" ]; then return 0; fi
-    read_modes
+    [ -n "$mode_of_folder" ] || look_at_modes
     if ! [ -w "$place_folder" ] || is_held_by_folder; then
         in_place='is in a folder where you cannot replace it' harm='no save can be made'
-    elif is_mounted; then
+    elif [ -n "$is_mounted" ]; then
         in_place='is mounted by itself' harm='no save can be made'
     elif [ "${links:-1}" -gt 1 ]; then
         in_place='has other names (hard links)' harm='a save would part it from them'
@@ -68,6 +42,7 @@ find_listed() { # MODES
 # Saves into FILE need a session, whose folder holds the whole text while FILE is written. Runs before the screen changes.
 settle_in_place() {
     [ -n "$in_place" ] || return 0
+    set_cooked
     if [ -n "$kept" ] && { printf '%s' "$path" >"$kept/place"; } 2>/dev/null; then
         printf 'bidi-edit: %s %s: saves are written into the file itself\n' "$(shown "$file")" "$in_place" >&7
         return

@@ -43,14 +43,15 @@ telling='
         return result
     }'
 
+needs_quotes() { # NAME
+    case $1 in *[!A-Za-z0-9_./+,@%:=-]*) ;; *) return 1 ;; esac
+}
+
 shown() { # NAME
-    case $1 in
-    *[!A-Za-z0-9_./+,@%:=-]*) ;;
-    *)
+    if ! needs_quotes "$1"; then
         printf '%s' "$1"
         return
-        ;;
-    esac
+    fi
     LC_ALL=C awk "$telling"'
         BEGIN {
             numbered = told(ARGV[1], "\047\134")

@@ -4,7 +4,7 @@
 
 # Makes a private folder in PLACE with these pipes, and sets `folder`. A full disk or a file system without pipes makes it fail.
 try_folder() { # PLACE PIPE..
-    folder=$(mktemp -d "$1/bidi-edit.XXXXXX" 2>/dev/null) || return 1
+    folder=$(exec mktemp -d "$1/bidi-edit.XXXXXX" 2>/dev/null) || return 1
     shift
     for pipe; do
         shift

@@ -89,7 +89,10 @@ print_rows() { # WORD..
     find_tables
     check_print_file
     find_printer
-    [ -x "$printer" ] || build bidi_print
+    if ! [ -x "$printer" ]; then
+        read_parts build
+        build bidi_print
+    fi
     exec "$printer" --cols "$columns" --direction "$direction" ${marks:+--marks} --classes "$classes" --brackets "$brackets" \
         --mirroring "$mirroring" "$file"
 }

@@ -54,13 +54,6 @@ tell_when() { # SESSION
 
 # ---- replays
 
-# Replays a session's keys and stores the text as TO, within `limit` seconds if that is set.
-run_replay() { # SESSION TO
-    read_begin "$1"
-    ${limit:+timeout -s KILL "$limit"} "$editor" --rows "$rows" --cols "$cols" --direction "$direction" ${line:+--line "$line"} --classes "$classes" \
-        --brackets "$brackets" --mirroring "$mirroring" --text "$1/text" --replay "$1/journal" --to "$2" "$file"
-}
-
 # Replays a session into a new private folder `replay`. Sets `held` to FILE's current content: same (the session's text), known
 # (the opened text or a saved one) or foreign. Sets `count` to the number of keys typed.
 replay_session() { # SESSION
@@ -358,7 +351,7 @@ recover_elsewhere() { # OTHER
 # Prints the folders that may have sessions: the state folder, and the ones in temporary file systems.
 tell_folders() {
     find_state_folder
-    [ -z "$sessions" ] || printf '%s\n' "$sessions"
+    [ -z "$state_folder" ] || printf '%s\n' "$state_folder"
     {
         printf '%s\n' /tmp /var/tmp "${TMPDIR:-/tmp}" "${XDG_RUNTIME_DIR:-/dev/shm}"
         awk '$3 == "tmpfs" || $3 == "ramfs" { print $2 }' /proc/mounts 2>/dev/null

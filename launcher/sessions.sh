@@ -13,21 +13,10 @@ kept='' forgotten='' is_resumed='' is_waiting='' opened='' unkept='' session_mod
 
 # ---- where sessions are
 
-# Sets `at` to the nearest existing folder above FOLDER. A new folder will be on the same file system.
-find_there() { # FOLDER
-    at=$1
-    while ! [ -d "$at" ]; do
-        case $at in
-        ?*/*) at=${at%/*} ;;
-        *) at=/ ;;
-        esac
-    done
-}
-
 # Sets `where` to the temporary place that FOLDER is in: memory, or a folder for temporary files; empty if it is permanent.
 find_where() { # FOLDER KIND OF ITS FILE SYSTEM
     where=memory
-    case $2 in tmpfs | ramfs) return ;; esac
+    ! is_memory "$2" || return 0
     for where in "${TMPDIR:-/tmp}" /tmp /var/tmp ''; do
         where=${where%/}
         case $1/ in "$where"/*) return ;; esac
@@ -37,7 +26,7 @@ find_where() { # FOLDER KIND OF ITS FILE SYSTEM
 # Picks a folder in memory for the sessions of a FILE in memory.
 find_memory_folder() { # FOLDER OF FILE
     for root in "$(stat -c %m -- "$1")" "${XDG_RUNTIME_DIR:-/dev/shm}" /dev/shm; do
-        case $(stat -f -c %T -- "$root" 2>/dev/null) in tmpfs | ramfs) ;; *) continue ;; esac
+        is_memory "$(stat -f -c %T -- "$root" 2>/dev/null)" || continue
         if [ -w "$root" ]; then
             sessions=${root%/}/bidi_edit.$(id -u)
             return
@@ -47,8 +36,8 @@ find_memory_folder() { # FOLDER OF FILE
 }
 
 find_state_folder() {
-    sessions=${XDG_STATE_HOME:-${HOME:+$HOME/.local/state}}
-    [ -z "$sessions" ] || sessions=$sessions/bidi_edit
+    state_folder=${XDG_STATE_HOME:-${HOME:+$HOME/.local/state}}
+    [ -z "$state_folder" ] || state_folder=$state_folder/bidi_edit
 }
 
 # Picks the state folder for sessions, unless FILE is more short-lived than it; then a folder as short-lived as FILE.
@@ -56,61 +45,17 @@ find_sessions_folder() {
     folder_of_file=${path%/*}
     [ "$folder_of_file" != "$found_for" ] || return 0
     found_for=$folder_of_file
-    find_state_folder
-    find_there "$sessions"
-    of_state=$at
-    find_there "$folder_of_file"
-    # stat prints one line for each
-    kinds=$(stat -f -c %T -- "$at" "$of_state" 2>/dev/null)
-    find_where "$of_state" "${kinds##*[!a-z0-9]}"
+    sessions=$state_folder
+    find_where "$of_state" "$kind_of_state"
     state_where=$where
-    find_where "$at" "${kinds%%[!a-z0-9]*}"
+    find_there "$folder_of_file"
+    find_where "$at" "$kind_of_file"
     case $where in
     '' | "$state_where") ;;
     memory) find_memory_folder "$folder_of_file" ;;
     *) [ -n "$state_where" ] || sessions=$where/bidi_edit.$(id -u) ;;
     esac
     check_sessions_folder
-}
-
-# Sets `path` to the absolute path that saves go to, even if its folder is gone. x protects trailing newlines.
-find_path() {
-    path=$({ { CDPATH='' cd -- "$place_folder" && pwd -P; } 2>/dev/null || readlink -m -- "$place_folder"; } && echo x)
-    path=${path%??}
-    path=${path%/}/$place_name
-}
-
-# Sets `distrusted` to the first folder on the path that another user could change, if any. FOLDER itself must belong to the
-# user who runs the editor and be writable by nobody else, and only root may be able to replace it.
-# shellcheck disable=SC3067 # dash and bash have -O
-find_distrusted() { # FOLDER
-    distrusted=$1
-    [ ! -L "$1" ] && [ -d "$1" ] && [ -O "$1" ] || return 0
-    above=$(CDPATH='' cd -P -- "${1%/*}/" && pwd && echo x)
-    above=${above%??}
-    set -- "$1" /
-    while [ -n "${above#/}" ]; do
-        set -- "$@" "$above"
-        above=${above%/*}
-    done
-    looks=$(stat -c '%u:%f' -- "$@" 2>/dev/null)
-    user=''
-    for look in $looks; do
-        is_closed "${look%:*}" "0x${look#*:}" || break
-        shift
-    done
-    distrusted=${1:-}
-}
-
-# Whether no other user can change a folder with this owner and mode. The first call is about the user's own folder; the folders
-# above may also belong to root, or be sticky.
-is_closed() { # OWNER MODE
-    if [ -z "$user" ]; then
-        user=$1
-        [ $(($2 & 022)) = 0 ]
-    else
-        [ $(($2 & 01002)) != 2 ] && { [ "$1" = 0 ] || [ "$1" = "$user" ]; }
-    fi
 }
 
 # Refuses a folder of sessions that other users could have filled.
@@ -185,6 +130,12 @@ drop_session() { # SESSION
     (lock_session "$1" && rm -rf -- "$1")
 }
 
+# Whether there are any sessions, FILE's or others.
+has_sessions() {
+    for session in "${sessions:-/none}"/[0-9]*; do [ ! -d "$session" ] || return 0; done
+    return 1
+}
+
 # ---- a session begins
 
 copy_text() { # TO
@@ -192,6 +143,8 @@ copy_text() { # TO
         : >"$1"
         return
     fi
+    # cat starts faster than cp
+    [ "${size_of_file:-0}" -gt 65536 ] || { cat -- "$file" >"$1" && return; }
     cp --reflink=auto -- "$file" "$1" 2>/dev/null || cp -- "$file" "$1"
 }
 
@@ -203,8 +156,14 @@ tell_versions() {
 
 fill_session() { # SESSION
     copy_text "$1/text" && echo "$rows $cols $direction ${line:--}" >"$1/begin" && note_process "$1" && tell_versions >"$1/versions" &&
-        { [ ! -e "$file" ] || stat -c %a -- "$file" >"$1/mode"; }
+        note_mode "$1"
 } 2>/dev/null
+
+note_mode() { # SESSION
+    [ -n "$mode_of_file" ] || return 0
+    find_digits "$mode_of_file"
+    echo "$digits" >"$1/mode"
+}
 
 # Removes the unfinished folders of killed launchers.
 sweep_sessions() {
@@ -216,9 +175,10 @@ sweep_sessions() {
     done
 }
 
-# Makes a session's folder, and sets `new`.
+# Makes a session's folder, named by the time, and sets `new`.
 make_folder_of_session() {
-    new=$(mktemp -d "$sessions/$(date +%Y%m%d%H%M%S).XXXXXX" 2>/dev/null)
+    case $now in *[!0-9]* | '') now=$(date +%Y%m%d%H%M%S) ;; esac
+    new=$(exec mktemp -d "$sessions/$now.XXXXXX" 2>/dev/null)
 }
 
 # Notes a new session's path last, so that nobody finds the session before it is locked.
@@ -259,6 +219,7 @@ forget_session() {
 # Reports that unsaved text is not kept, before the screen changes. Pauses for a second unless -n asked for that.
 tell_unkept() {
     [ -n "$unkept" ] || return 0
+    set_cooked
     printf 'bidi-edit: unsaved text is not kept, since %s\n' "$unkept" >&7
     [ -n "$is_unkept" ] || { printf '\a' >&7 && sleep 1; }
 }
@@ -302,6 +263,13 @@ read_begin() { # SESSION
 }
 
 # ---- a session ends
+
+# Replays a session's keys and stores the text as TO, within `limit` seconds if that is set.
+run_replay() { # SESSION TO
+    read_begin "$1"
+    ${limit:+timeout -s KILL "$limit"} "$editor" --rows "$rows" --cols "$cols" --direction "$direction" ${line:+--line "$line"} --classes "$classes" \
+        --brackets "$brackets" --mirroring "$mirroring" --text "$1/text" --replay "$1/journal" --to "$2" "$file"
+}
 
 # Stores the text at the session's end, for a recovery by another version.
 leave_snapshot() {

@@ -2,13 +2,16 @@
 # shellcheck disable=SC2034,SC2154,SC2317 # variables shared with other parts; traps call functions
 # The terminal of a session: its modes, the processes on it, and its restoration.
 
-folder='' program='' keys='' attendant='' watcher='' outer='' is_running='' is_shown='' has_title='' end_signal=''
+folder='' program='' keys='' attendant='' watcher='' outer='' is_running='' is_raw='' is_shown='' has_title='' end_signal=''
 kind='' reordering_off='' reordering_on=''
 unkept_note='(unsaved text is not kept)'
 # Number of seconds that a terminal may block at the end. A slow line has much to take, and a signal should end soon.
 patience=10
 
 # ---- sequences for the terminal
+
+# The settings of raw mode.
+raw='raw -echo -iexten'
 
 # Modes that the painter requires: arrows as CSI, ASCII, replace mode, origin at the window's top, no scroll region, autowrap
 # (without it tmux joins marks to the letter before), a visible cursor, and no reordering by the terminal.
@@ -27,7 +30,9 @@ keeps_titles() {
 }
 
 show_title() { # NOTE
-    printf '\033]2;%s - ^S save ^Q quit%s\a' "$(shown "${file##*/}")" "${1:+ $1}"
+    title=${file##*/}
+    ! needs_quotes "$title" || title=$(shown "$title")
+    printf '\033]2;%s - ^S save ^Q quit%s\a' "$title" "${1:+ $1}"
 }
 
 # Finds the terminal that tmux runs in, if it is writable, since it may reorder tmux's output, and its answer to tmux's question
@@ -137,7 +142,9 @@ tell_setting() { # TERMINAL NAME LINE FILE..
 
 # Sets raw mode, the alternate screen and the painter's modes. xterm's 1049 saves the cursor, 1047 keeps the saved one.
 set_terminal() { # SCREEN
-    stty raw -echo -iexten <&3
+    # shellcheck disable=SC2086 # words of stty
+    [ -n "$is_raw" ] || stty $raw <&3
+    is_raw=1
     printf '%b' "\033[?$1h$modes"
     # only the filter understands bracketed paste
     [ -z "$filter" ] || printf '\033[?2004h'
@@ -170,9 +177,10 @@ within_patience() { # COMMANDS WORD..
 # Restores the screen and the settings. If Quit ended the program, its terminal is known not to block.
 # shellcheck disable=SC2016
 hide() {
-    [ -n "$is_shown" ] || return 0
-    is_shown=''
-    ending="${filter:+\033[?2004l}$end_modes${has_title:+\033[23;0t}\033[?1049l"
+    [ -n "$is_raw" ] || return 0
+    ending=''
+    [ -z "$is_shown" ] || ending="${filter:+\033[?2004l}$end_modes${has_title:+\033[23;0t}\033[?1049l"
+    is_raw='' is_shown=''
     if [ "$status$end_signal" = 0 ]; then
         printf '%b' "$ending"
         stty "$settings"
@@ -265,10 +273,12 @@ end_by() { # SIGNAL NUMBER
 
 # ---- the session
 
-# Sets `rows` and `cols` to the window's size, from 1 to 500. A terminal without a size reports 0.
-measure() {
+# Sets `rows` and `cols` to the window's size, from 1 to 500, after settings of the terminal. A terminal without a size reports
+# 0.
+# shellcheck disable=SC2086 # words of stty
+measure() { # [SETTINGS]
     is_measured=1
-    size=$(stty size <&3) || size='0 0' is_measured=''
+    size=$(exec stty ${1:-} size <&3) || size='0 0' is_measured=''
     rows=${size% *}
     cols=${size#* }
     [ "$rows" -gt 0 ] || rows=24
@@ -365,14 +375,30 @@ start_processes() {
     exec 4<&- 5>&- 6<&-
 }
 
+# Measures the window and sets raw mode, both by one process.
+measure_and_set_raw() {
+    is_raw=1
+    measure "$raw"
+    # a terminal without a size is not set
+    [ -n "$is_measured" ] || is_raw=''
+}
+
+# Gives the terminal its own settings again, for a message before the screen changes.
+set_cooked() {
+    [ -n "$is_raw" ] || return 0
+    stty "$settings" <&3
+    is_raw=''
+}
+
 # Edits `file` until the program ends, and exits with its status.
 edit() {
     [ -x "$filter" ] || filter=''
     guard
     open_pipes
-    measure
+    measure_and_set_raw
     size="$rows $cols"
     begin_session
+    look_at_line_ends
     note_life
     show
     start_processes

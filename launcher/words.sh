@@ -101,6 +101,7 @@ read_words() { # WORD..
             ;;
         --print)
             shift
+            read_parts print
             print_rows "$@"
             ;;
         --direction | --line | --to)

@@ -8,22 +8,16 @@
 set -eu
 export LC_ALL=C
 
-crate=$(cd "$(dirname "$0")/../crates/bidi_print" && pwd)
-program=$crate/out/bidi_print
+top=$(cd "$(dirname "$0")/.." && pwd)
+crate=$top/crates/bidi_print
+# shellcheck source=scripts/built.sh
+. "$top/scripts/built.sh"
 failed='' skipped=''
 
 # Notes a skipped comparison and its cause.
 skip() { # WHY
     echo "skipped: $1"
     skipped=1
-}
-
-# Builds the program; its usage shows that it was built.
-build() {
-    if ! (cd "$crate" && rt run 2>&1) | grep -q '^Usage: bidi_print'; then
-        echo 'the program was not built: see rt check' >&2
-        exit 1
-    fi
 }
 
 # Prints a file with the tables of the crate's data.
@@ -242,7 +236,7 @@ scratch=$(mktemp -d)
 trap 'rm -rf "$scratch"' EXIT
 trap 'exit 130' INT
 trap 'exit 143' TERM
-build
+find_built bidi_print
 compare_endings
 if [ -r "$rows" ]; then
     compare_rows "$rows"

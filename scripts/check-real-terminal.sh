@@ -15,11 +15,10 @@ if ! command -v tmux > /dev/null 2>&1; then
     exit 77
 fi
 
-cd "$(dirname "$0")/../crates/paint_glyphs" || exit 1
-if ! rt run -- 1 1 1 1 > /dev/null 2>&1; then
-    echo "paint_glyphs was not built: see rt check" >&2
-    exit 1
-fi
+top=$(cd "$(dirname "$0")/.." && pwd)
+# shellcheck source=scripts/built.sh
+. "$top/scripts/built.sh"
+find_built paint_glyphs
 
 folder=$(mktemp -d)
 socket="bx$$"
@@ -32,7 +31,7 @@ trap 'tmux -L "$socket" kill-server 2> /dev/null; rm -rf "$folder"' EXIT
 check() {
     name=$1 height=$2 width=$3 rows=$4 cursor=$5
     shift 5
-    out/paint_glyphs "$height" "$width" "$@" > "$folder/bytes" || { echo "NOT PAINTED $name"; failed=$((failed + 1)); return; }
+    "$program" "$height" "$width" "$@" > "$folder/bytes" || { echo "NOT PAINTED $name"; failed=$((failed + 1)); return; }
     printf 'cat "%s/bytes"; sleep 30\n' "$folder" > "$folder/run"
     tmux -u -f /dev/null -L "$socket" new-session -d -s "$name" -x "$width" -y "$height" "sh $folder/run" \; set -g status off
     tmux -L "$socket" resize-window -t "$name" -x "$width" -y "$height" 2> /dev/null

@@ -6,6 +6,9 @@
 # its answers. Exit status 77: there are no schedules or no tables. It is not part of `rt ci`.
 set -eu
 
+top=$(cd "$(dirname "$0")/.." && pwd)
+# shellcheck source=scripts/built.sh
+. "$top/scripts/built.sh"
 folder=$(readlink -f "${1:-/nowhere}" || :)
 program=${2:+$(readlink -f "$2")}
 unicode=/usr/share/unicode
@@ -50,10 +53,7 @@ gather() {
 # Builds the program, unless one is given.
 build() {
     [ -z "$program" ] || return 0
-    cd "$(dirname "$0")/../crates/play_scenes"
-    # its usage shows that it was built
-    rt run </dev/null 2>&1 | grep -q '^play_scenes: usage' || fail "the program was not built: see rt check"
-    program=$PWD/out/play_scenes
+    find_built play_scenes
 }
 
 # Plays scenes over the tables of this kind.

@@ -8,6 +8,8 @@ set -eu
 export LC_ALL=C
 
 top=$(cd "$(dirname "$0")/.." && pwd)
+# shellcheck source=scripts/built.sh
+. "$top/scripts/built.sh"
 # shellcheck source=scripts/sessions.sh
 . "$top/scripts/sessions.sh"
 
@@ -109,11 +111,5 @@ scratch=$(mktemp -d)
 trap 'rm -rf "$scratch"' EXIT
 trap 'exit 1' HUP INT TERM
 folder=$(sessions_of "$sessions" "$scratch")
-cd "$top/crates/bidi_edit"
-# its usage shows that it was built
-if ! rt run 2>&1 | grep -q '^Usage: bidi_edit'; then
-    echo 'the program was not built: see rt check' >&2
-    exit 1
-fi
-program=$PWD/out/bidi_edit
+find_built bidi_edit
 run_sessions "$folder"

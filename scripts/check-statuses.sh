@@ -104,6 +104,32 @@ run --rows 501 text
 ended rows_past_500 2 'error: '
 run --direction up text
 ended no_such_direction 2 'error: '
+run --check text
+ended check_accepts 0 ''
+run --check not-there
+ended check_of_a_new_file 0 ''
+if [ -s screen ] || [ -e not-there ]; then
+    failed=$((failed + 1))
+    echo 'FAILS check_of_a_new_file: it writes'
+fi
+printf 'a\nb\n\340\n' >lines
+run --check lines
+ended check_tells_the_line 1 'bidi_edit: not UTF-8 in line 3'
+run --check long
+ended check_too_long 1 'bidi_edit: file too long'
+head -c 16777216 long >longest
+run --check longest
+ended check_longest 0 ''
+run --check folder
+ended check_of_a_folder 1 'bidi_edit: cannot read folder'
+"$editor" --check --classes missing --brackets missing --mirroring missing text <keys >screen 2>told
+status=$?
+ended check_reads_no_tables 0 ''
+run --check --journal journal text
+ended check_with_a_journal 2 'error: '
+[ ! -e journal ] || { failed=$((failed + 1)); echo 'FAILS check_with_a_journal: it makes one'; }
+run --check --text lines text
+ended check_with_a_text 2 'error: '
 run "$(printf 'a\377')"
 ended word_not_utf8 2 'bidi_edit: a word is not UTF-8'
 

@@ -15,14 +15,17 @@ for file in "$classes" "$brackets" "$mirroring"; do
     fi
 done
 
-cd "$(dirname "$0")/../crates/ucd_lookup"
-rt run -- "$classes" "$brackets" "$mirroring" 0041 >/dev/null
+top=$(cd "$(dirname "$0")/.." && pwd)
+# shellcheck source=scripts/built.sh
+. "$top/scripts/built.sh"
+find_built ucd_lookup
+cd "$top/crates/ucd_lookup"
 answers=$(mktemp)
 trap 'rm -f "$answers"' EXIT
-tail -n +4 args | xargs out/ucd_lookup "$classes" "$brackets" "$mirroring" >"$answers"
+tail -n +4 args | xargs "$program" "$classes" "$brackets" "$mirroring" >"$answers"
 diff stdout "$answers"
 echo "unicode-data: the answers agree"
 if [ "${1:-}" = --time ]; then
-    out/ucd_lookup --time 200 "$classes" "$brackets" "$mirroring"
-    out/ucd_lookup --time 200 "$classes" /dev/null /dev/null
+    "$program" --time 200 "$classes" "$brackets" "$mirroring"
+    "$program" --time 200 "$classes" /dev/null /dev/null
 fi

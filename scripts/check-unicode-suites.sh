@@ -5,6 +5,9 @@
 set -eu
 export LC_ALL=C
 
+top=$(cd "$(dirname "$0")/.." && pwd)
+# shellcheck source=scripts/built.sh
+. "$top/scripts/built.sh"
 folder=$(readlink -f "${1:-/usr/share/unicode}")
 scratch=$(mktemp -d)
 trap 'rm -rf "$scratch"' EXIT
@@ -29,11 +32,8 @@ for name in "$@"; do
     fi
 done
 
-# The program's words are the names of the files.
-cd "$(dirname "$0")/../crates/unicode_suites"
-rt run -- data/DerivedBidiClass.txt data/BidiBrackets.txt data/BidiMirroring.txt data/BidiCharacterTest.txt data/BidiTest.txt \
-    data/GraphemeBreakTest.txt >/dev/null
-program=$PWD/out/unicode_suites
+find_built unicode_suites
+# the program's words are the names of the files
 cd "$scratch"
 status=0
 "$program" "$@" >found || status=$?

@@ -10,6 +10,8 @@ set -eu
 top=$(cd "$(dirname "$0")/.." && pwd)
 # shellcheck source=scripts/report.sh
 . "$top/scripts/report.sh"
+# shellcheck source=scripts/built.sh
+. "$top/scripts/built.sh"
 version=$(sed -n 's/^version=//p' "$top/launcher/words.sh")
 name=bidi-edit_${version}_amd64
 folder=$(mktemp -d)
@@ -33,14 +35,10 @@ has_tool() { # NAME TOOL
     return 1
 }
 
-# Requires a program with the stamp that the toolchain writes after a proved build. The stamp ends with the program's checksum.
 need_proved() { # PROGRAM
     built=$top/crates/$1/out/$1
     if ! [ -x "$built" ] || ! [ -f "$built.stamp" ]; then refuse "$built is not built and proved: launcher/proving/prove.sh . $1 does it"; fi
-    case $(cat "$built.stamp") in
-    *"$(sha256sum <"$built" | cut -c 1-64)") ;;
-    *) refuse "$built is not what its stamp tells: rt run in crates/$1 builds it anew" ;;
-    esac
+    is_proved "$built" || refuse "$built is not what its stamp tells: rt run in crates/$1 builds it anew"
 }
 
 # ---- the tree

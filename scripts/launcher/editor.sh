@@ -138,12 +138,6 @@ check_files() {
     finish 'file, missing' 0 50
     test ! -e missing
     report 'file, missing: none is made' $? 'there is one'
-    # accepted by iconv, but not by Unicode
-    printf 'a\364\220\200\200' >bytes
-    start 8 60 "$top/bidi-edit" bytes
-    finish 'file, not UTF-8' 1 50
-    same 'file, not UTF-8: the words' "$(cat "$folder/errors")" 'bidi_edit: not UTF-8 at byte 1'
-    rm -f bytes
 }
 
 check_line() {

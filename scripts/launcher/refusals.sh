@@ -107,6 +107,33 @@ check_refused_texts() {
     rm bytes
 }
 
+# FILE is checked by the program, without iconv, and by iconv where the program is not built.
+check_checkers() {
+    printf 'one\ntwo\nthree \340\n' >bytes
+    windows="iconv -f CP1255 -t UTF-8 may help if it is in Windows' Hebrew (CP1256: Arabic)"
+    unbuilt=$folder/unbuilt/bidi-edit
+    mkdir -p "$folder/unbuilt/crates/bidi_edit" "$folder/no-iconv"
+    cp -R "$top/bidi-edit" "$top/launcher" "$top/data" "$folder/unbuilt/"
+    alone_in_session "$shell" "$unbuilt" bytes
+    same 'opening, before the first build' "$? $(cat "$folder/errors")" "1 bidi-edit: bytes is not UTF-8 in line 3: $windows"
+    printf '#!/bin/sh\necho called >>"%s"\n' "$folder/iconv-called" >"$folder/no-iconv/iconv"
+    chmod +x "$folder/no-iconv/iconv"
+    if [ -x "$editor" ]; then
+        PATH=$folder/no-iconv:$PATH refused 'opening, by the program' "1 bidi-edit: bytes is not UTF-8 in line 3: $windows" bytes
+        printf '\377\376a\000' >bytes
+        PATH=$folder/no-iconv:$PATH refused 'opening, UTF-16 by the program' '1 bidi-edit: bytes is UTF-16 and not UTF-8: iconv -f UTF-16 -t UTF-8 may help' bytes
+        # accepted by iconv, but not by Unicode
+        printf 'a\n\364\220\200\200' >bytes
+        PATH=$folder/no-iconv:$PATH refused 'opening, beyond Unicode' "1 bidi-edit: bytes is not UTF-8 in line 2: $windows" bytes
+        awk 'BEGIN { for (n = 0; n < 16000000; n += 17) print "\327\251\327\234\327\225\327\235 \327\234\327\232 ab" }' | head -c 16000000 >bytes
+        PATH=$folder/no-iconv:$PATH refused 'opening, 16 MB of Hebrew' "$no_terminal" bytes
+        same 'opening, without iconv' "$(cat "$folder/iconv-called" 2>/dev/null)" ''
+    else
+        skip 'opening, by the program' 'it is not built (./bidi-edit FILE builds it)'
+    fi
+    rm -rf bytes "$folder/unbuilt" "$folder/no-iconv" "$folder/iconv-called"
+}
+
 check_refused_access() {
     mkdir closed locked open
     echo text | tee closed/f locked/f locked/g open/f >open/g
@@ -155,6 +182,7 @@ check_refusals() {
         check_refused_names
         check_refused_texts
     fi
+    ! asked opening || check_checkers
     ! asked access || check_refused_access
     ! asked leftovers || check_leftovers
 }
