@@ -114,7 +114,6 @@ leave() {
 
 # Sends the size if it changed before the traps were set.
 look_for_resize() { # SIZE
-    is_told=1
     measure
     [ "$rows $cols" = "$1" ] || tell_size
 }
@@ -132,12 +131,12 @@ attend() { # SIZE
     trap take_up CONT
     : >"$folder/attended"
     : >"$folder/synced"
+    [ -n "$is_told" ] || look_for_resize "$1"
     while ! [ -e "$folder/over" ]; do
         sleep 1 &
         sleeper=$!
         # a trap interrupts a wait
         while kill -s 0 "$sleeper"; do wait "$sleeper"; done
-        [ -n "$is_told" ] || look_for_resize "$1"
         [ -z "$kept" ] || mind_journal
     done
     leave
