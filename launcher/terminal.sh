@@ -137,7 +137,9 @@ tell_mirroring() {
 tell_setting() { # TERMINAL NAME LINE FILE..
     told="bidi-edit: $1 mirrors right-to-left words: the line '$3' in its $2 ends that" line_wanted=$3
     shift 3
-    grep -qs "^ *$line_wanted *$" "$@" || printf '%s\n' "$told" >&7
+    ! grep -qs "^ *$line_wanted *$" "$@" || return 0
+    set_cooked
+    printf '%s\n' "$told" >&7
 }
 
 # Sets raw mode, the alternate screen and the painter's modes. xterm's 1049 saves the cursor, 1047 keeps the saved one.

@@ -33,15 +33,16 @@ has_newer_source() { # CRATE STAMP
 find_built() { # CRATE
     program=$top/crates/$1/out/$1
     if is_proved "$program" && ! has_newer_source "$1" "$program.stamp"; then return; fi
-    built_from=$(mktemp)
-    (cd "$top/crates/$1" && rt run </dev/null) >/dev/null 2>&1 || : # the program's own status
-    if is_proved "$program"; then
+    begun=$(mktemp)
+    # rt runs the program, whose status and output say nothing here, once it is proved or nothing has changed
+    is_run=$({ cd "$top/crates/$1" && rt run </dev/null 2>&1; } | grep -a -c "^rt: running $1;" || :)
+    if [ "$is_run" != 0 ] && is_proved "$program"; then
         # rt compares contents and may have left a stamp that is older than a source
-        touch -r "$built_from" "$program.stamp"
-        rm -f "$built_from"
+        touch -r "$begun" "$program.stamp"
+        rm -f "$begun"
         return
     fi
-    rm -f "$built_from"
+    rm -f "$begun"
     echo "$1 was not built: see rt check" >&2
     exit 1
 }

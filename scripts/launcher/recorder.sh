@@ -163,8 +163,8 @@ check_time() {
     times_of_ten >"$folder/times"
     least=$(sort -n "$folder/times" | head -n 1)
     # processes cost bash twice as much as dash, the sh of Debian
-    most=50
-    [ "$shell" != bash ] || most=75
+    most=40
+    [ "$shell" != bash ] || most=60
     same 'time, ten runs' "$(wc -l <"$folder/times")" 10
     if is_busy; then
         skip "time, under $most ms" 'the machine is busy'
