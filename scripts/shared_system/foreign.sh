@@ -29,11 +29,11 @@ save_twice() { # NAME
     rm -rf "$folder/tools" "$folder/changed" "$folder/state" note*
 }
 
-# Between the launcher's copy and the program's look.
+# Between the launcher's copy, by cat for a small FILE, and the program's look.
 check_changed_after_copy() {
     rm -rf "$folder/state"
     printf 'ab\n' | as_user tee note >/dev/null
-    change_behind cp
+    change_behind cat
     open_editor first "PATH='$folder/tools':\$PATH" note
     wait_for 60 shows_in first '- 1:1'
     terminal send-keys -t first y
