@@ -74,12 +74,18 @@ check_messages() { # WORD TOLD
     tells "$word, a pipe" "$as_told is no plain file" "$name"
     as_user rm "$name"
     as_user sh -c 'printf "\377" >"$1"; : >"$1.bx"' sh "$name"
-    tells "$word, bytes" "$as_told is not UTF-8 in line 1" --print "$name"
-    as_user cp /dev/null "$name"
-    # a name that is not UTF-8 is refused first, unless iconv accepts it
+    # a name that is not UTF-8 is refused first
     case $word in
-    lone-* | cut-* | long-* | surrogate) tells "$word, not UTF-8" "$as_told has a name that is not UTF-8" "$name" ;;
-    *) tells "$word, a draft" "what is not wanted: \$'$2.bx'" "$name" ;;
+    lone-* | cut-* | long-* | surrogate | past-*)
+        tells "$word, not UTF-8, printed" "$as_told has a name that is not UTF-8" --print "$name"
+        as_user cp /dev/null "$name"
+        tells "$word, not UTF-8" "$as_told has a name that is not UTF-8" "$name"
+        ;;
+    *)
+        tells "$word, bytes" "$as_told is not UTF-8 in line 1" --print "$name"
+        as_user cp /dev/null "$name"
+        tells "$word, a draft" "what is not wanted: \$'$2.bx'" "$name"
+        ;;
     esac
     as_user rm "$name" "$name.bx"
 }
@@ -136,7 +142,7 @@ check_title_and_fault() { # TOLD
     name_of_told "$1"
     program=$folder/recorder/lib/bidi_edit/bidi_edit
     mv "$program" "$program.was"
-    printf '%s\n' '#!/bin/sh' 'for file; do :; done' 'printf "bidi_edit: cannot read %s\n" "$file" >&2' 'sleep 0.3' 'exit 1' >"$program"
+    printf '%s\n' '#!/bin/sh' '[ "$1" != --check ] || exit 0' 'for file; do :; done' 'printf "bidi_edit: cannot read %s\n" "$file" >&2' 'sleep 0.3' 'exit 1' >"$program"
     chmod 755 "$program"
     start 8 60 "$recorder" "$name"
     wait_for 50 has_ended
