@@ -1,7 +1,7 @@
 #!/bin/sh
 # Runs the editor in terminals under Xvfb, types by xdotool and compares pictures: in xterm, urxvt, st, alacritty, kitty,
-# qterminal, VTE (xfce4-terminal), konsole and mlterm, and in tmux within VTE and konsole. It checks that the editor's picture is that of `cat` of the same rows,
-# that the shell's rows are the same before and after, and what keys, titles and notes do. It is not part of `rt ci`. A missing
+# qterminal, VTE (xfce4-terminal), konsole and mlterm, and in tmux within VTE and konsole. The editor's picture must equal the
+# picture of `cat` on the same rows, and the shell's rows must be unchanged afterwards. Keys, titles and notes are checked too. It is not part of `rt ci`. A missing
 # terminal is skipped. `--pictures FOLDER` keeps the pictures; names after it select terminals. The last line has the totals. Exit
 # status 1: a check failed; 77: Xvfb, xdotool, ImageMagick or the built programs are missing.
 set -u

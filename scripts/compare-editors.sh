@@ -1,6 +1,6 @@
 #!/bin/sh
-# compare-editors.sh [--quick] [ROUNDS]: measures common actions in bidi_edit and in those of emacs, vim, nano and joe that are
-# installed, all in one run, and prints the table of docs/PERFORMANCE.md. Each editor runs on its own terminal of 24 rows and 80
+# compare-editors.sh [--quick] [ROUNDS]: measures common actions in bidi_edit, emacs, vim, nano and joe, skips editors that are
+# not installed, and prints the table of docs/PERFORMANCE.md. Each editor runs on its own terminal of 24 rows and 80
 # columns, without configuration, on copies of the same texts: 16,000,000 bytes of ASCII, Hebrew, Arabic and mixed lines, and
 # one paragraph of 1,000,000 bytes of each. It makes 3 rounds by default; --quick takes a sixteenth of each text, and one round.
 #

@@ -1,8 +1,8 @@
 #!/bin/sh
 # show.sh [--cells] FILE ROWS COLS [EDITOR WORD..]: prints the screen of an editor on FILE in a window of that size, from a real
-# run in tmux, in a frame. The default EDITOR is ./bidi-edit; another example is `show.sh note.txt 8 40 emacs -nw -Q`. A letter
-# in negative image, as for a bidi control, is printed as that letter in a circle. Columns are those of the screen, so the
-# viewer must not reorder the text. With --cells it prints a line with the window's rows and columns and the cursor's row and
+# run in tmux, in a frame. The default EDITOR is ./bidi-edit; another example is `show.sh note.txt 8 40 emacs -nw -Q`. It
+# prints a letter in negative image, such as a bidi control's, in a circle. Columns follow the screen, so the viewer must not
+# reorder the text. With --cells it prints a line with the window's rows and columns and the cursor's row and
 # column, from 0, and then the screen as tmux captures it, with the sequences for negative image, as draw_screens.py reads it.
 set -eu
 

@@ -64,8 +64,8 @@ other_picture() { # NAME PICTURE PICTURE
     report "$1" $? 'no pixel is different'
 }
 
-# Compares the editor's picture with that of `cat`: of the text where the terminal reorders, else of the rows as they are to be
-# seen. The other one of these shows that the picture tells them apart.
+# Compares the editor's picture with the picture of `cat` on the text if the terminal reorders, else on the rows in visual order.
+# The other picture must differ, which shows that the comparison can fail.
 check_rows() { # KIND
     if reorders "$1"; then right=text wrong=rows; else right=rows wrong=text; fi
     order 'clear; cat text text'

@@ -1,5 +1,5 @@
-//! The visual order of a row of scattered levels: HIGHEST UNITS TIMES. The levels, from 0 to HIGHEST, which is at most 255,
-//! follow the multiples of the golden ratio.
+//! Measures the visual order of a row with scattered levels: HIGHEST UNITS TIMES. The row has UNITS units. Levels go from 0 to
+//! HIGHEST, at most 255, and follow the multiples of the golden ratio.
 
 use crate::edits::turning;
 use crate::outcome::{Outcome, number};

@@ -131,8 +131,9 @@ fn chars_before(body: &str, units: &[Unit]) -> usize
     char_count(&body[..units[0].start])
 }
 
-/// The levels of a row's units, by L1 at the row's end, not the paragraph's. A unit has the level of its first character
-/// that X9 keeps, else that of the unit before it, else the paragraph level. Counts the characters before the row.
+/// The levels of a row's units. L1 applies at the row's end, not the paragraph's. A unit takes the level of its first character
+/// that X9 keeps. If X9 removes them all, it takes the previous unit's level, and the first unit the paragraph level. The call
+/// counts the characters before the row.
 ///
 /// Errors: `OutOfMemory`.
 #[tactic(auto, using(crate::proofs::Resets::one_each))]
