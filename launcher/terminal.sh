@@ -338,7 +338,7 @@ open_pipes() {
 }
 
 # Copies the terminal's input to the program: through the filter, which translates keys and pastes, else as it is. Blocks of 512
-# bytes are written to a pipe atomically on every system, and the filter writes no more at once.
+# bytes are written to a pipe atomically on every system, of 4,096 on Linux; the filter writes less than 1,300 at once.
 hand_on_keys() {
     [ -z "$filter" ] || exec "$filter"
     exec dd bs=512

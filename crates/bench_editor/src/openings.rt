@@ -15,7 +15,7 @@ fn once<R: CpuClock + AllocGlobal>(
     let copy = String::from_str(rt.alloc(), text)?.into_bytes();
     let tables = files.tables(rt.alloc())?;
     let start = rt.thread_cpu_time()?;
-    let typist = Typist::open(rt.alloc(), copy, tables)?;
+    let typist = Typist::open(copy, tables)?;
     let end = rt.thread_cpu_time();
     let sent = typist.traffic().sent;
     // closed before `?`, so that a single exit closes it

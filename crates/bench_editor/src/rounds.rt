@@ -34,7 +34,7 @@ fn measured<R: CpuClock + AllocGlobal>(
 ) -> Result<(Traffic, Duration)> {
     let length = text.len();
     let tables = files.tables(rt.alloc())?;
-    let mut typist = Typist::open(rt.alloc(), text.into_bytes(), tables)?;
+    let mut typist = Typist::open(text.into_bytes(), tables)?;
     let time = rounds(rt, &mut typist, task, wanted, length);
     let traffic = typist.traffic();
     time.map(|time| (traffic, time))

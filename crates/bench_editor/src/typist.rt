@@ -6,7 +6,6 @@ use anyhow::{Result, bail};
 use bx_session::Session;
 use bx_terms::Base;
 use bx_ucd::Tables;
-use std::alloc::Global;
 
 /// The rows of the window.
 const ROWS: u16 = 24;
@@ -39,8 +38,8 @@ fn take(session: &mut Session<Tables>) -> usize {
 
 impl Typist {
     /// Opens a text and takes the bytes of the first picture.
-    pub(crate) fn open(alloc: Global, text: Vec<u8>, tables: Tables) -> Result<Typist> {
-        let mut session = Session::open(alloc, text, tables, ROWS, COLUMNS, Base::Auto)?;
+    pub(crate) fn open(text: Vec<u8>, tables: Tables) -> Result<Typist> {
+        let mut session = Session::open(text, tables, ROWS, COLUMNS, Base::Auto)?;
         let sent = take(&mut session);
         Ok(Typist {
             session,

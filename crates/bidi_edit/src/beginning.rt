@@ -55,7 +55,7 @@ pub fn open(
     let start = beginning
         .line
         .map(|line| start_of_line(text.as_slice(), line));
-    let mut session = Session::open(alloc, text, tables, rows, cols, direction)?;
+    let mut session = Session::open(text, tables, rows, cols, direction)?;
     prepare(&mut session, start, unsaved)?;
     Ok(session)
 }

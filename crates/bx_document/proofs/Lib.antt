@@ -5,6 +5,7 @@ pub mod RowsDrawn
 pub mod CellColumns
 pub mod TouchedPlace
 pub mod TouchedTold
+pub mod LineTold
 pub mod PlaceAfter
 pub mod PlacesKept
 pub mod PlacesMoved

@@ -18,14 +18,17 @@ module _ {D : Type 0} (says : D → Data) (inner now : DocumentState D) (same : 
   abbrev w : ℕ
   w = inner.document.w
 
+  abbrev text : List ℕ
+  text = inner.document.content.text
+
   abbrev rows : List TextRow
-  rows = text_rows (says inner.tables) inner.document.base w inner.document.content.text
+  rows = text_rows (says inner.tables) inner.document.base w text
 
   abbrev IsOf : DocumentState D → ℕ → Type 0
   IsOf s o = IsTextPlace (says s.tables) s.document.content.text o
 
-  kept : MovesKeep w rows (IsOf inner)
-  kept = text-places-kept (says inner.tables) inner.document.base w (side-some w side) inner.document.content.text utf8
+  kept : MovesKeep (says inner.tables) text w rows (IsOf inner)
+  kept = text-places-kept (says inner.tables) inner.document.base w (side-some w side) text utf8
 
   there : (o led : ℕ) → o ≡ led → IsOf inner led → IsOf now o
   there o led e h = subst (λ (s : DocumentState D). IsOf s o) same (subst (IsOf inner) (sym e) h)
@@ -36,13 +39,17 @@ module _ {D : Type 0} (says : D → Data) (inner now : DocumentState D) (same : 
   pub from : (offset o : ℕ) → o ≡ moves.place_from rows offset → IsOf now o
   from offset o e = there o (moves.place_from rows offset) e (kept.from offset)
 
-  pub by-move : (m : Move) (place o : ℕ) → o ≡ moves.moved w rows m place → IsOf now place → IsOf now o
-  by-move m place o e h = there o (moves.moved w rows m place) e (kept.moved m place (here place h))
+  pub by-move : (m : Move) (place o : ℕ) → o ≡ moves.moved (says inner.tables) text w rows m place → IsOf now place → IsOf now o
+  by-move m place o e h = there o (moves.moved (says inner.tables) text w rows m place) e (kept.moved m place (here place h))
 
   -- from any offset
-  pub to-row-end : (m : Move) (place o : ℕ) → o ≡ moves.moved w rows m place → moves.is_to_row_end m ≡ true → IsOf now o
+  pub to-row-end : (m : Move) (place o : ℕ) → o ≡ moves.moved (says inner.tables) text w rows m place → moves.is_to_row_end m ≡ true → IsOf now o
   to-row-end variants.RowHome place o e h = there o (moves.row_home rows place) e (kept.home place)
   to-row-end variants.RowEnd place o e h = there o (moves.row_end rows place) e (kept.end place)
   to-row-end (variants.Logical way) place o e h = absurd (cc)
   to-row-end (variants.Visual side) place o e h = absurd (cc)
   to-row-end (variants.Rows way n) place o e h = absurd (cc)
+  to-row-end (variants.Word way) place o e h = absurd (cc)
+  to-row-end (variants.WordTowards side) place o e h = absurd (cc)
+  to-row-end variants.TextStart place o e h = absurd (cc)
+  to-row-end variants.TextEnd place o e h = absurd (cc)

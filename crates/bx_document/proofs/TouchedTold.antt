@@ -10,6 +10,7 @@ use Rattle.bx_paras.specs.Paragraphs.{lengths}
 use Rattle.bx_paras.specs.Positions.{paragraph_of, separators, spans, total}
 use Rattle.bx_paras.proofs.Asked.{separator_at, span_at}
 use Rattle.bx_paras.proofs.Totals.{total_more}
+use Rattle.bx_view.specs.Standing.{start_at}
 use Rattle.bx_view.proofs.Numbers.{falls-at, lengths-count}
 use Rattle.bx_document.specs.Touched.{touched_start, touched_stop}
 use Rattle.bx_document.proofs.TouchedPlace.{back_is, front_is}
@@ -38,11 +39,16 @@ module _ (says : Data) (text : List ℕ) (ls : List Lengths) (utf8 : IsUtf8 text
       let falls = falls-at says text offset n utf8 (e ∙ ap (λ ks. paragraph_of ks offset) same) in
       omega (arith, falls.within, lengths-count says text, ap length same)
 
-  pub start_told : (start n : ℕ) (s : ℕ × ℕ) → n ≡ paragraph_of ls (start - 1) → slice_get (spans ls) n ≡ Some s → s.0 ≡ touched_start says text start
-  start_told start n (a, b) e f =
-      let told = span_at 0 n ls none (there (start - 1) n e) in
+  -- where it begins
+  pub begin_told : (offset n : ℕ) (s : ℕ × ℕ) → n ≡ paragraph_of ls offset → slice_get (spans ls) n ≡ Some s
+      → s.0 ≡ start_at says text (paragraph_of (lengths says text) offset)
+  begin_told offset n (a, b) e f =
+      let told = span_at 0 n ls none (there offset n e) in
       let both = some_pair_parts a (0 + total (take n ls)) b (0 + total (take n ls) + (get_or ls n none).body) (sym f ∙ told) in
-      omega (arith, both.0) ∙ ap (λ k. total (take k ls)) e ∙ ap (λ ks. total (take (paragraph_of ks (start - 1)) ks)) same
+      omega (arith, both.0) ∙ ap (λ k. total (take k ls)) e ∙ ap (λ ks. total (take (paragraph_of ks offset) ks)) same
+
+  pub start_told : (start n : ℕ) (s : ℕ × ℕ) → n ≡ paragraph_of ls (start - 1) → slice_get (spans ls) n ≡ Some s → s.0 ≡ touched_start says text start
+  start_told start n s e f = begin_told (start - 1) n s e f
 
   pub start_range : (start n : ℕ) (s : ℕ × ℕ) → n ≡ paragraph_of ls (start - 1) → slice_get (spans ls) n ≡ Some s → IsCharBoundary text start
       → IsRange text (s.0) start

@@ -1,6 +1,7 @@
 //! An editable text laid out in a window: cursor moves, edits with the place after each, and rows drawn into a grid.
 #![tactic(auto)]
 
+mod copying;
 mod document;
 mod drawing;
 mod drawn_rows;

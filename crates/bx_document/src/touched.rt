@@ -27,7 +27,7 @@ fn start_before<D: BidiData>(source: &Source<'_, D>, start: usize) -> usize
 }
 
 /// The end of the paragraph that an offset falls in, its separator included. No memory.
-fn stop_after<D: BidiData>(source: &Source<'_, D>, stop: usize) -> usize
+pub(crate) fn stop_after<D: BidiData>(source: &Source<'_, D>, stop: usize) -> usize
     requires bounds { IsCharBoundary (bytes source.now) stop }
     ensures stop { result ≡ touched_stop (D.data source.now.tables.now) (bytes source.now) stop }
     ensures range { IsRange (bytes source.now) stop result }

@@ -1,11 +1,15 @@
 pub mod Computed
 pub mod Examples
+pub mod RegionExamples
+pub mod WordKeyExamples
 pub mod RowText
 pub mod StepOrder
+pub mod Parts
 pub mod Shown
 pub mod StatusRow
 pub mod TopOnce
 pub mod OnItsCell
 pub mod Begin
 pub mod TakenBack
+pub mod PutBack
 pub mod LawExamples

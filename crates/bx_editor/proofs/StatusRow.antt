@@ -14,7 +14,8 @@ use Rattle.bx_grid.proofs.Reading.{and_left, and_right}
 use Rattle.bx_document.specs.Drawing.{with_rows}
 use Rattle.bx_document.proofs.PutOn.{one_row}
 use Rattle.bx_editor.specs.declared.message.Message.{Message}
-use Rattle.bx_editor.specs.declared.message.Message.TheVariants.{Saved, SaveFailed, TextFull, NothingToUndo, NothingToRedo, Unsaved, Direction}
+use Rattle.bx_editor.specs.declared.message.Message.TheVariants.{Saved, SaveFailed, TextFull, NothingToUndo, NothingToRedo, Unsaved, Direction, MarkSet, MarkOff}
+use Rattle.bx_editor.specs.declared.message.Message.TheVariants.{Copied, LineCopied, NothingToCopy, NothingToPut, Help}
 use Rattle.bx_editor.specs.Status.{message_part, message_text, status_line, text_columns}
 
 -- ---- all its characters are from SPACE to TILDE
@@ -42,6 +43,13 @@ message-printable Unsaved = refl
 message-printable (Direction Auto) = refl
 message-printable (Direction Ltr) = refl
 message-printable (Direction Rtl) = refl
+message-printable MarkSet = refl
+message-printable MarkOff = refl
+message-printable Copied = refl
+message-printable LineCopied = refl
+message-printable NothingToCopy = refl
+message-printable NothingToPut = refl
+message-printable Help = refl
 
 part-printable : (message : Option Message) → are_ascii_printable (message_part message) ≡ true
 part-printable None = refl

@@ -1,18 +1,20 @@
 -- Undo and redo restore earlier versions: past and future are chains of versions that begin with the opened text.
 use Rattle.std.proofs.Common.{◌≡◌, ℕ, Bool, true, false, List, [], ◌∷◌, length, replicate, refl, sym, ap, subst, if◌then◌else◌}
-use Rattle.std.specs.Prelude.{◌≢◌, ◌+◌, ◌==◌, ◌||◌, not, encode_utf8, Some}
+use Rattle.std.specs.Prelude.{◌≢◌, ◌+◌, ◌==◌, ◌||◌, not, encode_utf8, Some, None}
 use Rattle.bx_terms.specs.declared.base.Base.{Base}
 use Rattle.bx_keys.specs.declared.key.Key.{Key}
 use Rattle.bx_keys.specs.declared.key.Key.TheVariants.{Insert, Erase, Delete, Back, Forward, Up, Down, Right, Left, RowHome, RowEnd, PageUp, PageDown, Save}
-use Rattle.bx_keys.specs.declared.key.Key.TheVariants.{Quit, Undo, Redo, Repaint, Direction, Size}
+use Rattle.bx_keys.specs.declared.key.Key.TheVariants.{Quit, Undo, Redo, Repaint, Direction, Size, Mark, Copy, Cut, Put}
+use Rattle.bx_keys.specs.declared.key.Key.TheVariants.{Find, FindBack, WordLeft, WordRight, TextStart, TextEnd, Help}
 use Rattle.bx_text.specs.Edits.{Edit, Edited, fits, inserted, removed, splice}
 use Rattle.bx_view.specs.Moves.{step_logical}
 use Rattle.bx_view.specs.declared.moves.Logical.TheVariants as logical
-use Rattle.bx_editor.specs.declared.message.Message.TheVariants.{TextFull, Unsaved}
-use Rattle.bx_editor.specs.Data.{Data}
+use Rattle.bx_editor.specs.declared.message.Message.TheVariants.{TextFull, Unsaved, Copied, LineCopied, MarkOff, MarkSet, NothingToCopy, NothingToPut}
+use Rattle.bx_ucd.specs.Data.{Data}
 use Rattle.bx_editor.specs.Editor.{Editor, at_start, rows, place_after, after_insertion, after_removal, without_message}
 use Rattle.bx_editor.specs.Editor.{after_undo, after_redo, after_save, after_quit}
 use Rattle.bx_editor.specs.Keys.{after_key, after_keys}
+use Rattle.bx_editor.specs.Region.{after_copy, after_cut, after_mark, after_put, bytes_in, is_at_mark, is_empty, line, region, taken}
 use Rattle.bx_editor.specs.Laws.{after_typing, IsBackAt, UndoGivesBack, RedoMirrorsUndo}
 
 -- ---- chains of versions
@@ -46,14 +48,14 @@ insertion_has : (first : List ℕ) (d : Data) (e : Editor) (new : List ℕ) → 
 insertion_has first d e new h =
     let after = place_after d e (splice e.content.text e.place e.place new) (e.place + length new) in
     either_has (fits e.content.text e.place e.place new) first
-    (record e { content = inserted e.content e.place new e.place after; place = after; changed = true })
+    (record e { content = inserted e.content e.place new e.place after; place = after; mark = None; changed = true })
     (record e { message = Some TextFull }) (record { past = (refl, h.past); future = tt }) h
 
 removal_has : (first : List ℕ) (d : Data) (e : Editor) (start stop : ℕ) → HasVersions first e.content
     → HasVersions first (after_removal d e start stop).content
 removal_has first d e start stop h =
     let after = place_after d e (splice e.content.text start stop []) start in
-    either_has (start == stop) first e (record e { content = removed e.content start stop e.place after; place = after; changed = true }) h
+    either_has (start == stop) first e (record e { content = removed e.content start stop e.place after; place = after; mark = None; changed = true }) h
     (record { past = (refl, h.past); future = tt })
 
 undo_has : (first : List ℕ) (e : Editor) (text : List ℕ) (past future : List Edit) → HasVersions first (version text past future)
@@ -80,6 +82,27 @@ quit_has : (first : List ℕ) (e : Editor) (again : Bool) → HasVersions first 
 quit_has first e again h = either_has (not e.changed || again) first (record e { quit_before = true; ended = true })
     (record e { quit_before = true; message = Some Unsaved }) h h
 
+mark_has : (first : List ℕ) (e : Editor) → HasVersions first e.content → HasVersions first (after_mark e).content
+mark_has first e h = either_has (is_at_mark e.mark e.place) first (record e { mark = None; message = Some MarkOff })
+    (record e { mark = Some e.place; message = Some MarkSet }) h h
+
+copy_has : (first : List ℕ) (d : Data) (e : Editor) → HasVersions first e.content → HasVersions first (after_copy d e).content
+copy_has first d e h =
+    let none : Editor = record e { mark = None; message = Some NothingToCopy } in
+    let one : Editor = record e { mark = None; held = bytes_in e (line d e); message = Some LineCopied } in
+    either_has (is_empty (region e)) first (if is_empty (line d e) then none else one)
+    (record e { mark = None; held = bytes_in e (region e); message = Some Copied }) (either_has (is_empty (line d e)) first none one h h) h
+
+cut_has : (first : List ℕ) (d : Data) (e : Editor) → HasVersions first e.content → HasVersions first (after_cut d e).content
+cut_has first d e h =
+    let part = taken d e in
+    either_has (is_empty part) first (after_copy d e) (record (after_removal d e (part.0) (part.1)) { held = bytes_in e part }) (copy_has first d e h)
+    (removal_has first d e (part.0) (part.1) h)
+
+put_has : (first : List ℕ) (d : Data) (e : Editor) → HasVersions first e.content → HasVersions first (after_put d e).content
+put_has first d e h =
+    either_has (length e.held == 0) first (record e { message = Some NothingToPut }) (after_insertion d e e.held) h (insertion_has first d e e.held h)
+
 key_has : (d : Data) (saved : Bool) (first : List ℕ) (e : Editor) (key : Key) → HasVersions first e.content
     → HasVersions first (after_key d saved e key).content
 key_has d saved first e (Insert c) h = insertion_has first d (without_message e) (encode_utf8 c) h
@@ -101,6 +124,17 @@ key_has d saved first e Undo h = undo_has first (without_message e) e.content.te
 key_has d saved first e Redo h = redo_has first (without_message e) e.content.text e.content.past e.content.future h
 key_has d saved first e Repaint h = h
 key_has d saved first e Direction h = h
+key_has d saved first e Mark h = mark_has first (without_message e) h
+key_has d saved first e Copy h = copy_has first d (without_message e) h
+key_has d saved first e Cut h = cut_has first d (without_message e) h
+key_has d saved first e Put h = put_has first d (without_message e) h
+key_has d saved first e Find h = h
+key_has d saved first e FindBack h = h
+key_has d saved first e WordLeft h = h
+key_has d saved first e WordRight h = h
+key_has d saved first e TextStart h = h
+key_has d saved first e TextEnd h = h
+key_has d saved first e Help h = h
 key_has d saved first e (Size height width) h = h
 
 typing_has : (d : Data) (first : List ℕ) (e : Editor) (typed : List (Key × Bool)) → HasVersions first e.content
@@ -118,7 +152,7 @@ all_back : (d : Data) (first : List ℕ) (e : Editor) (text : List ℕ) (past fu
     → IsBackAt first (after_keys d false (record e { content = version text past future }) (replicate (length past) Undo))
 all_back d first e text [] future h = record { text_is = h; past_is = refl }
 all_back d first e text (edit ∷ past) future h =
-    all_back d first (record (without_message e) { place = edit.before.place; changed = true }) edit.before.text past (edit ∷ future) h.1
+    all_back d first (record (without_message e) { place = edit.before.place; mark = None; changed = true }) edit.before.text past (edit ∷ future) h.1
 
 redo_back : (d : Data) (first : List ℕ) (e : Editor) (text : List ℕ) (past future : List Edit) → IsPastOf first text past → past ≢ []
     → (after_keys d false (record e { content = version text past future }) (Undo ∷ Redo ∷ [])).content ≡ version text past future

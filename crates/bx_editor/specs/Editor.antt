@@ -16,6 +16,10 @@ pub record Editor : Type 0 where
   pub content : Edited
   -- the cursor's place
   pub place : ℕ
+  -- a place of the text: the region is between it and the cursor's place
+  pub mark : Option ℕ
+  -- what was copied or cut last, the UTF-8 bytes of characters
+  pub held : List ℕ
   -- there was an edit since the opening or the last save
   pub changed : Bool
   pub message : Option Message
@@ -37,6 +41,8 @@ abbrev pub at_start : List ℕ → ℕ → ℕ → Base → Editor
 at_start text height width base = record {
   content = opened text;
   place = 0;
+  mark = None;
+  held = [];
   changed = false;
   message = None;
   quit_before = false;
@@ -58,7 +64,7 @@ rows d e = rows_of d e e.content.text
 abbrev pub text_height : ℕ → ℕ
 text_height height = if nat_le 2 height then height - 1 else 1
 
--- ---- edits
+-- ---- edits: one that makes the text another takes the mark away
 
 -- the first place of a new text at or after an offset
 abbrev pub place_after : Data → Editor → List ℕ → ℕ → ℕ
@@ -70,7 +76,7 @@ abbrev pub after_insertion : Data → Editor → List ℕ → Editor
 after_insertion d e new =
     if fits e.content.text e.place e.place new
     then (let after = place_after d e (splice e.content.text e.place e.place new) (e.place + length new) in
-    record e { content = inserted e.content e.place new e.place after; place = after; changed = true })
+    record e { content = inserted e.content e.place new e.place after; place = after; mark = None; changed = true })
     else record e { message = Some messages.TextFull }
 
 -- the bytes from `start` to `stop` are removed; if there are none, nothing changes
@@ -80,17 +86,17 @@ after_removal d e start stop =
     then e
     else
     let after = place_after d e (splice e.content.text start stop []) start in
-    record e { content = removed e.content start stop e.place after; place = after; changed = true }
+    record e { content = removed e.content start stop e.place after; place = after; mark = None; changed = true }
 
 -- the latest edit is undone, and the cursor returns to its place before it
 abbrev pub after_undo : Editor → List Edit → Editor
 after_undo e [] = record e { message = Some messages.NothingToUndo }
-after_undo e (edit ∷ past) = record e { content = undone e.content; place = edit.before.place; changed = true }
+after_undo e (edit ∷ past) = record e { content = undone e.content; place = edit.before.place; mark = None; changed = true }
 
 -- the next edit is redone, and the cursor goes to its place after it
 abbrev pub after_redo : Editor → List Edit → Editor
 after_redo e [] = record e { message = Some messages.NothingToRedo }
-after_redo e (edit ∷ future) = record e { content = redone e.content; place = edit.after.place; changed = true }
+after_redo e (edit ∷ future) = record e { content = redone e.content; place = edit.after.place; mark = None; changed = true }
 
 abbrev pub after_step : HistoryStep → Editor → Editor
 after_step steps.Undo e = after_undo e e.content.past
@@ -122,6 +128,10 @@ next_base Rtl = Auto
 
 abbrev pub with_base : Editor → Base → Editor
 with_base e base = record e { base = base; message = Some (messages.Direction base) }
+
+-- the control keys are listed
+abbrev pub after_help : Editor → Editor
+after_help e = record e { message = Some messages.Help }
 
 abbrev pub with_size : Editor → ℕ → ℕ → Editor
 with_size e height width = record e { height = height; width = width }

@@ -1,15 +1,17 @@
 -- The effect of each key on the editor's state.
-use Rattle.std.specs.Prelude.{Bool, true, false, List, [], ◌∷◌, encode_utf8}
+use Rattle.std.specs.Prelude.{Bool, true, false, List, [], ◌∷◌, length, encode_utf8}
 use Rattle.bx_keys.specs.declared.key.Key.{Key}
 use Rattle.bx_keys.specs.declared.key.Key.TheVariants.{Insert, Erase, Delete, Back, Forward, Up, Down, Right, Left, RowHome, RowEnd, PageUp, PageDown}
-use Rattle.bx_keys.specs.declared.key.Key.TheVariants.{Save, Quit, Undo, Redo, Repaint, Direction, Size}
+use Rattle.bx_keys.specs.declared.key.Key.TheVariants.{Save, Quit, Undo, Redo, Repaint, Direction, Size, Mark, Copy, Cut, Put}
+use Rattle.bx_keys.specs.declared.key.Key.TheVariants.{Find, FindBack, WordLeft, WordRight, TextStart, TextEnd, Help}
 use Rattle.bx_paragraph.specs.declared.moves.Visual.TheVariants as visual
 use Rattle.bx_view.specs.declared.moves.Logical.TheVariants as logical
 use Rattle.bx_view.specs.declared.moves.Vertical.TheVariants as ways
-use Rattle.bx_view.specs.Moves.{step_logical, step_visual, vertical, page, row_home, row_end}
+use Rattle.bx_view.specs.Moves.{step_logical, step_visual, vertical, page, row_home, row_end, word_towards}
 use Rattle.bx_ucd.specs.Data.{Data}
 use Rattle.bx_editor.specs.Editor.{Editor, rows, text_height, after_insertion, after_removal, after_undo, after_redo, after_save, after_quit}
-use Rattle.bx_editor.specs.Editor.{next_base, with_base, with_size, with_place, without_message}
+use Rattle.bx_editor.specs.Editor.{next_base, with_base, with_size, with_place, after_help, without_message}
+use Rattle.bx_editor.specs.Region.{after_copy, after_cut, after_mark, after_put}
 
 -- a key other than Size, once the message is cleared; `saved`: a Save succeeds; `again`: the key before was Quit
 abbrev pub after_pressing : Data → Bool → Bool → Editor → Key → Editor
@@ -32,6 +34,17 @@ after_pressing d saved again e Undo = after_undo e e.content.past
 after_pressing d saved again e Redo = after_redo e e.content.future
 after_pressing d saved again e Repaint = e
 after_pressing d saved again e Direction = with_base e (next_base e.base)
+after_pressing d saved again e Mark = after_mark e
+after_pressing d saved again e Copy = after_copy d e
+after_pressing d saved again e Cut = after_cut d e
+after_pressing d saved again e Put = after_put d e
+after_pressing d saved again e Find = e
+after_pressing d saved again e FindBack = e
+after_pressing d saved again e WordLeft = with_place e (word_towards d e.content.text (rows d e) visual.Left e.place)
+after_pressing d saved again e WordRight = with_place e (word_towards d e.content.text (rows d e) visual.Right e.place)
+after_pressing d saved again e TextStart = with_place e 0
+after_pressing d saved again e TextEnd = with_place e (length e.content.text)
+after_pressing d saved again e Help = after_help e
 after_pressing d saved again e (Size height width) = e
 
 -- any key; all but Size clear the message first
@@ -46,12 +59,14 @@ after_keys d saved e (key ∷ keys) = after_keys d saved (after_key d saved e ke
 
 -- ---- kinds of keys
 
--- a key that edits, undoes, redoes or moves: the keys that may run out of memory
+-- a key that edits, undoes, redoes, moves, copies or finds: the keys that may run out of memory
 abbrev pub is_edit_or_move : Key → Bool
 is_edit_or_move Save = false
 is_edit_or_move Quit = false
 is_edit_or_move Repaint = false
 is_edit_or_move Direction = false
+is_edit_or_move Mark = false
+is_edit_or_move Help = false
 is_edit_or_move (Size height width) = false
 is_edit_or_move _ = true
 

@@ -1,12 +1,13 @@
 -- Laws of the editor.
-use Rattle.std.specs.Prelude.{◌≡◌, ◌≢◌, ℕ, Bool, true, false, List, [], ◌∷◌, length, replicate, IsUtf8}
-use Rattle.bx_terms.specs.Sizes.{is_side}
+use Rattle.std.specs.Prelude.{◌≡◌, ◌≢◌, ℕ, ◌<◌, ◌≤◌, Bool, true, false, List, [], ◌∷◌, ◌++◌, length, take, drop, replicate, IsUtf8}
+use Rattle.bx_terms.specs.Sizes.{is_side, largest_text}
 use Rattle.bx_terms.specs.declared.base.Base.{Base}
 use Rattle.bx_keys.specs.declared.key.Key.{Key}
-use Rattle.bx_keys.specs.declared.key.Key.TheVariants.{Undo, Redo}
-use Rattle.bx_editor.specs.Data.{Data}
+use Rattle.bx_keys.specs.declared.key.Key.TheVariants.{Undo, Redo, Copy, Cut, Put}
+use Rattle.bx_ucd.specs.Data.{Data}
 use Rattle.bx_editor.specs.Editor.{Editor, at_start}
 use Rattle.bx_editor.specs.Keys.{after_key, after_keys}
+use Rattle.bx_editor.specs.Region.{bytes_in, region, taken}
 use Rattle.bx_editor.specs.Picture.{next_top}
 
 -- ---- the top
@@ -53,3 +54,27 @@ abbrev pub RedoMirrorsUndo : Type 0
 RedoMirrorsUndo =
     (d : Data) (text : List ℕ) (height width : ℕ) (base : Base) (typed : List (Key × Bool))
     → AreMirrored d (after_typing d (at_start text height width base) typed)
+
+-- ---- the region
+
+-- a part of the text that is not empty
+pub record IsPart (e : Editor) (part : ℕ × ℕ) : Type 0 where
+  pub some : part.0 < part.1
+  pub inside : part.1 ≤ length e.content.text
+
+-- the text with a part of it twice
+abbrev pub twice : Editor → ℕ × ℕ → List ℕ
+twice e part = take part.0 e.content.text ++ bytes_in e part ++ bytes_in e part ++ drop part.1 e.content.text
+
+-- copying the region and putting it back at once leaves the text with the region twice, if there is room for it
+abbrev pub CopyPutsTwice : Type 0
+CopyPutsTwice =
+    (d : Data) (e : Editor) → IsPart e (region e) → length (twice e (region e)) ≤ largest_text
+    → (after_keys d false e (Copy ∷ Put ∷ [])).content.text ≡ twice e (region e)
+
+-- what is cut and put back at once, with the place where it was, leaves the text as it was
+abbrev pub PutRestoresCut : Type 0
+PutRestoresCut =
+    (d : Data) (e : Editor) → IsPart e (taken d e) → length e.content.text ≤ largest_text
+    → (after_key d false e Cut).place ≡ (taken d e).0
+    → (after_keys d false e (Cut ∷ Put ∷ [])).content.text ≡ e.content.text

@@ -1,5 +1,5 @@
-pub mod Data
 pub mod Editor
+pub mod Region
 pub mod Keys
 pub mod Opening
 pub mod Picture

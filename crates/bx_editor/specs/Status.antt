@@ -5,7 +5,8 @@ use Rattle.bx_terms.specs.declared.base.Base.TheVariants.{Auto, Ltr, Rtl}
 pub use Rattle.bx_view.specs.Numbers.{paragraph_number, unit_number}
 use Rattle.bx_grid.specs.Columns.{Col, Glyph, blank}
 use Rattle.bx_editor.specs.declared.message.Message.{Message}
-use Rattle.bx_editor.specs.declared.message.Message.TheVariants.{Saved, SaveFailed, TextFull, NothingToUndo, NothingToRedo, Unsaved, Direction}
+use Rattle.bx_editor.specs.declared.message.Message.TheVariants.{Saved, SaveFailed, TextFull, NothingToUndo, NothingToRedo, Unsaved, Direction, MarkSet, MarkOff}
+use Rattle.bx_editor.specs.declared.message.Message.TheVariants.{Copied, LineCopied, NothingToCopy, NothingToPut, Help}
 use Rattle.bx_ucd.specs.Data.{Data}
 use Rattle.bx_editor.specs.Editor.{Editor}
 
@@ -19,6 +20,13 @@ message_text Unsaved = codes "unsaved: ^Q again"
 message_text (Direction Auto) = codes "direction auto"
 message_text (Direction Ltr) = codes "direction ltr"
 message_text (Direction Rtl) = codes "direction rtl"
+message_text MarkSet = codes "mark set"
+message_text MarkOff = codes "mark off"
+message_text Copied = codes "copied"
+message_text LineCopied = codes "line copied"
+message_text NothingToCopy = codes "nothing to copy"
+message_text NothingToPut = codes "nothing to put"
+message_text Help = codes "^S save ^Q quit ^Z undo ^W find ^@ mark ^X cut ^C copy ^V put F2 turn"
 
 abbrev pub message_part : Option Message → List ℕ
 message_part None = []

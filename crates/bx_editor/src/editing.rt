@@ -23,7 +23,7 @@ fn nothing_left(step: HistoryStep) -> Message
 
 impl<D: BidiData + Drop> Editor<D> {
     /// Counts the text as changed and clears the message, as each edit does once the cursor is at the new place.
-    fn finish_edit(&mut self)
+    pub(crate) fn finish_edit(&mut self)
         ensures { self.new ≡ record self.old { editor = record (without_message self.old.editor) { changed = true } } }
     {
         self.changed = true;
@@ -44,12 +44,13 @@ impl<D: BidiData + Drop> Editor<D> {
             return Ok(());
         };
         self.place = place;
+        self.mark = None;
         self.finish_edit();
         Ok(())
     }
 
     /// Removes the bytes from `start` to `stop`. An empty range changes no text.
-    fn remove(&mut self, start: usize, stop: usize) -> Result<(), OutOfMemory>
+    pub(crate) fn remove(&mut self, start: usize, stop: usize) -> Result<(), OutOfMemory>
         requires range { IsRange self.old.editor.content.text start stop }
         ensures ok { OnOk result (self.new ≡ record self.old {
           editor = after_removal (D.data self.old.tables) (without_message self.old.editor) start stop;
@@ -62,6 +63,7 @@ impl<D: BidiData + Drop> Editor<D> {
         }
         let place = self.document.remove(start, stop, self.place)?;
         self.place = place;
+        self.mark = None;
         self.finish_edit();
         Ok(())
     }
@@ -108,6 +110,7 @@ impl<D: BidiData + Drop> Editor<D> {
             return Ok(());
         };
         self.place = place;
+        self.mark = None;
         self.finish_edit();
         Ok(())
     }

@@ -13,11 +13,14 @@ use bx_text::Slices;
 use bx_ucd::BidiData;
 use std::marker::Model;
 
-/// A text under edit, the cursor's place in it and the message of the last key, in a window of rows and columns.
+/// A text under edit, the cursor's place in it, the mark, the text copied or cut last, and the message of the last key, in
+/// a window of rows and columns.
 #[derive(Drop)]
 pub struct Editor<D: BidiData + Drop> {
     pub(crate) document: Document<D>,
     pub(crate) place: usize,
+    pub(crate) mark: Option<usize>,
+    pub(crate) held: String,
     pub(crate) changed: bool,
     pub(crate) message: Option<Message>,
     pub(crate) quit_before: bool,
@@ -26,7 +29,7 @@ pub struct Editor<D: BidiData + Drop> {
 }
 
 impl<D: BidiData + Drop> Model for Editor<D> {
-    ghost use Rattle.std.specs.Prelude.{◌≡◌, true};
+    ghost use Rattle.std.specs.Prelude.{◌≡◌, true, IfSome, string_bytes};
     ghost use Rattle.bx_terms.specs.Sizes.{is_side};
     ghost use Rattle.bx_view.specs.Places.{IsTextPlace};
     ghost use Rattle.bx_editor.specs.Editor.{EditorState};
@@ -38,6 +41,8 @@ impl<D: BidiData + Drop> Model for Editor<D> {
       editor = record {
         content = e.document.document.content;
         place = e.place;
+        mark = e.mark;
+        held = string_bytes e.held;
         changed = e.changed;
         message = e.message;
         quit_before = e.quit_before;
@@ -48,7 +53,9 @@ impl<D: BidiData + Drop> Model for Editor<D> {
       };
     } };
 
-    ghost invariant = { λ e. IsTextPlace (D.data e.document.tables) e.document.document.content.text e.place × (is_side e.height ≡ true) };
+    ghost invariant = { λ e. IsTextPlace (D.data e.document.tables) e.document.document.content.text e.place
+        × (is_side e.height ≡ true)
+        × IfSome e.mark (IsTextPlace (D.data e.document.tables) e.document.document.content.text) };
 }
 
 impl<D: BidiData + Drop> Editor<D> {

@@ -75,7 +75,7 @@ impl<D: BidiData + Drop> Editor<D> {
 
     /// Applies a key other than Save and Size.
     ///
-    /// Errors: `OutOfMemory`, only for a key that edits, undoes, redoes or moves, and nothing has changed.
+    /// Errors: `OutOfMemory`, only for a key that edits, undoes, redoes, moves, copies or finds, and nothing has changed.
     pub fn apply(&mut self, key: Key) -> Result<(), OutOfMemory>
         requires no_save { is_save key ≡ false }
         requires no_size { is_size_key key ≡ false }
@@ -99,8 +99,23 @@ impl<D: BidiData + Drop> Editor<D> {
             Key::RowEnd => self.moved(Move::RowEnd),
             Key::PageUp => self.moved(Move::Rows(Vertical::Up, page)),
             Key::PageDown => self.moved(Move::Rows(Vertical::Down, page)),
+            Key::WordLeft => self.moved(Move::WordTowards(Visual::Left)),
+            Key::WordRight => self.moved(Move::WordTowards(Visual::Right)),
+            Key::TextStart => self.moved(Move::TextStart),
+            Key::TextEnd => self.moved(Move::TextEnd),
             Key::Undo => self.step(HistoryStep::Undo),
             Key::Redo => self.step(HistoryStep::Redo),
+            Key::Copy => self.copy(),
+            Key::Cut => self.cut(),
+            Key::Put => self.put(),
+            Key::Mark => {
+                self.turn_mark();
+                Ok(())
+            }
+            Key::Help => {
+                self.tell(Message::Help);
+                Ok(())
+            }
             Key::Quit => {
                 self.quit();
                 Ok(())
@@ -109,7 +124,7 @@ impl<D: BidiData + Drop> Editor<D> {
                 self.turn_direction();
                 Ok(())
             }
-            Key::Repaint => {
+            Key::Repaint | Key::Find | Key::FindBack => {
                 self.forget();
                 Ok(())
             }

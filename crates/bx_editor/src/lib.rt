@@ -10,9 +10,10 @@ pub mod message;
 mod moving;
 mod opening;
 mod picture;
+mod region;
 mod status;
 
 pub use editor::Editor;
 pub use error::OpenError;
-pub use laws::{redo_mirrors_undo, top_stays, undo_gives_back};
+pub use laws::{copy_puts_twice, put_restores_cut, redo_mirrors_undo, top_stays, undo_gives_back};
 pub use message::Message;

@@ -19,6 +19,16 @@ pub enum Message {
     Unsaved,
     /// Paragraphs now have this base direction.
     Direction(Base),
+    MarkSet,
+    MarkOff,
+    /// The region was copied.
+    Copied,
+    /// The region was empty, and the paragraph was copied with its separator.
+    LineCopied,
+    NothingToCopy,
+    NothingToPut,
+    /// The control keys.
+    Help,
 }
 
 impl Message {
@@ -36,6 +46,15 @@ impl Message {
             Message::Direction(Base::Auto) => "direction auto",
             Message::Direction(Base::Ltr) => "direction ltr",
             Message::Direction(Base::Rtl) => "direction rtl",
+            Message::MarkSet => "mark set",
+            Message::MarkOff => "mark off",
+            Message::Copied => "copied",
+            Message::LineCopied => "line copied",
+            Message::NothingToCopy => "nothing to copy",
+            Message::NothingToPut => "nothing to put",
+            Message::Help => {
+                "^S save ^Q quit ^Z undo ^W find ^@ mark ^X cut ^C copy ^V put F2 turn"
+            }
         }
     }
 }

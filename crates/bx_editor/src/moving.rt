@@ -47,7 +47,7 @@ impl<D: BidiData + Drop> Editor<D> {
     pub(crate) fn moved(&mut self, m: Move) -> Result<(), OutOfMemory>
         ensures ok { OnOk result (self.new ≡ record self.old {
           editor = with_place (without_message self.old.editor)
-              (moved self.old.editor.width (rows (D.data self.old.tables) self.old.editor) m self.old.editor.place);
+              (moved (D.data self.old.tables) self.old.editor.content.text self.old.editor.width (rows (D.data self.old.tables) self.old.editor) m self.old.editor.place);
         }) }
         ensures err { OnErr result (self.new ≡ self.old) }
     {

@@ -11,7 +11,6 @@ use bx_document::Document;
 use bx_terms::{Base, LARGEST_TEXT, is_side};
 use bx_ucd::BidiData;
 use simdutf8::compat::from_utf8;
-use std::alloc::Global;
 
 /// Converts bytes to a text without copying them. The error is the length of their longest UTF-8 prefix.
 fn text_of(bytes: Vec<u8>) -> Result<String, usize>
@@ -33,7 +32,6 @@ impl<D: BidiData + Drop> Editor<D> {
     /// Errors, in this order: `TooLong` above 16,777,216 bytes; `NotUtf8` with the length of the longest UTF-8 prefix;
     /// `SizeOutOfRange` if a side is not from 1 to 500; `OutOfMemory`.
     pub fn open(
-        alloc: Global,
         bytes: Vec<u8>,
         tables: D,
         height: u16,
@@ -49,6 +47,7 @@ impl<D: BidiData + Drop> Editor<D> {
         if bytes.len() > LARGEST_TEXT {
             return Err(OpenError::TooLong);
         }
+        let alloc = *bytes.allocator();
         let text = match text_of(bytes) {
             Ok(text) => text,
             Err(count) => return Err(OpenError::NotUtf8(count)),
@@ -60,6 +59,8 @@ impl<D: BidiData + Drop> Editor<D> {
             Ok(document) => Ok(Editor {
                 document,
                 place: 0,
+                mark: None,
+                held: String::new(alloc),
                 changed: false,
                 message: None,
                 quit_before: false,

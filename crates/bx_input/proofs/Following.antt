@@ -3,7 +3,7 @@ use Rattle.std.proofs.Common.{◌≡◌, ◌≢◌, ℕ, ◌⊎◌, inl, inr, Bo
 use Rattle.std.proofs.Common.{refl, ap, sym, ◌∙◌, append_assoc, subst, arith}
 use Rattle.std.specs.List.{AllByRecursion, list_all}
 use Rattle.std.specs.Str.{bytes_eq, chars, IsUtf8}
-use Rattle.std.proofs.lemmas.Bool.{cases_Bool, cases_eq, and_parts, and_cases, or_parts, eqb-false}
+use Rattle.std.proofs.lemmas.Bool.{cases_eq, and_parts, and_cases, or_parts}
 use Rattle.std.proofs.lemmas.List.{append-nil}
 use Rattle.bx_bytes.specs.Pattern.{is_within}
 use Rattle.bx_bytes.specs.Utf8.{characters}
@@ -17,7 +17,7 @@ use Rattle.bx_keys.proofs.Cuts.{in_pieces, rest_waits}
 use Rattle.bx_keys.proofs.Feeding.{waits_decoding, feeds_waiting, feeds_end, feeds_break, feeds_alone}
 use Rattle.bx_input.specs.Table.{Row, rows, sequences, fate, row_of, paste_start, paste_end}
 use Rattle.bx_input.specs.Paste.{pasted, paste_fate}
-use Rattle.bx_input.specs.Filter.{State, Outside, Within, Step, step_by, paste_step_by, fresh_in_paste, broken, ended, step, start, run, at_end, filtered, apart_from, is_empty}
+use Rattle.bx_input.specs.Filter.{State, Outside, Within, Step, step_by, paste_step_by, fresh_in_paste, fresh, broken, ended, step, start, run, at_end, filtered, apart_from, is_empty}
 use Rattle.bx_input.specs.Laws.{is_text_byte, IsText, is_insert, HasKey, AddsKey, BecomesRow, PastesInsert}
 use Rattle.bx_input.proofs.Clean.{pastes_clean}
 use Rattle.bx_input.proofs.Decoding.{IsFree, IsOutside, anew, anew_in_text, after_can, alone_free, sequence_over, still_free, text_inserts, text_not_escape}
@@ -222,13 +222,26 @@ escape_closed : (waiting : List ℕ) (is_open : Bool) (rest : List ℕ) → edit
 escape_closed [] is_open rest w f c = subst IsFree (sym (left_none rest w)) (f.closed (or_parts is_open false c).0)
 escape_closed (x ∷ xs) is_open rest w f c = absurd (let no = (or_parts is_open true c).1 in cc no)
 
+breaks_no_escape : (b : ℕ) → fate (b ∷ []) ≡ Breaks → b ≢ 0x1B
+breaks_no_escape b h e = let same : Waits ≡ Breaks = ap (λ x. fate (x ∷ [])) (sym e) ∙ h in cc same
+
+fresh_follows_outside : (t : Fate) (waiting : List ℕ) (is_open : Bool) (rest : List ℕ) (b : ℕ) → fate (b ∷ []) ≡ t → editor.fate rest ≡ Waits
+    → fate waiting ≡ Waits → fate (waiting ++ b ∷ []) ≡ Breaks → FollowsOutside waiting is_open rest
+    → Follows (fresh t (is_open_after waiting is_open) b).state (left rest (waiting ++ (fresh t (is_open_after waiting is_open) b).output))
+fresh_follows_outside Waits waiting is_open rest b e w h g f =
+    subst (λ xs. FollowsOutside (b ∷ []) (is_open_after waiting is_open) (left rest xs)) (sym (append-nil waiting))
+    (record { closed = λ c. escape_closed waiting is_open rest w f c; not_bare = λ no s. cc no })
+fresh_follows_outside Ends waiting is_open rest b e w h g f =
+    let opened : Bool = is_open_after waiting is_open in
+    let went : Step = ended opened (row_of (b ∷ [])) in
+    subst (Follows went.state) (sym (left_append rest waiting went.output))
+    (ended_follows opened (b ∷ []) (row_of (b ∷ [])) (left rest waiting) refl (rest_waits (rest ++ waiting)) (λ c. escape_closed waiting is_open rest w f c))
+fresh_follows_outside Breaks waiting is_open rest b e w h g f = other_follows waiting is_open rest b w h g (breaks_no_escape b e) f
+
 broken_follows : (waiting : List ℕ) (is_open : Bool) (rest : List ℕ) (b : ℕ) → editor.fate rest ≡ Waits → fate waiting ≡ Waits
     → fate (waiting ++ b ∷ []) ≡ Breaks → FollowsOutside waiting is_open rest
     → Follows (broken waiting is_open b).state (left rest (broken waiting is_open b).output)
-broken_follows waiting is_open rest b w h g f = elim (cases_Bool (nat_eq b 0x1B)) [
-  | inl escape ↦ rw escape (record { closed = λ c. escape_closed waiting is_open rest w f c; not_bare = λ e s. cc e })
-  | inr other ↦ rw other (other_follows waiting is_open rest b w h g (eqb-false b 0x1B other) f)
-]
+broken_follows waiting is_open rest b w h g f = fresh_follows_outside (fate (b ∷ [])) waiting is_open rest b refl w h g f
 
 not_nothing : (xs : List ℕ) (b : ℕ) → xs ++ b ∷ [] ≢ []
 not_nothing [] b e = cc e

@@ -1,24 +1,13 @@
--- The bytes that a writer took, write by write, and a run that broke off.
+-- A run that broke off.
 use Rattle.std.proofs.Common.{◌≡◌, ℕ, ◌-◌, ◌≤◌, inl, inr, List, [], ◌++◌, length, take, drop, Option, Result, Ok, Err, refl, sym, ap, ◌∙◌, append_assoc, subst, arith}
 use Rattle.std.proofs.lemmas.List.{append-nil, take-append-drop, take_rest}
 use Rattle.std.proofs.KnownBytes.{Appends-nil, Appends-trans, Consumes-kept, Consumes-trans}
 use Rattle.std.specs.Prelude.{OnErr}
 use Rattle.std.specs.Io.KnownBytes.{Appends, Consumes, IsAtEnd, Keeps}
 use Rattle.bx_input.specs.Filter.{State, Step, start, run, at_end}
-use Rattle.bx_input.specs.Running.{IsWritten, WritesFront, HasPassed, IsBrokenOff, IsOneReadLate}
+use Rattle.bx_output.specs.Writing.{WritesFront}
+use Rattle.bx_input.specs.Running.{HasPassed, IsBrokenOff, IsOneReadLate}
 use Rattle.bx_input.proofs.Runs.{in_pieces}
-
-pub none_written : (bytes : List ℕ) (w : Option (List ℕ)) → IsWritten bytes w w [] bytes
-none_written bytes w = record { parts = refl; appends = Appends-nil w }
-
--- one write more
-pub more_written : (bytes : List ℕ) (a b c : Option (List ℕ)) (written rest : List ℕ) (count : ℕ) → IsWritten bytes a b written rest
-    → Appends b c (take count rest) → IsWritten bytes a c (written ++ take count rest) (take (length rest - count) (drop count rest))
-more_written bytes a b c written rest count is next = record {
-  parts = is.parts ∙ ap (λ xs. written ++ xs) (sym (take-append-drop count rest)) ∙ sym (append_assoc written (take count rest) (drop count rest))
-      ∙ ap (λ xs. written ++ take count rest ++ xs) (sym (take_rest rest count));
-  appends = Appends-trans a b c written (take count rest) is.appends next;
-}
 
 -- a front of bytes behind others
 front_behind : (xs ys : List ℕ) (a b c : Option (List ℕ)) → Appends a b xs → WritesFront ys b c → WritesFront (xs ++ ys) a c

@@ -1,11 +1,10 @@
 -- A row that follows from each law alone, and from the contract of a run.
-use Rattle.std.proofs.Common.{◌≡◌, ◌≢◌, ℕ, ◌≤◌, inl, inr, Bool, true, false, not, ◌&&◌, ◌==◌, nat_eq, List, [], ◌∷◌, ◌++◌, length, length-append, take}
+use Rattle.std.proofs.Common.{◌≡◌, ◌≢◌, ℕ, ◌≤◌, inl, inr, Bool, true, false, not, List, [], ◌∷◌, ◌++◌, length, length-append, take}
 use Rattle.std.proofs.Common.{Option, Some, None, refl, ap, sym, ◌∙◌, subst, arith}
 use Rattle.std.specs.Prelude.{codes}
 use Rattle.std.specs.List.{AllByRecursion, list_all}
 use Rattle.std.specs.Str.{chars, IsUtf8}
-use Rattle.std.proofs.lemmas.Bool.{and_left, and_parts, both_ways, or_from}
-use Rattle.std.proofs.lemmas.Bool.Decides.{nat_tests}
+use Rattle.std.proofs.lemmas.Bool.{and_left, and_parts, both_ways, not-true, or_from}
 use Rattle.std.proofs.lemmas.List.{append-nil, take_at}
 use Rattle.std.proofs.lemmas.List.Folds.{list_all-append}
 use lib.Utf8.{encode}
@@ -15,41 +14,41 @@ use Rattle.bx_keys.specs.declared.key.Key.TheVariants.{Insert, Up}
 use Rattle.bx_input.specs.Table.{rows, sequences, exact, paste_start, paste_end}
 use Rattle.bx_input.specs.Paste.{kept_characters, pasted}
 use Rattle.bx_input.specs.Filter.{Outside, Within, Step, step_to, step, start, run, at_end, filtered}
-use Rattle.bx_input.specs.Laws.{ComesInPieces, WaitsForFive, waiting_in, BecomesRow, HasNone, OthersPass, PastesText, IsText, PastesAreClean, GrowsByThird, NoLongerWithoutPQ}
+use Rattle.bx_input.specs.Laws.{ComesInPieces, WaitsForFive, waiting_in, BecomesRow, HasNone, OthersPass, PastesText, IsText, PastesAreClean, GrowsFiveTimes, GrowsByTwoThirds}
 use Rattle.bx_input.specs.Laws.{HasKey, AddsKey, PastesInsert, PastesKeepCharacters}
 use Rattle.bx_input.specs.Running.{HasPassed, IsBrokenOff, IsFiltered, IsOneReadLate}
 
--- ---- bytes without ESC have no sequence
+-- ---- bytes with which no sequence begins
 
-abbrev has_no_escape : List ℕ → Bool
-has_no_escape bs = list_all (λ b. not (b == 0x1B)) bs
+abbrev begins_by : ℕ → List Piece → Bool
+begins_by b (One low high ∷ ps) = is_within low high b
+begins_by b _ = true
 
-abbrev begins_by_escape : List Piece → Bool
-begins_by_escape (One low high ∷ ps) = low == 0x1B && high == 0x1B
-begins_by_escape _ = false
+abbrev begins_none : List (List Piece) → ℕ → Bool
+begins_none ps b = list_all (λ p. not (begins_by b p)) ps
 
-not_first : (low high b : ℕ) → nat_eq low 0x1B && nat_eq high 0x1B ≡ true → not (nat_eq b 0x1B) ≡ true → is_within low high b ≡ false
-not_first low high b e n = grind (arith, nat_tests)
+one_not : (p : List Piece) (b : ℕ) (bs : List ℕ) → not (begins_by b p) ≡ true → matches p (b ∷ bs) ≡ false
+one_not [] b bs n = absurd (cc n)
+one_not (Many low high ∷ ps) b bs n = absurd (cc n)
+one_not (One low high ∷ ps) b bs n = and_left (is_within low high b) (matches ps bs) (not-true (is_within low high b) n)
 
-one_not : (p : List Piece) (bs : List ℕ) → begins_by_escape p ≡ true → has_no_escape bs ≡ true → matches p bs ≡ false
-one_not [] bs e n = absurd (cc e)
-one_not (Many low high ∷ ps) bs e n = absurd (cc e)
-one_not (One low high ∷ ps) [] e n = refl
-one_not (One low high ∷ ps) (b ∷ bs) e n =
-    and_left (is_within low high b) (matches ps bs) (not_first low high b e (and_parts (not (nat_eq b 0x1B)) (has_no_escape bs) n).0)
+none_match : (ps : List (List Piece)) (b : ℕ) (bs : List ℕ) → begins_none ps b ≡ true → matches_any ps (b ∷ bs) ≡ false
+none_match [] b bs n = refl
+none_match (p ∷ ps) b bs n =
+    let each = and_parts (not (begins_by b p)) (begins_none ps b) n in
+    or_from (matches p (b ∷ bs)) (matches_any ps (b ∷ bs)) (one_not p b bs each.0) (none_match ps b bs each.1)
 
-none_match : (ps : List (List Piece)) (bs : List ℕ) → list_all begins_by_escape ps ≡ true → has_no_escape bs ≡ true → matches_any ps bs ≡ false
-none_match [] bs e n = refl
-none_match (p ∷ ps) bs e n =
-    let each = and_parts (begins_by_escape p) (list_all begins_by_escape ps) e in
-    or_from (matches p bs) (matches_any ps bs) (one_not p bs each.0 n) (none_match ps bs each.1 n)
+none_in : (ps : List (List Piece)) (bs : List ℕ) → matches_any ps [] ≡ false → list_all (begins_none ps) bs ≡ true → matches_any ps bs ≡ false
+none_in ps [] e n = e
+none_in ps (b ∷ bs) e n = none_match ps b bs (and_parts (begins_none ps b) (list_all (begins_none ps) bs) n).0
 
-no_sequence : (ps : List (List Piece)) (bs : List ℕ) → list_all begins_by_escape ps ≡ true → has_no_escape bs ≡ true → HasNone ps bs
+no_sequence : (ps : List (List Piece)) (bs : List ℕ) → matches_any ps [] ≡ false → list_all (begins_none ps) bs ≡ true → HasNone ps bs
 no_sequence ps bs e n front middle back cut =
-    let whole : has_no_escape (front ++ (middle ++ back)) ≡ true = ap has_no_escape (sym cut) ∙ n in
-    let behind = and_parts (has_no_escape front) (has_no_escape (middle ++ back)) (sym (list_all-append (λ b. not (nat_eq b 0x1B)) front (middle ++ back)) ∙ whole) in
-    let within = and_parts (has_no_escape middle) (has_no_escape back) (sym (list_all-append (λ b. not (nat_eq b 0x1B)) middle back) ∙ behind.1) in
-    none_match ps middle e within.0
+    let test : ℕ → Bool = begins_none ps in
+    let whole : list_all test (front ++ (middle ++ back)) ≡ true = ap (list_all test) (sym cut) ∙ n in
+    let behind = and_parts (list_all test front) (list_all test (middle ++ back)) (sym (list_all-append test front (middle ++ back)) ∙ whole) in
+    let within = and_parts (list_all test middle) (list_all test back) (sym (list_all-append test middle back) ∙ behind.1) in
+    none_in ps middle e within.0
 
 -- ---- the filter
 
@@ -79,16 +78,21 @@ pub of_rows_become : AllByRecursion BecomesRow rows → (bs : List ℕ) → (run
     → run start (bs ++ codes "\u{1b}OA") ≡ step_to start (filtered bs ++ codes "\u{1b}[A")
 of_rows_become law bs e = law.0 bs [] false e
 
--- input without ESC
-pub of_others_pass : OthersPass → (bs : List ℕ) → has_no_escape bs ≡ true → filtered bs ≡ bs
+-- input without ESC and the control characters of the table
+pub of_others_pass : OthersPass → (bs : List ℕ) → list_all (begins_none sequences) bs ≡ true → filtered bs ≡ bs
 of_others_pass law bs n = law bs (no_sequence sequences bs refl n)
 
--- F2 in three bytes
-pub of_grows_by_third : GrowsByThird → (bs : List ℕ) → length bs ≡ 3 → length (filtered bs) ≤ 4
-of_grows_by_third law bs three = omega (arith, law bs, three)
+-- a letter, CTRL-Q, CTRL-S and a line feed
+pub of_others_pass_text : OthersPass → filtered (codes "a\u{11}\u{13}\n") ≡ codes "a\u{11}\u{13}\n"
+of_others_pass_text law = of_others_pass law (codes "a\u{11}\u{13}\n") refl
 
-pub of_no_longer : NoLongerWithoutPQ → length (filtered (codes "\u{1b}OA")) ≤ 3
-of_no_longer law = law (codes "\u{1b}OA") refl
+-- CTRL-W
+pub of_grows_five_times : GrowsFiveTimes → length (filtered (codes "\u{17}")) ≤ 5
+of_grows_five_times law = law (codes "\u{17}")
+
+-- F1 in three bytes
+pub of_grows_by_two_thirds : GrowsByTwoThirds → length (filtered (codes "\u{1b}OP")) ≤ 5
+of_grows_by_two_thirds law = omega (arith, law (codes "\u{1b}OP") refl)
 
 pub of_rows_have_keys : AllByRecursion HasKey rows → decoding (codes "\u{1b}[A") ≡ record { keys = Up ∷ []; rest = [] }
 of_rows_have_keys law = law.0

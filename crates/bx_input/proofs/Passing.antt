@@ -1,15 +1,15 @@
 -- Outside a paste: sequences of the table, and all else.
-use Rattle.std.proofs.Common.{◌≡◌, ℕ, inl, inr, Bool, true, false, not, ◌||◌, nat_eq, List, [], ◌∷◌, ◌++◌, drop, refl, ap, sym, ◌∙◌, append_assoc, subst, rules}
-use Rattle.std.specs.List.{AllByRecursion}
-use Rattle.std.proofs.lemmas.Bool.{cases_Bool, both_ways}
+use Rattle.std.proofs.Common.{◌≡◌, ℕ, Bool, true, false, not, ◌||◌, List, [], ◌∷◌, ◌++◌, drop, Some, refl, ap, sym, ◌∙◌, append_assoc, subst, rules}
+use Rattle.std.specs.List.{AllByRecursion, list_all}
+use Rattle.std.proofs.lemmas.Bool.{both_ways}
 use Rattle.std.proofs.lemmas.List.{append-nil}
 use Rattle.bx_bytes.specs.Pattern.{Piece, matches_any}
 use Rattle.bx_bytes.specs.declared.fate.Fate.{Fate}
 use Rattle.bx_bytes.specs.declared.fate.Fate.TheVariants.{Waits, Ends, Breaks}
-use Rattle.bx_input.specs.Table.{Row, rows, sequences, fate}
-use Rattle.bx_input.specs.Filter.{Outside, Step, step_to, with_front, step_by, step, start, run, at_end, filtered, apart_from, is_empty}
+use Rattle.bx_input.specs.Table.{Row, rows, escape_rows, control_rows, sequences, fate, row_of}
+use Rattle.bx_input.specs.Filter.{Outside, Step, step_to, with_front, step_by, ended, fresh, step, start, run, at_end, filtered, apart_from, is_empty}
 use Rattle.bx_input.specs.Laws.{BecomesRow, HasNone, OthersPass}
-use Rattle.bx_input.proofs.Firsts.{breaks_at, ends_says}
+use Rattle.bx_input.proofs.Firsts.{breaks_at, ends_says, lacks_after_first}
 use Rattle.bx_input.proofs.Runs.{in_pieces}
 use Rattle.bx_input.proofs.States.{IsSound, run_sound}
 
@@ -27,7 +27,7 @@ pub at_escape : (waiting : List ℕ) (is_open : Bool) → fate waiting ≡ Waits
 at_escape [] is_open h = ap (λ o. step_to (Outside (0x1B ∷ []) o) []) (sym (same_open is_open))
 at_escape (x ∷ xs) is_open h =
     let breaks : fate (x ∷ (xs ++ 0x1B ∷ [])) ≡ Breaks = breaks_at sequences x xs 0x1B refl in
-    ap (λ f. step_by f (x ∷ xs) is_open 0x1B) breaks
+    ap (λ f. step_by f (x ∷ xs) is_open 0x1B) breaks ∙ ap (step_to (Outside (0x1B ∷ []) (is_open_after (x ∷ xs) is_open))) (append-nil (x ∷ xs))
 
 -- ---- a sequence that comes whole
 
@@ -40,20 +40,25 @@ either_ends s rest true h = h.0
 either_ends s rest false h = h.1
 
 -- after any input that ends outside a paste
-pub whole_sequence : (s : Bool → Step) (rest bs waiting : List ℕ) (is_open : Bool) → EndsSo s rest → (run start bs).state ≡ Outside waiting is_open
-    → run start (bs ++ 0x1B ∷ rest) ≡ with_front (filtered bs) (s (is_open_after waiting is_open))
-whole_sequence s rest bs waiting is_open h at =
+behind_input : (went : Step) (sequence bs waiting : List ℕ) (is_open : Bool) → run (Outside waiting is_open) sequence ≡ with_front waiting went
+    → (run start bs).state ≡ Outside waiting is_open
+    → run start (bs ++ sequence) ≡ with_front (filtered bs) went
+behind_input went sequence bs waiting is_open here at =
     let before : Step = run start bs in
-    let waits : fate waiting ≡ Waits = subst IsSound at (run_sound start bs refl) in
-    let went : Step = s (is_open_after waiting is_open) in
-    let here : run (Outside waiting is_open) (0x1B ∷ rest) ≡ with_front waiting went =
-    ap (λ (x : Step). with_front x.output (run x.state rest)) (at_escape waiting is_open waits)
-    ∙ ap (with_front waiting) (either_ends s rest (is_open_after waiting is_open) h) in
-    in_pieces start bs (0x1B ∷ rest)
-    ∙ ap (λ x. with_front before.output (run x (0x1B ∷ rest))) at
+    in_pieces start bs sequence
+    ∙ ap (λ x. with_front before.output (run x sequence)) at
     ∙ ap (with_front before.output) here
     ∙ ap (step_to went.state) (sym (append_assoc before.output waiting went.output))
     ∙ ap (λ x. with_front (before.output ++ at_end x) went) (sym at)
+
+pub whole_sequence : (s : Bool → Step) (rest bs waiting : List ℕ) (is_open : Bool) → EndsSo s rest → (run start bs).state ≡ Outside waiting is_open
+    → run start (bs ++ 0x1B ∷ rest) ≡ with_front (filtered bs) (s (is_open_after waiting is_open))
+whole_sequence s rest bs waiting is_open h at =
+    let waits : fate waiting ≡ Waits = subst IsSound at (run_sound start bs refl) in
+    let here : run (Outside waiting is_open) (0x1B ∷ rest) ≡ with_front waiting (s (is_open_after waiting is_open)) =
+    ap (λ (x : Step). with_front x.output (run x.state rest)) (at_escape waiting is_open waits)
+    ∙ ap (with_front waiting) (either_ends s rest (is_open_after waiting is_open) h) in
+    behind_input (s (is_open_after waiting is_open)) (0x1B ∷ rest) bs waiting is_open here at
 
 -- ---- the rows of the table
 
@@ -75,16 +80,81 @@ all_rows : (rs : List Row) → AllByRecursion IsRow rs → AllByRecursion Become
 all_rows [] h = tt
 all_rows (r ∷ rs) h = (row_becomes r h.0, all_rows rs h.1)
 
-are_rows : AllByRecursion IsRow rows
+are_rows : AllByRecursion IsRow escape_rows
 are_rows = search rules
 
+-- a sequence of one byte, which no other sequence has but as its first
+pub record IsByteRow (r : Row) : Type 0 where
+  pub byte : ℕ
+  pub alone : r.sequence ≡ byte ∷ []
+  pub not_within : list_all (lacks_after_first byte) sequences ≡ true
+  pub ends : fate (byte ∷ []) ≡ Ends
+  pub is_row : row_of (byte ∷ []) ≡ Some r
+
+at_byte : (r : Row) (h : IsByteRow r) (waiting : List ℕ) (is_open : Bool)
+    → step (Outside waiting is_open) h.byte ≡ with_front waiting (becomes_row r (is_open_after waiting is_open))
+at_byte r h [] is_open =
+    ap (λ f. step_by f [] is_open h.byte) h.ends
+    ∙ ap (ended is_open) h.is_row
+    ∙ ap (becomes_row r) (sym (same_open is_open))
+at_byte r h (x ∷ xs) is_open =
+    let opened : Bool = is_open_after (x ∷ xs) is_open in
+    ap (λ f. step_by f (x ∷ xs) is_open h.byte) (breaks_at sequences x xs h.byte h.not_within)
+    ∙ ap (λ f. with_front (x ∷ xs) (fresh f opened h.byte)) h.ends
+    ∙ ap (λ o. with_front (x ∷ xs) (ended opened o)) h.is_row
+
+byte_becomes : (r : Row) → IsByteRow r → BecomesRow r
+byte_becomes r h bs waiting is_open at =
+    let went : Step = becomes_row r (is_open_after waiting is_open) in
+    let here : run (Outside waiting is_open) (h.byte ∷ []) ≡ with_front waiting went =
+    ap (λ (x : Step). step_to x.state (x.output ++ [])) (at_byte r h waiting is_open)
+    ∙ ap (step_to start) (append-nil (waiting ++ went.output)) in
+    ap (λ xs. run start (bs ++ xs)) h.alone ∙ behind_input went (h.byte ∷ []) bs waiting is_open here at
+
+all_byte_rows : (rs : List Row) → AllByRecursion IsByteRow rs → AllByRecursion BecomesRow rs
+all_byte_rows [] h = tt
+all_byte_rows (r ∷ rs) h = (byte_becomes r h.0, all_byte_rows rs h.1)
+
+byte_row : (r : Row) (b : ℕ) → r.sequence ≡ b ∷ [] → list_all (lacks_after_first b) sequences ≡ true → fate (b ∷ []) ≡ Ends → row_of (b ∷ []) ≡ Some r
+    → IsByteRow r
+byte_row r b e n f is = record { byte = b; alone = e; not_within = n; ends = f; is_row = is }
+
+are_byte_rows : AllByRecursion IsByteRow control_rows
+are_byte_rows = (
+  byte_row _ 0x00 refl refl refl refl,
+  (
+    byte_row _ 0x03 refl refl refl refl,
+    (
+      byte_row _ 0x12 refl refl refl refl,
+      (byte_row _ 0x16 refl refl refl refl, (byte_row _ 0x17 refl refl refl refl, (byte_row _ 0x18 refl refl refl refl, tt))),
+    ),
+  ),
+)
+
+all_joined : (P : Row → Type 0) (rs more : List Row) → AllByRecursion P rs → AllByRecursion P more → AllByRecursion P (rs ++ more)
+all_joined P [] more h g = g
+all_joined P (r ∷ rs) more h g = (h.0, all_joined P rs more h.1 g)
+
 pub rows_become : AllByRecursion BecomesRow rows
-rows_become = all_rows rows are_rows
+rows_become = all_joined BecomesRow escape_rows control_rows (all_rows escape_rows are_rows) (all_byte_rows control_rows are_byte_rows)
 
 -- ---- all else
 
 pub none_behind : (patterns : List (List Piece)) (xs ys : List ℕ) → HasNone patterns (xs ++ ys) → HasNone patterns ys
 none_behind patterns xs ys h front middle back e = h (xs ++ front) middle back (ap (λ zs. xs ++ zs) e ∙ sym (append_assoc xs front (middle ++ back)))
+
+-- the bytes that wait and one that is read afresh
+fresh_passes : (f : Fate) (waiting : List ℕ) (opened : Bool) (b : ℕ) (bs : List ℕ) → fate (b ∷ []) ≡ f → HasNone sequences (waiting ++ b ∷ bs)
+    → ((w : List ℕ) (o : Bool) → HasNone sequences (w ++ bs) → (run (Outside w o) bs).output ++ at_end (run (Outside w o) bs).state ≡ w ++ bs)
+    → (waiting ++ (fresh f opened b).output) ++ ((run (fresh f opened b).state bs).output ++ at_end (run (fresh f opened b).state bs).state) ≡ waiting ++ b ∷ bs
+fresh_passes Waits waiting opened b bs h none rest =
+    ap (λ xs. xs ++ ((run (Outside (b ∷ []) opened) bs).output ++ at_end (run (Outside (b ∷ []) opened) bs).state)) (append-nil waiting)
+    ∙ ap (λ xs. waiting ++ xs) (rest (b ∷ []) opened (none_behind sequences waiting (b ∷ bs) none))
+fresh_passes Ends waiting opened b bs h none rest =
+    absurd (both_ways (matches_any sequences (b ∷ [])) (none waiting (b ∷ []) bs refl) (ends_says sequences (b ∷ []) h))
+fresh_passes Breaks waiting opened b bs h none rest =
+    let behind : HasNone sequences bs = none_behind sequences (b ∷ []) bs (none_behind sequences waiting (b ∷ bs) none) in
+    ap (λ xs. (waiting ++ b ∷ []) ++ xs) (rest [] _ behind) ∙ append_assoc waiting (b ∷ []) bs
 
 pub pass_by : (f : Fate) (waiting : List ℕ) (is_open : Bool) (b : ℕ) (bs : List ℕ) → fate (waiting ++ b ∷ []) ≡ f → HasNone sequences (waiting ++ b ∷ bs)
     → ((w : List ℕ) (o : Bool) → HasNone sequences (w ++ bs) → (run (Outside w o) bs).output ++ at_end (run (Outside w o) bs).state ≡ w ++ bs)
@@ -96,15 +166,7 @@ pass_by Waits waiting is_open b bs h none rest =
 pass_by Ends waiting is_open b bs h none rest =
     absurd (both_ways (matches_any sequences (waiting ++ b ∷ [])) (none [] (waiting ++ b ∷ []) bs (sym (append_assoc waiting (b ∷ []) bs)))
     (ends_says sequences (waiting ++ b ∷ []) h))
-pass_by Breaks waiting is_open b bs h none rest = elim (cases_Bool (nat_eq b 0x1B)) [
-  | inl escape ↦ (
-      let o : Bool = is_open_after waiting is_open in
-      rw escape (ap (λ xs. waiting ++ xs) (rest (b ∷ []) o (none_behind sequences waiting (b ∷ bs) none))))
-  | inr other ↦ (
-      let o : Bool = is_open_after waiting is_open in
-      let behind : HasNone sequences bs = none_behind sequences (b ∷ []) bs (none_behind sequences waiting (b ∷ bs) none) in
-      rw other (ap (λ xs. (waiting ++ b ∷ []) ++ xs) (rest [] _ behind) ∙ append_assoc waiting (b ∷ []) bs))
-]
+pass_by Breaks waiting is_open b bs h none rest = fresh_passes (fate (b ∷ [])) waiting (is_open_after waiting is_open) b bs refl none rest
 
 pass_all : (waiting : List ℕ) (is_open : Bool) (bs : List ℕ) → HasNone sequences (waiting ++ bs)
     → (run (Outside waiting is_open) bs).output ++ at_end (run (Outside waiting is_open) bs).state ≡ waiting ++ bs

@@ -1,12 +1,12 @@
 -- The waiting bytes, in any state of the filter.
-use Rattle.std.proofs.Common.{◌≡◌, ℕ, ◌≤◌, inl, inr, Bool, true, false, nat_eq, List, [], ◌∷◌, ◌++◌, length, Option, Some, None, cond, refl, arith}
+use Rattle.std.proofs.Common.{◌≡◌, ℕ, ◌≤◌, Bool, true, false, List, [], ◌∷◌, ◌++◌, length, Option, Some, None, cond, refl, arith}
 use Rattle.std.specs.Str.{bytes_eq}
-use Rattle.std.proofs.lemmas.Bool.{cases_Bool, eqb-true, false≢true}
+use Rattle.std.proofs.lemmas.Bool.{false≢true}
 use Rattle.bx_bytes.specs.declared.fate.Fate.{Fate}
 use Rattle.bx_bytes.specs.declared.fate.Fate.TheVariants.{Waits, Ends, Breaks}
 use Rattle.bx_input.specs.Table.{Row, sequences, fate, row_of, paste_end}
 use Rattle.bx_input.specs.Paste.{paste_fate, paste_sequences}
-use Rattle.bx_input.specs.Filter.{State, Outside, Within, step_by, paste_step_by, fresh_in_paste, broken, ended, step, start, run}
+use Rattle.bx_input.specs.Filter.{State, Outside, Within, step_by, paste_step_by, fresh_in_paste, fresh, broken, ended, step, start, run}
 use Rattle.bx_input.specs.Laws.{waiting_in, WaitsForFive}
 use Rattle.bx_input.proofs.Firsts.{waits_says, any_fewer}
 
@@ -19,11 +19,13 @@ ended_sound : (is_open : Bool) (r : Option Row) → IsSound (ended is_open r).st
 ended_sound is_open None = (refl, λ e. refl)
 ended_sound is_open (Some r) = refl
 
+fresh_outside_sound : (f : Fate) (is_open : Bool) (b : ℕ) → fate (b ∷ []) ≡ f → IsSound (fresh f is_open b).state
+fresh_outside_sound Waits is_open b h = h
+fresh_outside_sound Ends is_open b h = ended_sound is_open (row_of (b ∷ []))
+fresh_outside_sound Breaks is_open b h = refl
+
 broken_sound : (waiting : List ℕ) (is_open : Bool) (b : ℕ) → IsSound (broken waiting is_open b).state
-broken_sound waiting is_open b = elim (cases_Bool (nat_eq b 0x1B)) [
-  | inl escape ↦ (let e : b ≡ 0x1B = eqb-true b 0x1B escape in rw e refl)
-  | inr other ↦ rw other refl
-]
+broken_sound waiting is_open b = fresh_outside_sound (fate (b ∷ [])) _ b refl
 
 outside_sound : (f : Fate) (waiting : List ℕ) (is_open : Bool) (b : ℕ) → fate (waiting ++ b ∷ []) ≡ f → IsSound (step_by f waiting is_open b).state
 outside_sound Waits waiting is_open b h = h

@@ -24,9 +24,13 @@ pub record Step : Type 0 where
 abbrev pub step_to : State → List ℕ → Step
 step_to state output = record { state = state; output = output }
 
+abbrev pub with_front : List ℕ → Step → Step
+with_front front s = step_to s.state (front ++ s.output)
+
 -- ---- outside a paste
 
--- ESC begins a sequence even if one is open. Any other byte would go into the open one, so a CAN, which has no key, ends it first.
+-- ESC begins a sequence even if one is open. Any other byte would go into the open one, so a CAN, which has no key for the
+-- editor, ends it first.
 abbrev pub apart_from : Bool → List ℕ → List ℕ
 apart_from is_open [] = if is_open then 0x18 ∷ [] else []
 apart_from is_open (b ∷ bs) = if is_open && not (b == 0x1B) then 0x18 ∷ b ∷ bs else b ∷ bs
@@ -40,12 +44,15 @@ abbrev pub is_empty : List ℕ → Bool
 is_empty [] = true
 is_empty (b ∷ bs) = false
 
+-- a byte where none waits
+abbrev pub fresh : Fate → Bool → ℕ → Step
+fresh Waits is_open b = step_to (Outside (b ∷ []) is_open) []
+fresh Ends is_open b = ended is_open (row_of (b ∷ []))
+fresh Breaks is_open b = step_to (Outside [] (is_open && is_within 0x20 0x3F b)) (b ∷ [])
+
 -- the waiting bytes go out unchanged, and the byte is read afresh
 abbrev pub broken : List ℕ → Bool → ℕ → Step
-broken waiting is_open b =
-    let was_open = is_open || not (is_empty waiting) in
-    if b == 0x1B then step_to (Outside (b ∷ []) was_open) waiting
-    else step_to (Outside [] (was_open && is_within 0x20 0x3F b)) (waiting ++ b ∷ [])
+broken waiting is_open b = with_front waiting (fresh (fate (b ∷ [])) (is_open || not (is_empty waiting)) b)
 
 abbrev pub step_by : Fate → List ℕ → Bool → ℕ → Step
 step_by Waits waiting is_open b = step_to (Outside (waiting ++ b ∷ []) is_open) []
@@ -57,9 +64,6 @@ step_by Breaks waiting is_open b = broken waiting is_open b
 abbrev pub fresh_in_paste : Fate → Bool → ℕ → Step
 fresh_in_paste Waits after_return b = step_to (Within (b ∷ []) false) []
 fresh_in_paste _ after_return b = step_to (Within [] (b == 0x0D)) (pasted_byte after_return b)
-
-abbrev pub with_front : List ℕ → Step → Step
-with_front front s = step_to s.state (front ++ s.output)
 
 abbrev pub paste_step_by : Fate → List ℕ → Bool → ℕ → Step
 paste_step_by Waits waiting after_return b = step_to (Within (waiting ++ b ∷ []) false) []

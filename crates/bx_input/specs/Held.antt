@@ -34,6 +34,10 @@ begun beginning.TwoHundred = csi (codes "200")
 begun beginning.Seven = csi (codes "7")
 begun beginning.Eight = csi (codes "8")
 begun beginning.Bracket = csi (codes "[")
+begun beginning.Eleven = csi (codes "11")
+begun beginning.Thirteen = csi (codes "13")
+begun beginning.Controlled = csi (codes "1;5")
+begun beginning.Five = csi (codes "5")
 
 -- the bytes that wait within a paste
 abbrev pub held_back : Held → List ℕ
@@ -51,7 +55,7 @@ state_of (place.Within waiting after_return) = spec.Within (held_back waiting) a
 
 -- the bytes that go out
 abbrev pub bytes_of : Output → List ℕ
-bytes_of output = output.before.now ++ option_to_list output.byte
+bytes_of output = output.before.now ++ (output.key.now ++ option_to_list output.byte)
 
 abbrev pub becomes_of : List ℕ → Option (List ℕ)
 becomes_of read = option_map (λ (r : Row). r.becomes) (row_of read)

@@ -1,12 +1,12 @@
 -- Laws of the filter, for any input.
 use Rattle.std.specs.Prelude.{◌≡◌, ◌≤◌, ℕ, ◌*◌, Bool, true, false, not, ◌||◌, ◌==◌, List, [], ◌∷◌, ◌++◌, length, map}
-use Rattle.std.specs.List.{list_all}
-use Rattle.std.specs.Str.{chars, IsUtf8}
+use Rattle.std.specs.List.{list_all, list_any}
+use Rattle.std.specs.Str.{bytes_eq, chars, IsUtf8}
 use Rattle.bx_bytes.specs.Pattern.{Piece, matches_any}
 use Rattle.bx_keys.specs.Keys.{Decoding, decoding}
 use Rattle.bx_keys.specs.declared.key.Key.{Key}
 use Rattle.bx_keys.specs.declared.key.Key.TheVariants.{Insert}
-use Rattle.bx_input.specs.Table.{Row, sequences, exact, paste_start, paste_end}
+use Rattle.bx_input.specs.Table.{Row, control_rows, sequences, exact, paste_start, paste_end}
 use Rattle.bx_input.specs.Paste.{is_control_byte, kept_characters, pasted}
 use Rattle.bx_input.specs.Filter.{State, Outside, Within, Step, step_to, with_front, step, start, run, at_end, filtered, apart_from, is_empty}
 
@@ -61,17 +61,17 @@ pub record PastesAreClean : Type 0 where
   pub input_ends : (waiting : List ℕ) (after_return : Bool) → IsText (at_end (Within waiting after_return))
   pub whole : (text : List ℕ) → IsText (pasted text)
 
--- F2 as ESC O Q and Delete as CSI P are three bytes and become four, and nothing else grows
-abbrev pub GrowsByThird : Type 0
-GrowsByThird = (bs : List ℕ) → 3 * length (filtered bs) ≤ 4 * length bs
+-- a key of one byte becomes five bytes
+abbrev pub GrowsFiveTimes : Type 0
+GrowsFiveTimes = (bs : List ℕ) → length (filtered bs) ≤ 5 * length bs
 
--- the last byte of both
-abbrev pub is_p_or_q : ℕ → Bool
-is_p_or_q b = b == 0x50 || b == 0x51
+-- a byte that is a row's whole sequence
+abbrev pub is_key_byte : ℕ → Bool
+is_key_byte b = list_any (λ (r : Row). bytes_eq r.sequence (b ∷ [])) control_rows
 
--- input without the letters P and Q has neither, and nothing longer goes out
-abbrev pub NoLongerWithoutPQ : Type 0
-NoLongerWithoutPQ = (bs : List ℕ) → list_all (λ b. not (is_p_or_q b)) bs ≡ true → length (filtered bs) ≤ length bs
+-- without such bytes three bytes become five at most
+abbrev pub GrowsByTwoThirds : Type 0
+GrowsByTwoThirds = (bs : List ℕ) → list_all (λ b. not (is_key_byte b)) bs ≡ true → 3 * length (filtered bs) ≤ 5 * length bs
 
 -- the editor decodes the bytes of a row as the row's key
 abbrev pub HasKey : Row → Type 0

@@ -1,6 +1,7 @@
 -- The filter run from a reader to a writer.
 use Rattle.std.specs.Prelude.{◌≡◌, ◌≤◌, ◌⊎◌, ℕ, List, ◌++◌, Option, length}
 use Rattle.std.specs.Io.KnownBytes.{Appends, Consumes, IsAtEnd}
+use Rattle.bx_output.specs.Writing.{WritesFront}
 use Rattle.bx_input.specs.Filter.{State, start, run, filtered}
 
 -- The progress of a run: these bytes were read, their output was written, and the filter is in this state.
@@ -14,15 +15,6 @@ pub record IsFiltered (reader reader' writer writer' : Option (List ℕ)) (bytes
   pub reads : Consumes reader reader' bytes
   pub ends : IsAtEnd reader'
   pub writes : Appends writer writer' (filtered bytes)
-
--- a front of the bytes was written, and the rest was not
-pub record IsWritten (bytes : List ℕ) (writer writer' : Option (List ℕ)) (written rest : List ℕ) : Type 0 where
-  pub parts : bytes ≡ written ++ rest
-  pub appends : Appends writer writer' written
-
--- some front of the bytes was written
-abbrev pub WritesFront : List ℕ → Option (List ℕ) → Option (List ℕ) → Type 0
-WritesFront bytes writer writer' = (written : List ℕ) × (rest : List ℕ) × IsWritten bytes writer writer' written rest
 
 -- the output of these bytes was written, except at most that of the last 256
 pub record IsOneReadLate (writer writer' : Option (List ℕ)) (bytes : List ℕ) : Type 0 where

@@ -6,6 +6,7 @@ use Rattle.bx_bytes.specs.Pattern.{Piece, One}
 use Rattle.bx_bytes.specs.declared.fate.Fate.{Fate}
 use Rattle.bx_keys.specs.declared.key.Key.{Key}
 use Rattle.bx_keys.specs.declared.key.Key.TheVariants.{Insert, Delete, Up, Down, Right, Left, RowHome, RowEnd, Direction}
+use Rattle.bx_keys.specs.declared.key.Key.TheVariants.{Mark, Copy, Cut, Put, Find, FindBack, WordLeft, WordRight, TextStart, TextEnd, Help}
 
 -- a sequence of a terminal, the bytes that it becomes, and the editor's key for these
 pub record Row : Type 0 where
@@ -86,8 +87,63 @@ keypad_digits =
     ∷ row (ss3 (codes "y")) (codes "9") (Insert 0x39)
     ∷ []
 
+-- F1, of the terminals of F2
+abbrev help_keys : List Row
+help_keys =
+    row (ss3 (codes "P")) (csi (codes "80~")) Help
+    ∷ row (csi (codes "11~")) (csi (codes "80~")) Help
+    ∷ row (csi (codes "[A")) (csi (codes "80~")) Help
+    ∷ []
+
+-- F3, of the same
+abbrev find_keys : List Row
+find_keys =
+    row (ss3 (codes "R")) (csi (codes "70~")) Find
+    ∷ row (csi (codes "13~")) (csi (codes "70~")) Find
+    ∷ row (csi (codes "[C")) (csi (codes "70~")) Find
+    ∷ []
+
+-- Left and Right with CTRL, of xterm, tmux and screen; of rxvt; of terminals that leave out 1 and the semicolon
+abbrev word_keys : List Row
+word_keys =
+    row (csi (codes "1;5D")) (csi (codes "76~")) WordLeft
+    ∷ row (csi (codes "1;5C")) (csi (codes "77~")) WordRight
+    ∷ row (ss3 (codes "d")) (csi (codes "76~")) WordLeft
+    ∷ row (ss3 (codes "c")) (csi (codes "77~")) WordRight
+    ∷ row (csi (codes "5D")) (csi (codes "76~")) WordLeft
+    ∷ row (csi (codes "5C")) (csi (codes "77~")) WordRight
+    ∷ []
+
+-- Home and End with CTRL, of xterm, tmux and screen; of rxvt
+abbrev text_end_keys : List Row
+text_end_keys =
+    row (csi (codes "1;5H")) (csi (codes "78~")) TextStart
+    ∷ row (csi (codes "1;5F")) (csi (codes "79~")) TextEnd
+    ∷ row (csi (codes "7^")) (csi (codes "78~")) TextStart
+    ∷ row (csi (codes "8^")) (csi (codes "79~")) TextEnd
+    ∷ []
+
+abbrev pub escape_rows : List Row
+escape_rows =
+    application_keys
+    ++ (rxvt_keys
+    ++ (shifted_keys
+    ++ (shifted_rxvt_keys
+    ++ (delete_keys ++ (direction_keys ++ (keypad_digits ++ (help_keys ++ (find_keys ++ (word_keys ++ text_end_keys)))))))))
+
+-- CTRL with @ (or the space bar), C, R, V, W and X
+abbrev pub control_rows : List Row
+control_rows =
+    row (0x00 ∷ []) (csi (codes "72~")) Mark
+    ∷ row (0x03 ∷ []) (csi (codes "73~")) Copy
+    ∷ row (0x12 ∷ []) (csi (codes "71~")) FindBack
+    ∷ row (0x16 ∷ []) (csi (codes "75~")) Put
+    ∷ row (0x17 ∷ []) (csi (codes "70~")) Find
+    ∷ row (0x18 ∷ []) (csi (codes "74~")) Cut
+    ∷ []
+
 abbrev pub rows : List Row
-rows = application_keys ++ (rxvt_keys ++ (shifted_keys ++ (shifted_rxvt_keys ++ (delete_keys ++ (direction_keys ++ keypad_digits)))))
+rows = escape_rows ++ control_rows
 
 -- the two marks that a terminal puts around a paste
 abbrev pub paste_start : List ℕ

@@ -33,6 +33,14 @@ pub enum Beginning {
     Eight,
     /// CSI [
     Bracket,
+    /// CSI 11
+    Eleven,
+    /// CSI 13
+    Thirteen,
+    /// CSI 1;5
+    Controlled,
+    /// CSI 5
+    Five,
 }
 
 impl Beginning {
@@ -54,6 +62,10 @@ impl Beginning {
             Beginning::Seven => b"\x1b[7",
             Beginning::Eight => b"\x1b[8",
             Beginning::Bracket => b"\x1b[[",
+            Beginning::Eleven => b"\x1b[11",
+            Beginning::Thirteen => b"\x1b[13",
+            Beginning::Controlled => b"\x1b[1;5",
+            Beginning::Five => b"\x1b[5",
         }
     }
 }

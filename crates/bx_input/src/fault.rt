@@ -1,5 +1,6 @@
 //! Why the filter stops early.
 
+use bx_output::WriteFault;
 use thiserror::Error;
 
 /// Why a run stopped early.
@@ -13,4 +14,15 @@ pub enum FilterFault {
     OutOfMemory,
     #[error("too many reads")]
     ReadLimit,
+}
+
+impl From<WriteFault> for FilterFault {
+    ghost use Rattle.std.specs.Prelude.{◌≡◌};
+    ghost use Rattle.bx_input.specs.declared.fault.FilterFault.TheVariants.{WriteFault};
+
+    ghost from_gives = { λ e r. r ≡ WriteFault };
+
+    fn from(_fault: WriteFault) -> Self {
+        FilterFault::WriteFault
+    }
 }

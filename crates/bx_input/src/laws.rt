@@ -1,7 +1,7 @@
 //! Laws of the filter, for any input. Each function's contract is a law; its body is empty.
 
 ghost use Rattle.std.specs.List.{AllByRecursion};
-ghost use Rattle.bx_input.specs.Laws.{AddsKey, BecomesRow, ComesInPieces, GrowsByThird, HasKey, NoLongerWithoutPQ, OthersPass, PastesAreClean, WaitsForFive};
+ghost use Rattle.bx_input.specs.Laws.{AddsKey, BecomesRow, ComesInPieces, GrowsByTwoThirds, GrowsFiveTimes, HasKey, OthersPass, PastesAreClean, WaitsForFive};
 ghost use Rattle.bx_input.specs.Laws.{PastesInsert, PastesKeepCharacters, PastesText};
 ghost use Rattle.bx_input.specs.Table.{rows};
 
@@ -30,10 +30,10 @@ pub fn others_pass()
     ensures { OthersPass }
 {}
 
-/// Output is at most a third longer than the input, and no longer if neither F2 comes as ESC O Q nor Delete as CSI P.
-pub fn grows_by_third()
-    ensures third { GrowsByThird }
-    ensures no_longer { NoLongerWithoutPQ }
+/// Output is at most five times as long as the input, and at most two thirds longer if no key comes as a single byte.
+pub fn grows_five_times()
+    ensures five_times { GrowsFiveTimes }
+    ensures two_thirds { GrowsByTwoThirds }
 {}
 
 /// The editor decodes the bytes of each row as the key of the row.

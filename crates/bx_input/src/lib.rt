@@ -1,9 +1,9 @@
 //! A filter between a terminal and the editor: turns the sequences that terminals send into those that the editor reads.
 //!
-//! Terminals send sequences that the editor does not know: arrows in application mode, the Home and End of rxvt, keys with
-//! Shift, the Delete of st, F2, the keypad's digits, and pastes. `specs/Table.antt` has the table. All else passes unchanged,
-//! broken sequences too. A paste becomes text: of its control bytes only TAB and LF are left, so it can neither save nor quit
-//! nor move.
+//! Terminals send bytes that the editor has no key for: arrows in application mode, the Home and End of rxvt, keys with Shift
+//! or CTRL, the Delete of st, F1 to F3, the keypad's digits, and pastes. `specs/Table.antt` has the table. All else passes
+//! unchanged, broken sequences too. A paste becomes text: of its control bytes only TAB and LF are left, so it can neither save
+//! nor quit nor move, nor set a mark, cut or search.
 #![tactic(auto)]
 
 mod after;
@@ -20,7 +20,7 @@ mod step;
 pub use fault::FilterFault;
 pub use filter::Filter;
 pub use laws::{
-    grows_by_third, in_any_pieces, others_pass, pastes_are_clean, pastes_become_text,
+    grows_five_times, in_any_pieces, others_pass, pastes_are_clean, pastes_become_text,
     pastes_insert, pastes_keep_characters, rows_add_keys, rows_become, rows_have_keys,
     waits_for_five,
 };

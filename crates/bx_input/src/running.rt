@@ -1,17 +1,18 @@
 //! Runs the filter from a reader to a writer.
 
 ghost use Rattle.std.specs.Prelude.{◌≡◌, ◌⊎◌, ◌++◌, List, ℕ, IsErrOf, OnOk, OnErr};
-ghost use Rattle.std.specs.Io.KnownBytes.{Appends, WriteAppends};
-ghost use Rattle.std.specs.Io.{WritesAtMost};
+ghost use Rattle.std.specs.Io.KnownBytes.{Appends};
 ghost use Rattle.bx_input.specs.Filter as spec;
 ghost use Rattle.bx_input.specs.Held.{bytes_of};
-ghost use Rattle.bx_input.specs.Running.{HasPassed, IsBrokenOff, IsFiltered, WritesFront};
+ghost use Rattle.bx_input.specs.Running.{HasPassed, IsBrokenOff, IsFiltered};
+ghost use Rattle.bx_output.specs.Writing.{WritesFront};
 
 use crate::fault::FilterFault;
 use crate::filter::Filter;
 use crate::output::Output;
+use bx_output::write_all;
 use std::alloc::{AllocError, Global};
-use std::io::{ErrorKind, Read, Write};
+use std::io::{Read, Write};
 
 /// The largest number of reads of a run.
 const READS: u64 = 1_000_000_000_000;
@@ -36,6 +37,7 @@ fn append(out: &mut Vec<u8>, output: Output) -> Result<(), AllocError>
     ensures { OnOk result (out.new.items ≡ out.old.items ++ bytes_of output) }
 {
     out.extend_from_slice(output.before)?;
+    out.extend_from_slice(output.key)?;
     match output.byte {
         Some(byte) => {
             out.push(byte)?;
@@ -43,39 +45,6 @@ fn append(out: &mut Vec<u8>, output: Output) -> Result<(), AllocError>
         }
         None => Ok(()),
     }
-}
-
-/// Writes once, and returns how many bytes the writer took: none if interrupted. A write that takes none is a fault.
-fn write_once<W: Write>(writer: &mut W, bytes: &[u8]) -> Result<usize, FilterFault>
-    ensures bound { WritesAtMost result bytes.now }
-    ensures bytes { WriteAppends (W.contents writer.old) (W.contents writer.new) result bytes.now }
-    ensures fault { OnErr result (result ≡ Err FilterFault.WriteFault) }
-{
-    match writer.write(bytes) {
-        Ok(0) => Err(FilterFault::WriteFault),
-        Ok(count) => Ok(count),
-        Err(error) if error.kind() == ErrorKind::Interrupted => Ok(0),
-        Err(_) => Err(FilterFault::WriteFault),
-    }
-}
-
-/// Writes all bytes, in one write if the writer takes them at once.
-///
-/// Errors: `WriteFault`, with a front of them written.
-fn write_all<W: Write>(writer: &mut W, bytes: &[u8]) -> Result<(), FilterFault>
-    ensures all { OnOk result (Appends (W.contents writer.old) (W.contents writer.new) bytes.now) }
-    ensures front { WritesFront bytes.now (W.contents writer.old) (W.contents writer.new) }
-    ensures fault { OnErr result (result ≡ Err FilterFault.WriteFault) }
-{
-    let mut rest = bytes;
-    'writes: for write in 0..u64::MAX {
-        if rest.is_empty() {
-            return Ok(());
-        }
-        let count = write_once(writer, rest)?;
-        rest = &rest[count..];
-    }
-    Err(FilterFault::WriteFault)
 }
 
 /// Writes the bytes, if there are any, and flushes.

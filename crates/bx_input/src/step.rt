@@ -6,7 +6,7 @@ ghost use Rattle.bx_input.specs.Filter.{apart_from, broken, fresh_in_paste, with
 ghost use Rattle.bx_input.specs.Held.{begun, held_back, bytes_of, state_of, Goes};
 ghost use Rattle.bx_input.specs.Paste.{pasted_byte, pasted_part, paste_fate};
 
-use crate::after::{After, AfterInPaste, ESC, paste_after, sequence_after};
+use crate::after::{After, AfterInPaste, ESC, control_key, paste_after, sequence_after};
 use crate::beginning::Beginning;
 use crate::held::Held;
 use crate::output::Output;
@@ -14,6 +14,7 @@ use crate::place::Place;
 
 const NOTHING: Output = Output {
     before: b"",
+    key: b"",
     byte: None,
 };
 
@@ -31,7 +32,8 @@ pub fn outside(waiting: Beginning, is_open: bool, byte: u8) -> (Place, Output)
         After::Becomes(bytes) => (
             OUTSIDE,
             Output {
-                before: bytes,
+                before: b"",
+                key: bytes,
                 byte: None,
             },
         ),
@@ -46,10 +48,7 @@ fn apart(is_open: bool, byte: Option<u8>) -> Output
     requires { byte ≢ Some 0x1B }
     ensures { bytes_of result ≡ apart_from is_open (option_to_list byte) }
 {
-    Output {
-        before: if is_open { b"\x18" } else { b"" },
-        byte,
-    }
+    output(if is_open { b"\x18" } else { b"" }, byte)
 }
 
 /// Reads a byte that breaks off the waiting bytes.
@@ -59,24 +58,39 @@ fn broken_off(waiting: Beginning, is_open: bool, byte: u8) -> (Place, Output)
     let was_open = is_open || waiting != Beginning::Nothing;
     let before = waiting.bytes();
     if byte == ESC {
-        let waiting = Beginning::Escape;
         let place = Place::Outside {
-            waiting,
+            waiting: Beginning::Escape,
             is_open: was_open,
         };
-        (place, Output { before, byte: None })
-    } else {
-        let place = Place::Outside {
-            waiting: Beginning::Nothing,
-            is_open: was_open && 0x20 <= byte && byte <= 0x3F,
-        };
-        (
-            place,
+        return (place, output(before, None));
+    }
+    match control_key(byte) {
+        Some(key) => (
+            OUTSIDE,
             Output {
                 before,
-                byte: Some(byte),
+                key,
+                byte: None,
             },
-        )
+        ),
+        None => {
+            let place = Place::Outside {
+                waiting: Beginning::Nothing,
+                is_open: was_open && 0x20 <= byte && byte <= 0x3F,
+            };
+            (place, output(before, Some(byte)))
+        }
+    }
+}
+
+/// These bytes, and perhaps one more.
+fn output(before: &'static [u8], byte: Option<u8>) -> Output
+    ensures { bytes_of result ≡ before.now ++ option_to_list byte }
+{
+    Output {
+        before,
+        key: b"",
+        byte,
     }
 }
 
@@ -116,16 +130,10 @@ fn broken_off_in_paste(waiting: Held, after_return: bool, byte: u8) -> (Place, O
 {
     let before = waiting.text();
     match paste_after(Held::Nothing, byte) {
-        AfterInPaste::Waits(held) => (waits(held), Output { before, byte: None }),
+        AfterInPaste::Waits(held) => (waits(held), output(before, None)),
         _ => {
             let byte_out = pasted(after_return, byte);
-            (
-                fresh_paste(byte == b'\r'),
-                Output {
-                    before,
-                    byte: byte_out,
-                },
-            )
+            (fresh_paste(byte == b'\r'), output(before, byte_out))
         }
     }
 }

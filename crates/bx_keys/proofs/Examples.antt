@@ -13,6 +13,7 @@ use Rattle.bx_keys.specs.Waiting.{fate}
 use Rattle.bx_keys.specs.declared.key.Key.{Key}
 use Rattle.bx_keys.specs.declared.key.Key.TheVariants.{Insert, Erase, Delete, Up, Down, Right, Left, RowHome, RowEnd, PageUp, PageDown, Quit, Undo, Redo}
 use Rattle.bx_keys.specs.declared.key.Key.TheVariants.{Direction, Size}
+use Rattle.bx_keys.specs.declared.key.Key.TheVariants.{Mark, Copy, Cut, Put, Find, FindBack, WordLeft, WordRight, TextStart, TextEnd, Help}
 
 abbrev keys : List ℕ → List Key
 keys bs = (decoding bs).keys
@@ -25,6 +26,21 @@ keys_of_each rest (b ∷ bs) = key_after rest b ∷ keys_of_each (rest_after res
 pub arrows_and_ends : keys (codes "\u{1b}[A\u{1b}[B\u{1b}[C\u{1b}[D\u{1b}[H\u{1b}[F\u{1b}[1~\u{1b}[4~\u{1b}[3~\u{1b}[5~\u{1b}[6~\u{1b}[9~")
     ≡ Up ∷ Down ∷ Right ∷ Left ∷ RowHome ∷ RowEnd ∷ RowHome ∷ RowEnd ∷ Delete ∷ PageUp ∷ PageDown ∷ Direction ∷ []
 arrows_and_ends = refl
+
+pub search_and_mark : keys (codes "\u{1b}[70~\u{1b}[71~\u{1b}[72~\u{1b}[73~\u{1b}[74~\u{1b}[75~")
+    ≡ Find ∷ FindBack ∷ Mark ∷ Copy ∷ Cut ∷ Put ∷ []
+search_and_mark = refl
+
+pub words_and_ends : keys (codes "\u{1b}[76~\u{1b}[77~\u{1b}[78~\u{1b}[79~\u{1b}[80~") ≡ WordLeft ∷ WordRight ∷ TextStart ∷ TextEnd ∷ Help ∷ []
+words_and_ends = refl
+
+-- other numbers, other finals, and bytes between
+pub none_of_these : keys (codes "\u{1b}[69~\u{1b}[81~\u{1b}[070~\u{1b}[72;1~\u{1b}[72 ~\u{1b}[72^\u{1b}[7~") ≡ []
+none_of_these = refl
+
+-- terminals send these for the keys: the input filter gives the sequences
+pub no_key_of_one_byte : keys (0x00 ∷ 0x03 ∷ 0x12 ∷ 0x16 ∷ 0x17 ∷ 0x18 ∷ []) ≡ []
+no_key_of_one_byte = refl
 
 pub byte_by_byte : keys_of_each [] (codes "\u{1b}[D") ≡ None ∷ None ∷ Some Left ∷ []
 byte_by_byte = refl

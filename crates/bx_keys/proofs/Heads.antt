@@ -2,20 +2,20 @@
 use Rattle.std.proofs.Common.{◌≡◌, ℕ, ◌+◌, ◌-◌, ◌≤◌, ◌⊎◌, inl, inr, Bool, true, false, ◌&&◌, nat_eq, nat_le, List, [], ◌∷◌, ◌++◌, length, take, None, refl, ap}
 use Rattle.std.proofs.Common.{sym, ◌∙◌, zero, suc, arith, length-append}
 use Rattle.std.specs.Prelude.{codes}
-use Rattle.std.specs.List.{slice_split, find, join_with_byte}
+use Rattle.std.specs.List.{slice_split, join_with_byte}
 use Rattle.std.specs.Option.{option_map}
 use Rattle.std.specs.Str.{bytes_eq}
 use Rattle.std.proofs.lemmas.List.{take_all, length-take-le}
 use Rattle.std.proofs.lemmas.List.Splits.{join_with_byte-slice_split}
 use Rattle.std.proofs.lemmas.Bool.{cases_lt, cases_eq, cases_Bool, and_parts, and_right, leb-true, cond-true, cond-false}
-use Rattle.std.proofs.lemmas.Bool.Decides.{nat_tests}
 use Rattle.bx_bytes.specs.Pattern.{One, is_within, past}
 use Rattle.bx_bytes.specs.Fate.{fate_in}
 use Rattle.bx_bytes.specs.declared.fate.Fate.TheVariants.{Waits, Breaks}
 use Rattle.bx_bytes.proofs.Codes.{too_long}
-use Rattle.bx_keys.specs.Keys.{is_side_in_digits, size_key, final_byte, before_final, sequence_keys, sequence_key, key_of}
+use Rattle.bx_keys.specs.Keys.{is_side_in_digits, size_key, final_byte, before_final, sequence_key, key_of}
 use Rattle.bx_keys.specs.Waiting.{fate, head_of}
 use Rattle.bx_keys.proofs.Characters.{no_escape}
+use Rattle.bx_keys.proofs.OtherFinals.{longer_no_key}
 use Rattle.bx_keys.proofs.Sequences.{past_by, only_waits, after_escape, after_intermediate, control_more, shift_more, long_more}
 
 -- ---- the rest that is kept waits too
@@ -112,9 +112,6 @@ head_fate rest b h = elim (whole_or_cut rest h) [
 
 -- ---- a sequence this long has no key
 
-no_plain_key : (x y z : ℕ) (bs : List ℕ) → find (λ k. bytes_eq k.0 (x ∷ y ∷ z ∷ bs)) sequence_keys ≡ None
-no_plain_key x y z bs = grind (arith, nat_tests)
-
 bytes_of_field : (kind : List ℕ) → bytes_eq kind (codes "8") ≡ true → length kind ≤ 1
 bytes_of_field [] h = omega arith
 bytes_of_field (k ∷ []) h = omega arith
@@ -148,18 +145,14 @@ long_fields (kind ∷ h ∷ w ∷ x ∷ fields) l = refl
 long_size : (between : List ℕ) → 10 ≤ length between → size_key (slice_split (λ b. nat_eq b 0x3B) between) ≡ None
 long_size between l = long_fields (slice_split (λ b. nat_eq b 0x3B) between) (omega (arith, ap length (join_with_byte-slice_split 0x3B between), l))
 
-by_final : (t : Bool) (x y z : ℕ) (bs : List ℕ) → nat_eq (final_byte (x ∷ y ∷ z ∷ bs)) 0x74 ≡ t → 8 ≤ length bs → sequence_key (x ∷ y ∷ z ∷ bs) ≡ None
-by_final true x y z bs e l =
-    cond-true (nat_eq (final_byte (x ∷ y ∷ z ∷ bs)) 0x74) _ _ e
-    ∙ long_size (before_final (x ∷ y ∷ z ∷ bs)) (omega (arith, length-take-le (length (x ∷ y ∷ z ∷ bs) - 1) (x ∷ y ∷ z ∷ bs) (omega arith)))
-by_final false x y z bs e l =
-    cond-false (nat_eq (final_byte (x ∷ y ∷ z ∷ bs)) 0x74) _ _ e ∙ ap (option_map (λ k. k.1)) (no_plain_key x y z bs)
+by_final : (t : Bool) (body : List ℕ) → nat_eq (final_byte body) 0x74 ≡ t → 11 ≤ length body → sequence_key body ≡ None
+by_final true body e l =
+    cond-true (nat_eq (final_byte body) 0x74) _ _ e
+    ∙ long_size (before_final body) (omega (arith, length-take-le (length body - 1) body (omega arith), l))
+by_final false body e l = cond-false (nat_eq (final_byte body) 0x74) _ _ e ∙ ap (option_map (λ k. k.1)) (longer_no_key body (omega (arith, l)))
 
 long_no_key : (body : List ℕ) → 11 ≤ length body → sequence_key body ≡ None
-long_no_key [] l = absurd (omega arith)
-long_no_key (x ∷ []) l = absurd (omega arith)
-long_no_key (x ∷ y ∷ []) l = absurd (omega arith)
-long_no_key (x ∷ y ∷ z ∷ bs) l = by_final (nat_eq (final_byte (x ∷ y ∷ z ∷ bs)) 0x74) x y z bs refl (omega arith)
+long_no_key body l = by_final (nat_eq (final_byte body) 0x74) body refl l
 
 long_escape_key : (x : ℕ) (bs : List ℕ) → 11 ≤ length bs → key_of (0x1B ∷ x ∷ bs) ≡ None
 long_escape_key x bs l = elim (cases_Bool (nat_eq x 0x5B)) [

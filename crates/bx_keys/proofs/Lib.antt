@@ -2,6 +2,7 @@ pub mod Taking
 pub mod Cuts
 pub mod Keeping
 pub mod Standing
+mod OtherFinals
 pub mod Heads
 pub mod Feeding
 pub mod Characters

@@ -10,6 +10,7 @@ use Rattle.bx_keys.specs.Items.{is_item, begins_item}
 use Rattle.bx_keys.specs.declared.key.Key.{Key}
 use Rattle.bx_keys.specs.declared.key.Key.TheVariants.{Insert, Erase, Delete, Back, Forward, Up, Down, Right, Left, RowHome, RowEnd, PageUp, PageDown, Save}
 use Rattle.bx_keys.specs.declared.key.Key.TheVariants.{Quit, Undo, Redo, Repaint, Direction, Size}
+use Rattle.bx_keys.specs.declared.key.Key.TheVariants.{Mark, Copy, Cut, Put, Find, FindBack, WordLeft, WordRight, TextStart, TextEnd, Help}
 
 -- ---- the key of an item
 
@@ -26,7 +27,19 @@ abbrev pub sequence_keys : List (List ℕ × Key)
 sequence_keys =
     (codes "A", Up) ∷ (codes "B", Down) ∷ (codes "C", Right) ∷ (codes "D", Left) ∷ (codes "H", RowHome) ∷ (codes "F", RowEnd)
     ∷ (codes "1~", RowHome) ∷ (codes "4~", RowEnd) ∷ (codes "3~", Delete) ∷ (codes "5~", PageUp) ∷ (codes "6~", PageDown)
-    ∷ (codes "9~", Direction) ∷ []
+    ∷ (codes "9~", Direction)
+    ∷ (codes "70~", Find)
+    ∷ (codes "71~", FindBack)
+    ∷ (codes "72~", Mark)
+    ∷ (codes "73~", Copy)
+    ∷ (codes "74~", Cut)
+    ∷ (codes "75~", Put)
+    ∷ (codes "76~", WordLeft)
+    ∷ (codes "77~", WordRight)
+    ∷ (codes "78~", TextStart)
+    ∷ (codes "79~", TextEnd)
+    ∷ (codes "80~", Help)
+    ∷ []
 
 -- a side of a window, in one to three digits
 abbrev pub is_side_in_digits : List ℕ → Bool

@@ -37,6 +37,26 @@ pub enum Key {
     Repaint,
     /// Switches to the next direction that paragraphs may be given.
     Direction,
+    /// Sets the mark at the place, or takes it away there.
+    Mark,
+    /// Copies the region, or the line where it is empty.
+    Copy,
+    /// Cuts the region, or the line where it is empty.
+    Cut,
+    /// Inserts the copied or cut text at the place.
+    Put,
+    /// Begins a search, or goes to its next match.
+    Find,
+    /// Begins a search, or goes to its match before.
+    FindBack,
+    /// One word to the left on the screen.
+    WordLeft,
+    /// One word to the right on the screen.
+    WordRight,
+    TextStart,
+    TextEnd,
+    /// Shows the keys in the status row.
+    Help,
     /// The window's size in rows and columns, each from 1 to 500.
     Size(u16, u16),
 }

@@ -67,6 +67,7 @@ fn control_sequence_key(between: &[u8], last: u8) -> Option<Key>
         _ if last == b't' => size_key(between),
         [] => plain_key(last),
         [number] if last == b'~' => numbered_key(*number),
+        [tens, ones] if last == b'~' => two_digit_key(*tens, *ones),
         _ => None,
     }
 }
@@ -97,6 +98,37 @@ fn numbered_key(number: u8) -> Option<Key>
         b'5' => Some(Key::PageUp),
         b'6' => Some(Key::PageDown),
         b'9' => Some(Key::Direction),
+        _ => None,
+    }
+}
+
+fn two_digit_key(tens: u8, ones: u8) -> Option<Key>
+    ensures value { result ≡ spec.sequence_key (tens ∷ ones ∷ 0x7E ∷ []) }
+    ensures sides { IfSome result HasSides }
+{
+    match tens {
+        b'7' => seventies_key(ones),
+        b'8' if ones == b'0' => Some(Key::Help),
+        _ => None,
+    }
+}
+
+/// The key of a number from 70 to 79.
+fn seventies_key(ones: u8) -> Option<Key>
+    ensures value { result ≡ spec.sequence_key (0x37 ∷ ones ∷ 0x7E ∷ []) }
+    ensures sides { IfSome result HasSides }
+{
+    match ones {
+        b'0' => Some(Key::Find),
+        b'1' => Some(Key::FindBack),
+        b'2' => Some(Key::Mark),
+        b'3' => Some(Key::Copy),
+        b'4' => Some(Key::Cut),
+        b'5' => Some(Key::Put),
+        b'6' => Some(Key::WordLeft),
+        b'7' => Some(Key::WordRight),
+        b'8' => Some(Key::TextStart),
+        b'9' => Some(Key::TextEnd),
         _ => None,
     }
 }

@@ -1,5 +1,4 @@
 mod PageParts
 mod Parts
 mod Trimmed
-mod Written
 mod ClauseExamples

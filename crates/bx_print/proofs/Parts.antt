@@ -1,17 +1,23 @@
 -- A text written part by part; its first byte is dropped.
 use Rattle.std.proofs.Common.{◌≡◌, ℕ, ◌+◌, ◌<◌, ◌≤◌, List, [], ◌∷◌, ◌++◌, length, take, drop, get_or, Option, refl, sym, ap, subst, ◌∙◌, arith}
 use Rattle.std.proofs.Common.{append_assoc, length-append, take_all}
+use Rattle.std.proofs.Common.{Result, Ok, Err, OnOk}
 use Rattle.std.specs.Prelude.{flat_map}
 use Rattle.std.specs.Io.KnownBytes.{Appends}
 use Rattle.std.proofs.KnownBytes.{Appends-nil, Appends-trans}
 use Rattle.std.proofs.lemmas.List.{append-nil, take-append-drop, take_more}
 use Rattle.std.proofs.lemmas.List.Concat.{flat_map-append, flat_map-cons}
-use Rattle.bx_print.specs.Writing.{IsWritten, WritesFront}
+use Rattle.bx_output.specs.Writing.{IsWritten, WritesFront}
 
 -- the first byte of the first part
 pub drop-one : (xs ys : List ℕ) → 0 < length xs → drop 1 (xs ++ ys) ≡ drop 1 xs ++ ys
 drop-one [] ys some = absurd (omega (arith, some))
 drop-one (x ∷ xs) ys some = refl
+
+-- the consequence if all parts were written
+pub then-ok : {T E : Type 0} (r : Result T E) (P Q : Type 0) → (P → Q) → OnOk r P → OnOk r Q
+then-ok (Ok x) P Q f p = f p
+then-ok (Err e) P Q f p = p
 
 module _ {X : Type 0} (f : X → List ℕ) (ps : List X) where
   abbrev pub whole : List ℕ

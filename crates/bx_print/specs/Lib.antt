@@ -1,3 +1,2 @@
 pub mod Page
 pub mod BodyLines
-pub mod Writing

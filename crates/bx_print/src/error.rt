@@ -1,4 +1,5 @@
 //! Errors of printing.
+use bx_output::WriteFault;
 use bx_terms::OutOfMemory;
 use bx_text::TextError;
 use std::alloc::AllocError;
@@ -48,5 +49,16 @@ impl From<OutOfMemory> for PrintError {
 
     fn from(_error: OutOfMemory) -> Self {
         PrintError::OutOfMemory
+    }
+}
+
+impl From<WriteFault> for PrintError {
+    ghost use Rattle.std.specs.Prelude.{◌≡◌};
+    ghost use Rattle.bx_print.specs.declared.error.PrintError.TheVariants.{WriteFault};
+
+    ghost from_gives = { λ e r. r ≡ WriteFault };
+
+    fn from(_fault: WriteFault) -> Self {
+        PrintError::WriteFault
     }
 }

@@ -1,32 +1,14 @@
 //! Writing bytes.
 ghost use Rattle.std.specs.Prelude.{◌≡◌, ℕ, List, OnErr, OnOk};
 ghost use Rattle.std.specs.Io.KnownBytes.{Appends};
-ghost use Rattle.bx_print.specs.Writing.{IsWritten, WritesFront};
+ghost use Rattle.bx_output.specs.Writing.{IsWritten, WritesFront};
 
 use crate::error::PrintError;
+use bx_output::write_all;
 use std::io::Write;
 
 /// The number of pending bytes that triggers a write.
 const FULL: usize = 65_536;
-
-/// Writes all bytes. A write that takes no byte is an error.
-///
-/// Errors: `WriteFault`; a prefix of the bytes was written.
-fn send<W: Write>(writer: &mut W, bytes: &[u8]) -> Result<(), PrintError>
-    ensures all { OnOk result (Appends (W.contents writer.old) (W.contents writer.new) bytes.now) }
-    ensures front { WritesFront bytes.now (W.contents writer.old) (W.contents writer.new) }
-    ensures fault { OnErr result (result ≡ Err PrintError.WriteFault) }
-{
-    let mut rest = bytes;
-    'writes: while !rest.is_empty() {
-        match writer.write(rest) {
-            Ok(0) => return Err(PrintError::WriteFault),
-            Ok(count) => rest = &rest[count..],
-            Err(_) => return Err(PrintError::WriteFault),
-        }
-    }
-    Ok(())
-}
 
 /// Writes the pending bytes, and clears them, once there are `FULL` of them.
 ///
@@ -40,7 +22,7 @@ pub(crate) fn send_full<W: Write>(writer: &mut W, pending: &mut Vec<u8>) -> Resu
     if pending.len() < FULL {
         return Ok(());
     }
-    send(writer, pending)?;
+    write_all(writer, pending)?;
     pending.clear();
     Ok(())
 }
@@ -53,7 +35,7 @@ pub(crate) fn finish<W: Write>(writer: &mut W, pending: &[u8]) -> Result<(), Pri
     ensures front { WritesFront pending.now (W.contents writer.old) (W.contents writer.new) }
     ensures fault { OnErr result (result ≡ Err PrintError.WriteFault) }
 {
-    send(writer, pending)?;
+    write_all(writer, pending)?;
     match writer.flush() {
         Ok(()) => Ok(()),
         Err(_) => Err(PrintError::WriteFault),

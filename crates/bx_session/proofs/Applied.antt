@@ -2,8 +2,9 @@
 use Rattle.std.proofs.Common.{◌≡◌, Bool, false, ap, refl, ◌∙◌}
 use Rattle.bx_keys.specs.declared.key.Key.{Key}
 use Rattle.bx_keys.specs.declared.key.Key.TheVariants.{Insert, Erase, Delete, Back, Forward, Up, Down, Right, Left, RowHome, RowEnd, PageUp, PageDown}
-use Rattle.bx_keys.specs.declared.key.Key.TheVariants.{Save, Quit, Undo, Redo, Repaint, Direction, Size}
-use Rattle.bx_editor.specs.Data.{Data}
+use Rattle.bx_keys.specs.declared.key.Key.TheVariants.{Save, Quit, Undo, Redo, Repaint, Direction, Size, Mark, Copy, Cut, Put}
+use Rattle.bx_keys.specs.declared.key.Key.TheVariants.{Find, FindBack, WordLeft, WordRight, TextStart, TextEnd, Help}
+use Rattle.bx_ucd.specs.Data.{Data}
 use Rattle.bx_editor.specs.Editor.{Editor, EditorState}
 use Rattle.bx_editor.specs.Keys.{after_key, is_save}
 
@@ -28,6 +29,17 @@ unless_save d saved e Undo h = refl
 unless_save d saved e Redo h = refl
 unless_save d saved e Repaint h = refl
 unless_save d saved e Direction h = refl
+unless_save d saved e Mark h = refl
+unless_save d saved e Copy h = refl
+unless_save d saved e Cut h = refl
+unless_save d saved e Put h = refl
+unless_save d saved e Find h = refl
+unless_save d saved e FindBack h = refl
+unless_save d saved e WordLeft h = refl
+unless_save d saved e WordRight h = refl
+unless_save d saved e TextStart h = refl
+unless_save d saved e TextEnd h = refl
+unless_save d saved e Help h = refl
 unless_save d saved e (Size height width) h = refl
 
 pub applied : {D : Type 0} (says : D → Data) (saved : Bool) (old new : EditorState D) (key : Key) → is_save key ≡ false

@@ -6,10 +6,11 @@ use Rattle.bx_grid.specs.Picture.{PictureState, is_size}
 use Rattle.bx_keys.specs.declared.key.Key.{Key}
 use Rattle.bx_keys.specs.declared.key.Key.TheVariants as keys
 use Rattle.bx_keys.specs.declared.key.Key.TheVariants.{Insert, Erase, Delete, Back, Forward, Up, Down, Right, Left, RowHome, RowEnd, PageUp, PageDown, Save}
-use Rattle.bx_keys.specs.declared.key.Key.TheVariants.{Quit, Undo, Redo, Repaint, Direction}
+use Rattle.bx_keys.specs.declared.key.Key.TheVariants.{Quit, Undo, Redo, Repaint, Direction, Mark, Copy, Cut, Put}
+use Rattle.bx_keys.specs.declared.key.Key.TheVariants.{Find, FindBack, WordLeft, WordRight, TextStart, TextEnd, Help}
 use Rattle.bx_keys.specs.Keys.{rest_after}
 use Rattle.bx_keys.specs.Waiting.{head_of}
-use Rattle.bx_editor.specs.Data.{Data}
+use Rattle.bx_ucd.specs.Data.{Data}
 use Rattle.bx_editor.specs.Editor.{EditorState, at_start}
 use Rattle.bx_session.specs.declared.error.Refused.{Refused}
 use Rattle.bx_session.specs.declared.error.Refused.TheVariants.{Edit, Paint, Size}
@@ -104,6 +105,17 @@ same_screen_after d false s (Some Undo) = refl
 same_screen_after d false s (Some Redo) = refl
 same_screen_after d false s (Some Repaint) = refl
 same_screen_after d false s (Some Direction) = refl
+same_screen_after d false s (Some Mark) = refl
+same_screen_after d false s (Some Copy) = refl
+same_screen_after d false s (Some Cut) = refl
+same_screen_after d false s (Some Put) = refl
+same_screen_after d false s (Some Find) = refl
+same_screen_after d false s (Some FindBack) = refl
+same_screen_after d false s (Some WordLeft) = refl
+same_screen_after d false s (Some WordRight) = refl
+same_screen_after d false s (Some TextStart) = refl
+same_screen_after d false s (Some TextEnd) = refl
+same_screen_after d false s (Some Help) = refl
 same_screen_after d false s (Some (keys.Size height width)) = refl
 
 pub byte_paints : {D : Type 0} (says : D → Data) (saved : Bool) (old mid : SessionState D) (new : Session) (b : ℕ)

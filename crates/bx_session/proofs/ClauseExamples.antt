@@ -12,7 +12,7 @@ use Rattle.bx_session.specs.Running.{ByteAnswer, HasRun, bytes_of}
 use Rattle.bx_session.specs.Saving.{StoreState}
 use Rattle.bx_session.specs.Session.{Session}
 use Rattle.bx_session.proofs.Computed.{start}
-use Rattle.bx_session.proofs.Kept.{has_none}
+use Rattle.bx_session.proofs.Recorded.{has_none}
 use Rattle.bx_editor.proofs.Computed.{tables}
 
 none_dropped : (dropped : List ℕ) (ended : Bool) → (dropped ≢ [] → ended ≡ true) → ended ≡ false → dropped ≡ []

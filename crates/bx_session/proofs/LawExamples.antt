@@ -1,5 +1,5 @@
 -- Worked examples, each from a law alone.
-use Rattle.std.proofs.Common.{◌≡◌, ℕ, true, List, [], ◌∷◌, Some, Result, Err, refl, sym, ap, ◌∙◌}
+use Rattle.std.proofs.Common.{◌≡◌, ℕ, true, List, [], ◌∷◌, ◌++◌, Some, Result, Err, refl, sym, ap, ◌∙◌}
 use Rattle.std.specs.Prelude.{◌≢◌, codes}
 use Rattle.std.specs.Fmt.{digits}
 use Rattle.std.proofs.lemmas.List.Elements.{All-cons, All-nil}
@@ -17,7 +17,7 @@ use Rattle.bx_session.specs.declared.status.Status.{Status}
 use Rattle.bx_session.specs.Anew.{AlwaysStaysPainted}
 use Rattle.bx_session.specs.Laws.{AlwaysShowsState, HasKeysOfInput, ReplaysKeys, after_replaying, keys_from}
 use Rattle.bx_session.specs.Recovery.{HasBack, RefusesNoKey, RecoveryGivesBack}
-use Rattle.bx_session.specs.Running.{ByteAnswer, FeedsAll}
+use Rattle.bx_session.specs.Running.{ByteAnswer, FeedsAll, bytes_of}
 use Rattle.bx_session.specs.Saving.{StoreState}
 use Rattle.bx_session.specs.Session.{Session, after_byte, after_sending, after_spending, owing_after_byte, with_painting}
 use Rattle.bx_session.proofs.Computed.{start, csi}
@@ -59,6 +59,22 @@ pub a_save_is_no_end_of_the_past : RecoveryGivesBack → (store store' : StoreSt
 unfolding unicode_segmentation unicode_width digits
 a_save_is_no_end_of_the_past law store store' a save b undo new feeds none =
     ap (λ (t : Edited). t.text) (sym (law.gives_back tables (codes "x") 1 5 Auto store store' (fed a save b undo) new feeds none).content)
+
+-- Forward, Mark, Forward, Copy, Mark
+abbrev marked : List ℕ
+marked = (0x06 ∷ csi (codes "72~")) ++ (0x06 ∷ csi (codes "73~")) ++ csi (codes "72~")
+
+-- a session that was fed them over abc has the mark and the held bytes of their replay
+pub mark_and_held_bytes_come_back : RecoveryGivesBack → (store store' : StoreState) (answered : List ByteAnswer) (new : Session)
+    → bytes_of answered ≡ marked → FeedsAll tables (start (codes "abc") 1 5) store answered new store' → RefusesNoKey answered
+    → (new.editor.mark ≡ Some 2) × (new.editor.held ≡ codes "b")
+unfolding unicode_segmentation unicode_width digits
+mark_and_held_bytes_come_back law store store' answered new fed_them feeds none =
+    let opened_at = start (codes "abc") 1 5 in
+    let back = law.gives_back tables (codes "abc") 1 5 Auto store store' answered new feeds none in (
+      sym back.mark ∙ ap (λ bytes. (after_replaying tables opened_at bytes).editor.mark) fed_them,
+      sym back.held ∙ ap (λ bytes. (after_replaying tables opened_at bytes).editor.held) fed_them,
+    )
 
 -- such a session exists: one whose paintings were all refused
 abbrev unpainted : List ℕ → List ByteAnswer
@@ -133,6 +149,6 @@ unfolding unicode_segmentation unicode_width digits
 a_recovered_session_goes_on law store store' b new feeds none =
     let replayed = after_replaying tables (start (codes "x") 1 5) (0x61 ∷ []) in
     let same : HasBack (with_painting tables replayed) replayed =
-    record { content = refl; place = refl; base = refl; height = refl; width = refl; rest = refl; goes_on = refl } in
+    record { content = refl; place = refl; mark = refl; held = refl; base = refl; height = refl; width = refl; rest = refl; goes_on = refl } in
     ap (λ (t : Edited). t.text)
     (sym (law.keeps_up tables (with_painting tables replayed) replayed store store' ((0x62, b) ∷ []) new same feeds none).content)

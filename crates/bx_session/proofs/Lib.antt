@@ -2,7 +2,7 @@ pub mod Applied
 pub mod Bytes
 pub mod Computed
 pub mod Input
-pub mod Kept
+pub mod Recorded
 pub mod PaintedAnew
 pub mod Pictures
 pub mod Replayed

@@ -4,7 +4,7 @@ use Rattle.std.proofs.lemmas.List.{append-nil}
 use Rattle.bx_paint.proofs.Few.{same_changes}
 use Rattle.bx_keys.specs.Keys.{rest_after}
 use Rattle.bx_keys.specs.Waiting.{head_of}
-use Rattle.bx_editor.specs.Data.{Data}
+use Rattle.bx_ucd.specs.Data.{Data}
 use Rattle.bx_editor.specs.Laws.{HasRows}
 use Rattle.bx_editor.specs.Picture.{picture, next_top}
 use Rattle.bx_editor.proofs.TopOnce.{top-stays}

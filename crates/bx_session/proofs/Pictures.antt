@@ -2,11 +2,11 @@
 use Rattle.std.proofs.Common.{◌≡◌, ℕ, ◌≤◌, Bool, true, false, List, ◌++◌, length, drop, Some, refl, ap, ◌∙◌, if◌then◌else◌}
 use Rattle.std.proofs.lemmas.List.{drop-append-le}
 use Rattle.bx_grid.specs.Picture.{PictureState, AreWholeTokens, IsPicture}
-use Rattle.bx_editor.specs.Data.{Data}
+use Rattle.bx_ucd.specs.Data.{Data}
 use Rattle.bx_editor.specs.Editor.{Editor, rows}
 use Rattle.bx_editor.specs.Picture.{StandsOnItsCell, picture, next_top, blank_picture, text_picture}
 use Rattle.bx_session.specs.Session.{Session, painting, with_painting}
-use Rattle.bx_session.specs.Painting.{Leads, QueuesPicture}
+use Rattle.bx_session.specs.Painting.{QueuesPicture, Updates}
 
 either_height : (ended : Bool) (p q : PictureState) (h : ℕ) → p.height ≡ h → q.height ≡ h → (if ended then p else q).height ≡ h
 either_height true p q h e f = e
@@ -34,14 +34,14 @@ painting_is d s e top p pending same follows is appends = rw (appends, is, follo
 
 pub painting_queues : (d : Data) (s : Session) (e : Editor) (top : ℕ) (p : PictureState) (pending : List ℕ) → e ≡ s.editor
     → p ≡ picture d s.editor top → pending ≡ s.pending ++ painting s.known p → AreWholeTokens (painting s.known p)
-    → Leads s.known (painting s.known p) p → IsPicture p → (s.editor.ended ≡ false → StandsOnItsCell d s.editor top p)
+    → Updates s.known (painting s.known p) p → IsPicture p → (s.editor.ended ≡ false → StandsOnItsCell d s.editor top p)
     → QueuesPicture d s.pending s.known (record s { editor = e; top = top; painted = Some p; known = Some p; painting_owed = false; pending = pending })
-painting_queues d s e top p pending same is appends tokens leads sized stands = (
+painting_queues d s e top p pending same is appends tokens updates sized stands = (
   painting s.known p,
   record {
     appends = appends;
     tokens = tokens;
-    leads = rw (same, ← is) leads;
+    updates = rw (same, ← is) updates;
     painted = rw (same, ← is) refl;
     known = rw (same, ← is) refl;
     is_picture = rw (same, ← is) sized;

@@ -6,16 +6,18 @@ use Rattle.std.proofs.lemmas.List.Elements.{All-tail}
 use Rattle.bx_terms.specs.declared.base.Base.{Base}
 use Rattle.bx_keys.specs.declared.key.Key.{Key}
 use Rattle.bx_keys.specs.declared.key.Key.TheVariants.{Insert, Erase, Delete, Back, Forward, Up, Down, Right, Left, RowHome, RowEnd, PageUp, PageDown, Save}
-use Rattle.bx_keys.specs.declared.key.Key.TheVariants.{Quit, Undo, Redo, Repaint, Direction, Size}
+use Rattle.bx_keys.specs.declared.key.Key.TheVariants.{Quit, Undo, Redo, Repaint, Direction, Size, Mark, Copy, Cut, Put}
+use Rattle.bx_keys.specs.declared.key.Key.TheVariants.{Find, FindBack, WordLeft, WordRight, TextStart, TextEnd, Help}
 use Rattle.bx_keys.specs.Keys.{key_after, rest_after}
 use Rattle.bx_keys.specs.Waiting.{head_of}
 use Rattle.bx_text.specs.Edits.{Edit, Edited, fits, inserted, removed, splice}
 use Rattle.bx_view.specs.Moves.{step_logical}
 use Rattle.bx_view.specs.declared.moves.Logical.TheVariants as logical
-use Rattle.bx_editor.specs.declared.message.Message.TheVariants.{TextFull, Unsaved}
-use Rattle.bx_editor.specs.Data.{Data}
+use Rattle.bx_editor.specs.declared.message.Message.TheVariants.{TextFull, Unsaved, Copied, LineCopied, MarkOff, MarkSet, NothingToCopy, NothingToPut}
+use Rattle.bx_ucd.specs.Data.{Data}
 use Rattle.bx_editor.specs.Editor.{Editor, rows, place_after, after_insertion, after_removal, after_undo, after_redo, after_save, without_message}
 use Rattle.bx_editor.specs.Keys.{after_key, after_keys}
+use Rattle.bx_editor.specs.Region.{after_copy, after_cut, after_mark, after_put, bytes_in, is_at_mark, is_empty, line, region, taken}
 use Rattle.bx_session.specs.declared.error.Refused.{Refused}
 use Rattle.bx_session.specs.declared.error.Refused.TheVariants as refused
 use Rattle.bx_session.specs.declared.status.Status.{Status}
@@ -34,16 +36,34 @@ use Rattle.bx_session.proofs.Replayed.{applies, replays_keys}
 record Lasting : Type 0 where
   pub content : Edited
   pub place : ℕ
+  pub mark : Option ℕ
+  pub held : List ℕ
   pub base : Base
   pub height : ℕ
   pub width : ℕ
 
 abbrev lasting : Editor → Lasting
-lasting e = record { content = e.content; place = e.place; base = e.base; height = e.height; width = e.width }
+lasting e = record {
+  content = e.content;
+  place = e.place;
+  mark = e.mark;
+  held = e.held;
+  base = e.base;
+  height = e.height;
+  width = e.width;
+}
 
 -- an editor that has these parts of another one
 abbrev with : Lasting → Editor → Editor
-with l e = record e { content = l.content; place = l.place; base = l.base; height = l.height; width = l.width }
+with l e = record e {
+  content = l.content;
+  place = l.place;
+  mark = l.mark;
+  held = l.held;
+  base = l.base;
+  height = l.height;
+  width = l.width;
+}
 
 either_lasts : (b : Bool) (p q p' q' : Editor) → lasting p ≡ lasting p' → lasting q ≡ lasting q'
     → lasting (if b then p else q) ≡ lasting (if b then p' else q')
@@ -53,7 +73,7 @@ either_lasts false p q p' q' h k = k
 -- ---- a key changes these parts alike
 
 abbrev put_in : Editor → List ℕ → ℕ → Editor
-put_in e new after = record e { content = inserted e.content e.place new e.place after; place = after; changed = true }
+put_in e new after = record e { content = inserted e.content e.place new e.place after; place = after; mark = None; changed = true }
 
 insertion_lasts : (d : Data) (e f : Editor) (new : List ℕ)
     → lasting (after_insertion d e new) ≡ lasting (after_insertion d (with (lasting e) f) new)
@@ -64,7 +84,7 @@ insertion_lasts d e f new =
     (put_in g new after) (record g { message = Some TextFull }) refl refl
 
 abbrev taken_out : Editor → ℕ → ℕ → ℕ → Editor
-taken_out e start stop after = record e { content = removed e.content start stop e.place after; place = after; changed = true }
+taken_out e start stop after = record e { content = removed e.content start stop e.place after; place = after; mark = None; changed = true }
 
 removal_lasts : (d : Data) (e f : Editor) (start stop : ℕ)
     → lasting (after_removal d e start stop) ≡ lasting (after_removal d (with (lasting e) f) start stop)
@@ -90,6 +110,47 @@ quit_by : (ends : Bool) (e : Editor)
 quit_by true e = refl
 quit_by false e = refl
 
+mark_lasts : (e f : Editor) → lasting (after_mark e) ≡ lasting (after_mark (with (lasting e) f))
+mark_lasts e f =
+    let g = with (lasting e) f in
+    either_lasts (is_at_mark e.mark e.place) (record e { mark = None; message = Some MarkOff }) (record e { mark = Some e.place; message = Some MarkSet })
+    (record g { mark = None; message = Some MarkOff }) (record g { mark = Some g.place; message = Some MarkSet }) refl refl
+
+abbrev none_copied : Editor → Editor
+none_copied e = record e { mark = None; message = Some NothingToCopy }
+
+abbrev line_copied : Data → Editor → Editor
+line_copied d e = record e { mark = None; held = bytes_in e (line d e); message = Some LineCopied }
+
+abbrev region_copied : Editor → Editor
+region_copied e = record e { mark = None; held = bytes_in e (region e); message = Some Copied }
+
+copy_lasts : (d : Data) (e f : Editor) → lasting (after_copy d e) ≡ lasting (after_copy d (with (lasting e) f))
+copy_lasts d e f =
+    let g = with (lasting e) f in
+    either_lasts (is_empty (region e)) (if is_empty (line d e) then none_copied e else line_copied d e) (region_copied e)
+    (if is_empty (line d e) then none_copied g else line_copied d g) (region_copied g)
+    (either_lasts (is_empty (line d e)) (none_copied e) (line_copied d e) (none_copied g) (line_copied d g) refl refl) refl
+
+abbrev cut_out : Data → Editor → Editor
+cut_out d e = record (after_removal d e ((taken d e).0) ((taken d e).1)) { held = bytes_in e (taken d e) }
+
+-- what lasts where these bytes are held
+abbrev holding : List ℕ → Lasting → Lasting
+holding bytes l = record l { held = bytes }
+
+cut_lasts : (d : Data) (e f : Editor) → lasting (after_cut d e) ≡ lasting (after_cut d (with (lasting e) f))
+cut_lasts d e f =
+    let g = with (lasting e) f in
+    either_lasts (is_empty (taken d e)) (after_copy d e) (cut_out d e) (after_copy d g) (cut_out d g) (copy_lasts d e f)
+    (ap (holding (bytes_in e (taken d e))) (removal_lasts d e f ((taken d e).0) ((taken d e).1)))
+
+put_lasts : (d : Data) (e f : Editor) → lasting (after_put d e) ≡ lasting (after_put d (with (lasting e) f))
+put_lasts d e f =
+    let g = with (lasting e) f in
+    either_lasts (length e.held == 0) (record e { message = Some NothingToPut }) (after_insertion d e e.held) (record g { message = Some NothingToPut })
+    (after_insertion d g e.held) refl (insertion_lasts d e f e.held)
+
 key_lasts : (d : Data) (saved : Bool) (e f : Editor) (key : Key)
     → lasting (after_key d saved e key) ≡ lasting (after_keys d false (with (lasting e) f) (filter is_replayed (key ∷ [])))
 key_lasts d saved e f (Insert c) = insertion_lasts d (without_message e) (without_message f) (encode_utf8 c)
@@ -113,6 +174,17 @@ key_lasts d saved e f Undo = undo_lasts (without_message e) (without_message f) 
 key_lasts d saved e f Redo = redo_lasts (without_message e) (without_message f) e.content.future
 key_lasts d saved e f Repaint = refl
 key_lasts d saved e f Direction = refl
+key_lasts d saved e f Mark = mark_lasts (without_message e) (without_message f)
+key_lasts d saved e f Copy = copy_lasts d (without_message e) (without_message f)
+key_lasts d saved e f Cut = cut_lasts d (without_message e) (without_message f)
+key_lasts d saved e f Put = put_lasts d (without_message e) (without_message f)
+key_lasts d saved e f Find = refl
+key_lasts d saved e f FindBack = refl
+key_lasts d saved e f WordLeft = refl
+key_lasts d saved e f WordRight = refl
+key_lasts d saved e f TextStart = refl
+key_lasts d saved e f TextEnd = refl
+key_lasts d saved e f Help = refl
 key_lasts d saved e f (Size height width) = refl
 
 abbrev editor_after : Data → Bool → Editor → Option Key → Editor
@@ -195,18 +267,20 @@ all_follow d s r store store' (a ∷ answered) new before feeds none =
 
 -- ---- for each part
 
-same_lasts : (e f : Editor) → f.content ≡ e.content → f.place ≡ e.place → f.base ≡ e.base → f.height ≡ e.height → f.width ≡ e.width
-    → lasting e ≡ lasting f
-same_lasts e f content place base height width =
-    ap (λ c. record { content = c; place = e.place; base = e.base; height = e.height; width = e.width }) (sym content)
-    ∙ ap (λ p. record { content = f.content; place = p; base = e.base; height = e.height; width = e.width }) (sym place)
-    ∙ ap (λ b. record { content = f.content; place = f.place; base = b; height = e.height; width = e.width }) (sym base)
-    ∙ ap (λ h. record { content = f.content; place = f.place; base = f.base; height = h; width = e.width }) (sym height)
-    ∙ ap (λ w. record { content = f.content; place = f.place; base = f.base; height = f.height; width = w }) (sym width)
+same_lasts : (e f : Editor) → f.content ≡ e.content → f.place ≡ e.place → f.mark ≡ e.mark → f.held ≡ e.held → f.base ≡ e.base
+    → f.height ≡ e.height → f.width ≡ e.width → lasting e ≡ lasting f
+same_lasts e f content place mark held base height width =
+    ap (λ c. record { content = c; place = e.place; mark = e.mark; held = e.held; base = e.base; height = e.height; width = e.width }) (sym content)
+    ∙ ap (λ p. record { content = f.content; place = p; mark = e.mark; held = e.held; base = e.base; height = e.height; width = e.width }) (sym place)
+    ∙ ap (λ m. record { content = f.content; place = f.place; mark = m; held = e.held; base = e.base; height = e.height; width = e.width }) (sym mark)
+    ∙ ap (λ bytes. record { content = f.content; place = f.place; mark = f.mark; held = bytes; base = e.base; height = e.height; width = e.width }) (sym held)
+    ∙ ap (λ b. record { content = f.content; place = f.place; mark = f.mark; held = f.held; base = b; height = e.height; width = e.width }) (sym base)
+    ∙ ap (λ h. record { content = f.content; place = f.place; mark = f.mark; held = f.held; base = f.base; height = h; width = e.width }) (sym height)
+    ∙ ap (λ w. record { content = f.content; place = f.place; mark = f.mark; held = f.held; base = f.base; height = f.height; width = w }) (sym width)
 
 follows : (s r : Session) → HasBack s r → Follows s r
 follows s r h = record {
-  lasts = same_lasts s.editor r.editor h.content h.place h.base h.height h.width;
+  lasts = same_lasts s.editor r.editor h.content h.place h.mark h.held h.base h.height h.width;
   rest_is = sym h.rest;
   goes_on = h.goes_on;
 }
@@ -215,6 +289,8 @@ has_back : (s r : Session) → Follows s r → HasBack s r
 has_back s r h = record {
   content = ap (λ (l : Lasting). l.content) (sym h.lasts);
   place = ap (λ (l : Lasting). l.place) (sym h.lasts);
+  mark = ap (λ (l : Lasting). l.mark) (sym h.lasts);
+  held = ap (λ (l : Lasting). l.held) (sym h.lasts);
   base = ap (λ (l : Lasting). l.base) (sym h.lasts);
   height = ap (λ (l : Lasting). l.height) (sym h.lasts);
   width = ap (λ (l : Lasting). l.width) (sym h.lasts);

@@ -5,13 +5,15 @@ use Rattle.std.specs.List.{filter}
 use Rattle.std.specs.Prelude.{option_to_list}
 use Rattle.bx_keys.specs.declared.key.Key.{Key}
 use Rattle.bx_keys.specs.declared.key.Key.TheVariants.{Insert, Erase, Delete, Back, Forward, Up, Down, Right, Left, RowHome, RowEnd, PageUp, PageDown, Save}
-use Rattle.bx_keys.specs.declared.key.Key.TheVariants.{Quit, Undo, Redo, Repaint, Direction, Size}
+use Rattle.bx_keys.specs.declared.key.Key.TheVariants.{Quit, Undo, Redo, Repaint, Direction, Size, Mark, Copy, Cut, Put}
+use Rattle.bx_keys.specs.declared.key.Key.TheVariants.{Find, FindBack, WordLeft, WordRight, TextStart, TextEnd, Help}
 use Rattle.bx_keys.specs.Keys.{key_after, rest_after}
 use Rattle.bx_keys.specs.Waiting.{head_of}
 use Rattle.bx_text.specs.Edits.{Edit}
-use Rattle.bx_editor.specs.Data.{Data}
-use Rattle.bx_editor.specs.Editor.{Editor, after_undo, after_redo, without_message}
+use Rattle.bx_ucd.specs.Data.{Data}
+use Rattle.bx_editor.specs.Editor.{Editor, after_insertion, after_removal, after_undo, after_redo, without_message}
 use Rattle.bx_editor.specs.Keys.{after_key, after_keys}
+use Rattle.bx_editor.specs.Region.{after_copy, after_cut, after_put, is_empty, line, region, taken}
 use Rattle.bx_session.specs.Laws.{keys_from, after_replaying, ReplaysKeys}
 use Rattle.bx_session.specs.Session.{Session, after_replay, after_replayed_key, is_replayed, with_painting_owed}
 
@@ -28,6 +30,21 @@ undo_goes_on e (x ∷ xs) h = h
 redo_goes_on : (e : Editor) (future : List Edit) → e.ended ≡ false → (after_redo e future).ended ≡ false
 redo_goes_on e [] h = h
 redo_goes_on e (x ∷ xs) h = h
+
+insertion_goes_on : (d : Data) (e : Editor) (bytes : List ℕ) → e.ended ≡ false → (after_insertion d e bytes).ended ≡ false
+insertion_goes_on d e bytes h = either_goes_on _ _ _ h h
+
+removal_goes_on : (d : Data) (e : Editor) (start stop : ℕ) → e.ended ≡ false → (after_removal d e start stop).ended ≡ false
+removal_goes_on d e start stop h = either_goes_on _ _ _ h h
+
+copy_goes_on : (d : Data) (e : Editor) → e.ended ≡ false → (after_copy d e).ended ≡ false
+copy_goes_on d e h = either_goes_on (is_empty (region e)) _ _ (either_goes_on (is_empty (line d e)) _ _ h h) h
+
+cut_goes_on : (d : Data) (e : Editor) → e.ended ≡ false → (after_cut d e).ended ≡ false
+cut_goes_on d e h = either_goes_on (is_empty (taken d e)) _ _ (copy_goes_on d e h) (removal_goes_on d e ((taken d e).0) ((taken d e).1) h)
+
+put_goes_on : (d : Data) (e : Editor) → e.ended ≡ false → (after_put d e).ended ≡ false
+put_goes_on d e h = either_goes_on _ _ _ h (insertion_goes_on d e e.held h)
 
 goes_on : (d : Data) (e : Editor) (key : Key) → is_replayed key ≡ true → e.ended ≡ false → (after_key d false e key).ended ≡ false
 goes_on d e (Insert c) r h = either_goes_on _ _ _ h h
@@ -49,6 +66,17 @@ goes_on d e Undo r h = undo_goes_on (without_message e) e.content.past h
 goes_on d e Redo r h = redo_goes_on (without_message e) e.content.future h
 goes_on d e Repaint r h = h
 goes_on d e Direction r h = h
+goes_on d e Mark r h = either_goes_on _ _ _ h h
+goes_on d e Copy r h = copy_goes_on d (without_message e) h
+goes_on d e Cut r h = cut_goes_on d (without_message e) h
+goes_on d e Put r h = put_goes_on d (without_message e) h
+goes_on d e Find r h = h
+goes_on d e FindBack r h = h
+goes_on d e WordLeft r h = h
+goes_on d e WordRight r h = h
+goes_on d e TextStart r h = h
+goes_on d e TextEnd r h = h
+goes_on d e Help r h = h
 goes_on d e (Size height width) r h = h
 
 -- ---- a byte

@@ -2,7 +2,7 @@
 use Rattle.std.proofs.Common.{ℕ, Bool, true, false, List, refl, if◌then◌else◌}
 use Rattle.bx_keys.specs.Keys.{rest_after}
 use Rattle.bx_keys.specs.Waiting.{head_of}
-use Rattle.bx_editor.specs.Data.{Data}
+use Rattle.bx_ucd.specs.Data.{Data}
 use Rattle.bx_session.specs.Session.{Session, with_painting, after_spending, unpainted_after_byte, is_idle}
 use Rattle.bx_session.specs.Laws.{ShowsState, AlwaysShowsState}
 

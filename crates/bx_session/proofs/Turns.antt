@@ -2,13 +2,13 @@
 use Rattle.std.proofs.Common.{◌≡◌, ◌≢◌, ℕ, ◌+◌, ◌<◌, ◌≤◌, Bool, true, false, List, [], ◌∷◌, ◌++◌, length, take, drop}
 use Rattle.std.proofs.Common.{Option, Some, None, Result, Ok, Err, OnOk, refl, sym, ap, subst, ◌∙◌, append_assoc, if◌then◌else◌, arith}
 use Rattle.std.specs.Io.KnownBytes.{Appends, Consumes, Keeps}
-use Rattle.std.proofs.KnownBytes.{Consumes-nil, Consumes-trans, Appends-nil, Appends-trans, Appends-kept}
-use Rattle.std.proofs.lemmas.List.{append-nil, length-append, map-append, take-append-drop, length-drop}
+use Rattle.std.proofs.KnownBytes.{Consumes-nil, Consumes-trans, Appends-trans, Appends-kept}
+use Rattle.std.proofs.lemmas.List.{append-nil, length-append, map-append, take-append-drop, take_all}
 use Rattle.bx_keys.specs.declared.key.Key.{Key}
 use Rattle.bx_keys.specs.Keys.{rest_after}
 use Rattle.bx_keys.specs.Waiting.{head_of}
 use Rattle.bx_grid.specs.Picture.{PictureState}
-use Rattle.bx_editor.specs.Data.{Data}
+use Rattle.bx_ucd.specs.Data.{Data}
 use Rattle.bx_editor.specs.Picture.{picture, next_top}
 use Rattle.bx_session.specs.declared.status.Status.{Status}
 use Rattle.bx_session.specs.declared.error.Refused.{Refused}
@@ -77,7 +77,7 @@ FeedPaints-prefixed d p s b s' h =
       record {
         appends = ap (λ xs. p ++ xs) h.1.appends ∙ sym (append_assoc p s.pending h.0);
         tokens = h.1.tokens;
-        leads = h.1.leads;
+        updates = h.1.updates;
         painted = h.1.painted;
         known = h.1.known;
         is_picture = h.1.is_picture;
@@ -142,22 +142,6 @@ fed_until d old now store store1 bytes i answered before ended = record {
   drops = ended;
 }
 
-pub not_sent : (s : Session) (w : Option (List ℕ)) → Sent s s w w []
-not_sent s w = record { writes = Appends-nil w; order = refl; session = refl }
-
-pub sent_more : (s s1 s2 : Session) (w w1 w2 : Option (List ℕ)) (written more : List ℕ) → Sent s s1 w w1 written → Sent s1 s2 w1 w2 more
-    → Sent s s2 w w2 (written ++ more)
-sent_more s s1 s2 w w1 w2 written more a b = record {
-  writes = Appends-trans w w1 w2 written more a.writes b.writes;
-  order = a.order ∙ ap (λ xs. written ++ xs) b.order ∙ sym (append_assoc written more s2.pending);
-  session = b.session ∙ ap (λ (x : Session). record x { pending = s2.pending }) a.session;
-}
-
-none_written : (a b : Option (List ℕ)) → Appends a b [] → Keeps a b
-none_written None b h = tt
-none_written (Some xs) None h = h
-none_written (Some xs) (Some ys) h = h ∙ append-nil xs
-
 -- some pending bytes were written and removed
 pub took : (s s1 : Session) (w w1 : Option (List ℕ)) (count : ℕ) (buffer : List ℕ) → buffer ≡ s.pending → Appends w w1 (take count buffer)
     → s1 ≡ record s { pending = drop count s.pending } → Sent s s1 w w1 (take count buffer)
@@ -172,6 +156,13 @@ took s s1 w w1 count buffer is written e =
 
 pub sent_kept : (s s1 : Session) (w w1 w2 : Option (List ℕ)) (written : List ℕ) → Sent s s1 w w1 written → Keeps w1 w2 → Sent s s1 w w2 written
 sent_kept s s1 w w1 w2 written a k = record { writes = Appends-kept w w1 w2 written a.writes k; order = a.order; session = a.session }
+
+-- all pending bytes were written and removed
+pub sent_all : (s s1 : Session) (w w1 w2 : Option (List ℕ)) (count : ℕ) (buffer : List ℕ) → buffer ≡ s.pending → count ≡ length s.pending
+    → Appends w w1 buffer → s1 ≡ record s { pending = drop count s.pending } → Keeps w1 w2 → Sent s s1 w w2 (take count buffer)
+sent_all s s1 w w1 w2 count buffer is all written e kept =
+    let whole : take count buffer ≡ buffer = take_all count buffer (omega (arith, all, ap length is)) in
+    sent_kept s s1 w w1 w2 (take count buffer) (took s s1 w w1 count buffer is (subst (Appends w w1) (sym whole) written) e) kept
 
 -- one turn more
 turns_more : (d : Data) (old mid new all : Session) (store mid_store store' : StoreState) (turns : List Turn) (turn : Turn)
@@ -314,16 +305,6 @@ turned {D} says tables tables1 old s s2 s3 store store1 store2 r r1 r2 w w1 w2 a
 pub read_more : (n : ℕ) (r r1 r2 : Option (List ℕ)) (bytes : List ℕ) → HasRead n r r1 → Consumes r1 r2 bytes → 1 ≤ length bytes → HasRead (n + 1) r r2
 read_more n r r1 r2 bytes h more some =
     (h.0 ++ bytes, omega (arith, h.1, some, length-append h.0 bytes), Consumes-trans r r1 r2 h.0 bytes h.2 more)
-
-pub sent_none : (s s1 : Session) (w w1 w2 : Option (List ℕ)) (written buffer : List ℕ) (count : ℕ) → Sent s s1 w w1 written
-    → count ≡ 0 → Appends w1 w2 (take count buffer) → Sent s s1 w w2 written
-sent_none s s1 w w1 w2 written buffer count a none h =
-    sent_kept s s1 w w1 w2 written a (none_written w1 w2 (rw none at h))
-
-pub fewer : (s s1 : Session) (count : ℕ) → (count ≡ 0 → ⊥) → count ≤ length s.pending → s1 ≡ record s { pending = drop count s.pending }
-    → length s1.pending < length s.pending
-fewer s s1 count some fits e =
-    omega (arith, ap (λ (x : Session). length x.pending) e, length-drop count s.pending)
 
 -- a read that gave no byte
 pub read_nothing : (d : Data) (old s : Session) (store store1 : StoreState) (r r1 r2 w w1 : Option (List ℕ)) (answered : List ByteAnswer)

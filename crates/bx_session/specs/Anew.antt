@@ -1,7 +1,7 @@
 -- A second painting.
 use Rattle.std.specs.Prelude.{◌≡◌, ℕ, Bool, false, List}
 use Rattle.bx_terms.specs.declared.base.Base.{Base}
-use Rattle.bx_editor.specs.Data.{Data}
+use Rattle.bx_ucd.specs.Data.{Data}
 use Rattle.bx_editor.specs.Laws.{HasRows}
 use Rattle.bx_session.specs.Session.{Session, with_painting, at_opening, after_spending, after_byte, owing_after_byte, after_told, owing_after_told, after_sending}
 use Rattle.bx_session.specs.Session.{after_going, after_replay}

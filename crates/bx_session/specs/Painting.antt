@@ -15,15 +15,15 @@ ShowsState d s =
 
 -- the bytes make a terminal that shows the old picture show the new one; without an old one, any terminal of the new
 -- picture's size with nothing half read
-abbrev pub Leads : Option PictureState → List ℕ → PictureState → Type 0
-Leads (Some old) bytes new = (t : Terminal) → Shows t old → Shows (reads t bytes) new
-Leads None bytes new = (t : Terminal) → IsIdle t → t.height ≡ new.height → t.width ≡ new.width → Shows (reads t bytes) new
+abbrev pub Updates : Option PictureState → List ℕ → PictureState → Type 0
+Updates (Some old) bytes new = (t : Terminal) → Shows t old → Shows (reads t bytes) new
+Updates None bytes new = (t : Terminal) → IsIdle t → t.height ≡ new.height → t.width ≡ new.width → Shows (reads t bytes) new
 
--- whole tokens were appended to the bytes pending before; they lead from the picture that the screen was taken to show to the session's
+-- whole tokens were appended to the bytes pending before; they turn the picture that the screen was taken to show into the session's
 pub record Paints (d : Data) (before : List ℕ) (old : Option PictureState) (new : Session) (bytes : List ℕ) : Type 0 where
   pub appends : new.pending ≡ before ++ bytes
   pub tokens : AreWholeTokens bytes
-  pub leads : Leads old bytes (picture d new.editor new.top)
+  pub updates : Updates old bytes (picture d new.editor new.top)
   pub painted : new.painted ≡ Some (picture d new.editor new.top)
   pub known : new.known ≡ Some (picture d new.editor new.top)
   pub is_picture : IsPicture (picture d new.editor new.top)

@@ -16,11 +16,13 @@ use Rattle.bx_session.specs.Session.{Session, at_opening, is_replayed}
 abbrev pub RefusesNoKey : List ByteAnswer → Type 0
 RefusesNoKey answered = All (λ (a : ByteAnswer). a.1 ≢ Err refused.Edit) answered
 
--- a replayed session has the other's text with its past and future, cursor's place, direction, window and unfinished input;
--- and it has not ended
+-- a replayed session has the other's text with its past and future, cursor's place, mark, held bytes, direction, window and
+-- unfinished input; and it has not ended
 pub record HasBack (had replayed : Session) : Type 0 where
   pub content : replayed.editor.content ≡ had.editor.content
   pub place : replayed.editor.place ≡ had.editor.place
+  pub mark : replayed.editor.mark ≡ had.editor.mark
+  pub held : replayed.editor.held ≡ had.editor.held
   pub base : replayed.editor.base ≡ had.editor.base
   pub height : replayed.editor.height ≡ had.editor.height
   pub width : replayed.editor.width ≡ had.editor.width

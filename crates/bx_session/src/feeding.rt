@@ -34,7 +34,7 @@ fn is_size(height: u16, width: u16) -> bool
 
 /// Applies a key to the editor. After Save, `saved` says whether the store has the text.
 ///
-/// Errors: `Edit` if memory runs out, only for a key that edits or moves; nothing has changed.
+/// Errors: `Edit` if memory runs out, only for a key that edits, moves, copies or finds; nothing has changed.
 fn apply<D: BidiData + Drop>(editor: &mut Editor<D>, key: Key, saved: bool) -> Result<(), Refused>
     requires sides { HasSides key }
     ensures after_key { OnOk result (editor.new ≡ record editor.old { editor = keys.after_key (D.data editor.old.tables) saved editor.old.editor key }) }
@@ -85,7 +85,7 @@ impl<D: BidiData + Drop> Session<D> {
 
     /// Applies a key without painting. After Save, `saved` says whether the store has the text.
     ///
-    /// Errors: `Edit` if memory runs out, only for a key that edits or moves; nothing has changed.
+    /// Errors: `Edit` if memory runs out, only for a key that edits, moves, copies or finds; nothing has changed.
     pub(crate) fn press(&mut self, key: Key, saved: bool) -> Result<(), Refused>
         requires sides { HasSides key }
         ensures after_key { OnOk result (self.new ≡ record self.old { session = session_after_key (D.data self.old.tables) saved self.old.session key }) }
@@ -102,7 +102,7 @@ impl<D: BidiData + Drop> Session<D> {
 
     /// Decodes a byte and applies the key that it completes. Returns whether to paint.
     ///
-    /// Errors: `Edit` if memory runs out, only for a key that edits or moves; the byte is spent, and nothing else changes.
+    /// Errors: `Edit` if memory runs out, only for a key that edits, moves, copies or finds; the byte is spent, and nothing else changes.
     fn enter<S: Store>(&mut self, byte: u8, store: &mut S) -> Result<bool, Refused>
         ensures after_byte { (saved : Bool)
             × StoreAfter (is_save_byte self.old.session byte) saved self.old.session.editor.content.text

@@ -4,6 +4,7 @@ ghost use Rattle.std.specs.Prelude.{◌≡◌, ◌≤◌, ◌++◌, ◌↔◌, �
 ghost use Rattle.std.specs.Io.KnownBytes.{Appends};
 ghost use Rattle.bx_session.specs.Journal.{HasKept, HasTried, Holds};
 
+use bx_output::write_all;
 use std::alloc::Global;
 use std::io::Write;
 use std::marker::Model;
@@ -100,17 +101,16 @@ fn write_out<W: Write>(writer: &mut W, bytes: &[u8]) -> Result<(), JournalFault>
     ensures count { IfErr result (λ fault. fault.written ≤ length bytes.now) }
     ensures part { IfErr result (λ fault. Appends (W.contents writer.old) (W.contents writer.new) (take fault.written bytes.now)) }
 {
-    let mut written = 0;
-    'writes: while written < bytes.len() {
-        match writer.write(&bytes[written..]) {
-            Ok(0) => return Err(JournalFault { written }),
-            Ok(count) => written += count,
-            Err(_) => return Err(JournalFault { written }),
-        }
+    if let Err(fault) = write_all(writer, bytes) {
+        return Err(JournalFault {
+            written: fault.written,
+        });
     }
     match writer.flush() {
         Ok(()) => Ok(()),
-        Err(_) => Err(JournalFault { written }),
+        Err(_) => Err(JournalFault {
+            written: bytes.len(),
+        }),
     }
 }
 

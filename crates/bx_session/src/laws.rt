@@ -24,8 +24,9 @@ pub fn replays_apply_keys()
     ensures { ReplaysKeys }
 {}
 
-/// A session's bytes, replayed over its opened text, restore text, history, place, direction, window and unfinished input,
-/// wherever it saved and even if it quit. A key that the session refused when memory ran out is applied by the replay.
+/// A session's bytes, replayed over its opened text, restore text, history, place, mark, held bytes, direction, window and
+/// unfinished input, wherever it saved and even if it quit. A key that the session refused when memory ran out is applied by
+/// the replay.
 pub fn recovery_gives_back()
     ensures { RecoveryGivesBack }
 {}

@@ -12,7 +12,6 @@ use bx_editor::{Editor, OpenError};
 use bx_keys::Decoder;
 use bx_terms::Base;
 use bx_ucd::BidiData;
-use std::alloc::Global;
 
 impl<D: BidiData + Drop> Session<D> {
     /// Opens a file's bytes in a window of `height` rows and `width` columns, and queues the first picture, painted whole.
@@ -21,7 +20,6 @@ impl<D: BidiData + Drop> Session<D> {
     /// Errors, in this order: `TooLong` above 16,777,216 bytes; `NotUtf8` with the length of the longest UTF-8 prefix;
     /// `SizeOutOfRange` if a side is not from 1 to 500; `OutOfMemory`.
     pub fn open(
-        alloc: Global,
         bytes: Vec<u8>,
         tables: D,
         height: u16,
@@ -38,7 +36,8 @@ impl<D: BidiData + Drop> Session<D> {
         ensures sized { OnOk result (is_size height width ≡ true) }
         ensures refused { IfErr result (Causes bytes.items height width) }
     {
-        let editor = Editor::open(alloc, bytes, tables, height, width, base)?;
+        let alloc = *bytes.allocator();
+        let editor = Editor::open(bytes, tables, height, width, base)?;
         let mut session = Session {
             editor,
             top: 0,

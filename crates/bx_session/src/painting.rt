@@ -2,7 +2,7 @@
 
 ghost use Rattle.std.specs.Prelude.{◌≡◌, ◌++◌, true, IfOk, IfSome, OnErr, OnOk};
 ghost use Rattle.bx_grid.specs.Picture.{AreWholeTokens, IsPicture, is_size};
-ghost use Rattle.bx_session.specs.Painting.{Leads, QueuesPicture};
+ghost use Rattle.bx_session.specs.Painting.{QueuesPicture, Updates};
 ghost use Rattle.bx_session.specs.Session.{known_if, painting, with_painting, with_painting_owed};
 
 use crate::error::Refused;
@@ -26,7 +26,7 @@ fn append(
     requires fits { IfSome (known_if is_known painted.now) (λ p. (p.height ≡ picture.now.height) × (p.width ≡ picture.now.width)) }
     ensures bytes { OnOk result (queue.new.items ≡ queue.old.items ++ painting (known_if is_known painted.now) picture.now) }
     ensures err { OnErr result (queue.new.items ≡ queue.old.items) }
-    ensures leads { Leads (known_if is_known painted.now) (painting (known_if is_known painted.now) picture.now) picture.now }
+    ensures updates { Updates (known_if is_known painted.now) (painting (known_if is_known painted.now) picture.now) picture.now }
     ensures tokens { AreWholeTokens (painting (known_if is_known painted.now) picture.now) }
     ensures is_picture { IsPicture picture.now }
 {

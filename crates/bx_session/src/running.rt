@@ -9,6 +9,7 @@ ghost use Rattle.bx_session.specs.Saving.{store_state};
 use crate::end::{End, RunFault};
 use crate::journal::{Journal, NoJournal, Recorder};
 use crate::session::Session;
+use bx_output::write_all;
 use bx_store::Store;
 use bx_ucd::BidiData;
 use std::io::{Read, Write};
@@ -16,7 +17,7 @@ use std::io::{Read, Write};
 /// Limit of reads in a run.
 const READS: u64 = 1_000_000_000;
 
-/// Writes the pending bytes and flushes. A write of no byte is a fault.
+/// Writes the pending bytes and flushes.
 fn send<D: BidiData + Drop, W: Write>(
     writer: &mut W,
     session: &mut Session<D>,
@@ -26,13 +27,12 @@ fn send<D: BidiData + Drop, W: Write>(
     ensures all { OnOk result (session.new.session.pending ≡ []) }
     ensures fault { OnErr result (result ≡ Err RunFault.WriteFault) }
 {
-    'writes: while !session.pending().is_empty() {
-        match writer.write(session.pending()) {
-            Ok(0) => return Err(RunFault::WriteFault),
-            Ok(count) => session.taken(count),
-            Err(_) => return Err(RunFault::WriteFault),
-        }
+    if let Err(fault) = write_all(writer, session.pending()) {
+        session.taken(fault.written);
+        return Err(RunFault::WriteFault);
     }
+    let count = session.pending().len();
+    session.taken(count);
     match writer.flush() {
         Ok(()) => Ok(()),
         Err(_) => Err(RunFault::WriteFault),

@@ -10,7 +10,7 @@ const SET_IDS: u32 = 0o6000;
 
 /// Whether a new file got the old file's owner and group.
 #[derive(Clone, Copy)]
-struct Kept {
+struct Preserved {
     owner: bool,
     group: bool,
 }
@@ -25,20 +25,20 @@ fn is_taken(answer: io::Result<()>, is_root: bool) -> io::Result<bool> {
 }
 
 /// Gives a new file the old file's owner and group, as far as the system permits.
-fn take_owner<F: OpenFile + AsFd>(file: &F, old: &Metadata) -> io::Result<Kept> {
+fn take_owner<F: OpenFile + AsFd>(file: &F, old: &Metadata) -> io::Result<Preserved> {
     let new = file.metadata()?;
     let is_root = new.uid() == 0;
-    let mut kept = Kept {
+    let mut preserved = Preserved {
         owner: true,
         group: true,
     };
     if new.gid() != old.gid() {
-        kept.group = is_taken(fchown(file, None, Some(old.gid())), is_root)?;
+        preserved.group = is_taken(fchown(file, None, Some(old.gid())), is_root)?;
     }
     if new.uid() != old.uid() {
-        kept.owner = is_taken(fchown(file, Some(old.uid()), None), is_root)?;
+        preserved.owner = is_taken(fchown(file, Some(old.uid()), None), is_root)?;
     }
-    Ok(kept)
+    Ok(preserved)
 }
 
 /// Gives the group the same permissions as others, for a file that could not get the old group.
@@ -49,11 +49,11 @@ fn without_group(mode: u32) -> u32 {
 
 /// The permissions of the new file. It loses the set-ID bits unless it got both owner and group, and the group's permissions
 /// unless it got the group.
-fn mode_of(kept: Kept, old: &Metadata) -> u32 {
+fn mode_of(preserved: Preserved, old: &Metadata) -> u32 {
     let mode = old.mode() & 0o7777;
-    if kept.owner && kept.group {
+    if preserved.owner && preserved.group {
         mode
-    } else if kept.group {
+    } else if preserved.group {
         mode & !SET_IDS
     } else {
         without_group(mode) & !SET_IDS
@@ -63,8 +63,8 @@ fn mode_of(kept: Kept, old: &Metadata) -> u32 {
 /// Gives a new file the owner, group and permissions of the file that it will replace. Returns the permissions. The set-ID bits
 /// are left out until the file is complete.
 pub fn take_place<F: OpenFile + AsFd>(file: &F, old: &Metadata) -> io::Result<u32> {
-    let kept = take_owner(file, old)?;
-    let mode = mode_of(kept, old);
+    let preserved = take_owner(file, old)?;
+    let mode = mode_of(preserved, old);
     file.set_permissions(Permissions::from_mode(mode & !SET_IDS))?;
     Ok(mode)
 }

@@ -1,16 +1,14 @@
 -- Places of a text are character boundaries, and so is each place that a call returns.
 use Rattle.std.proofs.Common.{◌≡◌, ℕ, suc, ◌+◌, ◌<◌, ◌≤◌, true, List, [], ◌∷◌, ◌++◌, map, length, drop}
-use Rattle.std.proofs.Common.{get_or, Option, IsUtf8, IsCharBoundary, refl, sym, ap, subst, ◌∙◌}
+use Rattle.std.proofs.Common.{get_or, IsUtf8, IsCharBoundary, refl, sym, ap, subst, ◌∙◌}
 use Rattle.std.proofs.Common.{arith, append_assoc, length-append}
 use Rattle.std.proofs.lemmas.List.{drop_at, drop-append-le, length-map}
 use Rattle.std.proofs.lemmas.List.Concat.{flat_map-cons}
 use Rattle.std.proofs.lemmas.List.Elements.{All-append, All-cons, All-head, All-nil, All-tail}
-use Rattle.std.proofs.lemmas.Str.{IsCharBoundary-from_drop, IsCharBoundary-from_rest, IsCharBoundary-start, IsUtf8-append, IsUtf8-drop}
+use Rattle.std.proofs.lemmas.Str.{IsCharBoundary-from_drop, IsCharBoundary-from_rest, IsCharBoundary-end, IsCharBoundary-start, IsUtf8-append, IsUtf8-drop}
 use Rattle.std.specs.Prelude.{All}
 use Rattle.bx_ucd.specs.Data.{Data}
 use Rattle.bx_terms.specs.Sizes.{is_side}
-use Rattle.bx_ucd.specs.declared.class.Class.{Class}
-use Rattle.bx_ucd.specs.declared.data.Side.{Side}
 use Rattle.bx_terms.specs.declared.base.Base.{Base}
 use Rattle.bx_paras.specs.Paragraphs.{Paragraph, lengths_of, paragraphs}
 use Rattle.bx_paras.specs.Positions.{bytes_of}
@@ -26,6 +24,7 @@ use Rattle.bx_view.proofs.KeptMoves.{moves-keep}
 use Rattle.bx_view.proofs.Numbers.{bytes-utf8}
 use Rattle.bx_view.proofs.Parts.{AreUtf8, bytes, text-bytes, text-parts}
 use Rattle.bx_view.proofs.Rising.{rank-few}
+use Rattle.bx_view.proofs.StopPlaces.{ends-lie}
 use Rattle.bx_view.proofs.Told.{side-some}
 use Rattle.bx_view.proofs.Walking.{text-rank}
 use Rattle.bx_view.proofs.Within.{LiesIn, Within, body-row-lies, within-append}
@@ -107,16 +106,18 @@ module _ (says : Data) (base : Base) (w : ℕ) where
     some-row = omega (arith, text-rank says base w some text utf8 0, rank-few 0 (map first rows), length-map rows first)
 
     -- and where each move leads to
-    pub bounds-kept : MovesKeep w rows Bound
-    bounds-kept = moves-keep w rows Bound rows-bound places-bound some-row (IsCharBoundary-start text utf8)
+    pub bounds-kept : MovesKeep says text w rows Bound
+    bounds-kept =
+        moves-keep says text w rows Bound rows-bound places-bound some-row
+        (ends-lie says base w some Bound text utf8 places-bound (IsCharBoundary-start text utf8) (IsCharBoundary-end text))
 
 -- ---- as a layout answers it
 
 module _ (says : Data) (v : ViewState) (text : List ℕ) (side : is_side v.w ≡ true) (utf8 : IsUtf8 text) where
-  kept : MovesKeep v.w (rows_by says v text) (IsCharBoundary text)
+  kept : MovesKeep says text v.w (rows_by says v text) (IsCharBoundary text)
   kept = bounds-kept says v.base v.w (side-some v.w side) text utf8
 
-  pub moved-bound : (m : Move) (place o : ℕ) → o ≡ moved v.w (rows_by says v text) m place → IsCharBoundary text place → IsCharBoundary text o
+  pub moved-bound : (m : Move) (place o : ℕ) → o ≡ moved says text v.w (rows_by says v text) m place → IsCharBoundary text place → IsCharBoundary text o
   moved-bound m place o e b = subst (IsCharBoundary text) (sym e) (kept.moved m place b)
 
   -- from any offset

@@ -4,6 +4,7 @@ use Rattle.std.proofs.Common.{reverse, slice_get, Option, Some, None, unwrap_or}
 use Rattle.std.proofs.Common.{arith}
 use Rattle.std.specs.Prelude.{All, IfSome}
 use Rattle.std.proofs.lemmas.List.Elements.{All-head, All-tail}
+use Rattle.bx_ucd.specs.Data.{Data}
 use Rattle.bx_cells.specs.declared.unit.Unit.{Unit}
 use Rattle.bx_rows.specs.RowStarts.{first_offset}
 use Rattle.bx_paragraph.specs.declared.moves.Visual.{Visual}
@@ -15,10 +16,11 @@ use Rattle.bx_view.specs.declared.moves.Move.{Move}
 use Rattle.bx_view.specs.declared.moves.Move.TheVariants as moves
 use Rattle.bx_view.specs.declared.moves.Vertical.{Vertical}
 use Rattle.bx_view.specs.Moves.{end_of, entry_in, moved, past, place_from, place_in, row_after, row_away}
-use Rattle.bx_view.specs.Moves.{row_before, row_end, row_home, rows_away, start_of, step_logical, step_visual}
+use Rattle.bx_view.specs.Moves.{row_before, row_end, row_home, rows_away, start_of, step_logical, step_visual, word_way}
 use Rattle.bx_view.specs.Laws.{MovesKeep}
 use Rattle.bx_view.specs.TextRows.{TextRow, cell_of, first, no_text_row, places, row_at, row_of}
 use Rattle.bx_view.specs.Top.{follow, nearest_top}
+use Rattle.bx_view.specs.Words.{step_word, text_stops}
 use Rattle.bx_view.proofs.KeptRows.{away-within}
 use Rattle.bx_view.proofs.Nearest.{falls-within}
 use Rattle.bx_view.proofs.Within.{Lies, LiesIn, Within, beside-fits, either-lies, end-fits, entry-fits, find-lies, last-fits, last-lies, start-fits}
@@ -38,8 +40,14 @@ first-lies-at : (P : ℕ → Type 0) (us : List Unit) → P 0 → Within P (map 
 first-lies-at P [] start a = start
 first-lies-at P (u ∷ us) start a = a.0
 
-module _ (w : ℕ) (rows : List TextRow) (P : ℕ → Type 0) (each : All (λ r. LiesIn (λ o. P (r.start + o)) w r.row) rows) (all : Within P (places rows))
-    (some : 0 < length rows) (begin : P 0) where
+-- the stops of words have a property, and so have the text's start and end
+pub record EndsLie (says : Data) (text : List ℕ) (P : ℕ → Type 0) : Type 0 where
+  pub begin : P 0
+  pub end : P (length text)
+  pub stops : (way : Logical) → Within P (text_stops says way text)
+
+module _ (says : Data) (text : List ℕ) (w : ℕ) (rows : List TextRow) (P : ℕ → Type 0) (each : All (λ r. LiesIn (λ o. P (r.start + o)) w r.row) rows)
+    (all : Within P (places rows)) (some : 0 < length rows) (ends : EndsLie says text P) where
   abbrev Row : TextRow → Type 0
   Row r = LiesIn (λ o. P (r.start + o)) w r.row
 
@@ -60,7 +68,7 @@ module _ (w : ℕ) (rows : List TextRow) (P : ℕ → Type 0) (each : All (λ r.
   kept-place_from : (offset : ℕ) → P (place_from rows offset)
   kept-place_from offset =
       else-lies (find (nat_le offset) (places rows)) (last_offset (places rows)) (find-lies P (nat_le offset) (places rows) all)
-      (last-lies P begin (places rows) all)
+      (last-lies P ends.begin (places rows) all)
 
   kept-step_logical : (way : Logical) (place : ℕ) → P place → P (step_logical rows way place)
   kept-step_logical Forward place b = else-lies (find (nat_lt place) (places rows)) place (find-lies P (nat_lt place) (places rows) all) b
@@ -130,12 +138,24 @@ module _ (w : ℕ) (rows : List TextRow) (P : ℕ → Type 0) (each : All (λ r.
   kept-row_end offset =
       let r = row_at rows (row_of rows offset) in last-fits (λ o. P (r.start + o)) w r.row (row-lies (row_of rows offset) (own-row offset))
 
-  kept-moved : (m : Move) (place : ℕ) → P place → P (moved w rows m place)
+  kept-word : (way : Logical) (place : ℕ) → P place → P (step_word says text way place)
+  kept-word Forward place b =
+      else-lies (find (nat_lt place) (text_stops says Forward text)) place
+      (find-lies P (nat_lt place) (text_stops says Forward text) (ends.stops Forward)) b
+  kept-word Back place b =
+      else-lies (find (λ p. nat_lt p place) (reverse (text_stops says Back text))) place
+      (find-lies P (λ p. nat_lt p place) (reverse (text_stops says Back text)) (within-reverse P (text_stops says Back text) (ends.stops Back))) b
+
+  kept-moved : (m : Move) (place : ℕ) → P place → P (moved says text w rows m place)
   kept-moved (moves.Logical way) place b = kept-step_logical way place b
   kept-moved (moves.Visual side) place b = kept-step_visual side place b
   kept-moved (moves.Rows way n) place b = kept-rows_away way n place b
   kept-moved moves.RowHome place b = kept-row_home place
   kept-moved moves.RowEnd place b = kept-row_end place
+  kept-moved (moves.Word way) place b = kept-word way place b
+  kept-moved (moves.WordTowards side) place b = kept-word (word_way (reads_on side (row_at rows (row_of rows place)).row)) place b
+  kept-moved moves.TextStart place b = ends.begin
+  kept-moved moves.TextEnd place b = ends.end
 
   kept-follow : (top place t : ℕ) → 0 < t → P (follow rows top place t)
   kept-follow top place t shown =
@@ -144,7 +164,7 @@ module _ (w : ℕ) (rows : List TextRow) (P : ℕ → Type 0) (each : All (λ r.
       first-kept (nearest_top (row_of rows top) (row_of rows place) t) (omega (arith, above, below, shown))
 
   -- each move
-  pub moves-keep : MovesKeep w rows P
+  pub moves-keep : MovesKeep says text w rows P
   moves-keep = record {
     from = kept-place_from;
     moved = kept-moved;
@@ -152,6 +172,7 @@ module _ (w : ℕ) (rows : List TextRow) (P : ℕ → Type 0) (each : All (λ r.
     visual = kept-step_visual;
     vertical = λ way place b. kept-rows_away way 1 place b;
     page = kept-rows_away;
+    word = kept-word;
     entry = λ k column within. entered (entry_in w (row_at rows k) column) (kept-entry k column within);
     home = kept-row_home;
     end = kept-row_end;

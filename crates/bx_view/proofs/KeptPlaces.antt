@@ -1,6 +1,6 @@
 -- Each move leads from a place to a place.
 use Rattle.std.proofs.Common.{◌≡◌, ℕ, zero, suc, ◌+◌, ◌<◌, ◌≤◌, ◌==◌, Bool, true, false, List, [], ◌∷◌, map, length, get_or}
-use Rattle.std.proofs.Common.{Option, cond, IsUtf8, chars, refl, sym, ap, subst, ◌∙◌}
+use Rattle.std.proofs.Common.{cond, IsUtf8, chars, refl, sym, ap, subst, ◌∙◌}
 use Rattle.std.proofs.Common.{arith, eq-eqb}
 use Rattle.std.specs.Prelude.{All, Contains}
 use Rattle.std.proofs.lemmas.Bool.{eqb-true}
@@ -10,8 +10,6 @@ use Rattle.std.proofs.lemmas.List.Elements.{All-append, All-cons, All-contains_i
 use Rattle.std.proofs.lemmas.List.Elements.{Contains-append_left, Contains-append_right}
 use Rattle.std.proofs.lemmas.List.Sums.{get_or-le-sum_by, sum_by-cons}
 use Rattle.bx_ucd.specs.Data.{Data}
-use Rattle.bx_ucd.specs.declared.class.Class.{Class}
-use Rattle.bx_ucd.specs.declared.data.Side.{Side}
 use Rattle.bx_terms.specs.declared.base.Base.{Base}
 use Rattle.bx_resolve.specs.Levels.{paragraph_level_under, levels_under}
 use Rattle.bx_cells.specs.declared.unit.Unit.{Unit}
@@ -28,7 +26,8 @@ use Rattle.bx_view.specs.TextRows.{TextRow, IsPlace, first, places, places_of, t
 use Rattle.bx_view.proofs.Around.{from, own}
 use Rattle.bx_view.proofs.KeptMoves.{moves-keep}
 use Rattle.bx_view.proofs.Rising.{rank-few}
-use Rattle.bx_view.proofs.TextPlaces.{begin-is-place, places-are, starts-are-places}
+use Rattle.bx_view.proofs.StopPlaces.{ends-lie}
+use Rattle.bx_view.proofs.TextPlaces.{begin-is-place, end-is-place, places-are, starts-are-places}
 use Rattle.bx_view.proofs.Walking.{text-rank}
 use Rattle.bx_view.proofs.Within.{LiesIn, Within}
 
@@ -141,11 +140,12 @@ module _ (says : Data) (base : Base) (w : ℕ) (some : 1 ≤ w) (text : List ℕ
       (starts-are-places says base w some text utf8 k d h)
 
   -- each move leads from a place of the rows to a place
-  pub places-kept : MovesKeep w rows (IsPlace rows)
+  pub places-kept : MovesKeep says text w rows (IsPlace rows)
   places-kept =
-      moves-keep w rows (IsPlace rows) rows-of-places (within-of (IsPlace rows) (places rows) (λ o c. c)) some-row
-      (begin-is-place says base w some text utf8)
+      let each : Within (IsPlace rows) (places rows) = within-of (IsPlace rows) (places rows) (λ o c. c) in
+      moves-keep says text w rows (IsPlace rows) rows-of-places each some-row
+      (ends-lie says base w some (IsPlace rows) text utf8 each (begin-is-place says base w some text utf8) (end-is-place says base w some text utf8))
 
   -- and so from a place of the text to a place
-  pub text-places-kept : MovesKeep w rows (IsTextPlace says text)
-  text-places-kept = subst (λ os. MovesKeep w rows (λ p. Contains os p)) (places-are says base w some text utf8) places-kept
+  pub text-places-kept : MovesKeep says text w rows (IsTextPlace says text)
+  text-places-kept = subst (λ os. MovesKeep says text w rows (λ p. Contains os p)) (places-are says base w some text utf8) places-kept

@@ -8,7 +8,6 @@ use Rattle.bx_ucd.specs.Data.{Data}
 use Rattle.unicode_segmentation.proofs.Computing.{unicode_segmentation}
 use Rattle.unicode_width.proofs.Computing.{unicode_width}
 use Rattle.bx_terms.specs.Sizes.{is_side}
-use Rattle.bx_ucd.specs.declared.class.Class.{Class}
 use Rattle.bx_ucd.specs.declared.data.Side.{Side}
 use Rattle.bx_resolve.specs.TestTables.{small}
 use Rattle.bx_terms.specs.declared.base.Base.{Base}
@@ -82,13 +81,17 @@ either_place zero x h e = inl (sym e)
 either_place (suc zero) x h e = inr (sym e)
 either_place (suc (suc k)) x h e = absurd (omega (arith, h))
 
+-- a move from the start of `a`
+abbrev letter_moved : (ℕ → Option (Side × ℕ)) → Base → ℕ → Move → ℕ
+letter_moved bracket base w m = moved (with_brackets bracket) (codes "a") w (rows_of_letter bracket base w) m 0
+
 -- each move from the start of `a` leads to its start or its end
-moves_in_a : InEachWindow (λ says text w rows. MovesKeep w rows (IsTextPlace says text)) → (bracket : ℕ → Option (Side × ℕ)) (base : Base) (w : ℕ) (m : Move)
-    → is_side w ≡ true → (moved w (rows_of_letter bracket base w) m 0 ≡ 0) ⊎ (moved w (rows_of_letter bracket base w) m 0 ≡ 1)
+moves_in_a : InEachWindow (λ says text w rows. MovesKeep says text w rows (IsTextPlace says text)) → (bracket : ℕ → Option (Side × ℕ)) (base : Base) (w : ℕ) (m : Move)
+    → is_side w ≡ true → (letter_moved bracket base w m ≡ 0) ⊎ (letter_moved bracket base w m ≡ 1)
 unfolding unicode_segmentation unicode_width
 moves_in_a law bracket base w m side =
     let keep = law (with_brackets bracket) base w (codes "a") side one_letter in
-    let place = keep.moved m 0 (0, omega arith, refl) in either_place place.0 (moved w (rows_of_letter bracket base w) m 0) place.1 place.2
+    let place = keep.moved m 0 (0, omega arith, refl) in either_place place.0 (letter_moved bracket base w m) place.1 place.2
 
 -- ---- cells
 

@@ -1,6 +1,6 @@
 -- The places of a text's rows are the boundaries of its clusters and separators, whatever the window and the direction.
-use Rattle.std.proofs.Common.{◌≡◌, ℕ, suc, ◌+◌, ◌-◌, ◌<◌, ◌≤◌, ◌==◌, ◌&&◌, Bool, true, false, List, [], ◌∷◌, ◌++◌, map, length, slice_get, Option}
-use Rattle.std.proofs.Common.{Some, None, chars, encode_utf8, IsUtf8, IsCharBoundary, refl, sym, ap, subst, ◌∙◌, arith, append-nil, append_assoc, length-append}
+use Rattle.std.proofs.Common.{◌≡◌, ℕ, suc, ◌+◌, ◌-◌, ◌<◌, ◌≤◌, ◌==◌, ◌&&◌, Bool, true, false, List, [], ◌∷◌, ◌++◌, map, length, slice_get}
+use Rattle.std.proofs.Common.{Some, chars, encode_utf8, IsUtf8, IsCharBoundary, refl, sym, ap, subst, ◌∙◌, arith, append-nil, append_assoc, length-append}
 use Rattle.std.specs.Prelude.{flat_map, All, Contains}
 use Rattle.std.specs.List.{concat}
 use Rattle.std.specs.List.Sorted.{IsStrictlyIncreasing}
@@ -12,8 +12,6 @@ use Rattle.bx_ucd.specs.Data.{Data}
 use Rattle.unicode_segmentation.specs.Grapheme.{graphemes, is_grapheme_break}
 use Rattle.unicode_segmentation.specs.Segments.{with_offsets}
 use Rattle.unicode_segmentation.proofs.SegmentsLemmas.{concat-segments}
-use Rattle.bx_ucd.specs.declared.class.Class.{Class}
-use Rattle.bx_ucd.specs.declared.data.Side.{Side}
 use Rattle.bx_terms.specs.declared.base.Base.{Base}
 use Rattle.bx_terms.specs.declared.base.Base.TheVariants.{Auto}
 use Rattle.bx_cells.specs.Units.{unit_at, units}
@@ -33,7 +31,7 @@ use Rattle.bx_view.proofs.Within.{Within}
 
 -- ---- the last paragraph has no separator
 
-abbrev LastIsBare : List Paragraph → Type 0
+abbrev pub LastIsBare : List Paragraph → Type 0
 LastIsBare [] = ⊥
 LastIsBare (p ∷ []) = p.separator ≡ []
 LastIsBare (p ∷ q ∷ ps) = LastIsBare (q ∷ ps)
@@ -69,7 +67,7 @@ module _ (says : Data) where
   bare-at c cs true true false pair h = bare-behind (bare (encode_utf8 c)) (cut says cs) h
   bare-at c cs true true true pair h = pair refl
 
-  last-bare : (cs : List ℕ) → LastIsBare (cut says cs)
+  pub last-bare : (cs : List ℕ) → LastIsBare (cut says cs)
   last-bare [] = refl
   last-bare (c ∷ cs) =
       let rest : LastIsBare (cut says cs) = last-bare cs in
@@ -114,6 +112,13 @@ first-boundary start (g ∷ gs) = refl
 start-in : (start : ℕ) (gs : List (List ℕ)) → Contains (boundaries start gs) start
 start-in start [] = (0, omega arith, refl)
 start-in start (g ∷ gs) = (0, omega arith, refl)
+
+end-in : (start : ℕ) (gs : List (List ℕ)) → Contains (boundaries start gs) (start + length (concat gs))
+end-in start [] = let none : start ≡ start + 0 = omega arith in subst (Contains (start ∷ [])) none (0, omega arith, refl)
+end-in start (g ∷ gs) =
+    let sum : start + length g + length (concat gs) ≡ start + length (concat (g ∷ gs)) = omega (arith, length-append g (concat gs)) in
+    subst (Contains (start ∷ boundaries (start + length g) gs)) sum
+    (Contains-append_right (start ∷ []) (boundaries (start + length g) gs) (start + length g + length (concat gs)) (end-in (start + length g) gs))
 
 last-boundary : (start : ℕ) (gs : List (List ℕ))
     → slice_get (boundaries start gs) (length (boundaries start gs) - 1) ≡ Some (start + length (concat gs))
@@ -228,6 +233,13 @@ module _ (says : Data) (base : Base) (w : ℕ) (h : 1 ≤ w) where
   -- the first place is the text's begin
   pub begin-is-place : (text : List ℕ) → IsUtf8 text → Contains (places (text_rows says base w text)) 0
   begin-is-place text utf8 = subst (λ os. Contains os 0) (sym (places-are text utf8)) (start-in 0 (pieces says text))
+
+  -- and the last is its end
+  pub end-is-place : (text : List ℕ) → IsUtf8 text → Contains (places (text_rows says base w text)) (length text)
+  end-is-place text utf8 =
+      let size : 0 + length (concat (pieces says text)) ≡ length text = omega (arith, ap length (pieces-whole says text utf8)) in
+      subst (λ os. Contains os (length text)) (sym (places-are text utf8))
+      (subst (Contains (text_places says text)) size (end-in 0 (pieces says text)))
 
 -- ---- windows
 

@@ -1,21 +1,21 @@
 -- Laws of the places of every text, in every window.
-use Rattle.std.specs.Prelude.{◌≡◌, ℕ, ◌+◌, ◌-◌, ◌<◌, ◌≤◌, true, List, length, slice_get, Option, Some, IfSome, All, IsUtf8, IsCharBoundary}
+use Rattle.std.specs.Prelude.{◌≡◌, ℕ, ◌+◌, ◌-◌, ◌<◌, ◌≤◌, true, List, length, slice_get, Some, IfSome, All, IsUtf8, IsCharBoundary}
 use Rattle.std.specs.Int.{abs_diff}
 use Rattle.std.specs.List.{concat}
 use Rattle.std.specs.List.Sorted.{IsStrictlyIncreasing}
 use Rattle.bx_ucd.specs.Data.{Data}
 use Rattle.bx_terms.specs.Sizes.{is_side}
-use Rattle.bx_ucd.specs.declared.class.Class.{Class}
-use Rattle.bx_ucd.specs.declared.data.Side.{Side}
 use Rattle.bx_terms.specs.declared.base.Base.{Base}
 use Rattle.bx_paragraph.specs.declared.moves.Visual.{Visual}
 use Rattle.bx_view.specs.declared.moves.Logical.{Logical}
+use Rattle.bx_view.specs.declared.moves.Logical.TheVariants.{Back, Forward}
 use Rattle.bx_view.specs.declared.moves.Move.{Move}
 use Rattle.bx_view.specs.declared.moves.Vertical.{Vertical}
 use Rattle.bx_view.specs.Moves.{entry_in, moved, page, place_from, row_end, row_home, step_logical, step_visual, vertical}
 use Rattle.bx_view.specs.Places.{pieces, text_places}
 use Rattle.bx_view.specs.TextRows.{TextRow, row_at, row_of, text_rows}
 use Rattle.bx_view.specs.Top.{follow}
+use Rattle.bx_view.specs.Words.{step_word}
 
 -- a property of the rows of every text, in every window and direction
 abbrev pub InEachWindow : (Data → List ℕ → ℕ → List TextRow → Type 0) → Type 0
@@ -33,17 +33,23 @@ pub record SpansText (says : Data) (text : List ℕ) : Type 0 where
   pub between : All (IsCharBoundary text) (text_places says text)
 
 -- each move leads from an offset with the property `P` to one with it
-pub record MovesKeep (w : ℕ) (rows : List TextRow) (P : ℕ → Type 0) : Type 0 where
+pub record MovesKeep (says : Data) (text : List ℕ) (w : ℕ) (rows : List TextRow) (P : ℕ → Type 0) : Type 0 where
   pub from : (offset : ℕ) → P (place_from rows offset)
-  pub moved : (m : Move) (place : ℕ) → P place → P (moved w rows m place)
+  pub moved : (m : Move) (place : ℕ) → P place → P (moved says text w rows m place)
   pub logical : (way : Logical) (place : ℕ) → P place → P (step_logical rows way place)
   pub visual : (side : Visual) (place : ℕ) → P place → P (step_visual w rows side place)
   pub vertical : (way : Vertical) (place : ℕ) → P place → P (vertical w rows way place)
   pub page : (way : Vertical) (t place : ℕ) → P place → P (page w rows way t place)
+  pub word : (way : Logical) (place : ℕ) → P place → P (step_word says text way place)
   pub entry : (k column : ℕ) → k < length rows → IfSome (entry_in w (row_at rows k) column) P
   pub home : (offset : ℕ) → P (row_home rows offset)
   pub end : (offset : ℕ) → P (row_end rows offset)
   pub top : (top place t : ℕ) → 0 < t → P (follow rows top place t)
+
+-- a move by a word stays only at the text's end, or at its start
+pub record WordsGoOn (says : Data) (text : List ℕ) : Type 0 where
+  pub forward : (place : ℕ) → place < length text → place < step_word says text Forward place
+  pub back : (place : ℕ) → 0 < place → step_word says text Back place < place
 
 -- the row of a place is one of the `t` rows from row `k` on
 abbrev pub IsShownFrom : List TextRow → ℕ → ℕ → ℕ → Type 0

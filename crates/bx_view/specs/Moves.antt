@@ -1,6 +1,7 @@
 -- The cursor's moves, from place to place.
 use Rattle.std.specs.Prelude.{ℕ, zero, suc, ◌+◌, ◌-◌, ◌==◌, nat_le, nat_lt, min, Bool, true}
 use Rattle.std.specs.Prelude.{false, List, length, reverse, find, slice_get, Option, Some, None, option_map, unwrap_or}
+use Rattle.bx_ucd.specs.Data.{Data}
 use Rattle.bx_paragraph.specs.declared.moves.Visual.{Visual}
 use Rattle.bx_paragraph.specs.BodyRows.{last_of, last_offset}
 use Rattle.bx_paragraph.specs.Slots.{beside, entry, or_else, reading_end, reading_start, reads_on}
@@ -11,6 +12,7 @@ use Rattle.bx_view.specs.declared.moves.Move.TheVariants as moves
 use Rattle.bx_view.specs.declared.moves.Vertical.{Vertical}
 use Rattle.bx_view.specs.declared.moves.Vertical.TheVariants.{Up, Down}
 use Rattle.bx_view.specs.TextRows.{TextRow, cell_of, first, places, row_at, row_of}
+use Rattle.bx_view.specs.Words.{step_word}
 
 -- the first place at or after an offset, or the last place
 abbrev pub place_from : List TextRow → ℕ → ℕ
@@ -90,13 +92,26 @@ row_home rows place = first (row_at rows (row_of rows place))
 abbrev pub row_end : List TextRow → ℕ → ℕ
 row_end rows place = let r = row_at rows (row_of rows place) in r.start + last_of r.row
 
--- any of these moves
-abbrev pub moved : ℕ → List TextRow → Move → ℕ → ℕ
-moved w rows (moves.Logical way) place = step_logical rows way place
-moved w rows (moves.Visual side) place = step_visual w rows side place
-moved w rows (moves.Rows way n) place = rows_away w rows way n place
-moved w rows moves.RowHome place = row_home rows place
-moved w rows moves.RowEnd place = row_end rows place
+-- the way by words toward a side, from whether the paragraph is read toward it
+abbrev pub word_way : Bool → Logical
+word_way true = Forward
+word_way false = Back
+
+-- WordRight and WordLeft: WordForward toward the side that the place's paragraph is read toward, else WordBack
+abbrev pub word_towards : Data → List ℕ → List TextRow → Visual → ℕ → ℕ
+word_towards says text rows side place = step_word says text (word_way (reads_on side (row_at rows (row_of rows place)).row)) place
+
+-- any of these moves in the rows of a text
+abbrev pub moved : Data → List ℕ → ℕ → List TextRow → Move → ℕ → ℕ
+moved says text w rows (moves.Logical way) place = step_logical rows way place
+moved says text w rows (moves.Visual side) place = step_visual w rows side place
+moved says text w rows (moves.Rows way n) place = rows_away w rows way n place
+moved says text w rows moves.RowHome place = row_home rows place
+moved says text w rows moves.RowEnd place = row_end rows place
+moved says text w rows (moves.Word way) place = step_word says text way place
+moved says text w rows (moves.WordTowards side) place = word_towards says text rows side place
+moved says text w rows moves.TextStart place = 0
+moved says text w rows moves.TextEnd place = length text
 
 -- the moves to an end of the row, which lead to a place from any offset
 abbrev pub is_to_row_end : Move → Bool

@@ -4,7 +4,7 @@ ghost use Rattle.std.specs.Prelude.{◌≡◌, ℕ, List, IsUtf8};
 ghost use Rattle.bx_ucd.specs.Data.{Data};
 ghost use Rattle.bx_ucd.specs.declared.class.Class.{Class};
 ghost use Rattle.bx_view.specs.Cells.{HasCells};
-ghost use Rattle.bx_view.specs.Laws.{InEachWindow, MovesKeep, MovesLeast, SpansText};
+ghost use Rattle.bx_view.specs.Laws.{InEachWindow, MovesKeep, MovesLeast, SpansText, WordsGoOn};
 ghost use Rattle.bx_view.specs.Places.{text_places, IsTextPlace};
 ghost use Rattle.bx_view.specs.TextRows.{places};
 
@@ -17,7 +17,12 @@ pub fn places_are_boundaries()
 
 /// Each move leads from a place to a place.
 pub fn moves_keep_places()
-    ensures { InEachWindow (λ says text w rows. MovesKeep w rows (IsTextPlace says text)) }
+    ensures { InEachWindow (λ says text w rows. MovesKeep says text w rows (IsTextPlace says text)) }
+{}
+
+/// A move by a word goes on, except at the text's end forward and at its start back.
+pub fn words_go_on()
+    ensures { (says : Data) (text : List ℕ) → IsUtf8 text → WordsGoOn says text }
 {}
 
 /// A row's slots are its places. Each place has exactly one slot, in the row that it falls in, and its cell is the column

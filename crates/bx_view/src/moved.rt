@@ -22,7 +22,7 @@ impl Layout {
     ) -> Result<usize, ViewError>
         requires data { IsViewBy source.now self.old }
         ensures keeps { Keeps source.now self.old self.new }
-        ensures place { IfOk result (λ o. o ≡ moved self.old.w (rows source.now self.old) m place) }
+        ensures place { IfOk result (λ o. o ≡ moved (D.data source.now.tables.now) (bytes source.now) self.old.w (rows source.now self.old) m place) }
         ensures boundary { IsCharBoundary (bytes source.now) place → IfOk result (λ o. IsCharBoundary (bytes source.now) o) }
         ensures row_boundary { is_to_row_end m ≡ true → IfOk result (λ o. IsCharBoundary (bytes source.now) o) }
     {
@@ -49,6 +49,16 @@ impl Layout {
                 let place = self.row_end(source, place)?;
                 Ok(place)
             }
+            Move::Word(way) => {
+                let place = self.step_word(source, way, place)?;
+                Ok(place)
+            }
+            Move::WordTowards(side) => {
+                let place = self.word_towards(source, side, place)?;
+                Ok(place)
+            }
+            Move::TextStart => Ok(0),
+            Move::TextEnd => Ok(source.text.len()),
         }
     }
 }

@@ -30,4 +30,13 @@ pub enum Move {
     RowHome,
     /// To the paragraph's end in its last row, else to the start of the row's last unit.
     RowEnd,
+    /// Forward to the next start of a word or end of a body, back to the previous start of a word or a body. A word is a run
+    /// of units whose first characters have classes of letters, numbers, marks or joiners.
+    Word(Logical),
+    /// By a word toward a side: forward if the paragraph is read toward it, else back.
+    WordTowards(Visual),
+    /// To the text's start.
+    TextStart,
+    /// To the text's end.
+    TextEnd,
 }

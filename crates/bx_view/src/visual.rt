@@ -20,7 +20,12 @@ fn is_read_on(side: Visual, level: u8) -> bool
 
 impl Layout {
     /// Whether a side is a row's reading direction.
-    fn reads_on<D: BidiData>(&self, source: &Source<'_, D>, at: RowAt, side: Visual) -> bool
+    pub(crate) fn reads_on<D: BidiData>(
+        &self,
+        source: &Source<'_, D>,
+        at: RowAt,
+        side: Visual,
+    ) -> bool
         requires row { Stands source.now self.now at }
         ensures { OfRow source.now self.now at (λ r. result ≡ reads_on side r.row) }
     {

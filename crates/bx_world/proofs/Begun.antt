@@ -8,7 +8,7 @@ use Rattle.bx_keys.specs.Keys.{rest_after}
 use Rattle.bx_keys.specs.Waiting.{head_of}
 use Rattle.bx_grid.specs.Picture.{PictureState, IsIdle, Shows}
 use Rattle.bx_grid.specs.Terminal.{Terminal, reads}
-use Rattle.bx_editor.specs.Data.{Data}
+use Rattle.bx_ucd.specs.Data.{Data}
 use Rattle.bx_editor.specs.Editor.{Editor}
 use Rattle.bx_editor.specs.Keys.{after_keys}
 use Rattle.bx_session.specs.Session.{Session, at_opening, after_replay, after_replayed_key, after_spending, is_replayed, key_of_byte, session_after_key}
@@ -41,7 +41,7 @@ opened_at d s t idle queued =
       follows = λ on. (let window = window_is t.height t.width s.editor on in
           subst (λ painted. IfSome painted (λ q. Shows (reads t s.pending) q)) (sym paints.known)
           (subst (λ bytes. Shows (reads t bytes) p) (sym paints.appends)
-          (paints.leads t idle (sym window.0 ∙ sym (picture_height d s.editor s.top)) (sym window.1 ∙ sym (picture_width d s.editor s.top)))));
+          (paints.updates t idle (sym window.0 ∙ sym (picture_height d s.editor s.top)) (sym window.1 ∙ sym (picture_width d s.editor s.top)))));
       whole = subst (λ bytes. IsIdle (reads t bytes)) (sym paints.appends) (paints.tokens t idle);
       screen = ((refl, refl), λ on. idle.no_run);
       size = λ on. window_is t.height t.width s.editor on;

@@ -1,19 +1,21 @@
 -- What a key leaves of the window's size, of the mark of the last telling, and of what is known of the screen.
 use Rattle.std.proofs.Common.{◌≡◌, ℕ, Bool, true, false, List, [], ◌∷◌, ◌⊎◌, inl, inr, Option, Some, None, refl, sym, subst, ◌∙◌, arith, if◌then◌else◌}
-use Rattle.std.specs.Prelude.{IfSome, not, ◌||◌, ◌&&◌, ◌==◌, encode_utf8}
+use Rattle.std.specs.Prelude.{IfSome, not, ◌||◌, ◌&&◌, ◌==◌, encode_utf8, length}
 use Rattle.std.proofs.lemmas.Bool.Decides.{nat_tests}
 use Rattle.bx_text.specs.Edits.{Edit, fits}
 use Rattle.bx_keys.specs.declared.key.Key.{Key}
 use Rattle.bx_keys.specs.declared.key.Key.TheVariants.{Insert, Erase, Delete, Back, Forward, Up, Down, Right, Left, RowHome, RowEnd, PageUp, PageDown}
-use Rattle.bx_keys.specs.declared.key.Key.TheVariants.{Save, Quit, Undo, Redo, Repaint, Direction, Size}
+use Rattle.bx_keys.specs.declared.key.Key.TheVariants.{Save, Quit, Undo, Redo, Repaint, Direction, Size, Mark, Copy, Cut, Put}
+use Rattle.bx_keys.specs.declared.key.Key.TheVariants.{Find, FindBack, WordLeft, WordRight, TextStart, TextEnd, Help}
 use Rattle.bx_keys.specs.Keys.{rest_after}
 use Rattle.bx_keys.specs.Waiting.{head_of}
 use Rattle.bx_view.specs.declared.moves.Logical.TheVariants as logical
 use Rattle.bx_view.specs.Moves.{step_logical}
 use Rattle.bx_grid.specs.Picture.{PictureState}
-use Rattle.bx_editor.specs.Data.{Data}
+use Rattle.bx_ucd.specs.Data.{Data}
 use Rattle.bx_editor.specs.Editor.{Editor, rows, after_insertion, after_removal, after_undo, after_redo, after_save, after_quit, without_message}
 use Rattle.bx_editor.specs.Keys.{after_key, after_pressing, asks_for_whole}
+use Rattle.bx_editor.specs.Region.{after_copy, after_cut, after_mark, after_put, is_at_mark, is_empty, line, region, taken}
 use Rattle.bx_session.specs.Session.{Session, session_after_key, session_after_any, after_spending, key_of_byte, unpainted_after_byte}
 use Rattle.bx_world.specs.World.{World, told_after, told_after_key, is_window}
 use Rattle.bx_world.specs.Showing.{FitsWindow}
@@ -48,6 +50,18 @@ save_size e false = (refl, refl)
 quit_size : (e : Editor) (again : Bool) → SameSize e (after_quit e again)
 quit_size e again = size_if (not e.changed || again) e _ _ (refl, refl) (refl, refl)
 
+mark_size : (e : Editor) → SameSize e (after_mark e)
+mark_size e = size_if (is_at_mark e.mark e.place) e _ _ (refl, refl) (refl, refl)
+
+copy_size : (d : Data) (e : Editor) → SameSize e (after_copy d e)
+copy_size d e = size_if (is_empty (region e)) e _ _ (size_if (is_empty (line d e)) e _ _ (refl, refl) (refl, refl)) (refl, refl)
+
+cut_size : (d : Data) (e : Editor) → SameSize e (after_cut d e)
+cut_size d e = size_if (is_empty (taken d e)) e _ _ (copy_size d e) (removal_size d e ((taken d e).0) ((taken d e).1))
+
+put_size : (d : Data) (e : Editor) → SameSize e (after_put d e)
+put_size d e = size_if (length e.held == 0) e _ _ (refl, refl) (insertion_size d e e.held)
+
 pressing_size : (d : Data) (saved again : Bool) (e : Editor) (key : Key) → SameSize e (after_pressing d saved again e key)
 pressing_size d saved again e (Insert ch) = insertion_size d e (encode_utf8 ch)
 pressing_size d saved again e Erase = removal_size d e (step_logical (rows d e) logical.Back e.place) e.place
@@ -68,6 +82,17 @@ pressing_size d saved again e Undo = undo_size e e.content.past
 pressing_size d saved again e Redo = redo_size e e.content.future
 pressing_size d saved again e Repaint = (refl, refl)
 pressing_size d saved again e Direction = (refl, refl)
+pressing_size d saved again e Mark = mark_size e
+pressing_size d saved again e Copy = copy_size d e
+pressing_size d saved again e Cut = cut_size d e
+pressing_size d saved again e Put = put_size d e
+pressing_size d saved again e Find = (refl, refl)
+pressing_size d saved again e FindBack = (refl, refl)
+pressing_size d saved again e WordLeft = (refl, refl)
+pressing_size d saved again e WordRight = (refl, refl)
+pressing_size d saved again e TextStart = (refl, refl)
+pressing_size d saved again e TextEnd = (refl, refl)
+pressing_size d saved again e Help = (refl, refl)
 pressing_size d saved again e (Size height width) = (refl, refl)
 
 -- ---- kinds of keys
@@ -99,6 +124,17 @@ kind_of_key d saved e Undo = inl (pressing_size d saved e.quit_before (without_m
 kind_of_key d saved e Redo = inl (pressing_size d saved e.quit_before (without_message e) Redo, λ h w t. refl)
 kind_of_key d saved e Repaint = inl (pressing_size d saved e.quit_before (without_message e) Repaint, λ h w t. refl)
 kind_of_key d saved e Direction = inl (pressing_size d saved e.quit_before (without_message e) Direction, λ h w t. refl)
+kind_of_key d saved e Mark = inl (pressing_size d saved e.quit_before (without_message e) Mark, λ h w t. refl)
+kind_of_key d saved e Copy = inl (pressing_size d saved e.quit_before (without_message e) Copy, λ h w t. refl)
+kind_of_key d saved e Cut = inl (pressing_size d saved e.quit_before (without_message e) Cut, λ h w t. refl)
+kind_of_key d saved e Put = inl (pressing_size d saved e.quit_before (without_message e) Put, λ h w t. refl)
+kind_of_key d saved e Find = inl (pressing_size d saved e.quit_before (without_message e) Find, λ h w t. refl)
+kind_of_key d saved e FindBack = inl (pressing_size d saved e.quit_before (without_message e) FindBack, λ h w t. refl)
+kind_of_key d saved e WordLeft = inl (pressing_size d saved e.quit_before (without_message e) WordLeft, λ h w t. refl)
+kind_of_key d saved e WordRight = inl (pressing_size d saved e.quit_before (without_message e) WordRight, λ h w t. refl)
+kind_of_key d saved e TextStart = inl (pressing_size d saved e.quit_before (without_message e) TextStart, λ h w t. refl)
+kind_of_key d saved e TextEnd = inl (pressing_size d saved e.quit_before (without_message e) TextEnd, λ h w t. refl)
+kind_of_key d saved e Help = inl (pressing_size d saved e.quit_before (without_message e) Help, λ h w t. refl)
 kind_of_key d saved e (Size height width) = inr (height, width, refl)
 
 -- ---- what a key leaves of a world's marks

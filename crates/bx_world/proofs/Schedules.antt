@@ -8,7 +8,7 @@ use Rattle.std.proofs.lemmas.List.{length-append}
 use Rattle.bx_grid.specs.Picture.{Shows}
 use Rattle.bx_grid.specs.Terminal.{Terminal, reads}
 use Rattle.bx_grid.specs.declared.error.GridError.TheVariants as grid
-use Rattle.bx_editor.specs.Data.{Data}
+use Rattle.bx_ucd.specs.Data.{Data}
 use Rattle.bx_editor.specs.Picture.{picture}
 use Rattle.bx_session.specs.Session.{Session, after_byte, after_spending, with_painting, unpainted_after_byte, is_idle, key_of_byte}
 use Rattle.bx_session.specs.Saving.{StoreState}

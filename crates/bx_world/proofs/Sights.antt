@@ -8,7 +8,7 @@ use Rattle.bx_grid.specs.declared.error.GridError.TheVariants as grid
 use Rattle.bx_grid.specs.Picture.{Shows}
 use Rattle.bx_grid.specs.Terminal.{Terminal, reads}
 use Rattle.bx_grid.proofs.Reading.{reads-append}
-use Rattle.bx_editor.specs.Data.{Data}
+use Rattle.bx_ucd.specs.Data.{Data}
 use Rattle.bx_editor.specs.Picture.{picture, next_top}
 use Rattle.bx_session.specs.declared.error.Refused.TheVariants as refused
 use Rattle.bx_session.specs.Session.{Session, after_spending, after_byte, with_painting, unpainted_after_byte, unpainted_after_told, is_idle, painting}

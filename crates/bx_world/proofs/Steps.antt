@@ -5,11 +5,11 @@ use Rattle.std.proofs.lemmas.List.{append_assoc, take-append-drop}
 use Rattle.bx_grid.specs.Picture.{PictureState, IsIdle, Shows}
 use Rattle.bx_grid.specs.Terminal.{Terminal, reads, after_resize}
 use Rattle.bx_grid.proofs.Reading.{reads-append}
-use Rattle.bx_editor.specs.Data.{Data}
+use Rattle.bx_ucd.specs.Data.{Data}
 use Rattle.bx_editor.specs.Picture.{picture}
 use Rattle.bx_session.specs.Session.{Session}
 use Rattle.bx_session.specs.Laws.{ShowsState}
-use Rattle.bx_session.specs.Painting.{Leads, Paints, QueuesPicture}
+use Rattle.bx_session.specs.Painting.{Paints, QueuesPicture, Updates}
 use Rattle.bx_session.proofs.Pictures.{picture_height, picture_width}
 use Rattle.bx_world.specs.World.{World, unread, unknown_terminal, around, after_window, after_send, after_read, with_failed_screen}
 use Rattle.bx_world.specs.Showing.{picture_of, AfterAll, CursorStands, NoRunInSequence, HasSize, FitsWindow, IsInStep}
@@ -45,14 +45,14 @@ read_last w s bytes t is =
     sym (reads-append t (unread w) bytes)
     ∙ ap (reads t) (append_assoc w.line w.session.pending bytes ∙ ap (λ xs. w.line ++ xs) (sym is))
 
--- what leads to a picture, after all that is on its way
-leads_on : (w : World) (known : Option PictureState) (bytes : List ℕ) (p : PictureState) (t : Terminal) → IsIdle (reads t (unread w))
+-- bytes that update the screen, after all that is on its way
+updates_later : (w : World) (known : Option PictureState) (bytes : List ℕ) (p : PictureState) (t : Terminal) → IsIdle (reads t (unread w))
     → HasSize w.height w.width t → (p.height ≡ w.height) × (p.width ≡ w.width)
-    → IfSome known (λ q. Shows (reads t (unread w)) q) → Leads known bytes p → Shows (reads (reads t (unread w)) bytes) p
-leads_on w None bytes p t idle size fits shown leads =
+    → IfSome known (λ q. Shows (reads t (unread w)) q) → Updates known bytes p → Shows (reads (reads t (unread w)) bytes) p
+updates_later w None bytes p t idle size fits shown updates =
     let all = reads_size t (unread w) in
-    leads (reads t (unread w)) idle (all.0 ∙ size.0 ∙ sym fits.0) (all.1 ∙ size.1 ∙ sym fits.1)
-leads_on w (Some q) bytes p t idle size fits shown leads = leads (reads t (unread w)) shown
+    updates (reads t (unread w)) idle (all.0 ∙ size.0 ∙ sym fits.0) (all.1 ∙ size.1 ∙ sym fits.1)
+updates_later w (Some q) bytes p t idle size fits shown updates = updates (reads t (unread w)) shown
 
 -- where a picture was queued
 pub painted : (d : Data) (w : World) (s : Session) (told : Bool) (known : Option PictureState) → IsInStep d w
@@ -95,8 +95,8 @@ painted d w s told known was queued stays fits = record {
   shows_at (Some t) idle size shown on =
       let window = fits on in
       subst (λ u. Shows u new) (read_last w s bytes t paints.appends)
-      (leads_on w known bytes new t idle size.0
-      (picture_height d s.editor s.top ∙ window.0, picture_width d s.editor s.top ∙ window.1) (pick known t shown) paints.leads)
+      (updates_later w known bytes new t idle size.0
+      (picture_height d s.editor s.top ∙ window.0, picture_width d s.editor s.top ∙ window.1) (pick known t shown) paints.updates)
 
   whole_at : (screen : Option Terminal) → IfSome screen (λ t. IsIdle (reads t (unread w))) → IfSome screen (λ t. IsIdle (reads t (w.line ++ s.pending)))
   whole_at None idle = tt
@@ -115,7 +115,7 @@ opened d s height width queued fits =
       cursor = λ owed. paints.cursor;
       follows = λ on. subst (λ painted. IfSome painted (λ q. Shows (reads t s.pending) q)) (sym paints.known)
           (subst (λ bytes. Shows (reads t bytes) p) (sym paints.appends)
-          (paints.leads t idle (sym fits.0 ∙ sym (picture_height d s.editor s.top)) (sym fits.1 ∙ sym (picture_width d s.editor s.top))));
+          (paints.updates t idle (sym fits.0 ∙ sym (picture_height d s.editor s.top)) (sym fits.1 ∙ sym (picture_width d s.editor s.top))));
       whole = subst (λ bytes. IsIdle (reads t bytes)) (sym paints.appends) (paints.tokens t idle);
       screen = ((refl, refl), λ on. refl);
       size = λ on. fits;

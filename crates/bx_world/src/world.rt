@@ -66,7 +66,6 @@ impl<D: BidiData + Drop> World<D> {
     /// Errors, in this order: `TooLong` above 16,777,216 bytes; `NotUtf8` with the length of the longest UTF-8 prefix;
     /// `SizeOutOfRange` if a side is not from 1 to 500; `OutOfMemory`.
     pub fn open(
-        alloc: Global,
         bytes: Vec<u8>,
         tables: D,
         height: u16,
@@ -82,7 +81,8 @@ impl<D: BidiData + Drop> World<D> {
         ensures sized { OnOk result (is_size height width ≡ true) }
         ensures refused { IfErr result (Causes bytes.items height width) }
     {
-        let session = Session::open(alloc, bytes, tables, height, width, base)?;
+        let alloc = *bytes.allocator();
+        let session = Session::open(bytes, tables, height, width, base)?;
         let Ok(screen) = Screen::new(alloc, height, width) else {
             return Err(OpenError::OutOfMemory);
         };

@@ -98,7 +98,7 @@ impl<D: BidiData + Drop> Alone<D> {
             Look::Place => add_number(looks, self.session.place()),
             Look::Changed => add_flag(looks, self.session.changed()),
             Look::Ended => add_flag(looks, self.session.ended()),
-            Look::Kept => add_text(looks, self.store.contents(), file),
+            Look::Stored => add_text(looks, self.store.contents(), file),
             Look::Pending => add_bytes(looks, self.session.pending()),
             // the text is noted at the end, and the others need a world
             Look::Text | Look::Told | Look::Line | Look::Shown | Look::Rows { .. } => Ok(()),

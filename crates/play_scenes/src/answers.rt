@@ -10,12 +10,12 @@ use std::alloc::{AllocError, AllocFailed, Global};
 /// A text longer than this, in bytes, that equals the file is abbreviated.
 const LONG: usize = 4096;
 
-/// Room for each kind of answer, in bytes.
-const ROOM: usize = 65_536;
+/// Capacity for each kind of answer, in bytes.
+const CAPACITY: usize = 65_536;
 
-const ROOM_FOR_QUEUE: usize = 1_048_576;
+const QUEUE_CAPACITY: usize = 1_048_576;
 
-/// Notes of a scene played in one way.
+/// Notes of a scene played in one mode.
 #[derive(Drop)]
 pub struct Answers {
     /// A letter for each step.
@@ -93,16 +93,16 @@ pub fn letter_of(answer: &Result<(), StepFault>) -> char {
 
 impl Answers {
     /// Allocates the buffers.
-    pub fn with_room(alloc: Global) -> Result<Answers, AllocError> {
+    pub fn with_capacity(alloc: Global) -> Result<Answers, AllocError> {
         Ok(Answers {
-            letters: String::with_capacity(alloc, ROOM)?,
-            plain: String::with_capacity(alloc, ROOM)?,
-            shown: String::with_capacity(alloc, ROOM)?,
-            looks: String::with_capacity(alloc, ROOM)?,
-            text: String::with_capacity(alloc, ROOM)?,
-            ending: String::with_capacity(alloc, ROOM)?,
-            on_way: String::with_capacity(alloc, ROOM)?,
-            queued: Vec::with_capacity(alloc, ROOM_FOR_QUEUE)?,
+            letters: String::with_capacity(alloc, CAPACITY)?,
+            plain: String::with_capacity(alloc, CAPACITY)?,
+            shown: String::with_capacity(alloc, CAPACITY)?,
+            looks: String::with_capacity(alloc, CAPACITY)?,
+            text: String::with_capacity(alloc, CAPACITY)?,
+            ending: String::with_capacity(alloc, CAPACITY)?,
+            on_way: String::with_capacity(alloc, CAPACITY)?,
+            queued: Vec::with_capacity(alloc, QUEUE_CAPACITY)?,
             before_end: None,
         })
     }

@@ -4,7 +4,7 @@
 //!
 //! A line of standard input is a scene, unless it is empty or begins with `#`. Tabs separate its fields:
 //!
-//!     NAME DIRECTION ROWS COLUMNS CALL FILE STEPS [WAY]
+//!     NAME DIRECTION ROWS COLUMNS CALL FILE STEPS [MODE]
 //!
 //! NAME describes the scene and is ignored. DIRECTION is `auto`, `ltr` or `rtl`. CALL is the number of the store's call that
 //! fails, counting all of its calls from 1, or `-` if none fails. FILE is the text that is opened, its bytes as pairs of lower-case
@@ -22,7 +22,7 @@
 //! sent, and not yet read), `rows=1;3:ab|cd` (whether the terminal shows these rows, with the cursor in line 1 and column 3; `_`
 //! is a blank, and a character after a backquote is negative), and, only as the last word, `text`.
 //!
-//! WAY is `both` if it is left out: one world takes the steps one by one, another takes them all by `play`, and the line says so
+//! MODE is `both` if it is left out: one world takes the steps one by one, another takes them all by `play`, and the line says so
 //! if their answers or final states differ. `step` and `play` do one of these alone; `play` can look only at the text. `alone`
 //! takes the steps in a session without a world: it has no `W` and `R`, and looks only at a session's own state.
 //!
@@ -47,7 +47,7 @@
 //!
 //! Bytes are written as pairs of digits, `-` for none; a text of more than 4096 bytes that equals the file is `=`. The text is
 //! found by a Save at the end to a separate store. If the session has ended, another world takes the steps before the end and
-//! saves there. The text is `?` if that store runs out of memory, and if WAY is `play` and the session has ended.
+//! saves there. The text is `?` if that store runs out of memory, and if MODE is `play` and the session has ended.
 //!
 //! The buffers for answers are allocated before the first world is opened, so that the world is the first to run out of memory.
 //! If the program itself runs out, it writes `out of memory` to standard error and ends with status 1. It also ends with status 1
@@ -59,20 +59,20 @@ mod alone;
 mod answers;
 mod fault;
 mod lent;
+mod player;
 mod rows;
 mod scene;
 mod stage;
 mod terminal;
-mod ways;
 mod words;
 
 use bx_ucd::Tables;
 use fault::Fault;
+use player::Player;
 use scene::Scene;
 use std::process::ExitCode;
 use std::rt::{Env, Files};
 use std::{env, fs, io};
-use ways::Room;
 
 /// The exit status if the command line or a line is refused.
 const REFUSED: u8 = 2;
@@ -94,7 +94,7 @@ fn play_line<R: Print + AllocGlobal>(
     number: usize,
     line: &str,
     tables: &Tables,
-    room: &mut Room,
+    player: &mut Player,
 ) -> Result<bool, Fault> {
     if line.is_empty() || line.starts_with('#') {
         return Ok(true);
@@ -103,7 +103,7 @@ fn play_line<R: Print + AllocGlobal>(
         Ok(scene) => scene,
         Err(fault) => return Err(Fault::of_line(number, fault)),
     };
-    let (answers, agrees) = room.line_of(&scene, tables)?;
+    let (answers, agrees) = player.line_of(&scene, tables)?;
     println!(rt; "{answers}")?;
     Ok(agrees)
 }
@@ -113,12 +113,12 @@ fn play_lines<R: Print + AllocGlobal>(
     rt: &R,
     scenes: &str,
     tables: &Tables,
-    room: &mut Room,
+    player: &mut Player,
 ) -> Result<bool, Fault> {
     let mut agree = true;
     for (index, line) in scenes.lines().enumerate() {
         let number = index.saturating_add(1);
-        agree = play_line(rt, number, line, tables, room)? && agree;
+        agree = play_line(rt, number, line, tables, player)? && agree;
     }
     Ok(agree)
 }
@@ -130,8 +130,8 @@ fn run<R: Print + Input + Env + Files + AllocGlobal>(rt: &R) -> Result<bool, Fau
     }
     let tables = tables_of(rt, &paths)?;
     let scenes = io::read_to_string(rt.alloc(), rt.reader())?;
-    let mut room = Room::new(rt.alloc())?;
-    play_lines(rt, scenes.as_str(), &tables, &mut room)
+    let mut player = Player::new(rt.alloc())?;
+    play_lines(rt, scenes.as_str(), &tables, &mut player)
 }
 
 fn main(rt: HostRuntime) -> ExitCode {

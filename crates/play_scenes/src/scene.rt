@@ -6,9 +6,9 @@ use bx_terms::Base;
 use bx_world::Step;
 use std::alloc::{AllocError, Global};
 
-/// The WAY in which the steps of a scene are taken.
+/// The MODE in which the steps of a scene are taken.
 #[derive(Clone, Copy, PartialEq, Eq, Debug)]
-pub enum Way {
+pub enum Mode {
     /// By `step` and, in another world, by `play`; the two are compared.
     Both,
     /// One by one, by `step`.
@@ -28,7 +28,7 @@ pub enum Look<'a> {
     /// Whether the session was told the window's last size.
     Told,
     /// The store's content.
-    Kept,
+    Stored,
     /// The bytes not yet sent.
     Pending,
     /// The bytes sent, but not yet read.
@@ -61,7 +61,7 @@ pub struct Scene<'a> {
     pub failing: Option<u64>,
     pub file: Vec<u8>,
     pub acts: Vec<Act<'a>>,
-    pub way: Way,
+    pub mode: Mode,
 }
 
 /// Parses the rest of `rows=`: the cursor's line and column, a colon, and rows separated by bars.
@@ -80,7 +80,7 @@ fn look_of(word: &str) -> Result<Look<'_>, WordFault> {
         "changed" => Ok(Look::Changed),
         "ended" => Ok(Look::Ended),
         "told" => Ok(Look::Told),
-        "kept" => Ok(Look::Kept),
+        "kept" => Ok(Look::Stored),
         "pending" => Ok(Look::Pending),
         "line" => Ok(Look::Line),
         "shown" => Ok(Look::Shown),
@@ -143,24 +143,24 @@ fn is_text_last(acts: &[Act<'_>]) -> bool {
         .any(|act| matches!(act, Act::Look(Look::Text)))
 }
 
-/// Parses WAY.
-fn way_of(word: &str) -> Result<Way, WordFault> {
+/// Parses MODE.
+fn mode_of(word: &str) -> Result<Mode, WordFault> {
     match word {
-        "both" => Ok(Way::Both),
-        "step" => Ok(Way::Step),
-        "play" => Ok(Way::Play),
-        "alone" => Ok(Way::Alone),
+        "both" => Ok(Mode::Both),
+        "step" => Ok(Mode::Step),
+        "play" => Ok(Mode::Play),
+        "alone" => Ok(Mode::Alone),
         _ => Err(WordFault::Bad("both, step, play or alone is wanted")),
     }
 }
 
 impl Act<'_> {
-    /// Whether the act is possible in a WAY: `play` looks only at the text, and a session without a world has no terminal.
-    fn is_of(&self, way: Way) -> bool {
-        match way {
-            Way::Both | Way::Step => true,
-            Way::Play => matches!(self, Act::Take(_) | Act::Look(Look::Text)),
-            Way::Alone => !matches!(
+    /// Whether the act is possible in a MODE: `play` looks only at the text, and a session without a world has no terminal.
+    fn is_of(&self, mode: Mode) -> bool {
+        match mode {
+            Mode::Both | Mode::Step => true,
+            Mode::Play => matches!(self, Act::Take(_) | Act::Look(Look::Text)),
+            Mode::Alone => !matches!(
                 self,
                 Act::Take(Step::Window(_, _) | Step::Read(_))
                     | Act::Look(Look::Told | Look::Line | Look::Shown | Look::Rows { .. })
@@ -181,9 +181,9 @@ impl<'a> Scene<'a> {
         let failing = call_of(fields.next().ok_or(missing)?)?;
         let file = bytes_of(alloc, fields.next().ok_or(missing)?)?;
         let acts = acts_of(alloc, fields.next().ok_or(missing)?)?;
-        let way = way_of(fields.next().unwrap_or("both"))?;
-        if !acts.iter().all(|act| act.is_of(way)) {
-            return Err(WordFault::Bad("a word is none of this way"));
+        let mode = mode_of(fields.next().unwrap_or("both"))?;
+        if !acts.iter().all(|act| act.is_of(mode)) {
+            return Err(WordFault::Bad("a word is none of this mode"));
         }
         if !is_text_last(&acts) {
             return Err(WordFault::Bad("the text is looked at before the end"));
@@ -195,7 +195,7 @@ impl<'a> Scene<'a> {
             failing,
             file,
             acts,
-            way,
+            mode,
         })
     }
 

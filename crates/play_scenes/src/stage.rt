@@ -121,7 +121,7 @@ impl<D: BidiData + Drop> Stage<D> {
             Look::Changed => add_flag(looks, session.changed()),
             Look::Ended => add_flag(looks, session.ended()),
             Look::Told => add_flag(looks, self.world.is_told()),
-            Look::Kept => add_text(looks, self.store.contents(), file),
+            Look::Stored => add_text(looks, self.store.contents(), file),
             Look::Pending => add_bytes(looks, session.pending()),
             Look::Line => add_bytes(looks, self.world.line()),
             Look::Shown => add_flag(looks, self.world.shows()),

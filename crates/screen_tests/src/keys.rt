@@ -34,6 +34,17 @@ fn name_of(key: Key) -> &'static str {
         Key::Redo => "redo",
         Key::Repaint => "repaint",
         Key::Direction => "direction",
+        Key::Mark => "mark",
+        Key::Copy => "copy",
+        Key::Cut => "cut",
+        Key::Put => "put",
+        Key::Find => "find",
+        Key::FindBack => "find_back",
+        Key::WordLeft => "word_left",
+        Key::WordRight => "word_right",
+        Key::TextStart => "text_start",
+        Key::TextEnd => "text_end",
+        Key::Help => "help",
     }
 }
 
@@ -168,6 +179,22 @@ fn other_sequences_give_no_key(rt: HostRuntime) -> Result<(), Fail> {
             (b"\x1B[99z", ""),
             (b"\x1B[ A", ""),
             (b"\x1B(Bx", "insert/0078"),
+        ],
+    )
+}
+
+#[test]
+fn numbers_from_70_to_80_have_keys(rt: HostRuntime) -> Result<(), Fail> {
+    keys_are(
+        &rt,
+        rt.alloc(),
+        &[
+            (b"\x1B[70~\x1B[71~", "find find_back"),
+            (b"\x1B[72~\x1B[73~\x1B[74~\x1B[75~", "mark copy cut put"),
+            (b"\x1B[76~\x1B[77~", "word_left word_right"),
+            (b"\x1B[78~\x1B[79~\x1B[80~", "text_start text_end help"),
+            (b"\x1B[69~\x1B[81~\x1B[7~\x1B[070~", ""),
+            (b"\x1B[72;1~\x1B[72 ~\x1B[72^", ""),
         ],
     )
 }

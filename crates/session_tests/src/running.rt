@@ -21,7 +21,7 @@ const SAVE: u8 = 0x13;
 fn opened(alloc: Global, text: &str, height: u16, width: u16) -> Result<Session<Tables>, Fail> {
     let bytes = Vec::from_slice(alloc, text.as_bytes())?;
     let tables = sample_tables(alloc)?;
-    Ok(Session::open(alloc, bytes, tables, height, width, Base::Auto)?)
+    Ok(Session::open(bytes, tables, height, width, Base::Auto)?)
 }
 
 /// Whether a run over keys ends with `end` and writes exactly these bytes.

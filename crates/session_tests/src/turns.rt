@@ -55,7 +55,7 @@ impl Read for Watcher<'_> {
 fn what_a_turn_queued_is_flushed_before_the_next_read(rt: HostRuntime) -> Result<(), Fail> {
     let alloc = rt.alloc();
     let bytes = Vec::from_slice(alloc, b"ab")?;
-    let mut session = Session::open(alloc, bytes, sample_tables(alloc)?, 1, 5, Base::Auto)?;
+    let mut session = Session::open(bytes, sample_tables(alloc)?, 1, 5, Base::Auto)?;
     let mut store = MemoryStore::new(alloc, None);
     let flushed = Cell::new(0);
     let mut writer = Flushed {

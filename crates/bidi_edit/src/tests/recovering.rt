@@ -122,14 +122,7 @@ impl Write for Small {
 
 /// Runs over the input `abcdef`. Returns whether all of it was typed, and whether the journal has all.
 fn run_kept(alloc: Global, journal: &mut Small) -> Result<(bool, bool), Fail> {
-    let mut session = Session::open(
-        alloc,
-        Vec::new(alloc),
-        sample_tables(alloc)?,
-        1,
-        9,
-        Base::Auto,
-    )?;
+    let mut session = Session::open(Vec::new(alloc), sample_tables(alloc)?, 1, 9, Base::Auto)?;
     let mut recorder = Recorder::new(alloc, WrittenJournal::new(journal));
     let mut input = Pairs(b"abcdef");
     let mut output = Vec::new(alloc);

@@ -1,5 +1,5 @@
 use Rattle.std.proofs.Common.{◌≡◌, false, rules}
-use Rattle.bx_editor.specs.Data.{Data}
+use Rattle.bx_ucd.specs.Data.{Data}
 use Rattle.bx_editor.specs.Keys.{is_save}
 use Rattle.bx_session.proofs.Applied.{applied}
 use Rattle.bx_session.proofs.feeding.apply.Goals as goal

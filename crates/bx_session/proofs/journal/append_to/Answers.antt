@@ -3,7 +3,7 @@ use Rattle.std.proofs.lemmas.List.{take_rest}
 use Rattle.bx_session.specs.declared.journal.Backlog.{Backlog}
 use Rattle.bx_session.specs.declared.journal.Backlog.TheVariants.{Empty, Lost}
 use Rattle.bx_session.specs.Journal.{HasKept, Holds}
-use Rattle.bx_session.proofs.Kept.{if_waiting, kept_all, kept_alone, kept_part}
+use Rattle.bx_session.proofs.Recorded.{if_waiting, kept_all, kept_alone, kept_part}
 use Rattle.bx_session.proofs.journal.append_to.Goals as goal
 
 pub returns-in-Ok-clause-keeps : goal.returns-in-Ok-clause-keeps

@@ -1,7 +1,7 @@
 use Rattle.std.proofs.Common.{◌≡◌, ◌++◌, ap, refl, subst, ◌∙◌, drop, take}
 use Rattle.std.specs.Io.KnownBytes.{Appends}
 use Rattle.bx_session.specs.declared.journal.Backlog.TheVariants.{Empty, Waiting, Lost}
-use Rattle.bx_session.proofs.Kept.{extended, kept_all, kept_lost, kept_part}
+use Rattle.bx_session.proofs.Recorded.{extended, kept_all, kept_lost, kept_part}
 use Rattle.bx_session.proofs.journal.append_waiting.Goals as goal
 
 pub returns-then-is_err-clause-keeps : goal.returns-then-is_err-clause-keeps

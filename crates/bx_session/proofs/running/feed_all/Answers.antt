@@ -1,6 +1,6 @@
 use Rattle.std.proofs.Common.{drop, sym, ◌∙◌}
 use Rattle.std.proofs.lemmas.List.{take_more}
-use Rattle.bx_editor.specs.Data.{Data}
+use Rattle.bx_ucd.specs.Data.{Data}
 use Rattle.bx_session.proofs.Turns.{fed_more, fed_until}
 use Rattle.bx_session.proofs.running.feed_all.Goals as goal
 

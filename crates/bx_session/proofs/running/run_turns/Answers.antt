@@ -1,9 +1,9 @@
 use Rattle.std.proofs.Common.{◌++◌, [], sym, ◌∙◌, subst, take, List, ℕ, arith, ◌≡◌}
 use Rattle.std.proofs.KnownBytes.{Consumes-nil}
 use Rattle.std.proofs.lemmas.List.{length-take-le}
-use Rattle.bx_editor.specs.Data.{Data}
+use Rattle.bx_ucd.specs.Data.{Data}
 use Rattle.bx_session.specs.Journal.{HasKept}
-use Rattle.bx_session.proofs.Kept.{kept_more, kept_none, kept_nothing}
+use Rattle.bx_session.proofs.Recorded.{kept_more, kept_none, kept_nothing}
 use Rattle.bx_session.proofs.Turns.{started, turned, prefixed, read_more, read_on, run_drops, read_nothing, none_taken}
 use Rattle.bx_session.proofs.running.run_turns.Goals as goal
 

@@ -3,4 +3,4 @@ use Rattle.bx_editor.proofs.Begin.{begin-is-place}
 use Rattle.bx_editor.proofs.editor.Editor.open.Goals as goal
 
 pub invariant_of-result : goal.invariant_of-result
-invariant_of-result g c = (begin-is-place (g.D.BidiData.data c.in-Ok-open.document.tables) _, search rules)
+invariant_of-result g c = (begin-is-place (g.D.BidiData.data c.in-Ok-open.document.tables) _, search rules, tt)

@@ -1,4 +1,4 @@
-use Rattle.std.proofs.Common.{◌≡◌, ◌+◌, ◌-◌, ◌*◌, ◌≤◌, ◌∙◌, ◌++◌, List, IsUtf8, ap, ap₂, arith, replicate, subst, sym, take}
+use Rattle.std.proofs.Common.{◌≡◌, ◌+◌, ◌-◌, ◌*◌, ◌≤◌, ◌∙◌, ◌++◌, List, IsUtf8, ap, ap₂, arith, replicate, string_bytes, subst, sym, take}
 use Rattle.std.specs.Prelude.{if◌then◌else◌}
 use Rattle.bx_grid.specs.Columns.{blank}
 use Rattle.bx_grid.specs.Picture.{GridState}
@@ -9,7 +9,7 @@ use Rattle.bx_view.specs.Top.{follow, shown_rows}
 use Rattle.bx_document.specs.Drawing.{IsAmong, rows_columns, with_rows}
 use Rattle.bx_document.specs.Shown.{shown_columns}
 use Rattle.bx_document.specs.Document.{rows as document_rows}
-use Rattle.bx_editor.specs.Data.{Data}
+use Rattle.bx_ucd.specs.Data.{Data}
 use Rattle.bx_editor.specs.Editor.{Editor, rows, text_height}
 use Rattle.bx_editor.specs.Picture.{blank_picture, next_top, picture, text_picture}
 use Rattle.bx_editor.specs.Status.{status_columns}
@@ -23,6 +23,8 @@ put_status-requires-clause-position g c =
     subst (λ doc. IsPosition (g.D.BidiData.data doc.tables) doc.document.w doc.document.content.text (rows (g.D.BidiData.data doc.tables) (record {
       content = doc.document.content;
       place = i.place;
+      mark = i.mark;
+      held = string_bytes i.held;
       changed = i.changed;
       message = i.message;
       quit_before = i.quit_before;
@@ -39,6 +41,8 @@ returns-clause-top g c =
     let e : Editor = (record {
       content = i.document.document.content;
       place = i.place;
+      mark = i.mark;
+      held = string_bytes i.held;
       changed = i.changed;
       message = i.message;
       quit_before = i.quit_before;
@@ -59,6 +63,8 @@ returns-clause-picture g c =
     let e : Editor = (record {
       content = i.document.document.content;
       place = i.place;
+      mark = i.mark;
+      held = string_bytes i.held;
       changed = i.changed;
       message = i.message;
       quit_before = i.quit_before;
@@ -80,6 +86,8 @@ returns-clause-picture g c =
       columns = take (text_height i.height * doc.document.w) mid.columns ++ status_columns (g.D.BidiData.data doc.tables) (record {
         content = doc.document.content;
         place = i.place;
+        mark = i.mark;
+        held = string_bytes i.held;
         changed = i.changed;
         message = i.message;
         quit_before = i.quit_before;

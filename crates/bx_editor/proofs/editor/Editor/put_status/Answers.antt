@@ -1,5 +1,5 @@
-use Rattle.std.proofs.Common.{◌≡◌, ◌+◌, ◌-◌, ◌*◌, ◌∙◌, ◌++◌, ap, ap₂, arith, length, refl, subst, sym, take}
-use Rattle.bx_editor.specs.Data.{Data}
+use Rattle.std.proofs.Common.{◌≡◌, ◌+◌, ◌-◌, ◌*◌, ◌∙◌, ◌++◌, ap, ap₂, arith, length, refl, string_bytes, subst, sym, take}
+use Rattle.bx_ucd.specs.Data.{Data}
 use Rattle.bx_editor.specs.Editor.{Editor, text_height}
 use Rattle.bx_editor.specs.Status.{paragraph_number, status_columns, status_line, text_columns, unit_number}
 use Rattle.bx_editor.proofs.Shown.{some-status}
@@ -15,6 +15,8 @@ returns g c =
     let e : Editor = record {
       content = i.document.document.content;
       place = i.place;
+      mark = i.mark;
+      held = string_bytes i.held;
       changed = i.changed;
       message = i.message;
       quit_before = i.quit_before;

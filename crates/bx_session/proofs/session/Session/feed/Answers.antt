@@ -1,4 +1,4 @@
-use Rattle.bx_editor.specs.Data.{Data}
+use Rattle.bx_ucd.specs.Data.{Data}
 use Rattle.bx_session.proofs.Bytes.{is_not_idle, after_byte_is, byte_paints}
 use Rattle.bx_session.proofs.session.Session.feed.Goals as goal
 

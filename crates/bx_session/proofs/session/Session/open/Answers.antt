@@ -1,4 +1,4 @@
-use Rattle.bx_editor.specs.Data.{Data}
+use Rattle.bx_ucd.specs.Data.{Data}
 use Rattle.bx_session.proofs.Bytes.{opening_is}
 use Rattle.bx_session.proofs.session.Session.open.Goals as goal
 

@@ -1,7 +1,7 @@
 use Rattle.std.proofs.Common.{◌≡◌, ◌∙◌, sym, ap, drop, length, arith}
 use Rattle.std.proofs.lemmas.List.{length-append}
 use Rattle.bx_grid.specs.Picture.{PictureState}
-use Rattle.bx_editor.specs.Data.{Data}
+use Rattle.bx_ucd.specs.Data.{Data}
 use Rattle.bx_editor.specs.Editor.{Editor, EditorState}
 use Rattle.bx_session.proofs.Pictures.{picture_height, picture_width, longer_queue, painting_is, painting_queues}
 use Rattle.bx_session.specs.Session.{Session, known_if, painting}
@@ -58,4 +58,4 @@ returns-clause-paints g c =
     (painting_queues d s c.picture.new.self.editor c.in-Ok-picture.top c.in-Ok-picture.picture (drop c.self.inside.taken c.append.new.queue.items)
     (ap (λ (x : EditorState g.row.D.Denot). x.editor) c.in-Ok-picture.ensures.same) c.in-Ok-picture.ensures.picture
     (longer_queue c.self.inside.taken c.self.inside.queue.items (painting (known_if c.self.inside.is_known c.self.inside.painted) c.in-Ok-picture.picture) c.append.new.queue.items c.self.invariant.0
-    c.in-Ok-append.ensures.bytes) c.append.ensures.tokens c.append.ensures.leads c.append.ensures.is_picture c.in-Ok-picture.ensures.cursor)
+    c.in-Ok-append.ensures.bytes) c.append.ensures.tokens c.append.ensures.updates c.append.ensures.is_picture c.in-Ok-picture.ensures.cursor)

@@ -1,5 +1,5 @@
 use Rattle.std.proofs.Common.{◌∙◌, sym}
-use Rattle.bx_editor.specs.Data.{Data}
+use Rattle.bx_ucd.specs.Data.{Data}
 use Rattle.bx_session.proofs.Bytes.{told_is}
 use Rattle.bx_session.proofs.session.Session.told.Goals as goal
 

@@ -1,3 +1,4 @@
+use Rattle.std.proofs.lemmas.Str.{IsCharBoundary-start}
 use Rattle.bx_view.specs.declared.moves.Move.TheVariants as moves
 use Rattle.bx_view.proofs.Boundaries.{end-bound, home-bound, moved-bound}
 use Rattle.bx_view.proofs.layout.Layout.moved.Goals as goal
@@ -43,3 +44,18 @@ returns-in_ok-place-in-RowEnd-clause-row_boundary g c = λ at-end.
     end-bound (g.D.BidiData.data c.args.source.now.tables.now) c.args.self.now
     c.args.source.now.text.now.edited.text c.width-side.ensures.side c.args.source.now.utf8
     c.args.place c.in_ok-place-in-RowEnd.place c.in_ok-place-in-RowEnd.ensures.end
+
+pub returns-in_ok-place-in-Word-clause-boundary : goal.returns-in_ok-place-in-Word-clause-boundary
+returns-in_ok-place-in-Word-clause-boundary g c =
+    moved-bound (g.D.BidiData.data c.args.source.now.tables.now) c.args.self.now
+    c.args.source.now.text.now.edited.text c.width-side.ensures.side c.args.source.now.utf8 (moves.Word c.in-Word.way)
+    c.args.place c.in_ok-place-in-Word.place c.in_ok-place-in-Word.ensures.place
+
+pub returns-in_ok-place-in-WordTowards-clause-boundary : goal.returns-in_ok-place-in-WordTowards-clause-boundary
+returns-in_ok-place-in-WordTowards-clause-boundary g c =
+    moved-bound (g.D.BidiData.data c.args.source.now.tables.now) c.args.self.now
+    c.args.source.now.text.now.edited.text c.width-side.ensures.side c.args.source.now.utf8 (moves.WordTowards c.in-WordTowards.side)
+    c.args.place c.in_ok-place-in-WordTowards.place c.in_ok-place-in-WordTowards.ensures.place
+
+pub returns-in-TextStart-clause-boundary : goal.returns-in-TextStart-clause-boundary
+returns-in-TextStart-clause-boundary g c = λ bound. IsCharBoundary-start c.args.source.now.text.now.edited.text c.args.source.now.utf8

@@ -1,4 +1,4 @@
-use Rattle.bx_editor.specs.Data.{Data}
+use Rattle.bx_ucd.specs.Data.{Data}
 use Rattle.bx_world.proofs.Calls.{opened_is}
 use Rattle.bx_world.proofs.world.World.open.Goals as goal
 

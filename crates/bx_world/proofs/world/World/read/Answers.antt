@@ -1,4 +1,4 @@
-use Rattle.bx_editor.specs.Data.{Data}
+use Rattle.bx_ucd.specs.Data.{Data}
 use Rattle.std.proofs.Common.{subst}
 use Rattle.bx_world.specs.World.{World, WorldState}
 use Rattle.bx_world.specs.Steps.{AfterReadStep}

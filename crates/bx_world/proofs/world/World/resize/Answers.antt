@@ -1,4 +1,4 @@
-use Rattle.bx_editor.specs.Data.{Data}
+use Rattle.bx_ucd.specs.Data.{Data}
 use Rattle.bx_world.specs.World.{World}
 use Rattle.bx_world.proofs.Calls.{window_call}
 use Rattle.bx_world.proofs.world.World.resize.Goals as goal

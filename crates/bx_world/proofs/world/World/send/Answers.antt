@@ -1,4 +1,4 @@
-use Rattle.bx_editor.specs.Data.{Data}
+use Rattle.bx_ucd.specs.Data.{Data}
 use Rattle.std.proofs.Common.{◌≡◌, ◌++◌, take, subst, ap, ◌∙◌}
 use Rattle.bx_world.specs.World.{World, WorldState, after_send}
 use Rattle.bx_world.proofs.Calls.{is_sent, send_call, send_steps}

@@ -1,4 +1,4 @@
-use Rattle.bx_editor.specs.Data.{Data}
+use Rattle.bx_ucd.specs.Data.{Data}
 use Rattle.std.proofs.Common.{subst, ap, ◌∙◌}
 use Rattle.bx_world.specs.Answers.{mark_after}
 use Rattle.bx_world.specs.Steps.{AfterToldStep}

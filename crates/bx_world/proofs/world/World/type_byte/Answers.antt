@@ -1,4 +1,4 @@
-use Rattle.bx_editor.specs.Data.{Data}
+use Rattle.bx_ucd.specs.Data.{Data}
 use Rattle.std.proofs.Common.{Bool, subst, ap, ◌∙◌}
 use Rattle.bx_session.specs.Saving.{StoreAfter, is_save_byte, store_state}
 use Rattle.bx_world.specs.Answers.{mark_after}

@@ -1,0 +1,14 @@
+-- Lines: paragraphs with their separators.
+use Rattle.std.specs.Prelude.{ℕ, ◌+◌, List, take}
+use Rattle.bx_ucd.specs.Data.{Data}
+use Rattle.bx_paras.specs.Paragraphs.{lengths}
+use Rattle.bx_paras.specs.Positions.{paragraph_of, total}
+
+-- the offset at which paragraph `number` begins; after the last paragraph, the text's end
+abbrev pub begin_of : Data → List ℕ → ℕ → ℕ
+begin_of says text number = total (take number (lengths says text))
+
+-- from the start of the paragraph that an offset falls in to the start of the next one, or to the text's end
+abbrev pub line_of : Data → List ℕ → ℕ → ℕ × ℕ
+line_of says text offset =
+    (begin_of says text (paragraph_of (lengths says text) offset), begin_of says text (paragraph_of (lengths says text) offset + 1))

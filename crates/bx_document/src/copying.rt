@@ -1,0 +1,56 @@
+//! Copies of parts of the text, and the line of a place.
+ghost use Rattle.std.specs.Prelude.{◌≡◌, IfOk, IsCharBoundary, slice_range, string_bytes};
+ghost use Rattle.bx_text.specs.Edits.{IsRange};
+ghost use Rattle.bx_view.specs.Places.{IsTextPlace};
+ghost use Rattle.bx_view.specs.Source.{bytes};
+ghost use Rattle.bx_document.specs.Line.{line_of};
+
+use crate::document::Document;
+use crate::touched::stop_after;
+use bx_terms::OutOfMemory;
+use bx_ucd::BidiData;
+use bx_view::Source;
+
+/// The offsets of the start and the end of the line that an offset falls in. No memory.
+fn line_at<D: BidiData>(source: &Source<'_, D>, offset: usize) -> (usize, usize)
+    requires bounds { IsCharBoundary (bytes source.now) offset }
+    ensures line { result ≡ line_of (D.data source.now.tables.now) (bytes source.now) offset }
+    ensures range { IsRange (bytes source.now) result.0 result.1 }
+{
+    let number = source.index.paragraph_of(offset);
+    let start = source.index.span(number).0;
+    let stop = stop_after(source, offset);
+    (start, stop)
+}
+
+impl<D: BidiData + Drop> Document<D> {
+    /// The offsets of the start and the end of a place's paragraph, its separator included. No memory.
+    pub fn line_of(&self, place: usize) -> (usize, usize)
+        requires text_place { IsTextPlace (D.data self.now.tables) self.now.document.content.text place }
+        ensures line { result ≡ line_of (D.data self.now.tables) self.now.document.content.text place }
+        ensures range { IsRange self.now.document.content.text result.0 result.1 }
+    {
+        // proof only: the text is UTF-8
+        let _utf8 = self.text.len();
+        let source = Source {
+            text: &self.text,
+            index: &self.index,
+            tables: &self.tables,
+        };
+        line_at(&source, place)
+    }
+
+    /// Copies the bytes from `start` to `stop`.
+    ///
+    /// Errors: `OutOfMemory`.
+    pub fn copy(&self, start: usize, stop: usize) -> Result<String, OutOfMemory>
+        requires range { IsRange self.now.document.content.text start stop }
+        ensures { IfOk result (λ copy. string_bytes copy ≡ slice_range self.now.document.content.text start stop) }
+    {
+        // Both ends are between characters, so only memory can run out.
+        let Ok(copy) = self.text.copy_range(start, stop) else {
+            return Err(OutOfMemory);
+        };
+        Ok(copy)
+    }
+}

@@ -1,0 +1,150 @@
+-- Putting back what was copied or cut.
+use Rattle.std.proofs.Common.{◌≡◌, ℕ, ◌+◌, ◌-◌, ◌<◌, ◌≤◌, true, false, nat_le, List, [], ◌++◌, length, take, drop, slice_range, Some, None}
+use Rattle.std.proofs.Common.{sym, ap, ap₂, subst, ◌∙◌, arith, append_assoc, length-append, length-drop, ⊎_elim}
+use Rattle.std.specs.Prelude.{◌==◌, if◌then◌else◌, unwrap_or}
+use Rattle.std.proofs.lemmas.Bool.{cases_lt, le-leb}
+use Rattle.std.proofs.lemmas.Bool.Decides.{nat_tests}
+use Rattle.std.proofs.lemmas.List.{append-nil, drop-drop, drop_at, length-take-le, take-append-drop, take_at}
+use Rattle.bx_terms.specs.Sizes.{largest_text}
+use Rattle.bx_keys.specs.declared.key.Key.TheVariants.{Cut, Put}
+use Rattle.bx_text.specs.Edits.{fits, inserted, removed, splice}
+use Rattle.bx_editor.specs.declared.message.Message.TheVariants.{Copied, LineCopied, NothingToCopy, NothingToPut, TextFull}
+use Rattle.bx_ucd.specs.Data.{Data}
+use Rattle.bx_editor.specs.Editor.{Editor, after_insertion, place_after, without_message}
+use Rattle.bx_editor.specs.Keys.{after_key}
+use Rattle.bx_editor.specs.Region.{after_copy, after_put, bytes_in, is_empty, line, region, taken}
+use Rattle.bx_editor.specs.Laws.{CopyPutsTwice, IsPart, PutRestoresCut, twice}
+
+-- ---- a part of a list
+
+module _ (text : List ℕ) (a b : ℕ) (order : a ≤ b) (inside : b ≤ length text) where
+  abbrev part : List ℕ
+  part = slice_range text a b
+
+  behind : part ++ drop b text ≡ drop a text
+  behind =
+      let there : a + (b - a) ≡ b = omega (arith, order) in
+      ap (λ xs. part ++ xs) (sym (drop-drop (b - a) a text ∙ ap (λ n. drop n text) there)) ∙ take-append-drop (b - a) (drop a text)
+
+  whole : take a text ++ (part ++ drop b text) ≡ text
+  whole = ap (λ xs. take a text ++ xs) behind ∙ take-append-drop a text
+
+  ahead-length : length (take a text) ≡ a
+  ahead-length = length-take-le a text (omega (arith, order, inside))
+
+  part-length : length part ≡ b - a
+  part-length = omega (arith, order, inside, ahead-length, length-drop b text, length-append part (drop b text), ap length behind, length-drop a text)
+
+  ahead : take b text ≡ take a text ++ part
+  ahead =
+      let long : length (take a text ++ part) ≡ b = omega (arith, order, ahead-length, part-length, length-append (take a text) part) in
+      ap (take b) (sym whole ∙ sym (append_assoc (take a text) part (drop b text))) ∙ take_at (take a text ++ part) (drop b text) b long
+
+  -- put in again at either end
+  twice-at-start : splice text a a part ≡ take a text ++ part ++ part ++ drop b text
+  twice-at-start = ap (λ xs. (take a text ++ part) ++ xs) (sym behind) ∙ sym (append_assoc (take a text ++ part) part (drop b text))
+
+  twice-at-end : splice text b b part ≡ take a text ++ part ++ part ++ drop b text
+  twice-at-end = ap (λ xs. (xs ++ part) ++ drop b text) ahead
+
+  -- taken out and put in again
+  without-part : splice text a b [] ≡ take a text ++ drop b text
+  without-part = ap (λ xs. xs ++ drop b text) (append-nil (take a text))
+
+  back : splice (splice text a b []) a a part ≡ text
+  back =
+      let front = take_at (take a text) (drop b text) a ahead-length in
+      let rest = drop_at (take a text) (drop b text) a ahead-length in
+      ap (λ t. splice t a a part) without-part ∙ ap₂ (λ xs ys. (xs ++ part) ++ ys) front rest
+      ∙ append_assoc (take a text) part (drop b text) ∙ whole
+
+-- ---- Put
+
+is-some : (held : List ℕ) → 0 < length held → (length held == 0) ≡ false
+is-some held more = grind (arith, nat_tests)
+
+put-text : (d : Data) (e : Editor) → 0 < length e.held → fits e.content.text e.place e.place e.held ≡ true
+    → (after_put d e).content.text ≡ splice e.content.text e.place e.place e.held
+put-text d e some room =
+    let after = place_after d e (splice e.content.text e.place e.place e.held) (e.place + length e.held) in
+    let none : Editor = record e { message = Some NothingToPut } in
+    let full : Editor = record e { message = Some TextFull } in
+    let done : Editor = record e { content = inserted e.content e.place e.held e.place after; place = after; mark = None; changed = true } in
+    ap (λ b. (if b then none else after_insertion d e e.held).content.text) (is-some e.held some)
+    ∙ ap (λ b. (if b then done else full).content.text) room
+
+has-room : (text : List ℕ) (place : ℕ) (new : List ℕ) → length text + length new ≤ largest_text → fits text place place new ≡ true
+has-room text place new h =
+    let e : length text - (place - place) + length new ≡ length text + length new = omega arith in
+    ap (λ n. nat_le n largest_text) e ∙ le-leb (length text + length new) largest_text h
+
+is-there : (e : Editor) (part : ℕ × ℕ) → IsPart e part → is_empty part ≡ false
+is-there e (a, b) h = let less : a < b = h.some in grind (arith, nat_tests)
+
+-- ---- Copy and Put
+
+pub copy-puts-twice : CopyPutsTwice
+copy-puts-twice d e is fit =
+    let text = e.content.text in
+    let a = (region e).0 in
+    let b = (region e).1 in
+    let r = bytes_in e (region e) in
+    let was = without_message e in
+    let none : Editor = record was { mark = None; message = Some NothingToCopy } in
+    let one : Editor = record was { mark = None; held = bytes_in e (line d e); message = Some LineCopied } in
+    let held : Editor = record was { mark = None; held = r; message = Some Copied } in
+    let order : a ≤ b = omega (arith, is.some) in
+    let long : length r ≡ b - a = part-length text a b order is.inside in
+    let twice-is : (k : ℕ) → k ≡ a → splice text k k r ≡ twice e (region e) =
+    λ k same. subst (λ n. splice text n n r ≡ twice e (region e)) (sym same) (twice-at-start text a b order is.inside) in
+    let at-end : (k : ℕ) → k ≡ b → splice text k k r ≡ twice e (region e) =
+    λ k same. subst (λ n. splice text n n r ≡ twice e (region e)) (sym same) (twice-at-end text a b order is.inside) in
+    let m = unwrap_or e.mark e.place in
+    let put : splice text e.place e.place r ≡ twice e (region e) =
+    ⊎_elim (λ less. at-end e.place (omega (arith, less))) (λ more. twice-is e.place (omega (arith, more))) (cases_lt m e.place) in
+    let size : length text + length r ≡ length (twice e (region e)) =
+    omega (
+      arith,
+      long,
+      order,
+      is.inside,
+      ahead-length text a b order is.inside,
+      length-append (take a text ++ r ++ r) (drop b text),
+      length-append (take a text ++ r) r,
+      length-append (take a text) r,
+      length-drop b text,
+    ) in
+    ap (λ x. (after_key d false (if x then (if is_empty (line d e) then none else one) else held) Put).content.text) (is-there e (region e) is)
+    ∙ put-text d (without_message held) (omega (arith, long, is.some)) (has-room text e.place r (omega (arith, size, fit))) ∙ put
+
+-- ---- Cut and Put
+
+pub put-restores-cut : PutRestoresCut
+put-restores-cut d e is short there =
+    let text = e.content.text in
+    let a = (taken d e).0 in
+    let b = (taken d e).1 in
+    let r = bytes_in e (taken d e) in
+    let was = without_message e in
+    let after = place_after d was (splice text a b []) a in
+    let without : Editor = record was { content = removed e.content a b e.place after; place = after; mark = None; changed = true } in
+    let cut : Editor = record without { held = r } in
+    let order : a ≤ b = omega (arith, is.some) in
+    let long : length r ≡ b - a = part-length text a b order is.inside in
+    let same : after_key d false e Cut ≡ cut =
+    ap (λ x. if x then after_copy d was else record (if x then was else without) { held = r }) (is-there e (taken d e) is) in
+    let at : after ≡ a = sym (ap (λ (c : Editor). c.place) same) ∙ there in
+    let size : length (splice text a b []) + length r ≡ length text =
+    omega (
+      arith,
+      long,
+      order,
+      is.inside,
+      ahead-length text a b order is.inside,
+      ap length (without-part text a b order is.inside),
+      length-append (take a text) (drop b text),
+      length-drop b text,
+    ) in
+    ap (λ c. (after_key d false c Put).content.text) same
+    ∙ put-text d (without_message cut) (omega (arith, long, is.some)) (has-room (splice text a b []) after r (omega (arith, size, short)))
+    ∙ ap (λ k. splice (splice text a b []) k k r) at ∙ back text a b order is.inside

@@ -1,2 +1,0 @@
--- Unicode's character data.
-pub use Rattle.bx_ucd.specs.Data.{Data}

@@ -1,0 +1,134 @@
+//! The mark, and the keys that copy, cut and put.
+ghost use Rattle.std.specs.Prelude.{◌≡◌, OnErr, OnOk, Some, None, slice_range};
+ghost use Rattle.bx_text.specs.Edits.{IsRange};
+ghost use Rattle.bx_editor.specs.Editor.{without_message};
+ghost use Rattle.bx_editor.specs.Region.{after_copy, after_cut, after_mark, after_put, is_at_mark, region, taken};
+
+use crate::editor::Editor;
+use crate::message::Message;
+use bx_terms::OutOfMemory;
+use bx_ucd::BidiData;
+
+/// Whether the mark is at the place.
+fn is_at_mark(mark: Option<usize>, place: usize) -> bool
+    ensures { result ≡ is_at_mark mark place }
+{
+    match mark {
+        Some(mark) => mark == place,
+        None => false,
+    }
+}
+
+impl<D: BidiData + Drop> Editor<D> {
+    /// Marks the place, or takes the mark away if it is there already.
+    pub(crate) fn turn_mark(&mut self)
+        ensures { self.new ≡ record self.old { editor = after_mark (without_message self.old.editor) } }
+    {
+        if is_at_mark(self.mark, self.place) {
+            self.mark = None;
+            self.tell(Message::MarkOff);
+        } else {
+            self.mark = Some(self.place);
+            self.tell(Message::MarkSet);
+        }
+    }
+
+    /// The offsets of the region's start and end: the mark and the place in order. Equal if there is no mark.
+    fn region(&self) -> (usize, usize)
+        ensures region { result ≡ region self.now.editor }
+        ensures range { IsRange self.now.editor.content.text result.0 result.1 }
+    {
+        // proof only: the text is UTF-8
+        let _utf8 = self.document.len();
+        let mark = self.mark.unwrap_or(self.place);
+        (mark.min(self.place), mark.max(self.place))
+    }
+
+    /// The offsets of the text that Cut takes: the region, or the line if the region is empty.
+    fn taken(&self) -> (usize, usize)
+        ensures taken { result ≡ taken (D.data self.now.tables) self.now.editor }
+        ensures range { IsRange self.now.editor.content.text result.0 result.1 }
+    {
+        let (start, stop) = self.region();
+        if start == stop {
+            return self.document.line_of(self.place);
+        }
+        (start, stop)
+    }
+
+    /// Copies the bytes from `start` to `stop`, and clears the mark.
+    fn hold(&mut self, start: usize, stop: usize, message: Message) -> Result<(), OutOfMemory>
+        requires range { IsRange self.old.editor.content.text start stop }
+        ensures ok { OnOk result (self.new ≡ record self.old {
+          editor = record (without_message self.old.editor) {
+            mark = None;
+            held = slice_range self.old.editor.content.text start stop;
+            message = Some message;
+          };
+        }) }
+        ensures err { OnErr result (self.new ≡ self.old) }
+    {
+        self.held = self.document.copy(start, stop)?;
+        self.mark = None;
+        self.tell(message);
+        Ok(())
+    }
+
+    /// Copies the region, or the line if the region is empty; if both are, sets a message instead.
+    pub(crate) fn copy(&mut self) -> Result<(), OutOfMemory>
+        ensures ok { OnOk result (self.new ≡ record self.old {
+          editor = after_copy (D.data self.old.tables) (without_message self.old.editor);
+        }) }
+        ensures err { OnErr result (self.new ≡ self.old) }
+    {
+        let (start, stop) = self.region();
+        if start != stop {
+            return self.hold(start, stop, Message::Copied);
+        }
+        let (start, stop) = self.document.line_of(self.place);
+        if start != stop {
+            return self.hold(start, stop, Message::LineCopied);
+        }
+        self.mark = None;
+        self.tell(Message::NothingToCopy);
+        Ok(())
+    }
+
+    /// Copies the same text as Copy, and removes it.
+    pub(crate) fn cut(&mut self) -> Result<(), OutOfMemory>
+        ensures ok { OnOk result (self.new ≡ record self.old {
+          editor = after_cut (D.data self.old.tables) (without_message self.old.editor);
+        }) }
+        ensures err { OnErr result (self.new ≡ self.old) }
+    {
+        let (start, stop) = self.taken();
+        if start == stop {
+            return self.copy();
+        }
+        let held = self.document.copy(start, stop)?;
+        self.remove(start, stop)?;
+        self.held = held;
+        Ok(())
+    }
+
+    /// Inserts the held text at the place; if nothing is held or the text is full, sets a message instead.
+    pub(crate) fn put(&mut self) -> Result<(), OutOfMemory>
+        ensures ok { OnOk result (self.new ≡ record self.old {
+          editor = after_put (D.data self.old.tables) (without_message self.old.editor);
+        }) }
+        ensures err { OnErr result (self.new ≡ self.old) }
+    {
+        if self.held.is_empty() {
+            self.tell(Message::NothingToPut);
+            return Ok(());
+        }
+        let Some(place) = self.document.insert(self.place, self.held.as_str())? else {
+            self.tell(Message::TextFull);
+            return Ok(());
+        };
+        self.place = place;
+        self.mark = None;
+        self.finish_edit();
+        Ok(())
+    }
+}

@@ -1,0 +1,108 @@
+-- The stops of words are places: a property of all places is one of all stops.
+use Rattle.std.proofs.Common.{◌≡◌, ℕ, ◌+◌, ◌≤◌, not, ◌&&◌, Bool, true, false, List, [], ◌∷◌, ◌++◌, map, length, IsUtf8, refl, ap, subst, ◌∙◌}
+use Rattle.bx_ucd.specs.Data.{Data}
+use Rattle.unicode_segmentation.specs.Grapheme.{graphemes}
+use Rattle.unicode_segmentation.specs.Segments.{with_offsets}
+use Rattle.bx_terms.specs.declared.base.Base.{Base}
+use Rattle.bx_cells.specs.declared.unit.Unit.{Unit}
+use Rattle.bx_cells.specs.Units.{unit_at, units}
+use Rattle.bx_paras.specs.Paragraphs.{Paragraph, lengths_of, paragraphs}
+use Rattle.bx_paras.specs.Positions.{bytes_of}
+use Rattle.bx_rows.specs.RowStarts.{first_offset}
+use Rattle.bx_view.specs.declared.moves.Logical.{Logical}
+use Rattle.bx_view.specs.declared.moves.Logical.TheVariants.{Back, Forward}
+use Rattle.bx_view.specs.TextRows.{TextRow, places, text_row, text_rows}
+use Rattle.bx_view.specs.Words.{body_stops, is_of_word, stops_from, word_starts}
+use Rattle.bx_view.proofs.Around.{from, own}
+use Rattle.bx_view.proofs.BodyFirsts.{none-in, starts_of}
+use Rattle.bx_view.proofs.KeptMoves.{EndsLie}
+use Rattle.bx_view.proofs.Parts.{AreUtf8, text-parts}
+use Rattle.bx_view.proofs.PlacesRise.{body-places, places-from, places-moved}
+use Rattle.bx_view.proofs.Within.{Within, within-append}
+use Rattle.bx_view.proofs.WordParts.{put-within}
+
+-- ---- parts of some offsets
+
+within-front : (P : ℕ → Type 0) (os ps : List ℕ) → Within P (os ++ ps) → Within P os
+within-front P [] ps a = tt
+within-front P (o ∷ os) ps a = (a.0, within-front P os ps a.1)
+
+within-rest : (P : ℕ → Type 0) (os ps : List ℕ) → Within P (os ++ ps) → Within P ps
+within-rest P [] ps a = a
+within-rest P (o ∷ os) ps a = within-rest P os ps a.1
+
+moved-in : (P : ℕ → Type 0) (start : ℕ) (os : List ℕ) → Within (λ o. P (start + o)) os → Within P (map (λ o. start + o) os)
+moved-in P start [] a = tt
+moved-in P start (o ∷ os) a = (a.0, moved-in P start os a.1)
+
+moved-out : (P : ℕ → Type 0) (start : ℕ) (os : List ℕ) → Within P (map (λ o. start + o) os) → Within (λ o. P (start + o)) os
+moved-out P start [] a = tt
+moved-out P start (o ∷ os) a = (a.0, moved-out P start os a.1)
+
+-- ---- the stops of a body
+
+starts-within : (P : ℕ → Type 0) (says : Data) (w : ℕ) (b : Bool) (at : ℕ) (gs : List (List ℕ))
+    → Within P (starts_of (map (unit_at says w) (with_offsets at gs))) → Within P (word_starts says b at gs)
+unfolding with_offsets
+starts-within P says w b at [] a = tt
+starts-within P says w b at (g ∷ gs) a =
+    put-within P (is_of_word says g && not b) at (word_starts says (is_of_word says g) (at + length g) gs) a.0
+    (starts-within P says w (is_of_word says g) (at + length g) gs a.1)
+
+first-unit : (says : Data) (w : ℕ) (gs : List (List ℕ)) → first_offset (map (unit_at says w) (with_offsets 0 gs)) ≡ 0
+unfolding with_offsets
+first-unit says w [] = refl
+first-unit says w (g ∷ gs) = refl
+
+start-lies : (P : ℕ → Type 0) (us : List Unit) → first_offset us ≡ 0 → Within P (starts_of us) → (length us ≡ 0 → P 0) → P 0
+start-lies P [] e a none = none refl
+start-lies P (u ∷ us) e a none = subst P e a.0
+
+module _ (P : ℕ → Type 0) (says : Data) (w : ℕ) (body : List ℕ) (utf8 : IsUtf8 body) (starts : Within P (starts_of (units says w body))) (end : P (length body)) where
+  words : Within P (word_starts says false 0 (graphemes true body))
+  words = starts-within P says w false 0 (graphemes true body) starts
+
+  stops-lie : (way : Logical) → Within P (body_stops says way body)
+  stops-lie Forward = within-append P (word_starts says false 0 (graphemes true body)) (length body ∷ []) words (end, tt)
+  stops-lie Back = (
+    start-lies P (units says w body) (first-unit says w (graphemes true body)) starts (λ none. subst P (none-in says w body utf8 none) end),
+    words,
+  )
+
+-- ---- the stops of a text
+
+module _ (says : Data) (base : Base) (w : ℕ) (h : 1 ≤ w) (P : ℕ → Type 0) where
+  abbrev mine : ℕ → Paragraph → List TextRow
+  mine start p = map (text_row start) (own says base w p)
+
+  abbrev rest : ℕ → List Paragraph → List TextRow
+  rest start ps = from says base w start ps
+
+  own-stops : (start : ℕ) (p : Paragraph) → IsUtf8 p.body → Within P (places (mine start p)) → (way : Logical)
+      → Within P (map (λ o. start + o) (body_stops says way p.body))
+  own-stops start p utf8 a way =
+      let us = units says w p.body in
+      let os = starts_of us in
+      let whole : places (mine start p) ≡ map (λ o. start + o) (os ++ length p.body ∷ []) =
+      places-moved start (own says base w p) ∙ ap (map (λ o. start + o)) (body-places says base w h p.body) in
+      let out : Within (λ o. P (start + o)) (os ++ length p.body ∷ []) =
+      moved-out P start (os ++ length p.body ∷ []) (subst (Within P) whole a) in
+      let last = within-rest (λ o. P (start + o)) os (length p.body ∷ []) out in
+      moved-in P start (body_stops says way p.body)
+      (stops-lie (λ o. P (start + o)) says w p.body utf8 (within-front (λ o. P (start + o)) os (length p.body ∷ []) out) last.0 way)
+
+  from-stops : (start : ℕ) (ps : List Paragraph) → AreUtf8 ps → Within P (places (rest start ps)) → (way : Logical) → Within P (stops_from says way start ps)
+  from-stops start [] u a way = tt
+  from-stops start (p ∷ ps) u a way =
+      let next = start + bytes_of (lengths_of p) in
+      let here = places (mine start p) in
+      let behind = places (rest next ps) in
+      let parts : Within P (here ++ behind) = subst (Within P) (places-from says base w h start p ps) a in
+      within-append P (map (λ o. start + o) (body_stops says way p.body)) (stops_from says way next ps)
+      (own-stops start p u.0.body (within-front P here behind parts) way)
+      (from-stops next ps u.1 (within-rest P here behind parts) way)
+
+  -- if all places of the rows have a property
+  pub ends-lie : (text : List ℕ) → IsUtf8 text → Within P (places (text_rows says base w text)) → P 0 → P (length text) → EndsLie says text P
+  ends-lie text utf8 a begin end =
+      record { begin = begin; end = end; stops = from-stops 0 (paragraphs says text) (text-parts says text utf8).utf8 a }

@@ -1,0 +1,37 @@
+use Rattle.std.proofs.Common.{◌≡◌, ◌+◌, ◌-◌, ◌<◌, ◌≤◌, ◌∙◌, ap, length, subst, sym, true, arith, rules}
+use Rattle.bx_view.specs.Standing.{count, start_at}
+use Rattle.bx_view.proofs.Walked.{previous-number}
+use Rattle.bx_view.proofs.WordsTold.{start-order, start-short}
+use Rattle.bx_view.proofs.layout.Layout.start_above.Goals as goal
+
+pub overflow_sub-place : goal.overflow_sub-place
+overflow_sub-place g c =
+    let s = c.args.source.now in
+    let says = g.D.BidiData.data s.tables.now in
+    let text = s.text.now.edited.text in
+    let on = c.requires.row.1 in
+    let went : c.to_previous.result ≡ true = search rules in
+    let m = c.number-number.result in
+    let more = previous-number s.index.now.paragraphs c.args.at.paragraph c.walk_at-walk.result c.walk_at-walk.ensures c.to_previous.result m
+    c.to_previous.ensures.there went (c.number-number.ensures.number ∙ c.to_previous.ensures.number) in
+    let begins = c.current_span-start.ensures.start ∙ ap (start_at says text) (sym c.number-number.ensures.number) in
+    let order = start-order says text c.args.at.paragraph m c.args.place more on.is.paragraph (subst (λ o. o ≤ c.args.place) on.start_is c.requires.order) in
+    omega (arith, order, begins)
+
+pub overflow_add-result : goal.overflow_add-result
+overflow_add-result g c =
+    let s = c.args.source.now in
+    let says = g.D.BidiData.data s.tables.now in
+    let text = s.text.now.edited.text in
+    let on = c.requires.row.1 in
+    let start = c.current_span-start.result.0 in
+    let went : c.to_previous.result ≡ true = search rules in
+    let m = c.number-number.result in
+    let more = previous-number s.index.now.paragraphs c.args.at.paragraph c.walk_at-walk.result c.walk_at-walk.ensures c.to_previous.result m
+    c.to_previous.ensures.there went (c.number-number.ensures.number ∙ c.to_previous.ensures.number) in
+    let begins = c.current_span-start.ensures.start ∙ ap (start_at says text) (sym c.number-number.ensures.number) in
+    let within : m < count says text = omega (arith, more, on.is.paragraph) in
+    let fits : start + c.start_before-last.result ≤ length text =
+    start-short says text s.utf8 m start begins c.paragraph-paragraph.result.now.body c.paragraph-paragraph.ensures.body_is (c.args.place - start)
+    c.start_before-last.result within c.start_before-last.ensures in
+    omega (arith, fits, s.short)

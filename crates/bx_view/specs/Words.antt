@@ -1,0 +1,73 @@
+-- Words of a text: from its paragraphs, its clusters and the classes of its characters alone, without window and rows.
+use Rattle.std.specs.Prelude.{ℕ, ◌+◌, ◌==◌, nat_lt, Bool, true, false, not, ◌&&◌, ◌||◌, List, [], ◌∷◌, ◌++◌, map, length, reverse, find, unwrap_or, chars}
+use Rattle.bx_ucd.specs.Data.{Data}
+use Rattle.unicode_segmentation.specs.Grapheme.{graphemes}
+use Rattle.bx_ucd.specs.declared.class.Class.{Class}
+use Rattle.bx_ucd.specs.declared.class.Class.TheVariants.{L, R, AL, EN, AN, NSM, BN}
+use Rattle.bx_paras.specs.Paragraphs.{Paragraph, lengths_of, paragraphs}
+use Rattle.bx_paras.specs.Positions.{bytes_of}
+use Rattle.bx_view.specs.declared.moves.Logical.{Logical}
+use Rattle.bx_view.specs.declared.moves.Logical.TheVariants.{Back, Forward}
+
+-- a class of the characters of words
+abbrev pub is_word_class : Class → Bool
+is_word_class L = true
+is_word_class R = true
+is_word_class AL = true
+is_word_class EN = true
+is_word_class AN = true
+is_word_class NSM = true
+is_word_class BN = true
+is_word_class _ = false
+
+-- a direction mark: ALM, LRM or RLM
+abbrev pub is_direction_mark : ℕ → Bool
+is_direction_mark c = (c == 0x61C) || ((c == 0x200E) || (c == 0x200F))
+
+-- words have no direction marks, whatever their class
+abbrev pub is_word_character : Data → ℕ → Bool
+is_word_character says c = is_word_class (says.class c) && not (is_direction_mark c)
+
+abbrev pub begins_with_word : Data → List ℕ → Bool
+begins_with_word says [] = false
+begins_with_word says (c ∷ cs) = is_word_character says c
+
+-- a unit is of a word if its first character is
+abbrev pub is_of_word : Data → List ℕ → Bool
+is_of_word says unit = begins_with_word says (chars unit)
+
+-- an offset in front of others, if a condition holds
+abbrev pub put_if : Bool → ℕ → List ℕ → List ℕ
+put_if true at others = at ∷ others
+put_if false at others = others
+
+-- The offsets at which words begin among units, of which the first begins at the offset `at`: a unit of a word begins one
+-- unless the unit before it is of a word too. `inside` tells this of the unit before the first.
+abbrev pub word_starts : Data → Bool → ℕ → List (List ℕ) → List ℕ
+word_starts says inside at [] = []
+word_starts says inside at (u ∷ us) =
+    put_if (is_of_word says u && not inside) at (word_starts says (is_of_word says u) (at + length u) us)
+
+-- the offsets at which the words of a body begin
+abbrev pub body_words : Data → List ℕ → List ℕ
+body_words says body = word_starts says false 0 (graphemes true body)
+
+-- the stops in a body on a way: the starts of its words with its end, and with its start
+abbrev pub body_stops : Data → Logical → List ℕ → List ℕ
+body_stops says Forward body = body_words says body ++ length body ∷ []
+body_stops says Back body = 0 ∷ body_words says body
+
+-- the stops in paragraphs, of which the first begins at the offset `start`
+abbrev pub stops_from : Data → Logical → ℕ → List Paragraph → List ℕ
+stops_from says way start [] = []
+stops_from says way start (p ∷ ps) = map (λ o. start + o) (body_stops says way p.body) ++ stops_from says way (start + bytes_of (lengths_of p)) ps
+
+-- the stops in a text
+abbrev pub text_stops : Data → Logical → List ℕ → List ℕ
+text_stops says way text = stops_from says way 0 (paragraphs says text)
+
+-- WordForward: the first place after `place` at which a word begins or a body ends. WordBack: the last place before it at
+-- which a word or a body begins. If there is none, the place itself.
+abbrev pub step_word : Data → List ℕ → Logical → ℕ → ℕ
+step_word says text Forward place = unwrap_or (find (nat_lt place) (text_stops says Forward text)) place
+step_word says text Back place = unwrap_or (find (λ p. nat_lt p place) (reverse (text_stops says Back text))) place
