@@ -9,6 +9,8 @@ use Rattle.bx_document.specs.declared.history.HistoryStep.{HistoryStep}
 use Rattle.bx_document.specs.declared.history.HistoryStep.TheVariants as steps
 use Rattle.bx_editor.specs.declared.message.Message.{Message}
 use Rattle.bx_editor.specs.declared.message.Message.TheVariants as messages
+use Rattle.bx_editor.specs.declared.seek.Seek.{Seek}
+use Rattle.bx_editor.specs.declared.seek.Seek.TheVariants as seeks
 use Rattle.bx_ucd.specs.Data.{Data}
 
 pub record Editor : Type 0 where
@@ -20,6 +22,11 @@ pub record Editor : Type 0 where
   pub mark : Option ℕ
   -- what was copied or cut last, the UTF-8 bytes of characters
   pub held : List ℕ
+  -- what is sought, or was sought last: the UTF-8 bytes of at most 64 characters
+  pub query : List ℕ
+  pub seek : Seek
+  -- the place at which the latest search began
+  pub origin : ℕ
   -- there was an edit since the opening or the last save
   pub changed : Bool
   pub message : Option Message
@@ -43,6 +50,9 @@ at_start text height width base = record {
   place = 0;
   mark = None;
   held = [];
+  query = [];
+  seek = seeks.Off;
+  origin = 0;
   changed = false;
   message = None;
   quit_before = false;

@@ -11,6 +11,9 @@ use Rattle.bx_view.specs.Moves.{step_logical, step_visual, vertical, page, row_h
 use Rattle.bx_ucd.specs.Data.{Data}
 use Rattle.bx_editor.specs.Editor.{Editor, rows, text_height, after_insertion, after_removal, after_undo, after_redo, after_save, after_quit}
 use Rattle.bx_editor.specs.Editor.{next_base, with_base, with_size, with_place, after_help, without_message}
+use Rattle.bx_editor.specs.declared.seek.Seek.{Seek}
+use Rattle.bx_editor.specs.declared.seek.Seek.TheVariants.{Off}
+use Rattle.bx_editor.specs.Search.{after_beginning, after_find, after_find_back, after_giving_up, after_letter, after_shortening, without_search}
 use Rattle.bx_editor.specs.Region.{after_copy, after_cut, after_mark, after_put}
 
 -- a key other than Size, once the message is cleared; `saved`: a Save succeeds; `again`: the key before was Quit
@@ -38,8 +41,8 @@ after_pressing d saved again e Mark = after_mark e
 after_pressing d saved again e Copy = after_copy d e
 after_pressing d saved again e Cut = after_cut d e
 after_pressing d saved again e Put = after_put d e
-after_pressing d saved again e Find = e
-after_pressing d saved again e FindBack = e
+after_pressing d saved again e Find = after_beginning e
+after_pressing d saved again e FindBack = after_beginning e
 after_pressing d saved again e WordLeft = with_place e (word_towards d e.content.text (rows d e) visual.Left e.place)
 after_pressing d saved again e WordRight = with_place e (word_towards d e.content.text (rows d e) visual.Right e.place)
 after_pressing d saved again e TextStart = with_place e 0
@@ -47,10 +50,27 @@ after_pressing d saved again e TextEnd = with_place e (length e.content.text)
 after_pressing d saved again e Help = after_help e
 after_pressing d saved again e (Size height width) = e
 
+-- a key other than Size in a search, once the message is cleared: those that have no effect of their own here end the search
+abbrev pub after_seeking : Data → Bool → Bool → Editor → Key → Editor
+after_seeking d saved again e (Insert c) = after_letter d e c
+after_seeking d saved again e Erase = after_shortening d e
+after_seeking d saved again e Delete = after_shortening d e
+after_seeking d saved again e Find = after_find d e
+after_seeking d saved again e FindBack = after_find_back d e
+after_seeking d saved again e Quit = after_giving_up e
+after_seeking d saved again e Copy = after_giving_up e
+after_seeking d saved again e Repaint = e
+after_seeking d saved again e key = after_pressing d saved again (without_search e) key
+
+-- a key other than Size, once the message is cleared, in or out of a search
+abbrev pub after_any : Data → Bool → Bool → Seek → Editor → Key → Editor
+after_any d saved again Off e key = after_pressing d saved again e key
+after_any d saved again _ e key = after_seeking d saved again e key
+
 -- any key; all but Size clear the message first
 abbrev pub after_key : Data → Bool → Editor → Key → Editor
 after_key d saved e (Size height width) = with_size e height width
-after_key d saved e key = after_pressing d saved e.quit_before (without_message e) key
+after_key d saved e key = after_any d saved e.quit_before e.seek (without_message e) key
 
 -- keys in sequence; all Saves succeed, or all fail
 abbrev pub after_keys : Data → Bool → Editor → List Key → Editor

@@ -1,5 +1,6 @@
 pub mod Editor
 pub mod Region
+pub mod Search
 pub mod Keys
 pub mod Opening
 pub mod Picture

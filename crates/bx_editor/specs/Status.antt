@@ -6,7 +6,7 @@ pub use Rattle.bx_view.specs.Numbers.{paragraph_number, unit_number}
 use Rattle.bx_grid.specs.Columns.{Col, Glyph, blank}
 use Rattle.bx_editor.specs.declared.message.Message.{Message}
 use Rattle.bx_editor.specs.declared.message.Message.TheVariants.{Saved, SaveFailed, TextFull, NothingToUndo, NothingToRedo, Unsaved, Direction, MarkSet, MarkOff}
-use Rattle.bx_editor.specs.declared.message.Message.TheVariants.{Copied, LineCopied, NothingToCopy, NothingToPut, Help}
+use Rattle.bx_editor.specs.declared.message.Message.TheVariants.{Copied, LineCopied, NothingToCopy, NothingToPut, FromStart, FromEnd, NotFound, Help}
 use Rattle.bx_ucd.specs.Data.{Data}
 use Rattle.bx_editor.specs.Editor.{Editor}
 
@@ -26,6 +26,9 @@ message_text Copied = codes "copied"
 message_text LineCopied = codes "line copied"
 message_text NothingToCopy = codes "nothing to copy"
 message_text NothingToPut = codes "nothing to put"
+message_text FromStart = codes "from the start"
+message_text FromEnd = codes "from the end"
+message_text NotFound = codes "not found"
 message_text Help = codes "^S save ^Q quit ^Z undo ^W find ^@ mark ^X cut ^C copy ^V put F2 turn"
 
 abbrev pub message_part : Option Message → List ℕ

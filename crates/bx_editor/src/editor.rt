@@ -8,6 +8,7 @@ ghost use Rattle.bx_grid.specs.Picture.{is_size};
 ghost use Rattle.bx_editor.specs.Editor.{with_size};
 
 use crate::message::Message;
+use crate::seek::Seek;
 use bx_document::Document;
 use bx_text::Slices;
 use bx_ucd::BidiData;
@@ -21,6 +22,9 @@ pub struct Editor<D: BidiData + Drop> {
     pub(crate) place: usize,
     pub(crate) mark: Option<usize>,
     pub(crate) held: String,
+    pub(crate) query: String,
+    pub(crate) seek: Seek,
+    pub(crate) origin: usize,
     pub(crate) changed: bool,
     pub(crate) message: Option<Message>,
     pub(crate) quit_before: bool,
@@ -43,6 +47,9 @@ impl<D: BidiData + Drop> Model for Editor<D> {
         place = e.place;
         mark = e.mark;
         held = string_bytes e.held;
+        query = string_bytes e.query;
+        seek = e.seek;
+        origin = e.origin;
         changed = e.changed;
         message = e.message;
         quit_before = e.quit_before;

@@ -11,9 +11,11 @@ mod moving;
 mod opening;
 mod picture;
 mod region;
+pub mod seek;
 mod status;
 
 pub use editor::Editor;
 pub use error::OpenError;
 pub use laws::{copy_puts_twice, put_restores_cut, redo_mirrors_undo, top_stays, undo_gives_back};
 pub use message::Message;
+pub use seek::Seek;

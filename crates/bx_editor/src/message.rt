@@ -27,6 +27,11 @@ pub enum Message {
     LineCopied,
     NothingToCopy,
     NothingToPut,
+    /// The query was found only before the place.
+    FromStart,
+    /// The query was found only at the place or behind it.
+    FromEnd,
+    NotFound,
     /// The control keys.
     Help,
 }
@@ -52,6 +57,9 @@ impl Message {
             Message::LineCopied => "line copied",
             Message::NothingToCopy => "nothing to copy",
             Message::NothingToPut => "nothing to put",
+            Message::FromStart => "from the start",
+            Message::FromEnd => "from the end",
+            Message::NotFound => "not found",
             Message::Help => {
                 "^S save ^Q quit ^Z undo ^W find ^@ mark ^X cut ^C copy ^V put F2 turn"
             }

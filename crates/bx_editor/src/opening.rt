@@ -7,6 +7,7 @@ ghost use Rattle.bx_editor.specs.Opening.{Causes, IsLongestUtf8};
 
 use crate::editor::Editor;
 use crate::error::OpenError;
+use crate::seek::Seek;
 use bx_document::Document;
 use bx_terms::{Base, LARGEST_TEXT, is_side};
 use bx_ucd::BidiData;
@@ -61,6 +62,9 @@ impl<D: BidiData + Drop> Editor<D> {
                 place: 0,
                 mark: None,
                 held: String::new(alloc),
+                query: String::new(alloc),
+                seek: Seek::Off,
+                origin: 0,
                 changed: false,
                 message: None,
                 quit_before: false,
