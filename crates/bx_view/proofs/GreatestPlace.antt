@@ -1,6 +1,6 @@
 -- The place of an offset is the greatest place not after it.
-use Rattle.std.proofs.Common.{◌≡◌, ℕ, zero, suc, ◌+◌, ◌<◌, ◌≤◌, nat_le, cond, Bool, true, false, List, [], ◌∷◌, length, find, reverse}
-use Rattle.std.proofs.Common.{Option, Some, None, unwrap_or, IsUtf8, refl, sym, ap, subst, ◌∙◌, arith, ⊎_elim}
+use Rattle.std.proofs.Common.{◌≡◌, ℕ, ◌+◌, ◌<◌, ◌≤◌, nat_le, cond, Bool, true, false, List, [], ◌∷◌, length, find, reverse}
+use Rattle.std.proofs.Common.{Option, Some, None, unwrap_or, IsUtf8, sym, ap, subst, ◌∙◌, arith, ⊎_elim}
 use Rattle.std.specs.Prelude.{All, Contains, MatchOption}
 use Rattle.std.specs.Option.{option_or}
 use Rattle.std.proofs.lemmas.Bool.{cases_lt}
@@ -12,8 +12,7 @@ use Rattle.bx_ucd.specs.Data.{Data}
 use Rattle.bx_terms.specs.declared.base.Base.{Base}
 use Rattle.bx_view.specs.Laws.{IsGreatestPlace}
 use Rattle.bx_view.specs.Moves.{place_at}
-use Rattle.bx_view.specs.Places.{IsTextPlace}
-use Rattle.bx_view.specs.TextRows.{TextRow, IsPlace, places, text_rows}
+use Rattle.bx_view.specs.TextRows.{places, text_rows}
 use Rattle.bx_view.proofs.KeptPlaces.{text-places-kept}
 use Rattle.bx_view.proofs.PlacesRise.{places-rise}
 use Rattle.bx_view.proofs.Rising.{Rises}
