@@ -20,7 +20,7 @@ Edits a text of any scripts, each paragraph in its own direction, from line N.
   Page Up, Page Down    a window up, down (Backspace, Delete erase before, at)
   Ctrl-S Ctrl-Q         save; quit, twice where not all is saved
   Ctrl-Z Ctrl-Y Ctrl-L  undo, redo; paint the screen anew
-  Ctrl-@ or Ctrl-Space  mark where the region begins; it ends at the cursor
+  Ctrl-Space or Ctrl-@  mark where the region begins; it ends at the cursor
   Ctrl-X Ctrl-C Ctrl-V  cut, copy the region, or else the line; put it in
   Ctrl-W or F3, Ctrl-R  find forward, backward; Enter ends it, Ctrl-Q goes back
   F1, F2 or Esc [ 9 ~   show keys; direction: auto, ltr, rtl and auto again

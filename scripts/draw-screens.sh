@@ -34,5 +34,5 @@ description='Left, bidi_edit in a window of 9 rows and 34 columns. The Hebrew se
 'region is seen in two pieces.'
 python3 scripts/draw_screens.py "$title" "$description" \
     'bidi_edit' "$folder/note" "$(emacs --version | sed -n '1s/.*Emacs \([0-9.]*\).*/emacs \1/p')" "$folder/emacs" \
-    'bidi_edit --direction ltr' "$folder/catalogue" 'Ctrl-W: find' "$folder/search" 'Ctrl-@: a region' "$folder/region" >"$folder/svg"
+    'bidi_edit --direction ltr' "$folder/catalogue" 'Ctrl-W: find' "$folder/search" 'Ctrl-Space: a region' "$folder/region" >"$folder/svg"
 mv "$folder/svg" "$out"

@@ -68,6 +68,12 @@ sends_shift() { # KIND
     return 1
 }
 
+# Whether it sends keys of their own for arrows, Home and End with Control.
+sends_control() { # KIND
+    case $1 in xterm | urxvt | terminology) return 0 ;; esac
+    return 1
+}
+
 # Whether it gives an old title back.
 keeps_title() { # KIND
     case $1 in xterm | vte | kitty | alacritty | mlterm | terminology) return 0 ;; esac
