@@ -14,16 +14,16 @@ Edits a text of any scripts, each paragraph in its own direction, from line N.
 --force opens what cannot be saved, -n keeps no session, --version tells more.
 --recover has back what was typed and not saved, or lists it; --to stores it.
 
-  Left Right Up Down    CSI D C A B   move as the screen shows
-  Ctrl-B Ctrl-F         02 06         move back, forward as the text is stored
-  Home End              CSI H F       to the row's start, end (also CSI 1~ 4~)
-  Page Up, Page Down    CSI 5~ 6~     a window up, down
-  Backspace, Delete     7F, CSI 3~    erase before, delete at the cursor
-  Tab, Enter            09, 0D        a tab, a new line (also 0A)
-  Ctrl-S Ctrl-Q         13 11         save; quit, twice where not all is saved
-  Ctrl-Z Ctrl-Y Ctrl-L  1A 19 0C      undo, redo; paint the screen anew
-  F2, or Esc [ 9 ~      CSI 9~        direction: auto, ltr, rtl and auto again
-  Paste                 CSI 200~      goes in as text, whatever it holds
+  Left Right Up Down    move as the screen shows; Left, Right with Ctrl by words
+  Ctrl-B Ctrl-F         move back, forward as the text is stored
+  Home End              to the row's start, end; with Ctrl to the text's
+  Page Up, Page Down    a window up, down (Backspace, Delete erase before, at)
+  Ctrl-S Ctrl-Q         save; quit, twice where not all is saved
+  Ctrl-Z Ctrl-Y Ctrl-L  undo, redo; paint the screen anew
+  Ctrl-Space or Ctrl-@  mark where the region begins; it ends at the cursor
+  Ctrl-X Ctrl-C Ctrl-V  cut, copy the region, or else the line; put it in
+  Ctrl-W or F3, Ctrl-R  find forward, backward; Enter ends it, Ctrl-Q goes back
+  F1, F2 or Esc [ 9 ~   show keys; direction: auto, ltr, rtl and auto again
 
 The last row: * where changes are not saved, else -; paragraph:place; a message.
 Marks, in negative image, stand for what has no look of its own:

@@ -38,7 +38,7 @@ cd "$folder/files" || exit 1
 
 # shellcheck source=scripts/report.sh
 . "$top/scripts/report.sh"
-for part in person recorder refusals printing ends modes editor input callers; do
+for part in person recorder refusals printing ends modes editor input keys callers; do
     # shellcheck source=/dev/null
     . "$top/scripts/launcher/$part.sh"
 done
@@ -56,6 +56,7 @@ for shell in dash bash; do
     check_terminal_modes
     check_editor
     check_input
+    check_keys
     check_callers
 done
 echo "$passed passed, $failed failed, $skipped skipped"

@@ -1,10 +1,10 @@
 #!/bin/sh
 # Kills sessions in tmux at a random key, by KILL, HUP and TERM to the launcher, to the program or to both, and recovers each:
-# all bytes that the program had read must be there. A plain model in python gives the text after each key; it uses only keys
-# that do not depend on rows. The script also checks the launcher's messages and questions, a full disk under the journal, a
-# replay of 100,000 keys, and the journal's cost for a key. It is not part of `rt ci`. Its words are the number of sessions
-# (200) and the seed of the random keys (1). The last line has the totals. Exit status 1: a check failed; 77: the program is not
-# built, or there is no tmux or no python3.
+# all bytes that the program had read must be there. Most sessions end in a search, or just behind one, and what is typed after
+# the recovery goes into the text. recovery_sessions.py makes the keys, and the text after each by a plain model. The script
+# also checks the launcher's messages and questions, a full disk under the journal, a replay of 100,000 keys, and the journal's
+# cost for a key. It is not part of `rt ci`. Its words are the number of sessions (200) and the seed of the random keys (1). The
+# last line has the totals. Exit status 1: a check failed; 77: the program is not built, or there is no tmux or no python3.
 set -u
 
 sessions=${1:-200}
@@ -43,111 +43,7 @@ fails() { # NAME DETAIL
     echo "FAILS $1: $2" | tee -a "$folder/results"
 }
 
-# ---- the sessions and the texts that their keys make
-
-# Makes a folder for each session. file is the text; keys1 are keys after which the last row is row; keys2 are more keys; ends
-# has, for each count of bytes that ends a key, the text in hexadecimal; how has the signal, its target, and the seconds after
-# keys2.
-make_sessions() {
-    python3 - "$folder/sessions" "$sessions" "$seed" <<'PYTHON'
-import os, random, sys
-
-folder, count, seed = sys.argv[1], int(sys.argv[2]), int(sys.argv[3])
-random.seed(seed)
-# each letter is a unit of its own in any context
-LETTERS = "abcxyz ,.()0123456789" + "\u05d0\u05d1\u05d2\u05e9\u05dc" + "\u0627\u0628\u062a\u0645"
-BYTES = {"erase": b"\x7f", "delete": b"\x1b[3~", "back": b"\x02", "forward": b"\x06", "undo": b"\x1a", "redo": b"\x19",
-         "save": b"\x13", "repaint": b"\x0c", "direction": b"\x1b[9~"}
-NAMES = [*BYTES, "enter", "tab", "size", "quit"]
-# the program ignores HUP under the launcher
-WAYS = [(s, t) for t in ("launcher", "program", "both") for s in ("KILL", "HUP", "TERM") if (s, t) != ("HUP", "program")]
-
-
-class Session:
-    def __init__(self, text):
-        self.text, self.place, self.changed = text, 0, False
-        self.past, self.future = [], []
-        self.keys, self.ends = b"", {0: text}
-
-    def edit(self, text, place):
-        self.past.append((self.text, self.place, text, place))
-        self.text, self.place, self.changed, self.future = text, place, True, []
-
-    def insert(self, letter, byte=None):
-        self.edit(self.text[:self.place] + letter + self.text[self.place:], self.place + 1)
-        self.typed(byte or letter.encode())
-
-    def typed(self, keys):
-        self.keys += keys
-        self.ends[len(self.keys)] = self.text
-
-    def apply(self, name):
-        text, at = self.text, self.place
-        if name == "erase" and at > 0:
-            self.edit(text[:at - 1] + text[at:], at - 1)
-        elif name == "delete" and at < len(text):
-            self.edit(text[:at] + text[at + 1:], at)
-        elif name == "back":
-            self.place = max(0, at - 1)
-        elif name == "forward":
-            self.place = min(len(text), at + 1)
-        elif name == "undo" and self.past:
-            step = self.past.pop()
-            self.future.append(step)
-            self.text, self.place, self.changed = step[0], step[1], True
-        elif name == "redo" and self.future:
-            step = self.future.pop()
-            self.past.append(step)
-            self.text, self.place, self.changed = step[2], step[3], True
-        elif name == "save":
-            self.changed = False
-
-    def press(self):
-        name = random.choice(NAMES) if random.random() < 0.4 else "insert"
-        if name == "insert":
-            self.insert(random.choice(LETTERS))
-        elif name == "enter":
-            self.insert("\n", b"\r")
-        elif name == "tab":
-            self.insert("\t")
-        elif name == "size":
-            self.typed(b"\x1b[8;%d;%dt" % (random.randint(2, 30), random.randint(5, 90)))
-        elif name == "quit":
-            # a letter before it, so that Quit asks, and one after it, so that no later Quit ends the session
-            self.insert(random.choice(LETTERS))
-            self.typed(b"\x11")
-            self.insert(random.choice(LETTERS))
-        else:
-            self.apply(name)
-            self.typed(BYTES[name])
-
-    def row(self):
-        lines = self.text[:self.place].split("\n")
-        return "%s %d:%d" % ("*" if self.changed else "-", len(lines), len(lines[-1]) + 1)
-
-
-for number in range(count):
-    session = Session("".join(random.choice(LETTERS + "\n\n") for _ in range(random.randint(0, 120))))
-    files = {"file": session.text.encode()}
-    for _ in range(random.randint(1, 60)):
-        session.press()
-    # the size of the tmux window, and a letter, which removes a message
-    session.typed(b"\x1b[8;24;80t")
-    session.insert("q")
-    cut = len(session.keys)
-    files["row"] = session.row().encode()
-    for _ in range(random.choice([0, random.randint(1, 60)])):
-        session.press()
-    files["keys1"], files["keys2"] = session.keys[:cut], session.keys[cut:]
-    files["ends"] = "".join("%d %s\n" % (n, t.encode().hex()) for n, t in session.ends.items()).encode()
-    files["how"] = ("%s %s %.3f\n" % (*WAYS[number % len(WAYS)], random.random() * 0.2)).encode()
-    path = os.path.join(folder, "%04d" % number)
-    os.makedirs(path)
-    for name, data in files.items():
-        with open(os.path.join(path, name), "wb") as file:
-            file.write(data)
-PYTHON
-}
+# ---- the texts of the sessions
 
 # Reports the fault of a recovered text. The journal must be a beginning of the keys that includes keys1, and the text must be
 # the one after its last key. Without a journal all was saved, and the text is one after some key past keys1.
@@ -256,16 +152,17 @@ recover_session() { # NUMBER
     fi
 }
 
-# Recovers in the terminal, continues typing there, and saves.
+# Recovers in the terminal, types more keys there, and saves.
 go_on() { # NUMBER
     open_editor "s$1" "$work/state" "$work/text"
     wait_for 150 asks "s$1" || { fails "$1 goes on" 'nothing was asked'; return; }
     terminal send-keys -t "s$1" recover Enter
-    wait_for 150 has_row "s$1" "$(cat "$given/row")" || { fails "$1 goes on" "the last row is not $(cat "$given/row")"; return; }
+    wait_for 150 has_row "s$1" "$(cat "$given/back")" || { fails "$1 goes on" "the last row is not $(cat "$given/back")"; return; }
     launcher=$(terminal display-message -p -t "s$1" '#{pane_pid}')
+    type_keys "s$1" "$given/more"
     terminal send-keys -t "s$1" C-s C-q
     wait_for 150 has_ended "$launcher" || { fails "$1 goes on" 'no end'; return; }
-    cmp -s "$work/text" "$work/recovered" || { fails "$1 goes on" 'another text was saved'; return; }
+    cmp -s "$work/text" "$given/made" || { fails "$1 goes on" "'$(cat "$work/text")' was saved, and not '$(cat "$given/made")'"; return; }
     [ -z "$(ls -A "$work/state/bidi_edit")" ] || { fails "$1 goes on" 'the session is kept, and all is saved'; return; }
     passes "$1 goes on"
 }
@@ -284,7 +181,7 @@ run_share() { # FIRST STEP
 
 # Runs four sessions at once.
 check_sessions() {
-    make_sessions
+    python3 "$top/scripts/recovery_sessions.py" "$folder/sessions" "$sessions" "$seed"
     mkdir "$folder/work"
     for share in 0 1 2 3; do
         run_share "$share" 4 &
@@ -368,12 +265,12 @@ scene_recover_asks() {
 
 # A surviving launcher sees that all is saved.
 scene_all_is_saved() {
-    break_off '- 1:2  saved' 'the editor was ended by the signal' x C-s && say bidi-edit text && wait_for 150 has_row shell '- 1:1' &&
+    break_off '- 1:2 saved' 'the editor was ended by the signal' x C-s && say bidi-edit text && wait_for 150 has_row shell '- 1:1' &&
         end_by_keys C-q && say 'ls state/bidi_edit | wc -l' && expect "$scene" 0
 }
 
 scene_all_was_saved() {
-    break_off '- 1:2  saved' '' x C-s && say bidi-edit text && expect "$scene" 'discard it' && say recover &&
+    break_off '- 1:2 saved' '' x C-s && say bidi-edit text && expect "$scene" 'discard it' && say recover &&
         wait_for 150 has_row shell '- 1:1' && end_by_keys C-q && expect "$scene" 'text holds all that was typed in its last session'
 }
 

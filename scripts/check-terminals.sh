@@ -1,9 +1,10 @@
 #!/bin/sh
-# Runs the editor in terminals under Xvfb, types by xdotool and compares pictures: in xterm, urxvt, st, alacritty, kitty,
-# qterminal, VTE (xfce4-terminal), konsole and mlterm, and in tmux within VTE and konsole. The editor's picture must equal the
-# picture of `cat` on the same rows, and the shell's rows must be unchanged afterwards. Keys, titles and notes are checked too. It is not part of `rt ci`. A missing
-# terminal is skipped. `--pictures FOLDER` keeps the pictures; names after it select terminals. The last line has the totals. Exit
-# status 1: a check failed; 77: Xvfb, xdotool, ImageMagick or the built programs are missing.
+# Runs the editor in terminals under Xvfb, types by xdotool and compares pictures: in xterm, urxvt, st, alacritty, terminology,
+# kitty, qterminal, VTE (xfce4-terminal), konsole and mlterm, and in tmux within VTE and konsole. The editor's picture must equal
+# the picture of `cat` on the same rows, and the shell's rows must be unchanged afterwards. Keys, titles and notes are checked
+# too. It is not part of `rt ci`. A missing terminal is skipped. `--pictures FOLDER` keeps the pictures; names after it select
+# terminals. The last line has the totals. Exit status 1: a check failed; 77: Xvfb, xdotool, ImageMagick or the built programs are
+# missing.
 set -u
 
 export LC_ALL=C.UTF-8
@@ -32,7 +33,7 @@ if [ "${1:-}" = --pictures ]; then
     mkdir -p "$2" && pictures=$(CDPATH='' cd -- "$2" && pwd) || exit 1
     shift 2
 fi
-[ $# -gt 0 ] || set -- variables xterm urxvt st alacritty kitty kitty_as_it_is qterminal vte vte_tmux konsole konsole_tmux mlterm
+[ $# -gt 0 ] || set -- variables xterm urxvt st alacritty terminology kitty kitty_as_it_is qterminal vte vte_tmux konsole konsole_tmux mlterm
 
 passed=0 failed=0 skipped=0
 room=$(mktemp -d) || exit 1

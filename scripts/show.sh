@@ -1,19 +1,27 @@
 #!/bin/sh
-# show.sh [--cells] FILE ROWS COLS [EDITOR WORD..]: prints the screen of an editor on FILE in a window of that size, from a real
-# run in tmux, in a frame. The default EDITOR is ./bidi-edit; another example is `show.sh note.txt 8 40 emacs -nw -Q`. It
-# prints a letter in negative image, such as a bidi control's, in a circle. Columns follow the screen, so the viewer must not
-# reorder the text. With --cells it prints a line with the window's rows and columns and the cursor's row and
-# column, from 0, and then the screen as tmux captures it, with the sequences for negative image, as draw_screens.py reads it.
+# show.sh [--cells] [--keys KEYS] FILE ROWS COLS [EDITOR WORD..]: prints the screen of an editor on FILE in a window of that
+# size, from a real run in tmux, in a frame. The default EDITOR is ./bidi-edit; another example is `show.sh note.txt 8 40 emacs
+# -nw -Q`. It prints a letter in negative image, such as a bidi control's, in a circle. Columns follow the screen, so the viewer
+# must not reorder the text. With --cells it prints a line with the window's rows and columns and the cursor's row and column,
+# from 0, and then the screen as tmux captures it, with the sequences for negative image, as draw_screens.py reads it. With --keys
+# these are typed first, as tmux names them: `--keys 'C-w a b'`.
 set -eu
 
-is_plain=''
-if [ "${1:-}" = --cells ]; then
-    is_plain=1
+is_plain='' keys=''
+while :; do
+    case ${1:-} in
+    --cells) is_plain=1 ;;
+    --keys)
+        keys=${2:-}
+        shift
+        ;;
+    *) break ;;
+    esac
     shift
-fi
+done
 
 if [ $# -lt 3 ] || ! [ -r "$1" ]; then
-    echo 'usage: show.sh [--cells] FILE ROWS COLS [EDITOR WORD..]' >&2
+    echo 'usage: show.sh [--cells] [--keys KEYS] FILE ROWS COLS [EDITOR WORD..]' >&2
     exit 2
 fi
 command -v tmux >/dev/null || { echo 'show.sh: there is no tmux' >&2; exit 1; }
@@ -34,7 +42,18 @@ esac
 export LC_ALL=C.UTF-8
 folder=$(mktemp -d)
 socket="show$$"
-trap 'tmux -L "$socket" kill-server 2>/dev/null || :; rm -rf "$folder"' EXIT
+process=''
+# Waits for the editor's end, since the launcher writes its session until then.
+clean_up() {
+    tmux -L "$socket" kill-server 2>/dev/null || :
+    tries=50
+    while [ -n "$process" ] && [ "$tries" -gt 0 ] && kill -s 0 "$process" 2>/dev/null; do
+        tries=$((tries - 1))
+        sleep 0.1
+    done
+    rm -rf "$folder"
+}
+trap clean_up EXIT
 trap 'exit 1' HUP INT TERM
 # the editor gets a copy of the file with the same name
 name=$(basename -- "$file")
@@ -48,17 +67,28 @@ cp -- "$file" "$folder/$name"
 
 tmux -u -L "$socket" -f /dev/null new-session -d -s seen -x "$cols" -y "$rows" "sh '$folder/.run'" \; set -g status off
 tmux -L "$socket" resize-window -t seen -x "$cols" -y "$rows" 2>/dev/null || :
-# captures the screen once it is unchanged for half a second
-echo >"$folder/.before"
-: >"$folder/.now"
-while sleep 0.5 && ! cmp -s "$folder/.before" "$folder/.now"; do
-    mv "$folder/.now" "$folder/.before"
-    if ! tmux -u -L "$socket" capture-pane -p -e -t seen >"$folder/.now" 2>/dev/null; then
-        echo 'show.sh: the editor ended' >&2
-        cat "$folder/.errors" >&2
-        exit 1
-    fi
-done
+process=$(tmux -L "$socket" display-message -p -t seen '#{pane_pid}')
+
+# Captures the screen once it is unchanged for half a second.
+capture() {
+    echo >"$folder/.before"
+    : >"$folder/.now"
+    while sleep 0.5 && ! cmp -s "$folder/.before" "$folder/.now"; do
+        mv "$folder/.now" "$folder/.before"
+        if ! tmux -u -L "$socket" capture-pane -p -e -t seen >"$folder/.now" 2>/dev/null; then
+            echo 'show.sh: the editor ended' >&2
+            cat "$folder/.errors" >&2
+            exit 1
+        fi
+    done
+}
+
+capture
+if [ -n "$keys" ]; then
+    # shellcheck disable=SC2086 # a word for each key
+    tmux -u -L "$socket" send-keys -t seen $keys
+    capture
+fi
 
 if [ -n "$is_plain" ]; then
     tmux -L "$socket" display-message -p -t seen "$rows $cols #{cursor_y} #{cursor_x}"

@@ -31,7 +31,16 @@ xterm, F2:\033OQ:\033[9~
 rxvt, F2:\033[12~:\033[9~
 the Linux console, F2:\033[[B:\033[9~
 the keypad in application mode:\033Op\033Oq\033Or\033Os\033Ot\033Ou\033Ov\033Ow\033Ox\033Oy:0123456789
-arrows with Control, which the editor does not know:\033[1;5C\033[1;5D:\033[1;5C\033[1;5D
+xterm, F1 and F3:\033OP\033OR:\033[80~\033[70~
+rxvt, F1 and F3:\033[11~\033[13~:\033[80~\033[70~
+the Linux console, F1 and F3:\033[[A\033[[C:\033[80~\033[70~
+xterm, Left and Right with Control:\033[1;5D\033[1;5C:\033[76~\033[77~
+rxvt, Left and Right with Control:\033Od\033Oc:\033[76~\033[77~
+an older xterm, Left and Right with Control:\033[5D\033[5C:\033[76~\033[77~
+xterm, Home and End with Control:\033[1;5H\033[1;5F:\033[78~\033[79~
+rxvt, Home and End with Control:\033[7^\033[8^:\033[78~\033[79~
+Control and @, C, R, V, W, X:\000\003\022\026\027\030:\033[72~\033[73~\033[71~\033[75~\033[70~\033[74~
+Up and Down with Control, which the editor does not know:\033[1;5A\033[1;5B:\033[1;5A\033[1;5B
 Escape, and then a letter:\033a:\033a
 Escape, and then a digit of the keypad:\033\033Oq:\033\0301
 TEXT

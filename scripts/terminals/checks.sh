@@ -35,6 +35,7 @@ check_terminal() { # KIND
     *)
         check_rows "$1"
         check_keys "$1"
+        ! sends_control "$1" || check_control_keys "$1"
         check_title "$1"
         ;;
     esac
@@ -110,6 +111,17 @@ check_keys() { # KIND
     sleep 0.5
     leave_editor "$1, keys"
     same "$1, keys" "$(cat "$room/files/typed")" "$wanted"
+}
+
+# Moves by words, a mark, a cut, a put, a search by F3, and the text's ends, each followed by what shows it.
+check_control_keys() { # KIND
+    printf 'ab cd\n' >"$room/files/typed"
+    open_editor typed "$1-control"
+    press ctrl+Right ctrl+space ctrl+Right ctrl+x ctrl+Left ctrl+v
+    press F3 b Return X ctrl+End Y ctrl+Home Z ctrl+s
+    sleep 0.5
+    leave_editor "$1, keys with Control"
+    same "$1, keys with Control" "$(paste -s -d '|' "$room/files/typed")" 'ZcdaXb |Y'
 }
 
 check_title() { # KIND

@@ -21,6 +21,8 @@ start_konsole() {
 start_alacritty() {
     exec alacritty -o font.normal.family=FreeMono -o font.size=12 -o window.dimensions.columns=60 -o window.dimensions.lines=10 -e sh "$room/shell"
 }
+# without a window manager it draws only in a window that none may touch
+start_terminology() { exec terminology -O --no-wizard=true -c=false -f=FreeMono/12 -g=60x10+0+0 -e sh "$room/shell"; }
 # it has no option for its size
 start_qterminal() { exec qterminal -e "sh $room/shell"; }
 start_kitty() {
@@ -66,8 +68,14 @@ sends_shift() { # KIND
     return 1
 }
 
+# Whether it sends keys of their own for arrows, Home and End with Control.
+sends_control() { # KIND
+    case $1 in xterm | urxvt | terminology) return 0 ;; esac
+    return 1
+}
+
 # Whether it gives an old title back.
 keeps_title() { # KIND
-    case $1 in xterm | vte | kitty | alacritty | mlterm) return 0 ;; esac
+    case $1 in xterm | vte | kitty | alacritty | mlterm | terminology) return 0 ;; esac
     return 1
 }

@@ -1,0 +1,249 @@
+"""Makes sessions for check-recovery.sh by a plain model of the editor: recovery_sessions.py FOLDER COUNT SEED.
+
+The keys are random, and none of them depends on rows. Each session is a folder of FOLDER: `file` is the text; `keys1` are keys
+after which the last row is `row`; `keys2` are more keys; `ends` has, for each count of bytes that ends a key, the text in
+hexadecimal; `how` has the signal, its target, and the seconds after `keys2`. When `keys1` are recovered, the last row is `back`,
+and the keys `more` make the text `made`, which shows place, mark, held text and undo history.
+"""
+
+import copy
+import os
+import random
+import re
+import sys
+
+# each letter is a unit of its own in any context
+LETTERS = "abcxyz ,.()0123456789" + "\u05d0\u05d1\u05d2\u05e9\u05dc" + "\u0627\u0628\u062a\u0645"
+BYTES = {"erase": b"\x7f", "delete": b"\x1b[3~", "back": b"\x02", "forward": b"\x06", "undo": b"\x1a", "redo": b"\x19",
+         "save": b"\x13", "repaint": b"\x0c", "direction": b"\x1b[9~", "find": b"\x1b[70~", "find back": b"\x1b[71~",
+         "mark": b"\x1b[72~", "copy": b"\x1b[73~", "cut": b"\x1b[74~", "put": b"\x1b[75~", "text start": b"\x1b[78~",
+         "text end": b"\x1b[79~", "help": b"\x1b[80~"}
+NAMES = [*BYTES, "enter", "tab", "size", "quit"]
+# how keys1 end
+ENDS = ["no search", "in a search", "a search given up", "a search that a save ended"]
+# the program ignores HUP under the launcher
+WAYS = [(s, t) for t in ("launcher", "program", "both") for s in ("KILL", "HUP", "TERM") if (s, t) != ("HUP", "program")]
+
+
+class Session:
+    """The editor's state, with the keys so far and the text after each."""
+
+    def __init__(self, text):
+        self.text, self.place, self.changed = text, 0, False
+        self.past, self.future = [], []
+        self.mark, self.held = None, ""
+        # a search is None, begun or typed
+        self.search, self.query, self.origin = None, "", 0
+        self.keys, self.ends = b"", {0: text}
+
+    def edit(self, text, place):
+        self.past.append((self.text, self.place, text, place))
+        self.text, self.place, self.changed, self.future, self.mark = text, place, True, [], None
+
+    def insert(self, letter, byte=None):
+        if self.search is None:
+            self.edit(self.text[:self.place] + letter + self.text[self.place:], self.place + 1)
+        elif letter == "\n":
+            self.search = None
+        elif letter != "\t":
+            self.look_for(self.kept_query() + letter)
+        self.typed(byte or letter.encode())
+
+    def typed(self, keys):
+        self.keys += keys
+        self.ends[len(self.keys)] = self.text
+
+    def kept_query(self):
+        """What a letter is added to: a search that is only begun has the query of the last one."""
+        return "" if self.search == "begun" else self.query
+
+    def look_for(self, query):
+        self.query, self.search = query[:64], "typed"
+        self.look_from(self.place)
+
+    def look_from(self, place):
+        """Goes to the first place from `place` on where the query stands, else to the first of all."""
+        if self.query and self.query in self.text:
+            found = self.text.find(self.query, place)
+            self.place = found if found >= 0 else self.text.find(self.query)
+
+    def look_back(self):
+        if self.query and self.query in self.text:
+            found = self.text.rfind(self.query, 0, self.place - 1 + len(self.query))
+            self.place = found if found >= 0 else self.text.rfind(self.query)
+
+    def give_up(self):
+        self.search, self.place = None, self.origin
+
+    def takes(self, name):
+        """Whether a search takes a key. Any other key but a repaint ends it first."""
+        if name in ("erase", "delete"):
+            self.place = self.origin
+            self.look_for(self.kept_query()[:-1])
+        elif name == "find":
+            self.search = "typed"
+            self.look_from(self.place + 1 if self.place < len(self.text) else 0)
+        elif name == "find back":
+            self.search = "typed"
+            self.look_back()
+        elif name == "copy":
+            self.give_up()
+        elif name != "repaint":
+            self.search = None
+            return False
+        return True
+
+    def taken(self):
+        """What Copy and Cut take: the region, else the line."""
+        if self.mark is not None and self.mark != self.place:
+            return sorted((self.mark, self.place))
+        return self.text.rfind("\n", 0, self.place) + 1, self.text.find("\n", self.place) + 1 or len(self.text)
+
+    def apply(self, name):
+        if self.search and self.takes(name):
+            return
+        text, at = self.text, self.place
+        if name == "erase" and at > 0:
+            self.edit(text[:at - 1] + text[at:], at - 1)
+        elif name == "delete" and at < len(text):
+            self.edit(text[:at] + text[at + 1:], at)
+        elif name == "back":
+            self.place = max(0, at - 1)
+        elif name == "forward":
+            self.place = min(len(text), at + 1)
+        elif name == "undo" and self.past:
+            step = self.past.pop()
+            self.future.append(step)
+            self.text, self.place, self.changed, self.mark = step[0], step[1], True, None
+        elif name == "redo" and self.future:
+            step = self.future.pop()
+            self.past.append(step)
+            self.text, self.place, self.changed, self.mark = step[2], step[3], True, None
+        elif name == "save":
+            self.changed = False
+        elif name in ("find", "find back"):
+            self.search, self.origin = "begun", at
+        elif name == "mark":
+            self.mark = None if self.mark == at else at
+        elif name in ("copy", "cut"):
+            start, end = self.taken()
+            self.held, self.mark = text[start:end] or self.held, None
+            if name == "cut" and start < end:
+                self.edit(text[:start] + text[end:], start)
+        elif name == "put" and self.held:
+            self.edit(text[:at] + self.held + text[at:], at + len(self.held))
+        elif name == "text start":
+            self.place = 0
+        elif name == "text end":
+            self.place = len(text)
+
+    def key(self, name):
+        self.apply(name)
+        self.typed(BYTES[name])
+
+    def enter(self):
+        self.insert("\n", b"\r")
+
+    def quit(self):
+        """Gives a search up, else asks, since the text is changed."""
+        if self.search:
+            self.give_up()
+        self.typed(b"\x11")
+
+    def press(self):
+        name = random.choice(NAMES) if random.random() < 0.4 else "insert"
+        if name == "insert":
+            self.insert(random.choice(LETTERS))
+        elif name == "enter":
+            self.enter()
+        elif name == "tab":
+            self.insert("\t")
+        elif name == "size":
+            self.typed(b"\x1b[8;%d;%dt" % (random.randint(2, 30), random.randint(5, 90)))
+        elif name == "quit":
+            # a letter before it, so that Quit asks, and one after it, so that no later Quit ends the session
+            self.insert(random.choice(LETTERS))
+            self.quit()
+            self.insert(random.choice(LETTERS))
+        else:
+            self.key(name)
+
+    def search_ahead(self):
+        """Searches for letters of one direction that stand behind the place, so that no message comes."""
+        words = "[a-z]+|[\u05d0-\u05ea]+|[\u0627-\u064a]+"
+        if not re.search(words, self.text[self.place:]):
+            self.key("text start")
+        word = random.choice(re.findall(words, self.text[self.place:]))
+        self.key("find")
+        for letter in word[:random.randint(1, 3)]:
+            self.insert(letter)
+
+    def end_by(self, end):
+        """Ends the first keys, with the size of the tmux window, and with a letter, which removes a message."""
+        if self.search:
+            self.enter()
+        self.typed(b"\x1b[8;24;80t")
+        self.insert("q")
+        if end == "no search":
+            return
+        self.search_ahead()
+        if end == "in a search":
+            return
+        if end == "a search given up":
+            self.quit()
+        else:
+            self.key("save")
+        self.insert(random.choice(LETTERS))
+
+    def row(self):
+        lines = self.text[:self.place].split("\n")
+        row = "%s %d:%d" % ("*" if self.changed else "-", len(lines), len(lines[-1]) + 1)
+        if self.search is None:
+            return row
+        return row + " find: " + (self.query if self.query < "\u05d0" else self.query[::-1])
+
+    def recovered(self):
+        """The session after its recovery, which ends a search where it stands."""
+        session = copy.deepcopy(self)
+        session.search, session.keys = None, b""
+        return session
+
+
+def files_of(number):
+    """The files of a session."""
+    session = Session("".join(random.choice(LETTERS + "\n\n") for _ in range(random.randint(0, 120))))
+    files = {"file": session.text}
+    for _ in range(random.randint(1, 60)):
+        session.press()
+    end = ENDS[number // len(WAYS) % len(ENDS)]
+    session.end_by(end)
+    cut = len(session.keys)
+    recovered = session.recovered()
+    files["row"], files["back"] = session.row(), recovered.row()
+    for name in random.choice([("insert", "put"), ("cut", "insert"), ("undo", "insert")]):
+        if name == "insert":
+            recovered.insert("z")
+        else:
+            recovered.key(name)
+    files["more"], files["made"] = recovered.keys, recovered.text
+    # a session that is in a search mostly ends there
+    for _ in range(random.choice([0, random.randint(1, 60)] if end == "no search" else [0, 0, 0, random.randint(1, 60)])):
+        session.press()
+    files["keys1"], files["keys2"] = session.keys[:cut], session.keys[cut:]
+    files["ends"] = "".join(f"{n} {text.encode().hex()}\n" for n, text in session.ends.items())
+    files["how"] = "%s %s %.3f\n" % (*WAYS[number % len(WAYS)], random.random() * 0.2)
+    return files
+
+
+def main():
+    folder, count, seed = sys.argv[1], int(sys.argv[2]), int(sys.argv[3])
+    random.seed(seed)
+    for number in range(count):
+        path = os.path.join(folder, f"{number:04}")
+        os.makedirs(path)
+        for name, data in files_of(number).items():
+            with open(os.path.join(path, name), "wb") as file:
+                file.write(data if isinstance(data, bytes) else data.encode())
+
+
+main()
