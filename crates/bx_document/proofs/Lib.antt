@@ -10,3 +10,4 @@ pub mod PlaceAfter
 pub mod PlacesKept
 pub mod PlacesMoved
 pub mod ShownTop
+pub mod FoundOffsets

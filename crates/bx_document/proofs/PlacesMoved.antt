@@ -39,6 +39,9 @@ module _ {D : Type 0} (says : D → Data) (inner now : DocumentState D) (same : 
   pub from : (offset o : ℕ) → o ≡ moves.place_from rows offset → IsOf now o
   from offset o e = there o (moves.place_from rows offset) e (kept.from offset)
 
+  pub at : (offset o : ℕ) → o ≡ moves.place_at rows offset → IsOf now o
+  at offset o e = there o (moves.place_at rows offset) e (kept.at offset)
+
   pub by-move : (m : Move) (place o : ℕ) → o ≡ moves.moved (says inner.tables) text w rows m place → IsOf now place → IsOf now o
   by-move m place o e h = there o (moves.moved (says inner.tables) text w rows m place) e (kept.moved m place (here place h))
 

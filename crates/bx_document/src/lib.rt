@@ -1,4 +1,5 @@
-//! An editable text laid out in a window: cursor moves, edits with the place after each, and rows drawn into a grid.
+//! An editable text laid out in a window: cursor moves, edits with the place after each, searches, and rows drawn into a
+//! grid.
 #![tactic(auto)]
 
 mod copying;
@@ -10,6 +11,8 @@ mod error;
 mod history;
 mod moves;
 mod row_cache;
+mod searching;
+mod separating;
 mod shown;
 mod touched;
 

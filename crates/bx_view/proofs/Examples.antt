@@ -8,7 +8,7 @@ use Rattle.bx_paragraph.specs.declared.moves.Visual.TheVariants.{Left, Right}
 use Rattle.bx_view.specs.declared.moves.Logical.TheVariants.{Back, Forward}
 use Rattle.bx_view.specs.declared.moves.Vertical.TheVariants.{Up, Down}
 use Rattle.bx_view.specs.TextRows.{TextRow, cell_of, places, row_of, slots}
-use Rattle.bx_view.specs.Moves.{page, place_from, row_end, row_home, step_logical, step_visual, vertical}
+use Rattle.bx_view.specs.Moves.{page, place_at, place_from, row_end, row_home, step_logical, step_visual, vertical}
 use Rattle.bx_view.specs.Top.{follow}
 use Rattle.bx_view.proofs.Computed.{has_one_slot_each, pictures, rows, rows_under, shown, walk}
 
@@ -287,6 +287,20 @@ inside_separator = refl
 place_from_inside_cluster : place_from (rows 5 (codes "e" ++ (acute ∷ []))) 3 ∷ place_from (rows 5 (codes "e" ++ (acute ∷ []))) 1 ∷ [] ≡ 3 ∷ 3 ∷ []
 unfolding unicode_segmentation unicode_width
 place_from_inside_cluster = refl
+
+-- two clusters of two characters, and a letter between them
+abbrev with_vowels : List TextRow
+with_vowels = rows 30 ((0x915 ∷ 0x93f ∷ []) ++ codes "x" ++ (0x915 ∷ 0x93f ∷ []))
+
+-- the place of an offset inside a cluster is before it; that of a place is itself
+place_of_offset : map (place_at with_vowels) (3 ∷ 6 ∷ 10 ∷ 13 ∷ []) ≡ 0 ∷ 6 ∷ 7 ∷ 13 ∷ []
+unfolding unicode_segmentation unicode_width
+place_of_offset = refl
+
+-- inside a separator it is the paragraph's end, and past the text's end the text's end
+place_of_offset_in_separator : map (place_at with_crlf) (1 ∷ 2 ∷ 3 ∷ 9 ∷ []) ≡ 1 ∷ 1 ∷ 3 ∷ 4 ∷ []
+unfolding unicode_segmentation unicode_width
+place_of_offset_in_separator = refl
 
 -- the end after a wide character
 end_behind_wide : cell_of 4 (rows 4 (codes "x" ++ (wide ∷ []))) 4 ≡ 4

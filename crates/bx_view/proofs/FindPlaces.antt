@@ -10,7 +10,7 @@ use Rattle.std.proofs.lemmas.List.{drop_all, drop_more, get_or-map, length-map, 
 use Rattle.std.proofs.lemmas.List.Concat.{flat_map-cons}
 use Rattle.std.proofs.lemmas.List.Folds.{find-append}
 use Rattle.bx_paragraph.specs.BodyRows.{last_of, last_offset, offsets_of}
-use Rattle.bx_view.specs.Moves.{place_from}
+use Rattle.bx_view.specs.Moves.{place_at, place_from}
 use Rattle.bx_view.specs.TextRows.{TextRow, first, no_text_row, places, places_of, row_at, row_of}
 use Rattle.bx_view.proofs.PlacesRise.{AllHeads, IsHead, firsts-of}
 use Rattle.bx_view.proofs.Rising.{Rises, rank, rank-few, rank-here, rank-not-here, rises-ahead, rises-behind, rises-within}
@@ -71,6 +71,18 @@ last-found : (p : ℕ → Bool) (os : List ℕ) → 0 < length os → p (last_of
 last-found p os h passes =
     let (ps, e) = last-first os h in ap (find p) e ∙ ap (λ b. cond b (Some (last_offset os)) (find p ps)) passes
 
+or-one : (x : Option ℕ) (o : ℕ) → (q : ℕ) × (option_or x (Some o) ≡ Some q)
+or-one None o = (o, refl)
+or-one (Some q) o = (q, refl)
+
+-- the last that passes, if the first does
+some-last : (p : ℕ → Bool) (o : ℕ) (os : List ℕ) → p o ≡ true → (q : ℕ) × (find p (reverse (o ∷ os)) ≡ Some q)
+some-last p o os passes =
+    let rest = find p (reverse os) in
+    let e : find p (reverse (o ∷ os)) ≡ option_or rest (Some o) =
+    ap (find p) (reverse-append (o ∷ []) os) ∙ find-append p (reverse os) (o ∷ []) ∙ ap (λ b. option_or rest (cond b (Some o) None)) passes in
+    subst (λ x. (q : ℕ) × (x ≡ Some q)) (sym e) (or-one rest o)
+
 -- ---- offsets of a body, as offsets of the text
 
 moved-at : (start : ℕ) (b : Bool) (o : ℕ) (x y : Option ℕ) → x ≡ option_map (λ k. start + k) y
@@ -101,6 +113,13 @@ module _ (start offset : ℕ) (order : start ≤ offset) (os : List ℕ) (o : Op
   moved-behind e =
       ap (option_map (λ k. start + k)) e
       ∙ sym (find-moved start (nat_lt offset) (nat_lt (offset - start)) (λ k. grind (arith, nat_tests)) os)
+
+  pub moved-at-most : o ≡ find (λ k. nat_le k (offset - start)) (reverse os)
+      → option_map (λ k. start + k) o ≡ find (λ k. nat_le k offset) (reverse (map (λ k. start + k) os))
+  moved-at-most e =
+      ap (option_map (λ k. start + k)) e
+      ∙ sym (find-moved start (λ k. nat_le k offset) (λ k. nat_le k (offset - start)) (λ k. grind (arith, nat_tests)) (reverse os))
+      ∙ ap (find (λ k. nat_le k offset)) (sym (reverse-moved start os))
 
   pub moved-before : o ≡ find (λ k. nat_lt k (offset - start)) (reverse os)
       → option_map (λ k. start + k) o ≡ find (λ k. nat_lt k offset) (reverse (map (λ k. start + k) os))
@@ -326,21 +345,40 @@ module _ (rows : List TextRow) (high : ℕ) (rise : Rises 0 (places rows) high) 
 
   -- ---- and back
 
+  module _ (p : ℕ → Bool) (none : (o : ℕ) → offset < o → p o ≡ false) where
+    fails-after : Fails p (places behind)
+    fails-after = ⊎_elim
+        (λ more.
+        let past = past-offset more in
+        fails-behind ahead here behind high rise-split head p (row_at rows (n + 1)) (drop (n + 1 + 1) rows)
+        (drop_more rows (n + 1) no_text_row more) (next-head more) (λ o h. none o (omega (arith, past, h))))
+        (λ last. subst (λ rs. Fails p (places rs)) (sym (drop_all (n + 1) rows last)) tt) (cases_lt (n + 1) (length rows))
+
+    found-back : (o : ℕ) → find p (reverse (places_of here)) ≡ Some o → find p (reverse (places rows)) ≡ Some o
+    found-back o e =
+        ap (λ rs. find p (reverse (places rs))) split ∙ back-here ahead here behind high rise-split head p fails-after o e
+
+  abbrev at-most : ℕ → Bool
+  at-most o = nat_le o offset
+
+  -- the row begins at or before the offset
+  pub last-in-row : (x : Option ℕ) → x ≡ find at-most (reverse (places_of here)) → unwrap_or x 0 ≡ place_at rows offset
+  last-in-row x e =
+      let below = not-past in
+      let passes : at-most (first here) ≡ true = grind (arith, nat_tests) in
+      let some : (q : ℕ) × (find at-most (reverse (places_of here)) ≡ Some q) =
+      subst (λ os. (q : ℕ) × (find at-most (reverse os) ≡ Some q)) (sym head.1) (some-last at-most (first here) head.0 passes) in
+      ap (λ y. unwrap_or y 0) (e ∙ some.1)
+      ∙ sym (ap (λ y. unwrap_or y 0) (found-back at-most (λ o h. grind (arith, nat_tests)) some.0 some.1))
+
   abbrev earlier : ℕ → Bool
   earlier o = nat_lt o offset
 
-  fails-after : Fails earlier (places behind)
-  fails-after = ⊎_elim
-      (λ more.
-      let past = past-offset more in
-      fails-behind ahead here behind high rise-split head earlier (row_at rows (n + 1)) (drop (n + 1 + 1) rows)
-      (drop_more rows (n + 1) no_text_row more) (next-head more) (λ o h. grind (arith, nat_tests)))
-      (λ last. subst (λ rs. Fails earlier (places rs)) (sym (drop_all (n + 1) rows last)) tt) (cases_lt (n + 1) (length rows))
+  fails-later : Fails earlier (places behind)
+  fails-later = fails-after earlier (λ o h. grind (arith, nat_tests))
 
   pub back-in-row : (o : ℕ) → find earlier (reverse (places_of here)) ≡ Some o → o ≡ unwrap_or (find earlier (reverse (places rows))) offset
-  back-in-row o e =
-      sym (ap (λ x. unwrap_or x offset) (ap (λ rs. find earlier (reverse (places rs))) split
-      ∙ back-here ahead here behind high rise-split head earlier fails-after o e))
+  back-in-row o e = sym (ap (λ x. unwrap_or x offset) (found-back earlier (λ p h. grind (arith, nat_tests)) o e))
 
   pub back-to-row : 0 < n → find earlier (reverse (places_of here)) ≡ None
       → (row_at rows (n - 1)).start + last_of (row_at rows (n - 1)).row ≡ unwrap_or (find earlier (reverse (places rows))) offset
@@ -350,10 +388,10 @@ module _ (rows : List TextRow) (high : ℕ) (rise : Rises 0 (places rows) high) 
       let same : n ≡ n - 1 + 1 = omega (arith, above) in
       let parts : ahead ≡ take (n - 1) rows ++ row_at rows (n - 1) ∷ [] = ap (λ k. take k rows) same ∙ take_more rows (n - 1) no_text_row within-before in
       sym (ap (λ x. unwrap_or x offset) (ap (λ rs. find earlier (reverse (places rs))) split
-      ∙ back-before ahead here behind high rise-split head earlier fails-after (row_at rows (n - 1)) (take (n - 1) rows) none parts
+      ∙ back-before ahead here behind high rise-split head earlier fails-later (row_at rows (n - 1)) (take (n - 1) rows) none parts
       (heads-at rows (n - 1) heads within-before) (λ o h. grind (arith, nat_tests))))
 
   pub back-stays : n ≡ 0 → find earlier (reverse (places_of here)) ≡ None → offset ≡ unwrap_or (find earlier (reverse (places rows))) offset
   back-stays e none =
       sym (ap (λ x. unwrap_or x offset) (ap (λ rs. find earlier (reverse (places rs))) split
-      ∙ back-none ahead here behind high rise-split head earlier fails-after none (ap (λ k. take k rows) e)))
+      ∙ back-none ahead here behind high rise-split head earlier fails-later none (ap (λ k. take k rows) e)))

@@ -15,7 +15,7 @@ use Rattle.bx_view.specs.declared.moves.Logical.TheVariants.{Back, Forward}
 use Rattle.bx_view.specs.declared.moves.Move.{Move}
 use Rattle.bx_view.specs.declared.moves.Move.TheVariants as moves
 use Rattle.bx_view.specs.declared.moves.Vertical.{Vertical}
-use Rattle.bx_view.specs.Moves.{end_of, entry_in, moved, past, place_from, place_in, row_after, row_away}
+use Rattle.bx_view.specs.Moves.{end_of, entry_in, moved, past, place_at, place_from, place_in, row_after, row_away}
 use Rattle.bx_view.specs.Moves.{row_before, row_end, row_home, rows_away, start_of, step_logical, step_visual, word_way}
 use Rattle.bx_view.specs.Laws.{MovesKeep}
 use Rattle.bx_view.specs.TextRows.{TextRow, cell_of, first, no_text_row, places, row_at, row_of}
@@ -69,6 +69,11 @@ module _ (says : Data) (text : List ℕ) (w : ℕ) (rows : List TextRow) (P : �
   kept-place_from offset =
       else-lies (find (nat_le offset) (places rows)) (last_offset (places rows)) (find-lies P (nat_le offset) (places rows) all)
       (last-lies P ends.begin (places rows) all)
+
+  kept-place_at : (offset : ℕ) → P (place_at rows offset)
+  kept-place_at offset =
+      else-lies (find (λ p. nat_le p offset) (reverse (places rows))) 0
+      (find-lies P (λ p. nat_le p offset) (reverse (places rows)) (within-reverse P (places rows) all)) ends.begin
 
   kept-step_logical : (way : Logical) (place : ℕ) → P place → P (step_logical rows way place)
   kept-step_logical Forward place b = else-lies (find (nat_lt place) (places rows)) place (find-lies P (nat_lt place) (places rows) all) b
@@ -167,6 +172,7 @@ module _ (says : Data) (text : List ℕ) (w : ℕ) (rows : List TextRow) (P : �
   pub moves-keep : MovesKeep says text w rows P
   moves-keep = record {
     from = kept-place_from;
+    at = kept-place_at;
     moved = kept-moved;
     logical = kept-step_logical;
     visual = kept-step_visual;

@@ -8,9 +8,9 @@ use Rattle.bx_paragraph.specs.BodyRows.{last_of}
 use Rattle.bx_view.specs.declared.row_at.RowAt.{RowAt}
 use Rattle.bx_view.specs.FoundRow.{StandsOn, rows_by}
 use Rattle.bx_view.specs.Holding.{Keeps, ViewState}
-use Rattle.bx_view.specs.Moves.{place_from}
+use Rattle.bx_view.specs.Moves.{place_at, place_from}
 use Rattle.bx_view.specs.TextRows.{TextRow, first, places, places_of, row_at, row_of}
-use Rattle.bx_view.proofs.FindPlaces.{back-in-row, back-stays, back-to-row, forward-in-row, forward-stays, forward-to-next, from-here, from-last, from-next}
+use Rattle.bx_view.proofs.FindPlaces.{back-in-row, back-stays, back-to-row, forward-in-row, forward-stays, forward-to-next, from-here, from-last, from-next, last-in-row}
 use Rattle.bx_view.proofs.PlacesRise.{AllHeads, places-rise, rows-headed-in}
 use Rattle.bx_view.proofs.Rising.{Rises, rank}
 use Rattle.bx_view.proofs.Told.{rows-kept, side-some}
@@ -53,6 +53,9 @@ module _ (says : Data) (old v : ViewState) (text : List ℕ) (offset : ℕ) (at 
   before rs = unwrap_or (find (λ p. nat_lt p offset) (reverse (places rs))) offset
 
   module _ (x : Option ℕ) where
+    pub greatest-here : x ≡ find (λ p. nat_le p offset) (reverse (places_of here)) → unwrap_or x 0 ≡ place_at (rows_by says old text) offset
+    greatest-here e = last-in-row rows (length text + 1) rise heads offset rank-one x e ∙ kept (λ rs. place_at rs offset)
+
     module _ (o : ℕ) (some-is : x ≡ Some o) where
       pub least-here : x ≡ find (nat_le offset) (places_of here) → o ≡ least (rows_by says old text)
       least-here e = from-here rows (length text + 1) rise heads offset rank-one o (sym e ∙ some-is) ∙ kept least

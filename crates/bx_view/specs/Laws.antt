@@ -11,8 +11,8 @@ use Rattle.bx_view.specs.declared.moves.Logical.{Logical}
 use Rattle.bx_view.specs.declared.moves.Logical.TheVariants.{Back, Forward}
 use Rattle.bx_view.specs.declared.moves.Move.{Move}
 use Rattle.bx_view.specs.declared.moves.Vertical.{Vertical}
-use Rattle.bx_view.specs.Moves.{entry_in, moved, page, place_from, row_end, row_home, step_logical, step_visual, vertical}
-use Rattle.bx_view.specs.Places.{pieces, text_places}
+use Rattle.bx_view.specs.Moves.{entry_in, moved, page, place_at, place_from, row_end, row_home, step_logical, step_visual, vertical}
+use Rattle.bx_view.specs.Places.{pieces, text_places, IsTextPlace}
 use Rattle.bx_view.specs.TextRows.{TextRow, row_at, row_of, text_rows}
 use Rattle.bx_view.specs.Top.{follow}
 use Rattle.bx_view.specs.Words.{step_word}
@@ -32,9 +32,16 @@ pub record SpansText (says : Data) (text : List ℕ) : Type 0 where
   pub rise : IsStrictlyIncreasing (text_places says text)
   pub between : All (IsCharBoundary text) (text_places says text)
 
+-- a place is the greatest one not after an offset
+pub record IsGreatestPlace (says : Data) (text : List ℕ) (offset place : ℕ) : Type 0 where
+  pub is_place : IsTextPlace says text place
+  pub not_after : place ≤ offset
+  pub greatest : (p : ℕ) → IsTextPlace says text p → p ≤ offset → p ≤ place
+
 -- each move leads from an offset with the property `P` to one with it
 pub record MovesKeep (says : Data) (text : List ℕ) (w : ℕ) (rows : List TextRow) (P : ℕ → Type 0) : Type 0 where
   pub from : (offset : ℕ) → P (place_from rows offset)
+  pub at : (offset : ℕ) → P (place_at rows offset)
   pub moved : (m : Move) (place : ℕ) → P place → P (moved says text w rows m place)
   pub logical : (way : Logical) (place : ℕ) → P place → P (step_logical rows way place)
   pub visual : (side : Visual) (place : ℕ) → P place → P (step_visual w rows side place)

@@ -18,6 +18,10 @@ use Rattle.bx_view.specs.Words.{step_word}
 abbrev pub place_from : List TextRow → ℕ → ℕ
 place_from rows offset = unwrap_or (find (nat_le offset) (places rows)) (last_offset (places rows))
 
+-- the place of an offset: the last one at or before it
+abbrev pub place_at : List TextRow → ℕ → ℕ
+place_at rows offset = unwrap_or (find (λ p. nat_le p offset) (reverse (places rows))) 0
+
 -- Forward and Back: the next and the previous place; at the text's ends the place itself
 abbrev pub step_logical : List TextRow → Logical → ℕ → ℕ
 step_logical rows Forward place = unwrap_or (find (nat_lt place) (places rows)) place

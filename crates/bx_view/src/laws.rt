@@ -4,7 +4,8 @@ ghost use Rattle.std.specs.Prelude.{◌≡◌, ℕ, List, IsUtf8};
 ghost use Rattle.bx_ucd.specs.Data.{Data};
 ghost use Rattle.bx_ucd.specs.declared.class.Class.{Class};
 ghost use Rattle.bx_view.specs.Cells.{HasCells};
-ghost use Rattle.bx_view.specs.Laws.{InEachWindow, MovesKeep, MovesLeast, SpansText, WordsGoOn};
+ghost use Rattle.bx_view.specs.Laws.{InEachWindow, IsGreatestPlace, MovesKeep, MovesLeast, SpansText, WordsGoOn};
+ghost use Rattle.bx_view.specs.Moves.{place_at};
 ghost use Rattle.bx_view.specs.Places.{text_places, IsTextPlace};
 ghost use Rattle.bx_view.specs.TextRows.{places};
 
@@ -13,6 +14,11 @@ ghost use Rattle.bx_view.specs.TextRows.{places};
 pub fn places_are_boundaries()
     ensures rows { InEachWindow (λ says text w rows. places rows ≡ text_places says text) }
     ensures span { (says : Data) (text : List ℕ) → IsUtf8 text → SpansText says text }
+{}
+
+/// The place of an offset is the greatest place not after it.
+pub fn place_at_is_greatest()
+    ensures { InEachWindow (λ says text w rows. (offset : ℕ) → IsGreatestPlace says text offset (place_at rows offset)) }
 {}
 
 /// Each move leads from a place to a place.

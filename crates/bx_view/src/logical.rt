@@ -1,7 +1,7 @@
-//! Moves in text order, and the first place at or after an offset.
+//! Moves in text order, the first place at or after an offset, and the last one at or before it.
 ghost use Rattle.std.specs.Prelude.{◌≡◌, ℕ, ◌≤◌, IfOk, find, nat_le, nat_lt, reverse, unwrap_or};
 ghost use Rattle.std.specs.Str.{IsCharBoundary};
-ghost use Rattle.bx_view.specs.Moves.{place_from, step_logical};
+ghost use Rattle.bx_view.specs.Moves.{place_at, place_from, step_logical};
 ghost use Rattle.bx_view.specs.Source.{IsViewBy, Keeps, OfRow, Stands, bytes, rows};
 ghost use Rattle.bx_view.specs.TextRows.{places, places_of};
 
@@ -18,6 +18,13 @@ pub(crate) fn first_from(offsets: &[usize], offset: usize) -> Option<usize>
     ensures { result ≡ find (nat_le offset) offsets.now }
 {
     offsets.iter().copied().find(|o| offset <= *o)
+}
+
+/// The last of `offsets` at or before an offset.
+fn last_at(offsets: &[usize], offset: usize) -> Option<usize>
+    ensures { result ≡ find (λ o. nat_le o offset) (reverse offsets.now) }
+{
+    offsets.iter().rev().copied().find(|o| *o <= offset)
 }
 
 /// The first of `offsets` after an offset.
@@ -49,6 +56,23 @@ impl Layout {
         let paragraph = self.paragraph(source, at.paragraph, at.held);
         let offsets = paragraph.offsets(at.row, source.tables)?;
         let found = first_from(&offsets, offset - at.start);
+        Ok(place_in(at.start, found))
+    }
+
+    /// The last place of a row at or before an offset.
+    fn at_in_row<D: BidiData>(
+        &self,
+        source: &Source<'_, D>,
+        at: RowAt,
+        offset: usize,
+    ) -> Result<Option<usize>, ViewError>
+        requires row { Stands source.now self.now at }
+        requires order { at.start ≤ offset }
+        ensures { OfRow source.now self.now at (λ r. IfOk result (λ o. o ≡ find (λ p. nat_le p offset) (reverse (places_of r)))) }
+    {
+        let paragraph = self.paragraph(source, at.paragraph, at.held);
+        let offsets = paragraph.offsets(at.row, source.tables)?;
+        let found = last_at(&offsets, offset - at.start);
         Ok(place_in(at.start, found))
     }
 
@@ -108,6 +132,25 @@ impl Layout {
             return Ok(last);
         };
         Ok(self.first_in(source, next))
+    }
+
+    /// The place of an offset: the last place at or before it.
+    ///
+    /// Errors: `OutOfMemory`.
+    pub fn place_at<D: BidiData>(
+        &mut self,
+        source: &Source<'_, D>,
+        offset: usize,
+    ) -> Result<usize, ViewError>
+        requires data { IsViewBy source.now self.old }
+        ensures keeps { Keeps source.now self.old self.new }
+        ensures place { IfOk result (λ o. o ≡ place_at (rows source.now self.old) offset) }
+        ensures boundary { IfOk result (λ o. IsCharBoundary (bytes source.now) o) }
+    {
+        let at = self.row_at(source, offset)?;
+        // A row begins at a place, so there is one.
+        let place = self.at_in_row(source, at, offset)?;
+        Ok(place.unwrap_or(0))
     }
 
     /// The place after a place; the text's last place itself at the end.
