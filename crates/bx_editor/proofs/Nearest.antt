@@ -1,6 +1,6 @@
 -- Find and FindBack go to the nearest match.
-use Rattle.std.proofs.Common.{◌≡◌, ℕ, Bool, false, List, length, Option, Some, None, refl, ap}
-use Rattle.std.specs.Prelude.{◌⊎◌, inl, inr, MatchOption, unwrap_or}
+use Rattle.std.proofs.Common.{◌≡◌, ◌⊎◌, inl, inr, ℕ, Bool, false, length, Option, Some, None, refl, ap}
+use Rattle.std.specs.Prelude.{MatchOption, unwrap_or}
 use Rattle.bx_ucd.specs.Data.{Data}
 use Rattle.bx_find.specs.Laws.{IsFirst, IsLast}
 use Rattle.bx_find.specs.Standing.{first_from, last_before}
@@ -17,7 +17,7 @@ use Rattle.bx_editor.specs.Laws.{FindBackGoesToPrevious, FindGoesToNext, NoneBef
 use Rattle.bx_editor.proofs.Sought.{backward-some, forward-some}
 
 -- in a search
-typed : Editor → Editor
+abbrev typed : Editor → Editor
 typed e = record (without_message e) { seek = Typed }
 
 abbrev GoesNext : Data → Editor → Editor → Type 0
@@ -30,9 +30,9 @@ next-of : (d : Data) (e : Editor) (l : Landing) (next all : Option ℕ)
     → MatchOption next (NoneFrom d e (next_or_start d e)) (IsFirst d (sought d e) e.content.text (next_or_start d e))
     → MatchOption all (NoneFrom d e 0) (IsFirst d (sought d e) e.content.text 0)
     → l ≡ match_or (rows d e) None (match_or (rows d e) (Some FromStart) not_found all) next → GoesNext d e (landed (typed e) l)
-next-of d e l (Some at) all first any is = inl (at, first, ap (λ m. unwrap_or m.place e.place) is, ap (λ m. m.message) is)
-next-of d e l None (Some at) none first is = inr (inl (none, (at, first, ap (λ m. unwrap_or m.place e.place) is, ap (λ m. m.message) is)))
-next-of d e l None None none nowhere is = inr (inr (nowhere, ap (λ m. unwrap_or m.place e.place) is, ap (λ m. m.message) is))
+next-of d e l (Some at) all first any is = inl (at, first, (ap (λ m. unwrap_or m.place e.place) is, ap (λ m. m.message) is))
+next-of d e l None (Some at) none first is = inr (inl (none, (at, first, (ap (λ m. unwrap_or m.place e.place) is, ap (λ m. m.message) is))))
+next-of d e l None None none nowhere is = inr (inr (nowhere, (ap (λ m. unwrap_or m.place e.place) is, ap (λ m. m.message) is)))
 
 abbrev GoesBack : Data → Editor → Editor → Type 0
 GoesBack d e new =
@@ -44,9 +44,9 @@ previous-of : (d : Data) (e : Editor) (l : Landing) (previous all : Option ℕ)
     → MatchOption previous (NoneBefore d e e.place) (IsLast d (sought d e) e.content.text e.place)
     → MatchOption all (NoneBefore d e (length e.content.text)) (IsLast d (sought d e) e.content.text (length e.content.text))
     → l ≡ match_or (rows d e) None (match_or (rows d e) (Some FromEnd) not_found all) previous → GoesBack d e (landed (typed e) l)
-previous-of d e l (Some at) all last any is = inl (at, last, ap (λ m. unwrap_or m.place e.place) is, ap (λ m. m.message) is)
-previous-of d e l None (Some at) none last is = inr (inl (none, (at, last, ap (λ m. unwrap_or m.place e.place) is, ap (λ m. m.message) is)))
-previous-of d e l None None none nowhere is = inr (inr (nowhere, ap (λ m. unwrap_or m.place e.place) is, ap (λ m. m.message) is))
+previous-of d e l (Some at) all last any is = inl (at, last, (ap (λ m. unwrap_or m.place e.place) is, ap (λ m. m.message) is))
+previous-of d e l None (Some at) none last is = inr (inl (none, (at, last, (ap (λ m. unwrap_or m.place e.place) is, ap (λ m. m.message) is))))
+previous-of d e l None None none nowhere is = inr (inr (nowhere, (ap (λ m. unwrap_or m.place e.place) is, ap (λ m. m.message) is)))
 
 -- whichever state the search is in
 on-find : (d : Data) (e : Editor) (again : Bool) (seek : Seek) (P : Editor → Type 0) → (seek ≡ Off → ⊥) → P (after_find d (without_message e))

@@ -1,15 +1,14 @@
 -- Worked examples: places, queries and messages of searches.
-use Rattle.std.proofs.Common.{◌≡◌, ℕ, false, true, List, [], ◌∷◌, ◌++◌, Option, Some, None, refl, replicate, length}
+use Rattle.std.proofs.Common.{◌≡◌, ℕ, List, [], ◌∷◌, ◌++◌, Option, Some, None, refl, replicate, length}
 use Rattle.std.specs.Prelude.{codes}
 use Rattle.std.specs.Fmt.{digits}
 use Rattle.unicode_segmentation.proofs.Computing.{unicode_segmentation}
 use Rattle.unicode_width.proofs.Computing.{unicode_width}
 use Rattle.bx_keys.specs.declared.key.Key.{Key}
-use Rattle.bx_keys.specs.declared.key.Key.TheVariants.{Insert, Erase, Delete, Forward, Right, Save, Quit, Repaint, Size, Mark, Copy, Cut, Put, Find, FindBack, TextEnd}
+use Rattle.bx_keys.specs.declared.key.Key.TheVariants.{Insert, Erase, Delete, Forward, Right, Save, Quit, Repaint, Size, Mark, Copy, Cut, Find, FindBack, TextEnd}
 use Rattle.bx_editor.specs.declared.message.Message.{Message}
-use Rattle.bx_editor.specs.declared.message.Message.TheVariants.{FromStart, FromEnd, LineCopied, MarkSet, NotFound, NothingToPut, Unsaved}
-use Rattle.bx_editor.specs.declared.seek.Seek.{Seek}
-use Rattle.bx_editor.specs.declared.seek.Seek.TheVariants.{Off, Begun, Typed}
+use Rattle.bx_editor.specs.declared.message.Message.TheVariants.{FromStart, FromEnd, NotFound, Unsaved}
+use Rattle.bx_editor.specs.declared.seek.Seek.TheVariants.{Off}
 use Rattle.bx_editor.specs.Editor.{Editor}
 use Rattle.bx_editor.proofs.Computed.{start, after, letters}
 

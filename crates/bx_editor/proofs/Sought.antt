@@ -1,5 +1,5 @@
 -- Where a search leads, and where it starts.
-use Rattle.std.proofs.Common.{◌≡◌, ℕ, ◌<◌, Bool, true, false, nat_lt, cond, List, [], ◌∷◌, length, Some, None, refl, sym, ap, arith, ltb-true, ltb-false}
+use Rattle.std.proofs.Common.{◌≡◌, ℕ, ◌<◌, Bool, true, false, nat_lt, cond, List, [], ◌∷◌, length, Some, None, refl, arith, ltb-true}
 use Rattle.std.specs.Prelude.{find, unwrap_or}
 use Rattle.bx_ucd.specs.Data.{Data}
 use Rattle.bx_find.specs.Standing.{first_from, last_before}
@@ -8,7 +8,8 @@ use Rattle.bx_view.specs.TextRows.{TextRow}
 use Rattle.bx_editor.specs.declared.message.Message.TheVariants.{FromEnd, FromStart}
 use Rattle.bx_editor.specs.declared.seek.Seek.{Seek}
 use Rattle.bx_editor.specs.declared.seek.Seek.TheVariants.{Off, Begun, Typed}
-use Rattle.bx_editor.specs.Search.{BeganAt, backward, forward, match_or, not_found}
+use Rattle.bx_editor.specs.Origin.{BeganAt}
+use Rattle.bx_editor.specs.Search.{backward, forward, match_or, not_found}
 
 pub began : (d : Data) (text : List ℕ) (seek : Seek) (origin : ℕ) → IsTextPlace d text origin → BeganAt d text seek origin
 began d text Off origin is = tt

