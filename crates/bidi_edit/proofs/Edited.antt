@@ -4,7 +4,7 @@ use Rattle.std.specs.Prelude.{IfOk, OnOk, vec_items, unwrap_or, Some}
 use Rattle.std.specs.Global.{Vec}
 use Rattle.bx_terms.specs.declared.base.Base.{Base}
 use Rattle.bx_ucd.specs.Data.{Data}
-use Rattle.bx_session.specs.Session.{Session, SessionState, after_replaying, at_opening, with_painting}
+use Rattle.bx_session.specs.Session.{Session, SessionState, after_journal, at_opening, with_painting}
 use Rattle.bx_session.specs.Saving.{StoreState, with_text}
 use Rattle.bx_session.specs.Painting.{QueuesPicture}
 use Rattle.bx_session.specs.Journal.{RecorderState, RunsRecorded}
@@ -45,10 +45,10 @@ opened_is {D} says tables first new text text' height width base unsaved offset 
 -- ---- after the opening
 
 pub painted_again : {D A E : Type 0} (says : D → Data) (old mid new : SessionState D) (keys : List ℕ) (r : Result A E) → mid.tables ≡ old.tables
-    → mid.session ≡ after_replaying (says old.tables) old.session keys → new.session ≡ with_painting (says mid.tables) mid.session
+    → mid.session ≡ after_journal (says old.tables) old.session keys → new.session ≡ with_painting (says mid.tables) mid.session
     → QueuesPicture (says mid.tables) mid.session.pending mid.session.known new.session
-    → OnOk r (QueuesPicture (says old.tables) (after_replaying (says old.tables) old.session keys).pending
-    (after_replaying (says old.tables) old.session keys).known (with_painting (says old.tables) (after_replaying (says old.tables) old.session keys)))
+    → OnOk r (QueuesPicture (says old.tables) (after_journal (says old.tables) old.session keys).pending
+    (after_journal (says old.tables) old.session keys).known (with_painting (says old.tables) (after_journal (says old.tables) old.session keys)))
 painted_again says old mid new keys (Err fault) same is painted queued = tt
 painted_again {D} says old mid new keys (Ok done) same is painted queued =
     let d = says old.tables in
@@ -58,15 +58,15 @@ painted_again {D} says old mid new keys (Ok done) same is painted queued =
 
 pub runs_again : {D J A E : Type 0} (says : D → Data) (contents : J → Option (List ℕ)) (failures : J → ℕ) (old mid painted : SessionState D) (keys : List ℕ)
     (new : Session) (store store' : StoreState) (reader reader' writer writer' : Option (List ℕ)) (journal journal' : RecorderState J) (r : Result A E)
-    → mid.tables ≡ old.tables → mid.session ≡ after_replaying (says old.tables) old.session keys → painted.tables ≡ mid.tables
+    → mid.tables ≡ old.tables → mid.session ≡ after_journal (says old.tables) old.session keys → painted.tables ≡ mid.tables
     → painted.session ≡ with_painting (says mid.tables) mid.session
     → RunsRecorded contents failures (says painted.tables) painted.session new store store' reader reader' writer writer' journal journal'
-    → OnOk r (RunsRecorded contents failures (says old.tables) (with_painting (says old.tables) (after_replaying (says old.tables) old.session keys)) new
+    → OnOk r (RunsRecorded contents failures (says old.tables) (with_painting (says old.tables) (after_journal (says old.tables) old.session keys)) new
     store store' reader reader' writer writer' journal journal')
 runs_again says contents failures old mid painted keys new store store' reader reader' writer writer' journal journal' (Err fault) same is stays paints runs = tt
 runs_again {D} says contents failures old mid painted keys new store store' reader reader' writer writer' journal journal' (Ok done) same is stays paints runs =
     let d = says old.tables in
-    let begins : painted.session ≡ with_painting d (after_replaying d old.session keys) =
+    let begins : painted.session ≡ with_painting d (after_journal d old.session keys) =
     paints ∙ ap (λ (t : D). with_painting (says t) mid.session) same ∙ ap (with_painting d) is in
     subst (λ (s : Session). RunsRecorded contents failures d s new store store' reader reader' writer writer' journal journal') begins
     (subst (λ (t : D). RunsRecorded contents failures (says t) painted.session new store store' reader reader' writer writer' journal journal')
@@ -78,8 +78,8 @@ pub edits_of : {J E : Type 0} (contents : J → Option (List ℕ)) (failures : J
     (unsaved : Bool) (keys classes brackets mirroring : List ℕ) (s new : Session) (store store' : StoreState) (reader reader' writer writer' : Option (List ℕ))
     (journal journal' : RecorderState J) (r : Result Changes E)
     → (offset : Option ℕ) × AreOfFiles d classes brackets mirroring × IsOpened d (begins_with text height width base unsaved [] offset) s
-    → OnOk r (QueuesPicture d (after_replaying d s keys).pending (after_replaying d s keys).known (with_painting d (after_replaying d s keys)))
-    → OnOk r (RunsRecorded contents failures d (with_painting d (after_replaying d s keys)) new store store' reader reader' writer writer' journal journal')
+    → OnOk r (QueuesPicture d (after_journal d s keys).pending (after_journal d s keys).known (with_painting d (after_journal d s keys)))
+    → OnOk r (RunsRecorded contents failures d (with_painting d (after_journal d s keys)) new store store' reader reader' writer writer' journal journal')
     → (r ≡ Ok Saved → new.editor.changed ≡ false)
     → IfOk r (λ changes. Edits contents failures (begins_with text height width base unsaved keys) classes brackets mirroring store store'
     reader reader' writer writer' journal journal' changes)
@@ -94,22 +94,22 @@ edits_of contents failures d text height width base unsaved keys classes bracket
       answers = opened.1;
       begins = record {
         opened = opened.2.paints;
-        painted = subst (λ (x : Session). QueuesPicture d (after_replaying d x keys).pending (after_replaying d x keys).known
-            (with_painting d (after_replaying d x keys))) is paints;
+        painted = subst (λ (x : Session). QueuesPicture d (after_journal d x keys).pending (after_journal d x keys).known
+            (with_painting d (after_journal d x keys))) is paints;
       };
-      runs = subst (λ (x : Session). RunsRecorded contents failures d (with_painting d (after_replaying d x keys)) new store store'
+      runs = subst (λ (x : Session). RunsRecorded contents failures d (with_painting d (after_journal d x keys)) new store store'
           reader reader' writer writer' journal journal') is runs;
       saved = λ e. saved (ap Ok e);
     }
 
 pub recovers_of : {A E : Type 0} (d : Data) (text : List ℕ) (height width : ℕ) (base : Base) (unsaved : Bool) (keys classes brackets mirroring : List ℕ) (s : Session)
     (store store' : StoreState) (r : Result A E) → (offset : Option ℕ) × AreOfFiles d classes brackets mirroring × IsOpened d (begins_with text height width base unsaved [] offset) s
-    → OnOk r (store' ≡ with_text (after_replaying d s keys).editor.content.text store)
+    → OnOk r (store' ≡ with_text (after_journal d s keys).editor.content.text store)
     → OnOk r (Recovers (begins_with text height width base unsaved keys) classes brackets mirroring store store')
 recovers_of d text height width base unsaved keys classes brackets mirroring s store store' (Err fault) opened stored = tt
 recovers_of d text height width base unsaved keys classes brackets mirroring s store store' (Ok done) opened stored = record {
   tables = d;
   offset = opened.0;
   answers = opened.1;
-  stored = stored ∙ ap (λ (x : Session). with_text (after_replaying d x keys).editor.content.text store) opened.2.session;
+  stored = stored ∙ ap (λ (x : Session). with_text (after_journal d x keys).editor.content.text store) opened.2.session;
 }

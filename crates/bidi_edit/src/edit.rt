@@ -1,7 +1,7 @@
 //! One run of the editor over a reader, a writer and a store.
 
 ghost use Rattle.std.specs.Prelude.{◌≡◌, false, IfOk, OnOk};
-ghost use Rattle.bx_session.specs.Laws.{after_replaying};
+ghost use Rattle.bx_session.specs.Laws.{after_journal};
 ghost use Rattle.bx_session.specs.Painting.{QueuesPicture};
 ghost use Rattle.bx_session.specs.Journal.{RunsRecorded};
 ghost use Rattle.bx_session.specs.Saving.{store_state};
@@ -37,13 +37,13 @@ fn resume<D: BidiData + Drop, R: Read, J: Journal + Drop, W: Write, S: Store>(
 ) -> Result<Changes, ProgramFault<'static>>
     ensures tables { session.new.tables ≡ session.old.tables }
     ensures paints { OnOk result (QueuesPicture (D.data session.old.tables)
-        (after_replaying (D.data session.old.tables) session.old.session keys.now).pending
-        (after_replaying (D.data session.old.tables) session.old.session keys.now).known
+        (after_journal (D.data session.old.tables) session.old.session keys.now).pending
+        (after_journal (D.data session.old.tables) session.old.session keys.now).known
         (with_painting (D.data session.old.tables)
-        (after_replaying (D.data session.old.tables) session.old.session keys.now))) }
+        (after_journal (D.data session.old.tables) session.old.session keys.now))) }
     ensures runs { OnOk result (RunsRecorded J.contents J.failure_count (D.data session.old.tables)
         (with_painting (D.data session.old.tables)
-        (after_replaying (D.data session.old.tables) session.old.session keys.now)) session.new.session
+        (after_journal (D.data session.old.tables) session.old.session keys.now)) session.new.session
         (store_state S.contents S.failure_count store.old) (store_state S.contents S.failure_count store.new)
         (R.remaining reader.old) (R.remaining reader.new) (W.contents writer.old) (W.contents writer.new) recorder.old recorder.new) }
     ensures saved { result ≡ Ok Changes.Saved → session.new.session.editor.changed ≡ false }

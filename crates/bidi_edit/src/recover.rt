@@ -1,7 +1,7 @@
 //! Recovery of a text from a journal, without a terminal.
 
 ghost use Rattle.std.specs.Prelude.{◌≡◌, OnOk};
-ghost use Rattle.bx_session.specs.Laws.{after_replaying};
+ghost use Rattle.bx_session.specs.Laws.{after_journal};
 ghost use Rattle.bx_session.specs.Saving.{store_state, with_text};
 ghost use Rattle.bidi_edit.specs.Run.{Recovers, begins_with, bytes_of};
 
@@ -21,7 +21,7 @@ fn store_replayed<D: BidiData + Drop, S: Store>(
     file: &[u8],
 ) -> Result<Replayed, ProgramFault<'static>>
     ensures stored { OnOk result (store_state S.contents S.failure_count store.new ≡ with_text
-        (after_replaying (D.data session.old.tables) session.old.session keys.now).editor.content.text
+        (after_journal (D.data session.old.tables) session.old.session keys.now).editor.content.text
         (store_state S.contents S.failure_count store.old)) }
 {
     let replayed = replay_beside(session, keys, file)?;

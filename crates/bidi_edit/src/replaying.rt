@@ -1,7 +1,7 @@
 //! Replay of a journal's keys.
 
 ghost use Rattle.std.specs.Prelude.{◌≡◌, OnOk};
-ghost use Rattle.bx_session.specs.Laws.{after_replaying};
+ghost use Rattle.bx_session.specs.Laws.{after_journal};
 
 use crate::fault::ProgramFault;
 use bx_keys::Key;
@@ -47,11 +47,12 @@ pub fn replay<D: BidiData + Drop>(
 ) -> Result<(), ProgramFault<'static>>
     ensures tables { session.new.tables ≡ session.old.tables }
     ensures replays { OnOk result (session.new.session
-        ≡ after_replaying (D.data session.old.tables) session.old.session keys.now) }
+        ≡ after_journal (D.data session.old.tables) session.old.session keys.now) }
 {
     for byte in keys {
         session.replay(*byte)?;
     }
+    session.end_replay();
     Ok(())
 }
 
@@ -66,7 +67,7 @@ pub fn replay_beside<D: BidiData + Drop>(
 ) -> Result<Replayed, ProgramFault<'static>>
     ensures tables { session.new.tables ≡ session.old.tables }
     ensures replays { OnOk result (session.new.session
-        ≡ after_replaying (D.data session.old.tables) session.old.session keys.now) }
+        ≡ after_journal (D.data session.old.tables) session.old.session keys.now) }
 {
     let mut is_known = session.has_text(file);
     let mut count = 0u64;
@@ -80,6 +81,7 @@ pub fn replay_beside<D: BidiData + Drop>(
         }
         session.replay(*byte)?;
     }
+    session.end_replay();
     let held = if session.has_text(file) {
         Held::Same
     } else if is_known {

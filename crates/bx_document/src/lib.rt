@@ -12,6 +12,7 @@ mod history;
 mod moves;
 mod row_cache;
 mod searching;
+mod separating;
 mod shown;
 mod touched;
 

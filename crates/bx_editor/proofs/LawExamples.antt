@@ -1,14 +1,17 @@
 -- Worked examples, each from a law alone.
-use Rattle.std.proofs.Common.{◌≡◌, true, [], ◌∷◌, refl, ap}
-use Rattle.std.specs.Prelude.{codes}
+use Rattle.std.proofs.Common.{◌≡◌, ℕ, ◌≤◌, true, [], ◌∷◌, refl, ap, subst, ◌∙◌, arith, ⊎_elim}
+use Rattle.std.specs.Prelude.{codes, IsCharBoundary}
+use Rattle.std.proofs.lemmas.Bool.{cases_lt}
 use Rattle.std.specs.Fmt.{digits}
 use Rattle.unicode_segmentation.proofs.Computing.{unicode_segmentation}
 use Rattle.unicode_width.proofs.Computing.{unicode_width}
 use Rattle.bx_terms.specs.declared.base.Base.TheVariants.{Auto}
-use Rattle.bx_keys.specs.declared.key.Key.TheVariants.{Insert, Delete, Down, Save, Undo, Redo}
+use Rattle.bx_keys.specs.declared.key.Key.TheVariants.{Insert, Delete, Down, Find, Save, Undo, Redo}
 use Rattle.bx_text.specs.Edits.{Edited}
-use Rattle.bx_editor.specs.Editor.{Editor}
-use Rattle.bx_editor.specs.Laws.{RedoMirrorsUndo, TopStays, UndoGivesBack}
+use Rattle.bx_find.specs.Laws.{StandsAt}
+use Rattle.bx_view.specs.Moves.{place_at}
+use Rattle.bx_editor.specs.Editor.{Editor, rows}
+use Rattle.bx_editor.specs.Laws.{FindGoesToNext, RedoMirrorsUndo, TopStays, UndoGivesBack}
 use Rattle.bx_editor.specs.Picture.{next_top}
 use Rattle.bx_editor.proofs.Computed.{tables, start, after}
 
@@ -36,3 +39,30 @@ pub undo_takes_it_again : RedoMirrorsUndo → (after (start (codes "x") 2 10) (I
 unfolding unicode_segmentation unicode_width digits
 undo_takes_it_again law =
     ap (λ (t : Edited). t.text) ((law tables (codes "x") 2 10 Auto ((Insert 0x61, true) ∷ (Undo, true) ∷ [])).undo (λ none. cc none))
+
+-- ---- a search
+
+-- abcabc, after Find and c: the place is 2
+abbrev at_the_first_c : Editor
+at_the_first_c = after (start (codes "abcabc") 2 20) (Find ∷ Insert 0x63 ∷ [])
+
+abbrev stands_at : ℕ → Type 0
+stands_at at = StandsAt tables (codes "c") (codes "abcabc") at
+
+-- c stands at 5, and from 3 on at no other offset before
+at_five : (at : ℕ) → 3 ≤ at → at ≤ 5 → stands_at at → at ≡ 5
+unfolding unicode_segmentation unicode_width digits
+at_five at low high stands =
+    ⊎_elim (λ less. (let three : at ≡ 3 = omega (arith, low, less) in absurd (cc (subst stands_at three stands).1)))
+    (λ more. ⊎_elim (λ less. (let four : at ≡ 4 = omega (arith, more, less) in absurd (cc (subst stands_at four stands).1)))
+    (λ much. omega (arith, high, much)) (cases_lt at 5))
+    (cases_lt at 4)
+
+pub find_goes_to_five : FindGoesToNext → (after at_the_first_c (Find ∷ [])).place ≡ 5
+unfolding unicode_segmentation unicode_width digits
+find_goes_to_five law =
+    let bounds : IsCharBoundary (codes "abcabc") 5 = (omega arith, λ inside high. absurd (omega (arith, high))) in
+    let five : stands_at 5 = (bounds, refl) in
+    ⊎_elim (λ next. next.2.0 ∙ ap (place_at (rows tables at_the_first_c)) (at_five next.0 next.1.not_before (next.1.least 5 (omega arith) five) next.1.stands))
+    (λ round. ⊎_elim (λ first. absurd (first.0 5 (omega arith) five)) (λ none. absurd (none.0 5 (omega arith) five)) round)
+    (law tables at_the_first_c (record { text = (codes "abcabc", (refl, refl)); on = λ e. cc e; letters = λ e. cc e }))

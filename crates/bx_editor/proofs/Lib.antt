@@ -2,6 +2,7 @@ pub mod Computed
 pub mod Examples
 pub mod RegionExamples
 pub mod WordKeyExamples
+pub mod SearchExamples
 pub mod RowText
 pub mod StepOrder
 pub mod Parts
@@ -10,6 +11,10 @@ pub mod StatusRow
 pub mod TopOnce
 pub mod OnItsCell
 pub mod Begin
+pub mod Queries
+pub mod Sought
+pub mod InSearch
+pub mod Nearest
 pub mod TakenBack
 pub mod PutBack
 pub mod LawExamples

@@ -1,18 +1,21 @@
 -- Putting back what was copied or cut.
-use Rattle.std.proofs.Common.{◌≡◌, ℕ, ◌+◌, ◌-◌, ◌<◌, ◌≤◌, true, false, nat_le, List, [], ◌++◌, length, take, drop, slice_range, Some, None}
-use Rattle.std.proofs.Common.{sym, ap, ap₂, subst, ◌∙◌, arith, append_assoc, length-append, length-drop, ⊎_elim}
+use Rattle.std.proofs.Common.{◌≡◌, ℕ, ◌+◌, ◌-◌, ◌<◌, ◌≤◌, Bool, true, false, nat_le, List, [], ◌++◌, length, take, drop, slice_range, Some, None}
+use Rattle.std.proofs.Common.{refl, sym, ap, ap₂, subst, ◌∙◌, arith, append_assoc, length-append, length-drop, ⊎_elim}
 use Rattle.std.specs.Prelude.{◌==◌, if◌then◌else◌, unwrap_or}
 use Rattle.std.proofs.lemmas.Bool.{cases_lt, le-leb}
 use Rattle.std.proofs.lemmas.Bool.Decides.{nat_tests}
 use Rattle.std.proofs.lemmas.List.{append-nil, drop-drop, drop_at, length-take-le, take-append-drop, take_at}
 use Rattle.bx_terms.specs.Sizes.{largest_text}
-use Rattle.bx_keys.specs.declared.key.Key.TheVariants.{Cut, Put}
+use Rattle.bx_keys.specs.declared.key.Key.TheVariants.{Copy, Cut, Put}
 use Rattle.bx_text.specs.Edits.{fits, inserted, removed, splice}
 use Rattle.bx_editor.specs.declared.message.Message.TheVariants.{Copied, LineCopied, NothingToCopy, NothingToPut, TextFull}
 use Rattle.bx_ucd.specs.Data.{Data}
+use Rattle.bx_editor.specs.declared.seek.Seek.{Seek}
+use Rattle.bx_editor.specs.declared.seek.Seek.TheVariants.{Off, Begun, Typed}
 use Rattle.bx_editor.specs.Editor.{Editor, after_insertion, place_after, without_message}
-use Rattle.bx_editor.specs.Keys.{after_key}
-use Rattle.bx_editor.specs.Region.{after_copy, after_put, bytes_in, is_empty, line, region, taken}
+use Rattle.bx_editor.specs.Keys.{after_any, after_key}
+use Rattle.bx_editor.specs.Region.{after_copy, after_cut, after_put, bytes_in, is_empty, line, region, taken}
+use Rattle.bx_editor.specs.Search.{without_search}
 use Rattle.bx_editor.specs.Laws.{CopyPutsTwice, IsPart, PutRestoresCut, twice}
 
 -- ---- a part of a list
@@ -69,7 +72,7 @@ put-text d e some room =
     let after = place_after d e (splice e.content.text e.place e.place e.held) (e.place + length e.held) in
     let none : Editor = record e { message = Some NothingToPut } in
     let full : Editor = record e { message = Some TextFull } in
-    let done : Editor = record e { content = inserted e.content e.place e.held e.place after; place = after; mark = None; changed = true } in
+    let done : Editor = record e { content = inserted e.content e.place e.held e.place after; place = after; mark = None; seek = Off; changed = true } in
     ap (λ b. (if b then none else after_insertion d e e.held).content.text) (is-some e.held some)
     ∙ ap (λ b. (if b then done else full).content.text) room
 
@@ -84,7 +87,7 @@ is-there e (a, b) h = let less : a < b = h.some in grind (arith, nat_tests)
 -- ---- Copy and Put
 
 pub copy-puts-twice : CopyPutsTwice
-copy-puts-twice d e is fit =
+copy-puts-twice d e off is fit =
     let text = e.content.text in
     let a = (region e).0 in
     let b = (region e).1 in
@@ -114,10 +117,21 @@ copy-puts-twice d e is fit =
       length-append (take a text) r,
       length-drop b text,
     ) in
-    ap (λ x. (after_key d false (if x then (if is_empty (line d e) then none else one) else held) Put).content.text) (is-there e (region e) is)
+    let copied : after_key d false e Copy ≡ held =
+    ap (λ s. after_any d false e.quit_before s was Copy) off
+    ∙ ap (λ x. if x then (if is_empty (line d e) then none else one) else held) (is-there e (region e) is) in
+    ap (λ new. (after_key d false new Put).content.text) copied
+    ∙ ap (λ s. (after_any d false held.quit_before s (without_message held) Put).content.text) off
     ∙ put-text d (without_message held) (omega (arith, long, is.some)) (has-room text e.place r (omega (arith, size, fit))) ∙ put
 
 -- ---- Cut and Put
+
+-- a Cut that removes something ends a search
+cut-any : (d : Data) (again : Bool) (seek : Seek) (e cut : Editor) → after_cut d e ≡ cut → cut ≡ without_search cut
+    → after_any d false again seek e Cut ≡ cut
+cut-any d again Off e cut is over = is
+cut-any d again Begun e cut is over = ap without_search is ∙ sym over
+cut-any d again Typed e cut is over = ap without_search is ∙ sym over
 
 pub put-restores-cut : PutRestoresCut
 put-restores-cut d e is short there =
@@ -127,12 +141,13 @@ put-restores-cut d e is short there =
     let r = bytes_in e (taken d e) in
     let was = without_message e in
     let after = place_after d was (splice text a b []) a in
-    let without : Editor = record was { content = removed e.content a b e.place after; place = after; mark = None; changed = true } in
+    let without : Editor = record was { content = removed e.content a b e.place after; place = after; mark = None; seek = Off; changed = true } in
     let cut : Editor = record without { held = r } in
     let order : a ≤ b = omega (arith, is.some) in
     let long : length r ≡ b - a = part-length text a b order is.inside in
     let same : after_key d false e Cut ≡ cut =
-    ap (λ x. if x then after_copy d was else record (if x then was else without) { held = r }) (is-there e (taken d e) is) in
+    cut-any d e.quit_before e.seek was cut
+    (ap (λ x. if x then after_copy d was else record (if x then was else without) { held = r }) (is-there e (taken d e) is)) refl in
     let at : after ≡ a = sym (ap (λ (c : Editor). c.place) same) ∙ there in
     let size : length (splice text a b []) + length r ≡ length text =
     omega (

@@ -15,7 +15,7 @@ use Rattle.bx_document.specs.Drawing.{with_rows}
 use Rattle.bx_document.proofs.PutOn.{one_row}
 use Rattle.bx_editor.specs.declared.message.Message.{Message}
 use Rattle.bx_editor.specs.declared.message.Message.TheVariants.{Saved, SaveFailed, TextFull, NothingToUndo, NothingToRedo, Unsaved, Direction, MarkSet, MarkOff}
-use Rattle.bx_editor.specs.declared.message.Message.TheVariants.{Copied, LineCopied, NothingToCopy, NothingToPut, Help}
+use Rattle.bx_editor.specs.declared.message.Message.TheVariants.{Copied, LineCopied, NothingToCopy, NothingToPut, FromStart, FromEnd, NotFound, Help}
 use Rattle.bx_editor.specs.Status.{message_part, message_text, status_line, text_columns}
 
 -- ---- all its characters are from SPACE to TILDE
@@ -49,6 +49,9 @@ message-printable Copied = refl
 message-printable LineCopied = refl
 message-printable NothingToCopy = refl
 message-printable NothingToPut = refl
+message-printable FromStart = refl
+message-printable FromEnd = refl
+message-printable NotFound = refl
 message-printable Help = refl
 
 part-printable : (message : Option Message) → are_ascii_printable (message_part message) ≡ true

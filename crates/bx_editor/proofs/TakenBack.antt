@@ -1,5 +1,5 @@
 -- Undo and redo restore earlier versions: past and future are chains of versions that begin with the opened text.
-use Rattle.std.proofs.Common.{◌≡◌, ℕ, Bool, true, false, List, [], ◌∷◌, length, replicate, refl, sym, ap, subst, if◌then◌else◌}
+use Rattle.std.proofs.Common.{◌≡◌, ℕ, Bool, true, false, List, [], ◌∷◌, length, replicate, refl, sym, ap, subst, ◌∙◌, if◌then◌else◌}
 use Rattle.std.specs.Prelude.{◌≢◌, ◌+◌, ◌==◌, ◌||◌, not, encode_utf8, Some, None}
 use Rattle.bx_terms.specs.declared.base.Base.{Base}
 use Rattle.bx_keys.specs.declared.key.Key.{Key}
@@ -11,11 +11,15 @@ use Rattle.bx_view.specs.Moves.{step_logical}
 use Rattle.bx_view.specs.declared.moves.Logical.TheVariants as logical
 use Rattle.bx_editor.specs.declared.message.Message.TheVariants.{TextFull, Unsaved, Copied, LineCopied, MarkOff, MarkSet, NothingToCopy, NothingToPut}
 use Rattle.bx_ucd.specs.Data.{Data}
+use Rattle.bx_editor.specs.declared.seek.Seek.{Seek}
+use Rattle.bx_editor.specs.declared.seek.Seek.TheVariants.{Off, Begun, Typed}
 use Rattle.bx_editor.specs.Editor.{Editor, at_start, rows, place_after, after_insertion, after_removal, without_message}
 use Rattle.bx_editor.specs.Editor.{after_undo, after_redo, after_save, after_quit}
-use Rattle.bx_editor.specs.Keys.{after_key, after_keys}
+use Rattle.bx_editor.specs.Keys.{after_any, after_key, after_keys, after_pressing, after_seeking}
 use Rattle.bx_editor.specs.Region.{after_copy, after_cut, after_mark, after_put, bytes_in, is_at_mark, is_empty, line, region, taken}
+use Rattle.bx_editor.specs.Search.{after_letter, is_no_letter, kept, lengthened, search_from, with_query, without_search}
 use Rattle.bx_editor.specs.Laws.{after_typing, IsBackAt, UndoGivesBack, RedoMirrorsUndo}
+use Rattle.bx_editor.proofs.InSearch.{each-key}
 
 -- ---- chains of versions
 
@@ -48,14 +52,14 @@ insertion_has : (first : List ℕ) (d : Data) (e : Editor) (new : List ℕ) → 
 insertion_has first d e new h =
     let after = place_after d e (splice e.content.text e.place e.place new) (e.place + length new) in
     either_has (fits e.content.text e.place e.place new) first
-    (record e { content = inserted e.content e.place new e.place after; place = after; mark = None; changed = true })
+    (record e { content = inserted e.content e.place new e.place after; place = after; mark = None; seek = Off; changed = true })
     (record e { message = Some TextFull }) (record { past = (refl, h.past); future = tt }) h
 
 removal_has : (first : List ℕ) (d : Data) (e : Editor) (start stop : ℕ) → HasVersions first e.content
     → HasVersions first (after_removal d e start stop).content
 removal_has first d e start stop h =
     let after = place_after d e (splice e.content.text start stop []) start in
-    either_has (start == stop) first e (record e { content = removed e.content start stop e.place after; place = after; mark = None; changed = true }) h
+    either_has (start == stop) first e (record e { content = removed e.content start stop e.place after; place = after; mark = None; seek = Off; changed = true }) h
     (record { past = (refl, h.past); future = tt })
 
 undo_has : (first : List ℕ) (e : Editor) (text : List ℕ) (past future : List Edit) → HasVersions first (version text past future)
@@ -103,39 +107,90 @@ put_has : (first : List ℕ) (d : Data) (e : Editor) → HasVersions first e.con
 put_has first d e h =
     either_has (length e.held == 0) first (record e { message = Some NothingToPut }) (after_insertion d e e.held) h (insertion_has first d e e.held h)
 
+press_has : (d : Data) (saved again : Bool) (first : List ℕ) (e : Editor) (key : Key) → HasVersions first e.content
+    → HasVersions first (after_pressing d saved again e key).content
+press_has d saved again first e (Insert c) h = insertion_has first d e (encode_utf8 c) h
+press_has d saved again first e Erase h = removal_has first d e (step_logical (rows d e) logical.Back e.place) e.place h
+press_has d saved again first e Delete h = removal_has first d e e.place (step_logical (rows d e) logical.Forward e.place) h
+press_has d saved again first e Back h = h
+press_has d saved again first e Forward h = h
+press_has d saved again first e Up h = h
+press_has d saved again first e Down h = h
+press_has d saved again first e Right h = h
+press_has d saved again first e Left h = h
+press_has d saved again first e RowHome h = h
+press_has d saved again first e RowEnd h = h
+press_has d saved again first e PageUp h = h
+press_has d saved again first e PageDown h = h
+press_has d saved again first e Save h = save_has first e saved h
+press_has d saved again first e Quit h = quit_has first e again h
+press_has d saved again first e Undo h = undo_has first e e.content.text e.content.past e.content.future h
+press_has d saved again first e Redo h = redo_has first e e.content.text e.content.past e.content.future h
+press_has d saved again first e Repaint h = h
+press_has d saved again first e Direction h = h
+press_has d saved again first e Mark h = mark_has first e h
+press_has d saved again first e Copy h = copy_has first d e h
+press_has d saved again first e Cut h = cut_has first d e h
+press_has d saved again first e Put h = put_has first d e h
+press_has d saved again first e Find h = h
+press_has d saved again first e FindBack h = h
+press_has d saved again first e WordLeft h = h
+press_has d saved again first e WordRight h = h
+press_has d saved again first e TextStart h = h
+press_has d saved again first e TextEnd h = h
+press_has d saved again first e Help h = h
+press_has d saved again first e (Size height width) h = h
+
+letter_has : (first : List ℕ) (d : Data) (e : Editor) (c : ℕ) → HasVersions first e.content → HasVersions first (after_letter d e c).content
+letter_has first d e c h =
+    let longer : Editor = search_from d e.place (with_query e (lengthened (kept e.seek e.query) c)) in
+    either_has (c == 0xA) first (without_search e) (if is_no_letter d c then e else longer) h (either_has (is_no_letter d c) first e longer h h)
+
+seek_has : (d : Data) (saved again : Bool) (first : List ℕ) (e : Editor) (key : Key) → HasVersions first e.content
+    → HasVersions first (after_seeking d saved again e key).content
+seek_has d saved again first e (Insert c) h = letter_has first d e c h
+seek_has d saved again first e Erase h = h
+seek_has d saved again first e Delete h = h
+seek_has d saved again first e Back h = press_has d saved again first e Back h
+seek_has d saved again first e Forward h = press_has d saved again first e Forward h
+seek_has d saved again first e Up h = press_has d saved again first e Up h
+seek_has d saved again first e Down h = press_has d saved again first e Down h
+seek_has d saved again first e Right h = press_has d saved again first e Right h
+seek_has d saved again first e Left h = press_has d saved again first e Left h
+seek_has d saved again first e RowHome h = press_has d saved again first e RowHome h
+seek_has d saved again first e RowEnd h = press_has d saved again first e RowEnd h
+seek_has d saved again first e PageUp h = press_has d saved again first e PageUp h
+seek_has d saved again first e PageDown h = press_has d saved again first e PageDown h
+seek_has d saved again first e Save h = press_has d saved again first e Save h
+seek_has d saved again first e Quit h = h
+seek_has d saved again first e Undo h = press_has d saved again first e Undo h
+seek_has d saved again first e Redo h = press_has d saved again first e Redo h
+seek_has d saved again first e Repaint h = h
+seek_has d saved again first e Direction h = press_has d saved again first e Direction h
+seek_has d saved again first e Mark h = press_has d saved again first e Mark h
+seek_has d saved again first e Copy h = h
+seek_has d saved again first e Cut h = press_has d saved again first e Cut h
+seek_has d saved again first e Put h = press_has d saved again first e Put h
+seek_has d saved again first e Find h = h
+seek_has d saved again first e FindBack h = h
+seek_has d saved again first e WordLeft h = press_has d saved again first e WordLeft h
+seek_has d saved again first e WordRight h = press_has d saved again first e WordRight h
+seek_has d saved again first e TextStart h = press_has d saved again first e TextStart h
+seek_has d saved again first e TextEnd h = press_has d saved again first e TextEnd h
+seek_has d saved again first e Help h = press_has d saved again first e Help h
+seek_has d saved again first e (Size height width) h = press_has d saved again first e (Size height width) h
+
+any_has : (d : Data) (saved again : Bool) (first : List ℕ) (seek : Seek) (e : Editor) (key : Key) → HasVersions first e.content
+    → HasVersions first (after_any d saved again seek e key).content
+any_has d saved again first Off e key h = press_has d saved again first e key h
+any_has d saved again first Begun e key h = seek_has d saved again first e key h
+any_has d saved again first Typed e key h = seek_has d saved again first e key h
+
 key_has : (d : Data) (saved : Bool) (first : List ℕ) (e : Editor) (key : Key) → HasVersions first e.content
     → HasVersions first (after_key d saved e key).content
-key_has d saved first e (Insert c) h = insertion_has first d (without_message e) (encode_utf8 c) h
-key_has d saved first e Erase h = removal_has first d (without_message e) (step_logical (rows d e) logical.Back e.place) e.place h
-key_has d saved first e Delete h = removal_has first d (without_message e) e.place (step_logical (rows d e) logical.Forward e.place) h
-key_has d saved first e Back h = h
-key_has d saved first e Forward h = h
-key_has d saved first e Up h = h
-key_has d saved first e Down h = h
-key_has d saved first e Right h = h
-key_has d saved first e Left h = h
-key_has d saved first e RowHome h = h
-key_has d saved first e RowEnd h = h
-key_has d saved first e PageUp h = h
-key_has d saved first e PageDown h = h
-key_has d saved first e Save h = save_has first (without_message e) saved h
-key_has d saved first e Quit h = quit_has first (without_message e) e.quit_before h
-key_has d saved first e Undo h = undo_has first (without_message e) e.content.text e.content.past e.content.future h
-key_has d saved first e Redo h = redo_has first (without_message e) e.content.text e.content.past e.content.future h
-key_has d saved first e Repaint h = h
-key_has d saved first e Direction h = h
-key_has d saved first e Mark h = mark_has first (without_message e) h
-key_has d saved first e Copy h = copy_has first d (without_message e) h
-key_has d saved first e Cut h = cut_has first d (without_message e) h
-key_has d saved first e Put h = put_has first d (without_message e) h
-key_has d saved first e Find h = h
-key_has d saved first e FindBack h = h
-key_has d saved first e WordLeft h = h
-key_has d saved first e WordRight h = h
-key_has d saved first e TextStart h = h
-key_has d saved first e TextEnd h = h
-key_has d saved first e Help h = h
-key_has d saved first e (Size height width) h = h
+key_has d saved first e key h =
+    each-key d saved e (λ k new. HasVersions first new.content) (λ height width. h)
+    (λ k other. any_has d saved e.quit_before first e.seek (without_message e) k h) key
 
 typing_has : (d : Data) (first : List ℕ) (e : Editor) (typed : List (Key × Bool)) → HasVersions first e.content
     → HasVersions first (after_typing d e typed).content
@@ -146,23 +201,44 @@ typed_has : (d : Data) (text : List ℕ) (height width : ℕ) (base : Base) (typ
     → HasVersions text (after_typing d (at_start text height width base) typed).content
 typed_has d text height width base typed = typing_has d text (at_start text height width base) typed (record { past = refl; future = tt })
 
--- ---- undo and redo
+-- ---- undo and redo, whether a search is on or not
+
+undone_is : (d : Data) (again : Bool) (seek : Seek) (e : Editor) (text : List ℕ) (edit : Edit) (past future : List Edit)
+    → after_any d false again seek (record e { content = version text (edit ∷ past) future }) Undo
+    ≡ record e { content = version edit.before.text past (edit ∷ future); place = edit.before.place; mark = None; seek = Off; changed = true }
+undone_is d again Off e text edit past future = refl
+undone_is d again Begun e text edit past future = refl
+undone_is d again Typed e text edit past future = refl
+
+redone_is : (d : Data) (again : Bool) (seek : Seek) (e : Editor) (text : List ℕ) (edit : Edit) (past future : List Edit)
+    → after_any d false again seek (record e { content = version text past (edit ∷ future) }) Redo
+    ≡ record e { content = version edit.after.text (edit ∷ past) future; place = edit.after.place; mark = None; seek = Off; changed = true }
+redone_is d again Off e text edit past future = refl
+redone_is d again Begun e text edit past future = refl
+redone_is d again Typed e text edit past future = refl
 
 all_back : (d : Data) (first : List ℕ) (e : Editor) (text : List ℕ) (past future : List Edit) → IsPastOf first text past
     → IsBackAt first (after_keys d false (record e { content = version text past future }) (replicate (length past) Undo))
 all_back d first e text [] future h = record { text_is = h; past_is = refl }
 all_back d first e text (edit ∷ past) future h =
-    all_back d first (record (without_message e) { place = edit.before.place; mark = None; changed = true }) edit.before.text past (edit ∷ future) h.1
+    subst (λ new. IsBackAt first (after_keys d false new (replicate (length past) Undo)))
+    (sym (undone_is d e.quit_before e.seek (without_message e) text edit past future))
+    (all_back d first (record (without_message e) { place = edit.before.place; mark = None; seek = Off; changed = true }) edit.before.text past
+    (edit ∷ future) h.1)
 
 redo_back : (d : Data) (first : List ℕ) (e : Editor) (text : List ℕ) (past future : List Edit) → IsPastOf first text past → past ≢ []
     → (after_keys d false (record e { content = version text past future }) (Undo ∷ Redo ∷ [])).content ≡ version text past future
 redo_back d first e text [] future h some = absurd (some refl)
-redo_back d first e text (edit ∷ past) future h some = ap (λ t. version t (edit ∷ past) future) h.0
+redo_back d first e text (edit ∷ past) future h some =
+    ap (λ new. (after_key d false new Redo).content) (undone_is d e.quit_before e.seek (without_message e) text edit past future)
+    ∙ ap (λ t. version t (edit ∷ past) future) h.0
 
 undo_back : (d : Data) (e : Editor) (text : List ℕ) (past future : List Edit) → IsFutureOf text future → future ≢ []
     → (after_keys d false (record e { content = version text past future }) (Redo ∷ Undo ∷ [])).content ≡ version text past future
 undo_back d e text past [] h some = absurd (some refl)
-undo_back d e text past (edit ∷ future) h some = ap (λ t. version t past (edit ∷ future)) h.0
+undo_back d e text past (edit ∷ future) h some =
+    ap (λ new. (after_key d false new Undo).content) (redone_is d e.quit_before e.seek (without_message e) text edit past future)
+    ∙ ap (λ t. version t past (edit ∷ future)) h.0
 
 pub undo_gives_back : UndoGivesBack
 undo_gives_back d text height width base typed =

@@ -74,7 +74,7 @@ rows d e = rows_of d e e.content.text
 abbrev pub text_height : ℕ → ℕ
 text_height height = if nat_le 2 height then height - 1 else 1
 
--- ---- edits: one that makes the text another takes the mark away
+-- ---- edits: one that makes the text another takes the mark away and ends a search
 
 -- the first place of a new text at or after an offset
 abbrev pub place_after : Data → Editor → List ℕ → ℕ → ℕ
@@ -86,7 +86,7 @@ abbrev pub after_insertion : Data → Editor → List ℕ → Editor
 after_insertion d e new =
     if fits e.content.text e.place e.place new
     then (let after = place_after d e (splice e.content.text e.place e.place new) (e.place + length new) in
-    record e { content = inserted e.content e.place new e.place after; place = after; mark = None; changed = true })
+    record e { content = inserted e.content e.place new e.place after; place = after; mark = None; seek = seeks.Off; changed = true })
     else record e { message = Some messages.TextFull }
 
 -- the bytes from `start` to `stop` are removed; if there are none, nothing changes
@@ -96,17 +96,17 @@ after_removal d e start stop =
     then e
     else
     let after = place_after d e (splice e.content.text start stop []) start in
-    record e { content = removed e.content start stop e.place after; place = after; mark = None; changed = true }
+    record e { content = removed e.content start stop e.place after; place = after; mark = None; seek = seeks.Off; changed = true }
 
 -- the latest edit is undone, and the cursor returns to its place before it
 abbrev pub after_undo : Editor → List Edit → Editor
 after_undo e [] = record e { message = Some messages.NothingToUndo }
-after_undo e (edit ∷ past) = record e { content = undone e.content; place = edit.before.place; mark = None; changed = true }
+after_undo e (edit ∷ past) = record e { content = undone e.content; place = edit.before.place; mark = None; seek = seeks.Off; changed = true }
 
 -- the next edit is redone, and the cursor goes to its place after it
 abbrev pub after_redo : Editor → List Edit → Editor
 after_redo e [] = record e { message = Some messages.NothingToRedo }
-after_redo e (edit ∷ future) = record e { content = redone e.content; place = edit.after.place; mark = None; changed = true }
+after_redo e (edit ∷ future) = record e { content = redone e.content; place = edit.after.place; mark = None; seek = seeks.Off; changed = true }
 
 abbrev pub after_step : HistoryStep → Editor → Editor
 after_step steps.Undo e = after_undo e e.content.past

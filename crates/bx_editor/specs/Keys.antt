@@ -50,7 +50,7 @@ after_pressing d saved again e TextEnd = with_place e (length e.content.text)
 after_pressing d saved again e Help = after_help e
 after_pressing d saved again e (Size height width) = e
 
--- a key other than Size in a search, once the message is cleared: those that have no effect of their own here end the search
+-- the same in a search: a key that has no effect of its own here does its usual work, and the search is over
 abbrev pub after_seeking : Data → Bool → Bool → Editor → Key → Editor
 after_seeking d saved again e (Insert c) = after_letter d e c
 after_seeking d saved again e Erase = after_shortening d e
@@ -60,9 +60,9 @@ after_seeking d saved again e FindBack = after_find_back d e
 after_seeking d saved again e Quit = after_giving_up e
 after_seeking d saved again e Copy = after_giving_up e
 after_seeking d saved again e Repaint = e
-after_seeking d saved again e key = after_pressing d saved again (without_search e) key
+after_seeking d saved again e key = without_search (after_pressing d saved again e key)
 
--- a key other than Size, once the message is cleared, in or out of a search
+-- the same, as a search is on or not
 abbrev pub after_any : Data → Bool → Bool → Seek → Editor → Key → Editor
 after_any d saved again Off e key = after_pressing d saved again e key
 after_any d saved again _ e key = after_seeking d saved again e key

@@ -1,13 +1,19 @@
 -- Laws of the editor.
-use Rattle.std.specs.Prelude.{◌≡◌, ◌≢◌, ℕ, ◌<◌, ◌≤◌, Bool, true, false, List, [], ◌∷◌, ◌++◌, length, take, drop, replicate, IsUtf8}
+use Rattle.std.specs.Prelude.{◌≡◌, ◌≢◌, ◌⊎◌, ℕ, ◌<◌, ◌≤◌, Bool, true, false, List, [], ◌∷◌, ◌++◌, length, take, drop, replicate, Option, Some, None, IsUtf8}
 use Rattle.bx_terms.specs.Sizes.{is_side, largest_text}
 use Rattle.bx_terms.specs.declared.base.Base.{Base}
 use Rattle.bx_keys.specs.declared.key.Key.{Key}
-use Rattle.bx_keys.specs.declared.key.Key.TheVariants.{Undo, Redo, Copy, Cut, Put}
+use Rattle.bx_keys.specs.declared.key.Key.TheVariants.{Undo, Redo, Copy, Cut, Put, Find, FindBack}
 use Rattle.bx_ucd.specs.Data.{Data}
-use Rattle.bx_editor.specs.Editor.{Editor, at_start}
+use Rattle.bx_find.specs.Laws.{IsFirst, IsLast, StandsAt}
+use Rattle.bx_view.specs.Moves.{place_at}
+use Rattle.bx_editor.specs.declared.message.Message.{Message}
+use Rattle.bx_editor.specs.declared.message.Message.TheVariants.{FromStart, FromEnd, NotFound}
+use Rattle.bx_editor.specs.declared.seek.Seek.TheVariants.{Off}
+use Rattle.bx_editor.specs.Editor.{Editor, at_start, rows}
 use Rattle.bx_editor.specs.Keys.{after_key, after_keys}
 use Rattle.bx_editor.specs.Region.{bytes_in, region, taken}
+use Rattle.bx_editor.specs.Search.{next_or_start, sought}
 use Rattle.bx_editor.specs.Picture.{next_top}
 
 -- ---- the top
@@ -66,10 +72,10 @@ pub record IsPart (e : Editor) (part : ℕ × ℕ) : Type 0 where
 abbrev pub twice : Editor → ℕ × ℕ → List ℕ
 twice e part = take part.0 e.content.text ++ bytes_in e part ++ bytes_in e part ++ drop part.1 e.content.text
 
--- copying the region and putting it back at once leaves the text with the region twice, if there is room for it
+-- outside a search, copying the region and putting it back at once leaves the text with the region twice, if there is room
 abbrev pub CopyPutsTwice : Type 0
 CopyPutsTwice =
-    (d : Data) (e : Editor) → IsPart e (region e) → length (twice e (region e)) ≤ largest_text
+    (d : Data) (e : Editor) → e.seek ≡ Off → IsPart e (region e) → length (twice e (region e)) ≤ largest_text
     → (after_keys d false e (Copy ∷ Put ∷ [])).content.text ≡ twice e (region e)
 
 -- what is cut and put back at once, with the place where it was, leaves the text as it was
@@ -78,3 +84,42 @@ PutRestoresCut =
     (d : Data) (e : Editor) → IsPart e (taken d e) → length e.content.text ≤ largest_text
     → (after_key d false e Cut).place ≡ (taken d e).0
     → (after_keys d false e (Cut ∷ Put ∷ [])).content.text ≡ e.content.text
+
+-- ---- a search
+
+-- a search for some letters is on
+pub record Seeks (d : Data) (e : Editor) : Type 0 where
+  pub text : IsUtf8 e.content.text
+  pub on : e.seek ≢ Off
+  pub letters : sought d e ≢ []
+
+-- the letters stand at no offset from x on, or before x
+abbrev pub NoneFrom : Data → Editor → ℕ → Type 0
+NoneFrom d e x = (i : ℕ) → x ≤ i → ¬ (StandsAt d (sought d e) e.content.text i)
+
+abbrev pub NoneBefore : Data → Editor → ℕ → Type 0
+NoneBefore d e x = (i : ℕ) → i < x → ¬ (StandsAt d (sought d e) e.content.text i)
+
+-- the cursor went to the place of an offset, with a message
+abbrev pub WentTo : Data → Editor → Editor → Option Message → ℕ → Type 0
+WentTo d e new message offset = (new.place ≡ place_at (rows d e) offset) × (new.message ≡ message)
+
+abbrev pub Stayed : Editor → Editor → Type 0
+Stayed e new = (new.place ≡ e.place) × (new.message ≡ Some NotFound)
+
+-- Find in a search goes to the least offset from the next place on at which the letters stand; if there is none, to the least of the
+-- text, and says so; if there is none either, it stays
+abbrev pub FindGoesToNext : Type 0
+FindGoesToNext =
+    (d : Data) (e : Editor) → Seeks d e → let x = next_or_start d e in let new = after_key d false e Find in
+    ((at : ℕ) × IsFirst d (sought d e) e.content.text x at × WentTo d e new None at)
+    ⊎ ((NoneFrom d e x × ((at : ℕ) × IsFirst d (sought d e) e.content.text 0 at × WentTo d e new (Some FromStart) at))
+    ⊎ (NoneFrom d e 0 × Stayed e new))
+
+-- FindBack goes to the greatest offset before the place at which they stand; if there is none, to the greatest of the text
+abbrev pub FindBackGoesToPrevious : Type 0
+FindBackGoesToPrevious =
+    (d : Data) (e : Editor) → Seeks d e → let end = length e.content.text in let new = after_key d false e FindBack in
+    ((at : ℕ) × IsLast d (sought d e) e.content.text e.place at × WentTo d e new None at)
+    ⊎ ((NoneBefore d e e.place × ((at : ℕ) × IsLast d (sought d e) e.content.text end at × WentTo d e new (Some FromEnd) at))
+    ⊎ (NoneBefore d e end × Stayed e new))

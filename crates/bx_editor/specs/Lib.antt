@@ -1,6 +1,7 @@
 pub mod Editor
 pub mod Region
 pub mod Search
+pub mod Origin
 pub mod Keys
 pub mod Opening
 pub mod Picture

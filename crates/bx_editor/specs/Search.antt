@@ -1,11 +1,14 @@
 -- The keys of a search. Offsets and places count bytes of the text.
-use Rattle.std.specs.Prelude.{ℕ, ◌==◌, ◌||◌, nat_lt, Bool, List, [], ◌∷◌, ◌++◌, length, find, flat_map, chars, encode_utf8, is_empty, Option, Some, None, unwrap_or, if◌then◌else◌}
+use Rattle.std.specs.Prelude.{ℕ, ◌-◌, ◌==◌, ◌||◌, nat_lt, Bool, List, [], ◌∷◌, ◌++◌, length, take, find, chars, encode_utf8, encode_utf8_all}
+use Rattle.std.specs.Prelude.{Option, Some, None, unwrap_or, if◌then◌else◌}
 use Rattle.bx_ucd.specs.Data.{Data}
-use Rattle.bx_ucd.specs.declared.class.Class.TheVariants as classes
+use Rattle.bx_paras.specs.Paragraphs.{is_separator}
 use Rattle.bx_find.specs.Letters.{letters}
 use Rattle.bx_find.specs.Standing.{first_from, last_before}
 use Rattle.bx_view.specs.Moves.{place_at}
-use Rattle.bx_view.specs.TextRows.{places}
+use Rattle.bx_view.specs.TextRows.{TextRow, places}
+use Rattle.bx_editor.specs.declared.matches.Landing.{Landing}
+use Rattle.bx_editor.specs.declared.message.Message.{Message}
 use Rattle.bx_editor.specs.declared.message.Message.TheVariants.{FromStart, FromEnd, NotFound}
 use Rattle.bx_editor.specs.declared.seek.Seek.{Seek}
 use Rattle.bx_editor.specs.declared.seek.Seek.TheVariants.{Off, Begun, Typed}
@@ -17,59 +20,63 @@ use Rattle.bx_editor.specs.Editor.{Editor, rows, with_place}
 abbrev pub sought : Data → Editor → List ℕ
 sought d e = letters d (chars e.query)
 
--- the query with one more character, if it has fewer than 64; the character alone where the search has just begun
-abbrev pub lengthened : Seek → List ℕ → ℕ → List ℕ
-lengthened Begun query c = encode_utf8 c
-lengthened _ query c = if nat_lt (length (chars query)) 64 then query ++ encode_utf8 c else query
+-- what a key of a search adds to and takes from: nothing where the search has just begun
+abbrev pub kept : Seek → List ℕ → List ℕ
+kept Begun query = []
+kept _ query = query
+
+-- with one more character, if there are fewer than 64
+abbrev pub lengthened : List ℕ → ℕ → List ℕ
+lengthened query c = if nat_lt (length (chars query)) 64 then query ++ encode_utf8 c else query
 
 -- all characters but the last
 abbrev pub but_last : List ℕ → List ℕ
-but_last [] = []
-but_last (c ∷ []) = []
-but_last (c ∷ d ∷ cs) = c ∷ but_last (d ∷ cs)
+but_last cs = take (length cs - 1) cs
 
--- the query without its last character; empty where the search has just begun
-abbrev pub shortened : Seek → List ℕ → List ℕ
-shortened Begun query = []
-shortened _ query = flat_map encode_utf8 (but_last (chars query))
+-- without the last character, if there is one
+abbrev pub shortened : List ℕ → List ℕ
+shortened query = encode_utf8_all (but_last (chars query))
 
--- a character that no query takes: a tab, a line feed, or a character that separates paragraphs
+-- a tab, or a character that separates paragraphs: no query takes it
 abbrev pub is_no_letter : Data → ℕ → Bool
-is_no_letter d c = ((c == 0x9) || (c == 0xA)) || (d.class c == classes.B)
+is_no_letter d c = (c == 0x9) || is_separator (d.class c)
 
--- ---- from match to match
+-- ---- where a search leads: to the place of a match, and a message
 
--- the cursor goes to the place of a match
-abbrev pub at_match : Data → Editor → ℕ → Editor
-at_match d e offset = with_place e (place_at (rows d e) offset)
+-- nothing is sought: the cursor stays
+abbrev pub nothing_sought : Landing
+nothing_sought = record { place = None; message = None }
 
--- to the first match of the text, if there is one
-abbrev pub to_first : Data → Editor → Option ℕ → Editor
-to_first d e None = record e { message = Some NotFound }
-to_first d e (Some offset) = record (at_match d e offset) { message = Some FromStart }
+abbrev pub not_found : Landing
+not_found = record { place = None; message = Some NotFound }
 
--- to the first match not before an offset, else to the first of the text
-abbrev pub to_next : Data → Editor → Option ℕ → Editor
-to_next d e None = to_first d e (first_from d (sought d e) e.content.text 0)
-to_next d e (Some offset) = at_match d e offset
+-- the place of a match, if there is one; otherwise as given
+abbrev pub match_or : List TextRow → Option Message → Landing → Option ℕ → Landing
+match_or rows message otherwise None = otherwise
+match_or rows message otherwise (Some offset) = record { place = Some (place_at rows offset); message = message }
 
--- to the last match of the text, if there is one
-abbrev pub to_last : Data → Editor → Option ℕ → Editor
-to_last d e None = record e { message = Some NotFound }
-to_last d e (Some offset) = record (at_match d e offset) { message = Some FromEnd }
+-- the first match not before an offset, else the first of the text
+abbrev pub forward : Data → List TextRow → List ℕ → ℕ → List ℕ → Landing
+forward d rows text x [] = nothing_sought
+forward d rows text x (c ∷ cs) =
+    match_or rows None (match_or rows (Some FromStart) not_found (first_from d (c ∷ cs) text 0)) (first_from d (c ∷ cs) text x)
 
--- to the last match before the place, else to the last of the text
-abbrev pub to_previous : Data → Editor → Option ℕ → Editor
-to_previous d e None = to_last d e (last_before d (sought d e) e.content.text (length e.content.text))
-to_previous d e (Some offset) = at_match d e offset
+-- the last match before an offset, else the last of the text
+abbrev pub backward : Data → List TextRow → List ℕ → ℕ → List ℕ → Landing
+backward d rows text x [] = nothing_sought
+backward d rows text x (c ∷ cs) =
+    match_or rows None (match_or rows (Some FromEnd) not_found (last_before d (c ∷ cs) text (length text))) (last_before d (c ∷ cs) text x)
 
--- a search forward from an offset; without letters nothing is sought
+abbrev pub landed : Editor → Landing → Editor
+landed e landing = record e { place = unwrap_or landing.place e.place; message = landing.message }
+
+-- the query is sought forward from an offset
 abbrev pub search_from : Data → ℕ → Editor → Editor
-search_from d x e = if is_empty (sought d e) then e else to_next d e (first_from d (sought d e) e.content.text x)
+search_from d x e = landed e (forward d (rows d e) e.content.text x (sought d e))
 
--- a search backward from the place
+-- the query is sought backward from the place
 abbrev pub search_back : Data → Editor → Editor
-search_back d e = if is_empty (sought d e) then e else to_previous d e (last_before d (sought d e) e.content.text e.place)
+search_back d e = landed e (backward d (rows d e) e.content.text e.place (sought d e))
 
 -- ---- the keys, once the message is cleared
 
@@ -88,25 +95,25 @@ after_giving_up e = record e { seek = Off; place = e.origin }
 abbrev pub with_query : Editor → List ℕ → Editor
 with_query e query = record e { query = query; seek = Typed }
 
--- a typed character is added to the query, and sought from the place on; a line feed ends the search
+-- a typed character is added to the query, which is sought from the place on; a line feed ends the search
 abbrev pub after_letter : Data → Editor → ℕ → Editor
 after_letter d e c =
-    if is_no_letter d c
-    then (if c == 0xA then without_search e else e)
-    else search_from d e.place (with_query e (lengthened e.seek e.query c))
+    if c == 0xA
+    then without_search e
+    else if is_no_letter d c then e else search_from d e.place (with_query e (lengthened (kept e.seek e.query) c))
 
--- a character is taken off the query, and the rest is sought from where the search began
+-- a character is taken off the query, which is sought from where the search began
 abbrev pub after_shortening : Data → Editor → Editor
-after_shortening d e = search_from d e.origin (with_place (with_query e (shortened e.seek e.query)) e.origin)
+after_shortening d e = search_from d e.origin (with_place (with_query e (shortened (kept e.seek e.query))) e.origin)
 
 -- the next place, or the text's start where there is none
 abbrev pub next_or_start : Data → Editor → ℕ
 next_or_start d e = unwrap_or (find (nat_lt e.place) (places (rows d e))) 0
 
--- the next match
+-- to the next match
 abbrev pub after_find : Data → Editor → Editor
 after_find d e = search_from d (next_or_start d e) (record e { seek = Typed })
 
--- the previous match
+-- to the previous match
 abbrev pub after_find_back : Data → Editor → Editor
 after_find_back d e = search_back d (record e { seek = Typed })

@@ -6,6 +6,7 @@ ghost use Rattle.bx_editor.specs.Editor.{after_insertion, after_removal, after_s
 
 use crate::editor::Editor;
 use crate::message::Message;
+use crate::seek::Seek;
 use bx_document::HistoryStep;
 use bx_terms::OutOfMemory;
 use bx_ucd::BidiData;
@@ -45,6 +46,7 @@ impl<D: BidiData + Drop> Editor<D> {
         };
         self.place = place;
         self.mark = None;
+        self.seek = Seek::Off;
         self.finish_edit();
         Ok(())
     }
@@ -64,6 +66,7 @@ impl<D: BidiData + Drop> Editor<D> {
         let place = self.document.remove(start, stop, self.place)?;
         self.place = place;
         self.mark = None;
+        self.seek = Seek::Off;
         self.finish_edit();
         Ok(())
     }
@@ -111,6 +114,7 @@ impl<D: BidiData + Drop> Editor<D> {
         };
         self.place = place;
         self.mark = None;
+        self.seek = Seek::Off;
         self.finish_edit();
         Ok(())
     }

@@ -6,6 +6,7 @@ ghost use Rattle.bx_terms.specs.Sizes.{is_side};
 ghost use Rattle.bx_text.specs.Slices.{joined, lends};
 ghost use Rattle.bx_grid.specs.Picture.{is_size};
 ghost use Rattle.bx_editor.specs.Editor.{with_size};
+ghost use Rattle.bx_editor.specs.Search.{without_search};
 
 use crate::message::Message;
 use crate::seek::Seek;
@@ -14,8 +15,8 @@ use bx_text::Slices;
 use bx_ucd::BidiData;
 use std::marker::Model;
 
-/// A text under edit, the cursor's place in it, the mark, the text copied or cut last, and the message of the last key, in
-/// a window of rows and columns.
+/// A text under edit, the cursor's place in it, the mark, the text copied or cut last, the query of a search, and the message
+/// of the last key, in a window of rows and columns.
 #[derive(Drop)]
 pub struct Editor<D: BidiData + Drop> {
     pub(crate) document: Document<D>,
@@ -33,10 +34,11 @@ pub struct Editor<D: BidiData + Drop> {
 }
 
 impl<D: BidiData + Drop> Model for Editor<D> {
-    ghost use Rattle.std.specs.Prelude.{◌≡◌, true, IfSome, string_bytes};
+    ghost use Rattle.std.specs.Prelude.{◌≡◌, ◌≤◌, true, IfSome, chars, length, string_bytes};
     ghost use Rattle.bx_terms.specs.Sizes.{is_side};
     ghost use Rattle.bx_view.specs.Places.{IsTextPlace};
     ghost use Rattle.bx_editor.specs.Editor.{EditorState};
+    ghost use Rattle.bx_editor.specs.Origin.{BeganAt};
 
     ghost Value = { EditorState D };
 
@@ -62,7 +64,9 @@ impl<D: BidiData + Drop> Model for Editor<D> {
 
     ghost invariant = { λ e. IsTextPlace (D.data e.document.tables) e.document.document.content.text e.place
         × (is_side e.height ≡ true)
-        × IfSome e.mark (IsTextPlace (D.data e.document.tables) e.document.document.content.text) };
+        × IfSome e.mark (IsTextPlace (D.data e.document.tables) e.document.document.content.text)
+        × (length (chars (string_bytes e.query)) ≤ 64)
+        × BeganAt (D.data e.document.tables) e.document.document.content.text e.seek e.origin };
 }
 
 impl<D: BidiData + Drop> Editor<D> {
@@ -125,5 +129,18 @@ impl<D: BidiData + Drop> Editor<D> {
         ensures side { is_side self.now.editor.width ≡ true }
     {
         self.document.width()
+    }
+    /// Whether a search is on. No memory.
+    pub fn seek(&self) -> Seek
+        ensures { result ≡ self.now.editor.seek }
+    {
+        self.seek
+    }
+
+    /// Ends the search, if one is on. The cursor stays. No memory.
+    pub fn leave_search(&mut self)
+        ensures { self.new ≡ record self.old { editor = without_search self.old.editor } }
+    {
+        self.seek = Seek::Off;
     }
 }

@@ -1,10 +1,13 @@
 //! The effect of each key.
 ghost use Rattle.std.specs.Prelude.{◌≡◌, Some, true, false, OnErr, OnOk};
+ghost use Rattle.bx_view.specs.Places.{IsTextPlace};
 ghost use Rattle.bx_editor.specs.Editor.{after_quit, next_base, with_base, without_message};
-ghost use Rattle.bx_editor.specs.Keys.{after_key, is_edit_or_move, is_save, is_size_key};
+ghost use Rattle.bx_editor.specs.Keys.{after_key, after_pressing, after_seeking, is_edit_or_move, is_save, is_size_key};
+ghost use Rattle.bx_editor.specs.Search.{without_search};
 
 use crate::editor::Editor;
 use crate::message::Message;
+use crate::seek::Seek;
 use bx_document::HistoryStep;
 use bx_keys::Key;
 use bx_terms::{Base, OutOfMemory};
@@ -61,7 +64,7 @@ impl<D: BidiData + Drop> Editor<D> {
         self.tell(Message::Direction(base));
     }
 
-    /// Reports the end of a Save, successful or not. No memory.
+    /// Reports the end of a Save, successful or not, and ends a search. No memory.
     pub fn finish_save(&mut self, saved: bool)
         ensures { self.new ≡ record self.old { editor = after_key (D.data self.old.tables) saved self.old.editor Key.Save } }
     {
@@ -71,6 +74,7 @@ impl<D: BidiData + Drop> Editor<D> {
         } else {
             self.tell(Message::SaveFailed);
         }
+        self.leave_search();
     }
 
     /// Applies a key other than Save and Size.
@@ -80,6 +84,22 @@ impl<D: BidiData + Drop> Editor<D> {
         requires no_save { is_save key ≡ false }
         requires no_size { is_size_key key ≡ false }
         ensures ok { OnOk result (self.new.editor ≡ after_key (D.data self.old.tables) false self.old.editor key) }
+        ensures tables { self.new.tables ≡ self.old.tables }
+        ensures err { OnErr result (self.new ≡ self.old) }
+        ensures edits { OnErr result (is_edit_or_move key ≡ true) }
+    {
+        match self.seek {
+            Seek::Off => self.press(key),
+            Seek::Begun | Seek::Typed => self.press_in_search(key),
+        }
+    }
+
+    /// Applies a key outside a search.
+    fn press(&mut self, key: Key) -> Result<(), OutOfMemory>
+        requires no_save { is_save key ≡ false }
+        requires no_size { is_size_key key ≡ false }
+        ensures ok { OnOk result (self.new.editor
+            ≡ after_pressing (D.data self.old.tables) false self.old.editor.quit_before (without_message self.old.editor) key) }
         ensures tables { self.new.tables ≡ self.old.tables }
         ensures err { OnErr result (self.new ≡ self.old) }
         ensures edits { OnErr result (is_edit_or_move key ≡ true) }
@@ -124,11 +144,58 @@ impl<D: BidiData + Drop> Editor<D> {
                 self.turn_direction();
                 Ok(())
             }
-            Key::Repaint | Key::Find | Key::FindBack => {
+            Key::Find | Key::FindBack => {
+                self.begin_search();
+                Ok(())
+            }
+            Key::Repaint => {
                 self.forget();
                 Ok(())
             }
             Key::Save | Key::Size(..) => unreachable!(),
         }
+    }
+
+    /// Applies a key in a search.
+    fn press_in_search(&mut self, key: Key) -> Result<(), OutOfMemory>
+        requires no_save { is_save key ≡ false }
+        requires no_size { is_size_key key ≡ false }
+        requires origin { IsTextPlace (D.data self.old.tables) self.old.editor.content.text self.old.editor.origin }
+        ensures ok { OnOk result (self.new.editor
+            ≡ after_seeking (D.data self.old.tables) false self.old.editor.quit_before (without_message self.old.editor) key) }
+        ensures tables { self.new.tables ≡ self.old.tables }
+        ensures err { OnErr result (self.new ≡ self.old) }
+        ensures edits { OnErr result (is_edit_or_move key ≡ true) }
+    {
+        match key {
+            Key::Insert(c) => self.type_letter(c),
+            Key::Erase | Key::Delete => self.shorten(),
+            Key::Find => self.find_next(),
+            Key::FindBack => self.find_previous(),
+            Key::Quit | Key::Copy => {
+                self.give_up();
+                Ok(())
+            }
+            Key::Repaint => {
+                self.forget();
+                Ok(())
+            }
+            _ => self.press_last(key),
+        }
+    }
+
+    /// Applies a key as outside a search, and ends the search.
+    fn press_last(&mut self, key: Key) -> Result<(), OutOfMemory>
+        requires no_save { is_save key ≡ false }
+        requires no_size { is_size_key key ≡ false }
+        ensures ok { OnOk result (self.new.editor
+            ≡ without_search (after_pressing (D.data self.old.tables) false self.old.editor.quit_before (without_message self.old.editor) key)) }
+        ensures tables { self.new.tables ≡ self.old.tables }
+        ensures err { OnErr result (self.new ≡ self.old) }
+        ensures edits { OnErr result (is_edit_or_move key ≡ true) }
+    {
+        self.press(key)?;
+        self.leave_search();
+        Ok(())
     }
 }

@@ -1,6 +1,6 @@
 //! Laws of the editor. The functions are empty: their contracts are the laws.
 
-ghost use Rattle.bx_editor.specs.Laws.{CopyPutsTwice, PutRestoresCut, RedoMirrorsUndo, TopStays, UndoGivesBack};
+ghost use Rattle.bx_editor.specs.Laws.{CopyPutsTwice, FindBackGoesToPrevious, FindGoesToNext, PutRestoresCut, RedoMirrorsUndo, TopStays, UndoGivesBack};
 
 /// Scrolling to the cursor a second time leaves the top where it is.
 pub fn top_stays()
@@ -17,7 +17,7 @@ pub fn redo_mirrors_undo()
     ensures { RedoMirrorsUndo }
 {}
 
-/// Copying a region and putting it back at once leaves the text with the region twice.
+/// Outside a search, copying a region and putting it back at once leaves the text with the region twice.
 pub fn copy_puts_twice()
     ensures { CopyPutsTwice }
 {}
@@ -25,4 +25,14 @@ pub fn copy_puts_twice()
 /// Cutting and putting back at once leaves the text as it was, if the cut leaves the cursor where the cut text began.
 pub fn put_restores_cut()
     ensures { PutRestoresCut }
+{}
+
+/// Find in a search goes to the next offset at which the query stands, or from the text's start to the first.
+pub fn find_goes_to_next()
+    ensures { FindGoesToNext }
+{}
+
+/// FindBack in a search goes to the previous offset at which the query stands, or from the text's end to the last.
+pub fn find_back_goes_to_previous()
+    ensures { FindBackGoesToPrevious }
 {}

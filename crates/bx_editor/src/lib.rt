@@ -6,16 +6,22 @@ mod editor;
 mod error;
 mod keys;
 mod laws;
+mod matches;
 pub mod message;
 mod moving;
 mod opening;
 mod picture;
+mod query;
 mod region;
+mod searching;
 pub mod seek;
 mod status;
 
 pub use editor::Editor;
 pub use error::OpenError;
-pub use laws::{copy_puts_twice, put_restores_cut, redo_mirrors_undo, top_stays, undo_gives_back};
+pub use laws::{
+    copy_puts_twice, find_back_goes_to_previous, find_goes_to_next, put_restores_cut,
+    redo_mirrors_undo, top_stays, undo_gives_back,
+};
 pub use message::Message;
 pub use seek::Seek;

@@ -6,6 +6,7 @@ ghost use Rattle.bx_editor.specs.Region.{after_copy, after_cut, after_mark, afte
 
 use crate::editor::Editor;
 use crate::message::Message;
+use crate::seek::Seek;
 use bx_terms::OutOfMemory;
 use bx_ucd::BidiData;
 
@@ -128,6 +129,7 @@ impl<D: BidiData + Drop> Editor<D> {
         };
         self.place = place;
         self.mark = None;
+        self.seek = Seek::Off;
         self.finish_edit();
         Ok(())
     }

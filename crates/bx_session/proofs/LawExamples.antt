@@ -15,8 +15,8 @@ use Rattle.bx_session.specs.declared.error.Refused.{Refused}
 use Rattle.bx_session.specs.declared.error.Refused.TheVariants.{Edit, Paint}
 use Rattle.bx_session.specs.declared.status.Status.{Status}
 use Rattle.bx_session.specs.Anew.{AlwaysStaysPainted}
-use Rattle.bx_session.specs.Laws.{AlwaysShowsState, HasKeysOfInput, ReplaysKeys, after_replaying, keys_from}
-use Rattle.bx_session.specs.Recovery.{HasBack, RefusesNoKey, RecoveryGivesBack}
+use Rattle.bx_session.specs.Laws.{AlwaysShowsState, HasKeysOfInput, ReplaysKeys, after_journal, after_replaying, keys_from}
+use Rattle.bx_session.specs.Recovery.{HasBack, HasBackMidway, RefusesNoKey, RecoveryGivesBack}
 use Rattle.bx_session.specs.Running.{ByteAnswer, FeedsAll, bytes_of}
 use Rattle.bx_session.specs.Saving.{StoreState}
 use Rattle.bx_session.specs.Session.{Session, after_byte, after_sending, after_spending, owing_after_byte, with_painting}
@@ -72,8 +72,8 @@ unfolding unicode_segmentation unicode_width digits
 mark_and_held_bytes_come_back law store store' answered new fed_them feeds none =
     let opened_at = start (codes "abc") 1 5 in
     let back = law.gives_back tables (codes "abc") 1 5 Auto store store' answered new feeds none in (
-      sym back.mark ∙ ap (λ bytes. (after_replaying tables opened_at bytes).editor.mark) fed_them,
-      sym back.held ∙ ap (λ bytes. (after_replaying tables opened_at bytes).editor.held) fed_them,
+      sym back.mark ∙ ap (λ bytes. (after_journal tables opened_at bytes).editor.mark) fed_them,
+      sym back.held ∙ ap (λ bytes. (after_journal tables opened_at bytes).editor.held) fed_them,
     )
 
 -- such a session exists: one whose paintings were all refused
@@ -121,7 +121,7 @@ is_fed = (
 )
 
 pub its_replay_gives_the_text_back : RecoveryGivesBack
-    → (after_replaying tables (start (codes "x") 1 5) (0x61 ∷ 0x13 ∷ 0x62 ∷ 0x1a ∷ [])).editor.content.text ≡ codes "ax"
+    → (after_journal tables (start (codes "x") 1 5) (0x61 ∷ 0x13 ∷ 0x62 ∷ 0x1a ∷ [])).editor.content.text ≡ codes "ax"
 unfolding unicode_segmentation unicode_width digits
 its_replay_gives_the_text_back law =
     let input = 0x61 ∷ 0x13 ∷ 0x62 ∷ 0x1a ∷ [] in
@@ -148,7 +148,18 @@ pub a_recovered_session_goes_on : RecoveryGivesBack → (store store' : StoreSta
 unfolding unicode_segmentation unicode_width digits
 a_recovered_session_goes_on law store store' b new feeds none =
     let replayed = after_replaying tables (start (codes "x") 1 5) (0x61 ∷ []) in
-    let same : HasBack (with_painting tables replayed) replayed =
-    record { content = refl; place = refl; mark = refl; held = refl; base = refl; height = refl; width = refl; rest = refl; goes_on = refl } in
+    let parts : HasBack (with_painting tables replayed) replayed = record {
+      content = refl;
+      place = refl;
+      mark = refl;
+      held = refl;
+      query = refl;
+      base = refl;
+      height = refl;
+      width = refl;
+      rest = refl;
+      goes_on = refl;
+    } in
+    let same : HasBackMidway (with_painting tables replayed) replayed = record { parts = parts; seek = refl; origin = refl } in
     ap (λ (t : Edited). t.text)
-    (sym (law.keeps_up tables (with_painting tables replayed) replayed store store' ((0x62, b) ∷ []) new same feeds none).content)
+    (sym (law.keeps_up tables (with_painting tables replayed) replayed store store' ((0x62, b) ∷ []) new same feeds none).parts.content)

@@ -11,4 +11,5 @@ pub mod Shown
 pub mod Turns
 pub mod Recovered
 pub mod LawExamples
+pub mod ReplayExamples
 mod ClauseExamples

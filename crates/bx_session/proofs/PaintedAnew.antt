@@ -60,6 +60,7 @@ always_stays = record {
   told = λ d s height width has owed. twice d (unpainted_after_told s height width) has;
   owing_told = λ d s height width owed. absurd (cc owed);
   replay = λ d s b owed. absurd (cc owed);
+  replay_end = λ d s owed. absurd (cc owed);
   going = λ d s offset owed. absurd (cc owed);
   sending = sending_stays;
 }

@@ -1,7 +1,6 @@
 -- Replayed bytes restore the session.
 use Rattle.std.proofs.Common.{◌≡◌, ℕ, Bool, true, false, not, ◌&&◌, List, [], ◌∷◌, Option, Some, None, Result, Ok, Err, refl, sym, ap, subst, ◌∙◌, if◌then◌else◌, arith}
 use Rattle.std.specs.Prelude.{◌≢◌, ◌+◌, ◌==◌, ◌||◌, length, is_some, encode_utf8, option_to_list}
-use Rattle.std.specs.List.{filter}
 use Rattle.std.proofs.lemmas.List.Elements.{All-tail}
 use Rattle.bx_terms.specs.declared.base.Base.{Base}
 use Rattle.bx_keys.specs.declared.key.Key.{Key}
@@ -16,28 +15,35 @@ use Rattle.bx_view.specs.declared.moves.Logical.TheVariants as logical
 use Rattle.bx_editor.specs.declared.message.Message.TheVariants.{TextFull, Unsaved, Copied, LineCopied, MarkOff, MarkSet, NothingToCopy, NothingToPut}
 use Rattle.bx_ucd.specs.Data.{Data}
 use Rattle.bx_editor.specs.Editor.{Editor, rows, place_after, after_insertion, after_removal, after_undo, after_redo, after_save, without_message}
-use Rattle.bx_editor.specs.Keys.{after_key, after_keys}
+use Rattle.bx_editor.specs.declared.seek.Seek.{Seek}
+use Rattle.bx_editor.specs.declared.seek.Seek.TheVariants.{Off, Begun, Typed}
+use Rattle.bx_editor.specs.Keys.{after_any, after_key, after_pressing, after_seeking}
+use Rattle.bx_editor.specs.Search.{after_letter, is_no_letter, kept, lengthened, search_from, with_query, without_search}
+use Rattle.bx_editor.proofs.InSearch.{any-key, each-key, save-ends}
 use Rattle.bx_editor.specs.Region.{after_copy, after_cut, after_mark, after_put, bytes_in, is_at_mark, is_empty, line, region, taken}
 use Rattle.bx_session.specs.declared.error.Refused.{Refused}
 use Rattle.bx_session.specs.declared.error.Refused.TheVariants as refused
 use Rattle.bx_session.specs.declared.status.Status.{Status}
 use Rattle.bx_session.specs.Laws.{after_replaying}
-use Rattle.bx_session.specs.Recovery.{RefusesNoKey, HasBack, RecoveryGivesBack}
+use Rattle.bx_session.specs.Recovery.{RefusesNoKey, HasBack, HasBackMidway, RecoveryGivesBack}
 use Rattle.bx_session.specs.Running.{ByteAnswer, FeedsAll, bytes_of}
 use Rattle.bx_session.specs.Saving.{StoreState, AfterByte, Feeds}
-use Rattle.bx_session.specs.Session.{Session, at_opening, after_spending, after_replay, is_idle, is_replayed, key_of_byte, session_after_any}
+use Rattle.bx_session.specs.Session.{Session, after_all_replayed, at_opening, at_replay_end, after_spending, after_replay, after_replayed, is_idle, key_of_byte, session_after_any}
 use Rattle.bx_session.specs.Session.{with_painting}
 use Rattle.bx_session.proofs.Input.{keys_of_input}
-use Rattle.bx_session.proofs.Replayed.{applies, replays_keys}
+use Rattle.bx_session.proofs.Replayed.{applies, each-replayed, is_other, replays_keys}
 
 -- ---- lasting state
 
--- the parts of an editor that neither a Save nor a Quit changes
+-- the parts of an editor that a Save and a Quit change in a replay too
 record Lasting : Type 0 where
   pub content : Edited
   pub place : ℕ
   pub mark : Option ℕ
   pub held : List ℕ
+  pub query : List ℕ
+  pub seek : Seek
+  pub origin : ℕ
   pub base : Base
   pub height : ℕ
   pub width : ℕ
@@ -48,6 +54,9 @@ lasting e = record {
   place = e.place;
   mark = e.mark;
   held = e.held;
+  query = e.query;
+  seek = e.seek;
+  origin = e.origin;
   base = e.base;
   height = e.height;
   width = e.width;
@@ -60,6 +69,9 @@ with l e = record e {
   place = l.place;
   mark = l.mark;
   held = l.held;
+  query = l.query;
+  seek = l.seek;
+  origin = l.origin;
   base = l.base;
   height = l.height;
   width = l.width;
@@ -73,7 +85,7 @@ either_lasts false p q p' q' h k = k
 -- ---- a key changes these parts alike
 
 abbrev put_in : Editor → List ℕ → ℕ → Editor
-put_in e new after = record e { content = inserted e.content e.place new e.place after; place = after; mark = None; changed = true }
+put_in e new after = record e { content = inserted e.content e.place new e.place after; place = after; mark = None; seek = Off; changed = true }
 
 insertion_lasts : (d : Data) (e f : Editor) (new : List ℕ)
     → lasting (after_insertion d e new) ≡ lasting (after_insertion d (with (lasting e) f) new)
@@ -84,7 +96,7 @@ insertion_lasts d e f new =
     (put_in g new after) (record g { message = Some TextFull }) refl refl
 
 abbrev taken_out : Editor → ℕ → ℕ → ℕ → Editor
-taken_out e start stop after = record e { content = removed e.content start stop e.place after; place = after; mark = None; changed = true }
+taken_out e start stop after = record e { content = removed e.content start stop e.place after; place = after; mark = None; seek = Off; changed = true }
 
 removal_lasts : (d : Data) (e f : Editor) (start stop : ℕ)
     → lasting (after_removal d e start stop) ≡ lasting (after_removal d (with (lasting e) f) start stop)
@@ -100,15 +112,6 @@ undo_lasts e f (edit ∷ past) = refl
 redo_lasts : (e f : Editor) (future : List Edit) → lasting (after_redo e future) ≡ lasting (after_redo (with (lasting e) f) future)
 redo_lasts e f [] = refl
 redo_lasts e f (edit ∷ future) = refl
-
-save_lasts : (e : Editor) (saved : Bool) → lasting (after_save e saved) ≡ lasting e
-save_lasts e true = refl
-save_lasts e false = refl
-
-quit_by : (ends : Bool) (e : Editor)
-    → lasting (if ends then record e { quit_before = true; ended = true } else record e { quit_before = true; message = Some Unsaved }) ≡ lasting e
-quit_by true e = refl
-quit_by false e = refl
 
 mark_lasts : (e f : Editor) → lasting (after_mark e) ≡ lasting (after_mark (with (lasting e) f))
 mark_lasts e f =
@@ -151,52 +154,134 @@ put_lasts d e f =
     either_lasts (length e.held == 0) (record e { message = Some NothingToPut }) (after_insertion d e e.held) (record g { message = Some NothingToPut })
     (after_insertion d g e.held) refl (insertion_lasts d e f e.held)
 
+-- outside a search
+pressed_lasts : (d : Data) (saved again again' : Bool) (e f : Editor) (key : Key) → is_other key ≡ true
+    → lasting (after_pressing d saved again e key) ≡ lasting (after_pressing d false again' (with (lasting e) f) key)
+pressed_lasts d saved again again' e f (Insert c) other = insertion_lasts d e f (encode_utf8 c)
+pressed_lasts d saved again again' e f Erase other = removal_lasts d e f (step_logical (rows d e) logical.Back e.place) e.place
+pressed_lasts d saved again again' e f Delete other = removal_lasts d e f e.place (step_logical (rows d e) logical.Forward e.place)
+pressed_lasts d saved again again' e f Back other = refl
+pressed_lasts d saved again again' e f Forward other = refl
+pressed_lasts d saved again again' e f Up other = refl
+pressed_lasts d saved again again' e f Down other = refl
+pressed_lasts d saved again again' e f Right other = refl
+pressed_lasts d saved again again' e f Left other = refl
+pressed_lasts d saved again again' e f RowHome other = refl
+pressed_lasts d saved again again' e f RowEnd other = refl
+pressed_lasts d saved again again' e f PageUp other = refl
+pressed_lasts d saved again again' e f PageDown other = refl
+pressed_lasts d saved again again' e f Save other = absurd (cc other)
+pressed_lasts d saved again again' e f Quit other = absurd (cc other)
+pressed_lasts d saved again again' e f Undo other = undo_lasts e f e.content.past
+pressed_lasts d saved again again' e f Redo other = redo_lasts e f e.content.future
+pressed_lasts d saved again again' e f Repaint other = refl
+pressed_lasts d saved again again' e f Direction other = refl
+pressed_lasts d saved again again' e f Mark other = mark_lasts e f
+pressed_lasts d saved again again' e f Copy other = copy_lasts d e f
+pressed_lasts d saved again again' e f Cut other = cut_lasts d e f
+pressed_lasts d saved again again' e f Put other = put_lasts d e f
+pressed_lasts d saved again again' e f Find other = refl
+pressed_lasts d saved again again' e f FindBack other = refl
+pressed_lasts d saved again again' e f WordLeft other = refl
+pressed_lasts d saved again again' e f WordRight other = refl
+pressed_lasts d saved again again' e f TextStart other = refl
+pressed_lasts d saved again again' e f TextEnd other = refl
+pressed_lasts d saved again again' e f Help other = refl
+pressed_lasts d saved again again' e f (Size height width) other = refl
+
+-- in a search
+letter_lasts : (d : Data) (e f : Editor) (c : ℕ) → lasting (after_letter d e c) ≡ lasting (after_letter d (with (lasting e) f) c)
+letter_lasts d e f c =
+    let g = with (lasting e) f in
+    let longer : Editor → Editor = λ x. search_from d x.place (with_query x (lengthened (kept x.seek x.query) c)) in
+    either_lasts (c == 0xA) (without_search e) (if is_no_letter d c then e else longer e) (without_search g) (if is_no_letter d c then g else longer g) refl
+    (either_lasts (is_no_letter d c) e (longer e) g (longer g) refl refl)
+
+-- what lasts once the search is over
+abbrev over : Lasting → Lasting
+over l = record l { seek = Off }
+
+sought_lasts : (d : Data) (saved again again' : Bool) (e f : Editor) (key : Key) → is_other key ≡ true
+    → lasting (after_seeking d saved again e key) ≡ lasting (after_seeking d false again' (with (lasting e) f) key)
+sought_lasts d saved again again' e f (Insert c) other = letter_lasts d e f c
+sought_lasts d saved again again' e f Erase other = refl
+sought_lasts d saved again again' e f Delete other = refl
+sought_lasts d saved again again' e f Back other = ap over (pressed_lasts d saved again again' e f Back other)
+sought_lasts d saved again again' e f Forward other = ap over (pressed_lasts d saved again again' e f Forward other)
+sought_lasts d saved again again' e f Up other = ap over (pressed_lasts d saved again again' e f Up other)
+sought_lasts d saved again again' e f Down other = ap over (pressed_lasts d saved again again' e f Down other)
+sought_lasts d saved again again' e f Right other = ap over (pressed_lasts d saved again again' e f Right other)
+sought_lasts d saved again again' e f Left other = ap over (pressed_lasts d saved again again' e f Left other)
+sought_lasts d saved again again' e f RowHome other = ap over (pressed_lasts d saved again again' e f RowHome other)
+sought_lasts d saved again again' e f RowEnd other = ap over (pressed_lasts d saved again again' e f RowEnd other)
+sought_lasts d saved again again' e f PageUp other = ap over (pressed_lasts d saved again again' e f PageUp other)
+sought_lasts d saved again again' e f PageDown other = ap over (pressed_lasts d saved again again' e f PageDown other)
+sought_lasts d saved again again' e f Save other = absurd (cc other)
+sought_lasts d saved again again' e f Quit other = refl
+sought_lasts d saved again again' e f Undo other = ap over (pressed_lasts d saved again again' e f Undo other)
+sought_lasts d saved again again' e f Redo other = ap over (pressed_lasts d saved again again' e f Redo other)
+sought_lasts d saved again again' e f Repaint other = refl
+sought_lasts d saved again again' e f Direction other = ap over (pressed_lasts d saved again again' e f Direction other)
+sought_lasts d saved again again' e f Mark other = ap over (pressed_lasts d saved again again' e f Mark other)
+sought_lasts d saved again again' e f Copy other = refl
+sought_lasts d saved again again' e f Cut other = ap over (pressed_lasts d saved again again' e f Cut other)
+sought_lasts d saved again again' e f Put other = ap over (pressed_lasts d saved again again' e f Put other)
+sought_lasts d saved again again' e f Find other = refl
+sought_lasts d saved again again' e f FindBack other = refl
+sought_lasts d saved again again' e f WordLeft other = ap over (pressed_lasts d saved again again' e f WordLeft other)
+sought_lasts d saved again again' e f WordRight other = ap over (pressed_lasts d saved again again' e f WordRight other)
+sought_lasts d saved again again' e f TextStart other = ap over (pressed_lasts d saved again again' e f TextStart other)
+sought_lasts d saved again again' e f TextEnd other = ap over (pressed_lasts d saved again again' e f TextEnd other)
+sought_lasts d saved again again' e f Help other = ap over (pressed_lasts d saved again again' e f Help other)
+sought_lasts d saved again again' e f (Size height width) other = ap over (pressed_lasts d saved again again' e f (Size height width) other)
+
+seek_lasts : (d : Data) (saved again again' : Bool) (seek : Seek) (e f : Editor) (key : Key) → is_other key ≡ true
+    → lasting (after_any d saved again seek e key) ≡ lasting (after_any d false again' seek (with (lasting e) f) key)
+seek_lasts d saved again again' Off e f key other = pressed_lasts d saved again again' e f key other
+seek_lasts d saved again again' Begun e f key other = sought_lasts d saved again again' e f key other
+seek_lasts d saved again again' Typed e f key other = sought_lasts d saved again again' e f key other
+
+other_lasts : (d : Data) (saved : Bool) (e f : Editor) (key : Key) → is_other key ≡ true
+    → lasting (after_key d saved e key) ≡ lasting (after_key d false (with (lasting e) f) key)
+other_lasts d saved e f =
+    each-key d saved e (λ key new. is_other key ≡ true → lasting new ≡ lasting (after_key d false (with (lasting e) f) key)) (λ height width other. refl)
+    (λ key small other.
+    seek_lasts d saved e.quit_before f.quit_before e.seek (without_message e) (without_message f) key other
+    ∙ ap lasting (sym (any-key d false (with (lasting e) f) key small)))
+
+save_lasts : (e : Editor) (saved : Bool) → lasting (without_search (after_save e saved)) ≡ lasting (without_search e)
+save_lasts e true = refl
+save_lasts e false = refl
+
+quit_by : (ends : Bool) (e : Editor)
+    → lasting (if ends then record e { quit_before = true; ended = true } else record e { quit_before = true; message = Some Unsaved }) ≡ lasting e
+quit_by true e = refl
+quit_by false e = refl
+
+quit_lasts : (d : Data) (saved : Bool) (seek : Seek) (e f : Editor) → e.seek ≡ seek
+    → lasting (after_any d saved e.quit_before seek (without_message e) Quit) ≡ lasting (after_replayed d seek (with (lasting e) f) Quit)
+quit_lasts d saved Off e f is = quit_by (not e.changed || e.quit_before) (without_message e)
+quit_lasts d saved Begun e f is =
+    ap (λ s. lasting (after_any d false f.quit_before s (without_message (with (lasting e) f)) Quit)) (sym is)
+quit_lasts d saved Typed e f is =
+    ap (λ s. lasting (after_any d false f.quit_before s (without_message (with (lasting e) f)) Quit)) (sym is)
+
 key_lasts : (d : Data) (saved : Bool) (e f : Editor) (key : Key)
-    → lasting (after_key d saved e key) ≡ lasting (after_keys d false (with (lasting e) f) (filter is_replayed (key ∷ [])))
-key_lasts d saved e f (Insert c) = insertion_lasts d (without_message e) (without_message f) (encode_utf8 c)
-key_lasts d saved e f Erase =
-    removal_lasts d (without_message e) (without_message f) (step_logical (rows d e) logical.Back e.place) e.place
-key_lasts d saved e f Delete =
-    removal_lasts d (without_message e) (without_message f) e.place (step_logical (rows d e) logical.Forward e.place)
-key_lasts d saved e f Back = refl
-key_lasts d saved e f Forward = refl
-key_lasts d saved e f Up = refl
-key_lasts d saved e f Down = refl
-key_lasts d saved e f Right = refl
-key_lasts d saved e f Left = refl
-key_lasts d saved e f RowHome = refl
-key_lasts d saved e f RowEnd = refl
-key_lasts d saved e f PageUp = refl
-key_lasts d saved e f PageDown = refl
-key_lasts d saved e f Save = save_lasts (without_message e) saved
-key_lasts d saved e f Quit = quit_by (not e.changed || e.quit_before) (without_message e)
-key_lasts d saved e f Undo = undo_lasts (without_message e) (without_message f) e.content.past
-key_lasts d saved e f Redo = redo_lasts (without_message e) (without_message f) e.content.future
-key_lasts d saved e f Repaint = refl
-key_lasts d saved e f Direction = refl
-key_lasts d saved e f Mark = mark_lasts (without_message e) (without_message f)
-key_lasts d saved e f Copy = copy_lasts d (without_message e) (without_message f)
-key_lasts d saved e f Cut = cut_lasts d (without_message e) (without_message f)
-key_lasts d saved e f Put = put_lasts d (without_message e) (without_message f)
-key_lasts d saved e f Find = refl
-key_lasts d saved e f FindBack = refl
-key_lasts d saved e f WordLeft = refl
-key_lasts d saved e f WordRight = refl
-key_lasts d saved e f TextStart = refl
-key_lasts d saved e f TextEnd = refl
-key_lasts d saved e f Help = refl
-key_lasts d saved e f (Size height width) = refl
+    → lasting (after_key d saved e key) ≡ lasting (after_replayed d e.seek (with (lasting e) f) key)
+key_lasts d saved e f key =
+    each-replayed d e.seek (with (lasting e) f) (λ k new. lasting (after_key d saved e k) ≡ lasting new)
+    (ap lasting (save-ends d saved e) ∙ save_lasts (without_message e) saved) (quit_lasts d saved e.seek e f refl)
+    (λ k other. other_lasts d saved e f k other) key
 
 abbrev editor_after : Data → Bool → Editor → Option Key → Editor
 editor_after d saved e None = e
 editor_after d saved e (Some key) = after_key d saved e key
 
 any_lasts : (d : Data) (saved : Bool) (e f : Editor) (key : Option Key) → lasting e ≡ lasting f
-    → lasting (editor_after d saved e key) ≡ lasting (after_keys d false f (filter is_replayed (option_to_list key)))
+    → lasting (editor_after d saved e key) ≡ lasting (after_all_replayed d f (option_to_list key))
 any_lasts d saved e f None h = h
 any_lasts d saved e f (Some key) h =
-    subst (λ (l : Lasting). lasting (after_key d saved e key) ≡ lasting (after_keys d false (with l f) (filter is_replayed (key ∷ [])))) h
-    (key_lasts d saved e f key)
+    subst (λ (l : Lasting). lasting (after_key d saved e key) ≡ lasting (after_replayed d l.seek (with l f) key)) h (key_lasts d saved e f key)
 
 -- ---- the session after a byte
 
@@ -251,7 +336,7 @@ byte_follows d s r store store' b a new before runs some feeds =
     record {
       lasts = ap lasting leaves.editor
           ∙ any_lasts d feeds.0 s.editor r.editor (key_after s.rest b) before.lasts
-          ∙ ap (λ rest. lasting (after_keys d false r.editor (filter is_replayed (option_to_list (key_after rest b))))) before.rest_is
+          ∙ ap (λ rest. lasting (after_all_replayed d r.editor (option_to_list (key_after rest b)))) before.rest_is
           ∙ ap lasting (sym each.editor);
       rest_is = leaves.rest_is ∙ ap (λ rest. head_of (rest_after rest b)) before.rest_is ∙ sym each.rest_is;
       goes_on = each.goes_on;
@@ -267,46 +352,72 @@ all_follow d s r store store' (a ∷ answered) new before feeds none =
 
 -- ---- for each part
 
-same_lasts : (e f : Editor) → f.content ≡ e.content → f.place ≡ e.place → f.mark ≡ e.mark → f.held ≡ e.held → f.base ≡ e.base
-    → f.height ≡ e.height → f.width ≡ e.width → lasting e ≡ lasting f
-same_lasts e f content place mark held base height width =
-    ap (λ c. record { content = c; place = e.place; mark = e.mark; held = e.held; base = e.base; height = e.height; width = e.width }) (sym content)
-    ∙ ap (λ p. record { content = f.content; place = p; mark = e.mark; held = e.held; base = e.base; height = e.height; width = e.width }) (sym place)
-    ∙ ap (λ m. record { content = f.content; place = f.place; mark = m; held = e.held; base = e.base; height = e.height; width = e.width }) (sym mark)
-    ∙ ap (λ bytes. record { content = f.content; place = f.place; mark = f.mark; held = bytes; base = e.base; height = e.height; width = e.width }) (sym held)
-    ∙ ap (λ b. record { content = f.content; place = f.place; mark = f.mark; held = f.held; base = b; height = e.height; width = e.width }) (sym base)
-    ∙ ap (λ h. record { content = f.content; place = f.place; mark = f.mark; held = f.held; base = f.base; height = h; width = e.width }) (sym height)
-    ∙ ap (λ w. record { content = f.content; place = f.place; mark = f.mark; held = f.held; base = f.base; height = f.height; width = w }) (sym width)
+same_lasts : (e f : Editor) → f.content ≡ e.content → f.place ≡ e.place → f.mark ≡ e.mark → f.held ≡ e.held → f.query ≡ e.query
+    → f.seek ≡ e.seek → f.origin ≡ e.origin → f.base ≡ e.base → f.height ≡ e.height → f.width ≡ e.width → lasting e ≡ lasting f
+same_lasts e f content place mark held query seek origin base height width =
+    ap (λ x. record (lasting e) { content = x }) (sym content)
+    ∙ ap (λ x. record (lasting e) { content = f.content; place = x }) (sym place)
+    ∙ ap (λ x. record (lasting e) { content = f.content; place = f.place; mark = x }) (sym mark)
+    ∙ ap (λ x. record (lasting e) { content = f.content; place = f.place; mark = f.mark; held = x }) (sym held)
+    ∙ ap (λ x. record (lasting e) { content = f.content; place = f.place; mark = f.mark; held = f.held; query = x }) (sym query)
+    ∙ ap (λ x. record (lasting e) { content = f.content; place = f.place; mark = f.mark; held = f.held; query = f.query; seek = x }) (sym seek)
+    ∙ ap (λ x. record (lasting e) { content = f.content; place = f.place; mark = f.mark; held = f.held; query = f.query; seek = f.seek; origin = x }) (sym origin)
+    ∙ ap (λ x. record (lasting e) { content = f.content; place = f.place; mark = f.mark; held = f.held; query = f.query; seek = f.seek; origin = f.origin; base = x }) (sym base)
+    ∙ ap (λ x. record (lasting e) { content = f.content; place = f.place; mark = f.mark; held = f.held; query = f.query; seek = f.seek; origin = f.origin; base = f.base; height = x }) (sym height)
+    ∙ ap (λ x. record (lasting e) { content = f.content; place = f.place; mark = f.mark; held = f.held; query = f.query; seek = f.seek; origin = f.origin; base = f.base; height = f.height; width = x }) (sym width)
 
-follows : (s r : Session) → HasBack s r → Follows s r
-follows s r h = record {
-  lasts = same_lasts s.editor r.editor h.content h.place h.mark h.held h.base h.height h.width;
-  rest_is = sym h.rest;
-  goes_on = h.goes_on;
-}
+follows : (s r : Session) → HasBackMidway s r → Follows s r
+follows s r h =
+    let p = h.parts in record {
+      lasts = same_lasts s.editor r.editor p.content p.place p.mark p.held p.query h.seek h.origin p.base p.height p.width;
+      rest_is = sym p.rest;
+      goes_on = p.goes_on;
+    }
 
-has_back : (s r : Session) → Follows s r → HasBack s r
+has_back : (s r : Session) → Follows s r → HasBackMidway s r
 has_back s r h = record {
-  content = ap (λ (l : Lasting). l.content) (sym h.lasts);
-  place = ap (λ (l : Lasting). l.place) (sym h.lasts);
-  mark = ap (λ (l : Lasting). l.mark) (sym h.lasts);
-  held = ap (λ (l : Lasting). l.held) (sym h.lasts);
-  base = ap (λ (l : Lasting). l.base) (sym h.lasts);
-  height = ap (λ (l : Lasting). l.height) (sym h.lasts);
-  width = ap (λ (l : Lasting). l.width) (sym h.lasts);
-  rest = sym h.rest_is;
-  goes_on = h.goes_on;
+  parts = record {
+    content = ap (λ (l : Lasting). l.content) (sym h.lasts);
+    place = ap (λ (l : Lasting). l.place) (sym h.lasts);
+    mark = ap (λ (l : Lasting). l.mark) (sym h.lasts);
+    held = ap (λ (l : Lasting). l.held) (sym h.lasts);
+    query = ap (λ (l : Lasting). l.query) (sym h.lasts);
+    base = ap (λ (l : Lasting). l.base) (sym h.lasts);
+    height = ap (λ (l : Lasting). l.height) (sym h.lasts);
+    width = ap (λ (l : Lasting). l.width) (sym h.lasts);
+    rest = sym h.rest_is;
+    goes_on = h.goes_on;
+  };
+  seek = ap (λ (l : Lasting). l.seek) (sym h.lasts);
+  origin = ap (λ (l : Lasting). l.origin) (sym h.lasts);
 }
+
+ended_back : (s r : Session) → HasBackMidway s r → HasBack s (at_replay_end r)
+ended_back s r h =
+    let p = h.parts in record {
+      content = p.content;
+      place = p.place;
+      mark = p.mark;
+      held = p.held;
+      query = p.query;
+      base = p.base;
+      height = p.height;
+      width = p.width;
+      rest = p.rest;
+      goes_on = p.goes_on;
+    }
 
 pub recovery_gives_back : RecoveryGivesBack
 recovery_gives_back = record {
   gives_back = λ d text height width base store store' answered new feeds none.
       let s = at_opening d text height width base in
       let same : Follows s s = record { lasts = refl; rest_is = refl; goes_on = refl } in
-      has_back new (after_replaying d s (bytes_of answered)) (all_follow d s s store store' answered new same feeds none);
+      let replayed = after_replaying d s (bytes_of answered) in
+      ended_back new replayed (has_back new replayed (all_follow d s s store store' answered new same feeds none));
   keeps_up = λ d old replayed store store' answered new h feeds none.
       has_back new (after_replaying d replayed (bytes_of answered)) (all_follow d old replayed store store' answered new (follows old replayed h) feeds none);
+  ends = ended_back;
   applies_all = λ d text height width base bytes.
       let s = at_opening d text height width base in
-      replays_keys d s bytes refl ∙ ap (λ keys. after_keys d false s.editor (filter is_replayed keys)) (keys_of_input bytes);
+      replays_keys d s bytes refl ∙ ap (after_all_replayed d s.editor) (keys_of_input bytes);
 }

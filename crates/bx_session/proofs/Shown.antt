@@ -29,6 +29,7 @@ always_shows = record {
   told = λ d s height width owed. (refl, refl);
   owing_told = λ d s height width owed. absurd (cc owed);
   replay = λ d s b owed. absurd (cc owed);
+  replay_end = λ d s owed. absurd (cc owed);
   going = λ d s offset owed. absurd (cc owed);
   sending = λ d s count h. h;
 }

@@ -2,7 +2,7 @@
 use Rattle.std.specs.Prelude.{ℕ, Bool, true, false, List, [], Option, Some, None}
 use Rattle.bx_terms.specs.declared.base.Base.{Base}
 use Rattle.bx_ucd.specs.Data.{Data}
-use Rattle.bx_session.specs.Session.{Session, at_opening, after_going, as_changed, after_replaying, with_painting}
+use Rattle.bx_session.specs.Session.{Session, at_opening, after_going, as_changed, after_journal, with_painting}
 use Rattle.bx_session.specs.Painting.{QueuesPicture}
 
 -- a text in a window, the offset that the cursor goes to, if any, whether the text is unsaved, and the bytes of a journal, maybe none
@@ -29,9 +29,9 @@ changed_if false s = s
 abbrev pub at_offset : Data → Beginning → Session
 at_offset d b = changed_if b.unsaved (after_going_to d (at_opening d b.text b.height b.width b.base) b.offset)
 
--- after the replay of the journal's bytes, not painted yet
+-- after the replay of the journal, not painted yet
 abbrev pub unpainted_at : Data → Beginning → Session
-unpainted_at d b = after_replaying d (at_offset d b) b.journal
+unpainted_at d b = after_journal d (at_offset d b) b.journal
 
 -- painted: a run starts here
 abbrev pub begun : Data → Beginning → Session

@@ -1,14 +1,12 @@
 -- Laws of sessions, for any input.
 use Rattle.std.specs.Prelude.{◌≡◌, ℕ, Bool, false, List, []}
-use Rattle.std.specs.List.{filter}
 use Rattle.bx_terms.specs.declared.base.Base.{Base}
 use Rattle.bx_keys.specs.Keys.{decoding}
 pub use Rattle.bx_keys.specs.Keys.{keys_from}
 use Rattle.bx_ucd.specs.Data.{Data}
-use Rattle.bx_editor.specs.Keys.{after_keys}
 use Rattle.bx_session.specs.Session.{Session, at_opening, after_spending, after_byte, owing_after_byte, after_told, owing_after_told, after_sending}
-use Rattle.bx_session.specs.Session.{after_going, after_replay, is_replayed}
-pub use Rattle.bx_session.specs.Session.{after_replaying}
+use Rattle.bx_session.specs.Session.{after_all_replayed, after_going, after_replay, at_replay_end}
+pub use Rattle.bx_session.specs.Session.{after_journal, after_replaying}
 pub use Rattle.bx_session.specs.Painting.{ShowsState}
 
 -- `ShowsState` holds at opening, and each of these calls preserves it, whether it succeeds or is refused
@@ -20,6 +18,7 @@ pub record AlwaysShowsState : Type 0 where
   pub told : (d : Data) (s : Session) (height width : ℕ) → ShowsState d (after_told d s height width)
   pub owing_told : (d : Data) (s : Session) (height width : ℕ) → ShowsState d (owing_after_told s height width)
   pub replay : (d : Data) (s : Session) (b : ℕ) → ShowsState d (after_replay d s b)
+  pub replay_end : (d : Data) (s : Session) → ShowsState d (at_replay_end s)
   pub going : (d : Data) (s : Session) (offset : ℕ) → ShowsState d (after_going d s offset)
   pub sending : (d : Data) (s : Session) (count : ℕ) → ShowsState d s → ShowsState d (after_sending s count)
 
@@ -27,8 +26,8 @@ pub record AlwaysShowsState : Type 0 where
 abbrev pub HasKeysOfInput : Type 0
 HasKeysOfInput = (bs : List ℕ) → keys_from [] bs ≡ (decoding bs).keys
 
--- a journal's bytes apply their keys in order, except Saves and Quits
+-- a journal's bytes apply their keys in order, as a replay does
 abbrev pub ReplaysKeys : Type 0
 ReplaysKeys =
     (d : Data) (s : Session) (bs : List ℕ) → s.editor.ended ≡ false
-    → (after_replaying d s bs).editor ≡ after_keys d false s.editor (filter is_replayed (keys_from s.rest bs))
+    → (after_replaying d s bs).editor ≡ after_all_replayed d s.editor (keys_from s.rest bs)

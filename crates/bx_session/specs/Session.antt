@@ -9,6 +9,9 @@ use Rattle.bx_paint.specs.Painting.{whole_bytes, changes_bytes}
 use Rattle.bx_ucd.specs.Data.{Data}
 use Rattle.bx_view.specs.Moves.{place_from}
 use Rattle.bx_editor.specs.Editor.{Editor, at_start, rows, with_place, with_size, without_message}
+use Rattle.bx_editor.specs.declared.seek.Seek.{Seek}
+use Rattle.bx_editor.specs.declared.seek.Seek.TheVariants.{Off}
+use Rattle.bx_editor.specs.Search.{without_search}
 use Rattle.bx_editor.specs.Keys.{after_key, asks_for_whole}
 use Rattle.bx_editor.specs.Picture.{picture, next_top}
 use Rattle.bx_session.specs.declared.status.Status.{Status}
@@ -123,15 +126,27 @@ status_of s = if s.editor.ended then Ended else Running
 
 -- ---- a byte of a journal
 
--- a key that a replay applies: it skips Saves and Quits
-abbrev pub is_replayed : Key → Bool
-is_replayed Save = false
-is_replayed Quit = false
-is_replayed _ = true
+-- the effect of a key in a replay, as a search is on or not: a Save ends a search, and does nothing else; a Quit gives a search
+-- up, and does nothing without one
+abbrev pub after_replayed : Data → Seek → Editor → Key → Editor
+after_replayed d seek e Save = without_search e
+after_replayed d Off e Quit = e
+after_replayed d seek e key = after_key d false e key
+
+-- keys in sequence
+abbrev pub after_all_replayed : Data → Editor → List Key → Editor
+after_all_replayed d e [] = e
+after_all_replayed d e (key ∷ keys) = after_all_replayed d (after_replayed d e.seek e key) keys
+
+-- the session's change goes with it
+abbrev pub session_after_replayed : Data → Seek → Session → Key → Session
+session_after_replayed d seek s Save = record s { editor = without_search s.editor }
+session_after_replayed d Off s Quit = s
+session_after_replayed d seek s key = session_after_key d false s key
 
 abbrev pub after_replayed_key : Data → Session → Option Key → Session
 after_replayed_key d s None = s
-after_replayed_key d s (Some key) = if is_replayed key then session_after_key d false s key else s
+after_replayed_key d s (Some key) = session_after_replayed d s.editor.seek s key
 
 -- the byte's key is applied, and a painting is owed
 abbrev pub after_replay : Data → Session → ℕ → Session
@@ -141,6 +156,14 @@ after_replay d s b = with_painting_owed (after_replayed_key d (after_spending s 
 abbrev pub after_replaying : Data → Session → List ℕ → Session
 after_replaying d s [] = s
 after_replaying d s (b ∷ bs) = after_replaying d (after_replay d s b) bs
+
+-- the end of a replay: no search is on, the cursor stays, and a painting is owed
+abbrev pub at_replay_end : Session → Session
+at_replay_end s = with_painting_owed (record s { editor = without_search s.editor })
+
+-- the session after a whole journal
+abbrev pub after_journal : Data → Session → List ℕ → Session
+after_journal d s bytes = at_replay_end (after_replaying d s bytes)
 
 -- ---- before the keys: the cursor's offset, and an unsaved text
 

@@ -19,12 +19,12 @@ pub fn keys_are_those_of_input()
     ensures { HasKeysOfInput }
 {}
 
-/// A replay of bytes applies their keys in order, except Saves and Quits.
+/// A replay of bytes applies their keys in order. A Save and a Quit do only what they do to a search.
 pub fn replays_apply_keys()
     ensures { ReplaysKeys }
 {}
 
-/// A session's bytes, replayed over its opened text, restore text, history, place, mark, held bytes, direction, window and
+/// A session's bytes, replayed over its opened text, restore text, history, place, mark, held bytes, query, direction, window and
 /// unfinished input, wherever it saved and even if it quit. A key that the session refused when memory ran out is applied by
 /// the replay.
 pub fn recovery_gives_back()

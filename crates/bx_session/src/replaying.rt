@@ -2,26 +2,45 @@
 
 ghost use Rattle.std.specs.Prelude.{◌≡◌, ◌↔◌, IsTrue, false, true, OnErr, OnOk};
 ghost use Rattle.bx_session.specs.Saving.{is_edit_or_move_key, store_state, with_text};
-ghost use Rattle.bx_session.specs.Session.{after_replay, after_spending, is_replayed, key_of_byte};
+ghost use Rattle.bx_keys.specs.Keys.{HasSides};
+ghost use Rattle.bx_editor.specs.Keys.{is_edit_or_move};
+ghost use Rattle.bx_session.specs.Session.{after_replay, after_spending, at_replay_end, key_of_byte, session_after_replayed};
 ghost use Rattle.bx_store.specs.Stores.{one_more};
 
 use crate::error::Refused;
 use crate::saving::{is_text, save_pieces};
 use crate::session::Session;
+use bx_editor::Seek;
 use bx_keys::Key;
 use bx_store::{Store, StoreFault};
 use bx_ucd::BidiData;
 
-/// Whether a replay applies a key: it skips Saves and Quits.
-fn is_replayed(key: Key) -> bool
-    ensures { result ≡ is_replayed key }
-{
-    !matches!(key, Key::Save | Key::Quit)
-}
-
 impl<D: BidiData + Drop> Session<D> {
-    /// Decodes a byte of a journal and applies the key that it completes. Skips Save and Quit, and paints nothing; call
-    /// [`Session::paint`] after the last byte.
+    /// Applies a key of a journal. A Save ends a search, and does nothing else; a Quit gives a search up, and does nothing
+    /// without one.
+    ///
+    /// Errors: `Edit` if memory runs out, only for a key that edits, moves, copies or finds; nothing has changed.
+    fn press_again(&mut self, key: Key) -> Result<(), Refused>
+        requires sides { HasSides key }
+        ensures after_key { OnOk result (self.new ≡ record self.old {
+          session = session_after_replayed (D.data self.old.tables) self.old.session.editor.seek self.old.session key;
+        }) }
+        ensures err { OnErr result (self.new ≡ self.old) }
+        ensures edits { OnErr result (is_edit_or_move key ≡ true) }
+        ensures refused { OnErr result (result ≡ Err Refused.Edit) }
+    {
+        match (key, self.editor.seek()) {
+            (Key::Save, _) => {
+                self.editor.leave_search();
+                Ok(())
+            }
+            (Key::Quit, Seek::Off) => Ok(()),
+            _ => self.press(key, false),
+        }
+    }
+
+    /// Decodes a byte of a journal and applies the key that it completes, without painting. A Save and a Quit do only what
+    /// they do to a search. Call [`Session::end_replay`] after the last byte.
     ///
     /// Errors: `Edit` if memory runs out for the key: its bytes are spent, and nothing else has changed.
     pub fn replay(&mut self, byte: u8) -> Result<(), Refused>
@@ -31,12 +50,19 @@ impl<D: BidiData + Drop> Session<D> {
         ensures refused { OnErr result (result ≡ Err Refused.Edit) }
     {
         if let Some(key) = self.decode(byte) {
-            if is_replayed(key) {
-                self.press(key, false)?;
-            }
+            self.press_again(key)?;
         }
         self.painting_owed = true;
         Ok(())
+    }
+
+    /// Ends a replay: ends a search, and leaves the cursor where it is. Paints nothing; call [`Session::paint`] afterwards.
+    /// Allocates nothing.
+    pub fn end_replay(&mut self)
+        ensures { self.new ≡ record self.old { session = at_replay_end self.old.session } }
+    {
+        self.editor.leave_search();
+        self.painting_owed = true;
     }
 
     /// Whether the text is these bytes. Allocates nothing.

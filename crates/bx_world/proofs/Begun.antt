@@ -2,18 +2,22 @@
 use Rattle.std.proofs.Common.{◌≡◌, ℕ, Bool, true, false, List, [], ◌∷◌, Option, Some, None}
 use Rattle.std.proofs.Common.{refl, sym, ap, subst, ◌∙◌, if◌then◌else◌}
 use Rattle.std.specs.Prelude.{IfSome, ◌==◌}
-use Rattle.std.specs.List.{filter}
 use Rattle.bx_keys.specs.declared.key.Key.{Key}
+use Rattle.bx_keys.specs.declared.key.Key.TheVariants.{Insert, Erase, Delete, Back, Forward, Up, Down, Right, Left, RowHome, RowEnd, PageUp, PageDown}
+use Rattle.bx_keys.specs.declared.key.Key.TheVariants.{Save, Quit, Undo, Redo, Repaint, Direction, Size, Mark, Copy, Cut, Put}
+use Rattle.bx_keys.specs.declared.key.Key.TheVariants.{Find, FindBack, WordLeft, WordRight, TextStart, TextEnd, Help}
 use Rattle.bx_keys.specs.Keys.{rest_after}
 use Rattle.bx_keys.specs.Waiting.{head_of}
 use Rattle.bx_grid.specs.Picture.{PictureState, IsIdle, Shows}
 use Rattle.bx_grid.specs.Terminal.{Terminal, reads}
 use Rattle.bx_ucd.specs.Data.{Data}
 use Rattle.bx_editor.specs.Editor.{Editor}
-use Rattle.bx_editor.specs.Keys.{after_keys}
-use Rattle.bx_session.specs.Session.{Session, at_opening, after_replay, after_replayed_key, after_spending, is_replayed, key_of_byte, session_after_key}
+use Rattle.bx_editor.specs.declared.seek.Seek.{Seek}
+use Rattle.bx_editor.specs.declared.seek.Seek.TheVariants.{Off, Begun, Typed}
+use Rattle.bx_editor.specs.Search.{without_search}
+use Rattle.bx_session.specs.Session.{Session, after_all_replayed, at_opening, at_replay_end, after_replay, after_replayed_key, after_spending, key_of_byte, session_after_key, session_after_replayed}
 use Rattle.bx_session.specs.Painting.{QueuesPicture}
-use Rattle.bx_session.specs.Laws.{keys_from, after_replaying}
+use Rattle.bx_session.specs.Laws.{keys_from, after_journal, after_replaying}
 use Rattle.bx_session.specs.Beginning.{Beginning, IsBegun, after_going_to, changed_if, at_offset, unpainted_at, begun}
 use Rattle.bx_session.proofs.Input.{keys_of_input}
 use Rattle.bx_session.proofs.Pictures.{picture_height, picture_width}
@@ -78,17 +82,54 @@ spent_stays : (ended : Bool) (t : Terminal) (s : Session) (rest : List ℕ) → 
 spent_stays true t s rest = stays_at t s
 spent_stays false t s rest = record { pending = refl; known = known_at (fits t.height t.width s.editor) s.known }
 
-key_stays : (replayed : Bool) (d : Data) (t : Terminal) (s : Session) (key : Key) → StaysKnown t s (if replayed then session_after_key d false s key else s)
-key_stays true d t s key = record {
+key_stays : (d : Data) (t : Terminal) (s : Session) (key : Key) → StaysKnown t s (session_after_key d false s key)
+key_stays d t s key = record {
   pending = refl;
   known = λ on. (key_keeps d false (begins_at s t) s key).known
       (key_fits d false t.height t.width (fits t.height t.width s.editor) s.editor key refl ∙ on);
 }
-key_stays false d t s key = stays_at t s
+
+search_stays : (t : Terminal) (s : Session) → StaysKnown t s (record s { editor = without_search s.editor })
+search_stays t s = record { pending = refl; known = known_at (fits t.height t.width s.editor) s.known }
+
+replayed_stays : (d : Data) (t : Terminal) (seek : Seek) (s : Session) (key : Key) → StaysKnown t s (session_after_replayed d seek s key)
+replayed_stays d t seek s (Insert c) = key_stays d t s (Insert c)
+replayed_stays d t seek s Erase = key_stays d t s Erase
+replayed_stays d t seek s Delete = key_stays d t s Delete
+replayed_stays d t seek s Back = key_stays d t s Back
+replayed_stays d t seek s Forward = key_stays d t s Forward
+replayed_stays d t seek s Up = key_stays d t s Up
+replayed_stays d t seek s Down = key_stays d t s Down
+replayed_stays d t seek s Right = key_stays d t s Right
+replayed_stays d t seek s Left = key_stays d t s Left
+replayed_stays d t seek s RowHome = key_stays d t s RowHome
+replayed_stays d t seek s RowEnd = key_stays d t s RowEnd
+replayed_stays d t seek s PageUp = key_stays d t s PageUp
+replayed_stays d t seek s PageDown = key_stays d t s PageDown
+replayed_stays d t seek s Save = search_stays t s
+replayed_stays d t Off s Quit = stays_at t s
+replayed_stays d t Begun s Quit = key_stays d t s Quit
+replayed_stays d t Typed s Quit = key_stays d t s Quit
+replayed_stays d t seek s Undo = key_stays d t s Undo
+replayed_stays d t seek s Redo = key_stays d t s Redo
+replayed_stays d t seek s Repaint = key_stays d t s Repaint
+replayed_stays d t seek s Direction = key_stays d t s Direction
+replayed_stays d t seek s Mark = key_stays d t s Mark
+replayed_stays d t seek s Copy = key_stays d t s Copy
+replayed_stays d t seek s Cut = key_stays d t s Cut
+replayed_stays d t seek s Put = key_stays d t s Put
+replayed_stays d t seek s Find = key_stays d t s Find
+replayed_stays d t seek s FindBack = key_stays d t s FindBack
+replayed_stays d t seek s WordLeft = key_stays d t s WordLeft
+replayed_stays d t seek s WordRight = key_stays d t s WordRight
+replayed_stays d t seek s TextStart = key_stays d t s TextStart
+replayed_stays d t seek s TextEnd = key_stays d t s TextEnd
+replayed_stays d t seek s Help = key_stays d t s Help
+replayed_stays d t seek s (Size height width) = key_stays d t s (Size height width)
 
 any_stays : (d : Data) (t : Terminal) (s : Session) (key : Option Key) → StaysKnown t s (after_replayed_key d s key)
 any_stays d t s None = stays_at t s
-any_stays d t s (Some key) = key_stays (is_replayed key) d t s key
+any_stays d t s (Some key) = replayed_stays d t s.editor.seek s key
 
 byte_stays : (d : Data) (t : Terminal) (s : Session) (b : ℕ) → StaysKnown t s (after_replay d s b)
 byte_stays d t s b =
@@ -101,6 +142,12 @@ bytes_stay : (d : Data) (t : Terminal) (s : Session) (bs : List ℕ) → StaysKn
 bytes_stay d t s [] = stays_at t s
 bytes_stay d t s (b ∷ bs) =
     stays_on t s (after_replay d s b) (after_replaying d (after_replay d s b) bs) (byte_stays d t s b) (bytes_stay d t (after_replay d s b) bs)
+
+end_stays : (t : Terminal) (s : Session) → StaysKnown t s (at_replay_end s)
+end_stays t s = record { pending = refl; known = known_at (fits t.height t.width s.editor) s.known }
+
+journal_stays : (d : Data) (t : Terminal) (s : Session) (bs : List ℕ) → StaysKnown t s (after_journal d s bs)
+journal_stays d t s bs = stays_on t s (after_replaying d s bs) (after_journal d s bs) (bytes_stay d t s bs) (end_stays t (after_replaying d s bs))
 
 going_stays : (d : Data) (t : Terminal) (s : Session) (offset : Option ℕ) → StaysKnown t s (after_going_to d s offset)
 going_stays d t s None = stays_at t s
@@ -122,7 +169,7 @@ pub begun_at : (d : Data) (b : Beginning) (t : Terminal) → IsIdle t → IsBegu
 begun_at d b t idle begins =
     let s : Session = at_opening d b.text b.height b.width b.base in
     let stays : StaysKnown t s (unpainted_at d b) =
-    stays_on t s (at_offset d b) (unpainted_at d b) (offset_stays d t b) (bytes_stay d t (at_offset d b) b.journal) in
+    stays_on t s (at_offset d b) (unpainted_at d b) (offset_stays d t b) (journal_stays d t (at_offset d b) b.journal) in
     painted d (begins_at s t) (begun d b) (fits t.height t.width (begun d b).editor) (unpainted_at d b).known (opened_at d s t idle begins.opened)
     (subst (λ (q : List ℕ). QueuesPicture d q (unpainted_at d b).known (begun d b)) stays.pending begins.painted)
     stays.known (λ on. window_is t.height t.width (begun d b).editor on)
@@ -161,6 +208,6 @@ begun_rest d b =
 
 pub begins_with_keys : BeginsWithKeys
 begins_with_keys d b =
-    replays_keys d (at_offset d b) b.journal (offset_goes_on d b)
-    ∙ ap (λ ks. after_keys d false (at_offset d b).editor (filter is_replayed ks))
-    (ap (λ rest. keys_from rest b.journal) (offset_rest d b) ∙ keys_of_input b.journal)
+    ap without_search
+    (replays_keys d (at_offset d b) b.journal (offset_goes_on d b)
+    ∙ ap (after_all_replayed d (at_offset d b).editor) (ap (λ rest. keys_from rest b.journal) (offset_rest d b) ∙ keys_of_input b.journal))

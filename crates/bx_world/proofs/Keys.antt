@@ -14,7 +14,10 @@ use Rattle.bx_view.specs.Moves.{step_logical}
 use Rattle.bx_grid.specs.Picture.{PictureState}
 use Rattle.bx_ucd.specs.Data.{Data}
 use Rattle.bx_editor.specs.Editor.{Editor, rows, after_insertion, after_removal, after_undo, after_redo, after_save, after_quit, without_message}
-use Rattle.bx_editor.specs.Keys.{after_key, after_pressing, asks_for_whole}
+use Rattle.bx_editor.specs.declared.seek.Seek.{Seek}
+use Rattle.bx_editor.specs.declared.seek.Seek.TheVariants.{Off, Begun, Typed}
+use Rattle.bx_editor.specs.Keys.{after_any, after_key, after_pressing, after_seeking, asks_for_whole}
+use Rattle.bx_editor.specs.Search.{after_letter, is_no_letter}
 use Rattle.bx_editor.specs.Region.{after_copy, after_cut, after_mark, after_put, is_at_mark, is_empty, line, region, taken}
 use Rattle.bx_session.specs.Session.{Session, session_after_key, session_after_any, after_spending, key_of_byte, unpainted_after_byte}
 use Rattle.bx_world.specs.World.{World, told_after, told_after_key, is_window}
@@ -95,6 +98,47 @@ pressing_size d saved again e TextEnd = (refl, refl)
 pressing_size d saved again e Help = (refl, refl)
 pressing_size d saved again e (Size height width) = (refl, refl)
 
+letter_size : (d : Data) (e : Editor) (c : ℕ) → SameSize e (after_letter d e c)
+letter_size d e c = size_if (c == 0xA) e _ _ (refl, refl) (size_if (is_no_letter d c) e _ _ (refl, refl) (refl, refl))
+
+seeking_size : (d : Data) (saved again : Bool) (e : Editor) (key : Key) → SameSize e (after_seeking d saved again e key)
+seeking_size d saved again e (Insert c) = letter_size d e c
+seeking_size d saved again e Erase = (refl, refl)
+seeking_size d saved again e Delete = (refl, refl)
+seeking_size d saved again e Back = pressing_size d saved again e Back
+seeking_size d saved again e Forward = pressing_size d saved again e Forward
+seeking_size d saved again e Up = pressing_size d saved again e Up
+seeking_size d saved again e Down = pressing_size d saved again e Down
+seeking_size d saved again e Right = pressing_size d saved again e Right
+seeking_size d saved again e Left = pressing_size d saved again e Left
+seeking_size d saved again e RowHome = pressing_size d saved again e RowHome
+seeking_size d saved again e RowEnd = pressing_size d saved again e RowEnd
+seeking_size d saved again e PageUp = pressing_size d saved again e PageUp
+seeking_size d saved again e PageDown = pressing_size d saved again e PageDown
+seeking_size d saved again e Save = pressing_size d saved again e Save
+seeking_size d saved again e Quit = (refl, refl)
+seeking_size d saved again e Undo = pressing_size d saved again e Undo
+seeking_size d saved again e Redo = pressing_size d saved again e Redo
+seeking_size d saved again e Repaint = (refl, refl)
+seeking_size d saved again e Direction = pressing_size d saved again e Direction
+seeking_size d saved again e Mark = pressing_size d saved again e Mark
+seeking_size d saved again e Copy = (refl, refl)
+seeking_size d saved again e Cut = pressing_size d saved again e Cut
+seeking_size d saved again e Put = pressing_size d saved again e Put
+seeking_size d saved again e Find = (refl, refl)
+seeking_size d saved again e FindBack = (refl, refl)
+seeking_size d saved again e WordLeft = pressing_size d saved again e WordLeft
+seeking_size d saved again e WordRight = pressing_size d saved again e WordRight
+seeking_size d saved again e TextStart = pressing_size d saved again e TextStart
+seeking_size d saved again e TextEnd = pressing_size d saved again e TextEnd
+seeking_size d saved again e Help = pressing_size d saved again e Help
+seeking_size d saved again e (Size height width) = pressing_size d saved again e (Size height width)
+
+any_size : (d : Data) (saved again : Bool) (seek : Seek) (e : Editor) (key : Key) → SameSize e (after_any d saved again seek e key)
+any_size d saved again Off e key = pressing_size d saved again e key
+any_size d saved again Begun e key = seeking_size d saved again e key
+any_size d saved again Typed e key = seeking_size d saved again e key
+
 -- ---- kinds of keys
 
 -- a key that is no telling keeps the editor's size
@@ -105,36 +149,36 @@ abbrev pub IsTelling : Key → Type 0
 IsTelling key = (height : ℕ) × (width : ℕ) × (key ≡ Size height width)
 
 pub kind_of_key : (d : Data) (saved : Bool) (e : Editor) (key : Key) → IsOther d saved e key ⊎ IsTelling key
-kind_of_key d saved e (Insert ch) = inl (pressing_size d saved e.quit_before (without_message e) (Insert ch), λ h w t. refl)
-kind_of_key d saved e Erase = inl (pressing_size d saved e.quit_before (without_message e) Erase, λ h w t. refl)
-kind_of_key d saved e Delete = inl (pressing_size d saved e.quit_before (without_message e) Delete, λ h w t. refl)
-kind_of_key d saved e Back = inl (pressing_size d saved e.quit_before (without_message e) Back, λ h w t. refl)
-kind_of_key d saved e Forward = inl (pressing_size d saved e.quit_before (without_message e) Forward, λ h w t. refl)
-kind_of_key d saved e Up = inl (pressing_size d saved e.quit_before (without_message e) Up, λ h w t. refl)
-kind_of_key d saved e Down = inl (pressing_size d saved e.quit_before (without_message e) Down, λ h w t. refl)
-kind_of_key d saved e Right = inl (pressing_size d saved e.quit_before (without_message e) Right, λ h w t. refl)
-kind_of_key d saved e Left = inl (pressing_size d saved e.quit_before (without_message e) Left, λ h w t. refl)
-kind_of_key d saved e RowHome = inl (pressing_size d saved e.quit_before (without_message e) RowHome, λ h w t. refl)
-kind_of_key d saved e RowEnd = inl (pressing_size d saved e.quit_before (without_message e) RowEnd, λ h w t. refl)
-kind_of_key d saved e PageUp = inl (pressing_size d saved e.quit_before (without_message e) PageUp, λ h w t. refl)
-kind_of_key d saved e PageDown = inl (pressing_size d saved e.quit_before (without_message e) PageDown, λ h w t. refl)
-kind_of_key d saved e Save = inl (pressing_size d saved e.quit_before (without_message e) Save, λ h w t. refl)
-kind_of_key d saved e Quit = inl (pressing_size d saved e.quit_before (without_message e) Quit, λ h w t. refl)
-kind_of_key d saved e Undo = inl (pressing_size d saved e.quit_before (without_message e) Undo, λ h w t. refl)
-kind_of_key d saved e Redo = inl (pressing_size d saved e.quit_before (without_message e) Redo, λ h w t. refl)
-kind_of_key d saved e Repaint = inl (pressing_size d saved e.quit_before (without_message e) Repaint, λ h w t. refl)
-kind_of_key d saved e Direction = inl (pressing_size d saved e.quit_before (without_message e) Direction, λ h w t. refl)
-kind_of_key d saved e Mark = inl (pressing_size d saved e.quit_before (without_message e) Mark, λ h w t. refl)
-kind_of_key d saved e Copy = inl (pressing_size d saved e.quit_before (without_message e) Copy, λ h w t. refl)
-kind_of_key d saved e Cut = inl (pressing_size d saved e.quit_before (without_message e) Cut, λ h w t. refl)
-kind_of_key d saved e Put = inl (pressing_size d saved e.quit_before (without_message e) Put, λ h w t. refl)
-kind_of_key d saved e Find = inl (pressing_size d saved e.quit_before (without_message e) Find, λ h w t. refl)
-kind_of_key d saved e FindBack = inl (pressing_size d saved e.quit_before (without_message e) FindBack, λ h w t. refl)
-kind_of_key d saved e WordLeft = inl (pressing_size d saved e.quit_before (without_message e) WordLeft, λ h w t. refl)
-kind_of_key d saved e WordRight = inl (pressing_size d saved e.quit_before (without_message e) WordRight, λ h w t. refl)
-kind_of_key d saved e TextStart = inl (pressing_size d saved e.quit_before (without_message e) TextStart, λ h w t. refl)
-kind_of_key d saved e TextEnd = inl (pressing_size d saved e.quit_before (without_message e) TextEnd, λ h w t. refl)
-kind_of_key d saved e Help = inl (pressing_size d saved e.quit_before (without_message e) Help, λ h w t. refl)
+kind_of_key d saved e (Insert ch) = inl (any_size d saved e.quit_before e.seek (without_message e) (Insert ch), λ h w t. refl)
+kind_of_key d saved e Erase = inl (any_size d saved e.quit_before e.seek (without_message e) Erase, λ h w t. refl)
+kind_of_key d saved e Delete = inl (any_size d saved e.quit_before e.seek (without_message e) Delete, λ h w t. refl)
+kind_of_key d saved e Back = inl (any_size d saved e.quit_before e.seek (without_message e) Back, λ h w t. refl)
+kind_of_key d saved e Forward = inl (any_size d saved e.quit_before e.seek (without_message e) Forward, λ h w t. refl)
+kind_of_key d saved e Up = inl (any_size d saved e.quit_before e.seek (without_message e) Up, λ h w t. refl)
+kind_of_key d saved e Down = inl (any_size d saved e.quit_before e.seek (without_message e) Down, λ h w t. refl)
+kind_of_key d saved e Right = inl (any_size d saved e.quit_before e.seek (without_message e) Right, λ h w t. refl)
+kind_of_key d saved e Left = inl (any_size d saved e.quit_before e.seek (without_message e) Left, λ h w t. refl)
+kind_of_key d saved e RowHome = inl (any_size d saved e.quit_before e.seek (without_message e) RowHome, λ h w t. refl)
+kind_of_key d saved e RowEnd = inl (any_size d saved e.quit_before e.seek (without_message e) RowEnd, λ h w t. refl)
+kind_of_key d saved e PageUp = inl (any_size d saved e.quit_before e.seek (without_message e) PageUp, λ h w t. refl)
+kind_of_key d saved e PageDown = inl (any_size d saved e.quit_before e.seek (without_message e) PageDown, λ h w t. refl)
+kind_of_key d saved e Save = inl (any_size d saved e.quit_before e.seek (without_message e) Save, λ h w t. refl)
+kind_of_key d saved e Quit = inl (any_size d saved e.quit_before e.seek (without_message e) Quit, λ h w t. refl)
+kind_of_key d saved e Undo = inl (any_size d saved e.quit_before e.seek (without_message e) Undo, λ h w t. refl)
+kind_of_key d saved e Redo = inl (any_size d saved e.quit_before e.seek (without_message e) Redo, λ h w t. refl)
+kind_of_key d saved e Repaint = inl (any_size d saved e.quit_before e.seek (without_message e) Repaint, λ h w t. refl)
+kind_of_key d saved e Direction = inl (any_size d saved e.quit_before e.seek (without_message e) Direction, λ h w t. refl)
+kind_of_key d saved e Mark = inl (any_size d saved e.quit_before e.seek (without_message e) Mark, λ h w t. refl)
+kind_of_key d saved e Copy = inl (any_size d saved e.quit_before e.seek (without_message e) Copy, λ h w t. refl)
+kind_of_key d saved e Cut = inl (any_size d saved e.quit_before e.seek (without_message e) Cut, λ h w t. refl)
+kind_of_key d saved e Put = inl (any_size d saved e.quit_before e.seek (without_message e) Put, λ h w t. refl)
+kind_of_key d saved e Find = inl (any_size d saved e.quit_before e.seek (without_message e) Find, λ h w t. refl)
+kind_of_key d saved e FindBack = inl (any_size d saved e.quit_before e.seek (without_message e) FindBack, λ h w t. refl)
+kind_of_key d saved e WordLeft = inl (any_size d saved e.quit_before e.seek (without_message e) WordLeft, λ h w t. refl)
+kind_of_key d saved e WordRight = inl (any_size d saved e.quit_before e.seek (without_message e) WordRight, λ h w t. refl)
+kind_of_key d saved e TextStart = inl (any_size d saved e.quit_before e.seek (without_message e) TextStart, λ h w t. refl)
+kind_of_key d saved e TextEnd = inl (any_size d saved e.quit_before e.seek (without_message e) TextEnd, λ h w t. refl)
+kind_of_key d saved e Help = inl (any_size d saved e.quit_before e.seek (without_message e) Help, λ h w t. refl)
 kind_of_key d saved e (Size height width) = inr (height, width, refl)
 
 -- ---- what a key leaves of a world's marks

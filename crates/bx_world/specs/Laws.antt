@@ -1,13 +1,12 @@
 -- A run is a schedule of its session's world. So the contracts of schedules apply to the program.
 use Rattle.std.specs.Prelude.{◌≡◌, ℕ, true, false, List, [], ◌∷◌, ◌++◌, length, Option, Ok}
-use Rattle.std.specs.List.{filter}
 use Rattle.bx_keys.specs.Keys.{decoding}
 use Rattle.bx_grid.specs.Picture.{IsIdle, Shows}
 use Rattle.bx_grid.specs.Terminal.{Terminal, reads}
 use Rattle.bx_ucd.specs.Data.{Data}
-use Rattle.bx_editor.specs.Keys.{after_keys}
+use Rattle.bx_editor.specs.Search.{without_search}
 use Rattle.bx_editor.specs.Picture.{picture}
-use Rattle.bx_session.specs.Session.{Session, is_replayed}
+use Rattle.bx_session.specs.Session.{Session, after_all_replayed}
 use Rattle.bx_session.specs.Saving.{StoreState}
 use Rattle.bx_session.specs.Running.{ByteAnswer, Turn, TakesTurn, HasRun}
 use Rattle.bx_session.specs.Beginning.{Beginning, IsBegun, at_offset, unpainted_at, begun}
@@ -45,10 +44,10 @@ RunsArePlays =
 
 -- ---- a run from its start
 
--- a session restored from a journal starts with the text as edited by the journal's keys, except Saves and Quits
+-- a session restored from a journal starts as the replay of the journal's keys leaves it, with no search on
 abbrev pub BeginsWithKeys : Type 0
 BeginsWithKeys = (d : Data) (b : Beginning)
-    → (unpainted_at d b).editor ≡ after_keys d false (at_offset d b).editor (filter is_replayed (decoding b.journal).keys)
+    → (unpainted_at d b).editor ≡ without_search (after_all_replayed d (at_offset d b).editor (decoding b.journal).keys)
 
 -- The headline for a run in a window whose size changes meanwhile: for any first content of the terminal, and any steps of
 -- the window and the terminal between the steps of the run.

@@ -1,0 +1,16 @@
+//! The characters that separate paragraphs.
+ghost use Rattle.std.specs.Prelude.{◌≡◌};
+ghost use Rattle.bx_paras.specs.Paragraphs.{is_separator};
+
+use crate::document::Document;
+use bx_paras::separates;
+use bx_ucd::BidiData;
+
+impl<D: BidiData + Drop> Document<D> {
+    /// Whether a character separates paragraphs. No memory.
+    pub fn separates(&self, c: char) -> bool
+        ensures { result ≡ is_separator ((D.data self.now.tables).class c) }
+    {
+        separates(&self.tables, c)
+    }
+}

@@ -1,0 +1,141 @@
+//! From match to match of a query: where a search leads.
+ghost use Rattle.std.specs.Prelude.{◌≡◌, ◌≤◌, Some, IfOk, IfSome, chars, length};
+ghost use Rattle.bx_find.specs.Letters.{letters};
+ghost use Rattle.bx_find.specs.Standing.{first_from, last_before};
+ghost use Rattle.bx_view.specs.Places.{IsTextPlace};
+ghost use Rattle.bx_document.specs.Document.{rows};
+ghost use Rattle.bx_editor.specs.Search.{backward, forward, match_or, not_found};
+
+use crate::message::Message;
+use bx_document::Document;
+use bx_find::Query;
+use bx_terms::OutOfMemory;
+use bx_ucd::BidiData;
+
+/// Where a search leads.
+#[derive(Clone, Copy, PartialEq, Eq, Debug)]
+pub struct Landing {
+    /// The cursor's new place; none if it stays.
+    pub place: Option<usize>,
+    pub message: Option<Message>,
+}
+
+/// Nothing is sought.
+const NOTHING_SOUGHT: Landing = Landing {
+    place: None,
+    message: None,
+};
+
+/// The query is nowhere in the text.
+const NOT_FOUND: Landing = Landing {
+    place: None,
+    message: Some(Message::NotFound),
+};
+
+/// Leads to the place of a match.
+///
+/// Errors: `OutOfMemory`.
+fn at_match<D: BidiData + Drop>(
+    document: &mut Document<D>,
+    offset: usize,
+    message: Option<Message>,
+) -> Result<Landing, OutOfMemory>
+    ensures same { document.new ≡ document.old }
+    ensures landing { IfOk result (λ l. l ≡ match_or (rows (D.data document.old.tables) document.old.document) message not_found (Some offset)) }
+    ensures text_place { IfOk result (λ l. IfSome l.place (IsTextPlace (D.data document.old.tables) document.old.document.content.text)) }
+{
+    let place = document.place_at(offset)?;
+    Ok(Landing {
+        place: Some(place),
+        message,
+    })
+}
+
+/// Leads to the first match of the text, if there is one.
+///
+/// Errors: `OutOfMemory`.
+fn from_start<D: BidiData + Drop>(
+    document: &mut Document<D>,
+    sought: &Query,
+) -> Result<Landing, OutOfMemory>
+    ensures same { document.new ≡ document.old }
+    ensures landing { IfOk result (λ l. l ≡ match_or (rows (D.data document.old.tables) document.old.document) (Some Message.FromStart) not_found
+        (first_from (D.data document.old.tables) sought.now document.old.document.content.text 0)) }
+    ensures text_place { IfOk result (λ l. IfSome l.place (IsTextPlace (D.data document.old.tables) document.old.document.content.text)) }
+{
+    // proof only: the text is UTF-8
+    let _utf8 = document.len();
+    match document.first_from(sought, 0) {
+        Some(offset) => at_match(document, offset, Some(Message::FromStart)),
+        None => Ok(NOT_FOUND),
+    }
+}
+
+/// Leads to the last match of the text, if there is one.
+///
+/// Errors: `OutOfMemory`.
+fn from_end<D: BidiData + Drop>(
+    document: &mut Document<D>,
+    sought: &Query,
+) -> Result<Landing, OutOfMemory>
+    ensures same { document.new ≡ document.old }
+    ensures landing { IfOk result (λ l. l ≡ match_or (rows (D.data document.old.tables) document.old.document) (Some Message.FromEnd) not_found
+        (last_before (D.data document.old.tables) sought.now document.old.document.content.text (length document.old.document.content.text))) }
+    ensures text_place { IfOk result (λ l. IfSome l.place (IsTextPlace (D.data document.old.tables) document.old.document.content.text)) }
+{
+    match document.last_before(sought, document.len()) {
+        Some(offset) => at_match(document, offset, Some(Message::FromEnd)),
+        None => Ok(NOT_FOUND),
+    }
+}
+
+/// Seeks the letters of a query of at most 64 characters from a place on, and then from the text's start. Without letters
+/// nothing is sought.
+///
+/// Errors: `OutOfMemory`.
+pub(crate) fn forward<D: BidiData + Drop>(
+    document: &mut Document<D>,
+    query: &str,
+    place: usize,
+) -> Result<Landing, OutOfMemory>
+    requires few { length (chars query.now) ≤ 64 }
+    requires text_place { IsTextPlace (D.data document.old.tables) document.old.document.content.text place }
+    ensures same { document.new ≡ document.old }
+    ensures landing { IfOk result (λ l. l ≡ forward (D.data document.old.tables) (rows (D.data document.old.tables) document.old.document)
+        document.old.document.content.text place (letters (D.data document.old.tables) (chars query.now))) }
+    ensures text_place { IfOk result (λ l. IfSome l.place (IsTextPlace (D.data document.old.tables) document.old.document.content.text)) }
+{
+    // proof only: the text is UTF-8
+    let _utf8 = document.len();
+    let Some(sought) = document.query(query) else {
+        return Ok(NOTHING_SOUGHT);
+    };
+    match document.first_from(&sought, place) {
+        Some(offset) => at_match(document, offset, None),
+        None => from_start(document, &sought),
+    }
+}
+
+/// Seeks the letters of a query of at most 64 characters before a place, and then before the text's end. Without letters
+/// nothing is sought.
+///
+/// Errors: `OutOfMemory`.
+pub(crate) fn backward<D: BidiData + Drop>(
+    document: &mut Document<D>,
+    query: &str,
+    place: usize,
+) -> Result<Landing, OutOfMemory>
+    requires few { length (chars query.now) ≤ 64 }
+    ensures same { document.new ≡ document.old }
+    ensures landing { IfOk result (λ l. l ≡ backward (D.data document.old.tables) (rows (D.data document.old.tables) document.old.document)
+        document.old.document.content.text place (letters (D.data document.old.tables) (chars query.now))) }
+    ensures text_place { IfOk result (λ l. IfSome l.place (IsTextPlace (D.data document.old.tables) document.old.document.content.text)) }
+{
+    let Some(sought) = document.query(query) else {
+        return Ok(NOTHING_SOUGHT);
+    };
+    match document.last_before(&sought, place) {
+        Some(offset) => at_match(document, offset, None),
+        None => from_end(document, &sought),
+    }
+}

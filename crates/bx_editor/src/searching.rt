@@ -1,0 +1,140 @@
+//! The keys of a search.
+ghost use Rattle.std.specs.Prelude.{◌≡◌, IfOk, IfSome, OnErr, OnOk};
+ghost use Rattle.bx_view.specs.Places.{IsTextPlace};
+ghost use Rattle.bx_editor.specs.Editor.{without_message};
+ghost use Rattle.bx_editor.specs.Search.{after_beginning, after_find, after_find_back, after_giving_up, after_letter, after_shortening};
+ghost use Rattle.bx_editor.specs.Search.{landed, next_or_start, without_search};
+
+use crate::editor::Editor;
+use crate::matches::{Landing, backward, forward};
+use crate::query::{kept, lengthened, shortened};
+use crate::seek::Seek;
+use bx_terms::OutOfMemory;
+use bx_ucd::BidiData;
+use bx_view::{Logical, Move};
+
+impl<D: BidiData + Drop> Editor<D> {
+    /// Begins a search at the place, with the query of the latest one.
+    pub(crate) fn begin_search(&mut self)
+        ensures { self.new ≡ record self.old { editor = after_beginning (without_message self.old.editor) } }
+    {
+        self.origin = self.place;
+        self.seek = Seek::Begun;
+        self.forget();
+    }
+
+    /// Ends the search.
+    pub(crate) fn end_search(&mut self)
+        ensures { self.new ≡ record self.old { editor = without_search (without_message self.old.editor) } }
+    {
+        self.leave_search();
+        self.forget();
+    }
+
+    /// Ends the search, and returns to where it began.
+    pub(crate) fn give_up(&mut self)
+        requires origin { IsTextPlace (D.data self.old.tables) self.old.editor.content.text self.old.editor.origin }
+        ensures { self.new ≡ record self.old { editor = after_giving_up (without_message self.old.editor) } }
+    {
+        self.place = self.origin;
+        self.end_search();
+    }
+
+    /// Goes where a search led.
+    fn land(&mut self, landing: Landing)
+        requires origin { IsTextPlace (D.data self.old.tables) self.old.editor.content.text self.old.editor.origin }
+        requires place { IfSome landing.place (IsTextPlace (D.data self.old.tables) self.old.editor.content.text) }
+        ensures { self.new ≡ record self.old { editor = landed (record (without_message self.old.editor) { seek = Seek.Typed }) landing } }
+    {
+        self.place = landing.place.unwrap_or(self.place);
+        self.message = landing.message;
+        self.quit_before = false;
+        self.seek = Seek::Typed;
+    }
+
+    /// Adds a character to the query, and seeks it from the place on. Ends the search for a line feed; clears the message
+    /// alone for a tab or another character that separates paragraphs.
+    pub(crate) fn type_letter(&mut self, c: char) -> Result<(), OutOfMemory>
+        requires origin { IsTextPlace (D.data self.old.tables) self.old.editor.content.text self.old.editor.origin }
+        ensures ok { OnOk result (self.new ≡ record self.old {
+          editor = after_letter (D.data self.old.tables) (without_message self.old.editor) c;
+        }) }
+        ensures err { OnErr result (self.new ≡ self.old) }
+    {
+        if c == '\n' {
+            self.end_search();
+            return Ok(());
+        }
+        if c == '\t' || self.document.separates(c) {
+            self.forget();
+            return Ok(());
+        }
+        let kept = kept(self.seek, self.query.as_str());
+        let query = lengthened(*self.query.allocator(), kept, c)?;
+        let landing = forward(&mut self.document, query.as_str(), self.place)?;
+        self.query = query;
+        self.land(landing);
+        Ok(())
+    }
+
+    /// Takes the last character off the query, and seeks the rest from where the search began.
+    pub(crate) fn shorten(&mut self) -> Result<(), OutOfMemory>
+        requires origin { IsTextPlace (D.data self.old.tables) self.old.editor.content.text self.old.editor.origin }
+        ensures ok { OnOk result (self.new ≡ record self.old {
+          editor = after_shortening (D.data self.old.tables) (without_message self.old.editor);
+        }) }
+        ensures err { OnErr result (self.new ≡ self.old) }
+    {
+        let kept = kept(self.seek, self.query.as_str());
+        let query = shortened(*self.query.allocator(), kept)?;
+        let landing = forward(&mut self.document, query.as_str(), self.origin)?;
+        self.query = query;
+        self.place = self.origin;
+        self.land(landing);
+        Ok(())
+    }
+
+    /// The place after the cursor's, or the text's start if there is none.
+    ///
+    /// Errors: `OutOfMemory`.
+    fn next_or_start(&mut self) -> Result<usize, OutOfMemory>
+        ensures same { self.new ≡ self.old }
+        ensures next { IfOk result (λ x. x ≡ next_or_start (D.data self.old.tables) self.old.editor) }
+        ensures text_place { IfOk result (IsTextPlace (D.data self.old.tables) self.old.editor.content.text) }
+    {
+        let next = self
+            .document
+            .moved(Move::Logical(Logical::Forward), self.place)?;
+        if self.place < next {
+            return Ok(next);
+        }
+        Ok(0)
+    }
+
+    /// Goes to the next match.
+    pub(crate) fn find_next(&mut self) -> Result<(), OutOfMemory>
+        requires origin { IsTextPlace (D.data self.old.tables) self.old.editor.content.text self.old.editor.origin }
+        ensures ok { OnOk result (self.new ≡ record self.old {
+          editor = after_find (D.data self.old.tables) (without_message self.old.editor);
+        }) }
+        ensures err { OnErr result (self.new ≡ self.old) }
+    {
+        let next = self.next_or_start()?;
+        let landing = forward(&mut self.document, self.query.as_str(), next)?;
+        self.land(landing);
+        Ok(())
+    }
+
+    /// Goes to the previous match.
+    pub(crate) fn find_previous(&mut self) -> Result<(), OutOfMemory>
+        requires origin { IsTextPlace (D.data self.old.tables) self.old.editor.content.text self.old.editor.origin }
+        ensures ok { OnOk result (self.new ≡ record self.old {
+          editor = after_find_back (D.data self.old.tables) (without_message self.old.editor);
+        }) }
+        ensures err { OnErr result (self.new ≡ self.old) }
+    {
+        let landing = backward(&mut self.document, self.query.as_str(), self.place)?;
+        self.land(landing);
+        Ok(())
+    }
+}
