@@ -16,3 +16,4 @@ pub mod PlacesKept
 pub mod PlacesMoved
 pub mod ShownTop
 pub mod FoundOffsets
+pub mod RegionShown

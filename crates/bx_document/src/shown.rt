@@ -55,9 +55,10 @@ impl<D: BidiData + Drop> Document<D> {
             (rows (D.data self.old.tables) self.old.document) place s.position) }
         ensures inside { IfOk result (λ s. (1 ≤ s.position.column) × (s.position.column ≤ self.old.document.w)) }
     {
-        // proof only: the text is UTF-8, and the width is within its limits
+        // proof only: the text is UTF-8, the width is within its limits, and the number of the grid's columns
         let _utf8 = self.text.len();
         let _side = self.layout.width();
+        let _columns = grid.columns();
         let source = Source {
             text: &self.text,
             index: &self.index,
@@ -73,6 +74,8 @@ impl<D: BidiData + Drop> Document<D> {
             count,
             &mut self.row_cache,
         )?;
+        // proof only: the number is unchanged
+        let _columns = grid.columns();
         lay_region(&mut self.layout, &source, first, grid, count, region)?;
         Ok(Shown {
             top: first,
