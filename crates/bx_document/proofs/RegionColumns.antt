@@ -1,7 +1,7 @@
 -- The columns of a row with a region, as the slots of its units are turned one after another.
-use Rattle.std.proofs.Common.{◌≡◌, ℕ, zero, suc, ◌+◌, ◌-◌, ◌%◌, ◌<◌, ◌≤◌, Bool, true, false, not, ◌&&◌, nat_le, nat_lt, List, [], ◌∷◌, ◌++◌, length, map}
-use Rattle.std.proofs.Common.{get_or, find, cond, min, Option, Some, None, option_map, refl, sym, ap, ap₂, subst, ◌∙◌, append_assoc, append-nil, length-append, arith}
-use Rattle.std.specs.Prelude.{All, filter, flat_map}
+use Rattle.std.proofs.Common.{◌≡◌, ℕ, zero, suc, ◌+◌, ◌-◌, ◌%◌, ◌<◌, ◌≤◌, Bool, true, false, ◌&&◌, nat_le, nat_lt, List, [], ◌∷◌, ◌++◌, length, map}
+use Rattle.std.proofs.Common.{get_or, find, cond, Option, Some, None, option_map, refl, sym, ap, ap₂, subst, ◌∙◌, append_assoc, append-nil, length-append, arith}
+use Rattle.std.specs.Prelude.{All, filter}
 use Rattle.std.proofs.Math.Path.{fun_ext}
 use Rattle.std.proofs.lemmas.Bool.Decides.{nat_tests}
 use Rattle.std.proofs.lemmas.Grind.{flat_map-append}
@@ -13,11 +13,11 @@ use Rattle.bx_grid.specs.Columns.{Col, blank, columns_before, glyph_columns}
 use Rattle.bx_grid.specs.Turned.{IsBorder, turned_in}
 use Rattle.bx_grid.proofs.Puts.{length-glyph}
 use Rattle.bx_grid.proofs.TurnedWhole.{border-turned, length-turned}
-use Rattle.bx_rows.specs.RowPicture.{Glyph, columns_used, unit_columns}
+use Rattle.bx_rows.specs.RowPicture.{Glyph, unit_columns}
 use Rattle.bx_rows.specs.VisualOrder.{visual}
 use Rattle.bx_rows.proofs.PictureLaws.{columns_of_glyphs}
 use Rattle.bx_paragraph.specs.declared.slot.Slot.{Slot}
-use Rattle.bx_paragraph.specs.Slots.{covering, covering_in, covers, end_slot, extent_of, left_column, row_slots, side_by_side as slots_beside, slot, unit_slots}
+use Rattle.bx_paragraph.specs.Slots.{covering, covering_in, covers, end_slot, extent_of, left_column, side_by_side as slots_beside, slot, unit_slots}
 use Rattle.bx_ucd.specs.Data.{Data}
 use Rattle.bx_view.specs.Moves.{place_in}
 use Rattle.bx_view.specs.TextParts.{is_covered, is_in, is_some_in, slots_in}
@@ -161,7 +161,7 @@ kept-by p zero true end ss e = kept-last p ss end (p end) refl e
 kept-by p (suc n) true end ss e = ap (λ c. cond c (end ∷ filter p ss) (filter p ss)) e
 kept-by p n false end ss e = refl
 
-offset-or : Option Slot → Option ℕ
+abbrev offset-or : Option Slot → Option ℕ
 offset-or o = option_map (λ (x : Slot). x.offset) o
 
 found-last : (q : Slot → Bool) (ss : List Slot) (end : Slot) → q end ≡ false → find q (ss ++ end ∷ []) ≡ find q ss

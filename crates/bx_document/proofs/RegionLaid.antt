@@ -1,13 +1,13 @@
 -- A region over the rows of a text, as the rows are found.
-use Rattle.std.proofs.Common.{◌≡◌, ℕ, ◌+◌, ◌-◌, ◌*◌, ◌<◌, ◌≤◌, List, ◌++◌, length, take, drop, replicate, get_or, sym, ap, ap₂, subst, ◌∙◌, arith, IsUtf8}
-use Rattle.std.specs.Prelude.{All, flat_map}
+use Rattle.std.proofs.Common.{◌≡◌, ℕ, ◌+◌, ◌*◌, ◌<◌, ◌≤◌, List, ◌++◌, length, take, drop, get_or, sym, ap, ap₂, subst, ◌∙◌, arith, IsUtf8}
+use Rattle.std.specs.Prelude.{All}
 use Rattle.std.proofs.lemmas.List.{get_or-drop, length-drop}
 use Rattle.std.proofs.lemmas.List.Elements.{All-drop}
-use Rattle.bx_grid.specs.Columns.{Col, blank}
+use Rattle.bx_grid.specs.Columns.{Col}
 use Rattle.bx_grid.specs.Picture.{GridState}
 use Rattle.bx_ucd.specs.Data.{Data}
 use Rattle.bx_view.specs.declared.row_at.RowAt.{RowAt}
-use Rattle.bx_view.specs.FoundRow.{IsNext, OfRow, StandsOn, rows_by}
+use Rattle.bx_view.specs.FoundRow.{OfRow, StandsOn, rows_by}
 use Rattle.bx_view.specs.Holding.{Keeps, ViewState}
 use Rattle.bx_view.specs.TextRows.{TextRow, no_text_row, row_at, row_of, text_row_glyphs}
 use Rattle.bx_view.specs.Top.{shown_rows}
@@ -18,7 +18,7 @@ use Rattle.bx_document.specs.Drawing.{row_columns, rows_columns, with_rows}
 use Rattle.bx_document.specs.Region.{region_columns, region_rows, row_in}
 use Rattle.bx_document.proofs.RegionColumns.{length-side, none-turned}
 use Rattle.bx_document.proofs.RegionRows.{nothing-laid, rest-laid, row-still, whole-laid}
-use Rattle.bx_document.proofs.RowsDrawn.{AreDrawn, height-is, next-drawn, none-drawn, width-is}
+use Rattle.bx_document.proofs.RowsDrawn.{AreDrawn, next-drawn, none-drawn}
 use Rattle.bx_document.proofs.TurnedWhere.{length-where}
 
 module _ (says : Data) (old : ViewState) (text : List ℕ) (utf8 : IsUtf8 text) (was : GridState) (width : was.width ≡ old.w) (top count : ℕ) (region : ℕ × ℕ)

@@ -1,6 +1,6 @@
 -- The rows that a grid shows, turned one below another.
-use Rattle.std.proofs.Common.{◌≡◌, ℕ, zero, suc, ◌+◌, ◌-◌, ◌*◌, ◌<◌, ◌≤◌, List, [], ◌∷◌, ◌++◌, length, take, drop, replicate, get_or, map, sym, ap, ap₂, subst, ◌∙◌, refl}
-use Rattle.std.proofs.Common.{arith, append_assoc, length-append, take_all, IsUtf8}
+use Rattle.std.proofs.Common.{◌≡◌, ℕ, zero, suc, ◌+◌, ◌-◌, ◌*◌, ◌<◌, ◌≤◌, List, [], ◌∷◌, ◌++◌, length, take, drop, replicate, get_or, sym, ap, ap₂, subst, ◌∙◌, refl}
+use Rattle.std.proofs.Common.{arith, append_assoc, length-append, take_all}
 use Rattle.std.specs.Prelude.{All, flat_map}
 use Rattle.std.proofs.Math.Path.{fun_ext}
 use Rattle.std.proofs.Math.Nat.{mul-le-mul_right}
@@ -11,8 +11,8 @@ use Rattle.std.proofs.lemmas.List.Elements.{All-rest}
 use Rattle.std.proofs.lemmas.List.Concat.{flat_map-cons}
 use Rattle.bx_grid.specs.Columns.{Col, blank, paste}
 use Rattle.bx_grid.specs.Picture.{GridState}
-use Rattle.bx_grid.specs.Turned.{IsBorder, turned_in}
-use Rattle.bx_grid.proofs.Pasted.{length-paste, paste_around, pasted_around}
+use Rattle.bx_grid.specs.Turned.{turned_in}
+use Rattle.bx_grid.proofs.Pasted.{paste_around, pasted_around}
 use Rattle.bx_grid.proofs.RowsPut.{put_same}
 use Rattle.bx_grid.proofs.TurnedWhole.{length-turned}
 use Rattle.bx_paragraph.specs.declared.slot.Slot.{Slot}

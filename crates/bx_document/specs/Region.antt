@@ -1,5 +1,5 @@
 -- Rows with a region: the columns of its units are in the other rendition.
-use Rattle.std.specs.Prelude.{◌≡◌, ℕ, ◌+◌, ◌-◌, ◌*◌, ◌≤◌, Bool, List, [], ◌∷◌, ◌++◌, flat_map, length, replicate, take, drop, if◌then◌else◌}
+use Rattle.std.specs.Prelude.{ℕ, ◌+◌, ◌-◌, ◌*◌, ◌≤◌, Bool, List, [], ◌∷◌, ◌++◌, flat_map, length, replicate, take, drop, if◌then◌else◌}
 use Rattle.bx_grid.specs.Columns.{Col, blank}
 use Rattle.bx_grid.specs.Picture.{GridState}
 use Rattle.bx_grid.specs.Turned.{IsBorder, turned, turned_in}

@@ -1,4 +1,4 @@
-use Rattle.std.proofs.Common.{◌≡◌, ◌+◌, ◌<◌, ◌≤◌, ◌∙◌, ap, arith, length, subst, sym}
+use Rattle.std.proofs.Common.{◌≡◌, ◌+◌, arith, length, subst}
 use Rattle.bx_view.specs.FoundRow.{IsNext, StandsOn, rows_by}
 use Rattle.bx_view.specs.TextRows.{row_of}
 use Rattle.bx_view.proofs.Beyond.{keeps-then}

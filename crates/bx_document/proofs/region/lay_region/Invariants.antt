@@ -1,5 +1,5 @@
 -- The rows up to the row that was found last are turned.
-use Rattle.std.proofs.Common.{ℕ, ◌+◌, ◌-◌, ◌<◌, drop}
+use Rattle.std.proofs.Common.{◌+◌, ◌-◌, ◌<◌, drop}
 use Rattle.bx_view.specs.FoundRow.{StandsOn, rows_by}
 use Rattle.bx_view.specs.Holding.{Keeps}
 use Rattle.bx_view.specs.TextRows.{row_of}

@@ -1,7 +1,8 @@
-use Rattle.std.proofs.Common.{◌≡◌, ◌≤◌, ◌*◌, ◌++◌, ap, drop, subst, sym}
+use Rattle.std.proofs.Common.{◌≡◌, ◌≤◌, ◌*◌, ◌∙◌, ◌++◌, ap, drop, subst, sym}
+use Rattle.bx_grid.specs.Picture.{GridState}
 use Rattle.bx_view.specs.Position.{IsPosition}
 use Rattle.bx_view.specs.FoundRow.{rows_by}
-use Rattle.bx_view.specs.Top.{shown_rows}
+use Rattle.bx_view.specs.Top.{follow, shown_rows}
 use Rattle.bx_view.proofs.Beyond.{keeps-then}
 use Rattle.bx_view.proofs.Told.{side-some}
 use Rattle.bx_document.specs.Document.{rows}
@@ -9,8 +10,20 @@ use Rattle.bx_document.specs.Drawing.{IsAmong, rows_columns}
 use Rattle.bx_document.specs.Shown.{rows_above, shown_columns}
 use Rattle.bx_document.proofs.CellColumns.{cell-inside}
 use Rattle.bx_document.proofs.RegionShown.{first-rows, over-them, region-earlier, rows-later}
-use Rattle.bx_document.proofs.ShownTop.{above-is, among, drawn-told}
+use Rattle.bx_document.proofs.ShownTop.{above-is, among, drawn-told, top-is}
 use Rattle.bx_document.proofs.document.Document.show.Goals as goal
+
+pub returns-clause-top : goal.returns-clause-top
+returns-clause-top g c =
+    let i = c.self.inside in
+    let says = g.D.BidiData.data i.tables in
+    let text = i.text.edited.text in
+    let located = c.in_ok-located.located in
+    let told = c.in_ok-located.ensures in
+    subst (λ s. c.first_in-first.result ≡ follow (rows (g.D.BidiData.data s.tables) s.document) c.args.top c.args.place c.args.count) c.self.view_is
+    (subst (λ n. c.first_in-first.result ≡ follow (rows_by says i.layout text) c.args.top c.args.place n) c.from.ensures
+    (top-is says i.layout c.locate.new.self text c.len-utf8.ensures.utf8 c.locate.ensures.keeps located.top c.args.top c.args.place c.from.result
+    c.first_in-first.result located.above told.top (c.first_in-first.ensures _ told.top) told.above))
 
 pub returns-clause-among : goal.returns-clause-among
 returns-clause-among g c =
@@ -25,10 +38,16 @@ returns-clause-among g c =
     c.first_in-first.result located.above told.top (c.first_in-first.ensures _ told.top) told.above told.few))
 
 pub lay_region-requires-clause-inside : goal.lay_region-requires-clause-inside
-lay_region-requires-clause-inside g c = ?
+lay_region-requires-clause-inside g c =
+    let told = c.in_ok-located.ensures in
+    let high = ap (λ (x : GridState). x.height) (c.in_ok-draw_rows.ensures.drawn _ told.top) in
+    subst (λ h. c.args.count ≤ h) (sym high) c.requires.inside
 
 pub lay_region-requires-clause-width : goal.lay_region-requires-clause-width
-lay_region-requires-clause-width g c = ?
+lay_region-requires-clause-width g c =
+    let told = c.in_ok-located.ensures in
+    ap (λ (x : GridState). x.width) (c.in_ok-draw_rows.ensures.drawn _ told.top) ∙ c.requires.width ∙ sym (ap (λ s. s.document.w) c.self.view_is)
+    ∙ sym c.locate.ensures.keeps.w ∙ sym c.draw_rows.ensures.keeps.w
 
 pub lay_region-requires-clause-drawn : goal.lay_region-requires-clause-drawn
 lay_region-requires-clause-drawn g c =
