@@ -2,6 +2,11 @@ pub mod PutOn
 pub mod CopiedRows
 pub mod RowGlyphs
 pub mod RowsDrawn
+pub mod TurnedWhere
+pub mod RegionColumns
+pub mod RegionRows
+pub mod RegionRow
+pub mod RegionLaid
 pub mod CellColumns
 pub mod TouchedPlace
 pub mod TouchedTold
@@ -11,3 +16,4 @@ pub mod PlacesKept
 pub mod PlacesMoved
 pub mod ShownTop
 pub mod FoundOffsets
+pub mod RegionShown

@@ -5,7 +5,7 @@ use Rattle.bx_view.specs.declared.row_at.RowAt.{RowAt}
 use Rattle.bx_view.specs.FoundRow.{StandsOn, rows_by}
 use Rattle.bx_view.specs.Holding.{Keeps, ViewState}
 use Rattle.bx_view.specs.TextRows.{TextRow, first, row_at, row_of}
-use Rattle.bx_view.specs.Top.{nearest_top, shown_rows}
+use Rattle.bx_view.specs.Top.{follow, nearest_top, shown_rows}
 use Rattle.bx_view.proofs.LeastMove.{falls-own}
 use Rattle.bx_view.proofs.Told.{rows-kept, side-some}
 use Rattle.bx_view.proofs.Walking.{row-within, rows-rise}
@@ -37,6 +37,9 @@ module _ (says : Data) (old v : ViewState) (text : List ℕ) (utf8 : IsUtf8 text
       let now = rows_by says v text in
       let rise = rows-rise says v.base v.w (side-some v.w on.side) text utf8 in
       ap (λ rs. row_of rs begin) (sym same) ∙ ap (row_of now) begins ∙ falls-own now _ rise k within
+
+  pub top-is : begin ≡ follow all top place t
+  top-is = begins ∙ ap (λ rs. first (row_at rs k)) same
 
   pub above-is : above ≡ row_of all place - row_of all begin
   above-is = omega (arith, sum, own)

@@ -4,5 +4,6 @@ pub mod Drawing
 pub mod History
 pub mod Line
 pub mod Past
+pub mod Region
 pub mod Shown
 pub mod Touched

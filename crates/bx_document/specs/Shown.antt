@@ -5,11 +5,11 @@ use Rattle.bx_view.specs.TextRows.{row_of}
 use Rattle.bx_view.specs.Top.{shown_rows}
 use Rattle.bx_ucd.specs.Data.{Data}
 use Rattle.bx_document.specs.Document.{Document, rows}
-use Rattle.bx_document.specs.Drawing.{rows_columns}
+use Rattle.bx_document.specs.Region.{region_rows}
 
--- the columns of `count` rows
-abbrev pub shown_columns : Data → Document → ℕ → ℕ → List Col
-shown_columns d t top count = rows_columns d t.w count (shown_rows (rows d t) top count)
+-- the columns of `count` rows with a region
+abbrev pub shown_columns : Data → Document → ℕ → ℕ × ℕ → ℕ → List Col
+shown_columns d t top region count = region_rows d t.w region count (shown_rows (rows d t) top count)
 
 -- the number of visible rows above the row of `place`
 abbrev pub rows_above : Data → Document → ℕ → ℕ → ℕ

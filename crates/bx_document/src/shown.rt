@@ -8,6 +8,7 @@ ghost use Rattle.bx_document.specs.Shown.{rows_above, shown_columns};
 
 use crate::document::Document;
 use crate::drawn_rows::draw_rows;
+use crate::region::lay_region;
 use bx_grid::Grid;
 use bx_terms::OutOfMemory;
 use bx_ucd::BidiData;
@@ -26,7 +27,8 @@ pub struct Shown {
 
 impl<D: BidiData + Drop> Document<D> {
     /// Draws `count` rows into the first rows of a grid: those from the row of the offset `top` on, scrolled by the fewest
-    /// rows that make the row of `place` visible.
+    /// rows that make the row of `place` visible. The columns of units that begin in the region, from the offset `region.0` up
+    /// to `region.1`, are in the other rendition.
     ///
     /// Errors: `OutOfMemory`; some of the rows may be drawn.
     pub fn show(
@@ -35,6 +37,7 @@ impl<D: BidiData + Drop> Document<D> {
         top: usize,
         place: usize,
         count: u16,
+        region: (usize, usize),
     ) -> Result<Shown, OutOfMemory>
         requires width { grid.old.width ≡ self.old.document.w }
         requires inside { count ≤ grid.old.height }
@@ -43,7 +46,7 @@ impl<D: BidiData + Drop> Document<D> {
         ensures top { IfOk result (λ s. s.top ≡ follow (rows (D.data self.old.tables) self.old.document) top place count) }
         ensures among { IfOk result (λ s. IsAmong (rows (D.data self.old.tables) self.old.document) s.top place count) }
         ensures drawn { IfOk result (λ s. grid.new ≡ record grid.old {
-          columns = shown_columns (D.data self.old.tables) self.old.document s.top count
+          columns = shown_columns (D.data self.old.tables) self.old.document s.top region count
               ++ drop (count * grid.old.width) grid.old.columns;
         }) }
         ensures row { IfOk result (λ s. s.row ≡ rows_above (D.data self.old.tables) self.old.document s.top place) }
@@ -52,9 +55,10 @@ impl<D: BidiData + Drop> Document<D> {
             (rows (D.data self.old.tables) self.old.document) place s.position) }
         ensures inside { IfOk result (λ s. (1 ≤ s.position.column) × (s.position.column ≤ self.old.document.w)) }
     {
-        // proof only: the text is UTF-8, and the width is within its limits
+        // proof only: the text is UTF-8, the width is within its limits, and the number of the grid's columns
         let _utf8 = self.text.len();
         let _side = self.layout.width();
+        let _columns = grid.columns();
         let source = Source {
             text: &self.text,
             index: &self.index,
@@ -70,6 +74,9 @@ impl<D: BidiData + Drop> Document<D> {
             count,
             &mut self.row_cache,
         )?;
+        // proof only: the number is unchanged
+        let _columns = grid.columns();
+        lay_region(&mut self.layout, &source, first, grid, count, region)?;
         Ok(Shown {
             top: first,
             row: located.above as u16,

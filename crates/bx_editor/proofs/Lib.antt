@@ -1,6 +1,7 @@
 pub mod Computed
 pub mod Examples
 pub mod RegionExamples
+pub mod SeenRegionExamples
 pub mod WordKeyExamples
 pub mod SearchExamples
 pub mod RowText

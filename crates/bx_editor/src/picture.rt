@@ -59,8 +59,9 @@ impl<D: BidiData + Drop> Editor<D> {
         Ok(())
     }
 
-    /// Scrolls from the offset `top` to the cursor and draws the window. Returns the offset of the new top row, and the
-    /// picture. `page` is a grid of the window's size to draw on. Rows that it shows already are left as they are.
+    /// Scrolls from the offset `top` to the cursor and draws the window, with the region in the other rendition. Returns the
+    /// offset of the new top row, and the picture. `page` is a grid of the window's size to draw on. Rows that it shows already
+    /// are left as they are.
     ///
     /// Errors: `OutOfMemory`.
     pub fn picture(
@@ -88,7 +89,8 @@ impl<D: BidiData + Drop> Editor<D> {
         // proof only: the text is UTF-8
         let _utf8 = self.document.len();
         let count = text_height(self.height);
-        let shown = self.document.show(&mut page, top, self.place, count)?;
+        let region = self.region();
+        let shown = self.document.show(&mut page, top, self.place, count, region)?;
         // proof only: the number is unchanged
         let _columns = page.columns();
         self.put_status(alloc, &mut page, shown.position)?;

@@ -35,7 +35,7 @@ impl<D: BidiData + Drop> Editor<D> {
     }
 
     /// The offsets of the region's start and end: the mark and the place in order. Equal if there is no mark.
-    fn region(&self) -> (usize, usize)
+    pub(crate) fn region(&self) -> (usize, usize)
         ensures region { result ≡ region self.now.editor }
         ensures range { IsRange self.now.editor.content.text result.0 result.1 }
     {

@@ -16,6 +16,7 @@ pub mod Texts
 pub mod Coded
 pub mod Whole
 pub mod Pasted
+pub mod TurnedWhole
 pub mod Laid
 pub mod Blanks
 pub mod Shared

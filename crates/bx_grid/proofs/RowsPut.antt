@@ -1,5 +1,5 @@
 -- Whole rows put over others of a grid: rows of whole glyphs stay.
-use Rattle.std.proofs.Common.{◌≡◌, ℕ, ◌+◌, ◌-◌, ◌*◌, ◌≤◌, List, ◌++◌, length, take, drop, zero, suc, sym, ap, ◌∙◌, subst, append_assoc, take_all, arith}
+use Rattle.std.proofs.Common.{◌≡◌, ℕ, ◌+◌, ◌-◌, ◌*◌, ◌<◌, ◌≤◌, List, ◌++◌, length, take, drop, zero, suc, sym, ap, ◌∙◌, subst, append_assoc, take_all, arith}
 use Rattle.std.proofs.lemmas.List.{drop-append-le, drop-drop, drop-map, length-drop, length-map, length-take-le, map-append, nil_from_length, take-append-drop, take-append-le, take-map}
 use Rattle.std.proofs.Math.Nat.{mul-le-mul_right}
 use Rattle.bx_grid.specs.Codes.{code_of, codes_of}
@@ -23,6 +23,13 @@ rows_behind (suc n) m (suc h) w cs e rows =
     let next : w + n * w ≡ suc n * w = omega arith in
     rows_along m w (drop (n * w) (drop w cs)) (drop (suc n * w) cs) (drop-drop (n * w) w cs ∙ ap (λ k. drop k cs) next)
     (rows_behind n m h w (drop w cs) (omega (arith, e)) rows.1)
+
+-- one of the rows
+whole_at : (r h w : ℕ) (cs : List Col) → r < h → AreWholeRows h w cs → AreWhole (take w (drop (r * w) cs))
+whole_at r h w cs below rows = (rows_behind r (suc (h - r - 1)) h w cs (omega (arith, below)) rows).0
+
+pub whole_row : (g : GridState) (r : ℕ) → IsGrid g.height g.width g.columns → r < g.height → AreWhole (take g.width (drop (r * g.width) g.columns))
+whole_row g r is below = whole_at r g.height g.width g.columns below is.rows
 
 -- some rows and others behind them
 rows_together : (n m h w : ℕ) (xs ys : List Col) → h ≡ n + m → length xs ≡ n * w → AreWholeRows n w xs → AreWholeRows m w ys → AreWholeRows h w (xs ++ ys)

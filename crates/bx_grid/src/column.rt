@@ -4,6 +4,7 @@ ghost use Rattle.std.specs.Prelude.{◌≡◌, ◌↔◌, ◌∷◌, [], IsTrue,
 ghost use Rattle.bx_grid.specs.Columns as spec;
 ghost use Rattle.bx_grid.specs.Columns.{is_blank, blank, col_eq, are_equal};
 ghost use Rattle.bx_grid.specs.Seen.{seen};
+ghost use Rattle.bx_grid.specs.Turned.{turned};
 
 use crate::glyph_text::GlyphText;
 use std::alloc::{AllocError, Global};
@@ -103,6 +104,15 @@ impl Column {
         *offset = place;
         *negative = is_negative;
         true
+    }
+
+    /// Turns the rendition of a glyph: negative if it was normal, normal if it was negative.
+    pub(crate) fn turn(&mut self)
+        ensures { seen self.new ≡ turned (seen self.old) }
+    {
+        if let Column::Glyph { negative, .. } = self {
+            *negative = !*negative;
+        }
     }
 
     /// Whether this is a space, one column wide, in normal rendition.

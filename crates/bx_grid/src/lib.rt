@@ -25,6 +25,7 @@ mod screen;
 mod sequence;
 mod text;
 mod token;
+mod turning;
 mod width;
 
 pub use borrowed_row::BorrowedRow;

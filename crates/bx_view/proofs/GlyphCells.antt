@@ -44,7 +44,7 @@ use Rattle.bx_view.proofs.Parts.{AreUtf8, text-parts}
 
 -- ---- the units of a row show the faces of their texts
 
-abbrev HasFaces : Data → ℕ → BodyRow → Type 0
+abbrev pub HasFaces : Data → ℕ → BodyRow → Type 0
 HasFaces says w r = All (HasFace says w r.body) r.units
 
 faced-last : (says : Data) (w : ℕ) (body : List ℕ) (paragraph : ℕ) (each : List (Option ℕ)) (xs : List (List Unit)) → All (All (HasFace says w body)) xs
@@ -73,7 +73,7 @@ module _ (says : Data) (base : Base) (w : ℕ) where
       (All-map (λ (r : TextRow). HasFaces says w r.row) (text_row start) (own says base w p) (faced-body p.body u.0.body))
       (faced-from next ps u.1)
 
-  rows-faced : (text : List ℕ) → IsUtf8 text → All (λ r. HasFaces says w r.row) (text_rows says base w text)
+  pub rows-faced : (text : List ℕ) → IsUtf8 text → All (λ r. HasFaces says w r.row) (text_rows says base w text)
   rows-faced text utf8 = faced-from 0 (paragraphs says text) (text-parts says text utf8).utf8
 
 -- ---- the glyphs of a unit have its columns
@@ -223,7 +223,7 @@ module _ (says : Data) (w : ℕ) (r : TextRow) (levels : HasLevels r.row) (faces
   extents : (k : ℕ) (d : Unit) → k < length us → extent_of us columns k ≡ ((get_or us k d).start, get_or columns k 0)
   extents k d h = extent-is us columns k d h (columns-length w 0 us)
 
-  sums : All (λ k. columns_of_glyphs (glyphs_of says w r.row k) ≡ (extent_of us columns k).1) order
+  pub sums : All (λ k. columns_of_glyphs (glyphs_of says w r.row k) ≡ (extent_of us columns k).1) order
   sums = λ i d h.
       let k = get_or order i d in
       piece-sum says w 0 r.row.body us r.row.levels k faces levels (below i d h)

@@ -6,12 +6,14 @@ use Rattle.bx_view.specs.Places.{IsTextPlace}
 use Rattle.bx_view.specs.Position.{IsPosition}
 use Rattle.bx_view.specs.TextRows.{TextRow, cell_of, row_of}
 use Rattle.bx_view.specs.Top.{follow, shown_rows}
-use Rattle.bx_document.specs.Drawing.{IsAmong, rows_columns, with_rows}
+use Rattle.bx_document.specs.Drawing.{IsAmong, with_rows}
+use Rattle.bx_document.specs.Region.{region_rows}
 use Rattle.bx_document.specs.Shown.{shown_columns}
 use Rattle.bx_document.specs.Document.{rows as document_rows}
 use Rattle.bx_ucd.specs.Data.{Data}
 use Rattle.bx_editor.specs.Editor.{Editor, rows, text_height}
 use Rattle.bx_editor.specs.Picture.{blank_picture, next_top, picture, text_picture}
+use Rattle.bx_editor.specs.Region.{region}
 use Rattle.bx_editor.specs.Status.{status_columns}
 use Rattle.bx_editor.proofs.OnItsCell.{stands}
 use Rattle.bx_editor.proofs.Shown.{all-blank, drawn-front, picture-is}
@@ -111,14 +113,16 @@ returns-clause-picture g c =
     }) c.show.ensures.same c.in_ok-put_status.ensures.status in
     let high = c.requires.height ∙ sym (ap (λ s. s.editor.height) c.self.view_is) in
     let wide = ap (λ x. x.width) drawn ∙ c.requires.width ∙ sym (ap (λ s. s.editor.width) c.self.view_is) in
-    let front = drawn-front was mid (shown_columns d i.document.document top n) n (omega (arith, high, c.text_height-count.ensures.inside))
+    let part = c.region.result in
+    let told : part ≡ region e = ap (λ s. region s.editor) (sym c.self.view_is) in
+    let front = drawn-front was mid (shown_columns d i.document.document top part n) n (omega (arith, high, c.text_height-count.ensures.inside))
     c.columns-columns.ensures.grid.sized.each c.columns-columns-2.ensures.grid.sized.each drawn in
     let shown : take (text_height i.height * i.document.document.w) mid.columns
-    ≡ rows_columns d e.width (text_height i.height) (shown_rows all top (text_height i.height)) =
+    ≡ region_rows d e.width (region e) (text_height i.height) (shown_rows all top (text_height i.height)) =
     ap₂ (λ t w. take (t * w) mid.columns) (sym c.text_height-count.ensures.rows) (sym wide) ∙ front
-    ∙ ap (λ t. rows_columns d e.width t (shown_rows all top t)) c.text_height-count.ensures.rows in
+    ∙ ap₂ (λ p t. region_rows d e.width p t (shown_rows all top t)) told c.text_height-count.ensures.rows in
     subst (λ s. c.new-2.result ≡ picture (g.D.BidiData.data s.tables) s.editor top) c.self.view_is
-    (picture-is new (rows_columns d e.width (text_height e.height) (shown_rows all top (text_height e.height)) ++ status_columns d e) e.height e.width
+    (picture-is new (region_rows d e.width (region e) (text_height e.height) (shown_rows all top (text_height e.height)) ++ status_columns d e) e.height e.width
     (row_of all e.place - row_of all top) (cell_of e.width all e.place) (c.in_ok-shown.shown.row + 1) c.in_ok-shown.shown.position.column c.new-2.result c.new-2.ensures
     (ap (λ x. x.height) status ∙ ap (λ x. x.height) drawn ∙ high) (ap (λ x. x.width) status ∙ wide)
     (ap (λ x. x.columns) status ∙ ap (λ cs. cs ++ status_columns d e) shown) (ap (λ k. k + 1) row) cell

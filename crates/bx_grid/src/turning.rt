@@ -1,0 +1,48 @@
+//! Turning columns of a grid to the other rendition.
+
+ghost use Rattle.std.specs.Prelude.{◌≡◌, ◌+◌, ◌-◌, ◌*◌, ◌≤◌, ◌<◌, length, map, take, drop};
+ghost use Rattle.bx_grid.specs.Columns.{paste};
+ghost use Rattle.bx_grid.specs.Seen.{all_seen};
+ghost use Rattle.bx_grid.specs.Turned.{IsBorder, turned, turned_in};
+
+use crate::codes::note_codes;
+use crate::column::Column;
+use crate::grid::Grid;
+
+/// Turns all columns.
+fn turn_all(columns: &mut [Column])
+    ensures { all_seen columns.new ≡ map turned (all_seen columns.old) }
+{
+    for column in columns.iter_mut() {
+        column.turn();
+    }
+}
+
+/// Turns columns, from an index up to another.
+fn turn_columns(columns: &mut [Column], from: usize, to: usize)
+    requires order { from ≤ to }
+    requires inside { to ≤ length columns.old }
+    ensures { all_seen columns.new ≡ turned_in (all_seen columns.old) from (to - from) }
+{
+    turn_all(&mut columns[from..to]);
+}
+
+impl Grid {
+    /// Turns `count` columns of a row, from a column on, to the other rendition: negative if they were normal, normal if they
+    /// were negative. Row and column count from 0. The columns must be those of whole glyphs. Allocates nothing.
+    pub fn turn(&mut self, row: u16, column: u16, count: u16)
+        requires inside { row < self.old.height }
+        requires fits { column + count ≤ self.old.width }
+        requires begins { IsBorder (take self.old.width (drop (row * self.old.width) self.old.columns)) column }
+        requires ends { IsBorder (take self.old.width (drop (row * self.old.width) self.old.columns)) (column + count) }
+        ensures { self.new ≡ record self.old {
+          columns = paste self.old.columns (row * self.old.width)
+              (turned_in (take self.old.width (drop (row * self.old.width) self.old.columns)) column count);
+        } }
+    {
+        let start = row as usize * self.width as usize + column as usize;
+        let stop = start + count as usize;
+        turn_columns(self.columns.as_mut_slice(), start, stop);
+        note_codes(self.codes.as_mut_slice(), &self.columns, start, stop);
+    }
+}

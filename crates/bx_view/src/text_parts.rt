@@ -1,0 +1,44 @@
+//! The units of a row that begin in a part of the text.
+ghost use Rattle.std.specs.Prelude.{◌≡◌, ◌&&◌, nat_lt, filter, IfOk};
+ghost use Rattle.bx_view.specs.Source.{OfRow, Stands};
+ghost use Rattle.bx_view.specs.TextParts.{is_in, slots_in};
+
+use crate::error::ViewError;
+use crate::layout::Layout;
+use crate::row_at::RowAt;
+use crate::source::Source;
+use bx_paragraph::Slot;
+use bx_ucd::BidiData;
+
+/// Keeps the slots of units that begin from `start` up to `stop`, offsets of the body.
+fn keep_in(slots: &mut Vec<Slot>, start: usize, stop: usize)
+    ensures { slots.new.items ≡ filter (λ s. nat_lt 0 s.columns && is_in (start, stop) s.offset) slots.old.items }
+{
+    slots.retain(|s| s.columns > 0 && start <= s.offset && s.offset < stop);
+}
+
+impl Layout {
+    /// The slots of a row's units that begin in a part of the text, from the offset `part.0` up to `part.1`, from left to
+    /// right. If the row's paragraph lies outside the part, nothing is computed.
+    ///
+    /// Errors: `OutOfMemory`.
+    pub fn slots_in<D: BidiData>(
+        &self,
+        source: &Source<'_, D>,
+        at: RowAt,
+        part: (usize, usize),
+    ) -> Result<Vec<Slot>, ViewError>
+        requires row { Stands source.now self.now at }
+        ensures { OfRow source.now self.now at (λ r. IfOk result (λ v. v.items ≡ slots_in self.now.w part r)) }
+    {
+        let paragraph = self.paragraph(source, at.paragraph, at.held);
+        let start = part.0.saturating_sub(at.start);
+        let stop = part.1.saturating_sub(at.start);
+        if start >= stop || paragraph.body().len() < start {
+            return Ok(Vec::new(*self.held.allocator()));
+        }
+        let mut slots = paragraph.slots(at.row, source.tables)?;
+        keep_in(&mut slots, start, stop);
+        Ok(slots)
+    }
+}
