@@ -5,9 +5,8 @@ use Rattle.bx_cells.specs.declared.unit.Unit.{Unit}
 use Rattle.bx_cells.specs.Units.{HasFace}
 use Rattle.bx_rows.specs.declared.lines.Lines.{Lines}
 use Rattle.bx_rows.specs.NumberedRows.{draw_numbered}
-use Rattle.bx_rows.specs.OwnGlyphs.{numbered_own_glyphs}
 use Rattle.bx_rows.specs.RowLevels.{row_levels}
-use Rattle.bx_rows.specs.RowPicture.{Glyph}
+use Rattle.bx_rows.specs.RowPicture.{Glyph, own_glyphs}
 use Rattle.bx_rows.specs.RowStarts.{units_of_row}
 
 module _ {D : Type 0} {g : Ghosts D} (s : Lines D g) where
@@ -29,4 +28,4 @@ module _ {D : Type 0} {g : Ghosts D} (s : Lines D g) where
 
   -- the glyphs of its units alone
   abbrev pub own_glyphs_at : ℕ → List Glyph
-  own_glyphs_at k = numbered_own_glyphs (g.data s.tables.now) s.w s.body.now s.levels.now.paragraph s.levels.now.each.items k
+  own_glyphs_at k = let us = units_at k in own_glyphs (g.data s.tables.now) s.w s.body.now us (levels_of us)

@@ -4,8 +4,7 @@ ghost use Rattle.std.specs.List.{range_with_len};
 ghost use Rattle.std.specs.Cow.{cow_str_bytes};
 ghost use Rattle.bx_terms.specs.Characters.{are_ascii_printable, is_ascii_printable};
 ghost use Rattle.bx_terms.specs.Glyphs.{is_one_glyph, run_width};
-ghost use Rattle.bx_rows.specs.OwnGlyphs.{letter_glyphs};
-ghost use Rattle.bx_rows.specs.RowPicture.{blank, face_glyphs, glyph, is_own, shown_text, text_glyphs, with_blanks};
+ghost use Rattle.bx_rows.specs.RowPicture.{blank, face_glyphs, glyph, is_own, letter_glyphs, shown_text, text_glyphs, with_blanks};
 ghost use Rattle.bx_rows.specs.Shown.{HasLetter, glyph_of};
 
 use crate::drawn::{Drawn, RowPicture};
