@@ -1,6 +1,8 @@
 pub mod PutOn
 pub mod CopiedRows
 pub mod RowGlyphs
+pub mod Fitting
+pub mod QueryGlyphs
 pub mod RowsDrawn
 pub mod TurnedWhere
 pub mod RegionColumns

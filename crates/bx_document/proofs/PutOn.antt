@@ -41,8 +41,12 @@ module _ (w : ℕ) (done : List Col) (new : GridState) (column : ℕ) (is : new 
       ∙ ap (λ cs. record (one_row w done) { columns = paste (one_row w done).columns ((1 - 1) * w + (column - 1)) cs }) same
       ∙ ap (λ cs. record (one_row w done) { columns = cs }) (laid_next done one ((1 - 1) * w + (column - 1)) (w - length done) rest index split)
 
--- no blank is left
-pub all_put : (w : ℕ) (all : List Col) (new : GridState) → new ≡ one_row w all → length all ≡ w → new.columns ≡ all
-all_put w all new is len =
-    let none : w - length all ≡ 0 = omega (arith, len) in
-    ap (λ (g : GridState). g.columns) is ∙ ap (λ n. all ++ replicate n blank) none ∙ append-nil all
+-- blanks are left behind the columns
+pub some_put : (w n : ℕ) (all : List Col) (new : GridState) → new ≡ one_row w all → length all ≡ n → new.columns ≡ all ++ replicate (w - n) blank
+some_put w n all new is len = ap (λ (g : GridState). g.columns) is ∙ ap (λ k. all ++ replicate (w - k) blank) len
+
+-- and none where they fill the row
+pub all_put : (w n : ℕ) (all : List Col) → n ≡ w → all ++ replicate (w - n) blank ≡ all
+all_put w n all full =
+    let none : w - n ≡ 0 = omega (arith, full) in
+    ap (λ k. all ++ replicate k blank) none ∙ append-nil all

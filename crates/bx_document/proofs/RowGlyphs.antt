@@ -94,9 +94,9 @@ pub record IsPut (w : ℕ) (ds : List Drawn) (i : ℕ) (new : GridState) (column
   pub at : column ≡ columns_in (take i ds) + 1
   pub grid : new ≡ one_row w (glyphs_columns (take i ds))
 
--- glyph number `i` comes next, and has room
+-- glyph number `i` comes next, and all glyphs have room
 pub record IsNext (w : ℕ) (ds : List Drawn) (i : ℕ) (d : Drawn) : Type 0 where
-  pub fills : columns_in ds ≡ w
+  pub fills : columns_in ds ≤ w
   pub inside : i < length ds
   pub is : get_or ds i d ≡ d
   pub one : is_one_glyph (cow_str_bytes d.text) ≡ true
@@ -146,7 +146,7 @@ module _ (w : ℕ) (ds : List Drawn) (i : ℕ) (new : GridState) (column : ℕ) 
             ∙ ap (one_row w) (sym next);
       }
 
-pub is_next : (w : ℕ) (ds items : List Drawn) (i : ℕ) (d : Drawn) → columns_in ds ≡ w
+pub is_next : (w : ℕ) (ds items : List Drawn) (i : ℕ) (d : Drawn) → columns_in ds ≤ w
     → items ≡ ds → i < length items → d ≡ get_or items i d → All (λ x. is_one_glyph (cow_str_bytes x.text) ≡ true) ds
     → All (λ x. run_width (cow_str_bytes x.text) ≡ x.columns) ds → IsNext w ds i d
 is_next w ds items i d fills e inside is ones widths =

@@ -1,6 +1,7 @@
 pub mod Cache
 pub mod Document
 pub mod Drawing
+pub mod QueryRow
 pub mod History
 pub mod Line
 pub mod Past

@@ -1,34 +1,41 @@
 //! Drawing one row of text.
-ghost use Rattle.std.specs.Prelude.{◌≡◌, true, All, IfOk, length, map, sum_by};
+ghost use Rattle.std.specs.Prelude.{◌≡◌, ◌≤◌, ◌++◌, ◌-◌, true, All, IfOk, length, map, replicate, sum_by};
 ghost use Rattle.std.specs.Cow.{cow_str_bytes};
 ghost use Rattle.bx_terms.specs.Glyphs.{is_one_glyph, run_width};
 ghost use Rattle.bx_terms.specs.Sizes.{is_side};
+ghost use Rattle.bx_grid.specs.Columns.{blank};
 ghost use Rattle.bx_rows.specs.Shown.{glyph_of};
 ghost use Rattle.bx_view.specs.Source.{OfRow, Stands};
 ghost use Rattle.bx_document.specs.Drawing.{row_columns, side_by_side};
 
 use bx_grid::{Cell, Grid, OwnedRow};
-use bx_rows::RowPicture;
+use bx_rows::Drawn;
 use bx_terms::OutOfMemory;
 use bx_ucd::BidiData;
 use bx_view::{Layout, RowAt, Source};
 use std::alloc::Global;
 
-/// Draws the glyphs of a row's picture side by side. They fill `width` columns.
+/// Draws glyphs side by side from the left end of a row of `width` columns. They have room in it.
 ///
 /// Errors: `OutOfMemory`.
-fn drawn(alloc: Global, picture: &RowPicture<'_>, width: u16) -> Result<OwnedRow, OutOfMemory>
+pub(crate) fn draw_glyphs(
+    alloc: Global,
+    glyphs: &[Drawn<'_>],
+    width: u16,
+) -> Result<OwnedRow, OutOfMemory>
     requires side { is_side width ≡ true }
-    requires glyphs { All (λ g. is_one_glyph (cow_str_bytes g.text) ≡ true) picture.now.glyphs.items }
-    requires widths { All (λ g. run_width (cow_str_bytes g.text) ≡ g.columns) picture.now.glyphs.items }
-    requires columns { sum_by (λ g. g.columns) picture.now.glyphs.items ≡ width }
-    ensures { IfOk result (λ row. row ≡ side_by_side (map glyph_of picture.now.glyphs.items)) }
+    requires glyphs { All (λ g. is_one_glyph (cow_str_bytes g.text) ≡ true) glyphs.now }
+    requires widths { All (λ g. run_width (cow_str_bytes g.text) ≡ g.columns) glyphs.now }
+    requires room { sum_by (λ g. g.columns) glyphs.now ≤ width }
+    ensures row { IfOk result (λ row. row ≡ side_by_side (map glyph_of glyphs.now)
+        ++ replicate (width - sum_by (λ g. g.columns) glyphs.now) blank) }
+    ensures full { sum_by (λ g. g.columns) glyphs.now ≡ width → IfOk result (λ row. row ≡ side_by_side (map glyph_of glyphs.now)) }
 {
     let Ok(mut grid) = Grid::blank(alloc, 1, width) else {
         return Err(OutOfMemory);
     };
     let mut column: u16 = 1;
-    for glyph in &picture.glyphs {
+    for glyph in glyphs {
         let cell = Cell { line: 1, column };
         let count = glyph.columns as usize;
         grid.put_counted(cell, glyph.text.as_str(), count, glyph.negative)?;
@@ -51,5 +58,5 @@ pub(crate) fn draw_row<D: BidiData>(
     ensures filled { IfOk result (λ row. length row ≡ layout.now.w) }
 {
     let picture = layout.picture(source, at)?;
-    drawn(alloc, &picture, layout.width())
+    draw_glyphs(alloc, &picture.glyphs, layout.width())
 }

@@ -10,6 +10,7 @@ mod edits;
 mod error;
 mod history;
 mod moves;
+mod query_row;
 mod region;
 mod row_cache;
 mod searching;

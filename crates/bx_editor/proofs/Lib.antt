@@ -4,7 +4,7 @@ pub mod RegionExamples
 pub mod SeenRegionExamples
 pub mod WordKeyExamples
 pub mod SearchExamples
-pub mod RowText
+pub mod StatusExamples
 pub mod StepOrder
 pub mod Parts
 pub mod Shown

@@ -10,7 +10,7 @@ use Rattle.bx_grid.specs.Picture.{GridState, PictureState}
 use Rattle.bx_document.specs.Drawing.{with_rows}
 use Rattle.bx_ucd.specs.Data.{Data}
 use Rattle.bx_editor.specs.Editor.{Editor, text_height}
-use Rattle.bx_editor.specs.Status.{status_columns, status_text, text_columns}
+use Rattle.bx_editor.specs.Status.{glyph_row, status_columns, status_glyphs}
 use Rattle.bx_editor.proofs.StatusRow.{last-row}
 
 -- ---- rows that are put into the first rows of a grid
@@ -35,12 +35,12 @@ module _ (d : Data) (e : Editor) (g : GridState) (height : g.height ≡ e.height
   With new = new ≡ record g { columns = take (text_height e.height * e.width) g.columns ++ status_columns d e }
 
   pub some-status : (row : ℕ) (columns : List Col) (new : GridState) → 2 ≤ e.height → row ≡ e.height - 1 → length columns ≡ g.width
-      → columns ≡ text_columns e.width (status_text d e) → new ≡ with_rows g row columns → With new
+      → columns ≡ glyph_row e.width (status_glyphs d e) → new ≡ with_rows g row columns → With new
   some-status row columns new high at wide is step =
       let some : nat_le 2 e.height ≡ true = grind (arith, nat_tests) in
       let rows : text_height e.height ≡ row = ap (λ b. if b then e.height - 1 else 1) some ∙ sym at in
       let own : status_columns d e ≡ columns =
-      ap (λ b. if b then text_columns e.width (status_text d e) else []) some ∙ sym is in
+      ap (λ b. if b then glyph_row e.width (status_glyphs d e) else []) some ∙ sym is in
       step ∙ last-row g row columns size (omega (arith, height, at, high)) wide
       ∙ ap (λ w. record g { columns = take (row * w) g.columns ++ columns }) width
       ∙ sym (ap₂ (λ n cs. record g { columns = take (n * e.width) g.columns ++ cs }) rows own)

@@ -1,22 +1,21 @@
--- The text of the status row: its characters, and the columns that it takes of a row.
-use Rattle.std.proofs.Common.{◌≡◌, ℕ, zero, suc, ◌+◌, ◌-◌, ◌*◌, ◌%◌, ◌^◌, ◌<◌, ◌≤◌, Bool, true, false, nat_le, ◌&&◌, List, [], ◌∷◌, ◌++◌, length, map, take}
-use Rattle.std.proofs.Common.{length-append, replicate, decimal, Option, Some, None, refl, sym, ap, ap₂, ◌∙◌, arith}
+-- The status row: its characters, and its place in a grid.
+use Rattle.std.proofs.Common.{◌≡◌, ℕ, ◌+◌, ◌*◌, ◌%◌, ◌^◌, ◌<◌, ◌≤◌, Bool, true, nat_le, ◌&&◌, false, List, [], ◌∷◌, ◌++◌, length, map, take}
+use Rattle.std.proofs.Common.{append_assoc, length-append, decimal, Option, Some, None, refl, sym, ap, ap₂, ◌∙◌, arith}
 use Rattle.std.specs.Prelude.{codes, if◌then◌else◌}
 use Rattle.std.proofs.lemmas.Bool.Decides.{nat_tests}
 use Rattle.std.proofs.lemmas.Fmt.{decimal_by_steps}
-use Rattle.std.proofs.lemmas.List.{append-nil, drop_all, length-map, length-replicate, length-take-le, take-replicate}
+use Rattle.std.proofs.lemmas.List.{append-nil, drop_all, map-append}
 use Rattle.std.proofs.lemmas.List.Folds.{list_all-append}
 use Rattle.bx_terms.specs.Characters.{are_ascii_printable, is_ascii_printable}
 use Rattle.bx_terms.specs.declared.base.Base.TheVariants.{Auto, Ltr, Rtl}
-use Rattle.bx_grid.specs.Columns.{Col, Glyph, blank, plain_columns}
+use Rattle.bx_grid.specs.Columns.{Col}
 use Rattle.bx_grid.specs.Picture.{GridState}
-use Rattle.bx_grid.proofs.Reading.{and_left, and_right}
+use Rattle.bx_rows.specs.RowPicture.{Glyph, glyph}
 use Rattle.bx_document.specs.Drawing.{with_rows}
-use Rattle.bx_document.proofs.PutOn.{one_row}
 use Rattle.bx_editor.specs.declared.message.Message.{Message}
 use Rattle.bx_editor.specs.declared.message.Message.TheVariants.{Saved, SaveFailed, TextFull, NothingToUndo, NothingToRedo, Unsaved, Direction, MarkSet, MarkOff}
 use Rattle.bx_editor.specs.declared.message.Message.TheVariants.{Copied, LineCopied, NothingToCopy, NothingToPut, FromStart, FromEnd, NotFound, Help}
-use Rattle.bx_editor.specs.Status.{message_part, message_text, status_line, text_columns}
+use Rattle.bx_editor.specs.Status.{letter_glyphs, message_part, message_text, status_line}
 
 -- ---- all its characters are from SPACE to TILDE
 
@@ -71,40 +70,20 @@ status-printable changed paragraph unit message h k =
     (printable-append (codes ":") behind refl
     (printable-append (decimal unit) (message_part message) (decimal-printable unit k) (part-printable message))))
 
--- also where it is cut
-pub cut-printable : (text : List ℕ) (n : ℕ) → are_ascii_printable text ≡ true → are_ascii_printable (take n text) ≡ true
-cut-printable text zero h = refl
-cut-printable [] (suc n) h = refl
-cut-printable (b ∷ bs) (suc n) h = ap₂ (λ a c. a && c) (and_left (is_ascii_printable b) (are_ascii_printable bs) h)
-    (cut-printable bs n (and_right (is_ascii_printable b) (are_ascii_printable bs) h))
+-- ---- what is sought stands after them
 
--- ---- its columns
+pub sought-printable : (line : List ℕ) → are_ascii_printable line ≡ true → are_ascii_printable (line ++ codes " find: ") ≡ true
+sought-printable line h = printable-append line (codes " find: ") h refl
 
-columns-by : (w n : ℕ) (text : List ℕ) → w ≤ n
-    → take w (map (λ b. Glyph (b ∷ []) 1 0 false) text ++ replicate n blank)
-    ≡ plain_columns false (take w text) ++ replicate (w - length (take w text)) blank
-columns-by zero n text h = refl
-columns-by (suc w) n [] h = let whole : suc w ≡ suc w - 0 = omega arith in take-replicate (suc w) n blank h ∙ ap (λ k. replicate k blank) whole
-columns-by (suc w) n (b ∷ bs) h =
-    let same : suc w - suc (length (take w bs)) ≡ w - length (take w bs) = omega arith in
-    ap (λ cs. Glyph (b ∷ []) 1 0 false ∷ cs) (columns-by w n bs (omega (arith, h)))
-    ∙ sym (ap (λ k. Glyph (b ∷ []) 1 0 false ∷ (plain_columns false (take w bs) ++ replicate k blank)) same)
+pub sought-glyphs : (line : List ℕ) (query : List Glyph)
+    → letter_glyphs (line ++ codes " find: ") ++ query ≡ letter_glyphs line ++ (letter_glyphs (codes " find: ") ++ query)
+sought-glyphs line query =
+    ap (λ gs. gs ++ query) (map-append (λ b. glyph (b ∷ []) 1 false) line (codes " find: "))
+    ∙ append_assoc (letter_glyphs line) (letter_glyphs (codes " find: ")) query
 
-pub columns-are : (w : ℕ) (text : List ℕ) → text_columns w text ≡ plain_columns false (take w text) ++ replicate (w - length (take w text)) blank
-columns-are w text = columns-by w w text (omega arith)
+-- ---- the columns in a grid
 
-pub length-text-columns : (w : ℕ) (text : List ℕ) → length (text_columns w text) ≡ w
-length-text-columns w text =
-    let cols = map (λ b. Glyph (b ∷ []) 1 0 false) text in
-    length-take-le w (cols ++ replicate w blank) (omega (arith, length-append cols (replicate w blank), length-replicate w blank))
-
--- as they are put into a row of blanks
-pub row-written : (w : ℕ) (text : List ℕ) (g : GridState) → g ≡ one_row w (plain_columns false (take w text)) → g.columns ≡ text_columns w text
-row-written w text g e =
-    let wide = length-map (take w text) (λ b. Glyph (b ∷ []) 1 0 false) in
-    ap (λ (x : GridState). x.columns) e ∙ ap (λ n. plain_columns false (take w text) ++ replicate (w - n) blank) wide ∙ sym (columns-are w text)
-
--- and in the last row of a grid
+-- a last row of columns is put
 pub last-row : (g : GridState) (row : ℕ) (columns : List Col) → length g.columns ≡ g.height * g.width → g.height ≡ row + 1 → length columns ≡ g.width
     → with_rows g row columns ≡ record g { columns = take (row * g.width) g.columns ++ columns }
 last-row g row columns size e wide =

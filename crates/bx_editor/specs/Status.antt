@@ -1,12 +1,15 @@
--- The status row: whether there are unsaved changes, the cursor's position, and a message.
-use Rattle.std.specs.Prelude.{ℕ, ◌+◌, nat_le, List, [], ◌∷◌, ◌++◌, map, take, replicate, Option, Some, None, codes, decimal}
-use Rattle.std.specs.Prelude.{Bool, false, if◌then◌else◌}
+-- The status row: whether there are unsaved changes, the cursor's position, a message, and what is sought.
+use Rattle.std.specs.Prelude.{ℕ, ◌+◌, nat_le, Bool, List, [], ◌++◌, Option, Some, None, codes, decimal, if◌then◌else◌}
 use Rattle.bx_terms.specs.declared.base.Base.TheVariants.{Auto, Ltr, Rtl}
 pub use Rattle.bx_view.specs.Numbers.{paragraph_number, unit_number}
-use Rattle.bx_grid.specs.Columns.{Col, Glyph, blank}
+use Rattle.bx_grid.specs.Columns.{Col}
+use Rattle.bx_rows.specs.RowPicture.{Glyph}
+pub use Rattle.bx_document.specs.QueryRow.{glyph_row, letter_glyphs, query_glyphs}
 use Rattle.bx_editor.specs.declared.message.Message.{Message}
 use Rattle.bx_editor.specs.declared.message.Message.TheVariants.{Saved, SaveFailed, TextFull, NothingToUndo, NothingToRedo, Unsaved, Direction, MarkSet, MarkOff}
 use Rattle.bx_editor.specs.declared.message.Message.TheVariants.{Copied, LineCopied, NothingToCopy, NothingToPut, FromStart, FromEnd, NotFound, Help}
+use Rattle.bx_editor.specs.declared.seek.Seek.{Seek}
+use Rattle.bx_editor.specs.declared.seek.Seek.TheVariants.{Off, Begun, Typed}
 use Rattle.bx_ucd.specs.Data.{Data}
 use Rattle.bx_editor.specs.Editor.{Editor}
 
@@ -45,10 +48,16 @@ abbrev pub status_text : Data → Editor → List ℕ
 status_text d e =
     status_line e.changed (paragraph_number d e.content.text e.place + 1) (unit_number d e.width e.content.text e.place) e.message
 
--- a text of characters from SPACE to TILDE, cut or padded with blanks to the width
-abbrev pub text_columns : ℕ → List ℕ → List Col
-text_columns width text = take width (map (λ b. Glyph (b ∷ []) 1 0 false) text ++ replicate width blank)
+-- while a search is on, the query stands after the text
+abbrev pub search_glyphs : Data → Seek → List ℕ → List Glyph
+search_glyphs d Off query = []
+search_glyphs d Begun query = letter_glyphs (codes " find: ") ++ query_glyphs d query
+search_glyphs d Typed query = letter_glyphs (codes " find: ") ++ query_glyphs d query
+
+-- the glyphs of an editor's status row from left to right
+abbrev pub status_glyphs : Data → Editor → List Glyph
+status_glyphs d e = letter_glyphs (status_text d e) ++ search_glyphs d e.seek e.query
 
 -- the status row of a window of more than one row
 abbrev pub status_columns : Data → Editor → List Col
-status_columns d e = if nat_le 2 e.height then text_columns e.width (status_text d e) else []
+status_columns d e = if nat_le 2 e.height then glyph_row e.width (status_glyphs d e) else []

@@ -7,7 +7,7 @@ ghost use Rattle.bx_editor.specs.Picture.{StandsOnItsCell, next_top, picture};
 ghost use Rattle.bx_editor.specs.Status.{status_columns};
 
 use crate::editor::Editor;
-use crate::status::{status_line, status_row};
+use crate::status::{draw_status, status_line};
 use bx_grid::{Cell, Grid, Picture};
 use bx_terms::OutOfMemory;
 use bx_ucd::BidiData;
@@ -25,7 +25,7 @@ pub(crate) fn text_height(height: u16) -> u16
 }
 
 impl<D: BidiData + Drop> Editor<D> {
-    /// Draws the status row below the text rows, unless the window has a single row.
+    /// Draws the status row below the text rows, with the query while a search is on. A window of a single row has none.
     ///
     /// Errors: `OutOfMemory`.
     fn put_status(
@@ -54,7 +54,7 @@ impl<D: BidiData + Drop> Editor<D> {
             ..
         } = position;
         let line = status_line(alloc, self.changed, paragraph, unit, self.message)?;
-        let row = status_row(alloc, line.as_str(), self.document.width())?;
+        let row = draw_status(&self.document, line, self.seek, self.query.as_str())?;
         page.put_row(self.height - 1, &row)?;
         Ok(())
     }

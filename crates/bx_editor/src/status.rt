@@ -1,12 +1,14 @@
 //! The status row.
-ghost use Rattle.std.specs.Prelude.{◌≡◌, ◌≤◌, false, true, IfOk, length, string_bytes, take};
+ghost use Rattle.std.specs.Prelude.{◌≡◌, ◌++◌, true, IfOk, codes, length, string_bytes};
 ghost use Rattle.bx_terms.specs.Characters.{are_ascii_printable};
-ghost use Rattle.bx_terms.specs.Sizes.{is_side};
-ghost use Rattle.bx_editor.specs.Status.{status_line, text_columns};
+ghost use Rattle.bx_editor.specs.Status.{glyph_row, letter_glyphs, query_glyphs, search_glyphs, status_line};
 
 use crate::message::Message;
-use bx_grid::{Cell, Grid, OwnedRow};
+use crate::seek::Seek;
+use bx_document::Document;
+use bx_grid::OwnedRow;
 use bx_terms::OutOfMemory;
+use bx_ucd::BidiData;
 use itoa::Buffer;
 use std::alloc::{AllocError, Global};
 
@@ -51,35 +53,39 @@ pub(crate) fn status_line(
     Ok(line)
 }
 
-/// Cuts a text of characters from SPACE to TILDE to `width` characters.
-fn cut(text: &str, width: usize) -> &str
-    requires printable { are_ascii_printable text.now ≡ true }
-    ensures cut { result.now ≡ take width text.now }
-    ensures printable { are_ascii_printable result.now ≡ true }
-    ensures fits { length result.now ≤ width }
+/// Draws a status row whose text has a query after it.
+fn draw_search<D: BidiData + Drop>(
+    document: &Document<D>,
+    line: String,
+    query: &str,
+) -> Result<OwnedRow, OutOfMemory>
+    requires { are_ascii_printable (string_bytes line) ≡ true }
+    ensures row { IfOk result (λ row. row ≡ glyph_row document.now.document.w
+        (letter_glyphs (string_bytes line) ++ (letter_glyphs (codes " find: ") ++ query_glyphs (D.data document.now.tables) query.now))) }
+    ensures filled { IfOk result (λ row. length row ≡ document.now.document.w) }
 {
-    &text[..text.len().min(width)]
+    let mut line = line;
+    line.push_str(" find: ")?;
+    let row = document.draw_query(line.as_str(), query)?;
+    Ok(row)
 }
 
-/// Draws a text of characters from SPACE to TILDE into a row of `width` columns, and cuts a longer one.
+/// Draws the status row: its text, and while a search is on the query.
 ///
 /// Errors: `OutOfMemory`.
-pub(crate) fn status_row(alloc: Global, text: &str, width: u16) -> Result<OwnedRow, OutOfMemory>
-    requires side { is_side width ≡ true }
-    requires printable { are_ascii_printable text.now ≡ true }
-    ensures { IfOk result (λ row. row ≡ text_columns width text.now) }
+pub(crate) fn draw_status<D: BidiData + Drop>(
+    document: &Document<D>,
+    line: String,
+    seek: Seek,
+    query: &str,
+) -> Result<OwnedRow, OutOfMemory>
+    requires { are_ascii_printable (string_bytes line) ≡ true }
+    ensures row { IfOk result (λ row. row ≡ glyph_row document.now.document.w
+        (letter_glyphs (string_bytes line) ++ search_glyphs (D.data document.now.tables) seek query.now)) }
+    ensures filled { IfOk result (λ row. length row ≡ document.now.document.w) }
 {
-    let Ok(mut grid) = Grid::blank(alloc, 1, width) else {
-        return Err(OutOfMemory);
-    };
-    let shown = cut(text, usize::from(width));
-    for (i, byte) in shown.as_bytes().iter().enumerate() {
-        let cell = Cell {
-            line: 1,
-            column: i as u16 + 1,
-        };
-        let mut buffer = [0; 4];
-        grid.put(cell, (*byte as char).encode_utf8(&mut buffer), false)?;
+    match seek {
+        Seek::Off => document.draw_text(line.as_str()),
+        Seek::Begun | Seek::Typed => draw_search(document, line, query),
     }
-    Ok(grid.into_row())
 }

@@ -13,6 +13,7 @@ mod in_place;
 mod laws;
 mod layout;
 mod moves;
+mod own_glyphs;
 mod reading;
 mod row_edit;
 mod row_parts;

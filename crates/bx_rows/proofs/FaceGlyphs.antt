@@ -20,7 +20,7 @@ use Rattle.bx_cells.specs.declared.unit.Face.{Face}
 use Rattle.bx_cells.specs.declared.unit.Face.TheVariants.{Tab, Mark, Own}
 use Rattle.bx_cells.specs.Faces.{face, face_of, only_char, is_tab, letter_of, format_letter, sized_face, columns_of}
 use Rattle.bx_cells.proofs.Printable.{ascii_bytes}
-use Rattle.bx_rows.specs.RowPicture.{Glyph, glyph, blank, mirror_image, is_own, mirror_image_within, shown_text, face_glyphs}
+use Rattle.bx_rows.specs.RowPicture.{Glyph, glyph, blank, mirror_image, is_own, mirror_image_within, shown_text, face_glyphs, letter_glyphs}
 use Rattle.bx_rows.specs.Wrapping.{columns_at}
 use Rattle.bx_rows.specs.Shown.{HasLetter}
 
@@ -128,6 +128,9 @@ letters-one (b ∷ bs) e =
     let p = and_parts (is_ascii_printable b) (are_ascii_printable bs) e in
     All-cons (λ x. IsOneGlyph (glyph (x ∷ []) 1 false)) b bs (letter-one b false p.0) (letters-one bs p.1)
 
+pub letters-all-one : (text : List ℕ) → are_ascii_printable text ≡ true → All IsOneGlyph (letter_glyphs text)
+letters-all-one text e = All-map IsOneGlyph (λ b. glyph (b ∷ []) 1 false) text (letters-one text e)
+
 no-control-by : (c : ℕ) (cs : List ℕ) (a b : Bool) → is_control c ≡ a → list_any is_control cs ≡ b → (a || b) ≡ false
     → (list_any is_control cs ≡ false → list_all (λ x. not (is_control x)) cs ≡ true) → (not (is_control c) && list_all (λ x. not (is_control x)) cs) ≡ true
 no-control-by c cs true b d f e rest = absurd (cc)
@@ -147,7 +150,7 @@ whole-one text n e h =
 
 text-one : (text : List ℕ) (n : ℕ) (b : Bool) → are_ascii_printable text ≡ b → Tells (chars text) (Own n)
     → All IsOneGlyph (elim b [ true ↦ map (λ x. glyph (x ∷ []) 1 false) text | false ↦ glyph text n false ∷ [] ])
-text-one text n true e h = All-map IsOneGlyph (λ x. glyph (x ∷ []) 1 false) text (letters-one text e)
+text-one text n true e h = letters-all-one text e
 text-one text n false e h = All-cons IsOneGlyph (glyph text n false) [] (whole-one text n e h) (All-nil IsOneGlyph)
 
 letters-sum : (text : List ℕ) → sum_by (λ g. g.columns) (map (λ x. glyph (x ∷ []) 1 false) text) ≡ length text

@@ -1,5 +1,5 @@
 -- A row's picture: each of its glyphs is one glyph, and their columns are the window's.
-use Rattle.std.proofs.Common.{◌≡◌, ℕ, zero, suc, ◌+◌, ◌-◌, ◌%◌, ◌≤◌, List, [], ◌∷◌, ◌++◌, length, map, replicate, sum_by, get_or, drop, Option, All, refl}
+use Rattle.std.proofs.Common.{◌≡◌, ℕ, zero, suc, ◌+◌, ◌-◌, ◌%◌, ◌≤◌, List, [], ◌∷◌, ◌++◌, length, map, replicate, sum_by, get_or, drop, Option, All, true, refl}
 use Rattle.std.proofs.Common.{sym, subst, ap, ◌∙◌, arith}
 use Rattle.std.specs.Prelude.{flat_map}
 use Rattle.bx_ucd.specs.Data.{Data}
@@ -13,9 +13,10 @@ use Rattle.bx_cells.specs.declared.unit.Unit.{Unit}
 use Rattle.bx_cells.specs.Units.{unit_text, HasFace}
 use Rattle.bx_rows.specs.declared.row.Row.{Row}
 use Rattle.bx_rows.specs.Wrapping.{columns_at, row_units}
-use Rattle.bx_rows.specs.RowPicture.{Glyph, blank, face_glyphs, unit_columns, unit_glyphs, columns_used, draw}
+use Rattle.bx_rows.specs.RowPicture.{Glyph, blank, face_glyphs, letter_glyphs, unit_columns, unit_glyphs, columns_used, draw, own_glyphs}
 use Rattle.bx_rows.specs.VisualOrder.{visual}
-use Rattle.bx_rows.proofs.FaceGlyphs.{IsOneGlyph, tells-face, face-one, face-sum}
+use Rattle.bx_rows.proofs.FaceGlyphs.{IsOneGlyph, tells-face, face-one, face-sum, letters-all-one}
+use Rattle.bx_terms.specs.Characters.{are_ascii_printable}
 use Rattle.bx_rows.proofs.NumbersBelow.{sum-visual}
 use Rattle.bx_rows.proofs.PictureSums.{columns-length, sum_by-same}
 use Rattle.bx_rows.proofs.Pieces.{pieces-length}
@@ -41,12 +42,16 @@ blanks-one : (odd n : ℕ) (glyphs : List Glyph) → All IsOneGlyph glyphs
 blanks-one zero n glyphs a = All-append IsOneGlyph glyphs (replicate n blank) a (All-replicate IsOneGlyph n blank (refl, refl))
 blanks-one (suc k) n glyphs a = All-append IsOneGlyph (replicate n blank) glyphs (All-replicate IsOneGlyph n blank (refl, refl)) a
 
+pub own-one : (says : Data) (w : ℕ) (body : List ℕ) (us : List Unit) (levels : List ℕ)
+    → All (HasFace says w body) us → All IsOneGlyph (own_glyphs says w body us levels)
+own-one says w body us levels a =
+    let pieces = unit_glyphs says w body us (unit_columns w 0 us) levels in
+    all-chosen (λ k. get_or pieces k []) (visual levels) (λ k. pieces-one says w body us (unit_columns w 0 us) levels k a)
+
 pub draw-one : (says : Data) (w : ℕ) (body : List ℕ) (paragraph : ℕ) (us : List Unit) (levels : List ℕ)
     → All (HasFace says w body) us → All IsOneGlyph (draw says w body paragraph us levels)
 draw-one says w body paragraph us levels a =
-    let pieces = unit_glyphs says w body us (unit_columns w 0 us) levels in
-    blanks-one (paragraph % 2) (w - columns_used w us) (flat_map (λ k. get_or pieces k []) (visual levels))
-    (all-chosen (λ k. get_or pieces k []) (visual levels) (λ k. pieces-one says w body us (unit_columns w 0 us) levels k a))
+    blanks-one (paragraph % 2) (w - columns_used w us) (own_glyphs says w body us levels) (own-one says w body us levels a)
 
 -- ---- the columns
 
@@ -102,6 +107,14 @@ pub one_if_drawn : (says : Data) (w : ℕ) (body : List ℕ) (paragraph : ℕ) (
     → map glyph_of ds ≡ draw says w body paragraph us levels → All (HasFace says w body) us → All (λ d. IsOneGlyph (glyph_of d)) ds
 one_if_drawn says w body paragraph us levels ds e a =
     one-kept ds (draw says w body paragraph us levels) e (draw-one says w body paragraph us levels a)
+
+pub one_if_own : (says : Data) (w : ℕ) (body : List ℕ) (us : List Unit) (levels : List ℕ) (ds : List Drawn)
+    → map glyph_of ds ≡ own_glyphs says w body us levels → All (HasFace says w body) us → All (λ d. IsOneGlyph (glyph_of d)) ds
+one_if_own says w body us levels ds e a = one-kept ds (own_glyphs says w body us levels) e (own-one says w body us levels a)
+
+pub one_if_letters : (text : List ℕ) (ds : List Drawn) → map glyph_of ds ≡ letter_glyphs text → are_ascii_printable text ≡ true
+    → All (λ d. IsOneGlyph (glyph_of d)) ds
+one_if_letters text ds e a = one-kept ds (letter_glyphs text) e (letters-all-one text a)
 
 pub sum_if_drawn : (says : Data) (w : ℕ) (body : List ℕ) (paragraph : ℕ) (us : List Unit) (levels : List ℕ) (ds : List Drawn)
     → map glyph_of ds ≡ draw says w body paragraph us levels → All (HasFace says w body) us → length levels ≡ length us → columns_used w us ≤ w

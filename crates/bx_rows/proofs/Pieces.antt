@@ -10,7 +10,7 @@ use Rattle.bx_ucd.specs.Data.{Data}
 use Rattle.bx_ucd.specs.declared.class.Class.{Class}
 use Rattle.bx_cells.specs.declared.unit.Unit.{Unit}
 use Rattle.bx_cells.specs.Units.{unit_text}
-use Rattle.bx_rows.specs.RowPicture.{Glyph, face_glyphs, unit_columns, unit_glyphs, columns_used, draw, with_blanks}
+use Rattle.bx_rows.specs.RowPicture.{Glyph, face_glyphs, own_glyphs, unit_columns, unit_glyphs}
 use Rattle.bx_rows.specs.VisualOrder.{visual}
 
 length-zip : {A B : Type 0} → (xs : List A) (ys : List B) (n : ℕ) → length xs ≡ n → length ys ≡ n → length (zip xs ys) ≡ n
@@ -60,11 +60,9 @@ same-order : (says : Data) (w : ℕ) (body : List ℕ) (us : List Unit) (columns
 same-order says w body us columns levels order e f =
     ap (λ cs. in_order says w body us cs levels order) e ∙ ap (in_order says w body us (unit_columns w 0 us) levels) f
 
--- the glyphs of a row's units in visual order, and the blanks
-pub drawn-of : (says : Data) (w : ℕ) (body : List ℕ) (paragraph : ℕ) (us : List Unit) (levels columns order : List ℕ) (n : ℕ)
-    (start mid new : List Glyph) → columns ≡ unit_columns w 0 us → order ≡ visual levels → n ≡ columns_used w us → start ≡ []
-    → mid ≡ start ++ in_order says w body us columns levels order → new ≡ with_blanks paragraph (w - n) mid
-    → new ≡ draw says w body paragraph us levels
-drawn-of says w body paragraph us levels columns order n start mid new e f h s first second =
-    second ∙ ap₂ (λ k xs. with_blanks paragraph (w - k) xs) h
-    (first ∙ ap (λ xs. xs ++ in_order says w body us columns levels order) s ∙ same-order says w body us columns levels order e f)
+-- the glyphs of a row's units in visual order
+pub own-of : (says : Data) (w : ℕ) (body : List ℕ) (us : List Unit) (levels columns order : List ℕ) (start new : List Glyph)
+    → columns ≡ unit_columns w 0 us → order ≡ visual levels → start ≡ [] → new ≡ start ++ in_order says w body us columns levels order
+    → new ≡ own_glyphs says w body us levels
+own-of says w body us levels columns order start new e f s pushed =
+    pushed ∙ ap (λ xs. xs ++ in_order says w body us columns levels order) s ∙ same-order says w body us columns levels order e f

@@ -6,7 +6,7 @@ use Rattle.bx_cells.specs.Units.{HasFace}
 use Rattle.bx_rows.specs.declared.lines.Lines.{Lines}
 use Rattle.bx_rows.specs.NumberedRows.{draw_numbered}
 use Rattle.bx_rows.specs.RowLevels.{row_levels}
-use Rattle.bx_rows.specs.RowPicture.{Glyph}
+use Rattle.bx_rows.specs.RowPicture.{Glyph, own_glyphs}
 use Rattle.bx_rows.specs.RowStarts.{units_of_row}
 
 module _ {D : Type 0} {g : Ghosts D} (s : Lines D g) where
@@ -25,3 +25,7 @@ module _ {D : Type 0} {g : Ghosts D} (s : Lines D g) where
   -- the glyphs of row `k` from left to right
   abbrev pub glyphs_at : ℕ → List Glyph
   glyphs_at k = draw_numbered (g.data s.tables.now) s.w s.body.now s.levels.now.paragraph s.levels.now.each.items k
+
+  -- the glyphs of its units alone
+  abbrev pub own_glyphs_at : ℕ → List Glyph
+  own_glyphs_at k = let us = units_at k in own_glyphs (g.data s.tables.now) s.w s.body.now us (levels_of us)

@@ -25,9 +25,13 @@ glyph text columns negative = record { text = text; columns = columns; negative 
 abbrev pub blank : Glyph
 blank = glyph (32 ∷ []) 1 false
 
+-- one glyph per character of printable ASCII
+abbrev pub letter_glyphs : List ℕ → List Glyph
+letter_glyphs text = map (λ b. glyph (b ∷ []) 1 false) text
+
 -- own text of `n` columns: one glyph per character if it is printable ASCII, else one glyph
 abbrev pub text_glyphs : ℕ → List ℕ → List Glyph
-text_glyphs n text = elim (are_ascii_printable text) [ true ↦ map (λ b. glyph (b ∷ []) 1 false) text | false ↦ glyph text n false ∷ [] ]
+text_glyphs n text = elim (are_ascii_printable text) [ true ↦ letter_glyphs text | false ↦ glyph text n false ∷ [] ]
 
 -- a text with its characters mirrored; characters without a mirror stay
 abbrev pub mirror_image : Data → List ℕ → List ℕ
@@ -70,8 +74,12 @@ unit_glyphs says w body us columns levels =
 abbrev pub with_blanks : ℕ → ℕ → List Glyph → List Glyph
 with_blanks paragraph n glyphs = elim (paragraph % 2) [ zero ↦ glyphs ++ replicate n blank | suc _ ↦ replicate n blank ++ glyphs ]
 
--- a row from left to right: the glyphs of its units in visual order, and the blanks
-abbrev pub draw : Data → ℕ → List ℕ → ℕ → List Unit → List ℕ → List Glyph
-draw says w body paragraph us levels =
+-- the glyphs of a row's units in visual order
+abbrev pub own_glyphs : Data → ℕ → List ℕ → List Unit → List ℕ → List Glyph
+own_glyphs says w body us levels =
     let glyphs = unit_glyphs says w body us (unit_columns w 0 us) levels in
-    with_blanks paragraph (w - columns_used w us) (flat_map (λ k. slice_index_or glyphs k []) (visual levels))
+    flat_map (λ k. slice_index_or glyphs k []) (visual levels)
+
+-- a row from left to right: the glyphs of its units, and the blanks
+abbrev pub draw : Data → ℕ → List ℕ → ℕ → List Unit → List ℕ → List Glyph
+draw says w body paragraph us levels = with_blanks paragraph (w - columns_used w us) (own_glyphs says w body us levels)

@@ -1,12 +1,13 @@
 //! The glyphs of a unit.
-ghost use Rattle.std.specs.Prelude.{◌≡◌, ◌++◌, ◌∷◌, [], IfOk, OnOk, map, replicate, false, true};
+ghost use Rattle.std.specs.Prelude.{◌≡◌, ◌++◌, ◌∷◌, [], All, IfOk, OnOk, map, replicate, false, true};
 ghost use Rattle.std.specs.List.{range_with_len};
 ghost use Rattle.std.specs.Cow.{cow_str_bytes};
 ghost use Rattle.bx_terms.specs.Characters.{are_ascii_printable, is_ascii_printable};
-ghost use Rattle.bx_rows.specs.RowPicture.{blank, face_glyphs, glyph, is_own, shown_text, text_glyphs, with_blanks};
+ghost use Rattle.bx_terms.specs.Glyphs.{is_one_glyph, run_width};
+ghost use Rattle.bx_rows.specs.RowPicture.{blank, face_glyphs, glyph, is_own, letter_glyphs, shown_text, text_glyphs, with_blanks};
 ghost use Rattle.bx_rows.specs.Shown.{HasLetter, glyph_of};
 
-use crate::drawn::Drawn;
+use crate::drawn::{Drawn, RowPicture};
 use crate::mirrors::{has_mirror, mirrored};
 use bx_cells::Face;
 use bx_terms::are_ascii_printable;
@@ -89,6 +90,31 @@ fn push_letters<'a>(glyphs: &mut Vec<Drawn<'a>>, text: &[u8]) -> Result<(), Allo
         push_letter(glyphs, *byte, false)?;
     }
     Ok(())
+}
+
+/// The glyphs of a text of characters from SPACE to TILDE.
+fn letters<'a>(alloc: Global, text: &str) -> Result<Vec<Drawn<'a>>, AllocError>
+    requires { are_ascii_printable text.now ≡ true }
+    ensures { IfOk result (λ v. map glyph_of v.items ≡ letter_glyphs text.now) }
+{
+    let mut glyphs = Vec::with_capacity(alloc, text.len())?;
+    push_letters(&mut glyphs, text.as_bytes())?;
+    Ok(glyphs)
+}
+
+impl<'a> RowPicture<'a> {
+    /// The picture of a text of characters from SPACE to TILDE: a glyph for each.
+    ///
+    /// Errors: `AllocError`.
+    pub fn of_letters(alloc: Global, text: &str) -> Result<RowPicture<'a>, AllocError>
+        requires { are_ascii_printable text.now ≡ true }
+        ensures picture { IfOk result (λ p. map glyph_of p.glyphs.items ≡ letter_glyphs text.now) }
+        ensures glyphs { IfOk result (λ p. All (λ g. is_one_glyph (cow_str_bytes g.text) ≡ true) p.glyphs.items) }
+        ensures widths { IfOk result (λ p. All (λ g. run_width (cow_str_bytes g.text) ≡ g.columns) p.glyphs.items) }
+    {
+        let glyphs = letters(alloc, text)?;
+        Ok(RowPicture { glyphs })
+    }
 }
 
 /// Appends the glyphs of a text shown as itself in `columns` columns.

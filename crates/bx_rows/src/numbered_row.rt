@@ -3,12 +3,12 @@ ghost use Rattle.std.specs.Prelude.{◌≡◌, ◌<◌, All, IfOk, length, map, 
 ghost use Rattle.std.specs.Cow.{cow_str_bytes};
 ghost use Rattle.bx_terms.specs.Glyphs.{is_one_glyph, run_width};
 ghost use Rattle.bx_cells.specs.Units.{StandsIn};
-ghost use Rattle.bx_rows.specs.Lines.{glyphs_at, levels_of, units_at};
+ghost use Rattle.bx_rows.specs.Lines.{glyphs_at, levels_of, own_glyphs_at, units_at};
 ghost use Rattle.bx_rows.specs.Shown.{glyph_of};
 
 use crate::drawn::RowPicture;
 use crate::lines::Lines;
-use crate::picture::{LeveledRow, draw};
+use crate::picture::{LeveledRow, draw, draw_units};
 use crate::unit_levels::each_level;
 use bx_cells::Unit;
 use bx_terms::OutOfMemory;
@@ -58,5 +58,24 @@ impl<'a, 't, D: BidiData> Lines<'a, 't, D> {
             paragraph: self.levels.paragraph,
         };
         draw(alloc, self.body, &row, self.tables, self.w)
+    }
+
+    /// The glyphs of the units of row `number`, from 0, from left to right, without the row's blanks. Reads no other row.
+    ///
+    /// Errors: `OutOfMemory`.
+    pub fn own_glyphs(&self, alloc: Global, number: usize) -> Result<RowPicture<'a>, OutOfMemory>
+        requires { number < length self.now.starts.now }
+        ensures picture { IfOk result (λ p. map glyph_of p.glyphs.items ≡ own_glyphs_at self.now number) }
+        ensures glyphs { IfOk result (λ p. All (λ g. is_one_glyph (cow_str_bytes g.text) ≡ true) p.glyphs.items) }
+        ensures widths { IfOk result (λ p. All (λ g. run_width (cow_str_bytes g.text) ≡ g.columns) p.glyphs.items) }
+    {
+        let units = self.units(alloc, number)?;
+        let each = self.levels(alloc, number, &units)?;
+        let row = LeveledRow {
+            units: &units,
+            levels: &each,
+            paragraph: self.levels.paragraph,
+        };
+        draw_units(alloc, self.body, &row, self.tables, self.w)
     }
 }

@@ -3,7 +3,7 @@ ghost use Rattle.std.specs.Prelude.{◌≡◌, ◌≤◌, ◌<◌, ◌+◌, ◌+
 ghost use Rattle.std.specs.Cow.{cow_str_bytes};
 ghost use Rattle.bx_terms.specs.Glyphs.{is_one_glyph, run_width};
 ghost use Rattle.bx_cells.specs.Units.{HasFace, StandsIn};
-ghost use Rattle.bx_rows.specs.RowPicture.{draw, unit_columns, unit_glyphs, columns_used};
+ghost use Rattle.bx_rows.specs.RowPicture.{columns_used, draw, own_glyphs, unit_columns, unit_glyphs};
 ghost use Rattle.bx_rows.specs.Shown.{glyph_of};
 ghost use Rattle.bx_rows.specs.VisualOrder.{visual};
 
@@ -82,6 +82,35 @@ fn push_units<'a, D: BidiData>(
     Ok(())
 }
 
+/// The glyphs of a row's units in visual order, and the number of their columns.
+fn unit_row<'a, D: BidiData>(
+    alloc: Global,
+    body: &'a str,
+    row: &LeveledRow<'_>,
+    tables: &D,
+    w: u16,
+) -> Result<(Vec<Drawn<'a>>, u16), OutOfMemory>
+    requires stand { All (StandsIn body.now) row.now.units.now }
+    requires faces { All (HasFace (D.data tables.now) w body.now) row.now.units.now }
+    requires used { columns_used w row.now.units.now ≤ w }
+    requires levels { length row.now.levels.now ≡ length row.now.units.now }
+    ensures glyphs { IfOk result (λ r. map glyph_of r.0.items
+        ≡ own_glyphs (D.data tables.now) w body.entry.now row.now.units.now row.now.levels.now) }
+    ensures used { IfOk result (λ r. r.1 ≡ columns_used w row.now.units.now) }
+{
+    let (columns, used) = unit_columns(alloc, row.units, w)?;
+    let order = visual(alloc, row.levels)?;
+    let mut glyphs = Vec::with_capacity(alloc, w as usize)?;
+    let ordered = OrderedRow {
+        units: row.units,
+        columns: &columns,
+        levels: row.levels,
+        order: &order,
+    };
+    push_units(&mut glyphs, alloc, body, &ordered, tables, w)?;
+    Ok((glyphs, used))
+}
+
 /// The glyphs of a row's units in visual order, and its blanks: at the right in a paragraph of even level, else at the left.
 fn row_glyphs<'a, D: BidiData>(
     alloc: Global,
@@ -97,16 +126,7 @@ fn row_glyphs<'a, D: BidiData>(
     ensures { IfOk result (λ v. map glyph_of v.items
         ≡ draw (D.data tables.now) w body.entry.now row.now.paragraph row.now.units.now row.now.levels.now) }
 {
-    let (columns, used) = unit_columns(alloc, row.units, w)?;
-    let order = visual(alloc, row.levels)?;
-    let mut glyphs = Vec::with_capacity(alloc, w as usize)?;
-    let ordered = OrderedRow {
-        units: row.units,
-        columns: &columns,
-        levels: row.levels,
-        order: &order,
-    };
-    push_units(&mut glyphs, alloc, body, &ordered, tables, w)?;
+    let (glyphs, used) = unit_row(alloc, body, row, tables, w)?;
     let all = with_blanks(alloc, glyphs, w - used, row.paragraph)?;
     Ok(all)
 }
@@ -132,5 +152,28 @@ pub fn draw<'a, D: BidiData>(
     ensures columns { IfOk result (λ p. sum_by (λ g. g.columns) p.glyphs.items ≡ w) }
 {
     let glyphs = row_glyphs(alloc, body, row, tables, w)?;
+    Ok(RowPicture { glyphs })
+}
+
+/// Draws the units of a row of a body: their glyphs from left to right, without the row's blanks.
+///
+/// Errors: `OutOfMemory`.
+pub(crate) fn draw_units<'a, D: BidiData>(
+    alloc: Global,
+    body: &'a str,
+    row: &LeveledRow<'_>,
+    tables: &D,
+    w: u16,
+) -> Result<RowPicture<'a>, OutOfMemory>
+    requires stand { All (StandsIn body.now) row.now.units.now }
+    requires faces { All (HasFace (D.data tables.now) w body.now) row.now.units.now }
+    requires fits { columns_used w row.now.units.now ≤ w }
+    requires levels { length row.now.levels.now ≡ length row.now.units.now }
+    ensures picture { IfOk result (λ p. map glyph_of p.glyphs.items
+        ≡ own_glyphs (D.data tables.now) w body.entry.now row.now.units.now row.now.levels.now) }
+    ensures glyphs { IfOk result (λ p. All (λ g. is_one_glyph (cow_str_bytes g.text) ≡ true) p.glyphs.items) }
+    ensures widths { IfOk result (λ p. All (λ g. run_width (cow_str_bytes g.text) ≡ g.columns) p.glyphs.items) }
+{
+    let (glyphs, _) = unit_row(alloc, body, row, tables, w)?;
     Ok(RowPicture { glyphs })
 }

@@ -1,10 +1,13 @@
-use Rattle.std.proofs.Common.{◌≡◌, ◌∙◌, ap, length}
+use Rattle.std.proofs.Common.{◌≡◌, ◌∙◌, List, ap, length, subst, sym}
 use Rattle.std.proofs.lemmas.Result.{IfOk-weaker}
-use Rattle.bx_document.proofs.RowGlyphs.{glyphs_columns, length-glyphs}
+use Rattle.bx_rows.specs.declared.drawn.Drawn.{Drawn}
+use Rattle.bx_document.proofs.RowGlyphs.{columns_in, glyphs_columns, length-glyphs}
 use Rattle.bx_document.proofs.drawing.draw_row.Goals as goal
 
 pub returns-clause-filled : goal.returns-clause-filled
 returns-clause-filled g c =
-    let ds = c.in_ok-picture.picture.glyphs.items in
-    IfOk-weaker c.drawn.result (λ row. row ≡ glyphs_columns ds) (λ row. length row ≡ c.args.layout.now.w)
-    (λ row is. ap length is ∙ length-glyphs ds ∙ c.in_ok-picture.ensures.columns) c.drawn.ensures
+    let ds = c.deref.result.now in
+    let wide : columns_in ds ≡ c.args.layout.now.w =
+    subst (λ (xs : List Drawn). columns_in xs ≡ c.args.layout.now.w) (sym c.deref.ensures.value) c.in_ok-picture.ensures.columns in
+    IfOk-weaker c.draw_glyphs.result (λ row. row ≡ glyphs_columns ds) (λ row. length row ≡ c.args.layout.now.w)
+    (λ row is. ap length is ∙ length-glyphs ds ∙ wide) (c.draw_glyphs.ensures.full (wide ∙ sym c.width.ensures.width))

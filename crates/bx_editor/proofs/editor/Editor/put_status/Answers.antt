@@ -1,9 +1,8 @@
 use Rattle.std.proofs.Common.{◌≡◌, ◌+◌, ◌-◌, ◌*◌, ◌∙◌, ◌++◌, ap, ap₂, arith, length, refl, string_bytes, subst, sym, take}
 use Rattle.bx_ucd.specs.Data.{Data}
 use Rattle.bx_editor.specs.Editor.{Editor, text_height}
-use Rattle.bx_editor.specs.Status.{paragraph_number, status_columns, status_line, text_columns, unit_number}
+use Rattle.bx_editor.specs.Status.{glyph_row, letter_glyphs, paragraph_number, search_glyphs, status_columns, status_line, unit_number}
 use Rattle.bx_editor.proofs.Shown.{some-status}
-use Rattle.bx_editor.proofs.StatusRow.{length-text-columns}
 use Rattle.bx_editor.proofs.editor.Editor.put_status.Goals as goal
 
 pub returns : goal.returns
@@ -32,11 +31,11 @@ returns g c =
     (sym c.self.view_is) c.requires.position.paragraph in
     let unit = subst (λ s. c.args.position.unit ≡ unit_number (g.D.BidiData.data s.tables) s.editor.width s.editor.content.text s.editor.place)
     (sym c.self.view_is) c.requires.position.unit in
-    let text = c.as_str.ensures.value ∙ c.in_ok-line.ensures.line
-    ∙ ap₂ (λ p u. status_line i.changed p u i.message) paragraph unit in
-    let columns = c.in_ok-row.ensures ∙ ap₂ text_columns c.width.ensures.width text in
+    let text = c.in_ok-line.ensures.line ∙ ap₂ (λ p u. status_line i.changed p u i.message) paragraph unit in
+    let columns = c.in_ok-row.ensures.row
+    ∙ ap₂ (λ line query. glyph_row e.width (letter_glyphs line ++ search_glyphs d i.seek query)) text c.as_str.ensures.value in
     let width = c.requires.width ∙ sym (ap (λ s. s.editor.width) c.self.view_is) in
-    let wide = ap length columns ∙ length-text-columns e.width _ ∙ sym width in
+    let wide = c.in_ok-row.ensures.filled ∙ sym width in
     record {
       status = subst (λ s. c.put_row.new.self ≡ record was {
         columns = take (text_height s.editor.height * s.editor.width) was.columns

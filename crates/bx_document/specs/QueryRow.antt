@@ -1,0 +1,23 @@
+-- A row of a text, with a query after it: as many glyphs as have room.
+use Rattle.std.specs.Prelude.{ℕ, ◌-◌, nat_le, true, false, List, [], ◌∷◌, ◌++◌, take, replicate}
+use Rattle.bx_terms.specs.declared.base.Base.TheVariants.{Auto}
+use Rattle.bx_ucd.specs.Data.{Data}
+use Rattle.bx_rows.specs.RowPicture.{Glyph}
+pub use Rattle.bx_rows.specs.RowPicture.{letter_glyphs}
+use Rattle.bx_grid.specs.Columns.{Col, blank}
+use Rattle.bx_paragraph.specs.BodyRows.{body_rows, row_at}
+use Rattle.bx_paragraph.specs.OwnGlyphs.{row_own_glyphs}
+use Rattle.bx_document.specs.Drawing.{side_by_side}
+
+-- the glyphs of a query from left to right: those of its first row, as a paragraph's body in a window of 500 columns
+abbrev pub query_glyphs : Data → List ℕ → List Glyph
+query_glyphs d query = row_own_glyphs d 500 (row_at (body_rows d Auto 500 query) 0)
+
+-- as many glyphs from the left as have room in `w` columns
+abbrev pub fitting : ℕ → List Glyph → List Glyph
+fitting w [] = []
+fitting w (g ∷ gs) = elim (nat_le g.columns w) [ true ↦ g ∷ fitting (w - g.columns) gs | false ↦ [] ]
+
+-- the columns of a row of these glyphs, cut or filled up with blanks
+abbrev pub glyph_row : ℕ → List Glyph → List Col
+glyph_row w glyphs = take w (side_by_side (fitting w glyphs) ++ replicate w blank)

@@ -1,0 +1,121 @@
+//! A row of a text, with a query after it.
+ghost use Rattle.std.specs.Prelude.{◌≡◌, ◌≤◌, ◌++◌, All, IfOk, length, map, string_bytes, sum_by, take, true};
+ghost use Rattle.std.specs.Cow.{cow_str_bytes};
+ghost use Rattle.bx_terms.specs.Characters.{are_ascii_printable};
+ghost use Rattle.bx_terms.specs.Glyphs.{is_one_glyph, run_width};
+ghost use Rattle.bx_terms.specs.Sizes.{is_side};
+ghost use Rattle.bx_terms.specs.declared.base.Base.TheVariants.{Auto};
+ghost use Rattle.bx_rows.specs.Shown.{glyph_of};
+ghost use Rattle.bx_paragraph.specs.Layout.{IsLayoutBy};
+ghost use Rattle.bx_document.specs.QueryRow.{fitting, glyph_row, letter_glyphs, query_glyphs};
+
+use crate::document::Document;
+use crate::drawing::draw_glyphs;
+use bx_grid::OwnedRow;
+use bx_paragraph::ParagraphLayout;
+use bx_rows::{Drawn, RowPicture};
+use bx_terms::{Base, OutOfMemory};
+use bx_ucd::BidiData;
+use std::alloc::Global;
+
+/// The columns in which a query is laid out.
+const QUERY_WIDTH: u16 = 500;
+
+/// The number of glyphs from the left that have room in `width` columns.
+fn fit_count(glyphs: &[Drawn<'_>], width: u16) -> usize
+    ensures within { result ≤ length glyphs.now }
+    ensures fitting { map glyph_of (take result glyphs.now) ≡ fitting width (map glyph_of glyphs.now) }
+    ensures room { sum_by (λ g. g.columns) (take result glyphs.now) ≤ width }
+{
+    let mut left = width;
+    for (i, glyph) in glyphs.iter().enumerate() {
+        if glyph.columns > left {
+            return i;
+        }
+        left -= glyph.columns;
+    }
+    glyphs.len()
+}
+
+/// Draws a row of `width` columns: as many glyphs from the left as have room, and blanks.
+fn glyph_row(alloc: Global, picture: &RowPicture<'_>, width: u16) -> Result<OwnedRow, OutOfMemory>
+    requires side { is_side width ≡ true }
+    requires glyphs { All (λ g. is_one_glyph (cow_str_bytes g.text) ≡ true) picture.now.glyphs.items }
+    requires widths { All (λ g. run_width (cow_str_bytes g.text) ≡ g.columns) picture.now.glyphs.items }
+    ensures row { IfOk result (λ row. row ≡ glyph_row width (map glyph_of picture.now.glyphs.items)) }
+    ensures filled { IfOk result (λ row. length row ≡ width) }
+{
+    let count = fit_count(&picture.glyphs, width);
+    let row = draw_glyphs(alloc, &picture.glyphs[..count], width)?;
+    Ok(row)
+}
+
+/// Lays out a query as a paragraph's body.
+fn lay_out<D: BidiData>(
+    alloc: Global,
+    query: &str,
+    tables: &D,
+) -> Result<ParagraphLayout, OutOfMemory>
+    ensures body { IfOk result (λ l. l.body ≡ query.now) }
+    ensures base { IfOk result (λ l. l.base ≡ Auto) }
+    ensures w { IfOk result (λ l. l.w ≡ 500) }
+    ensures rows { IfOk result (λ l. IsLayoutBy (D.data tables.now) l) }
+{
+    let body = String::from_str(alloc, query)?;
+    let layout = ParagraphLayout::of(alloc, body, tables, QUERY_WIDTH, Base::Auto)?;
+    Ok(layout)
+}
+
+/// The glyphs of a text of characters from SPACE to TILDE, and of a query after it.
+fn text_and_query<'a, D: BidiData>(
+    alloc: Global,
+    text: &str,
+    query: &'a ParagraphLayout,
+    tables: &D,
+) -> Result<RowPicture<'a>, OutOfMemory>
+    requires printable { are_ascii_printable text.now ≡ true }
+    requires base { query.now.base ≡ Auto }
+    requires w { query.now.w ≡ 500 }
+    requires rows { IsLayoutBy (D.data tables.now) query.now }
+    ensures picture { IfOk result (λ p. map glyph_of p.glyphs.items ≡ letter_glyphs text.now ++ query_glyphs (D.data tables.now) query.entry.now.body) }
+    ensures glyphs { IfOk result (λ p. All (λ g. is_one_glyph (cow_str_bytes g.text) ≡ true) p.glyphs.items) }
+    ensures widths { IfOk result (λ p. All (λ g. run_width (cow_str_bytes g.text) ≡ g.columns) p.glyphs.items) }
+{
+    // proof only: a body has a row
+    let _rows = query.row_count();
+    let mut found = query.own_glyphs(0, tables)?;
+    let mut picture = RowPicture::of_letters(alloc, text)?;
+    picture.glyphs.append(&mut found.glyphs)?;
+    Ok(picture)
+}
+
+impl<D: BidiData + Drop> Document<D> {
+    /// Draws a text of characters from SPACE to TILDE into a row of the window's width: as much of it as has room.
+    ///
+    /// Errors: `OutOfMemory`.
+    pub fn draw_text(&self, text: &str) -> Result<OwnedRow, OutOfMemory>
+        requires { are_ascii_printable text.now ≡ true }
+        ensures row { IfOk result (λ row. row ≡ glyph_row self.now.document.w (letter_glyphs text.now)) }
+        ensures filled { IfOk result (λ row. length row ≡ self.now.document.w) }
+    {
+        let picture = RowPicture::of_letters(self.alloc, text)?;
+        let row = glyph_row(self.alloc, &picture, self.width())?;
+        Ok(row)
+    }
+
+    /// Draws a text of characters from SPACE to TILDE, and after it a query in its visual order, into a row of the window's
+    /// width: as many of their glyphs from the left as have room.
+    ///
+    /// Errors: `OutOfMemory`.
+    pub fn draw_query(&self, text: &str, query: &str) -> Result<OwnedRow, OutOfMemory>
+        requires { are_ascii_printable text.now ≡ true }
+        ensures row { IfOk result (λ row. row ≡ glyph_row self.now.document.w
+            (letter_glyphs text.now ++ query_glyphs (D.data self.now.tables) query.now)) }
+        ensures filled { IfOk result (λ row. length row ≡ self.now.document.w) }
+    {
+        let layout = lay_out(self.alloc, query, &self.tables)?;
+        let picture = text_and_query(self.alloc, text, &layout, &self.tables)?;
+        let row = glyph_row(self.alloc, &picture, self.width())?;
+        Ok(row)
+    }
+}

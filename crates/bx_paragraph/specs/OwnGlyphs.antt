@@ -1,0 +1,9 @@
+-- The glyphs of a row, without the blanks that fill it.
+use Rattle.std.specs.Prelude.{ℕ, List}
+use Rattle.bx_ucd.specs.Data.{Data}
+use Rattle.bx_rows.specs.RowPicture.{Glyph, own_glyphs}
+use Rattle.bx_paragraph.specs.BodyRows.{BodyRow}
+
+-- the glyphs of a row's units from left to right
+abbrev pub row_own_glyphs : Data → ℕ → BodyRow → List Glyph
+row_own_glyphs says w r = own_glyphs says w r.body r.units r.levels
