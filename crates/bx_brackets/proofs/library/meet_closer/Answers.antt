@@ -1,6 +1,6 @@
 use Rattle.std.proofs.Common.{◌∙◌, sym}
 use Rattle.bx_brackets.proofs.Insert.{close_some}
-use Rattle.bx_brackets.proofs.pairs_of.meet_closer.Goals as goal
+use Rattle.bx_brackets.proofs.library.meet_closer.Goals as goal
 
 pub returns-in_ok-insert_pair-in-Some-clause-later : goal.returns-in_ok-insert_pair-in-Some-clause-later
 returns-in_ok-insert_pair-in-Some-clause-later c =

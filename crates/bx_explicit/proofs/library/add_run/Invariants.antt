@@ -1,7 +1,7 @@
 -- The indexes appended so far, and those left to append.
 use Rattle.std.proofs.Common.{◌≡◌, ◌-◌, ◌++◌, drop, length}
 use Rattle.bx_explicit.specs.LevelIndexes.{level_indexes}
-use Rattle.bx_explicit.proofs.isolating.add_run.Given as goal
+use Rattle.bx_explicit.proofs.library.add_run.Given as goal
 
 abbrev pub invariant-loop-k : goal.invariant-loop-k
 invariant-loop-k l = l.fn.indexes.items ++ level_indexes l.level l.first (drop l.first l.kept) ≡ l.indexes.items ++ level_indexes l.level l.k (drop l.k l.kept)

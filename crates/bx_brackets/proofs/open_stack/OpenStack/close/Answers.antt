@@ -3,7 +3,7 @@ use Rattle.std.proofs.Common.{◌≡◌, ◌∙◌, reverse, take, ap, sym, subs
 use Rattle.std.specs.Prelude.{find}
 use Rattle.bx_brackets.specs.Search.{AreMissed, below_first, is_for}
 use Rattle.bx_brackets.proofs.Missed.{missed_below, missed_more}
-use Rattle.bx_brackets.proofs.pairs_of.OpenStack.close.Goals as goal
+use Rattle.bx_brackets.proofs.open_stack.OpenStack.close.Goals as goal
 
 pub invariant_of-self : goal.invariant_of-self
 invariant_of-self c =

@@ -7,7 +7,7 @@ use Rattle.bx_explicit.specs.Stack.{max_depth}
 use Rattle.bx_explicit.specs.Sequences.{RunSequence, first_index, sequences}
 use Rattle.bx_explicit.proofs.Bounds.{sequences_low, sequences_below}
 use Rattle.bx_explicit.proofs.Ordered.{sorted_is_sequences}
-use Rattle.bx_explicit.proofs.isolating.sequences.Goals as goal
+use Rattle.bx_explicit.proofs.library.sequences.Goals as goal
 
 pub returns-clause-sequences : goal.returns-clause-sequences
 returns-clause-sequences c =

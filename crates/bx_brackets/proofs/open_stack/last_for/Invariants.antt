@@ -2,7 +2,7 @@
 use Rattle.std.proofs.Common.{◌≡◌, ◌≤◌, take, reverse, length}
 use Rattle.std.specs.Prelude.{find}
 use Rattle.bx_brackets.specs.Search.{is_for, below_first}
-use Rattle.bx_brackets.proofs.pairs_of.last_for.Given as goal
+use Rattle.bx_brackets.proofs.open_stack.last_for.Given as goal
 
 abbrev pub invariant-loop-k : goal.invariant-loop-k
 invariant-loop-k l = record {

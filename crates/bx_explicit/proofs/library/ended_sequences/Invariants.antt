@@ -2,7 +2,7 @@
 use Rattle.std.proofs.Common.{◌≡◌, ◌++◌, length}
 use Rattle.bx_explicit.specs.Sequences.{sequences}
 use Rattle.bx_explicit.specs.Walk.{AreGiven}
-use Rattle.bx_explicit.proofs.isolating.ended_sequences.Given as goal
+use Rattle.bx_explicit.proofs.library.ended_sequences.Given as goal
 
 abbrev pub invariant-loop-all : goal.invariant-loop-all
 invariant-loop-all l = record {

@@ -2,7 +2,7 @@
 use Rattle.std.proofs.Common.{◌≡◌, drop, false}
 use Rattle.bx_brackets.specs.Pairs.{pairs}
 use Rattle.bx_brackets.specs.Search.{progress, pairs_after, AreFound}
-use Rattle.bx_brackets.proofs.pairs_of.pairs.Given as goal
+use Rattle.bx_brackets.proofs.library.pairs.Given as goal
 
 abbrev pub invariant-loop-i : goal.invariant-loop-i
 invariant-loop-i g l = record {

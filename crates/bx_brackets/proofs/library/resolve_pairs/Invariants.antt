@@ -2,7 +2,7 @@
 use Rattle.std.proofs.Common.{◌≡◌, drop}
 use Rattle.bx_brackets.specs.Resolve.{resolve_pairs}
 use Rattle.bx_brackets.specs.Clear.{IsKnown}
-use Rattle.bx_brackets.proofs.resolve.resolve_pairs.Given as goal
+use Rattle.bx_brackets.proofs.library.resolve_pairs.Given as goal
 
 abbrev pub invariant-loop-pair : goal.invariant-loop-pair
 invariant-loop-pair l = record {

@@ -4,7 +4,7 @@ use Rattle.bx_ucd.specs.declared.data.Side.{Side}
 use Rattle.bx_brackets.specs.Resolve.{IsPairWithin}
 use Rattle.bx_brackets.specs.Search.{progress}
 use Rattle.bx_brackets.proofs.Stack.{all_found, over_after, turn_more}
-use Rattle.bx_brackets.proofs.pairs_of.pairs.Goals as goal
+use Rattle.bx_brackets.proofs.library.pairs.Goals as goal
 
 pub loop-i-init : goal.loop-i-init
 loop-i-init g c = rw (c.new-open.ensures, c.new-found.ensures.items) (record {

@@ -3,7 +3,7 @@ use Rattle.std.proofs.Common.{◌≡◌, ◌∙◌, ◌%◌, [], ◌∷◌, set,
 use Rattle.std.proofs.lemmas.List.{reverse-append}
 use Rattle.bx_brackets.specs.Search.{AreMissed}
 use Rattle.bx_brackets.proofs.Missed.{missed_push}
-use Rattle.bx_brackets.proofs.pairs_of.OpenStack.push.Goals as goal
+use Rattle.bx_brackets.proofs.open_stack.OpenStack.push.Goals as goal
 
 pub invariant_of-self : goal.invariant_of-self
 invariant_of-self c =

@@ -1,4 +1,5 @@
-//! Isolating run sequences, each with its indexes (BD13, X10).
+//! All isolating run sequences of a body at once, each with its indexes (BD13, X10). The editor does not run this, it reads one
+//! sequence after another by `SequenceWalk`. With it the crate serves by itself as a library.
 ghost use Rattle.std.specs.Prelude.{◌≡◌, ◌<◌, ◌≤◌, ◌++◌, IfOk, OnOk, All, drop, length, true};
 ghost use Rattle.bx_explicit.specs.LevelIndexes.{level_indexes, indexes_from};
 ghost use Rattle.bx_explicit.specs.Sequences.{RunSequence, first_index, sequences};
