@@ -1,11 +1,10 @@
 -- The rows of a held paragraph as rows of the text.
 use Rattle.std.proofs.Common.{◌≡◌, ℕ, ◌+◌, ◌-◌, ◌<◌, ◌≤◌, Bool, true, List, length}
 use Rattle.std.proofs.Common.{reverse, find, get_or, nat_le, Option, Some, None, option_map, IsUtf8, IsCharBoundary}
-use Rattle.std.proofs.Common.{refl, sym, ap, ap₂, subst, ◌∙◌, arith, leb-true}
+use Rattle.std.proofs.Common.{refl, sym, ap, ap₂, subst, ◌∙◌, arith}
 use Rattle.std.specs.Prelude.{All, IfSome, map}
-use Rattle.std.proofs.lemmas.Bool.{and_parts}
 use Rattle.bx_ucd.specs.Data.{Data}
-use Rattle.bx_terms.specs.Sizes.{is_side, largest_side}
+use Rattle.bx_terms.specs.Sizes.{is_side}
 use Rattle.bx_ucd.specs.declared.class.Class.{Class}
 use Rattle.bx_ucd.specs.declared.data.Side.{Side}
 use Rattle.bx_text.specs.Edits.{IsRange}
@@ -17,7 +16,7 @@ use Rattle.bx_paragraph.specs.Layout.{LayoutState, row_by, rows_by}
 use Rattle.bx_paragraph.specs.declared.moves.Visual.{Visual}
 use Rattle.bx_paragraph.specs.Slots.{beside, column_of, entry, reading_end, reading_start, row_slots}
 use Rattle.bx_paragraph.specs.declared.slot.Slot.{Slot}
-use Rattle.bx_paragraph.proofs.Starts.{row_count}
+use Rattle.bx_paragraph.proofs.Starts.{row_count, side-some}
 use Rattle.bx_view.specs.declared.row_at.RowAt.{RowAt}
 use Rattle.bx_view.specs.FoundRow.{StandsOn}
 use Rattle.bx_view.specs.Holding.{HoldsBody, IsHeld, IsOfText, IsViewBy, Keeps, ViewState}
@@ -28,9 +27,6 @@ use Rattle.bx_view.proofs.Numbers.{body-range, body-utf8}
 use Rattle.bx_view.proofs.Within.{Lies, LiesIn, Within, slots-fit, beside-fits, body-row-lies}
 use Rattle.bx_view.proofs.Within.{end-fits, entry-fits, find-lies, last-fits, start-fits, within-reverse}
 use Rattle.bx_view.proofs.Walking.{before-over, before-some, first-short, next-none, next-over, row-is, row-under}
-
-pub side-some : (w : ℕ) → is_side w ≡ true → 1 ≤ w
-side-some w e = leb-true 1 w (and_parts (nat_le 1 w) (nat_le w largest_side) e).0
 
 module _ (says : Data) where
   abbrev of : ViewState → List ℕ → List TextRow
@@ -90,20 +86,20 @@ module _ (says : Data) where
         (subst (λ rs. start_at says text at.paragraph + first_of (row_at_body rs at.row) ≤ length text) (sym is.rows_are)
         (first-short says v.base v.w (side-some v.w is.side) text utf8 at.paragraph at.row n on.is))
 
-    pub row-told : row_at (of v text) n ≡ text_row at.start (row_by says l at.row)
-    row-told = row-is says v.base v.w (side-some v.w is.side) text utf8 at.paragraph at.row n on.is
+    pub row-in-text : row_at (of v text) n ≡ text_row at.start (row_by says l at.row)
+    row-in-text = row-is says v.base v.w (side-some v.w is.side) text utf8 at.paragraph at.row n on.is
         ∙ ap (λ rs. text_row (start_at says text at.paragraph) (row_at_body rs at.row)) (sym is.rows_are)
         ∙ ap (λ s. text_row s (row_by says l at.row)) (sym on.start_is)
 
     -- its properties are row `n`'s
-    pub told : {A : Type 0} (F : TextRow → A) → F (text_row at.start (row_by says l at.row)) ≡ F (row_at (of v text) n)
-    told F = sym (ap F row-told)
+    pub of-row : {A : Type 0} (F : TextRow → A) → F (text_row at.start (row_by says l at.row)) ≡ F (row_at (of v text) n)
+    of-row F = sym (ap F row-in-text)
 
     -- it is the row of that number of the paragraph's body
-    pub body-row-told : (body : List ℕ) → body ≡ l.body
+    pub row-in-body : (body : List ℕ) → body ≡ l.body
         → (row_at (of v text) n).row ≡ row_at_body (body_rows says v.base v.w body) at.row
-    body-row-told body e =
-        sym (told (λ r. r.row)) ∙ ap (λ rs. row_at_body rs at.row) is.rows_are
+    row-in-body body e =
+        sym (of-row (λ r. r.row)) ∙ ap (λ rs. row_at_body rs at.row) is.rows_are
         ∙ ap (λ b. row_at_body (body_rows says v.base v.w b) at.row) (sym is.body_is ∙ sym e)
 
     abbrev high : ℕ
@@ -167,9 +163,9 @@ module _ (says : Data) where
       entry-short column o e = fits-in most o short (subst (Lies Inside) (sym e) (entry-fits Inside l.w (row_by says l at.row) lies-in column))
 
     -- a place of it, if there is one, by the columns of the view
-    pub place-told : (F : ℕ → TextRow → Option ℕ) (o p : Option ℕ) → p ≡ option_map (λ k. at.start + k) o
+    pub place-in-text : (F : ℕ → TextRow → Option ℕ) (o p : Option ℕ) → p ≡ option_map (λ k. at.start + k) o
         → option_map (λ k. at.start + k) o ≡ F l.w (text_row at.start (row_by says l at.row)) → p ≡ F v.w (row_at (of v text) n)
-    place-told F o p e f = e ∙ f ∙ ap (λ w. F w (text_row at.start (row_by says l at.row))) is.w_is ∙ told (F v.w)
+    place-in-text F o p e f = e ∙ f ∙ ap (λ w. F w (text_row at.start (row_by says l at.row))) is.w_is ∙ of-row (F v.w)
 
   -- rows stay the same where the base direction and the columns do
   pub rows-kept : (old v : ViewState) (text : List ℕ) → Keeps says old v → of v text ≡ of old text
@@ -180,16 +176,16 @@ module _ (says : Data) where
   module _ (old v : ViewState) (text : List ℕ) (place : ℕ) (at : RowAt) (l : LayoutState) (keeps : Keeps says old v)
       (utf8 : IsUtf8 text) (on : StandsOn says v text at (row_of (of v text) place)) (is : IsOfText says v text at.paragraph l) where
     here : row_at (of v text) (row_of (of v text) place) ≡ text_row at.start (row_by says l at.row)
-    here = row-told v text at (row_of (of v text) place) l utf8 on is
+    here = row-in-text v text at (row_of (of v text) place) l utf8 on is
 
-    pub cell-told : (c : ℕ) → c ≡ column_of l.w (row_by says l at.row) (place - at.start) → c ≡ cell_of old.w (of old text) place
-    cell-told c e =
+    pub cell-in-text : (c : ℕ) → c ≡ column_of l.w (row_by says l at.row) (place - at.start) → c ≡ cell_of old.w (of old text) place
+    cell-in-text c e =
         e ∙ ap (λ w. column_of w (row_by says l at.row) (place - at.start)) is.w_is
         ∙ sym (ap (λ (r : TextRow). column_of v.w r.row (place - r.start)) here)
         ∙ ap₂ (λ b w. cell_of w (text_rows says b w text) place) keeps.base keeps.w
 
-    pub home-told : (o : ℕ) → o ≡ first_of (row_by says l at.row) → at.start + o ≡ row_home (of old text) place
-    home-told o e =
+    pub home-in-text : (o : ℕ) → o ≡ first_of (row_by says l at.row) → at.start + o ≡ row_home (of old text) place
+    home-in-text o e =
         ap (λ k. at.start + k) e ∙ sym (ap first here) ∙ ap₂ (λ b w. row_home (text_rows says b w text) place) keeps.base keeps.w
 
   -- ---- the next row

@@ -76,29 +76,29 @@ module _ (says : Data) (text : List ℕ) (utf8 : IsUtf8 text) (n start : ℕ) (b
     pub under : n < count says text
     under = (falls-at says text place n utf8 e).within
 
-    pub forward-told : (stop : ℕ) → place - start < length body → stop ≡ first-stop says (nat_lt (place - start)) body
+    pub forward-stop : (stop : ℕ) → place - start < length body → stop ≡ first-stop says (nat_lt (place - start)) body
         → start + stop ≡ step_word says text Forward place
-    forward-told stop h is =
+    forward-stop stop h is =
         stop-there (nat_lt (place - start)) stop is
         ∙ ap (λ s. start_at says text n + first-stop says (nat_lt (place - s)) (body_at says text n)) begins
         ∙ forward-here says text utf8 place n e (omega (arith, h, begins, ap length same))
 
-    pub back-told : (stop : ℕ) → start < place → stop ≡ last-start says (place - start) body → start + stop ≡ step_word says text Back place
-    back-told stop h is = start-there place stop is ∙ back-here says text utf8 place n e (omega (arith, h, begins))
+    pub back-stop : (stop : ℕ) → start < place → stop ≡ last-start says (place - start) body → start + stop ≡ step_word says text Back place
+    back-stop stop h is = start-there place stop is ∙ back-here says text utf8 place n e (omega (arith, h, begins))
 
     -- none in the paragraph: the answer for the next one, or for the previous one
-    pub below-told : length body ≤ place - start → (found : Option ℕ)
+    pub stop-below : length body ≤ place - start → (found : Option ℕ)
         → MatchOption found (n + 1 ≡ count says text)
         (λ o. (n + 1 < count says text) × (o ≡ start_at says text (n + 1) + first-stop says (nat_le 0) (body_at says text (n + 1))))
         → unwrap_or found place ≡ step_word says text Forward place
-    below-told h None is = forward-last says text utf8 place n e (omega (arith, h, begins, ap length same)) is
-    below-told h (Some o) is = is.1 ∙ forward-next says text utf8 place n e (omega (arith, h, begins, ap length same)) is.0
+    stop-below h None is = forward-last says text utf8 place n e (omega (arith, h, begins, ap length same)) is
+    stop-below h (Some o) is = is.1 ∙ forward-next says text utf8 place n e (omega (arith, h, begins, ap length same)) is.0
 
-    pub above-told : place ≤ start → (found : Option ℕ)
+    pub stop-above : place ≤ start → (found : Option ℕ)
         → MatchOption found (n ≡ 0)
         (λ o. (0 < n) × (o ≡ start_at says text (n - 1) + last-start says (place - start_at says text (n - 1)) (body_at says text (n - 1))))
         → unwrap_or found place ≡ step_word says text Back place
-    above-told h None is = back-first says text utf8 place n e (omega (arith, h, begins)) is
-    above-told h (Some o) is =
+    stop-above h None is = back-first says text utf8 place n e (omega (arith, h, begins)) is
+    stop-above h (Some o) is =
         let more : n ≡ n - 1 + 1 = omega (arith, is.0) in
         is.1 ∙ back-above says text utf8 place n e (omega (arith, h, begins)) (n - 1) more

@@ -13,7 +13,8 @@ use Rattle.bx_view.specs.TextRows.{TextRow, first, places, places_of, row_at, ro
 use Rattle.bx_view.proofs.FindPlaces.{back-in-row, back-stays, back-to-row, forward-in-row, forward-stays, forward-to-next, from-here, from-last, from-next}
 use Rattle.bx_view.proofs.PlacesRise.{AllHeads, places-rise, rows-headed-in}
 use Rattle.bx_view.proofs.Rising.{Rises, rank}
-use Rattle.bx_view.proofs.Told.{rows-kept, side-some}
+use Rattle.bx_paragraph.proofs.Starts.{side-some}
+use Rattle.bx_view.proofs.HeldRows.{rows-kept}
 use Rattle.bx_view.proofs.Walking.{row-within, text-rank}
 
 module _ (says : Data) (old v : ViewState) (text : List ℕ) (offset : ℕ) (at : RowAt) (utf8 : IsUtf8 text)

@@ -1,6 +1,6 @@
 -- The offsets so far, then the offsets of the remaining slots, are all offsets.
 use Rattle.std.proofs.Common.{◌≡◌, ◌+◌, ◌++◌, drop, map}
-use Rattle.bx_view.proofs.shown.in_text.Given as goal
+use Rattle.bx_view.proofs.library.in_text.Given as goal
 
 abbrev pub invariant-loop-slot : goal.invariant-loop-slot
 invariant-loop-slot l =

@@ -3,7 +3,7 @@ use Rattle.std.proofs.Common.{◌≡◌, ◌-◌, ◌<◌, ◌≤◌}
 use Rattle.bx_paras.specs.Paragraphs.{lengths}
 use Rattle.bx_view.specs.Source.{bytes, count}
 use Rattle.bx_view.specs.Standing.{rows_ahead}
-use Rattle.bx_view.proofs.counting.rows_before.Given as goal
+use Rattle.bx_view.proofs.library.rows_before.Given as goal
 
 abbrev pub invariant-loop-done : goal.invariant-loop-done
 invariant-loop-done g l =

@@ -1,6 +1,6 @@
 use Rattle.std.proofs.Common.{◌≡◌, ◌≤◌, ◌*◌, ◌++◌, ap, drop, subst, sym}
 use Rattle.bx_view.specs.Position.{IsPosition}
-use Rattle.bx_view.proofs.Told.{side-some}
+use Rattle.bx_paragraph.proofs.Starts.{side-some}
 use Rattle.bx_document.specs.Document.{rows}
 use Rattle.bx_document.specs.Drawing.{IsAmong}
 use Rattle.bx_document.specs.Shown.{rows_above, shown_columns}
