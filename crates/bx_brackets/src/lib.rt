@@ -3,12 +3,12 @@
 
 mod error;
 mod laws;
-mod pairs_of;
+mod library;
+mod open_stack;
 mod resolve;
 mod search;
 
 pub use error::BracketError;
 pub use laws::{neighbours_are_paired, pairs_are_nested};
-pub use pairs_of::pairs;
-pub use resolve::resolve_pairs;
+pub use library::{pairs, resolve_pairs};
 pub use search::PairSearch;

@@ -214,14 +214,14 @@ fn resolve_in(
 
 /// State that a walk over the pairs carries: the context of an index, and the clear ranges.
 #[derive(Clone, Copy, PartialEq, Eq, Debug)]
-struct Known {
+pub(crate) struct Known {
     index: usize,
     context: Class,
     clears: Clears,
 }
 
 /// The state before the first pair.
-fn known_first(sos: Class) -> Known
+pub(crate) fn known_first(sos: Class) -> Known
     ensures { result ≡ known_first sos }
 {
     let nothing = Clear { from: 0, to: 0 };
@@ -238,7 +238,7 @@ fn known_first(sos: Class) -> Known
 
 /// Gives the next pair its types, and updates the state.
 #[inline(always)]
-fn resolve_next(
+pub(crate) fn resolve_next(
     types: &mut [Class],
     was_nsm: &[bool],
     embedding: Class,
@@ -261,27 +261,7 @@ fn resolve_next(
 
 /// Resolves the bracket pairs of a sequence in place, pair by pair (N0). `types` are the types after W7; W3 leaves no AL,
 /// and an AL passed in counts as neither direction. `was_nsm` tells which characters were NSM before W1, and `sos` is the
-/// type before the sequence, whose level is `level`.
-#[tactic(auto, using(crate::proofs::Marks::pairs_more, crate::proofs::Marks::pairs_all, crate::proofs::Context::first_known))]
-pub fn resolve_pairs(
-    types: &mut [Class],
-    was_nsm: &[bool],
-    pairs: &[(usize, usize)],
-    level: u8,
-    sos: Class,
-)
-    requires within { All (IsPairWithin (length types.old)) pairs.now }
-    requires as_long { length was_nsm.now ≡ length types.old }
-    ensures { types.new ≡ resolve_pairs (direction level) sos was_nsm.now pairs.now types.old }
-{
-    let embedding = direction(level);
-    let mut known = known_first(sos);
-    for pair in pairs {
-        resolve_next(types, was_nsm, embedding, sos, &mut known, *pair);
-    }
-}
-
-/// The same, with the pairs as a list that has at each opener's index the index of its closer.
+/// type before the sequence, whose level is `level`. `closers` has at each opener's index the index of its closer.
 #[tactic(auto, using(crate::proofs::Context::first_known))]
 pub fn resolve_closers(
     types: &mut [Class],

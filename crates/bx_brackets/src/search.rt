@@ -11,7 +11,7 @@ ghost use Rattle.bx_brackets.specs.Search.{Searching, IsSearched};
 ghost use Rattle.bx_brackets.specs.Search.{progress, turn, after, pairs_after, pairs_in, with_closer, index_of, is_for, left_by, found_by};
 
 use crate::error::BracketError;
-use crate::pairs_of::{OpenStack, bracket_at, canonical};
+use crate::open_stack::{OpenStack, bracket_at, canonical};
 use crate::resolve::resolve_closers;
 use bx_ucd::{BidiData, Class, Side};
 use std::alloc::{AllocError, Global};

@@ -9,7 +9,7 @@ use Rattle.bx_view.specs.Moves as moves
 use Rattle.bx_view.specs.Places.{IsTextPlace}
 use Rattle.bx_view.specs.TextRows.{TextRow, text_rows}
 use Rattle.bx_view.proofs.KeptPlaces.{text-places-kept}
-use Rattle.bx_view.proofs.Told.{side-some}
+use Rattle.bx_paragraph.proofs.Starts.{side-some}
 use Rattle.bx_document.specs.Document.{DocumentState}
 
 -- `inner` is the opened value of the document `now`

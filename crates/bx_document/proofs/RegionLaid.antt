@@ -12,7 +12,8 @@ use Rattle.bx_view.specs.Holding.{Keeps, ViewState}
 use Rattle.bx_view.specs.TextRows.{TextRow, no_text_row, row_at, row_of, text_row_glyphs}
 use Rattle.bx_view.specs.Top.{shown_rows}
 use Rattle.bx_view.proofs.RowFits.{row-filled}
-use Rattle.bx_view.proofs.Told.{rows-kept, side-some}
+use Rattle.bx_paragraph.proofs.Starts.{side-some}
+use Rattle.bx_view.proofs.HeldRows.{rows-kept}
 use Rattle.bx_view.proofs.Walking.{row-within}
 use Rattle.bx_document.specs.Drawing.{row_columns, rows_columns, with_rows}
 use Rattle.bx_document.specs.Region.{region_columns, region_rows, row_in}

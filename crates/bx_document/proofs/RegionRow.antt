@@ -11,7 +11,7 @@ use Rattle.bx_view.specs.TextParts.{slots_in}
 use Rattle.bx_view.specs.TextRows.{TextRow, no_text_row, row_at}
 use Rattle.bx_view.proofs.GlyphCells.{HasFaces, rows-faced}
 use Rattle.bx_view.proofs.KeptPlaces.{HasLevels, rows-leveled}
-use Rattle.bx_view.proofs.Told.{side-some}
+use Rattle.bx_paragraph.proofs.Starts.{side-some}
 use Rattle.bx_view.proofs.Walking.{row-within}
 use Rattle.bx_document.specs.Drawing.{row_columns}
 use Rattle.bx_document.specs.Region.{IsSpan, region_columns, turned_slots}

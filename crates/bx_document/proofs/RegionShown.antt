@@ -8,7 +8,7 @@ use Rattle.bx_ucd.specs.Data.{Data}
 use Rattle.bx_view.specs.FoundRow.{rows_by}
 use Rattle.bx_view.specs.Holding.{Keeps, ViewState}
 use Rattle.bx_view.specs.Top.{shown_rows}
-use Rattle.bx_view.proofs.Told.{rows-kept}
+use Rattle.bx_view.proofs.HeldRows.{rows-kept}
 use Rattle.bx_document.specs.Drawing.{rows_columns}
 use Rattle.bx_document.specs.Region.{region_rows}
 

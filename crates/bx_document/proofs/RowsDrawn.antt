@@ -12,7 +12,8 @@ use Rattle.bx_view.specs.declared.row_at.RowAt.{RowAt}
 use Rattle.bx_view.specs.FoundRow.{StandsOn, rows_by}
 use Rattle.bx_view.specs.Holding.{Keeps, ViewState}
 use Rattle.bx_view.specs.TextRows.{TextRow, no_text_row, row_at}
-use Rattle.bx_view.proofs.Told.{rows-kept, side-some}
+use Rattle.bx_paragraph.proofs.Starts.{side-some}
+use Rattle.bx_view.proofs.HeldRows.{rows-kept}
 use Rattle.bx_view.proofs.Walking.{row-within}
 use Rattle.bx_ucd.specs.Data.{Data}
 use Rattle.bx_document.specs.Drawing.{row_columns, rows_columns, with_rows}

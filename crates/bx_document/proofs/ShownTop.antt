@@ -7,7 +7,8 @@ use Rattle.bx_view.specs.Holding.{Keeps, ViewState}
 use Rattle.bx_view.specs.TextRows.{TextRow, first, row_at, row_of}
 use Rattle.bx_view.specs.Top.{follow, nearest_top, shown_rows}
 use Rattle.bx_view.proofs.LeastMove.{falls-own}
-use Rattle.bx_view.proofs.Told.{rows-kept, side-some}
+use Rattle.bx_paragraph.proofs.Starts.{side-some}
+use Rattle.bx_view.proofs.HeldRows.{rows-kept}
 use Rattle.bx_view.proofs.Walking.{row-within, rows-rise}
 use Rattle.bx_ucd.specs.Data.{Data}
 use Rattle.bx_document.specs.Drawing.{IsAmong, rows_columns}

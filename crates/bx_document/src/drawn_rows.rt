@@ -38,10 +38,11 @@ pub(crate) fn draw_rows<D: BidiData>(
     let _columns = grid.columns();
     cache.begin(count);
     cache.put_row(layout, source, at, grid, 0)?;
+    let mut walk = layout.walk_from(source, at);
     let mut here = at;
     let mut row = 0;
     while row + 1 < count {
-        let Some(next) = layout.next_row(source, here)? else {
+        let Some(next) = layout.next_row_along(source, &mut walk, here)? else {
             grid.blank_rows(row + 1, count);
             return Ok(());
         };

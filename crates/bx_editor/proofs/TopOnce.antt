@@ -4,7 +4,7 @@ use Rattle.std.specs.Prelude.{if◌then◌else◌}
 use Rattle.bx_view.specs.Laws.{MovesLeast}
 use Rattle.bx_view.specs.Top.{follow}
 use Rattle.bx_view.proofs.LeastMove.{text-moves-least}
-use Rattle.bx_view.proofs.Told.{side-some}
+use Rattle.bx_paragraph.proofs.Starts.{side-some}
 use Rattle.bx_editor.specs.Editor.{rows, text_height}
 use Rattle.bx_editor.specs.Laws.{TopStays}
 

@@ -48,7 +48,7 @@ pub fn chars_of(alloc: Global, text: &str) -> Result<Vec<char>, AllocError>
 }
 
 /// The text after `count` characters, or the empty text at its end.
-#[tactic(auto, using(crate::proofs::TextEnds::end_self, crate::proofs::TextEnds::end_of_end, crate::proofs::TextEnds::end_behind, crate::proofs::TextEnds::chars_none, crate::proofs::TextEnds::drop_cons, crate::proofs::TextEnds::drop_none))]
+#[tactic(auto, using(crate::proofs::TextEnds::ends_behind))]
 fn skip(text: &str, count: usize) -> &str
     ensures chars { chars result.now ≡ drop count (chars text.now) }
     ensures end { IsEndOf text.now result.now }

@@ -46,11 +46,11 @@ module _ (says : Data) (text : List ℕ) (utf8 : IsUtf8 text) where
   pub begin_at : (n : ℕ) (within : n < count says text)
       → IsBegin (start_at says text n) (lengths_of (here says text n within) ∷ map lengths_of (behind says text n within))
   begin_at n within =
-      let told : lens says (chars text) ≡ map lengths_of (ahead says text n within)
+      let split : lens says (chars text) ≡ map lengths_of (ahead says text n within)
       ++ lengths_of (here says text n within) ∷ map lengths_of (behind says text n within) = ap (map lengths_of) (parts-at says text n within)
       ∙ map-append lengths_of (ahead says text n within) (here says text n within ∷ behind says text n within) in
       let (x, m, s) = seam says (chars text) (map lengths_of (ahead says text n within)) (lengths_of (here says text n within))
-      (map lengths_of (behind says text n within)) told in
+      (map lengths_of (behind says text n within)) split in
       let at = start_at says text n in
       let size : widths x ≡ at = s.bytes ∙ sym (start-is says text n) in
       let spelt : text ≡ encode_utf8_all x ++ encode_utf8_all m = sym (encodes-chars text utf8) ∙ ap encode_utf8_all s.whole ∙ encodes-append x m in

@@ -13,7 +13,7 @@ use Rattle.bx_view.specs.FoundRow.{StandsOn, rows_by}
 use Rattle.bx_view.specs.Holding.{Keeps, ViewState}
 use Rattle.bx_view.specs.Moves.{end_of, place_in, row_after, row_before, start_of}
 use Rattle.bx_view.specs.TextRows.{TextRow, no_text_row, row_at, text_rows}
-use Rattle.bx_view.proofs.Told.{side-some}
+use Rattle.bx_paragraph.proofs.Starts.{side-some}
 use Rattle.bx_view.proofs.Walking.{row-within}
 
 -- whether a side is the one that a row is read on depends on its paragraph's level alone

@@ -16,7 +16,7 @@ use Rattle.bx_rows.specs.RowStarts.{first_offset, start_of}
 use Rattle.bx_rows.specs.Wrapping.{is_break, row_len, rows_from, rows_of}
 use Rattle.bx_paragraph.specs.BodyRows.{body_rows}
 use Rattle.bx_paragraph.proofs.Starts.{firsts}
-use Rattle.bx_view.proofs.Around.{BodyFirsts}
+use Rattle.bx_view.proofs.RowsAround.{BodyFirsts}
 use Rattle.bx_view.proofs.Rising.{Rises, rises-further, rises-sooner}
 
 -- ---- where units begin

@@ -19,13 +19,13 @@ use Rattle.bx_view.specs.declared.moves.Move.{Move}
 use Rattle.bx_view.specs.FoundRow.{rows_by}
 use Rattle.bx_view.specs.Holding.{ViewState}
 use Rattle.bx_view.specs.Laws.{MovesKeep}
-use Rattle.bx_view.proofs.Around.{from, own}
+use Rattle.bx_view.proofs.RowsAround.{from, own}
 use Rattle.bx_view.proofs.KeptMoves.{moves-keep}
 use Rattle.bx_view.proofs.Numbers.{bytes-utf8}
 use Rattle.bx_view.proofs.Parts.{AreUtf8, bytes, text-bytes, text-parts}
 use Rattle.bx_view.proofs.Rising.{rank-few}
 use Rattle.bx_view.proofs.StopPlaces.{ends-lie}
-use Rattle.bx_view.proofs.Told.{side-some}
+use Rattle.bx_paragraph.proofs.Starts.{side-some}
 use Rattle.bx_view.proofs.Walking.{text-rank}
 use Rattle.bx_view.proofs.Within.{LiesIn, Within, body-row-lies, within-append}
 

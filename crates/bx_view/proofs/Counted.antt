@@ -17,7 +17,7 @@ use Rattle.bx_paragraph.specs.BodyRows.{first_of, no_row}
 use Rattle.bx_paragraph.proofs.Starts.{firsts}
 use Rattle.bx_view.specs.Standing.{IsRow, body_at, count, rows_ahead, rows_in, start_at}
 use Rattle.bx_view.specs.TextRows.{TextRow, first, no_text_row, text_rows}
-use Rattle.bx_view.proofs.Around.{from, from-append}
+use Rattle.bx_view.proofs.RowsAround.{from, from-append}
 use Rattle.bx_view.proofs.PlacesRise.{firsts-rise-in}
 use Rattle.bx_view.proofs.Rising.{rises-few}
 use Rattle.bx_view.proofs.Walking.{ahead-next, first-short, row-is, row-within}
@@ -84,13 +84,13 @@ module _ (says : Data) (base : Base) (w : ℕ) (some : 1 ≤ w) (text : List ℕ
     pub start-fits : (d : RowStart) (start : ℕ) → start ≡ start_at says text number → start + (get_or starts k d).offset ≤ length text
     start-fits d start s = omega (arith, s, offset-is d, first-short says base w some text utf8 number k n row-there)
 
-    pub first-told : (d : RowStart) (start : ℕ) → start ≡ start_at says text number
+    pub first-counted : (d : RowStart) (start : ℕ) → start ≡ start_at says text number
         → Some (start + (get_or starts k d).offset) ≡ option_map first (slice_get rows n)
-    first-told d start s =
+    first-counted d start s =
         let here : start + (get_or starts k d).offset ≡ start_at says text number + first_of (get_or (rows_in says base w text number) k no_row) =
         omega (arith, s, offset-is d) in
         ap Some (here ∙ sym (ap first (row-is says base w some text utf8 number k n row-there)))
         ∙ sym (ap (option_map first) (slice_get-get_or rows n no_text_row (row-within says base w some text utf8 number k n row-there)))
 
-  pub none-told : (number k n : ℕ) → count says text ≤ number → k + ahead number ≡ n → None ≡ option_map first (slice_get rows n)
-  none-told number k n past is = sym (ap (option_map first) (slice_get_past rows n (omega (arith, is, ahead-all number past))))
+  pub none-counted : (number k n : ℕ) → count says text ≤ number → k + ahead number ≡ n → None ≡ option_map first (slice_get rows n)
+  none-counted number k n past is = sym (ap (option_map first) (slice_get_past rows n (omega (arith, is, ahead-all number past))))

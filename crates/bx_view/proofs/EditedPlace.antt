@@ -34,7 +34,7 @@ use Rattle.bx_view.proofs.InBody.{not-moved}
 use Rattle.bx_view.proofs.LeastPlace.{least, least_stops, place_after_front, spots_more}
 use Rattle.bx_view.proofs.Numbers.{behind, body-is, body-utf8, here}
 use Rattle.bx_view.proofs.PlacesRise.{body-places}
-use Rattle.bx_view.proofs.Told.{side-some}
+use Rattle.bx_paragraph.proofs.Starts.{side-some}
 
 -- ---- a text that begins with a body
 
@@ -261,14 +261,14 @@ splice_most text first last body i j new within e range =
       start.0,
     )
 
-pub place_told : (says : Data) (v : ViewState) (text : List ℕ) → IsUtf8 text → (number : ℕ)
+pub edited_place : (says : Data) (v : ViewState) (text : List ℕ) → IsUtf8 text → (number : ℕ)
     → number < count says text → (first start stop : ℕ) (new : List ℕ) → IsUtf8 new → (l : LayoutState) (place offset : ℕ)
     → first ≡ start_at says text number → first ≤ start → start ≤ stop → IsRange (body_at says text number) (start - first) (stop - first)
     → HasNone says (chars new) → (first ≡ 0) ⊎ (first < start) → is_side v.w ≡ true → l.base ≡ v.base → l.w ≡ v.w
     → l.body ≡ list_splice (body_at says text number) (start - first) (stop - first) new → offset ≡ start - first + length new
     → place ≡ place_in_body (rows_by says l) offset
     → first + place ≡ place_from (text_rows says v.base v.w (splice text start stop new)) (start + length new)
-place_told says v text utf8 number there first start stop new new_utf8 l place offset first_is order further range none inner side base_is w_is
+edited_place says v text utf8 number there first start stop new new_utf8 l place offset first_is order further range none inner side base_is w_is
     body_is offset_is place_is =
     let at = start_at says text number in
     let own = body_at says text number in

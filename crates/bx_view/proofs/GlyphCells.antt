@@ -36,7 +36,7 @@ use Rattle.bx_paragraph.proofs.OnceEach.{once-each}
 use Rattle.bx_paragraph.proofs.RowSlots.{extent-is}
 use Rattle.bx_view.specs.Cells.{HasCell, HasCells, IsEndCell, IsUnitCell, glyphs_of, mirrored, times}
 use Rattle.bx_view.specs.TextRows.{IsPlace, TextRow, no_text_row, row_at, row_of, text_row, text_rows}
-use Rattle.bx_view.proofs.Around.{from, own}
+use Rattle.bx_view.proofs.RowsAround.{from, own}
 use Rattle.bx_view.proofs.KeptPlaces.{HasLevels, one-at, counted-contains, rows-leveled}
 use Rattle.bx_view.proofs.Entered.{row-entered}
 use Rattle.bx_view.proofs.OneSlot.{in-own-row, one-slot, row-slots}

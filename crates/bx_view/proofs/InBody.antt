@@ -14,7 +14,7 @@ use Rattle.bx_paragraph.specs.BodyRows.{row_at as row_at_body, row_of as row_of_
 use Rattle.bx_view.specs.BodyPlaces.{body_places, place_in_body}
 use Rattle.bx_view.specs.Moves.{place_from}
 use Rattle.bx_view.specs.TextRows.{TextRow, first, no_text_row, places, places_of, row_at, row_of, text_row}
-use Rattle.bx_view.proofs.Around.{BodyFirsts, firsts-moved, own-rank, own-within}
+use Rattle.bx_view.proofs.RowsAround.{BodyFirsts, firsts-moved, own-rank, own-within}
 use Rattle.bx_view.proofs.BodyFirsts.{body-firsts, starts_of}
 use Rattle.bx_view.proofs.FindPlaces.{from-here, from-last, from-next}
 use Rattle.bx_view.proofs.LeastPlace.{least, least_below}

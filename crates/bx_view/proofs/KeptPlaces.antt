@@ -23,7 +23,7 @@ use Rattle.bx_view.specs.Cells.{times}
 use Rattle.bx_view.specs.Laws.{MovesKeep}
 use Rattle.bx_view.specs.Places.{IsTextPlace}
 use Rattle.bx_view.specs.TextRows.{TextRow, IsPlace, first, places, places_of, text_row, text_rows}
-use Rattle.bx_view.proofs.Around.{from, own}
+use Rattle.bx_view.proofs.RowsAround.{from, own}
 use Rattle.bx_view.proofs.KeptMoves.{moves-keep}
 use Rattle.bx_view.proofs.Rising.{rank-few}
 use Rattle.bx_view.proofs.StopPlaces.{ends-lie}

@@ -12,7 +12,8 @@ use Rattle.bx_view.specs.Holding.{Keeps, ViewState}
 use Rattle.bx_view.specs.Moves.{row_away}
 use Rattle.bx_view.specs.TextRows.{TextRow, first, row_at, row_of}
 use Rattle.bx_view.proofs.Nearest.{falls-within}
-use Rattle.bx_view.proofs.Told.{rows-kept, side-some}
+use Rattle.bx_paragraph.proofs.Starts.{side-some}
+use Rattle.bx_view.proofs.HeldRows.{rows-kept}
 use Rattle.bx_view.proofs.Walking.{firsts-rise, row-within}
 
 pub away-within : (count : ℕ) (way : Vertical) (n k : ℕ) → k < count → row_away count way n k < count
@@ -36,9 +37,9 @@ module _ (says : Data) (old v : ViewState) (text : List ℕ) (place : ℕ) (at :
       let within = row-within says v.base v.w (side-some v.w on.side) text utf8 at.paragraph at.row own on.is in
       falls-within rows place (omega (arith, within, ap length (rows-kept says old v text keeps)))
 
-  pub own-told : (o : ℕ) → o ≡ first (row_at (rows_by says v text) (row_of (rows_by says v text) place))
+  pub own-first : (o : ℕ) → o ≡ first (row_at (rows_by says v text) (row_of (rows_by says v text) place))
       → o ≡ first (row_at rows (row_of rows place))
-  own-told o e = e ∙ ap (λ rs. first (row_at rs (row_of rs place))) (rows-kept says old v text keeps)
+  own-first o e = e ∙ ap (λ rs. first (row_at rs (row_of rs place))) (rows-kept says old v text keeps)
 
   -- where the row of the place begins, by a later state
   pub begins-kept : (later : ViewState) → Keeps says old later → (o : ℕ)
@@ -47,10 +48,10 @@ module _ (says : Data) (old v : ViewState) (text : List ℕ) (place : ℕ) (at :
   begins-kept later further o e =
       let same = rows-kept says old later text further in
       let within = own-within in
-      (omega (arith, within, ap length same), own-told o e ∙ ap (λ rs. first (row_at rs (row_of rows place))) (sym same))
+      (omega (arith, within, ap length same), own-first o e ∙ ap (λ rs. first (row_at rs (row_of rows place))) (sym same))
 
   -- of a row that is found later
-  pub far-told : {A : Type 0} (later : ViewState) → Keeps says old later → (F : TextRow → A) (number : List TextRow → ℕ)
+  pub far-row : {A : Type 0} (later : ViewState) → Keeps says old later → (F : TextRow → A) (number : List TextRow → ℕ)
       → F (row_at (rows_by says later text) (number (rows_by says v text))) ≡ F (row_at rows (number rows))
-  far-told later further F number =
+  far-row later further F number =
       ap₂ (λ a b. F (row_at a (number b))) (rows-kept says old later text further) (rows-kept says old v text keeps)

@@ -20,7 +20,7 @@ use Rattle.bx_paras.proofs.Turns.{total_lengths}
 use Rattle.bx_paragraph.specs.BodyRows.{BodyRow, first_of, last_offset, offsets_of}
 use Rattle.bx_view.specs.Moves.{place_from}
 use Rattle.bx_view.specs.TextRows.{TextRow, places, places_of, rows_from, text_row, text_rows}
-use Rattle.bx_view.proofs.Around.{from-append, own}
+use Rattle.bx_view.proofs.RowsAround.{from-append, own}
 use Rattle.bx_view.proofs.BodyFirsts.{body-firsts}
 use Rattle.bx_view.proofs.Parts.{AreUtf8, text-parts}
 use Rattle.bx_view.proofs.PlacesRise.{AllHeaded, body-headed, places-moved, places-rise}

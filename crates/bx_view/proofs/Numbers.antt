@@ -16,7 +16,7 @@ use Rattle.bx_paras.specs.Positions.{bytes_of, paragraph_of, spans, spans_from, 
 use Rattle.bx_paras.proofs.Asked.{span_at}
 use Rattle.bx_paras.proofs.Totals.{total_more}
 use Rattle.bx_view.specs.Standing.{body_at, count, paragraph_at, start_at}
-use Rattle.bx_view.proofs.Around.{EndsBefore, IsAmong, behind-utf8}
+use Rattle.bx_view.proofs.RowsAround.{EndsBefore, IsAmong, behind-utf8}
 use Rattle.bx_view.proofs.Parts.{AreUtf8, bytes, text-bytes, text-parts}
 
 -- ---- the bytes of paragraphs
@@ -128,10 +128,10 @@ module _ (says : Data) (text : List ℕ) where
         → (a ≡ start_at says text n) × (b ≡ start_at says text n + length (body_at says text n))
     span-is a b e =
         let start = start_at says text n in
-        let told : slice_get (spans (lengths says text)) n ≡ Some (start, start + (get_or (lengths says text) n (lengths_of (bare []))).body) =
+        let here-span : slice_get (spans (lengths says text)) n ≡ Some (start, start + (get_or (lengths says text) n (lengths_of (bare []))).body) =
         span_at 0 n (lengths says text) (lengths_of (bare [])) (omega (arith, within, lengths-count))
         ∙ ap (λ s. Some (s, s + (get_or (lengths says text) n (lengths_of (bare []))).body)) (omega arith) in
-        pair-of a b start (start + length here.body) (sym e ∙ told ∙ ap (λ (l : Lengths). Some (start, start + l.body)) here-length)
+        pair-of a b start (start + length here.body) (sym e ∙ here-span ∙ ap (λ (l : Lengths). Some (start, start + l.body)) here-length)
 
     -- ---- its bytes
 
@@ -221,20 +221,20 @@ pub record IsSpan (says : Data) (text : List ℕ) (n a b : ℕ) : Type 0 where
   pub order : a ≤ b
   pub within : b ≤ length text
 
-pub span-told : (says : Data) (text : List ℕ) (ls : List Lengths) (n a b : ℕ) → IsUtf8 text → n < count says text → ls ≡ lengths says text
+pub paragraph-span : (says : Data) (text : List ℕ) (ls : List Lengths) (n a b : ℕ) → IsUtf8 text → n < count says text → ls ≡ lengths says text
     → ◌≡◌ {A = Option (ℕ × ℕ)} (slice_get (spans ls) n) (Some (a, b)) → IsSpan says text n a b
-span-told says text ls n a b utf8 within same e =
-    let told = span-is says text n within a b (ap (λ ks. slice_get (spans ks) n) (sym same) ∙ e) in
+paragraph-span says text ls n a b utf8 within same e =
+    let found = span-is says text n within a b (ap (λ ks. slice_get (spans ks) n) (sym same) ∙ e) in
     let stop = start_at says text n + length (body_at says text n) in
     let range : IsRange text (start_at says text n) stop = body-range says text n within utf8 in
     let bounds : IsCharBoundary text stop = range.stop_bounds in
     let inside : stop ≤ length text = bounds.0 in
     record {
-      start = told.0;
-      body = ap (λ k. slice_range text k b) told.0 ∙ ap (slice_range text (start_at says text n)) told.1 ∙ body-is says text n within utf8;
-      range = subst (IsRange text a) (sym told.1) (subst (λ k. IsRange text k stop) (sym told.0) range);
-      order = omega (arith, told.0, told.1);
-      within = omega (arith, told.1, inside);
+      start = found.0;
+      body = ap (λ k. slice_range text k b) found.0 ∙ ap (slice_range text (start_at says text n)) found.1 ∙ body-is says text n within utf8;
+      range = subst (IsRange text a) (sym found.1) (subst (λ k. IsRange text k stop) (sym found.0) range);
+      order = omega (arith, found.0, found.1);
+      within = omega (arith, found.1, inside);
     }
 
 -- the span of the paragraph that an offset falls in
@@ -243,9 +243,9 @@ pub record IsUnder (says : Data) (text : List ℕ) (offset n a b : ℕ) : Type 0
   pub span : IsSpan says text n a b
   pub before : a ≤ offset
 
-pub under-told : (says : Data) (text : List ℕ) (ls : List Lengths) (offset n a b : ℕ) → IsUtf8 text → ls ≡ lengths says text
+pub paragraph-under : (says : Data) (text : List ℕ) (ls : List Lengths) (offset n a b : ℕ) → IsUtf8 text → ls ≡ lengths says text
     → n ≡ paragraph_of ls offset → ◌≡◌ {A = Option (ℕ × ℕ)} (slice_get (spans ls) n) (Some (a, b)) → IsUnder says text offset n a b
-under-told says text ls offset n a b utf8 same number e =
+paragraph-under says text ls offset n a b utf8 same number e =
     let falls = falls-at says text offset n utf8 (number ∙ ap (λ ks. paragraph_of ks offset) same) in
-    let span = span-told says text ls n a b utf8 falls.within same e in
+    let span = paragraph-span says text ls n a b utf8 falls.within same e in
     record { there = falls.within; span = span; before = omega (arith, falls.order, span.start) }

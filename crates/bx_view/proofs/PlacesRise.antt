@@ -19,7 +19,7 @@ use Rattle.bx_paras.specs.Positions.{bytes_of, total}
 use Rattle.bx_paragraph.specs.BodyRows.{BodyRow, body_rows, first_of, offsets_of, row_with, rows_units, with_last}
 use Rattle.bx_paragraph.proofs.Starts.{AllFit, some-unit, units-fit}
 use Rattle.bx_view.specs.TextRows.{TextRow, first, places, places_of, text_row, text_rows}
-use Rattle.bx_view.proofs.Around.{from, own}
+use Rattle.bx_view.proofs.RowsAround.{from, own}
 use Rattle.bx_view.proofs.BodyFirsts.{next-units, none-in, starts_of, units-before}
 use Rattle.bx_view.proofs.Numbers.{bytes-length}
 use Rattle.bx_view.proofs.Parts.{AreEnded, AreUtf8, text-bytes, text-parts}

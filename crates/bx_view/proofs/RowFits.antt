@@ -15,7 +15,7 @@ use Rattle.bx_paras.specs.Paragraphs.{Paragraph, lengths_of, paragraphs}
 use Rattle.bx_paras.specs.Positions.{bytes_of}
 use Rattle.bx_paragraph.specs.BodyRows.{BodyRow, body_rows, row_with, rows_units, with_last}
 use Rattle.bx_view.specs.TextRows.{TextRow, no_text_row, row_at, text_row, text_row_glyphs, text_rows}
-use Rattle.bx_view.proofs.Around.{from, own}
+use Rattle.bx_view.proofs.RowsAround.{from, own}
 use Rattle.bx_view.proofs.GlyphCells.{rows-faced}
 use Rattle.bx_view.proofs.KeptPlaces.{rows-leveled}
 

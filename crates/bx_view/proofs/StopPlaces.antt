@@ -13,7 +13,7 @@ use Rattle.bx_view.specs.declared.moves.Logical.{Logical}
 use Rattle.bx_view.specs.declared.moves.Logical.TheVariants.{Back, Forward}
 use Rattle.bx_view.specs.TextRows.{TextRow, places, text_row, text_rows}
 use Rattle.bx_view.specs.Words.{body_stops, is_of_word, stops_from, word_starts}
-use Rattle.bx_view.proofs.Around.{from, own}
+use Rattle.bx_view.proofs.RowsAround.{from, own}
 use Rattle.bx_view.proofs.BodyFirsts.{none-in, starts_of}
 use Rattle.bx_view.proofs.KeptMoves.{EndsLie}
 use Rattle.bx_view.proofs.Parts.{AreUtf8, text-parts}

@@ -21,7 +21,7 @@ use Rattle.bx_paras.proofs.Cuts.{width_is_some}
 use Rattle.bx_view.specs.Laws.{SpansText}
 use Rattle.bx_view.specs.Places.{IsTextPlace, boundaries, one_piece, pieces, pieces_of, text_places}
 use Rattle.bx_view.specs.TextRows.{IsPlace, TextRow, places, text_row, text_rows}
-use Rattle.bx_view.proofs.Around.{from, own}
+use Rattle.bx_view.proofs.RowsAround.{from, own}
 use Rattle.bx_view.proofs.BodyFirsts.{starts_of}
 use Rattle.bx_view.proofs.Boundaries.{places-bound}
 use Rattle.bx_view.proofs.Parts.{AreEnded, AreUtf8, bytes, cut-lf, text-bytes, text-parts}

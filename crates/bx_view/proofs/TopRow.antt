@@ -10,7 +10,8 @@ use Rattle.bx_view.specs.Holding.{Keeps, ViewState}
 use Rattle.bx_view.specs.TextRows.{first, row_at}
 use Rattle.bx_view.specs.Top.{nearest_top}
 use Rattle.bx_view.proofs.Nearest.{no-later, not-after}
-use Rattle.bx_view.proofs.Told.{rows-kept, side-some}
+use Rattle.bx_paragraph.proofs.Starts.{side-some}
+use Rattle.bx_view.proofs.HeldRows.{rows-kept}
 use Rattle.bx_view.proofs.Walking.{firsts-rise, row-within}
 
 -- the old top, where the row `a` above the cursor's is at it or above it; but for the cursor's own row, none that was passed is above the old top

@@ -14,8 +14,8 @@ use Rattle.bx_paragraph.specs.BodyRows.{row_at as row_at_body, row_of as row_of_
 use Rattle.bx_paragraph.specs.Slots.{column_of}
 use Rattle.bx_view.specs.Standing.{IsRow, body_at, count, paragraph_at, rows_ahead, rows_in, start_at}
 use Rattle.bx_view.specs.TextRows.{TextRow, cell_of, first, no_text_row, row_at, row_of, text_row, text_rows}
-use Rattle.bx_view.proofs.Around.{BodyFirsts, all-rise, rank-around, count-around, from, from-append, own, own-rank, own-some, own-within, row-falls}
-use Rattle.bx_view.proofs.Around.{row-there}
+use Rattle.bx_view.proofs.RowsAround.{BodyFirsts, all-rise, rank-around, count-around, from, from-append, own, own-rank, own-some, own-within, row-falls}
+use Rattle.bx_view.proofs.RowsAround.{row-there}
 use Rattle.bx_view.proofs.BodyFirsts.{body-firsts}
 use Rattle.bx_view.proofs.Numbers.{ahead, among, behind, body-range, body-utf8, falls-at, here, parts-at}
 use Rattle.bx_view.proofs.Parts.{AreEnded, AreUtf8, text-parts}

@@ -10,10 +10,9 @@ use Rattle.bx_rows.specs.RowStarts.{first_offset, start_of}
 use Rattle.bx_rows.specs.Wrapping.{wrap}
 use Rattle.bx_paragraph.specs.BodyRows.{BodyRow, first_of, no_row, row_at, row_of}
 use Rattle.bx_paragraph.specs.Layout.{IsLayoutBy, LayoutState, rows_by}
-use Rattle.bx_paragraph.proofs.Starts.{first_is}
+use Rattle.bx_paragraph.proofs.Starts.{first_is, side-some}
 use Rattle.bx_view.proofs.BodyFirsts.{body-firsts}
 use Rattle.bx_view.proofs.Rising.{Rises, rank, rank-first, rank-here}
-use Rattle.bx_view.proofs.Told.{side-some}
 use Rattle.bx_view.proofs.WordParts.{IsPart, part-at}
 
 module _ (says : Data) (l : LayoutState) (is : IsLayoutBy says l) (side : is_side l.w ≡ true) (utf8 : IsUtf8 l.body) (k start : ℕ)

@@ -8,7 +8,7 @@ ghost use Rattle.bx_view.specs.FoundRow.{IsSameAtEnd};
 ghost use Rattle.bx_view.specs.Holding.{HoldsBody};
 ghost use Rattle.bx_view.specs.Moves.{row_home};
 ghost use Rattle.bx_view.specs.Source.{IsAlong, IsBefore, IsNext, IsOfText, IsViewBy, Keeps, Stands, StandsOn, body_at, bytes, rows};
-ghost use Rattle.bx_view.specs.TextRows.{cell_of, row_of};
+ghost use Rattle.bx_view.specs.TextRows.{row_of};
 
 use crate::error::ViewError;
 use crate::holder::{held_limit, hold, lay_out_in, position};
@@ -187,6 +187,16 @@ impl Layout {
         })
     }
 
+    /// A walk over the text's paragraphs, at the one of a row.
+    pub fn walk_from<'a, D: BidiData>(&self, source: &Source<'a, D>, at: RowAt) -> ParagraphWalk<'a>
+        requires row { Stands source.now self.now at }
+        ensures { IsAlong source.now result at }
+    {
+        // used by the contract alone
+        let _ = self;
+        source.index.walk_at(at.paragraph, at.start)
+    }
+
     /// The row after `at`, if there is one.
     ///
     /// Errors: `OutOfMemory`.
@@ -204,13 +214,15 @@ impl Layout {
         if at.row + 1 < rows {
             return Ok(Some(below(at)));
         }
-        let mut walk = source.index.walk_at(at.paragraph, at.start);
+        let mut walk = self.walk_from(source, at);
         let next = self.next_row_along(source, &mut walk, at)?;
         Ok(next)
     }
 
     /// The row after `at`, if there is one, for many steps in turn: the walk is at the paragraph of `at`, and goes along.
-    pub(crate) fn next_row_along<D: BidiData>(
+    ///
+    /// Errors: `OutOfMemory`.
+    pub fn next_row_along<D: BidiData>(
         &mut self,
         source: &Source<'_, D>,
         walk: &mut ParagraphWalk<'_>,
@@ -257,7 +269,7 @@ impl Layout {
         if at.row > 0 {
             return Ok(Some(above(at)));
         }
-        let mut walk = source.index.walk_at(at.paragraph, at.start);
+        let mut walk = self.walk_from(source, at);
         let before = self.row_before_along(source, &mut walk, at)?;
         Ok(before)
     }
@@ -328,23 +340,6 @@ impl Layout {
             row,
             held,
         })
-    }
-
-    /// The column, from 1, of the cell of a place.
-    ///
-    /// Errors: `OutOfMemory`.
-    pub fn cell_of<D: BidiData>(
-        &mut self,
-        source: &Source<'_, D>,
-        place: usize,
-    ) -> Result<u16, ViewError>
-        requires data { IsViewBy source.now self.old }
-        ensures keeps { Keeps source.now self.old self.new }
-        ensures cell { IfOk result (λ column. column ≡ cell_of self.old.w (rows source.now self.old) place) }
-    {
-        let at = self.row_at(source, place)?;
-        let position = self.position(source, at, place)?;
-        Ok(position.column)
     }
 
     /// The first offset of the row that a place falls in.

@@ -1,10 +1,9 @@
 //! The top visible row, and a place among the visible rows.
 ghost use Rattle.std.specs.Prelude.{◌≡◌, ℕ, ◌+◌, ◌<◌, IfOk};
-ghost use Rattle.std.specs.Str.{IsCharBoundary};
 ghost use Rattle.bx_view.specs.Position.{IsPosition};
 ghost use Rattle.bx_view.specs.Source.{BeginsAt, IsViewBy, Keeps, Stands, StandsOn, bytes, rows};
 ghost use Rattle.bx_view.specs.TextRows.{row_of};
-ghost use Rattle.bx_view.specs.Top.{follow, nearest_top};
+ghost use Rattle.bx_view.specs.Top.{nearest_top};
 
 use crate::error::ViewError;
 use crate::layout::Layout;
@@ -43,7 +42,7 @@ impl Layout {
             → IfOk result (λ r. nearest_top k n t + r.1 ≡ n) }
         ensures few { IfOk result (λ r. r.1 < t) }
     {
-        let mut walk = source.index.walk_at(at.paragraph, at.start);
+        let mut walk = self.walk_from(source, at);
         let mut here = at;
         let mut above = 0;
         while above + 1 < t {
@@ -91,26 +90,5 @@ impl Layout {
             above,
             position,
         })
-    }
-
-    /// The offset of the top row after scrolling `t` visible rows, from the row of the offset `top`, by the fewest rows that
-    /// make the row of `place` visible.
-    ///
-    /// Errors: `OutOfMemory`.
-    pub fn follow<D: BidiData>(
-        &mut self,
-        source: &Source<'_, D>,
-        top: usize,
-        place: usize,
-        t: usize,
-    ) -> Result<usize, ViewError>
-        requires data { IsViewBy source.now self.old }
-        requires some { 0 < t }
-        ensures keeps { Keeps source.now self.old self.new }
-        ensures top { IfOk result (λ o. o ≡ follow (rows source.now self.old) top place t) }
-        ensures boundary { IfOk result (λ o. IsCharBoundary (bytes source.now) o) }
-    {
-        let located = self.locate(source, top, place, t)?;
-        Ok(self.first_in(source, located.top))
     }
 }

@@ -22,7 +22,7 @@ impl Layout {
         ensures keeps { Keeps source.now self.old self.new }
         ensures row { (n : ℕ) → StandsOn source.now self.old at n → IfOk result (λ b. StandsOn source.now self.new b (n - count)) }
     {
-        let mut walk = source.index.walk_at(at.paragraph, at.start);
+        let mut walk = self.walk_from(source, at);
         let mut here = at;
         let mut done = 0;
         while done < count {
@@ -47,7 +47,7 @@ impl Layout {
         ensures row { (n : ℕ) → StandsOn source.now self.old at n
             → IfOk result (λ b. StandsOn source.now self.new b (min (n + count) (length (rows source.now self.old) - 1))) }
     {
-        let mut walk = source.index.walk_at(at.paragraph, at.start);
+        let mut walk = self.walk_from(source, at);
         let mut here = at;
         let mut done = 0;
         while done < count {

@@ -41,7 +41,7 @@ impl Layout {
             + unwrap_or (find (nat_le 0) (body_words (D.data source.now.tables.now) (body_at source.now (at.paragraph + 1))))
             (length (body_at source.now (at.paragraph + 1)))))) }
     {
-        let mut walk = source.index.walk_at(at.paragraph, at.start);
+        let mut walk = self.walk_from(source, at);
         if !walk.to_next() {
             return Ok(None);
         }
@@ -69,7 +69,7 @@ impl Layout {
             + unwrap_or (find (λ o. nat_lt o (place - start_at source.now (at.paragraph - 1)))
             (reverse (body_words (D.data source.now.tables.now) (body_at source.now (at.paragraph - 1))))) 0))) }
     {
-        let mut walk = source.index.walk_at(at.paragraph, at.start);
+        let mut walk = self.walk_from(source, at);
         if !walk.to_previous() {
             return Ok(None);
         }

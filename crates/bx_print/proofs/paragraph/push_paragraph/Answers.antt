@@ -1,6 +1,6 @@
 use Rattle.std.proofs.Common.{◌≡◌, ◌++◌, ◌∙◌, OnOk, ap, subst}
 use Rattle.bx_print.specs.BodyLines.{body_lines}
-use Rattle.bx_view.proofs.Numbers.{span-told}
+use Rattle.bx_view.proofs.Numbers.{paragraph-span}
 use Rattle.bx_view.specs.Standing.{body_at}
 use Rattle.bx_print.proofs.paragraph.push_paragraph.Goals as goal
 
@@ -11,10 +11,10 @@ returns-clause-lines g c =
     let l = c.in_ok-layout.layout in
     let style = c.args.style in
     let lines = body_lines says style.marks in
-    let told = c.in_ok-layout.ensures in
-    let span = span-told says text c.args.source.now.index.now.paragraphs c.args.number c.span-start.result.0 c.span-start.result.1 c.args.source.now.utf8
+    let laid = c.in_ok-layout.ensures in
+    let span = paragraph-span says text c.args.source.now.index.now.paragraphs c.args.number c.span-start.result.0 c.span-start.result.1 c.args.source.now.utf8
     c.requires.number c.args.source.now.indexed c.span-start.ensures in
     let same : lines l.base l.w l.body ≡ lines style.base style.columns (body_at says text c.args.number) =
-    ap (λ b. lines b l.w l.body) told.base ∙ ap (λ w. lines style.base w l.body) told.w
-    ∙ ap (lines style.base style.columns) (told.body ∙ c.in_ok-body.ensures.bytes ∙ span.body) in
+    ap (λ b. lines b l.w l.body) laid.base ∙ ap (λ w. lines style.base w l.body) laid.w
+    ∙ ap (lines style.base style.columns) (laid.body ∙ c.in_ok-body.ensures.bytes ∙ span.body) in
     subst (λ bs. OnOk c.push_rows.result (c.push_rows.new.page.items ≡ c.args.page.now.items ++ bs)) same c.push_rows.ensures.lines

@@ -3,7 +3,7 @@ use Rattle.bx_paragraph.specs.Layout.{rows_by}
 use Rattle.bx_terms.specs.Sizes.{is_side}
 use Rattle.std.proofs.Common.{IsUtf8, true}
 use Rattle.bx_view.proofs.InBody.{place-here, place-last, place-next, place-within}
-use Rattle.bx_view.proofs.Told.{side-some}
+use Rattle.bx_paragraph.proofs.Starts.{side-some}
 use Rattle.bx_view.proofs.edited.place_in_body.Goals as goal
 
 pub returns-in-Some-clause-place : goal.returns-in-Some-clause-place

@@ -1,5 +1,5 @@
 use Rattle.bx_view.proofs.LeastMove.{text-moves-least}
-use Rattle.bx_view.proofs.Told.{side-some}
+use Rattle.bx_paragraph.proofs.Starts.{side-some}
 use Rattle.bx_view.proofs.laws.follow_is_least.Goals as goal
 
 pub returns : goal.returns

@@ -1,5 +1,5 @@
 use Rattle.bx_view.proofs.KeptPlaces.{text-places-kept}
-use Rattle.bx_view.proofs.Told.{side-some}
+use Rattle.bx_paragraph.proofs.Starts.{side-some}
 use Rattle.bx_view.proofs.laws.moves_keep_places.Goals as goal
 
 pub returns : goal.returns

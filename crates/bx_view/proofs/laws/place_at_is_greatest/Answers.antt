@@ -1,5 +1,5 @@
 use Rattle.bx_view.proofs.GreatestPlace.{greatest-place}
-use Rattle.bx_view.proofs.Told.{side-some}
+use Rattle.bx_paragraph.proofs.Starts.{side-some}
 use Rattle.bx_view.proofs.laws.place_at_is_greatest.Goals as goal
 
 pub returns : goal.returns

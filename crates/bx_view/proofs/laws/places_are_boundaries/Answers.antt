@@ -1,5 +1,5 @@
 use Rattle.bx_view.proofs.TextPlaces.{places-are, places-span}
-use Rattle.bx_view.proofs.Told.{side-some}
+use Rattle.bx_paragraph.proofs.Starts.{side-some}
 use Rattle.bx_view.proofs.laws.places_are_boundaries.Goals as goal
 
 pub returns-clause-rows : goal.returns-clause-rows

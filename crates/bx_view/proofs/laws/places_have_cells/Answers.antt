@@ -1,5 +1,5 @@
 use Rattle.bx_view.proofs.GlyphCells.{has-cells}
-use Rattle.bx_view.proofs.Told.{side-some}
+use Rattle.bx_paragraph.proofs.Starts.{side-some}
 use Rattle.bx_view.proofs.laws.places_have_cells.Goals as goal
 
 pub returns : goal.returns

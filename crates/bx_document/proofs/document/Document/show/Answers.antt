@@ -4,7 +4,7 @@ use Rattle.bx_view.specs.Position.{IsPosition}
 use Rattle.bx_view.specs.FoundRow.{rows_by}
 use Rattle.bx_view.specs.Top.{follow, shown_rows}
 use Rattle.bx_view.proofs.Beyond.{keeps-then}
-use Rattle.bx_view.proofs.Told.{side-some}
+use Rattle.bx_paragraph.proofs.Starts.{side-some}
 use Rattle.bx_document.specs.Document.{rows}
 use Rattle.bx_document.specs.Drawing.{IsAmong, rows_columns}
 use Rattle.bx_document.specs.Shown.{rows_above, shown_columns}

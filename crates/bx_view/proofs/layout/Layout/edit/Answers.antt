@@ -4,7 +4,7 @@ use Rattle.bx_terms.specs.Sizes.{is_side}
 use Rattle.bx_view.specs.Holding.{HasBody}
 use Rattle.bx_view.specs.Standing.{body_at}
 use Rattle.bx_view.proofs.Cutting.{none_found}
-use Rattle.bx_view.proofs.EditedPlace.{held_at, inner_of, place_told, splice_most}
+use Rattle.bx_view.proofs.EditedPlace.{held_at, inner_of, edited_place, splice_most}
 use Rattle.bx_view.proofs.layout.Layout.edit.Goals as goal
 
 pub edit_in-requires-clause-within : goal.edit_in-requires-clause-within
@@ -94,7 +94,7 @@ returns-clause-place g c =
     let further : c.args.start ≤ c.args.stop = search rules in
     let none = none_found says (chars c.args.new.now) (sym c.has_separator.ensures ∙ c.if-has_separator.false) in
     let inside : c.is_after_begin.result ≡ true = search rules in
-    place_told says c.args.self.now text c.args.source.now.utf8 c.paragraph_under-first.result.0 c.paragraph_under-first.ensures.there
+    edited_place says c.args.self.now text c.args.source.now.utf8 c.paragraph_under-first.result.0 c.paragraph_under-first.ensures.there
     first c.args.start c.args.stop c.args.new.now c.utf8.new l c.in_ok-place.place (c.args.start - first + length c.args.new.now)
     c.paragraph_under-first.ensures.start c.paragraph_under-first.ensures.order further range none
     (inner_of first c.args.start (sym c.is_after_begin.ensures ∙ inside)) side

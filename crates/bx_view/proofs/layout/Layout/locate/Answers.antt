@@ -4,7 +4,7 @@ use Rattle.bx_view.specs.TextRows.{row_of}
 use Rattle.bx_view.specs.Top.{nearest_top}
 use Rattle.bx_view.proofs.Beyond.{keeps-then}
 use Rattle.bx_view.proofs.KeptRows.{begins-kept}
-use Rattle.bx_view.proofs.Told.{rows-kept}
+use Rattle.bx_view.proofs.HeldRows.{rows-kept}
 use Rattle.bx_view.proofs.layout.Layout.locate.Goals as goal
 
 pub returns-clause-top : goal.returns-clause-top

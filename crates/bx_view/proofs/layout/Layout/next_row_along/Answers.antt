@@ -1,8 +1,8 @@
 use Rattle.std.proofs.Common.{◌≡◌, ◌≤◌, ◌+◌, ◌∙◌, ap, false, length, refl, sym, true, arith, rules}
 use Rattle.bx_view.specs.Standing.{count, start_at}
 use Rattle.bx_view.proofs.Numbers.{lengths-count}
-use Rattle.bx_view.proofs.Told.{next-nowhere, next-there}
-use Rattle.bx_view.proofs.Walked.{next-inside, next-number, no-next}
+use Rattle.bx_view.proofs.HeldRows.{next-nowhere, next-there}
+use Rattle.bx_view.proofs.WalkSteps.{next-inside, next-number, no-next}
 use Rattle.bx_view.proofs.layout.Layout.next_row_along.Goals as goal
 
 pub returns-then-not-to_next-clause-next : goal.returns-then-not-to_next-clause-next

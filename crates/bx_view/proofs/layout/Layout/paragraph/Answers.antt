@@ -1,6 +1,6 @@
 use Rattle.std.proofs.Common.{◌≡◌, ◌∙◌, ap, get_or, subst, true}
 use Rattle.bx_terms.specs.Sizes.{is_side}
-use Rattle.bx_view.proofs.Told.{of-text}
+use Rattle.bx_view.proofs.HeldRows.{of-text}
 use Rattle.bx_view.proofs.layout.Layout.paragraph.Goals as goal
 
 pub returns : goal.returns

@@ -3,7 +3,7 @@ use Rattle.bx_view.specs.FoundRow.{rows_by}
 use Rattle.bx_view.specs.TextRows.{row_of}
 use Rattle.bx_view.proofs.Boundaries.{bounds-kept}
 use Rattle.bx_view.proofs.KeptRows.{side-kept}
-use Rattle.bx_view.proofs.StepsTold.{greatest-here}
+use Rattle.bx_view.proofs.StepPlaces.{greatest-here}
 use Rattle.bx_view.proofs.layout.Layout.place_at.Goals as goal
 
 pub returns-clause-place : goal.returns-clause-place

@@ -1,7 +1,7 @@
 use Rattle.std.proofs.Common.{◌+◌, ◌∙◌, ap, arith, refl}
 use Rattle.bx_view.specs.Holding.{Keeps}
-use Rattle.bx_view.proofs.Told.{cell-told, row-counted, row-own}
-use Rattle.bx_view.proofs.UnitNumbers.{number-short, number-told}
+use Rattle.bx_view.proofs.HeldRows.{cell-in-text, row-counted, row-own}
+use Rattle.bx_view.proofs.UnitNumbers.{number-short, number-counted}
 use Rattle.bx_view.proofs.layout.Layout.position.Goals as goal
 
 pub overflow_add-result-2 : goal.overflow_add-result-2
@@ -40,10 +40,10 @@ returns g c =
     let is = c.paragraph-paragraph.ensures in
     let on = c.requires.row in
     let keeps : Keeps says v v = record { base = refl; w = refl; held = on.by } in
-    let told = number-told says v text c.args.place c.args.at.paragraph c.args.at.start l utf8 c.requires.paragraph on.start_is is
+    let counted = number-counted says v text c.args.place c.args.at.paragraph c.args.at.start l utf8 c.requires.paragraph on.start_is is
     c.args.at.row (row-counted says v text c.args.at _ l utf8 on is) (row-own says v text c.args.place c.args.at l utf8 c.requires.paragraph on is) in
     record {
-      column = cell-told says v v text c.args.place c.args.at l keeps utf8 on is _ c.in_ok-standing.ensures.column;
+      column = cell-in-text says v v text c.args.place c.args.at l keeps utf8 on is _ c.in_ok-standing.ensures.column;
       paragraph = ap (λ k. k + 1) c.requires.paragraph;
-      unit = omega (arith, c.units_ahead.ensures, c.in_ok-standing.ensures.units) ∙ told;
+      unit = omega (arith, c.units_ahead.ensures, c.in_ok-standing.ensures.units) ∙ counted;
     }

@@ -1,7 +1,7 @@
 use Rattle.std.proofs.Common.{◌≡◌, ◌∙◌, ap, false, refl, sym, true, arith, rules}
 use Rattle.bx_view.specs.Standing.{rows_ahead, start_at}
-use Rattle.bx_view.proofs.Told.{before-there}
-use Rattle.bx_view.proofs.Walked.{no-previous, previous-number}
+use Rattle.bx_view.proofs.HeldRows.{before-there}
+use Rattle.bx_view.proofs.WalkSteps.{no-previous, previous-number}
 use Rattle.bx_view.proofs.layout.Layout.row_before_along.Goals as goal
 
 pub returns-then-not-to_previous-clause-before : goal.returns-then-not-to_previous-clause-before

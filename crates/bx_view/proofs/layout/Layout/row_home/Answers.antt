@@ -1,7 +1,7 @@
 use Rattle.std.proofs.Common.{◌≡◌, ◌+◌, ◌≤◌, length, arith}
 use Rattle.bx_paragraph.specs.BodyRows.{first_of}
 use Rattle.bx_paragraph.specs.Layout.{row_by}
-use Rattle.bx_view.proofs.Told.{first-fits, home-told}
+use Rattle.bx_view.proofs.HeldRows.{first-fits, home-in-text}
 use Rattle.bx_view.proofs.layout.Layout.row_home.Goals as goal
 
 pub overflow_add-result : goal.overflow_add-result
@@ -18,6 +18,6 @@ overflow_add-result g c =
 pub returns-clause-home : goal.returns-clause-home
 returns-clause-home g c =
     let says = g.D.BidiData.data c.args.source.now.tables.now in
-    home-told says c.args.self.now c.row_at.new.self c.args.source.now.text.now.edited.text c.args.place c.in_ok-at.at c.paragraph-paragraph.result.now
+    home-in-text says c.args.self.now c.row_at.new.self c.args.source.now.text.now.edited.text c.args.place c.in_ok-at.at c.paragraph-paragraph.result.now
     c.row_at.ensures.keeps c.args.source.now.utf8 c.in_ok-at.ensures.row c.paragraph-paragraph.ensures c.first.result
     (c.first.ensures says c.paragraph-paragraph.ensures.by)

@@ -1,7 +1,7 @@
 use Rattle.std.proofs.Common.{subst, sym}
 use Rattle.bx_view.specs.Holding.{HoldsBody}
 use Rattle.bx_view.specs.Standing.{body_at}
-use Rattle.bx_view.proofs.Told.{stands}
+use Rattle.bx_view.proofs.HeldRows.{stands}
 use Rattle.bx_view.proofs.layout.Layout.row_near.Goals as goal
 
 pub returns-then-number-at-clause-row : goal.returns-then-number-at-clause-row

@@ -1,5 +1,5 @@
 use Rattle.std.proofs.Common.{◌⊎◌, inl, inr, ◌∙◌, ◌-◌, ◌<◌, ◌≤◌, ap, arith, length}
-use Rattle.bx_view.proofs.PartsTold.{none-told, some-told}
+use Rattle.bx_view.proofs.PartSlots.{none-told, some-told}
 use Rattle.bx_view.proofs.layout.Layout.slots_in.Goals as goal
 use Rattle.bx_view.proofs.layout.Layout.slots_in.Goals.{then-start-stop-via-then-start-stop, then-start-stop-via-else-start-stop+then-body-start}
 

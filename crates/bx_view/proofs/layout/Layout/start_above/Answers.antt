@@ -1,7 +1,7 @@
-use Rattle.std.proofs.Common.{◌≡◌, ◌+◌, ◌-◌, ◌<◌, ◌≤◌, ◌∙◌, ap, length, subst, sym, true, arith, rules}
+use Rattle.std.proofs.Common.{◌≡◌, ◌+◌, ◌-◌, ◌<◌, ◌≤◌, ◌∙◌, ap, length, refl, subst, sym, true, arith, rules}
 use Rattle.bx_view.specs.Standing.{count, start_at}
-use Rattle.bx_view.proofs.Walked.{previous-number}
-use Rattle.bx_view.proofs.WordsTold.{start-order, start-short}
+use Rattle.bx_view.proofs.WalkSteps.{previous-number}
+use Rattle.bx_view.proofs.HeldStops.{start-order, start-short}
 use Rattle.bx_view.proofs.layout.Layout.start_above.Goals as goal
 
 pub overflow_sub-place : goal.overflow_sub-place
@@ -12,7 +12,8 @@ overflow_sub-place g c =
     let on = c.requires.row.1 in
     let went : c.to_previous.result ≡ true = search rules in
     let m = c.number-number.result in
-    let more = previous-number s.index.now.paragraphs c.args.at.paragraph c.walk_at-walk.result c.walk_at-walk.ensures c.to_previous.result m
+    let walk = c.walk_from-walk.result in
+    let more = sym c.walk_from-walk.ensures.1 ∙ previous-number walk.paragraphs walk.number walk refl c.to_previous.result m
     c.to_previous.ensures.there went (c.number-number.ensures.number ∙ c.to_previous.ensures.number) in
     let begins = c.current_span-start.ensures.start ∙ ap (start_at says text) (sym c.number-number.ensures.number) in
     let order = start-order says text c.args.at.paragraph m c.args.place more on.is.paragraph (subst (λ o. o ≤ c.args.place) on.start_is c.requires.order) in
@@ -27,7 +28,8 @@ overflow_add-result g c =
     let start = c.current_span-start.result.0 in
     let went : c.to_previous.result ≡ true = search rules in
     let m = c.number-number.result in
-    let more = previous-number s.index.now.paragraphs c.args.at.paragraph c.walk_at-walk.result c.walk_at-walk.ensures c.to_previous.result m
+    let walk = c.walk_from-walk.result in
+    let more = sym c.walk_from-walk.ensures.1 ∙ previous-number walk.paragraphs walk.number walk refl c.to_previous.result m
     c.to_previous.ensures.there went (c.number-number.ensures.number ∙ c.to_previous.ensures.number) in
     let begins = c.current_span-start.ensures.start ∙ ap (start_at says text) (sym c.number-number.ensures.number) in
     let within : m < count says text = omega (arith, more, on.is.paragraph) in

@@ -1,8 +1,7 @@
 use Rattle.std.proofs.Common.{◌+◌, ◌<◌, ◌≤◌, ◌∙◌, ap, length, nat_le, sym, arith}
 use Rattle.bx_view.specs.Standing.{count, start_at}
 use Rattle.bx_view.proofs.Numbers.{lengths-count}
-use Rattle.bx_view.proofs.Walked.{along-at}
-use Rattle.bx_view.proofs.WordsTold.{stop-short}
+use Rattle.bx_view.proofs.HeldStops.{stop-short}
 use Rattle.bx_view.proofs.layout.Layout.stop_below.Goals as goal
 
 pub overflow_add-result : goal.overflow_add-result
@@ -11,7 +10,7 @@ overflow_add-result g c =
     let says = g.D.BidiData.data s.tables.now in
     let text = s.text.now.edited.text in
     let n = c.number-number.result in
-    let all = ap length (c.to_next.ensures.paragraphs ∙ (along-at s.indexed c.walk_at-walk.ensures).0) ∙ lengths-count says text in
+    let all = ap length (c.to_next.ensures.paragraphs ∙ c.walk_from-walk.ensures.0) ∙ lengths-count says text in
     let within : n < count says text = omega (arith, c.number-number.ensures.inside, c.number-number.ensures.number, all) in
     let begins = c.current_span-start.ensures.start ∙ ap (start_at says text) (sym c.number-number.ensures.number) in
     let fits : c.current_span-start.result.0 + c.first_stop-first.result ≤ length text =

@@ -3,20 +3,9 @@ use Rattle.bx_view.specs.FoundRow.{IsBefore, StandsOn}
 use Rattle.bx_view.specs.Top.{nearest_top}
 use Rattle.bx_view.proofs.Beyond.{keeps-then}
 use Rattle.bx_view.proofs.TopRow.{at-or-above, behind-it, top-furthest, top-reached}
-use Rattle.bx_view.proofs.Walked.{along-at, at-begin, at-inside}
 use Rattle.bx_view.specs.Source.{IsAlong}
 use Rattle.std.specs.Prelude.{IfSome}
 use Rattle.bx_view.proofs.layout.Layout.top_above.Goals as goal
-
-pub walk_at-walk-requires-clause-inside : goal.walk_at-walk-requires-clause-inside
-walk_at-walk-requires-clause-inside g c =
-    let s = c.args.source.now in
-    at-inside (g.D.BidiData.data s.tables.now) s.text.now.edited.text s.index.now.paragraphs s.indexed c.args.at c.requires.row.1.is.paragraph
-
-pub walk_at-walk-requires-clause-begins : goal.walk_at-walk-requires-clause-begins
-walk_at-walk-requires-clause-begins g c =
-    let s = c.args.source.now in
-    at-begin (g.D.BidiData.data s.tables.now) s.text.now.edited.text s.index.now.paragraphs s.indexed c.args.at c.requires.row.1.start_is
 
 pub loop-above-init : goal.loop-above-init
 loop-above-init g c =
@@ -26,7 +15,7 @@ loop-above-init g c =
       keeps = record { base = refl; w = refl; held = c.requires.row.1.by };
       few = c.requires.some;
       row = c.requires.row;
-      along = along-at c.args.source.now.indexed c.walk_at-walk.ensures;
+      along = c.walk_from-walk.ensures;
       within = λ n on. omega arith;
       stands = λ n on. let e : n ≡ n - 0 = omega arith in subst (StandsOn says c.args.self.now text c.args.at) e on;
       behind = λ n k on begins some. absurd (omega (arith, some));

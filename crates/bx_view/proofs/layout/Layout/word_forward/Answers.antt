@@ -1,5 +1,5 @@
 use Rattle.std.proofs.Common.{◌+◌, ◌-◌, ◌<◌, ◌≤◌, ◌∙◌, ap, length, nat_lt, arith}
-use Rattle.bx_view.proofs.WordsTold.{below-told, forward-told, stop-short}
+use Rattle.bx_view.proofs.HeldStops.{stop-below, forward-stop, stop-short}
 use Rattle.bx_view.proofs.layout.Layout.word_forward.Goals as goal
 
 pub overflow_add-result : goal.overflow_add-result
@@ -19,7 +19,7 @@ returns-then-offset-body-clause-place g c =
     let at = c.in_ok-at.at in
     let body = c.paragraph-paragraph.result.now.body in
     let near : c.args.place - at.start < length body = omega (arith, c.if-offset-body.true, ap length c.body.ensures) in
-    forward-told (g.D.BidiData.data s.tables.now) s.text.now.edited.text s.utf8 at.paragraph at.start on.start_is body
+    forward-stop (g.D.BidiData.data s.tables.now) s.text.now.edited.text s.utf8 at.paragraph at.start on.start_is body
     c.paragraph-paragraph.ensures.body_is c.args.place c.in_ok-at.ensures.paragraph c.stop_after-stop.result near c.stop_after-stop.ensures
 
 pub returns-clause-place : goal.returns-clause-place
@@ -30,5 +30,5 @@ returns-clause-place g c =
     let body = c.paragraph-paragraph.result.now.body in
     let past : length body ≤ c.args.place - at.start = omega (arith, c.if-offset-body.false, ap length c.body.ensures) in
     c.unwrap_or.ensures
-    ∙ below-told (g.D.BidiData.data s.tables.now) s.text.now.edited.text s.utf8 at.paragraph at.start on.start_is body
+    ∙ stop-below (g.D.BidiData.data s.tables.now) s.text.now.edited.text s.utf8 at.paragraph at.start on.start_is body
     c.paragraph-paragraph.ensures.body_is c.args.place c.in_ok-at.ensures.paragraph past c.in_ok-below.below c.in_ok-below.ensures.stop

@@ -3,7 +3,7 @@ use Rattle.bx_paragraph.specs.Slots.{reads_on}
 use Rattle.bx_view.specs.Moves.{word_way}
 use Rattle.bx_view.specs.TextRows.{row_at, row_of}
 use Rattle.bx_view.specs.Words.{step_word}
-use Rattle.bx_view.proofs.Told.{rows-kept}
+use Rattle.bx_view.proofs.HeldRows.{rows-kept}
 use Rattle.bx_view.proofs.layout.Layout.word_towards.Goals as goal
 
 pub returns-clause-place : goal.returns-clause-place
