@@ -1,5 +1,5 @@
 -- A key applied to an editor.
-use Rattle.std.proofs.Common.{◌≡◌, Bool, false, ap, refl, sym, ◌∙◌}
+use Rattle.std.proofs.Common.{◌≡◌, Bool, true, false, ap, refl, sym, ◌∙◌}
 use Rattle.bx_keys.specs.declared.key.Key.{Key}
 use Rattle.bx_keys.specs.declared.key.Key.TheVariants.{Insert, Erase, Delete, Back, Forward, Up, Down, Right, Left, RowHome, RowEnd, PageUp, PageDown}
 use Rattle.bx_keys.specs.declared.key.Key.TheVariants.{Save, Quit, Undo, Redo, Repaint, Direction, Size, Mark, Copy, Cut, Put}
@@ -9,7 +9,7 @@ use Rattle.bx_editor.specs.declared.seek.Seek.{Seek}
 use Rattle.bx_editor.specs.declared.seek.Seek.TheVariants.{Off, Begun, Typed}
 use Rattle.bx_editor.specs.Editor.{Editor, EditorState, without_message}
 use Rattle.bx_editor.specs.Keys.{after_any, after_key, after_pressing, after_seeking, is_save}
-use Rattle.bx_editor.proofs.InSearch.{any-key, each-key}
+use Rattle.bx_editor.proofs.InSearch.{any-key, each-key, save-ends}
 
 -- the end of a save affects no other key
 pressed_alike : (d : Data) (saved again : Bool) (e : Editor) (key : Key) → is_save key ≡ false
@@ -90,6 +90,40 @@ unless_save : (d : Data) (saved : Bool) (e : Editor) (key : Key) → is_save key
 unless_save d saved e =
     each-key d false e (λ key new. is_save key ≡ false → new ≡ after_key d saved e key) (λ height width other. refl)
     (λ key small other. alike d saved e.quit_before e.seek (without_message e) key other ∙ sym (any-key d saved e key small))
+
+-- nor whether the editor has ended
+pub same_ended : (d : Data) (e : Editor) (key : Key) → (after_key d false e key).ended ≡ (after_key d true e key).ended
+same_ended d e (Insert c) = ap (λ (x : Editor). x.ended) (unless_save d true e (Insert c) refl)
+same_ended d e Erase = ap (λ (x : Editor). x.ended) (unless_save d true e Erase refl)
+same_ended d e Delete = ap (λ (x : Editor). x.ended) (unless_save d true e Delete refl)
+same_ended d e Back = ap (λ (x : Editor). x.ended) (unless_save d true e Back refl)
+same_ended d e Forward = ap (λ (x : Editor). x.ended) (unless_save d true e Forward refl)
+same_ended d e Up = ap (λ (x : Editor). x.ended) (unless_save d true e Up refl)
+same_ended d e Down = ap (λ (x : Editor). x.ended) (unless_save d true e Down refl)
+same_ended d e Right = ap (λ (x : Editor). x.ended) (unless_save d true e Right refl)
+same_ended d e Left = ap (λ (x : Editor). x.ended) (unless_save d true e Left refl)
+same_ended d e RowHome = ap (λ (x : Editor). x.ended) (unless_save d true e RowHome refl)
+same_ended d e RowEnd = ap (λ (x : Editor). x.ended) (unless_save d true e RowEnd refl)
+same_ended d e PageUp = ap (λ (x : Editor). x.ended) (unless_save d true e PageUp refl)
+same_ended d e PageDown = ap (λ (x : Editor). x.ended) (unless_save d true e PageDown refl)
+same_ended d e Save = ap (λ (x : Editor). x.ended) (save-ends d false e) ∙ sym (ap (λ (x : Editor). x.ended) (save-ends d true e))
+same_ended d e Quit = ap (λ (x : Editor). x.ended) (unless_save d true e Quit refl)
+same_ended d e Undo = ap (λ (x : Editor). x.ended) (unless_save d true e Undo refl)
+same_ended d e Redo = ap (λ (x : Editor). x.ended) (unless_save d true e Redo refl)
+same_ended d e Repaint = ap (λ (x : Editor). x.ended) (unless_save d true e Repaint refl)
+same_ended d e Direction = ap (λ (x : Editor). x.ended) (unless_save d true e Direction refl)
+same_ended d e Mark = ap (λ (x : Editor). x.ended) (unless_save d true e Mark refl)
+same_ended d e Copy = ap (λ (x : Editor). x.ended) (unless_save d true e Copy refl)
+same_ended d e Cut = ap (λ (x : Editor). x.ended) (unless_save d true e Cut refl)
+same_ended d e Put = ap (λ (x : Editor). x.ended) (unless_save d true e Put refl)
+same_ended d e Find = ap (λ (x : Editor). x.ended) (unless_save d true e Find refl)
+same_ended d e FindBack = ap (λ (x : Editor). x.ended) (unless_save d true e FindBack refl)
+same_ended d e WordLeft = ap (λ (x : Editor). x.ended) (unless_save d true e WordLeft refl)
+same_ended d e WordRight = ap (λ (x : Editor). x.ended) (unless_save d true e WordRight refl)
+same_ended d e TextStart = ap (λ (x : Editor). x.ended) (unless_save d true e TextStart refl)
+same_ended d e TextEnd = ap (λ (x : Editor). x.ended) (unless_save d true e TextEnd refl)
+same_ended d e Help = ap (λ (x : Editor). x.ended) (unless_save d true e Help refl)
+same_ended d e (Size height width) = ap (λ (x : Editor). x.ended) (unless_save d true e (Size height width) refl)
 
 pub applied : {D : Type 0} (says : D → Data) (saved : Bool) (old new : EditorState D) (key : Key) → is_save key ≡ false
     → new.editor ≡ after_key (says old.tables) false old.editor key → new.tables ≡ old.tables

@@ -1,23 +1,22 @@
 -- The session after a byte and after a told size, from the contracts of the calls within.
 use Rattle.std.proofs.Common.{◌≡◌, ℕ, Bool, true, false, List, [], drop, Option, Some, None, Result, Ok, Err, refl, sym, ap, subst, ◌∙◌, if◌then◌else◌}
-use Rattle.std.specs.Prelude.{not, OnOk, OnErr}
+use Rattle.std.specs.Prelude.{not, ◌||◌, OnOk, OnErr}
 use Rattle.bx_terms.specs.declared.base.Base.{Base}
 use Rattle.bx_grid.specs.Picture.{PictureState, is_size}
 use Rattle.bx_keys.specs.declared.key.Key.{Key}
-use Rattle.bx_keys.specs.declared.key.Key.TheVariants as keys
-use Rattle.bx_keys.specs.declared.key.Key.TheVariants.{Insert, Erase, Delete, Back, Forward, Up, Down, Right, Left, RowHome, RowEnd, PageUp, PageDown, Save}
-use Rattle.bx_keys.specs.declared.key.Key.TheVariants.{Quit, Undo, Redo, Repaint, Direction, Mark, Copy, Cut, Put}
-use Rattle.bx_keys.specs.declared.key.Key.TheVariants.{Find, FindBack, WordLeft, WordRight, TextStart, TextEnd, Help}
 use Rattle.bx_keys.specs.Keys.{rest_after}
 use Rattle.bx_keys.specs.Waiting.{head_of}
 use Rattle.bx_ucd.specs.Data.{Data}
 use Rattle.bx_editor.specs.Editor.{EditorState, at_start}
+use Rattle.bx_editor.specs.Keys.{asks_for_whole}
 use Rattle.bx_session.specs.declared.error.Refused.{Refused}
 use Rattle.bx_session.specs.declared.error.Refused.TheVariants.{Edit, Paint, Size}
 use Rattle.bx_session.specs.Session.{Session, SessionState, with_painting, with_painting_owed, at_opening, key_of_byte, after_spending}
 use Rattle.bx_session.specs.Session.{session_after_any, unpainted_after_byte, is_idle, after_byte, unpainted_after_told}
 use Rattle.bx_session.specs.Painting.{QueuesPicture, FeedPaints}
-use Rattle.bx_session.specs.Saving.{ToldBy}
+use Rattle.bx_session.specs.Saving.{AfterByte, ToldBy}
+use Rattle.bx_session.specs.declared.status.Status.{Status}
+use Rattle.bx_session.proofs.Applied.{same_ended}
 
 -- ---- opening
 
@@ -71,6 +70,13 @@ asks_where_not_idle false asks e h = refl
 pub is_not_idle : (s : Session) (b : ℕ) (asks : Bool) → asks ≡ not (is_idle s b) → asks ≡ true → is_idle s b ≡ false
 is_not_idle s b asks e h = asks_where_not_idle (is_idle s b) asks e h
 
+pub owing_is : {D : Type 0} (says : D → Data) (saved : Bool) (old mid new : SessionState D) (b : ℕ) (result : Result Status Refused)
+    → is_idle old.session b ≡ false → mid ≡ record old { session = unpainted_after_byte (says old.tables) saved old.session b }
+    → new.session ≡ with_painting_owed mid.session → result ≡ Err Paint → AfterByte (says old.tables) saved old.session b result new.session
+owing_is {D} says saved old mid new b result asks e owed is =
+    subst (λ r. AfterByte (says old.tables) saved old.session b r new.session) (sym is)
+    (owed ∙ ap (λ (x : SessionState D). with_painting_owed x.session) e, asks)
+
 -- ---- the knowledge of the screen before the painting
 
 same_pending : (ended : Bool) (s : Session) (rest : List ℕ) → (if ended then s else record s { rest = rest }).pending ≡ s.pending
@@ -86,37 +92,7 @@ same_screen_after : (d : Data) (saved : Bool) (s : Session) (key : Option Key)
     → (session_after_any d saved s key).known ≡ (session_after_any d true s key).known
 same_screen_after d true s key = refl
 same_screen_after d false s None = refl
-same_screen_after d false s (Some (Insert c)) = refl
-same_screen_after d false s (Some Erase) = refl
-same_screen_after d false s (Some Delete) = refl
-same_screen_after d false s (Some Back) = refl
-same_screen_after d false s (Some Forward) = refl
-same_screen_after d false s (Some Up) = refl
-same_screen_after d false s (Some Down) = refl
-same_screen_after d false s (Some Right) = refl
-same_screen_after d false s (Some Left) = refl
-same_screen_after d false s (Some RowHome) = refl
-same_screen_after d false s (Some RowEnd) = refl
-same_screen_after d false s (Some PageUp) = refl
-same_screen_after d false s (Some PageDown) = refl
-same_screen_after d false s (Some Save) = refl
-same_screen_after d false s (Some Quit) = refl
-same_screen_after d false s (Some Undo) = refl
-same_screen_after d false s (Some Redo) = refl
-same_screen_after d false s (Some Repaint) = refl
-same_screen_after d false s (Some Direction) = refl
-same_screen_after d false s (Some Mark) = refl
-same_screen_after d false s (Some Copy) = refl
-same_screen_after d false s (Some Cut) = refl
-same_screen_after d false s (Some Put) = refl
-same_screen_after d false s (Some Find) = refl
-same_screen_after d false s (Some FindBack) = refl
-same_screen_after d false s (Some WordLeft) = refl
-same_screen_after d false s (Some WordRight) = refl
-same_screen_after d false s (Some TextStart) = refl
-same_screen_after d false s (Some TextEnd) = refl
-same_screen_after d false s (Some Help) = refl
-same_screen_after d false s (Some (keys.Size height width)) = refl
+same_screen_after d false s (Some key) = ap (λ ended. if asks_for_whole key || ended then None else s.known) (same_ended d s.editor key)
 
 pub byte_paints : {D : Type 0} (says : D → Data) (saved : Bool) (old mid : SessionState D) (new : Session) (b : ℕ)
     → mid ≡ record old { session = unpainted_after_byte (says old.tables) saved old.session b }

@@ -1,5 +1,5 @@
 -- Worked examples: what a journal with searches leaves.
-use Rattle.std.proofs.Common.{◌≡◌, ℕ, List, [], ◌∷◌, ◌++◌, Option, Some, None, refl}
+use Rattle.std.proofs.Common.{◌≡◌, ℕ, List, ◌∷◌, ◌++◌, refl}
 use Rattle.std.specs.Prelude.{codes}
 use Rattle.std.specs.Fmt.{digits}
 use Rattle.unicode_segmentation.proofs.Computing.{unicode_segmentation}
@@ -41,9 +41,6 @@ pub an_open_search_ends_where_it_stands : left finding_c ≡ (codes "abc", 2, Of
 unfolding unicode_segmentation unicode_width digits
 an_open_search_ends_where_it_stands = refl
 
--- Forward, Mark, Forward, Copy, Mark, Find, C
-pub mark_held_bytes_and_query_are_left : (let e = replayed (0x06 ∷ csi (codes "72~") ++ 0x06 ∷ csi (codes "73~") ++ csi (codes "72~") ++ csi (codes "70~") ++ codes "C") in
-    (e.place, e.mark, e.held, e.query))
-    ≡ (2, Some 2, codes "b", codes "C")
+pub the_query_is_kept : (replayed (csi (codes "70~") ++ codes "C")).query ≡ codes "C"
 unfolding unicode_segmentation unicode_width digits
-mark_held_bytes_and_query_are_left = refl
+the_query_is_kept = refl
