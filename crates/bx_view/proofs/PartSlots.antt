@@ -14,7 +14,7 @@ use Rattle.bx_view.specs.FoundRow.{StandsOn, rows_by}
 use Rattle.bx_view.specs.Holding.{IsOfText, ViewState}
 use Rattle.bx_view.specs.Standing.{body_at}
 use Rattle.bx_view.specs.TextParts.{is_in, slots_in}
-use Rattle.bx_view.specs.TextRows.{row_at, text_row}
+use Rattle.bx_view.specs.TextRows.{row_at}
 use Rattle.bx_view.proofs.Numbers.{body-utf8}
 use Rattle.bx_view.proofs.HeldRows.{of-row}
 use Rattle.bx_view.proofs.Within.{Within, body-row-lies}

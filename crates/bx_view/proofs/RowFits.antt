@@ -1,5 +1,5 @@
 -- The glyphs of each row of a text fill the window.
-use Rattle.std.proofs.Common.{◌≡◌, ℕ, ◌+◌, ◌≤◌, List, [], ◌∷◌, ◌++◌, length, map, get_or, Option, true, false, chars, IsUtf8, refl, arith}
+use Rattle.std.proofs.Common.{◌≡◌, ℕ, ◌+◌, ◌≤◌, List, [], ◌∷◌, map, get_or, Option, true, false, chars, IsUtf8, refl, arith}
 use Rattle.std.specs.Prelude.{All}
 use Rattle.std.proofs.lemmas.List.Elements.{All-append, All-cons, All-map, All-nil, All-rest}
 use Rattle.bx_ucd.specs.Data.{Data}
@@ -14,7 +14,7 @@ use Rattle.bx_rows.proofs.RowsFit.{fit_if_wrapped}
 use Rattle.bx_paras.specs.Paragraphs.{Paragraph, lengths_of, paragraphs}
 use Rattle.bx_paras.specs.Positions.{bytes_of}
 use Rattle.bx_paragraph.specs.BodyRows.{BodyRow, body_rows, row_with, rows_units, with_last}
-use Rattle.bx_view.specs.TextRows.{TextRow, no_text_row, row_at, text_row, text_row_glyphs, text_rows}
+use Rattle.bx_view.specs.TextRows.{TextRow, text_row, text_row_glyphs, text_rows}
 use Rattle.bx_view.proofs.RowsAround.{from, own}
 use Rattle.bx_view.proofs.GlyphCells.{rows-faced}
 use Rattle.bx_view.proofs.KeptPlaces.{rows-leveled}

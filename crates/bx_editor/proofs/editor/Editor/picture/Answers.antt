@@ -113,8 +113,8 @@ returns-clause-picture g c =
     }) c.show.ensures.same c.in_ok-put_status.ensures.status in
     let high = c.requires.height ∙ sym (ap (λ s. s.editor.height) c.self.view_is) in
     let wide = ap (λ x. x.width) drawn ∙ c.requires.width ∙ sym (ap (λ s. s.editor.width) c.self.view_is) in
-    let part = c.region.result in
-    let told : part ≡ region e = ap (λ s. region s.editor) (sym c.self.view_is) in
+    let part = c.region-region.result in
+    let told : part ≡ region e = c.region-region.ensures.region ∙ ap (λ s. region s.editor) (sym c.self.view_is) in
     let front = drawn-front was mid (shown_columns d i.document.document top part n) n (omega (arith, high, c.text_height-count.ensures.inside))
     c.columns-columns.ensures.grid.sized.each c.columns-columns-2.ensures.grid.sized.each drawn in
     let shown : take (text_height i.height * i.document.document.w) mid.columns
