@@ -7,7 +7,7 @@ use crate::by_rules::ruled_unit;
 use crate::error::CellError;
 use crate::faces::simple_face;
 use crate::simple_clusters::simple_cluster;
-use crate::unit::Unit;
+use crate::unit::{Unit, UnitRange};
 use bx_ucd::BidiData;
 use std::alloc::{AllocError, Global};
 
@@ -31,21 +31,20 @@ fn unit_at<D: BidiData>(body: &str, at: usize, tables: &D, w: u16) -> Unit
     }
 }
 
-/// The first `count` units from byte offset `at` on, or all if the body has fewer.
+/// The units of a range, or all from its start on if the body has fewer.
 fn listed_from<D: BidiData>(
     alloc: Global,
     body: &str,
-    at: usize,
-    count: usize,
+    range: UnitRange,
     tables: &D,
     w: u16,
 ) -> Result<Vec<Unit>, AllocError>
-    requires { IsCharBoundary body.now at }
-    ensures { IfOk result (λ v. v.items ≡ take count (units_from (D.data tables.now) w body.now at)) }
+    requires { IsCharBoundary body.now range.start }
+    ensures { IfOk result (λ v. v.items ≡ take range.count (units_from (D.data tables.now) w body.now range.start)) }
 {
-    let mut units = Vec::with_capacity(alloc, count.min(FIRST_ROOM))?;
-    let mut next = at;
-    'units: while units.len() < count && next < body.len() {
+    let mut units = Vec::with_capacity(alloc, range.count.min(FIRST_ROOM))?;
+    let mut next = range.start;
+    'units: while units.len() < range.count && next < body.len() {
         let unit = unit_at(body, next, tables, w);
         units.push(unit)?;
         next = unit.stop;
@@ -53,23 +52,22 @@ fn listed_from<D: BidiData>(
     Ok(units)
 }
 
-/// The first `count` units of a body from byte offset `at` on, or all if it has fewer, in a window of `w` columns. The text
-/// from `at` on is taken as a text of its own and nothing before it is read; if a unit of the body begins at `at`, the
+/// The units of a range in a body, or all from its start on if the body has fewer, in a window of `w` columns. The text from
+/// the range's start on is taken as a text of its own and nothing before it is read; if a unit of the body begins there, the
 /// result is the body's own units. The only error is a failed allocation.
 #[tactic(auto, using(crate::proofs::Standing::stand_if_taken, crate::proofs::Standing::faces_if_taken))]
 pub fn units_from<D: BidiData>(
     alloc: Global,
     body: &str,
-    at: usize,
-    count: usize,
+    range: UnitRange,
     tables: &D,
     w: u16,
 ) -> Result<Vec<Unit>, CellError>
-    requires { IsCharBoundary body.now at }
-    ensures units { IfOk result (λ v. v.items ≡ take count (units_from (D.data tables.now) w body.now at)) }
+    requires { IsCharBoundary body.now range.start }
+    ensures units { IfOk result (λ v. v.items ≡ take range.count (units_from (D.data tables.now) w body.now range.start)) }
     ensures stand { IfOk result (λ v. All (StandsIn body.now) v.items) }
     ensures faces { IfOk result (λ v. All (HasFace (D.data tables.now) w body.now) v.items) }
 {
-    let units = listed_from(alloc, body, at, count, tables, w)?;
+    let units = listed_from(alloc, body, range, tables, w)?;
     Ok(units)
 }

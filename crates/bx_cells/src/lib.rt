@@ -22,4 +22,4 @@ pub use first_units::units_from;
 pub use fitting::{is_printable, is_simple_within};
 pub use library::units;
 pub use simple_clusters::{SimpleCluster, simple_cluster};
-pub use unit::{Face, Unit};
+pub use unit::{Face, Unit, UnitRange};

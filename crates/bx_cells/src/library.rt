@@ -5,7 +5,7 @@ ghost use Rattle.bx_cells.specs.Units.{units, HasFace, StandsIn};
 
 use crate::error::CellError;
 use crate::first_units::units_from;
-use crate::unit::Unit;
+use crate::unit::{Unit, UnitRange};
 use bx_ucd::BidiData;
 use std::alloc::Global;
 
@@ -22,6 +22,10 @@ pub fn units<D: BidiData>(
     ensures stand { IfOk result (λ v. All (StandsIn body.now) v.items) }
     ensures faces { IfOk result (λ v. All (HasFace (D.data tables.now) w body.now) v.items) }
 {
-    let units = units_from(alloc, body, 0, body.len(), tables, w)?;
+    let all = UnitRange {
+        start: 0,
+        count: body.len(),
+    };
+    let units = units_from(alloc, body, all, tables, w)?;
     Ok(units)
 }

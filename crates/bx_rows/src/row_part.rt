@@ -7,7 +7,7 @@ ghost use Rattle.bx_rows.specs.Shown.{IsRowOf};
 
 use crate::lines::Lines;
 use crate::start_search::RowStart;
-use bx_cells::{Unit, units_from};
+use bx_cells::{Unit, UnitRange, units_from};
 use bx_terms::OutOfMemory;
 use bx_ucd::BidiData;
 use std::alloc::Global;
@@ -46,7 +46,11 @@ impl<'a, 't, D: BidiData> Lines<'a, 't, D> {
     {
         let start = self.starts[number];
         let count = most_units(start, start_of(self.starts, number + 1), self.body, self.w);
-        let units = units_from(alloc, self.body, start.offset, count, self.tables, self.w)?;
+        let range = UnitRange {
+            start: start.offset,
+            count,
+        };
+        let units = units_from(alloc, self.body, range, self.tables, self.w)?;
         Ok(units)
     }
 }

@@ -34,19 +34,19 @@ pub units-preserved : goal.units-preserved
 units-preserved g c =
     let test = c.units-test.true in
     let read = c.len.ensures in
-    let less : length c.units.units.items < c.args.count = omega (arith, test, read) in
+    let less : length c.units.units.items < c.args.range.count = omega (arith, test, read) in
     let pushed = c.in_ok-push.ensures.items in
     record {
       boundary = c.unit_at-unit.ensures.stop.1;
-      within = one_longer c.args.count c.units.units.items c.push.new.self.items c.unit_at-unit.result less pushed;
-      all = one_more c.args.count c.units.units.items c.push.new.self.items _ _ _ c.unit_at-unit.result less c.unit_at-unit.ensures.units pushed
+      within = one_longer c.args.range.count c.units.units.items c.push.new.self.items c.unit_at-unit.result less pushed;
+      all = one_more c.args.range.count c.units.units.items c.push.new.self.items _ _ _ c.unit_at-unit.result less c.unit_at-unit.ensures.units pushed
           c.units.invariant.all;
     }
 
 pub returns : goal.returns
 returns g c = elim c.units-test.branch [
-  | then-units-test+else-next-body w ↦ none_left (c.args.count - length c.units.units.items) c.units.units.items _ _
+  | then-units-test+else-next-body w ↦ none_left (c.args.range.count - length c.units.units.items) c.units.units.items _ _
       (none-behind (g.D.BidiData.data c.args.tables.now) c.args.w c.args.body.now c.units.next w.if-next-body.false) c.units.invariant.all
-  | else-units-test w ↦ none_more c.args.count c.units.units.items _ _ (let test = w.units-test.false in let read = c.len.ensures in omega (arith, test, read))
+  | else-units-test w ↦ none_more c.args.range.count c.units.units.items _ _ (let test = w.units-test.false in let read = c.len.ensures in omega (arith, test, read))
       c.units.invariant.all
 ]

@@ -7,9 +7,9 @@ use Rattle.bx_cells.proofs.first_units.listed_from.Given as goal
 abbrev pub invariant-units : goal.invariant-units
 invariant-units g l = record {
   boundary : IsCharBoundary l.body l.next;
-  within : length l.units.items ≤ l.count;
-  all : l.units.items ++ take (l.count - length l.units.items) (units_from (g.D.BidiData.data l.tables) l.w l.body l.next)
-      ≡ take l.count (units_from (g.D.BidiData.data l.tables) l.w l.body l.at);
+  within : length l.units.items ≤ l.range.count;
+  all : l.units.items ++ take (l.range.count - length l.units.items) (units_from (g.D.BidiData.data l.tables) l.w l.body l.next)
+      ≡ take l.range.count (units_from (g.D.BidiData.data l.tables) l.w l.body l.range.start);
 }
 
 abbrev pub decreases-units : goal.decreases-units
