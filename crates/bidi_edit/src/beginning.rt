@@ -16,6 +16,8 @@ use std::alloc::Global;
 /// Everything that a session starts from.
 #[derive(Drop)]
 pub struct Beginning<'a> {
+    /// The allocator of the session.
+    pub alloc: Global,
     /// Unicode's three files.
     pub unicode: UnicodeFiles<'a>,
     /// The text's bytes; none if the file does not exist, which is an empty text.
@@ -38,15 +40,13 @@ pub struct Beginning<'a> {
 /// Reads Unicode's three files, and opens a text with the cursor at its line. It does not replay the keys.
 ///
 /// Errors, in this order: `Tables`; `Open`; `OutOfMemory`.
-pub fn open(
-    alloc: Global,
-    beginning: Beginning<'_>,
-) -> Result<Session<Tables>, ProgramFault<'static>>
+pub fn open(beginning: Beginning<'_>) -> Result<Session<Tables>, ProgramFault<'static>>
     ensures begins { IfOk result (λ s. (offset : Option ℕ)
         × AreOfFiles (⟦<Tables as BidiData>⟧.data s.tables) beginning.entry.unicode.classes.now beginning.entry.unicode.brackets.now beginning.entry.unicode.mirroring.now
         × IsOpened (⟦<Tables as BidiData>⟧.data s.tables) (begins_with (bytes_of beginning.entry.text) beginning.entry.rows beginning.entry.cols beginning.entry.direction
         beginning.entry.unsaved [] offset) s.session) }
 {
+    let alloc = beginning.alloc;
     let (rows, cols, direction) = (beginning.rows, beginning.cols, beginning.direction);
     let unsaved = beginning.unsaved;
     let unicode = beginning.unicode;

@@ -14,7 +14,6 @@ use crate::replaying::replay;
 use bx_session::{End, Journal, Recorder, Session, run_recorded};
 use bx_store::Store;
 use bx_ucd::BidiData;
-use std::alloc::Global;
 use std::io::{Read, Write};
 
 /// The fate of the changes in a session without a fault.
@@ -75,7 +74,6 @@ fn told(end: End, changed: bool) -> Result<Changes, ProgramFault<'static>>
 /// Errors, in this order: `Tables`; `Open`; `OutOfMemory` in replaying or painting; `Run`; `Unsaved` if the input ended with
 /// unsaved changes.
 pub fn edit<R: Read, J: Journal + Drop, W: Write, S: Store>(
-    alloc: Global,
     reader: &mut R,
     recorder: &mut Recorder<J>,
     writer: &mut W,
@@ -89,7 +87,7 @@ pub fn edit<R: Read, J: Journal + Drop, W: Write, S: Store>(
         (R.remaining reader.old) (R.remaining reader.new) (W.contents writer.old) (W.contents writer.new) recorder.old recorder.new changes) }
 {
     let keys = beginning.keys;
-    let mut session = open(alloc, beginning)?;
+    let mut session = open(beginning)?;
     let changes = resume(reader, recorder, writer, store, &mut session, keys);
     drop(session);
     changes

@@ -42,14 +42,7 @@ fn edit_file<'a, R: Read + Drop, W: Write, S: Store>(
 ) -> Result<(), ProgramFault<'a>> {
     let journal = JournalFile::open(*rt, options.journal);
     let mut recorder = Recorder::new(rt.alloc(), WrittenJournal::new(journal));
-    let changes = edit(
-        rt.alloc(),
-        &mut reader,
-        &mut recorder,
-        writer,
-        store,
-        beginning,
-    );
+    let changes = edit(&mut reader, &mut recorder, writer, store, beginning);
     if !recorder.has_all() {
         tell_lost_journal(rt);
     }
@@ -69,7 +62,7 @@ fn recover_to<'a, W: Write, S: Store>(
     store: &mut S,
 ) -> Result<(), ProgramFault<'a>> {
     let file = text_of(rt, options.file)?.unwrap_or(Vec::new(rt.alloc()));
-    let replayed = recover(rt.alloc(), store, beginning, file.as_slice())?;
+    let replayed = recover(store, beginning, file.as_slice())?;
     match writeln!(writer, "{replayed}") {
         Ok(()) => Ok(()),
         Err(_) => Err(ProgramFault::Untold),
@@ -78,11 +71,13 @@ fn recover_to<'a, W: Write, S: Store>(
 
 /// The start of a session over these files.
 fn beginning_of<'a>(
+    rt: &HostRuntime,
     options: &Options<'_>,
     files: &'a Files,
     text: Option<Vec<u8>>,
 ) -> Beginning<'a> {
     Beginning {
+        alloc: rt.alloc(),
         unicode: files.unicode(),
         text,
         rows: options.rows,
@@ -126,8 +121,7 @@ fn is_changed(
     }
     let text = Vec::from_slice(rt.alloc(), text.as_slice())?;
     is_foreign(
-        rt.alloc(),
-        beginning_of(options, files, Some(text)),
+        beginning_of(rt, options, files, Some(text)),
         held.as_slice(),
     )
 }
@@ -154,7 +148,7 @@ fn run<'a, R: Read + Drop, W: Write>(
         store.distrust();
     }
     let text = files.text.take();
-    let beginning = beginning_of(options, &files, text);
+    let beginning = beginning_of(rt, options, &files, text);
     match options.to {
         None => edit_file(rt, options, beginning, reader, writer, &mut store),
         Some(_) => recover_to(rt, options, beginning, writer, &mut store),

@@ -11,7 +11,6 @@ use crate::replaying::{Replayed, replay_beside};
 use bx_session::Session;
 use bx_store::Store;
 use bx_ucd::BidiData;
-use std::alloc::Global;
 
 /// Replays keys, comparing with the file's current bytes, and stores the text.
 fn store_replayed<D: BidiData + Drop, S: Store>(
@@ -36,7 +35,6 @@ fn store_replayed<D: BidiData + Drop, S: Store>(
 ///
 /// Errors, in this order: `Tables`; `Open`; `OutOfMemory`; `Unwritten` if the store fails.
 pub fn recover<S: Store>(
-    alloc: Global,
     store: &mut S,
     beginning: Beginning<'_>,
     file: &[u8],
@@ -47,7 +45,7 @@ pub fn recover<S: Store>(
         (store_state S.contents S.failure_count store.old) (store_state S.contents S.failure_count store.new)) }
 {
     let keys = beginning.keys;
-    let mut session = open(alloc, beginning)?;
+    let mut session = open(beginning)?;
     let replayed = store_replayed(store, &mut session, keys, file);
     drop(session);
     replayed

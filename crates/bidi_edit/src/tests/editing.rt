@@ -13,13 +13,18 @@ use std::io::{self, ErrorKind, Read, Write};
 use std::test::Fail;
 
 /// A text in a window of one row and five columns, without a replay.
-fn beginning(text: Option<Vec<u8>>) -> Beginning<'static> {
-    beginning_with(small_files(), text)
+fn beginning(alloc: Global, text: Option<Vec<u8>>) -> Beginning<'static> {
+    beginning_with(alloc, small_files(), text)
 }
 
 /// A text in that window, with other Unicode files.
-fn beginning_with<'a>(unicode: UnicodeFiles<'a>, text: Option<Vec<u8>>) -> Beginning<'a> {
+fn beginning_with<'a>(
+    alloc: Global,
+    unicode: UnicodeFiles<'a>,
+    text: Option<Vec<u8>>,
+) -> Beginning<'a> {
     Beginning {
+        alloc,
         unicode,
         text,
         rows: 1,
@@ -39,12 +44,11 @@ fn run_over<R: Read, W: Write>(
     writer: &mut W,
 ) -> Result<Changes, ProgramFault<'static>> {
     edit(
-        alloc,
         reader,
         &mut Recorder::new(alloc, NoJournal),
         writer,
         &mut MemoryStore::new(alloc, None),
-        beginning(file),
+        beginning(alloc, file),
     )
 }
 
@@ -68,12 +72,11 @@ fn line_of(
         mirroring: mirroring.as_bytes(),
     };
     let outcome = edit(
-        alloc,
         &mut b"".as_slice(),
         &mut Recorder::new(alloc, NoJournal),
         &mut Vec::new(alloc),
         &mut MemoryStore::new(alloc, None),
-        beginning_with(unicode, file),
+        beginning_with(alloc, unicode, file),
     );
     match outcome {
         Ok(_) => Ok(String::new(alloc)),

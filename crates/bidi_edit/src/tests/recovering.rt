@@ -16,6 +16,7 @@ use std::test::Fail;
 
 fn beginning<'a>(alloc: Global, keys: &'a [u8]) -> Result<Beginning<'a>, Fail> {
     Ok(Beginning {
+        alloc,
         unicode: small_files(),
         text: Some(Vec::from_slice(alloc, b"ab")?),
         rows: 1,
@@ -34,7 +35,7 @@ fn recovered(
     keys: &[u8],
     file: &[u8],
 ) -> Result<Result<Replayed, ProgramFault<'static>>, Fail> {
-    Ok(recover(alloc, store, beginning(alloc, keys)?, file))
+    Ok(recover(store, beginning(alloc, keys)?, file))
 }
 
 #[test]
@@ -64,7 +65,6 @@ fn a_text_that_cannot_be_stored(rt: HostRuntime) -> Result<(), Fail> {
 /// Replays keys, then types `y`, Save and Quit. Returns whether the run ended saved.
 fn resumed(alloc: Global, store: &mut MemoryStore, keys: &[u8]) -> Result<bool, Fail> {
     let changes = edit(
-        alloc,
         &mut b"y\x13\x11".as_slice(),
         &mut Recorder::new(alloc, NoJournal),
         &mut Vec::new(alloc),

@@ -18,6 +18,7 @@ fn save<S: Store>(
     file: Option<Vec<u8>>,
 ) -> Result<Changes, ProgramFault<'static>> {
     let beginning = Beginning {
+        alloc,
         unicode: small_files(),
         text: file,
         rows: 1,
@@ -28,7 +29,6 @@ fn save<S: Store>(
         keys: &[],
     };
     edit(
-        alloc,
         &mut b"x\x13\x11".as_slice(),
         &mut Recorder::new(alloc, NoJournal),
         &mut Vec::new(alloc),

@@ -86,6 +86,7 @@ impl Given {
         store: &mut MemoryStore,
     ) -> Result<String, Fail> {
         let beginning = Beginning {
+            alloc,
             unicode: small_files(),
             text: self.file,
             rows: self.rows,
@@ -96,7 +97,6 @@ impl Given {
             keys: &[],
         };
         let outcome = edit(
-            alloc,
             &mut self.keys.as_slice(),
             &mut Recorder::new(alloc, NoJournal),
             written,
