@@ -355,16 +355,20 @@ all_follow d s r store store' (a ∷ answered) new before feeds none =
 same_lasts : (e f : Editor) → f.content ≡ e.content → f.place ≡ e.place → f.mark ≡ e.mark → f.held ≡ e.held → f.query ≡ e.query
     → f.seek ≡ e.seek → f.origin ≡ e.origin → f.base ≡ e.base → f.height ≡ e.height → f.width ≡ e.width → lasting e ≡ lasting f
 same_lasts e f content place mark held query seek origin base height width =
-    ap (λ x. record (lasting e) { content = x }) (sym content)
-    ∙ ap (λ x. record (lasting e) { content = f.content; place = x }) (sym place)
-    ∙ ap (λ x. record (lasting e) { content = f.content; place = f.place; mark = x }) (sym mark)
-    ∙ ap (λ x. record (lasting e) { content = f.content; place = f.place; mark = f.mark; held = x }) (sym held)
-    ∙ ap (λ x. record (lasting e) { content = f.content; place = f.place; mark = f.mark; held = f.held; query = x }) (sym query)
-    ∙ ap (λ x. record (lasting e) { content = f.content; place = f.place; mark = f.mark; held = f.held; query = f.query; seek = x }) (sym seek)
-    ∙ ap (λ x. record (lasting e) { content = f.content; place = f.place; mark = f.mark; held = f.held; query = f.query; seek = f.seek; origin = x }) (sym origin)
-    ∙ ap (λ x. record (lasting e) { content = f.content; place = f.place; mark = f.mark; held = f.held; query = f.query; seek = f.seek; origin = f.origin; base = x }) (sym base)
-    ∙ ap (λ x. record (lasting e) { content = f.content; place = f.place; mark = f.mark; held = f.held; query = f.query; seek = f.seek; origin = f.origin; base = f.base; height = x }) (sym height)
-    ∙ ap (λ x. record (lasting e) { content = f.content; place = f.place; mark = f.mark; held = f.held; query = f.query; seek = f.seek; origin = f.origin; base = f.base; height = f.height; width = x }) (sym width)
+    let was = lasting e in
+    let placed : Lasting = record was { content = f.content; place = f.place; mark = f.mark } in
+    let filled : Lasting = record placed { held = f.held; query = f.query } in
+    let sought : Lasting = record filled { seek = f.seek; origin = f.origin } in
+    ap (λ x. record was { content = x }) (sym content)
+    ∙ ap (λ x. record was { content = f.content; place = x }) (sym place)
+    ∙ ap (λ x. record was { content = f.content; place = f.place; mark = x }) (sym mark)
+    ∙ ap (λ x. record placed { held = x }) (sym held)
+    ∙ ap (λ x. record placed { held = f.held; query = x }) (sym query)
+    ∙ ap (λ x. record filled { seek = x }) (sym seek)
+    ∙ ap (λ x. record filled { seek = f.seek; origin = x }) (sym origin)
+    ∙ ap (λ x. record sought { base = x }) (sym base)
+    ∙ ap (λ x. record sought { base = f.base; height = x }) (sym height)
+    ∙ ap (λ x. record sought { base = f.base; height = f.height; width = x }) (sym width)
 
 follows : (s r : Session) → HasBackMidway s r → Follows s r
 follows s r h =

@@ -40,7 +40,8 @@ pub record RecoveryGivesBack : Type 0 where
   pub gives_back : (d : Data) (text : List ℕ) (height width : ℕ) (base : Base) (store store' : StoreState) (answered : List ByteAnswer)
       (new : Session) → FeedsAll d (at_opening d text height width base) store answered new store' → RefusesNoKey answered
       → HasBack new (after_journal d (at_opening d text height width base) (bytes_of answered))
-  -- the same from any common start: after the cursor was sent to a line, or in a session that was recovered before
+  -- the same from any start at which both agree, in a search too: after the cursor was sent to a line, or in a session that was
+  -- recovered from a journal that ends outside a search
   pub keeps_up : (d : Data) (old replayed : Session) (store store' : StoreState) (answered : List ByteAnswer) (new : Session)
       → HasBackMidway old replayed → FeedsAll d old store answered new store' → RefusesNoKey answered
       → HasBackMidway new (after_replaying d replayed (bytes_of answered))

@@ -1,5 +1,5 @@
 -- A run is a schedule of its session's world. So the contracts of schedules apply to the program.
-use Rattle.std.specs.Prelude.{◌≡◌, ℕ, true, false, List, [], ◌∷◌, ◌++◌, length, Option, Ok}
+use Rattle.std.specs.Prelude.{◌≡◌, ℕ, true, List, [], ◌∷◌, ◌++◌, length, Option, Ok}
 use Rattle.bx_keys.specs.Keys.{decoding}
 use Rattle.bx_grid.specs.Picture.{IsIdle, Shows}
 use Rattle.bx_grid.specs.Terminal.{Terminal, reads}
