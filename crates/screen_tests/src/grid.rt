@@ -40,6 +40,23 @@ fn a_blank_is_a_space_in_normal_rendition(rt: HostRuntime) -> Result<(), Fail> {
     Ok(())
 }
 
+#[test]
+fn a_turned_blank_is_a_space_in_negative_rendition(rt: HostRuntime) -> Result<(), Fail> {
+    let mut grid = Grid::blank(rt.alloc(), 1, 3)?;
+    grid.turn(0, 1, 1);
+    let negative = Column::Glyph {
+        text: GlyphText::from_str(rt.alloc(), " ")?,
+        columns: 1,
+        offset: 0,
+        negative: true,
+    };
+    let [left, turned, right] = grid.columns() else {
+        return Err(Fail::new("not three columns"));
+    };
+    assert!(rt; left.is_blank() && turned.same(&negative) && right.is_blank());
+    Ok(())
+}
+
 /// Whether a column is the half of U+4E16 with this index, from 0.
 fn is_half(alloc: Global, column: &Column, offset: u16) -> Result<bool, Fail> {
     let half = Column::Glyph {

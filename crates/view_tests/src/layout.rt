@@ -129,7 +129,8 @@ fn hebrew_and_a_number(rt: HostRuntime) -> Result<(), Fail> {
     Ok(())
 }
 
-/// The layout's width, level, body length and base, and the glyphs of the row that has an offset.
+/// The layout's width, level, body length and base, and the glyphs of the row that has an offset: all of them, and those of its
+/// units alone.
 fn picture_in<D: BidiData>(
     alloc: Global,
     layout: &ParagraphLayout,
@@ -143,6 +144,10 @@ fn picture_in<D: BidiData>(
     let mut line = format!(in alloc; "{w} {level} {len} {is_rtl}:")?;
     let row = layout.row_of(offset);
     for glyph in &layout.picture(row, source)?.glyphs {
+        line.push_str(glyph.text.as_str())?;
+    }
+    line.push_str("|")?;
+    for glyph in &layout.own_glyphs(row, source)?.glyphs {
         line.push_str(glyph.text.as_str())?;
     }
     Ok(line)
@@ -163,6 +168,6 @@ fn account_of_picture<D: BidiData>(
 fn a_picture_of_a_row(rt: HostRuntime) -> Result<(), Fail> {
     let tables = sample_tables(rt.alloc())?;
     let line = account_of_picture(rt.alloc(), &tables, 99)?;
-    assert_eq!(rt; line.as_str(), "9 1 5 true:     b) \u{5d0}");
+    assert_eq!(rt; line.as_str(), "9 1 5 true:     b) \u{5d0}|b) \u{5d0}");
     Ok(())
 }

@@ -3,6 +3,7 @@ ghost use Rattle.std.specs.Prelude.{◌≡◌, true};
 ghost use Rattle.bx_paras.specs.Paragraphs.{lengths};
 ghost use Rattle.bx_terms.specs.Sizes.{is_side};
 
+use bx_paragraph::Slot;
 use bx_paras::Index;
 use bx_terms::{Base, is_side};
 use bx_text::Text;
@@ -73,6 +74,13 @@ impl Whole {
     pub(crate) fn slots(&self, place: usize) -> Result<Vec<usize>, Fail> {
         let mut layout = Layout::of(self.alloc, self.w, self.base);
         Ok(layout.slots(&self.source(), place)?)
+    }
+
+    pub(crate) fn slots_in(&self, place: usize, part: (usize, usize)) -> Result<Vec<Slot>, Fail> {
+        let mut layout = Layout::of(self.alloc, self.w, self.base);
+        let source = self.source();
+        let at = layout.row_at(&source, place)?;
+        Ok(layout.slots_in(&source, at, part)?)
     }
 
     pub(crate) fn follow(&self, top: usize, place: usize, t: usize) -> Result<usize, Fail> {
