@@ -115,6 +115,34 @@ impl<D: BidiData + Drop> Editor<D> {
         self.place
     }
 
+    /// The mark's place, if there is a mark. No memory.
+    pub fn mark(&self) -> Option<usize>
+        ensures { result ≡ self.now.editor.mark }
+    {
+        self.mark
+    }
+
+    /// The text that was copied or cut last. No memory.
+    pub fn held(&self) -> &str
+        ensures { result.now ≡ self.now.editor.held }
+    {
+        self.held.as_str()
+    }
+
+    /// The query of the search, or of the latest one. No memory.
+    pub fn query(&self) -> &str
+        ensures { result.now ≡ self.now.editor.query }
+    {
+        self.query.as_str()
+    }
+
+    /// Whether a search is on. No memory.
+    pub fn seek(&self) -> Seek
+        ensures { result ≡ self.now.editor.seek }
+    {
+        self.seek
+    }
+
     /// The window's rows. No memory.
     pub fn height(&self) -> u16
         ensures height { result ≡ self.now.editor.height }
@@ -129,12 +157,6 @@ impl<D: BidiData + Drop> Editor<D> {
         ensures side { is_side self.now.editor.width ≡ true }
     {
         self.document.width()
-    }
-    /// Whether a search is on. No memory.
-    pub fn seek(&self) -> Seek
-        ensures { result ≡ self.now.editor.seek }
-    {
-        self.seek
     }
 
     /// Ends the search, if one is on. The cursor stays. No memory.

@@ -15,7 +15,7 @@ mod saving;
 mod session;
 mod status;
 
-pub use bx_editor::OpenError;
+pub use bx_editor::{OpenError, Seek};
 pub use end::{End, RunFault};
 pub use error::Refused;
 pub use journal::{Journal, JournalFault, NoJournal, Recorder, WrittenJournal};

@@ -5,7 +5,7 @@ ghost use Rattle.bx_session.specs.Painting.{IsShownOn};
 ghost use Rattle.bx_session.specs.Session.{after_sending, key_of_byte, status_of};
 
 use crate::status::Status;
-use bx_editor::Editor;
+use bx_editor::{Editor, Seek};
 use bx_grid::{Grid, Picture, Screen};
 use bx_keys::{Decoder, Key};
 use bx_ucd::BidiData;
@@ -104,6 +104,35 @@ impl<D: BidiData + Drop> Session<D> {
     {
         self.editor.place()
     }
+
+    /// The mark's place, if there is a mark. Allocates nothing.
+    pub fn mark(&self) -> Option<usize>
+        ensures { result ≡ self.now.session.editor.mark }
+    {
+        self.editor.mark()
+    }
+
+    /// The text that was copied or cut last. Allocates nothing.
+    pub fn held(&self) -> &str
+        ensures { result.now ≡ self.now.session.editor.held }
+    {
+        self.editor.held()
+    }
+
+    /// The query of the search, or of the latest one. Allocates nothing.
+    pub fn query(&self) -> &str
+        ensures { result.now ≡ self.now.session.editor.query }
+    {
+        self.editor.query()
+    }
+
+    /// Whether a search is on. Allocates nothing.
+    pub fn seek(&self) -> Seek
+        ensures { result ≡ self.now.session.editor.seek }
+    {
+        self.editor.seek()
+    }
+
     /// The key that a byte would complete now; none after the session's end. Allocates nothing.
     pub fn key_of(&self, byte: u8) -> Option<Key>
         ensures { result ≡ key_of_byte self.now.session byte }
