@@ -4,15 +4,15 @@ mod vectors;
 
 use crate::scene::Scene;
 use crate::whole::Whole;
-use bx_view::Visual;
+use bx_view::{Move, Visual};
 use std::alloc::Global;
 use std::test::Fail;
 use vectors::VECTORS;
 
 /// Whether a step right leads from a place to the next one, and a step left leads back.
 fn are_beside(scene: &mut Scene<'_>, place: usize, next: usize) -> Result<bool, Fail> {
-    let right = scene.step_visual(Visual::Right, place)?;
-    let left = scene.step_visual(Visual::Left, next)?;
+    let right = scene.moved(Move::Visual(Visual::Right), place)?;
+    let left = scene.moved(Move::Visual(Visual::Left), next)?;
     Ok(right == next && left == place)
 }
 

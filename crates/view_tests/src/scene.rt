@@ -4,7 +4,7 @@ ghost use Rattle.std.specs.Prelude.{◌≡◌, IfOk};
 use bx_document::Document;
 use bx_terms::{Base, is_side};
 use bx_ucd::{BidiData, Tables, sample_tables};
-use bx_view::{Move, Visual};
+use bx_view::Move;
 use std::alloc::Global;
 use std::test::Fail;
 
@@ -35,16 +35,26 @@ pub(crate) struct Scene<'a> {
 
 impl<'a> Scene<'a> {
     pub(crate) fn of(alloc: Global, text: &'a str, w: u16, base: Base) -> Result<Scene<'a>, Fail> {
-        let document = document_of(alloc, text, sample_tables(alloc)?, w, base)?;
+        Scene::with_tables(alloc, text, sample_tables(alloc)?, w, base)
+    }
+
+    pub(crate) fn with_tables(
+        alloc: Global,
+        text: &'a str,
+        tables: Tables,
+        w: u16,
+        base: Base,
+    ) -> Result<Scene<'a>, Fail> {
+        let document = document_of(alloc, text, tables, w, base)?;
         Ok(Scene { text, document })
     }
 }
 
 impl Scene<'_> {
-    pub(crate) fn step_visual(&mut self, side: Visual, place: usize) -> Result<usize, Fail> {
+    pub(crate) fn moved(&mut self, way: Move, place: usize) -> Result<usize, Fail> {
         if !self.text.is_char_boundary(place) {
             return Err(Fail::new("within a character"));
         }
-        Ok(self.document.moved(Move::Visual(side), place)?)
+        Ok(self.document.moved(way, place)?)
     }
 }
