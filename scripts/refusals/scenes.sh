@@ -118,6 +118,20 @@ check_all_worked() {
     told='S1000 R1000 W1,5 T1,5 B00 S1000 R1000'
     check_worked 'a byte without a key paints for a told size' 1 5 6162 "$told" step "oooPooo\\t0100001\\t6162\\t-\\t0\\t0\\t$opening$opening"
     check_worked 'a byte without a key paints for a told size, by a play' 1 5 6162 "$told" play 'oooPooo\t1\t6162\t-\t0\t0\t-'
+    # Mark, Copy and Cut, and the bytes that turn the status row into "line copied"
+    mark=1b5b37327e copy=1b5b37337e cut=1b5b37347e
+    copied=1b5b323b37486c696e651b5b323b313248636f706965641b5b313b3148
+    check_worked 'a cut without memory leaves mark and what was cut last' 2 20 6162 \
+        "S1000 R1000 B$mark B06 S1000 R1000 B$cut pending place mark held text B$cut S1000 R1000 place mark held rows=1;1:b|*_1:1 text" step \
+        'ooooooooooooooEooooooo\t- 1 0 - 6162 0 - 61 1 62'
+    check_worked 'a copy counts where its painting has no memory' 2 20 6162 "S1000 B$copy pending held B00 pending" alone \
+        "oooooPo\\t- 6162 $copied"
+    # Find and Delete
+    find=1b5b37307e delete=1b5b337e
+    check_worked 'a letter of a search without memory' 2 30 6162 \
+        "S1000 B$find S1000 B62 pending place query seek text B62 place seek" alone 'oooooooEo\t- 0 - begun 6162 1 typed'
+    check_worked 'a shorter query without memory' 2 30 6162 "S1000 B${find}62 S1000 B$delete pending place query seek" alone \
+        'oooooooooooE\t- 1 62 typed'
     check_worked 'the terminal without memory' 1 5 6162 'S1000 R5 R5 W1,4 R1000 R1000 W1,5 shown' step 'oMMMMoM\t0'
 }
 

@@ -1,8 +1,8 @@
 //! A scene played in a session without a world.
 
-use crate::answers::{Answers, add_bytes, add_flag, add_number, add_text, letter_of_refusal};
+use crate::answers::{Answers, letter_of_refusal};
+use crate::looks::Seen;
 use crate::scene::{Act, Look, Scene};
-use crate::stage::SAVE;
 use bx_session::{Refused, Session, Status};
 use bx_store::{MemoryStore, Store};
 use bx_ucd::BidiData;
@@ -15,8 +15,6 @@ pub struct Alone<D: BidiData + Drop> {
     pub alloc: Global,
     pub session: Session<D>,
     pub store: MemoryStore,
-    /// Number of steps taken.
-    pub taken: usize,
     /// Whether the scene has a call of the store fail.
     pub may_fail: bool,
 }
@@ -41,19 +39,23 @@ impl<D: BidiData + Drop> Alone<D> {
         for act in &scene.acts {
             match act {
                 Act::Take(step) => self.take(*step, answers)?,
+                Act::Replay(byte) => self.replay(*byte, answers)?,
+                Act::EndReplay => self.session.end_replay(),
                 Act::Look(look) => self.look(look, &scene.file, &mut answers.looks)?,
             }
         }
         answers.shown.push('-')?;
         answers.note_ending(&self.session, &self.store, &scene.file)?;
         answers.queued.extend_from_slice(self.session.pending())?;
-        if self.session.ended() {
-            return Ok(());
-        }
+        self.note_text(&scene.file, answers)
+    }
+
+    /// Notes the text, by a copy to a separate store.
+    fn note_text(&self, file: &[u8], answers: &mut Answers) -> Result<(), AllocError> {
         let mut store = MemoryStore::new(self.alloc, None);
-        // a refusal to paint here is not the scene's
-        let _ = self.session.feed(SAVE, &mut store);
-        answers.note_text(&store, &scene.file)
+        // the store counts its failures
+        let _ = self.session.copy_to(&mut store);
+        answers.note_text(&store, file)
     }
 
     /// Takes a step, and notes its answer.
@@ -68,10 +70,16 @@ impl<D: BidiData + Drop> Alone<D> {
             Step::Window(_, _) | Step::Read(_) => '?',
         };
         answers.letters.push(letter)?;
-        if self.session.ended() && answers.before_end.is_none() {
-            answers.before_end = Some(self.taken);
-        }
-        self.taken = self.taken.saturating_add(1);
+        Ok(())
+    }
+
+    /// Replays a byte of a journal, and notes the answer.
+    fn replay(&mut self, byte: u8, answers: &mut Answers) -> Result<(), AllocError> {
+        let letter = match self.session.replay(byte) {
+            Ok(()) => 'o',
+            Err(refused) => letter_of_refusal(refused),
+        };
+        answers.letters.push(letter)?;
         Ok(())
     }
 
@@ -94,14 +102,12 @@ impl<D: BidiData + Drop> Alone<D> {
         if !looks.is_empty() {
             looks.push(' ')?;
         }
-        match look {
-            Look::Place => add_number(looks, self.session.place()),
-            Look::Changed => add_flag(looks, self.session.changed()),
-            Look::Ended => add_flag(looks, self.session.ended()),
-            Look::Stored => add_text(looks, self.store.contents(), file),
-            Look::Pending => add_bytes(looks, self.session.pending()),
-            // the text is noted at the end, and the others need a world
-            Look::Text | Look::Told | Look::Line | Look::Shown | Look::Rows { .. } => Ok(()),
-        }
+        let seen = Seen {
+            alloc: self.alloc,
+            session: &self.session,
+            store: &self.store,
+            file,
+        };
+        seen.add(looks, look)
     }
 }

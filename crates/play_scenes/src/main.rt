@@ -16,15 +16,17 @@
 //!     T4,20         the session is told 4 rows and 20 columns
 //!     S38           at most 38 of the pending bytes go to the line
 //!     R11           the terminal reads at most 11 bytes of the line
+//!     J6178         a journal of these bytes is replayed; each byte is a step
 //!
-//! and words that only look: `place`, `changed`, `ended`, `told` (whether the session was told the window's last size), `shown`
-//! (whether the terminal shows the picture last painted), `kept` (the store's content), `pending` and `line` (the bytes not yet
-//! sent, and not yet read), `rows=1;3:ab|cd` (whether the terminal shows these rows, with the cursor in line 1 and column 3; `_`
-//! is a blank, and a character after a backquote is negative), and, only as the last word, `text`.
+//! and words that only look: `place`, `mark` (its place, `-` for none), `held` (what was copied or cut last), `query`, `seek` (`off`,
+//! `begun` or `typed`), `changed`, `ended`, `told` (whether the session was told the window's last size), `shown` (whether the
+//! terminal shows the picture last painted), `text`, `kept` (the store's content), `pending` and `line` (the bytes not yet sent, and
+//! not yet read), and `rows=1;3:ab|cd` (whether the terminal shows these rows, with the cursor in line 1 and column 3; `_` is a
+//! blank, braces enclose the characters of one glyph, and a glyph after a backquote is negative).
 //!
 //! MODE is `both` if it is left out: one world takes the steps one by one, another takes them all by `play`, and the line says so
-//! if their answers or final states differ. `step` and `play` do one of these alone; `play` can look only at the text. `alone`
-//! takes the steps in a session without a world: it has no `W` and `R`, and looks only at a session's own state.
+//! if their answers or final states differ. `step` and `play` do one of these alone; `play` looks only at the text, last. `alone`
+//! takes the steps in a session without a world: it has no `W` and `R`, and looks only at a session's own state. Only `alone` has `J`.
 //!
 //! The line of answers begins with a letter for each step:
 //!
@@ -45,9 +47,10 @@
 //! there are unsaved changes, else 0; and all bytes ever queued for the terminal (with `play` those not yet read). If the file is
 //! not opened, the whole line is `refused: ` and the cause.
 //!
-//! Bytes are written as pairs of digits, `-` for none; a text of more than 4096 bytes that equals the file is `=`. The text is
-//! found by a Save at the end to a separate store. If the session has ended, another world takes the steps before the end and
-//! saves there. The text is `?` if that store runs out of memory, and if MODE is `play` and the session has ended.
+//! Bytes are written as pairs of digits, `-` for none; a text of more than 4096 bytes that equals the file is `=`. A look finds the
+//! text by a copy to a separate store, and so does `alone` at the end. A world finds the text at the end by a Save to one; if the
+//! session has ended, another world takes the steps before the end and saves there. The text is `?` if that store runs out of
+//! memory, and if MODE is `play` and the session has ended.
 //!
 //! The buffers for answers are allocated before the first world is opened, so that the world is the first to run out of memory.
 //! If the program itself runs out, it writes `out of memory` to standard error and ends with status 1. It also ends with status 1
@@ -59,6 +62,7 @@ mod alone;
 mod answers;
 mod fault;
 mod lent;
+mod looks;
 mod player;
 mod rows;
 mod scene;

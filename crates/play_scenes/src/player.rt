@@ -112,7 +112,6 @@ fn play_alone(
                 alloc,
                 session,
                 store: scene.store(alloc),
-                taken: 0,
                 may_fail: scene.failing.is_some(),
             };
             alone.step_through(scene, answers).map(|()| Outcome::Played)
@@ -224,13 +223,12 @@ impl Player {
     }
 }
 
-/// Writes the findings, the text last.
+/// Writes the findings; `play` looks only at the text.
 fn write_looks(line: &mut String, scene: &Scene<'_>, answers: &Answers) -> Result<(), AllocError> {
-    line.push_str(answers.looks.as_str())?;
-    if scene.looks_at_text() {
-        line.push_str(answers.text.as_str())?;
+    match scene.mode {
+        Mode::Play => line.push_str(answers.text.as_str()),
+        Mode::Both | Mode::Step | Mode::Alone => line.push_str(answers.looks.as_str()),
     }
-    Ok(())
 }
 
 /// Writes the fields of a scene that looks at nothing.

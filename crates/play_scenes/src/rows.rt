@@ -45,23 +45,50 @@ fn put(grid: &mut Grid, cell: Cell, text: &str, negative: bool) -> Result<(), Ro
     Ok(())
 }
 
-/// Puts the characters of a row; `_` is a blank, and a character after a backquote is negative.
+/// The cell and the rendition of the next glyph in a row.
+#[derive(Drop)]
+struct Pen {
+    cell: Cell,
+    negative: bool,
+}
+
+/// Puts a glyph, `_` for a blank, and moves the pen behind it.
+fn put_glyph(grid: &mut Grid, pen: &mut Pen, glyph: &str) -> Result<(), RowFault> {
+    let text = if glyph == "_" { " " } else { glyph };
+    let columns = run_width(text).min(500) as u16;
+    if pen.negative || text != " " {
+        put(grid, pen.cell, text, pen.negative)?;
+    }
+    pen.cell.column = pen.cell.column.saturating_add(columns);
+    pen.negative = false;
+    Ok(())
+}
+
+/// Puts the glyphs of a row: a character each, or several characters in braces. One after a backquote is negative.
 fn put_row(grid: &mut Grid, line: u16, row: &str) -> Result<(), RowFault> {
-    let mut column: u16 = 1;
-    let mut negative = false;
-    for c in row.chars() {
-        if c == '`' {
-            negative = true;
-            continue;
+    let cell = Cell { line, column: 1 };
+    let mut pen = Pen {
+        cell,
+        negative: false,
+    };
+    let mut opened: Option<usize> = None;
+    for (at, c) in row.char_indices() {
+        match (c, opened) {
+            ('`', None) => pen.negative = true,
+            ('{', None) => opened = Some(at.saturating_add(1)),
+            ('}', Some(start)) => {
+                let Some(glyph) = row.get(start..at) else {
+                    return Err(RowFault::NoPicture);
+                };
+                put_glyph(grid, &mut pen, glyph)?;
+                opened = None;
+            }
+            (_, None) => {
+                let mut buffer = [0; 4];
+                put_glyph(grid, &mut pen, c.encode_utf8(&mut buffer))?;
+            }
+            (_, Some(_)) => {}
         }
-        let mut buffer = [0; 4];
-        let text = c.encode_utf8(&mut buffer);
-        let columns = run_width(text).min(2) as u16;
-        if c != '_' {
-            put(grid, Cell { line, column }, text, negative)?;
-        }
-        negative = false;
-        column = column.saturating_add(columns);
     }
     Ok(())
 }

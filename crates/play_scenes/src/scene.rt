@@ -23,6 +23,12 @@ pub enum Mode {
 #[derive(Clone, Copy)]
 pub enum Look<'a> {
     Place,
+    /// The mark's place.
+    Mark,
+    /// What was copied or cut last.
+    Held,
+    Query,
+    Seek,
     Changed,
     Ended,
     /// Whether the session was told the window's last size.
@@ -35,7 +41,6 @@ pub enum Look<'a> {
     Line,
     /// Whether the terminal shows the picture last painted.
     Shown,
-    /// The text at the end.
     Text,
     /// Whether the terminal shows these rows, with the cursor at this cell.
     Rows {
@@ -49,6 +54,9 @@ pub enum Look<'a> {
 #[derive(Clone, Copy)]
 pub enum Act<'a> {
     Take(Step),
+    /// A byte of a journal, which is replayed.
+    Replay(u8),
+    EndReplay,
     Look(Look<'a>),
 }
 
@@ -77,6 +85,10 @@ fn rows_of(word: &str) -> Result<Look<'_>, WordFault> {
 fn look_of(word: &str) -> Result<Look<'_>, WordFault> {
     match word {
         "place" => Ok(Look::Place),
+        "mark" => Ok(Look::Mark),
+        "held" => Ok(Look::Held),
+        "query" => Ok(Look::Query),
+        "seek" => Ok(Look::Seek),
         "changed" => Ok(Look::Changed),
         "ended" => Ok(Look::Ended),
         "told" => Ok(Look::Told),
@@ -92,7 +104,7 @@ fn look_of(word: &str) -> Result<Look<'_>, WordFault> {
     }
 }
 
-/// Parses a word other than a `B`.
+/// Parses a word other than a `B` and a `J`.
 fn act_of(word: &str) -> Result<Act<'_>, WordFault> {
     if let Some(size) = word.strip_prefix("W") {
         let (height, width) = two_of(size, ',')?;
@@ -111,8 +123,20 @@ fn act_of(word: &str) -> Result<Act<'_>, WordFault> {
     Ok(Act::Look(look_of(word)?))
 }
 
-/// Appends the acts of a word: a step for each byte of a `B`, or one act.
+/// Appends the replay of a journal, given as digits.
+fn add_journal(acts: &mut Vec<Act<'_>>, digits: &str) -> Result<(), WordFault> {
+    for pair in digits.as_bytes().chunks(2) {
+        acts.push(Act::Replay(byte_of(pair)?))?;
+    }
+    acts.push(Act::EndReplay)?;
+    Ok(())
+}
+
+/// Appends the acts of a word: a step for each byte of a `B`, a replay for a `J`, or one act.
 fn add_acts<'a>(acts: &mut Vec<Act<'a>>, word: &'a str) -> Result<(), WordFault> {
+    if let Some(digits) = word.strip_prefix("J") {
+        return add_journal(acts, digits);
+    }
     let Some(digits) = word.strip_prefix("B") else {
         acts.push(act_of(word)?)?;
         return Ok(());
@@ -155,10 +179,11 @@ fn mode_of(word: &str) -> Result<Mode, WordFault> {
 }
 
 impl Act<'_> {
-    /// Whether the act is possible in a MODE: `play` looks only at the text, and a session without a world has no terminal.
+    /// Whether the act is possible in a MODE: a world replays nothing, `play` looks only at the text, and a session without a world
+    /// has no terminal.
     fn is_of(&self, mode: Mode) -> bool {
         match mode {
-            Mode::Both | Mode::Step => true,
+            Mode::Both | Mode::Step => !matches!(self, Act::Replay(_) | Act::EndReplay),
             Mode::Play => matches!(self, Act::Take(_) | Act::Look(Look::Text)),
             Mode::Alone => !matches!(
                 self,
@@ -185,7 +210,7 @@ impl<'a> Scene<'a> {
         if !acts.iter().all(|act| act.is_of(mode)) {
             return Err(WordFault::Bad("a word is none of this mode"));
         }
-        if !is_text_last(&acts) {
+        if mode == Mode::Play && !is_text_last(&acts) {
             return Err(WordFault::Bad("the text is looked at before the end"));
         }
         Ok(Scene {
@@ -212,13 +237,6 @@ impl<'a> Scene<'a> {
     /// Whether the scene looks at something.
     pub fn looks(&self) -> bool {
         self.acts.iter().any(|act| matches!(act, Act::Look(_)))
-    }
-
-    /// Whether the scene looks at the text.
-    pub fn looks_at_text(&self) -> bool {
-        self.acts
-            .iter()
-            .any(|act| matches!(act, Act::Look(Look::Text)))
     }
 
     /// Whether the scene looks at the terminal's rows.

@@ -1,6 +1,7 @@
 //! A scene played in a world.
 
-use crate::answers::{Answers, add_bytes, add_flag, add_number, add_text, letter_of};
+use crate::answers::{Answers, add_bytes, add_flag, letter_of};
+use crate::looks::Seen;
 use crate::scene::{Act, Look, Scene};
 use crate::terminal::Terminal;
 use bx_grid::Cell;
@@ -10,7 +11,7 @@ use bx_world::{Step, World};
 use std::alloc::{AllocError, Global};
 
 /// The byte of the key Save.
-pub const SAVE: u8 = 0x13;
+const SAVE: u8 = 0x13;
 
 /// The first `count` bytes, or all if there are fewer.
 fn first_bytes(bytes: &[u8], count: usize) -> &[u8] {
@@ -42,6 +43,8 @@ impl<D: BidiData + Drop> Stage<D> {
             match act {
                 Act::Take(step) => self.take(*step, answers)?,
                 Act::Look(look) => self.look(look, &scene.file, &mut answers.looks)?,
+                // a world replays nothing
+                Act::Replay(_) | Act::EndReplay => {}
             }
         }
         self.note_end(&scene.file, answers)
@@ -115,23 +118,25 @@ impl<D: BidiData + Drop> Stage<D> {
         if !looks.is_empty() {
             looks.push(' ')?;
         }
-        let session = self.world.session();
         match look {
-            Look::Place => add_number(looks, session.place()),
-            Look::Changed => add_flag(looks, session.changed()),
-            Look::Ended => add_flag(looks, session.ended()),
             Look::Told => add_flag(looks, self.world.is_told()),
-            Look::Stored => add_text(looks, self.store.contents(), file),
-            Look::Pending => add_bytes(looks, session.pending()),
             Look::Line => add_bytes(looks, self.world.line()),
             Look::Shown => add_flag(looks, self.world.shows()),
-            Look::Text => Ok(()),
             Look::Rows { line, column, rows } => {
                 let (line, column) = (*line, *column);
                 match &self.terminal {
                     Some(terminal) => terminal.add_shown(looks, rows, Cell { line, column }),
                     None => Ok(()),
                 }
+            }
+            _ => {
+                let seen = Seen {
+                    alloc: self.alloc,
+                    session: self.world.session(),
+                    store: &self.store,
+                    file,
+                };
+                seen.add(looks, look)
             }
         }
     }

@@ -1,0 +1,67 @@
+//! What a scene's looks find in a session, with or without a world.
+
+use crate::answers::{add_bytes, add_flag, add_number, add_text};
+use crate::scene::Look;
+use bx_session::{Seek, Session};
+use bx_store::{MemoryStore, Store};
+use bx_ucd::BidiData;
+use std::alloc::{AllocError, Global};
+
+/// A session that is looked at, its store, and the file that was opened.
+#[derive(Drop)]
+pub struct Seen<'a, D: BidiData + Drop> {
+    pub alloc: Global,
+    pub session: &'a Session<D>,
+    pub store: &'a MemoryStore,
+    pub file: &'a [u8],
+}
+
+/// The word for a search.
+fn word_of(seek: Seek) -> &'static str {
+    match seek {
+        Seek::Off => "off",
+        Seek::Begun => "begun",
+        Seek::Typed => "typed",
+    }
+}
+
+/// Appends a mark's place; a hyphen for none.
+fn add_mark(looks: &mut String, mark: Option<usize>) -> Result<(), AllocError> {
+    match mark {
+        Some(place) => add_number(looks, place),
+        None => {
+            looks.push('-')?;
+            Ok(())
+        }
+    }
+}
+
+impl<D: BidiData + Drop> Seen<'_, D> {
+    /// Appends what a look finds; nothing for a look at a world.
+    pub fn add(&self, looks: &mut String, look: &Look<'_>) -> Result<(), AllocError> {
+        let session = self.session;
+        match look {
+            Look::Place => add_number(looks, session.place()),
+            Look::Mark => add_mark(looks, session.mark()),
+            Look::Held => add_bytes(looks, session.held().as_bytes()),
+            Look::Query => add_bytes(looks, session.query().as_bytes()),
+            Look::Seek => looks.push_str(word_of(session.seek())),
+            Look::Changed => add_flag(looks, session.changed()),
+            Look::Ended => add_flag(looks, session.ended()),
+            Look::Stored => add_text(looks, self.store.contents(), self.file),
+            Look::Pending => add_bytes(looks, session.pending()),
+            Look::Text => self.add_own_text(looks),
+            Look::Told | Look::Line | Look::Shown | Look::Rows { .. } => Ok(()),
+        }
+    }
+
+    /// Appends the text, from a copy in a separate store; `?` if that store runs out of memory.
+    fn add_own_text(&self, looks: &mut String) -> Result<(), AllocError> {
+        let mut store = MemoryStore::new(self.alloc, None);
+        if self.session.copy_to(&mut store).is_err() {
+            looks.push('?')?;
+            return Ok(());
+        }
+        add_text(looks, store.contents(), self.file)
+    }
+}
