@@ -158,6 +158,7 @@ impl<D: BidiData + Drop> Editor<D> {
     {
         self.document.width()
     }
+
     /// Ends the search, if one is on. The cursor stays. No memory.
     pub fn leave_search(&mut self)
         ensures { self.new ≡ record self.old { editor = without_search self.old.editor } }
