@@ -41,11 +41,13 @@ find_sessions() {
     done
 }
 
-# Counts a journal's keys without replaying them. A sequence is one key, a reported size none.
+# Counts a journal's keys without replaying them. A sequence is one key, a reported size none, nor is the Save that a resumed
+# session begins with.
 count_keys() { # SESSION
     escape=$(printf '\033')
+    save=$(printf '\023')
     LC_ALL=C tr '\n' '\r' <"$1/journal" |
-        LC_ALL=C sed -e "s/$escape\[8;[0-9]*;[0-9]*t//g" -e "s/$escape\[[0-9;]*[A-Za-z~]/k/g" | LC_ALL=C tr -d '\200-\277' | wc -c
+        LC_ALL=C sed -e "s/$save\{0,1\}$escape\[8;[0-9]*;[0-9]*t//g" -e "s/$escape\[[0-9;]*[A-Za-z~]/k/g" | LC_ALL=C tr -d '\200-\277' | wc -c
 }
 
 tell_when() { # SESSION

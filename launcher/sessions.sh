@@ -224,13 +224,14 @@ tell_unkept() {
     [ -n "$is_unkept" ] || { printf '\a' >&7 && sleep 1; }
 }
 
-# Appends the window's current size to the journal, so that a replay in the first window ends in this one. If the journal has no
-# room, the program reads the size as input and journals it like keys.
+# Appends a Save and the window's current size to the journal. A replayed Save ends a search that the journal leaves open, and
+# does nothing else, so later letters go into the text again; with the size a replay in the first window ends in this one. If
+# the journal has no room, the program reads the size as input and journals it like keys.
 resume_session() {
     opened=$kept
     told=$(printf '\033[8;%d;%dt' "$rows" "$cols")
     length=$(stat -c %s -- "$kept/journal")
-    if ! printf '%s' "$told" >>"$kept/journal"; then
+    if ! printf '\023%s' "$told" >>"$kept/journal"; then
         truncate -s "$length" -- "$kept/journal"
         printf '%s' "$told" >&5
     fi
