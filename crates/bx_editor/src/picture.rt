@@ -90,7 +90,9 @@ impl<D: BidiData + Drop> Editor<D> {
         let _utf8 = self.document.len();
         let count = text_height(self.height);
         let region = self.region();
-        let shown = self.document.show(&mut page, top, self.place, count, region)?;
+        let shown = self
+            .document
+            .show(&mut page, top, self.place, count, region)?;
         // proof only: the number is unchanged
         let _columns = page.columns();
         self.put_status(alloc, &mut page, shown.position)?;
