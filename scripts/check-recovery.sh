@@ -175,7 +175,9 @@ end_again() { # NUMBER
     resume "$1" "$1 again" || return
     type_keys "s$1" "$given/typed"
     wait_for 150 has_row "s$1" "$(cat "$given/seen")" || { fails "$1 again" "the last row is not $(cat "$given/seen")"; return; }
-    kill -s KILL "$launcher" "$(program_of "$launcher")"
+    program=$(program_of "$launcher")
+    echo 'KILL both 0' >"$work/how"
+    end_session "$work/how" "$launcher" "$program" || { fails "$1 again" 'it did not end'; return; }
     terminal kill-session -t "s$1" 2>/dev/null
     XDG_STATE_HOME=$work/state "$top/bidi-edit" --recover --to "$work/again" "$work/text" >"$work/said" 2>&1
     cmp -s "$work/again" "$given/kept" || { fails "$1 again" "'$(cat "$work/again")', and not '$(cat "$given/kept")': $(cat "$work/said")"; return; }
