@@ -246,14 +246,14 @@ expect() { # NAME TEXT
     }
 }
 
-# Presses keys that end the editor, and waits for the shell's screen.
+# Presses keys that end the editor, and waits for the shell, since the terminal may be raw until the launcher ends.
 end_by_keys() { # KEY..
     terminal send-keys -t shell "$@"
     wait_for 150 shows_shell
 }
 
 shows_shell() {
-    [ "$(terminal display-message -p -t shell '#{alternate_on}')" = 0 ]
+    [ "$(terminal display-message -p -t shell '#{alternate_on}')" = 0 ] && [ -z "$(ps -o pid= --ppid "$(terminal display-message -p -t shell '#{pane_pid}')")" ]
 }
 
 # Opens the editor on the file text, types keys until the last row is ROW, and ends its program, or the launcher too. A
