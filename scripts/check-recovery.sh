@@ -1,8 +1,8 @@
 #!/bin/sh
 # Kills sessions in tmux at a random key, by KILL, HUP and TERM to the launcher, to the program or to both, and recovers each:
 # all bytes that the program had read must be there. Most sessions end in a search, or just behind one, and what is typed after
-# the recovery goes into the text. recovery_sessions.py makes the keys, and the text after each by a plain model. The script
-# also checks the launcher's messages and questions, a full disk under the journal, a replay of 100,000 keys, and the journal's
+# the recovery goes into the text, also if the session is killed and recovered once more. recovery_sessions.py makes the keys,
+# and the text after each by a plain model. The script also checks the launcher's messages and questions, a full disk under the journal, a replay of 100,000 keys, and the journal's
 # cost for a key. It is not part of `rt ci`. Its words are the number of sessions (200) and the seed of the random keys (1). The
 # last line has the totals. Exit status 1: a check failed; 77: the program is not built, or there is no tmux or no python3.
 set -u
@@ -146,19 +146,47 @@ recover_session() { # NUMBER
         fails "$1" "$(cat "$given/how"): $(cat "$work/said")"
     elif wrong=$(judge "$given" "$work/recovered" "$work/journal" 2>&1); then
         passes "$1"
-        case $1 in *[05]) [ -s "$given/keys2" ] || go_on "$1" ;; esac
+        [ -s "$given/keys2" ] || go_on_again "$1"
     else
         fails "$1" "$(cat "$given/how"): $wrong"
     fi
 }
 
+# Lets every fifth session go on and be saved, and two of five be killed again.
+go_on_again() { # NUMBER
+    case $1 in
+    *[05]) go_on "$1" ;;
+    *[1368]) end_again "$1" ;;
+    esac
+}
+
+# Recovers in the terminal.
+resume() { # NUMBER NAME
+    open_editor "s$1" "$work/state" "$work/text"
+    wait_for 150 asks "s$1" || { fails "$2" 'nothing was asked'; return 1; }
+    terminal send-keys -t "s$1" recover Enter
+    wait_for 150 has_row "s$1" "$(cat "$given/back")" || { fails "$2" "the last row is not $(cat "$given/back")"; return 1; }
+    launcher=$(terminal display-message -p -t "s$1" '#{pane_pid}')
+}
+
+# Recovers a session whose journal may end within a key, types letters, kills it again, and recovers its text.
+end_again() { # NUMBER
+    cat "$given/torn" >>"$(find "$work/state" -name journal)"
+    resume "$1" "$1 again" || return
+    type_keys "s$1" "$given/typed"
+    wait_for 150 has_row "s$1" "$(cat "$given/seen")" || { fails "$1 again" "the last row is not $(cat "$given/seen")"; return; }
+    program=$(program_of "$launcher")
+    echo 'KILL both 0' >"$work/how"
+    end_session "$work/how" "$launcher" "$program" || { fails "$1 again" 'it did not end'; return; }
+    terminal kill-session -t "s$1" 2>/dev/null
+    XDG_STATE_HOME=$work/state "$top/bidi-edit" --recover --to "$work/again" "$work/text" >"$work/said" 2>&1
+    cmp -s "$work/again" "$given/kept" || { fails "$1 again" "'$(cat "$work/again")', and not '$(cat "$given/kept")': $(cat "$work/said")"; return; }
+    passes "$1 again"
+}
+
 # Recovers in the terminal, types more keys there, and saves.
 go_on() { # NUMBER
-    open_editor "s$1" "$work/state" "$work/text"
-    wait_for 150 asks "s$1" || { fails "$1 goes on" 'nothing was asked'; return; }
-    terminal send-keys -t "s$1" recover Enter
-    wait_for 150 has_row "s$1" "$(cat "$given/back")" || { fails "$1 goes on" "the last row is not $(cat "$given/back")"; return; }
-    launcher=$(terminal display-message -p -t "s$1" '#{pane_pid}')
+    resume "$1" "$1 goes on" || return
     type_keys "s$1" "$given/more"
     terminal send-keys -t "s$1" C-s C-q
     wait_for 150 has_ended "$launcher" || { fails "$1 goes on" 'no end'; return; }
@@ -218,14 +246,14 @@ expect() { # NAME TEXT
     }
 }
 
-# Presses keys that end the editor, and waits for the shell's screen.
+# Presses keys that end the editor, and waits for the shell, since the terminal may be raw until the launcher ends.
 end_by_keys() { # KEY..
     terminal send-keys -t shell "$@"
     wait_for 150 shows_shell
 }
 
 shows_shell() {
-    [ "$(terminal display-message -p -t shell '#{alternate_on}')" = 0 ]
+    [ "$(terminal display-message -p -t shell '#{alternate_on}')" = 0 ] && [ -z "$(ps -o pid= --ppid "$(terminal display-message -p -t shell '#{pane_pid}')")" ]
 }
 
 # Opens the editor on the file text, types keys until the last row is ROW, and ends its program, or the launcher too. A

@@ -3,7 +3,8 @@
 The keys are random, and none of them depends on rows. Each session is a folder of FOLDER: `file` is the text; `keys1` are keys
 after which the last row is `row`; `keys2` are more keys; `ends` has, for each count of bytes that ends a key, the text in
 hexadecimal; `how` has the signal, its target, and the seconds after `keys2`. When `keys1` are recovered, the last row is `back`,
-and the keys `more` make the text `made`, which shows place, mark, held text and undo history.
+and the keys `more` make the text `made`, which shows place, mark, held text and undo history. The bytes `torn` begin a key;
+recovered with them, the letters `typed` make the text `kept` and the last row `seen`.
 """
 
 import copy
@@ -21,6 +22,8 @@ BYTES = {"erase": b"\x7f", "delete": b"\x1b[3~", "back": b"\x02", "forward": b"\
 NAMES = [*BYTES, "enter", "tab", "size", "quit"]
 # how keys1 end
 ENDS = ["no search", "in a search", "a search given up", "a search that a save ended"]
+# the first bytes of a character or a sequence
+TORN = [b"", b"\xd7", b"\xe2\x80", b"\x1b", b"\x1b[", b"\x1b[7", b"\x1b[8;24;"]
 # the program ignores HUP under the launcher
 WAYS = [(s, t) for t in ("launcher", "program", "both") for s in ("KILL", "HUP", "TERM") if (s, t) != ("HUP", "program")]
 
@@ -218,6 +221,11 @@ def files_of(number):
     end = ENDS[number // len(WAYS) % len(ENDS)]
     session.end_by(end)
     cut = len(session.keys)
+    files["torn"] = random.choice(TORN)
+    recovered = session.recovered()
+    for letter in random.sample(LETTERS.replace(" ", ""), 3):
+        recovered.insert(letter)
+    files["typed"], files["kept"], files["seen"] = recovered.keys, recovered.text, recovered.row()
     recovered = session.recovered()
     files["row"], files["back"] = session.row(), recovered.row()
     for name in random.choice([("insert", "put"), ("cut", "insert"), ("undo", "insert")]):
