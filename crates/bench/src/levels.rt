@@ -20,6 +20,7 @@ fn tables(alloc: Global) -> Result<Tables> {
         classes.as_bytes(),
         BRACKETS.as_bytes(),
         MIRRORING.as_bytes(),
+        None,
     )?)
 }
 

@@ -41,7 +41,7 @@ impl TableFiles {
 
     /// Reads the tables from the files.
     pub(crate) fn tables(&self, alloc: Global) -> Result<Tables> {
-        let tables = Tables::read(alloc, &self.classes, &self.brackets, &self.mirroring)?;
+        let tables = Tables::read(alloc, &self.classes, &self.brackets, &self.mirroring, None)?;
         Ok(tables)
     }
 }

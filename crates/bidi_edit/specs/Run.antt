@@ -14,7 +14,7 @@ use Rattle.bidi_edit.specs.declared.edit.Changes.TheVariants.{Saved}
 
 -- the tables agree with Unicode's three files, which have no bad line
 pub record AreOfFiles (d : Data) (classes brackets mirroring : List ℕ) : Type 0 where
-  pub accepted : refusal classes brackets mirroring ≡ None
+  pub accepted : refusal classes brackets mirroring None ≡ None
   pub classes_are : (code : ℕ) → d.class code ≡ class_in_file classes code
   pub brackets_are : (code : ℕ) → d.bracket code ≡ bracket_in_file brackets code
   pub mirrors_are : (code : ℕ) → d.mirror code ≡ mirror_in_file mirroring code

@@ -50,7 +50,7 @@ pub fn open(beginning: Beginning<'_>) -> Result<Session<Tables>, ProgramFault<'s
     let (rows, cols, direction) = (beginning.rows, beginning.cols, beginning.direction);
     let unsaved = beginning.unsaved;
     let unicode = beginning.unicode;
-    let tables = Tables::read(alloc, unicode.classes, unicode.brackets, unicode.mirroring)?;
+    let tables = Tables::read(alloc, unicode.classes, unicode.brackets, unicode.mirroring, None)?;
     let text = beginning.text.unwrap_or(Vec::new(alloc));
     let start = beginning
         .line

@@ -31,7 +31,7 @@ pub fn print_bytes<W: Write>(
 ) -> Result<(), ProgramFault<'static>>
     ensures { OnOk result (refusal unicode.entry.classes.now unicode.entry.brackets.now unicode.entry.mirroring.now ≡ None) }
 {
-    let tables = Tables::read(alloc, unicode.classes, unicode.brackets, unicode.mirroring)?;
+    let tables = Tables::read(alloc, unicode.classes, unicode.brackets, unicode.mirroring, None)?;
     // a file that is too long is cut off, maybe inside a character
     if bytes.len() > LARGEST_TEXT {
         return Err(PrintError::TooLong.into());

@@ -2,6 +2,7 @@
 use Rattle.std.proofs.Common.{◌≡◌, ℕ, [], ◌∷◌, ◌++◌, refl, Option, Some, None, replicate, cond, eqb, true, false}
 use Rattle.bx_ucd.specs.Data.{Data}
 use Rattle.bx_ucd.specs.declared.class.Class.TheVariants.{L, R, ON}
+use Rattle.bx_ucd.specs.declared.joining.Joining.TheVariants.{U}
 use Rattle.bx_ucd.specs.declared.data.Side.{Side}
 use Rattle.bx_ucd.specs.declared.data.Side.TheVariants.{Opener, Closer}
 use Rattle.bx_brackets.specs.Pairs.{pairs}
@@ -15,7 +16,7 @@ bracket c = cond (eqb c 40) (Some (Opener, 41))
     (cond (eqb c 93) (Some (Closer, 91)) (cond (eqb c 0x2329) (Some (Opener, 0x232a)) (cond (eqb c 0x3009) (Some (Closer, 0x3008)) None)))))
 
 abbrev says : Data
-says = record { class = λ _. L; bracket = bracket; mirror = λ _. None }
+says = record { class = λ _. L; bracket = bracket; mirror = λ _. None; joining = λ _. U; form = λ _ _. None }
 
 -- a(b]c)
 other_closer_passed : pairs says (97 ∷ 40 ∷ 98 ∷ 93 ∷ 99 ∷ 41 ∷ []) (replicate 6 ON) ≡ (1, 5) ∷ []

@@ -6,6 +6,7 @@ use Rattle.unicode_width.proofs.Computing.{unicode_width}
 use Rattle.bx_ucd.specs.Data.{Data}
 use Rattle.bx_ucd.specs.declared.class.Class.{Class}
 use Rattle.bx_ucd.specs.declared.class.Class.TheVariants.{L, LRE, RLE, PDF, LRO, RLO, LRI, RLI, FSI, PDI}
+use Rattle.bx_ucd.specs.declared.joining.Joining.TheVariants.{U}
 use Rattle.bx_cells.specs.declared.unit.Face.{Face}
 use Rattle.bx_cells.specs.declared.unit.Face.TheVariants.{Tab, Mark, Own}
 use Rattle.bx_cells.specs.declared.unit.Unit.{Unit}
@@ -23,7 +24,7 @@ class = class_among ((0x202a, LRE) ∷ (0x202b, RLE) ∷ (0x202c, PDF) ∷ (0x20
 ) ∷ [])
 
 abbrev says : Data
-says = record { class = class; bracket = λ _. None; mirror = λ _. None }
+says = record { class = class; bracket = λ _. None; mirror = λ _. None; joining = λ _. U; form = λ _ _. None }
 
 abbrev of : ℕ → List ℕ → List Unit
 of w cs = units says w (encode_utf8_all cs)

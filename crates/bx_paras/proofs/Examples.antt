@@ -6,6 +6,7 @@ use Rattle.std.specs.Char.{encode_utf8}
 use Rattle.bx_ucd.specs.Data.{Data}
 use Rattle.bx_ucd.specs.declared.class.Class.{Class}
 use Rattle.bx_ucd.specs.declared.class.Class.TheVariants.{B, L}
+use Rattle.bx_ucd.specs.declared.joining.Joining.TheVariants.{U}
 use Rattle.bx_paras.specs.Laws.{BodiesHaveNone, EachEnds, EndWithSeparators, IsSeparator, JoinToText, KeepCrLf, KeepEachCrLf, MatchSpans, joined}
 use Rattle.bx_paras.specs.Paragraphs.{Paragraph, paragraphs, lengths}
 use Rattle.bx_paras.specs.Positions.{spans, separators, paragraph_of}
@@ -15,7 +16,7 @@ abbrev class : ℕ → Class
 class c = cond (eqb c 10 || eqb c 13 || eqb c 0x2029) B L
 
 abbrev says : Data
-says = record { class = class; bracket = λ _. None; mirror = λ _. None }
+says = record { class = class; bracket = λ _. None; mirror = λ _. None; joining = λ _. U; form = λ _ _. None }
 
 abbrev line_ends : List ℕ
 line_ends = 49 ∷ 10 ∷ 50 ∷ 13 ∷ 10 ∷ 51 ∷ []
@@ -92,7 +93,7 @@ cr_lf_is_whole law separates e =
 
 -- where no character is a separator
 abbrev letters : Data
-letters = record { class = λ _. L; bracket = λ _. None; mirror = λ _. None }
+letters = record { class = λ _. L; bracket = λ _. None; mirror = λ _. None; joining = λ _. U; form = λ _ _. None }
 
 no_separator : (bs : List ℕ) → IsSeparator letters bs → ⊥
 no_separator bs (inl s) = let e = s.1 in cc

@@ -3,6 +3,7 @@ use Rattle.std.proofs.Common.{◌≡◌, ℕ, [], ◌∷◌, refl, Option, Some,
 use Rattle.bx_ucd.specs.Data.{Data}
 use Rattle.bx_ucd.specs.declared.class.Class.{Class}
 use Rattle.bx_ucd.specs.declared.class.Class.TheVariants.{L, R, ON}
+use Rattle.bx_ucd.specs.declared.joining.Joining.TheVariants.{U}
 use Rattle.bx_ucd.specs.declared.data.Side.{Side}
 use Rattle.bx_ucd.specs.declared.data.Side.TheVariants.{Opener, Closer}
 use Rattle.bx_resolve.specs.Levels.{paragraph_levels}
@@ -16,7 +17,7 @@ abbrev class : ℕ → Class
 class c = cond (eqb c 40) ON (cond (eqb c 41) ON (cond (eqb c 100) R L))
 
 abbrev says : Data
-says = record { class = class; bracket = bracket; mirror = λ _. None }
+says = record { class = class; bracket = bracket; mirror = λ _. None; joining = λ _. U; form = λ _ _. None }
 
 -- a(aa) at level 1: the pair takes L only where nothing inside is R
 without : paragraph_levels says 1 (97 ∷ 40 ∷ 97 ∷ 97 ∷ 41 ∷ []) ≡ Some 2 ∷ Some 2 ∷ Some 2 ∷ Some 2 ∷ Some 2 ∷ []

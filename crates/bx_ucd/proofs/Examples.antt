@@ -19,7 +19,7 @@ Answers = List Class × List (Option (Side × ℕ)) × List (Option ℕ)
 
 -- the properties of some codes by the files, or the first refused line
 abbrev answers : List ℕ → List ℕ → List ℕ → List ℕ → List ℕ → List ℕ → Result Answers UcdError
-answers classes brackets mirroring cs bs ms = elim (refusal classes brackets mirroring) [
+answers classes brackets mirroring cs bs ms = elim (refusal classes brackets mirroring None) [
   | None ↦ Ok (map (class_in_file classes) cs, map (bracket_in_file brackets) bs, map (mirror_in_file mirroring) ms)
   | (Some error) ↦ Err error
 ]

@@ -1,4 +1,4 @@
--- No control character is a mirror.
+-- No control character is a mirror. An entry that each line gives has a property, if it has it by each line.
 use Rattle.std.proofs.Common.{◌≡◌, ℕ, Bool, true, false, List, [], ◌∷◌, Option, Some, None, Result, Ok, Err, refl, sym, subst, map}
 use Rattle.std.specs.Prelude.{◌||◌, ◌==◌, if◌then◌else◌, IfSome, IfOk, filter_map, option_map}
 use Rattle.std.specs.List.{cons_option, list_all}
@@ -14,6 +14,37 @@ use Rattle.bx_ucd.specs.declared.error.Cause.TheVariants.{ControlInMirror}
 use Rattle.bx_ucd.specs.declared.mirroring_file.MirrorEntry.{MirrorEntry}
 use Rattle.bx_ucd.proofs.AnswerLemmas.{find_last-cons}
 
+-- ---- entries of any kind
+
+pub ok_after : {A B : Type 0} (P : B → Type 0) (r : Result A Cause) (next : A → Result B Cause) → ((a : A) → IfOk (next a) P) → IfOk (and_then r next) P
+ok_after P (Ok a) next each = each a
+ok_after P (Err cause) next each = tt
+
+module _ {E : Type 0} (P : E → Type 0) where
+  either : (later : Option E) (b : Bool) (e : E) → IfSome later P → P e → IfSome (option_or later (if b then Some e else None)) P
+  either (Some l) b e first second = first
+  either None true e first second = second
+  either None false e first second = tt
+
+  one_more : (test : E → Bool) (o : Option E) (es : List E) → IfSome o P → IfSome (find_last test es) P → IfSome (find_last test (cons_option o es)) P
+  one_more test None es first later = later
+  one_more test (Some e) es first later =
+      subst (λ o. IfSome o P) (sym (find_last-cons test e es)) (either (find_last test es) (test e) e later first)
+
+  -- the last entry of some lines that passes a test
+  pub found : (read : List ℕ → Line E) → ((line : List ℕ) → IfSome (entry (read line)) P) → (test : E → Bool) (ls : List (List ℕ))
+      → IfSome (find_last test (filter_map entry (map read ls))) P
+  found read each test [] = tt
+  found read each test (l ∷ ls) = one_more test (entry (read l)) (filter_map entry (map read ls)) (each l) (found read each test ls)
+
+-- a property of a part of what is found
+pub part_if_found : {E : Type 0} (part : E → ℕ) (o : Option E) → IfSome o (λ e. is_control (part e) ≡ false)
+    → ForSome (option_map part o) (λ m. is_control m ≡ false)
+part_if_found part None h = λ m e. cc
+part_if_found part (Some e) h = λ m is. let same : part e ≡ m = cc in rw (← same) h
+
+-- ---- mirrors
+
 abbrev HasNoControl : MirrorEntry → Type 0
 HasNoControl e = is_control e.mirror ≡ false
 
@@ -22,10 +53,6 @@ between : (first second : Bool) (e : MirrorEntry) → is_control e.mirror ≡ se
 between true second e is = tt
 between false true e is = tt
 between false false e is = is
-
-ok_after : {A B : Type 0} (P : B → Type 0) (r : Result A Cause) (next : A → Result B Cause) → ((a : A) → IfOk (next a) P) → IfOk (and_then r next) P
-ok_after P (Ok a) next each = each a
-ok_after P (Err cause) next each = tt
 
 entry_no_control : (fs : List (List ℕ)) → IfOk (mirror_entry fs) HasNoControl
 entry_no_control [] = tt
@@ -47,25 +74,6 @@ line_no_control line = go (list_all is_blank (before_comment line))
     go true = tt
     go false = some_of (mirror_entry (fields (before_comment line))) (entry_no_control (fields (before_comment line)))
 
-either : (later : Option MirrorEntry) (b : Bool) (e : MirrorEntry) → IfSome later HasNoControl → HasNoControl e
-    → IfSome (option_or later (if b then Some e else None)) HasNoControl
-either (Some l) b e first second = first
-either None true e first second = second
-either None false e first second = tt
-
-one_more : (test : MirrorEntry → Bool) (o : Option MirrorEntry) (es : List MirrorEntry) → IfSome o HasNoControl → IfSome (find_last test es) HasNoControl
-    → IfSome (find_last test (cons_option o es)) HasNoControl
-one_more test None es first later = later
-one_more test (Some e) es first later =
-    subst (λ o. IfSome o HasNoControl) (sym (find_last-cons test e es)) (either (find_last test es) (test e) e later first)
-
-found : (test : MirrorEntry → Bool) (ls : List (List ℕ)) → IfSome (find_last test (filter_map entry (map mirror_line ls))) HasNoControl
-found test [] = tt
-found test (l ∷ ls) = one_more test (entry (mirror_line l)) (filter_map entry (map mirror_line ls)) (line_no_control l) (found test ls)
-
-mirror_no_control : (o : Option MirrorEntry) → IfSome o HasNoControl → ForSome (option_map (λ e. e.mirror) o) (λ m. is_control m ≡ false)
-mirror_no_control None h = λ m e. cc
-mirror_no_control (Some e) h = λ m is. let same : e.mirror ≡ m = cc in rw (← same) h
-
 pub no_mirror_is_control : (bytes : List ℕ) (code : ℕ) → ForSome (mirror_by_lines (entries (mirror_lines bytes)) code) (λ m. is_control m ≡ false)
-no_mirror_is_control bytes code = mirror_no_control _ (found (λ e. e.character == code) (lines bytes))
+no_mirror_is_control bytes code =
+    part_if_found (λ e. e.mirror) _ (found HasNoControl mirror_line line_no_control (λ e. e.character == code) (lines bytes))

@@ -1,11 +1,11 @@
 -- Lemmas on lines and their parts.
-use Rattle.std.proofs.Common.{◌≡◌, ◌<◌, ◌≤◌, ◌+◌, ◌-◌, ℕ, Bool, List, [], ◌∷◌, length, take, drop, refl, ap, ◌∙◌, arith, eqb, false}
+use Rattle.std.proofs.Common.{◌≡◌, ◌<◌, ◌≤◌, ◌+◌, ◌-◌, ℕ, Bool, List, [], ◌∷◌, length, take, drop, refl, ap, ◌∙◌, sym, arith, eqb, false, length-drop}
 use Rattle.std.specs.Prelude.{◌==◌}
 use Rattle.std.specs.List.{position_or_len, slice_split, before_first, after_first}
 use Rattle.std.specs.Str.Lines.{lines, lines_of_parts, strip_carriage_return}
 use Rattle.std.proofs.lemmas.List.Splits.{slice_split_first, slice_split_none, length-slice_split}
 use Rattle.std.proofs.lemmas.List.Sums.{fails_before_first, prefix_len-le-length}
-use Rattle.std.proofs.lemmas.List.{take_rest}
+use Rattle.std.proofs.lemmas.List.{take_rest, drop-drop}
 
 -- a list without a separator is one part
 pub slice_split_whole : {X : Type 0} (p : X → Bool) (xs : List X) → position_or_len p xs ≡ length xs → slice_split p xs ≡ xs ∷ []
@@ -53,8 +53,17 @@ slice_split_at_first p bs n at more =
     let rest : take (length bs - (n + 1)) (drop (n + 1) bs) ≡ drop (n + 1) bs = take_rest bs (n + 1) in
     rw (rest, at) first
 
--- three parts and the parts of a rest are more than three
-pub more_than_three : (p : ℕ → Bool) (ps qs rs : List (List ℕ)) (a b c rest : List ℕ) → ps ≡ a ∷ qs → qs ≡ b ∷ rs → rs ≡ c ∷ slice_split p rest → 3 < length ps
-more_than_three p ps qs rs a b c rest first second third =
-    let e : ps ≡ a ∷ b ∷ c ∷ slice_split p rest = cc in
+-- four parts and the parts of a rest are more than four
+pub more_than_four : (p : ℕ → Bool) (ps qs rs ss : List (List ℕ)) (a b c d rest : List ℕ) → ps ≡ a ∷ qs → qs ≡ b ∷ rs → rs ≡ c ∷ ss → ss ≡ d ∷ slice_split p rest
+    → 4 < length ps
+more_than_four p ps qs rs ss a b c d rest first second third fourth =
+    let e : ps ≡ a ∷ b ∷ c ∷ d ∷ slice_split p rest = cc in
     rw e (omega (arith, length-slice_split p rest))
+
+-- one more part is skipped
+pub skipped_more : (parts rest : List (List ℕ)) (i : ℕ) (first : List ℕ) → drop i parts ≡ first ∷ rest → drop (i + 1) parts ≡ rest
+skipped_more parts rest i first e = sym (drop-drop 1 i parts) ∙ ap (drop 1) e
+
+-- where one part is left after some, there are no more
+pub skipped_last : (parts : List (List ℕ)) (i : ℕ) (last : List ℕ) → drop i parts ≡ last ∷ [] → length parts ≤ i + 1
+skipped_last parts i last e = omega (arith, length-drop i parts, ap length e)

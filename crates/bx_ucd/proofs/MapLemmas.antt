@@ -26,15 +26,21 @@ put_over value (Some l) same e old = refl
 put_over value None true e old = refl
 put_over value None false e old = refl
 
+-- one more entry replaces what it passes the test for
+pub put_more_if : {E V : Type 0} (test : E → Bool) (value : E → V) (es : List E) (i : ℕ) (d : E) (old new : Option V) → i < length es
+    → new ≡ cond (test (get_or es i d)) (Some (value (get_or es i d))) old
+    → option_or (option_map value (find_last test (drop i es))) old ≡ option_or (option_map value (find_last test (drop (i + 1) es))) new
+put_more_if test value es i d old new lt put =
+    at_drop_more (λ xs. option_or (option_map value (find_last test xs)) old) es i d lt
+    ∙ ap (λ o. option_or (option_map value o) old) (find_last-cons test (get_or es i d) (drop (i + 1) es))
+    ∙ put_over value (find_last test (drop (i + 1) es)) (test (get_or es i d)) (get_or es i d) old
+    ∙ ap (option_or (option_map value (find_last test (drop (i + 1) es)))) (sym put)
+
 -- one more entry is inserted
 pub put_more : {E V : Type 0} (key : E → ℕ) (value : E → V) (es : List E) (i : ℕ) (d : E) (code : ℕ) (old new : Option V) → i < length es
     → new ≡ cond (is_eq (nat_cmp (key (get_or es i d)) code)) (Some (value (get_or es i d))) old
     → option_or (option_map value (find_last (λ e. key e == code) (drop i es))) old
     ≡ option_or (option_map value (find_last (λ e. key e == code) (drop (i + 1) es))) new
 put_more key value es i d code old new lt put =
-    at_drop_more (λ xs. option_or (option_map value (find_last (λ e. key e == code) xs)) old) es i d lt
-    ∙ ap (λ o. option_or (option_map value o) old) (find_last-cons (λ e. key e == code) (get_or es i d) (drop (i + 1) es))
-    ∙ put_over value (find_last (λ e. key e == code) (drop (i + 1) es)) (key (get_or es i d) == code) (get_or es i d) old
-    ∙ ap (λ b. option_or (option_map value (find_last (λ e. key e == code) (drop (i + 1) es))) (cond b (Some (value (get_or es i d))) old))
-    (sym (is_eq-nat_cmp (key (get_or es i d)) code))
-    ∙ ap (option_or (option_map value (find_last (λ e. key e == code) (drop (i + 1) es)))) (sym put)
+    put_more_if (λ e. key e == code) value es i d old new lt
+    (put ∙ ap (λ b. cond b (Some (value (get_or es i d))) old) (is_eq-nat_cmp (key (get_or es i d)) code))

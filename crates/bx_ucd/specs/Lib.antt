@@ -6,10 +6,16 @@ pub mod Codes
 pub mod ClassFile
 pub mod BracketFile
 pub mod MirroringFile
+pub mod JoiningFile
+pub mod CharactersFile
 pub mod Blocks
 pub mod ClassTable
 pub mod CodeMap
 pub mod Answers
+pub mod Joining
+pub mod Forms
+pub mod JoinedLetters
 pub mod Reading
 pub mod SmallTables
+pub mod JoinedTables
 pub mod Data

@@ -3,8 +3,10 @@
 ghost use Rattle.std.specs.Prelude.{◌≡◌, ℕ, IfSome, false};
 ghost use Rattle.bx_ucd.specs.Control.{is_control};
 ghost use Rattle.bx_ucd.specs.Data.{Data};
+ghost use Rattle.bx_ucd.specs.declared.joining.Form.{Form};
 
 use crate::class::Class;
+use crate::joining::{Form, Joining};
 
 /// The side of a paired bracket (the property Bidi_Paired_Bracket_Type).
 #[derive(Clone, Copy, PartialEq, Eq, Debug)]
@@ -30,6 +32,17 @@ pub trait BidiData {
     fn mirror(&self, c: char) -> Option<char>
         ensures { result ≡ («data» self.now).mirror c };
 
+    /// The character's joining type (the property Joining_Type), as it counts: a letter that joins on a side has a form.
+    fn joining(&self, c: char) -> Joining
+        ensures { result ≡ («data» self.now).joining c };
+
+    /// The character that is this form of a letter, if there is one.
+    fn form(&self, c: char, form: Form) -> Option<char>
+        ensures { result ≡ («data» self.now).form c form };
+
     // A law: no mirror is a control character.
     ghost no_mirror_is_control: { (source : Self) (code : ℕ) → IfSome ((«data» source).mirror code) (λ m. is_control m ≡ false) };
+
+    // A law: no form is a control character.
+    ghost no_form_is_control: { (source : Self) (code : ℕ) (form : Form) → IfSome ((«data» source).form code form) (λ m. is_control m ≡ false) };
 }

@@ -18,6 +18,12 @@ pub enum UcdFile {
     /// BidiMirroring.txt
     #[error("mirroring")]
     Mirroring,
+    /// ArabicShaping.txt
+    #[error("joining")]
+    Joining,
+    /// UnicodeData.txt
+    #[error("characters")]
+    Characters,
 }
 
 /// The faults of a line, in the order of the checks: the first that fails is reported.
@@ -32,10 +38,10 @@ pub enum Cause {
     /// A range's end is below its start.
     #[error("bad range")]
     BadRange,
-    /// No class, or no side of a bracket, has this name.
+    /// No class, side of a bracket or joining type has this name.
     #[error("unknown value")]
     UnknownValue,
-    /// The character or its mirror is a control.
+    /// The character, its mirror or its form is a control.
     #[error("control in mirror")]
     ControlInMirror,
     /// An allocation failed. The line is 0, and later lines may be unread.
@@ -43,7 +49,7 @@ pub enum Cause {
     OutOfMemory,
 }
 
-/// The first refused line of the three files, or a failed allocation.
+/// The first refused line of the files, or a failed allocation.
 #[derive(Clone, Copy, PartialEq, Eq, Debug)]
 pub struct UcdError {
     pub file: UcdFile,

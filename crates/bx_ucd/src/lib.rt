@@ -3,6 +3,7 @@
 
 mod blocks;
 mod bracket_file;
+mod characters_file;
 pub mod class;
 mod class_file;
 mod class_table;
@@ -11,16 +12,23 @@ mod codes;
 pub mod data;
 pub mod error;
 mod file;
+mod forms;
+mod joined_letters;
+mod joining;
+mod joining_file;
 mod laws;
 mod lines;
 mod mirroring_file;
 mod parts;
 pub mod sample;
 mod tables;
+mod words;
 
 pub use class::Class;
 pub use data::{BidiData, Side};
 pub use error::{Cause, UcdError, UcdFile};
+pub use joined_letters::JoiningFiles;
+pub use joining::{Form, Joining};
 pub use laws::small_tables_are_read;
 pub use sample::sample_tables;
 pub use tables::Tables;

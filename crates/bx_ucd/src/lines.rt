@@ -43,7 +43,7 @@ pub fn split_line(bytes: &[u8]) -> (&[u8], &[u8])
 }
 
 /// Whether the byte is a space or a tab.
-fn is_blank(byte: u8) -> bool
+pub fn is_blank(byte: u8) -> bool
     ensures { result ≡ is_blank byte }
 {
     byte == b' ' || byte == b'\t'

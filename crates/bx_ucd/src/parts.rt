@@ -1,22 +1,23 @@
 //! Splits a text at a separator.
 
-ghost use Rattle.std.specs.Prelude.{◌≡◌, ◌==◌, [], ◌∷◌, MatchOption};
+ghost use Rattle.std.specs.Prelude.{◌≡◌, ◌≤◌, ◌==◌, [], ◌∷◌, MatchOption, count_by, drop, length};
 ghost use Rattle.std.specs.List.{slice_split};
 ghost use Rattle.bx_ucd.specs.Parts.{IsCut};
 
 use crate::lines::position_or_len;
 
-/// The parts of a text between separators, in order; `More` for four or more.
+/// The parts of a text between separators, in order; `More` for five or more.
 #[derive(Clone, Copy)]
 pub enum Parts<'a> {
     One(&'a [u8]),
     Two(&'a [u8], &'a [u8]),
     Three(&'a [u8], &'a [u8], &'a [u8]),
+    Four(&'a [u8], &'a [u8], &'a [u8], &'a [u8]),
     More,
 }
 
 /// The parts before and after the first separator, if the text has one.
-fn split_once(text: &[u8], separator: u8) -> Option<(&[u8], &[u8])>
+pub fn split_once(text: &[u8], separator: u8) -> Option<(&[u8], &[u8])>
     ensures { MatchOption result (slice_split (λ b. b == separator) text.now ≡ text.now ∷ [])
         (λ p. slice_split (λ b. b == separator) text.now ≡ p.0.now ∷ slice_split (λ b. b == separator) p.1.now) }
 {
@@ -38,8 +39,33 @@ pub fn cut(text: &[u8], separator: u8) -> Parts<'_>
     let Some((second, rest)) = split_once(rest, separator) else {
         return Parts::Two(first, rest);
     };
+    let Some((third, rest)) = split_once(rest, separator) else {
+        return Parts::Three(first, second, rest);
+    };
     match split_once(rest, separator) {
-        None => Parts::Three(first, second, rest),
+        None => Parts::Four(first, second, third, rest),
         Some(_) => Parts::More,
     }
+}
+
+/// The text behind its first `count` parts; none if it has no more.
+pub fn skip_parts(text: &[u8], separator: u8, count: usize) -> Option<&[u8]>
+    ensures { MatchOption result (length (slice_split (λ b. b == separator) text.now) ≤ count)
+        (λ rest. drop count (slice_split (λ b. b == separator) text.now) ≡ slice_split (λ b. b == separator) rest.now) }
+{
+    let mut rest = text;
+    for _ in 0..count {
+        let Some((_, later)) = split_once(rest, separator) else {
+            return None;
+        };
+        rest = later;
+    }
+    Some(rest)
+}
+
+/// The number of separators in a text.
+pub fn separators(text: &[u8], separator: u8) -> usize
+    ensures { result ≡ count_by (λ b. b == separator) text.now }
+{
+    text.iter().filter(|b| **b == separator).count()
 }

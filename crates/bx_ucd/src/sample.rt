@@ -68,6 +68,7 @@ pub fn sample_tables(alloc: Global) -> Result<Tables, UcdError>
         CLASSES.as_bytes(),
         BRACKETS.as_bytes(),
         MIRRORING.as_bytes(),
+        None,
     )?;
     Ok(tables)
 }

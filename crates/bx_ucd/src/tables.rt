@@ -1,6 +1,6 @@
-//! The tables built from Unicode's three files.
+//! The tables built from Unicode's files.
 
-ghost use Rattle.std.specs.Prelude.{◌≡◌, ℕ, ◌<◌, ◌⊎◌, false, None, Some, IfOk, IfErr};
+ghost use Rattle.std.specs.Prelude.{◌≡◌, ℕ, ◌<◌, ◌⊎◌, false, None, Some, IfOk, IfErr, MatchOption};
 ghost use Rattle.std.specs.Option.{ForSome};
 ghost use Rattle.bx_ucd.specs.Answers.{bracket_by_lines, class_by_lines, mirror_by_lines};
 ghost use Rattle.bx_ucd.specs.ClassFile.{class_lines};
@@ -8,9 +8,14 @@ ghost use Rattle.bx_ucd.specs.ClassTable.{class_in_table};
 ghost use Rattle.bx_ucd.specs.BracketFile.{bracket_lines};
 ghost use Rattle.bx_ucd.specs.CodeMap.{value_in};
 ghost use Rattle.bx_ucd.specs.Control.{is_control, no_control_if_some};
-ghost use Rattle.bx_ucd.specs.Lines.{first_refusal, TellsRefusal};
+ghost use Rattle.bx_ucd.specs.Lines.{first_refusal, no_memory_in, TellsRefusal};
 ghost use Rattle.bx_ucd.specs.MirroringFile.{mirror_lines};
 ghost use Rattle.bx_ucd.specs.Reading.{refusal, NoMemoryAfter, class_in_file, bracket_in_file, mirror_in_file};
+ghost use Rattle.bx_ucd.specs.Reading.{TellsJoining, form_if_any, joining_if_any, joining_refusal_if_any, texts_of};
+ghost use Rattle.bx_ucd.specs.JoinedLetters.{type_in};
+ghost use Rattle.bx_ucd.specs.Forms.{form_in_map};
+ghost use Rattle.bx_ucd.specs.declared.class.Class.{Class};
+ghost use Rattle.bx_ucd.specs.declared.joining.Form.{Form};
 
 use crate::blocks::painted_blocks;
 use crate::bracket_file::BracketEntry;
@@ -21,6 +26,8 @@ use crate::code_map::CodeMap;
 use crate::data::{BidiData, Side};
 use crate::error::{UcdError, UcdFile};
 use crate::file::read_entries;
+use crate::joined_letters::{JoinedLetters, JoiningFiles};
+use crate::joining::{Form, Joining};
 use crate::mirroring_file::MirrorEntry;
 use std::alloc::{AllocError, Global};
 
@@ -30,6 +37,7 @@ pub struct Tables {
     classes: ClassTable,
     brackets: CodeMap<(Side, char)>,
     mirrors: CodeMap<char>,
+    joined: JoinedLetters,
     ghost no_control: { (code : ℕ) → ForSome (value_in mirrors code) (λ m. is_control m ≡ false) },
 }
 
@@ -102,33 +110,64 @@ fn read_mirrors(alloc: Global, bytes: &[u8]) -> Result<CodeMap<char>, UcdError>
     }
 }
 
+/// Reads ArabicShaping.txt and UnicodeData.txt, if they are given. Where they are not, a failed allocation counts as one of
+/// the file read before.
+fn read_joined(alloc: Global, files: Option<JoiningFiles<'_>>) -> Result<JoinedLetters, UcdError>
+    ensures accepted { IfOk result (λ _. joining_refusal_if_any (texts_of files.entry) ≡ None) }
+    ensures joining { IfOk result (λ j. (class : Class) (c : ℕ) → type_in j class c ≡ joining_if_any (texts_of files.entry) class c) }
+    ensures forms { IfOk result (λ j. (letter : ℕ) (form : Form) → form_in_map j.forms letter form ≡ form_if_any (texts_of files.entry) letter form) }
+    ensures refused { IfErr result (λ e. MatchOption (texts_of files.entry) (e ≡ no_memory_in UcdFile.Mirroring) (λ texts. TellsJoining texts e)) }
+{
+    match files {
+        Some(files) => JoinedLetters::read(alloc, files.joining, files.characters),
+        None => match JoinedLetters::none(alloc) {
+            Ok(joined) => Ok(joined),
+            Err(_) => Err(UcdError::out_of_memory(UcdFile::Mirroring)),
+        },
+    }
+}
+
 impl Tables {
-    /// Reads the bytes of DerivedBidiClass.txt, BidiBrackets.txt and BidiMirroring.txt, in this order, up to the first
-    /// malformed line. The error of a failed allocation names the file that was being read; its later lines may be unread.
+    /// Reads the bytes of DerivedBidiClass.txt, BidiBrackets.txt and BidiMirroring.txt, and those of ArabicShaping.txt and
+    /// UnicodeData.txt if they are given, in this order, up to the first malformed line. The error of a failed allocation names the file that was being read; its later lines may be unread.
     pub fn read(
         alloc: Global,
         classes: &[u8],
         brackets: &[u8],
         mirroring: &[u8],
+        joining: Option<JoiningFiles<'_>>,
     ) -> Result<Tables, UcdError>
-        ensures accepted { IfOk result (λ _. refusal classes.now brackets.now mirroring.now ≡ None) }
+        ensures accepted { IfOk result (λ _. refusal classes.now brackets.now mirroring.now (texts_of joining.entry) ≡ None) }
         ensures classes { IfOk result (λ t. (code : ℕ) → (⟦<Tables as BidiData>⟧.data t).class code ≡ class_in_file classes.now code) }
         ensures brackets { IfOk result (λ t. (code : ℕ) → (⟦<Tables as BidiData>⟧.data t).bracket code ≡ bracket_in_file brackets.now code) }
         ensures mirrors { IfOk result (λ t. (code : ℕ) → (⟦<Tables as BidiData>⟧.data t).mirror code ≡ mirror_in_file mirroring.now code) }
-        ensures refused { IfErr result (λ e. (refusal classes.now brackets.now mirroring.now ≡ Some e) ⊎ NoMemoryAfter classes.now brackets.now e) }
+        ensures joining { IfOk result (λ t. (code : ℕ) → (⟦<Tables as BidiData>⟧.data t).joining code
+            ≡ joining_if_any (texts_of joining.entry) (class_in_file classes.now code) code) }
+        ensures forms { IfOk result (λ t. (code : ℕ) (form : Form) → (⟦<Tables as BidiData>⟧.data t).form code form ≡ form_if_any (texts_of joining.entry) code form) }
+        ensures refused { IfErr result (λ e. (refusal classes.now brackets.now mirroring.now (texts_of joining.entry) ≡ Some e)
+            ⊎ NoMemoryAfter classes.now brackets.now mirroring.now (texts_of joining.entry) e) }
     {
         Ok(Tables {
             classes: read_classes(alloc, classes)?,
             brackets: read_brackets(alloc, brackets)?,
             mirrors: read_mirrors(alloc, mirroring)?,
+            joined: read_joined(alloc, joining)?,
         })
     }
 }
 
 impl BidiData for Tables {
-    ghost data = { λ t. record { class = class_in_table t.classes; bracket = value_in t.brackets; mirror = value_in t.mirrors } };
+    ghost data = { λ t. record {
+      class = class_in_table t.classes;
+      bracket = value_in t.brackets;
+      mirror = value_in t.mirrors;
+      joining = λ c. type_in t.joined (class_in_table t.classes c) c;
+      form = form_in_map t.joined.forms;
+    } };
 
     ghost no_mirror_is_control = { λ t code. no_control_if_some (value_in t.mirrors code) (t.no_control code) };
+
+    ghost no_form_is_control = { λ t code form. no_control_if_some (form_in_map t.joined.forms code form) (t.joined.no_control code form) };
 
     fn class(&self, c: char) -> Class {
         self.classes.class(c)
@@ -140,5 +179,13 @@ impl BidiData for Tables {
 
     fn mirror(&self, c: char) -> Option<char> {
         self.mirrors.get(c)
+    }
+
+    fn joining(&self, c: char) -> Joining {
+        self.joined.joining(self.classes.class(c), c)
+    }
+
+    fn form(&self, c: char, form: Form) -> Option<char> {
+        self.joined.form(c, form)
     }
 }

@@ -47,7 +47,7 @@ fn check(alloc: Global, tables: &Tables) -> Result<(), Fail> {
 
 #[test]
 fn worked_pairs(rt: HostRuntime) -> Result<(), Fail> {
-    let tables = Tables::read(rt.alloc(), b"", BRACKETS.as_bytes(), b"")?;
+    let tables = Tables::read(rt.alloc(), b"", BRACKETS.as_bytes(), b"", None)?;
     check(rt.alloc(), &tables)
 }
 

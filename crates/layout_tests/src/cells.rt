@@ -12,7 +12,7 @@ const CLASSES: &str = "\
 
 #[test]
 fn faces_of_clusters(rt: HostRuntime) -> Result<(), Fail> {
-    let tables = Tables::read(rt.alloc(), CLASSES.as_bytes(), b"", b"")?;
+    let tables = Tables::read(rt.alloc(), CLASSES.as_bytes(), b"", b"", None)?;
     assert_eq!(rt; face("a", &tables, 4), Face::Own(1));
     assert_eq!(rt; face("\t", &tables, 4), Face::Tab);
     assert_eq!(rt; face("\r\n", &tables, 4), Face::Mark(b'?'));
@@ -25,7 +25,7 @@ fn faces_of_clusters(rt: HostRuntime) -> Result<(), Fail> {
 
 #[test]
 fn units_of_a_mixed_body(rt: HostRuntime) -> Result<(), Fail> {
-    let tables = Tables::read(rt.alloc(), CLASSES.as_bytes(), b"", b"")?;
+    let tables = Tables::read(rt.alloc(), CLASSES.as_bytes(), b"", b"", None)?;
     let found = units(
         rt.alloc(),
         "e\u{301}\t\u{5d0}\u{2067}\u{1f1e9}\u{1f1ea}",
@@ -82,7 +82,7 @@ fn clusters_one_by_one(rt: HostRuntime) -> Result<(), Fail> {
         stop: 3,
     };
     assert_eq!(rt; simple_cluster("e\u{301}x", 0), Some(wanted));
-    let tables = Tables::read(rt.alloc(), CLASSES.as_bytes(), b"", b"")?;
+    let tables = Tables::read(rt.alloc(), CLASSES.as_bytes(), b"", b"", None)?;
     let flag = Unit {
         start: 0,
         stop: 8,

@@ -25,7 +25,7 @@ fn verdict(
     brackets: &[u8],
     mirroring: &[u8],
 ) -> Result<String, AllocError> {
-    match Tables::read(alloc, classes, brackets, mirroring) {
+    match Tables::read(alloc, classes, brackets, mirroring, None) {
         Ok(_) => String::from_str(alloc, "accepted"),
         Err(error) => format!(in alloc; "{error}"),
     }
@@ -120,7 +120,7 @@ fn class_of<D: BidiData>(tables: &D, c: char) -> Class {
 #[test]
 fn data_line_default_and_neither(rt: HostRuntime) -> Result<(), Fail> {
     let file = b"# @missing: 0041..0042; Right_To_Left\n0041 ; L";
-    let tables = Tables::read(rt.alloc(), file, b"", b"")?;
+    let tables = Tables::read(rt.alloc(), file, b"", b"", None)?;
     assert_eq!(rt; class_of(&tables, 'A'), Class::L);
     assert_eq!(rt; class_of(&tables, 'B'), Class::R);
     assert_eq!(rt; class_of(&tables, 'C'), Class::L);
@@ -130,7 +130,7 @@ fn data_line_default_and_neither(rt: HostRuntime) -> Result<(), Fail> {
 #[test]
 fn later_line_wins(rt: HostRuntime) -> Result<(), Fail> {
     let file = b"0041..0050 ; R\n0045 ; Left_To_Right";
-    let tables = Tables::read(rt.alloc(), file, b"", b"")?;
+    let tables = Tables::read(rt.alloc(), file, b"", b"", None)?;
     assert_eq!(rt; class_of(&tables, 'E'), Class::L);
     assert_eq!(rt; class_of(&tables, 'F'), Class::R);
     Ok(())
@@ -140,7 +140,7 @@ fn later_line_wins(rt: HostRuntime) -> Result<(), Fail> {
 fn brackets_and_mirrors_by_the_last_line(rt: HostRuntime) -> Result<(), Fail> {
     let brackets = b"0028; 0029; o\n0029; 0028; c\n0028; 005D; o\n";
     let mirroring = b"0028; 005B\n0028; 0029\n";
-    let tables = Tables::read(rt.alloc(), b"", brackets, mirroring)?;
+    let tables = Tables::read(rt.alloc(), b"", brackets, mirroring, None)?;
     let opener = Some((Side::Opener, ']'));
     assert_eq!(rt; answers(&tables, '('), (Class::L, opener, Some(')')));
     let closer = Some((Side::Closer, '('));

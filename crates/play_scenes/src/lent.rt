@@ -1,6 +1,6 @@
 //! Tables that consecutive worlds share.
 
-use bx_ucd::{BidiData, Class, Side};
+use bx_ucd::{BidiData, Class, Form, Joining, Side};
 
 /// Borrowed tables.
 #[derive(Drop)]
@@ -13,6 +13,8 @@ impl<D: BidiData> BidiData for Lent<'_, D> {
 
     ghost no_mirror_is_control = { λ s c. D.no_mirror_is_control s.tables.now c };
 
+    ghost no_form_is_control = { λ s c form. D.no_form_is_control s.tables.now c form };
+
     fn class(&self, c: char) -> Class {
         self.tables.class(c)
     }
@@ -23,5 +25,13 @@ impl<D: BidiData> BidiData for Lent<'_, D> {
 
     fn mirror(&self, c: char) -> Option<char> {
         self.tables.mirror(c)
+    }
+
+    fn joining(&self, c: char) -> Joining {
+        self.tables.joining(c)
+    }
+
+    fn form(&self, c: char, form: Form) -> Option<char> {
+        self.tables.form(c, form)
     }
 }

@@ -89,7 +89,7 @@ fn tables_of<R: Files + AllocGlobal>(rt: &R, paths: &[String]) -> Result<Tables,
     let classes = fs::read(rt, classes.as_str())?;
     let brackets = fs::read(rt, brackets.as_str())?;
     let mirroring = fs::read(rt, mirroring.as_str())?;
-    Ok(Tables::read(rt.alloc(), &classes, &brackets, &mirroring)?)
+    Ok(Tables::read(rt.alloc(), &classes, &brackets, &mirroring, None)?)
 }
 
 /// Plays the scene of a line and prints its answers. Returns whether `step` and `play` agree in it.

@@ -1,6 +1,6 @@
 //! Tables that count the questions asked.
 
-use bx_ucd::{BidiData, Class, Side, Tables, UcdError, sample_tables};
+use bx_ucd::{BidiData, Class, Form, Joining, Side, Tables, UcdError, sample_tables};
 use std::alloc::Global;
 use std::cell::Cell;
 
@@ -32,6 +32,8 @@ impl BidiData for Counting {
 
     ghost no_mirror_is_control = { λ _ _. tt };
 
+    ghost no_form_is_control = { λ s c form. ⟦<Tables as BidiData>⟧.no_form_is_control s.tables c form };
+
     fn class(&self, c: char) -> Class {
         self.asked.set(self.asked.get().wrapping_add(1));
         self.tables.class(c)
@@ -44,5 +46,13 @@ impl BidiData for Counting {
     fn mirror(&self, c: char) -> Option<char> {
         let _ = c;
         None
+    }
+
+    fn joining(&self, c: char) -> Joining {
+        self.tables.joining(c)
+    }
+
+    fn form(&self, c: char, form: Form) -> Option<char> {
+        self.tables.form(c, form)
     }
 }

@@ -44,6 +44,7 @@ fn read_tables<R: AllocGlobal>(rt: &R, files: &DataFiles) -> Result<Tables>
         &files.classes,
         &files.brackets,
         &files.mirroring,
+        None,
     )?;
     Ok(tables)
 }

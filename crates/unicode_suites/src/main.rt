@@ -30,7 +30,7 @@ fn read_tables<R: Files + AllocGlobal>(rt: &R, paths: &[String]) -> Result<Table
     let classes = fs::read(rt, classes.as_str()).context("classes")?;
     let brackets = fs::read(rt, brackets.as_str()).context("brackets")?;
     let mirroring = fs::read(rt, mirroring.as_str()).context("mirroring")?;
-    Ok(Tables::read(rt.alloc(), &classes, &brackets, &mirroring)?)
+    Ok(Tables::read(rt.alloc(), &classes, &brackets, &mirroring, None)?)
 }
 
 /// Prints the score of a suite of levels and orders. Returns whether all cases agree.

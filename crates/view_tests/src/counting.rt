@@ -3,7 +3,7 @@
 use crate::scene::document_of;
 use bx_document::Document;
 use bx_terms::Base;
-use bx_ucd::{BidiData, Class, Side, Tables, sample_tables};
+use bx_ucd::{BidiData, Class, Form, Joining, Side, Tables, sample_tables};
 use bx_view::Move;
 use std::alloc::Global;
 use std::cell::Cell;
@@ -23,6 +23,8 @@ impl BidiData for Counting<'_> {
 
     ghost no_mirror_is_control = { λ _ _. tt };
 
+    ghost no_form_is_control = { λ s c form. ⟦<Tables as BidiData>⟧.no_form_is_control s.tables c form };
+
     fn class(&self, c: char) -> Class {
         self.questions.set(self.questions.get().wrapping_add(1));
         self.tables.class(c)
@@ -35,6 +37,14 @@ impl BidiData for Counting<'_> {
     fn mirror(&self, c: char) -> Option<char> {
         let _ = c;
         None
+    }
+
+    fn joining(&self, c: char) -> Joining {
+        self.tables.joining(c)
+    }
+
+    fn form(&self, c: char, form: Form) -> Option<char> {
+        self.tables.form(c, form)
     }
 }
 

@@ -25,7 +25,7 @@ fn leads(
     from: usize,
     places: &[usize],
 ) -> Result<bool, Fail> {
-    let tables = Tables::read(alloc, CLASSES.as_bytes(), b"", b"")?;
+    let tables = Tables::read(alloc, CLASSES.as_bytes(), b"", b"", None)?;
     let mut scene = Scene::with_tables(alloc, text, tables, 20, Base::Auto)?;
     let mut place = from;
     for wanted in places {

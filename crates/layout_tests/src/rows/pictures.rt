@@ -234,6 +234,7 @@ fn a_wider_mirror_is_not_taken(rt: HostRuntime) -> Result<(), Fail> {
         CLASSES.as_bytes(),
         BRACKETS.as_bytes(),
         mirroring,
+        None,
     )?;
     check(
         rt.alloc(),
@@ -246,6 +247,6 @@ fn a_wider_mirror_is_not_taken(rt: HostRuntime) -> Result<(), Fail> {
 fn a_mirror_of_several_glyphs(rt: HostRuntime) -> Result<(), Fail> {
     let classes = b"4E16 ; R\n0301 ; NSM\n";
     let mirroring = b"4E16; 0061\n0301; 0062\n";
-    let tables = Tables::read(rt.alloc(), classes, b"", mirroring)?;
+    let tables = Tables::read(rt.alloc(), classes, b"", mirroring, None)?;
     check(rt.alloc(), &tables, "auto\t2\t\u{4e16}\u{301}\tab")
 }

@@ -1,6 +1,8 @@
 use Rattle.bx_ucd.specs.Data.{Data}
 use Rattle.bx_ucd.specs.ClassTable.{class_in_table}
 use Rattle.bx_ucd.specs.CodeMap.{value_in}
+use Rattle.bx_ucd.specs.Forms.{form_in_map}
+use Rattle.bx_ucd.specs.JoinedLetters.{type_in}
 use Rattle.bx_ucd.specs.declared.tables.Tables.{Tables}
 use Rattle.bidi_edit.proofs.Edited.{recovers_of}
 use Rattle.bidi_edit.specs.Run.{bytes_of}
@@ -12,6 +14,8 @@ returns g c =
       class = class_in_table t.classes;
       bracket = value_in t.brackets;
       mirror = value_in t.mirrors;
+      joining = λ c. type_in t.joined (class_in_table t.classes c) c;
+      form = form_in_map t.joined.forms;
     } in
     let b = c.args.beginning in record {
       recovers = recovers_of (says c.in_ok-session.session.tables) (bytes_of b.text) b.rows b.cols b.direction b.unsaved b.keys.now _ _ _

@@ -1,0 +1,86 @@
+//! How letters join: joining types, and the forms that letters have.
+
+ghost use Rattle.std.specs.Prelude.{◌≡◌};
+ghost use Rattle.bx_ucd.specs.Joining.{counted, is_direction_mark, is_transparent, joining_by_class, needs_form};
+
+use crate::class::Class;
+use bx_terms::is_control;
+
+/// A joining type (the property Joining_Type), under its short name in the data files.
+#[derive(Clone, Copy, PartialEq, Eq, Debug)]
+pub enum Joining {
+    /// Right_Joining: joins the letter before it alone.
+    R,
+    /// Left_Joining: joins the letter after it alone.
+    L,
+    /// Dual_Joining: joins on both sides.
+    D,
+    /// Join_Causing: joins on both sides, and keeps its own form.
+    C,
+    /// Non_Joining
+    U,
+    /// Transparent: letters on its two sides join as if it were not there.
+    T,
+}
+
+/// The form of a letter, by the sides on which it joins.
+#[derive(Clone, Copy, PartialEq, Eq, Debug)]
+pub enum Form {
+    /// It joins on no side.
+    Isolated,
+    /// It joins the letter after it alone.
+    Initial,
+    /// It joins on both sides.
+    Medial,
+    /// It joins the letter before it alone.
+    Final,
+}
+
+/// Whether a character is ARABIC LETTER MARK, LEFT-TO-RIGHT MARK or RIGHT-TO-LEFT MARK.
+fn is_direction_mark(c: char) -> bool
+    ensures { result ≡ is_direction_mark c }
+{
+    c == '\u{61c}' || c == '\u{200e}' || c == '\u{200f}'
+}
+
+/// Whether letters join across a character of this class, where no line gives its joining type.
+fn is_transparent(class: Class, c: char) -> bool
+    ensures { result ≡ is_transparent class c }
+{
+    match class {
+        Class::NSM | Class::PDF | Class::PDI => true,
+        Class::LRE | Class::RLE | Class::LRO | Class::RLO => true,
+        Class::LRI | Class::RLI | Class::FSI => true,
+        Class::BN => !is_control(c),
+        _ => false,
+    }
+}
+
+/// The joining type of a character of this class, where no line gives it.
+pub(crate) fn joining_by_class(class: Class, c: char) -> Joining
+    ensures { result ≡ joining_by_class class c }
+{
+    if is_direction_mark(c) || is_transparent(class, c) {
+        Joining::T
+    } else {
+        Joining::U
+    }
+}
+
+/// Whether a letter of this type joins only if it has a form.
+fn needs_form(joining: Joining) -> bool
+    ensures { result ≡ needs_form joining }
+{
+    matches!(joining, Joining::R | Joining::L | Joining::D)
+}
+
+/// The type as which a letter's own type counts.
+pub(crate) fn counted(joining: Joining, has_form: bool) -> Joining
+    ensures { result ≡ counted joining has_form }
+{
+    if needs_form(joining) && !has_form {
+        Joining::U
+    } else {
+        joining
+    }
+}
