@@ -27,6 +27,10 @@ pub mod Leveled
 pub mod MirroredLetters
 pub mod PlainPictures
 mod Examples
+mod JoiningExamples
+pub mod FormsAt
+pub mod JoinedNeighbours
+pub mod JoinedColumns
 mod LawExamples
 pub mod Unmirrored
 pub mod PlainRows
