@@ -28,8 +28,6 @@ pub mod MirroredLetters
 pub mod PlainPictures
 mod Examples
 mod JoiningExamples
-pub mod FormsAt
-pub mod JoinedNeighbours
 pub mod JoinedColumns
 mod LawExamples
 pub mod Unmirrored

@@ -1,18 +1,10 @@
--- Laws of letters that join.
-use Rattle.std.specs.Prelude.{◌≡◌, ℕ, Bool, false, true, All, List, ◌∷◌, ◌++◌, Option, None, flat_map, replicate, reverse}
+-- A law of pictures with joined letters.
+use Rattle.std.specs.Prelude.{◌≡◌, ℕ, Bool, All, List, Option, None, flat_map, replicate}
 use Rattle.bx_ucd.specs.Data.{Data}
 use Rattle.bx_ucd.specs.declared.joining.Joining.TheVariants.{U}
 use Rattle.bx_cells.specs.declared.unit.Unit.{Unit}
 use Rattle.bx_cells.specs.Units.{HasFace}
-use Rattle.bx_rows.specs.Joining.{Joiner, is_transparent, joins_after, joins_before}
 use Rattle.bx_rows.specs.RowPicture.{Glyph, draw}
-
--- Joining is symmetric: of two characters with only transparent ones between them, the first joins the one after it exactly
--- where the second joins the one before it, whatever stands around them.
-abbrev pub JoiningIsSymmetric : Type 0
-JoiningIsSymmetric = (first second : Joiner) (between before after : List Joiner) → is_transparent first.0 ≡ false → is_transparent second.0 ≡ false
-    → All (λ c. is_transparent c.0 ≡ true) between
-    → joins_after first (between ++ second ∷ after) ≡ joins_before (reverse between ++ first ∷ before) second
 
 -- what the tables say, without joined letters
 abbrev pub unjoined : Data → Data

@@ -11,7 +11,8 @@ use Rattle.bx_cells.specs.declared.unit.Face.TheVariants.{Tab, Mark, Own}
 use Rattle.bx_cells.specs.declared.unit.Unit.{Unit}
 use Rattle.bx_cells.specs.Faces.{face}
 use Rattle.bx_cells.specs.Units.{unit_text}
-use Rattle.bx_rows.specs.Joining.{unit_forms}
+use Rattle.bx_joining.specs.JoinedText.{joined_image}
+use Rattle.bx_rows.specs.UnitForms.{unit_forms}
 use Rattle.bx_rows.specs.Wrapping.{columns_at}
 use Rattle.bx_rows.specs.VisualOrder.{visual}
 
@@ -47,15 +48,6 @@ is_own n _ = false
 -- the mirrored text if it is shown as itself in `n` columns, else the text
 abbrev pub mirror_image_within : Data → ℕ → ℕ → List ℕ → List ℕ
 mirror_image_within says w n text = let other = mirror_image says text in elim (is_own n (face says w other)) [ true ↦ other | false ↦ text ]
-
--- characters in their forms: each is the form of a letter, or the character given in its place where the letter has no such form
-abbrev pub in_forms : Data → List Form → List ℕ → List ℕ → List ℕ
-in_forms says (f ∷ fs) (letter ∷ letters) (c ∷ cs) = unwrap_or (says.form letter f) c ∷ in_forms says fs letters cs
-in_forms says _ _ cs = cs
-
--- a text with the forms of another text's letters
-abbrev pub joined_image : Data → List Form → List ℕ → List ℕ → List ℕ
-joined_image says forms text shown = encode_utf8_all (in_forms says forms (chars text) (chars shown))
 
 -- the text with these forms if it is shown as itself in `n` columns, else without
 abbrev pub joined_image_within : Data → ℕ → ℕ → List Form → List ℕ → List ℕ → List ℕ

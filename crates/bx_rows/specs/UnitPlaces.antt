@@ -2,7 +2,9 @@
 use Rattle.std.specs.Prelude.{◌≡◌, ◌≤◌, ℕ, List, length, take, chars}
 use Rattle.bx_ucd.specs.Data.{Data}
 use Rattle.bx_ucd.specs.declared.joining.Form.{Form}
-use Rattle.bx_rows.specs.Joining.{StandsAt, StartsRow, text_forms}
+use Rattle.bx_joining.specs.Joining.{text_forms}
+use Rattle.bx_joining.specs.Places.{StandsAt}
+use Rattle.bx_rows.specs.UnitForms.{StartsRow}
 use Rattle.bx_rows.specs.declared.glyphs.UnitAt.{UnitAt}
 
 -- a text stands at the place, not before its row

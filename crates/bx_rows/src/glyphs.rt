@@ -9,10 +9,11 @@ ghost use Rattle.bx_rows.specs.UnitPlaces.{StandsInRow, forms_of_unit};
 ghost use Rattle.bx_rows.specs.Shown.{HasLetter, glyph_of};
 
 use crate::drawn::{Drawn, RowPicture};
-use crate::forms::RowAt;
-use crate::joined_text::{OwnSize, has_forms, joined};
+use crate::joined_text::{OwnSize, joined};
 use crate::mirrors::{has_mirror, mirrored};
+use crate::row_at::RowAt;
 use bx_cells::Face;
+use bx_joining::has_forms;
 use bx_terms::are_ascii_printable;
 use bx_ucd::BidiData;
 use std::alloc::{AllocError, Global};

@@ -3,16 +3,20 @@ ghost use Rattle.std.specs.Prelude.{◌≡◌, ◌∷◌, ◌++◌, [], ℕ, IfO
 ghost use Rattle.std.specs.Prelude.{encode_utf8_all};
 ghost use Rattle.std.specs.Cow.{cow_str_bytes};
 ghost use Rattle.std.specs.Str.{IsCharBoundary};
-ghost use Rattle.bx_rows.specs.Joining.{StandsAt, StartsRow, body_forms, text_forms};
+ghost use Rattle.bx_joining.specs.JoinedText.{joined_image};
+ghost use Rattle.bx_joining.specs.Joining.{body_forms, text_forms};
+ghost use Rattle.bx_joining.specs.Places.{StandsAt};
+ghost use Rattle.bx_rows.specs.UnitForms.{StartsRow};
 ghost use Rattle.bx_rows.specs.PlainRows.{leveled_glyphs, mirrored_glyphs};
-ghost use Rattle.bx_rows.specs.RowPicture.{glyph, joined_image, joined_image_within};
+ghost use Rattle.bx_rows.specs.RowPicture.{glyph, joined_image_within};
 ghost use Rattle.bx_rows.specs.Shown.{glyph_of};
 ghost use Rattle.bx_ucd.specs.declared.joining.Form.{Form};
 
 use crate::drawn::Drawn;
-use crate::forms::{RowAt, TextAt, form_at};
+use crate::row_at::RowAt;
 use crate::glyphs::is_own;
 use bx_cells::face;
+use bx_joining::{TextAt, joined_image, shown_form};
 use bx_terms::first_char;
 use bx_ucd::{BidiData, Form};
 use std::alloc::{AllocError, Global};
@@ -23,60 +27,6 @@ use std::borrow::CowStr;
 pub(crate) struct OwnSize {
     pub(crate) columns: u16,
     pub(crate) w: u16,
-}
-
-/// Whether a character is a letter with a form.
-#[inline(always)]
-pub(crate) fn has_form<D: BidiData>(c: char, tables: &D) -> bool
-    ensures { result ≡ false → (form : Form) → (D.data tables.now).form c form ≡ None }
-{
-    tables.form(c, Form::Isolated).is_some()
-        || tables.form(c, Form::Initial).is_some()
-        || tables.form(c, Form::Medial).is_some()
-        || tables.form(c, Form::Final).is_some()
-}
-
-/// Whether a character of a text is a letter with a form.
-pub(crate) fn has_forms<D: BidiData>(text: &str, tables: &D) -> bool
-    ensures { result ≡ false → (forms : List Form) (shown : List ℕ) → IsUtf8 shown → joined_image (D.data tables.now) forms text.now shown ≡ shown }
-{
-    for c in text.chars() {
-        if has_form(c, tables) {
-            return true;
-        }
-    }
-    false
-}
-
-/// The text `shown` with the forms of the letters of `text`, which stands in its body at a place. It has a character for
-/// each of `text`; one whose letter has no such form stays.
-fn joined_image<D: BidiData>(
-    alloc: Global,
-    text: &str,
-    shown: &str,
-    at: TextAt<'_>,
-    tables: &D,
-) -> Result<String, AllocError>
-    requires stands { StandsAt at.body.text.now text.now at.offset at.number }
-    requires count { length (chars shown.now) ≡ length (chars text.now) }
-    ensures { IfOk result (λ t. string_bytes t ≡ joined_image (D.data tables.now)
-        (text_forms (D.data tables.now) at.entry.body.text.now at.entry.body.each.now at.entry.number text.now) text.now shown.now) }
-{
-    let mut other = String::new(alloc);
-    let mut left = shown;
-    let mut offset = at.offset;
-    let mut number = at.number;
-    for letter in text.chars() {
-        let Some((c, behind)) = first_char(left) else {
-            return Ok(other);
-        };
-        let form = form_at(at.body, offset, number, tables);
-        other.push(tables.form(letter, form).unwrap_or(c))?;
-        left = behind;
-        offset += letter.len_utf8();
-        number += 1;
-    }
-    Ok(other)
 }
 
 /// The text `shown` in the forms of the letters of `text`, if that is shown as itself in `columns` columns; else none, and
@@ -120,11 +70,7 @@ fn join_at<D: BidiData>(
         (slice_index_or (body_forms (D.data tables.now) at.entry.body.text.now at.entry.body.each.now) at.entry.number Form.Isolated ∷ [])
         (encode_utf8 letter) (cow_str_bytes drawn.old.text)) drawn.old.columns drawn.old.negative) }
 {
-    if !has_form(letter, tables) {
-        return Ok(());
-    }
-    let form = form_at(at.body, at.offset, at.number, tables);
-    let Some(shown) = tables.form(letter, form) else {
+    let Some(shown) = shown_form(letter, at, tables) else {
         return Ok(());
     };
     let mut other = String::new(alloc);

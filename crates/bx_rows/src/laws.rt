@@ -1,7 +1,7 @@
 //! Laws of units, rows, visual order and pictures. The functions are empty: their contracts are the laws.
 
 ghost use Rattle.bx_rows.specs.Laws.{RowsAreOfRest, RowsCutUnits, RowsEndWell, RowsMeetAgain, UnitsFitWindow, UnitsMakeBody, UnitsStandInTurn};
-ghost use Rattle.bx_rows.specs.JoiningLaws.{FormsChangeTextsAlone, JoiningIsSymmetric};
+ghost use Rattle.bx_rows.specs.JoiningLaws.{FormsChangeTextsAlone};
 ghost use Rattle.bx_rows.specs.OrderLaws.{EqualLevelsOrder, LowestLevelsOrder, LowestStaysBetween, OrdersArePermutations, PicturesGoByLevels, PicturesShowUnits, StaysBetween};
 
 /// The units of a body joined are the body: they are adjacent from its start to its end. Each fits in the window.
@@ -39,11 +39,6 @@ pub fn lowest_levels_order_units()
 pub fn pictures_show_units()
     ensures once { PicturesShowUnits }
     ensures order { PicturesGoByLevels }
-{}
-
-/// A letter joins the one after it exactly where that one joins the one before it.
-pub fn joining_is_symmetric()
-    ensures { JoiningIsSymmetric }
 {}
 
 /// Joined letters change the texts of a picture's glyphs alone.

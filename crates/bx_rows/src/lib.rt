@@ -5,7 +5,6 @@
 
 mod ascii_part;
 mod drawn;
-mod forms;
 mod glyphs;
 mod joined_text;
 mod laws;
@@ -19,6 +18,7 @@ mod picture;
 mod plain_picture;
 mod plain_row;
 mod row;
+mod row_at;
 mod row_part;
 mod row_scan;
 mod start_search;
@@ -28,7 +28,7 @@ mod wrapping;
 
 pub use drawn::{Drawn, RowPicture};
 pub use laws::{
-    forms_change_texts_alone, joining_is_symmetric, lowest_levels_order_units,
+    forms_change_texts_alone, lowest_levels_order_units,
     orders_are_permutations, pictures_show_units, rows_are_of_rest, rows_cut_units,
     rows_meet_again, units_make_body,
 };

@@ -4,8 +4,9 @@ ghost use Rattle.bx_resolve.specs.Levels.{levels_under, paragraph_level_under};
 ghost use Rattle.bx_rows.specs.RowStarts.{row_starts};
 ghost use Rattle.std.proofs.Props.{props};
 
-use crate::forms::{LeveledBody, RowAt};
+use crate::row_at::RowAt;
 use crate::start_search::RowStart;
+use bx_joining::LeveledBody;
 use bx_resolve::Levels;
 use bx_terms::Base;
 use bx_ucd::BidiData;

@@ -9,9 +9,9 @@ ghost use Rattle.bx_rows.specs.Shown.{glyph_of};
 
 use crate::drawn::Drawn;
 use crate::glyphs::{is_own, letter};
-use crate::joined_text::has_forms;
 use crate::plain_row::is_plain;
 use bx_cells::face;
+use bx_joining::has_forms;
 use bx_terms::first_char;
 use bx_ucd::BidiData;
 use std::alloc::{AllocError, Global};

@@ -3,18 +3,19 @@ ghost use Rattle.std.specs.Prelude.{◌≡◌, ◌≤◌, ◌<◌, ◌+◌, ◌+
 ghost use Rattle.std.specs.Cow.{cow_str_bytes};
 ghost use Rattle.bx_terms.specs.Glyphs.{is_one_glyph, run_width};
 ghost use Rattle.bx_cells.specs.Units.{HasFace, StandsIn};
-ghost use Rattle.bx_rows.specs.Joining.{StartsRow};
+ghost use Rattle.bx_rows.specs.UnitForms.{StartsRow};
 ghost use Rattle.bx_rows.specs.RowPicture.{columns_used, draw, own_glyphs, unit_columns, unit_glyphs};
 ghost use Rattle.bx_rows.specs.Shown.{glyph_of};
 ghost use Rattle.bx_rows.specs.VisualOrder.{visual};
 
 use crate::drawn::{Drawn, RowPicture};
-use crate::forms::{LeveledBody, RowAt};
 use crate::glyphs::{LeveledFace, UnitAt, push_face, with_blanks};
+use crate::row_at::RowAt;
 use crate::start_search::RowStart;
 use crate::visual_order::visual;
 use crate::wrapping::columns_at;
 use bx_cells::Unit;
+use bx_joining::LeveledBody;
 use bx_resolve::Level;
 use bx_terms::OutOfMemory;
 use bx_ucd::BidiData;

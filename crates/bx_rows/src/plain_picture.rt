@@ -2,7 +2,8 @@
 ghost use Rattle.std.specs.Prelude.{◌≡◌, ◌≤◌, ◌<◌, ◌-◌, ◌++◌, All, IfOk, IfSome, List, ℕ, drop, encode_utf8_all, length, map, slice_index_or, sum_by, true};
 ghost use Rattle.std.specs.Cow.{cow_str_bytes};
 ghost use Rattle.bx_terms.specs.Glyphs.{is_one_glyph, run_width};
-ghost use Rattle.bx_rows.specs.Joining.{StartsRow, text_forms};
+ghost use Rattle.bx_joining.specs.Joining.{text_forms};
+ghost use Rattle.bx_rows.specs.UnitForms.{StartsRow};
 ghost use Rattle.bx_rows.specs.Lines.{glyphs_at};
 ghost use Rattle.bx_rows.specs.PlainRows.{leveled_glyphs, single_glyph};
 ghost use Rattle.bx_rows.specs.RowPicture.{blank};
@@ -10,12 +11,12 @@ ghost use Rattle.bx_rows.specs.Shown.{glyph_of};
 ghost use Rattle.bx_rows.specs.VisualOrder.{visual};
 
 use crate::drawn::{Drawn, RowPicture};
-use crate::forms::RowAt;
 use crate::glyphs::with_blanks;
 use crate::joined_text::join_odd;
 use crate::lines::Lines;
 use crate::mirrors::mirror_odd;
 use crate::plain_row::PlainRow;
+use crate::row_at::RowAt;
 use crate::row_part::{most_units, start_of};
 use crate::visual_order::reorder;
 use bx_terms::OutOfMemory;

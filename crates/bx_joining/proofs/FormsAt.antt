@@ -9,7 +9,7 @@ use Rattle.bx_ucd.specs.Data.{Data}
 use Rattle.bx_ucd.specs.declared.joining.Joining.{Joining}
 use Rattle.bx_ucd.specs.declared.joining.Form.{Form}
 use Rattle.bx_ucd.specs.declared.joining.Form.TheVariants.{Isolated}
-use Rattle.bx_rows.specs.Joining.{Joiner, body_forms, form_if, forms_behind, joins_after, joins_before}
+use Rattle.bx_joining.specs.Joining.{Joiner, body_forms, form_if, forms_behind, joins_after, joins_before}
 
 -- ---- lists of pairs
 

@@ -1,16 +1,11 @@
 -- The forms of a body's letters. Which letters join is decided by the joining types and levels of neighbours.
-use Rattle.std.specs.Prelude.{◌≡◌, ℕ, ◌%◌, ◌==◌, ◌&&◌, Bool, true, false, List, [], ◌∷◌, map, length, take, drop, Option, Some, None, chars}
+use Rattle.std.specs.Prelude.{ℕ, ◌%◌, ◌==◌, ◌&&◌, Bool, true, false, List, [], ◌∷◌, map, length, take, drop, Option, Some, None, chars}
 use Rattle.std.specs.List.{zip}
-use Rattle.std.specs.Str.{IsCharBoundary}
 use Rattle.bx_ucd.specs.Data.{Data}
-use Rattle.bx_ucd.specs.declared.class.Class.{Class}
 use Rattle.bx_ucd.specs.declared.joining.Joining.{Joining}
 use Rattle.bx_ucd.specs.declared.joining.Joining.TheVariants.{R, L, D, C, T}
 use Rattle.bx_ucd.specs.declared.joining.Form.{Form}
 use Rattle.bx_ucd.specs.declared.joining.Form.TheVariants.{Isolated, Initial, Medial, Final}
-use Rattle.bx_cells.specs.declared.unit.Unit.{Unit}
-use Rattle.bx_cells.specs.Units.{unit_text}
-use Rattle.bx_rows.specs.declared.start_search.RowStart.{RowStart}
 
 -- a character's joining type, and its level unless X9 removes it
 abbrev pub Joiner : Type 0
@@ -80,18 +75,3 @@ body_forms says body each = forms_behind [] (zip (map says.joining (chars body))
 -- the forms of the characters of a text in the body, `number` characters of which stand before it
 abbrev pub text_forms : Data → List ℕ → List (Option ℕ) → ℕ → List ℕ → List Form
 text_forms says body each number text = take (length (chars text)) (drop number (body_forms says body each))
-
--- the forms of a unit's characters
-abbrev pub unit_forms : Data → List ℕ → List (Option ℕ) → Unit → List Form
-unit_forms says body each u = text_forms says body each (length (chars (take u.start body))) (unit_text body u)
-
--- a text stands in a body at an offset, with `number` characters before it
-pub record StandsAt (body text : List ℕ) (offset number : ℕ) : Type 0 where
-  pub boundary : IsCharBoundary body offset
-  pub here : text ≡ take (length text) (drop offset body)
-  pub before : number ≡ length (chars (take offset body))
-
--- a row starts at a character boundary of a body, and its start counts the characters before it
-pub record StartsRow (body : List ℕ) (start : RowStart) : Type 0 where
-  pub boundary : IsCharBoundary body start.offset
-  pub chars : start.chars ≡ length (chars (take start.offset body))

@@ -1,11 +1,11 @@
 //! The forms of a body's letters, by the letters beside them.
-ghost use Rattle.std.specs.Prelude.{◌≡◌, ◌≤◌, ◌<◌, ◌++◌, ◌∷◌, [], MatchOption, chars, encode_utf8, length, map, reverse, slice_index_or, take};
+ghost use Rattle.std.specs.Prelude.{◌≡◌, ◌<◌, ◌++◌, ◌∷◌, [], IsUtf8, List, MatchOption, None, chars, encode_utf8, false, length, map, reverse, slice_index_or, take, ℕ};
 ghost use Rattle.std.specs.List.{zip};
 ghost use Rattle.std.specs.Str.{IsCharBoundary};
-ghost use Rattle.bx_rows.specs.Joining.{StartsRow, are_one_odd, body_forms, form_if, is_transparent, join, joins_back, joins_on, neighbour};
+ghost use Rattle.bx_joining.specs.JoinedText.{joined_image};
+ghost use Rattle.bx_ucd.specs.declared.joining.Form.{Form};
+ghost use Rattle.bx_joining.specs.Joining.{are_one_odd, body_forms, form_if, is_transparent, join, joins_back, joins_on, neighbour};
 
-use crate::start_search::RowStart;
-use crate::unit_levels::char_count;
 use bx_resolve::Level;
 use bx_terms::first_char;
 use bx_ucd::{BidiData, Form, Joining};
@@ -15,44 +15,17 @@ type Joiner = (Joining, Option<u8>);
 
 /// The text of a body, and the level of each of its characters.
 #[derive(Clone, Copy)]
-pub(crate) struct LeveledBody<'r> {
-    pub(crate) text: &'r str,
-    pub(crate) each: &'r [Level],
+pub struct LeveledBody<'r> {
+    pub text: &'r str,
+    pub each: &'r [Level],
 }
 
 /// Where a text stands in a body: its offset, and the number of characters before it.
 #[derive(Clone, Copy)]
-pub(crate) struct TextAt<'r> {
-    pub(crate) body: LeveledBody<'r>,
-    pub(crate) offset: usize,
-    pub(crate) number: usize,
-}
-
-/// A row of a body: where it starts.
-#[derive(Clone, Copy)]
-pub(crate) struct RowAt<'r> {
-    pub(crate) body: LeveledBody<'r>,
-    pub(crate) start: RowStart,
-}
-
-impl<'r> RowAt<'r> {
-    /// The place of a text of the row by its offset.
-    pub(crate) fn text_at(self, offset: usize) -> TextAt<'r>
-        requires starts { StartsRow self.body.text.now self.start }
-        requires order { self.start.offset ≤ offset }
-        requires boundary { IsCharBoundary self.body.text.now offset }
-        ensures offset { result.offset ≡ offset }
-        ensures number { result.number ≡ length (chars (take offset self.entry.body.text.now)) }
-        ensures text { result.body.text.now ≡ self.entry.body.text.now }
-        ensures each { result.body.each.now ≡ self.entry.body.each.now }
-    {
-        let before = char_count(&self.body.text[self.start.offset..offset]);
-        TextAt {
-            body: self.body,
-            offset,
-            number: self.start.chars + before,
-        }
-    }
+pub struct TextAt<'r> {
+    pub body: LeveledBody<'r>,
+    pub offset: usize,
+    pub number: usize,
 }
 
 /// The last character of a text, and the text before it.
@@ -160,27 +133,23 @@ fn last_joiner<D: BidiData>(text: &str, levels: &[Level], tables: &D) -> Option<
     None
 }
 
-/// The form of the body's character at an offset, whose number is `number`. Reads the transparent characters on its two
-/// sides and the next character on each; isolated if the body has no such character.
-pub(crate) fn form_at<D: BidiData>(
-    body: LeveledBody<'_>,
-    offset: usize,
-    number: usize,
-    tables: &D,
-) -> Form
-    requires boundary { IsCharBoundary body.text.now offset }
-    requires number { number ≡ length (chars (take offset body.text.now)) }
-    ensures { result ≡ slice_index_or (body_forms (D.data tables.now) body.entry.text.now body.entry.each.now) number Form.Isolated }
+/// The form of the character at a place of its body. Reads the transparent characters on its two sides and the next
+/// character on each; isolated if the body has no such character.
+fn form_at<D: BidiData>(at: TextAt<'_>, tables: &D) -> Form
+    requires boundary { IsCharBoundary at.body.text.now at.offset }
+    requires number { at.number ≡ length (chars (take at.offset at.body.text.now)) }
+    ensures { result ≡ slice_index_or (body_forms (D.data tables.now) at.entry.body.text.now at.entry.body.each.now) at.entry.number Form.Isolated }
 {
-    let Some((c, behind)) = first_char(&body.text[offset..]) else {
+    let body = at.body;
+    let Some((c, behind)) = first_char(&body.text[at.offset..]) else {
         return Form::Isolated;
     };
-    if body.each.len() <= number {
+    if body.each.len() <= at.number {
         return Form::Isolated;
     }
-    let (earlier, later) = body.each.split_at(number);
+    let (earlier, later) = body.each.split_at(at.number);
     let own = (tables.joining(c), later[0].get());
-    let joins_before = match last_joiner(&body.text[..offset], earlier, tables) {
+    let joins_before = match last_joiner(&body.text[..at.offset], earlier, tables) {
         Some(first) => join(first, own),
         None => false,
     };
@@ -189,4 +158,40 @@ pub(crate) fn form_at<D: BidiData>(
         None => false,
     };
     form_if(joins_before, joins_after)
+}
+
+/// Whether a character is a letter with a form.
+fn has_form<D: BidiData>(c: char, tables: &D) -> bool
+    ensures { result ≡ false → (form : Form) → (D.data tables.now).form c form ≡ None }
+{
+    tables.form(c, Form::Isolated).is_some()
+        || tables.form(c, Form::Initial).is_some()
+        || tables.form(c, Form::Medial).is_some()
+        || tables.form(c, Form::Final).is_some()
+}
+
+/// The character that shows a letter at a place of its body in its form, if the letter has that form.
+pub fn shown_form<D: BidiData>(letter: char, at: TextAt<'_>, tables: &D) -> Option<char>
+    requires boundary { IsCharBoundary at.body.text.now at.offset }
+    requires number { at.number ≡ length (chars (take at.offset at.body.text.now)) }
+    ensures { result ≡ (D.data tables.now).form letter
+        (slice_index_or (body_forms (D.data tables.now) at.entry.body.text.now at.entry.body.each.now) at.entry.number Form.Isolated) }
+{
+    // a mark has no form, so a cluster of many marks is not read once for each
+    if !has_form(letter, tables) {
+        return None;
+    }
+    tables.form(letter, form_at(at, tables))
+}
+
+/// Whether a text has a letter with a form.
+pub fn has_forms<D: BidiData>(text: &str, tables: &D) -> bool
+    ensures { result ≡ false → (forms : List Form) (shown : List ℕ) → IsUtf8 shown → joined_image (D.data tables.now) forms text.now shown ≡ shown }
+{
+    for c in text.chars() {
+        if has_form(c, tables) {
+            return true;
+        }
+    }
+    false
 }

@@ -1,0 +1,2 @@
+pub mod FormsAt
+pub mod JoinedNeighbours
