@@ -1,5 +1,5 @@
 -- The forms of a body's letters. Which letters join is decided by the joining types and levels of neighbours.
-use Rattle.std.specs.Prelude.{ℕ, ◌%◌, ◌==◌, ◌&&◌, Bool, true, false, List, [], ◌∷◌, map, length, take, drop, Option, Some, None, chars}
+use Rattle.std.specs.Prelude.{ℕ, zero, suc, ◌%◌, ◌==◌, ◌&&◌, Bool, true, false, List, [], ◌∷◌, map, length, drop, Option, Some, None, chars}
 use Rattle.std.specs.List.{zip}
 use Rattle.bx_ucd.specs.Data.{Data}
 use Rattle.bx_ucd.specs.declared.joining.Joining.{Joining}
@@ -68,10 +68,20 @@ abbrev pub forms_behind : List Joiner → List Joiner → List Form
 forms_behind before [] = []
 forms_behind before (c ∷ cs) = form_if (joins_before before c) (joins_after c cs) ∷ forms_behind (c ∷ before) cs
 
+-- the joining types of a text's characters, which have the levels `each`
+abbrev pub joiners : Data → List ℕ → List (Option ℕ) → List Joiner
+joiners says text each = zip (map says.joining (chars text)) each
+
 -- the forms of a body's characters, which have the levels `each`
 abbrev pub body_forms : Data → List ℕ → List (Option ℕ) → List Form
-body_forms says body each = forms_behind [] (zip (map says.joining (chars body)) each)
+body_forms says body each = forms_behind [] (joiners says body each)
+
+-- the first `n` of some forms, and isolated ones where there are too few
+abbrev pub first_forms : ℕ → List Form → List Form
+first_forms zero forms = []
+first_forms (suc n) [] = Isolated ∷ first_forms n []
+first_forms (suc n) (f ∷ fs) = f ∷ first_forms n fs
 
 -- the forms of the characters of a text in the body, `number` characters of which stand before it
 abbrev pub text_forms : Data → List ℕ → List (Option ℕ) → ℕ → List ℕ → List Form
-text_forms says body each number text = take (length (chars text)) (drop number (body_forms says body each))
+text_forms says body each number text = first_forms (length (chars text)) (drop number (body_forms says body each))

@@ -1,10 +1,9 @@
 //! The forms of a body's letters, by the letters beside them.
-ghost use Rattle.std.specs.Prelude.{◌≡◌, ◌<◌, ◌++◌, ◌∷◌, [], IsUtf8, List, MatchOption, None, chars, encode_utf8, false, length, map, reverse, slice_index_or, take, ℕ};
-ghost use Rattle.std.specs.List.{zip};
+ghost use Rattle.std.specs.Prelude.{◌≡◌, ◌<◌, ◌++◌, ◌∷◌, [], IsUtf8, List, MatchOption, None, chars, encode_utf8, false, length, reverse, slice_index_or, take, ℕ};
 ghost use Rattle.std.specs.Str.{IsCharBoundary};
 ghost use Rattle.bx_joining.specs.JoinedText.{joined_image};
 ghost use Rattle.bx_ucd.specs.declared.joining.Form.{Form};
-ghost use Rattle.bx_joining.specs.Joining.{are_one_odd, body_forms, form_if, is_transparent, join, joins_back, joins_on, neighbour};
+ghost use Rattle.bx_joining.specs.Joining.{are_one_odd, body_forms, form_if, is_transparent, join, joiners, joins_after, joins_back, joins_before, joins_on, neighbour};
 
 use bx_resolve::Level;
 use bx_terms::first_char;
@@ -20,6 +19,15 @@ pub struct LeveledBody<'r> {
     pub each: &'r [Level],
 }
 
+impl<'r> LeveledBody<'r> {
+    /// The text. A call's result is known to be whole characters, a field is not.
+    pub(crate) fn text(self) -> &'r str
+        ensures { result.now ≡ self.entry.text.now }
+    {
+        self.text
+    }
+}
+
 /// Where a text stands in a body: its offset, and the number of characters before it.
 #[derive(Clone, Copy)]
 pub struct TextAt<'r> {
@@ -31,7 +39,7 @@ pub struct TextAt<'r> {
 /// The last character of a text, and the text before it.
 fn last_char(text: &str) -> Option<(char, &str)>
     ensures { MatchOption result (length text.now ≡ 0) (λ (c, before).
-        (text.now ≡ before.now ++ encode_utf8 c) × (length before.now < length text.now) × (chars text.now ≡ chars before.now ++ c ∷ [])) }
+        (text.now ≡ before.now ++ encode_utf8 c) × (length before.now < length text.now) × (chars text.now ≡ chars before.now ++ c ∷ []) × IsUtf8 before.now) }
 {
     let mut chars = text.chars();
     match chars.next_back() {
@@ -94,7 +102,7 @@ fn form_if(joins_before: bool, joins_after: bool) -> Form
 
 /// The first character of a text that is not transparent.
 fn first_joiner<D: BidiData>(text: &str, levels: &[Level], tables: &D) -> Option<Joiner>
-    ensures { result ≡ neighbour (zip (map (D.data tables.now).joining (chars text.now)) levels.now) }
+    ensures { result ≡ neighbour (joiners (D.data tables.now) text.now levels.now) }
 {
     let mut rest = text;
     let mut left = levels;
@@ -115,7 +123,7 @@ fn first_joiner<D: BidiData>(text: &str, levels: &[Level], tables: &D) -> Option
 /// The last character of a text that is not transparent.
 fn last_joiner<D: BidiData>(text: &str, levels: &[Level], tables: &D) -> Option<Joiner>
     requires { length levels.now ≡ length (chars text.now) }
-    ensures { result ≡ neighbour (reverse (zip (map (D.data tables.now).joining (chars text.now)) levels.now)) }
+    ensures { result ≡ neighbour (reverse (joiners (D.data tables.now) text.now levels.now)) }
 {
     let mut rest = text;
     let mut left = levels;
@@ -133,6 +141,27 @@ fn last_joiner<D: BidiData>(text: &str, levels: &[Level], tables: &D) -> Option<
     None
 }
 
+/// Whether a character joins the one before it, which is in the text before it.
+fn joins_before<D: BidiData>(own: Joiner, text: &str, levels: &[Level], tables: &D) -> bool
+    requires { length levels.now ≡ length (chars text.now) }
+    ensures { result ≡ joins_before (reverse (joiners (D.data tables.now) text.now levels.now)) own }
+{
+    match last_joiner(text, levels, tables) {
+        Some(first) => join(first, own),
+        None => false,
+    }
+}
+
+/// Whether a character joins the one after it, which is in the text behind it.
+fn joins_after<D: BidiData>(own: Joiner, text: &str, levels: &[Level], tables: &D) -> bool
+    ensures { result ≡ joins_after own (joiners (D.data tables.now) text.now levels.now) }
+{
+    match first_joiner(text, levels, tables) {
+        Some(second) => join(own, second),
+        None => false,
+    }
+}
+
 /// The form of the character at a place of its body. Reads the transparent characters on its two sides and the next
 /// character on each; isolated if the body has no such character.
 fn form_at<D: BidiData>(at: TextAt<'_>, tables: &D) -> Form
@@ -140,24 +169,21 @@ fn form_at<D: BidiData>(at: TextAt<'_>, tables: &D) -> Form
     requires number { at.number ≡ length (chars (take at.offset at.body.text.now)) }
     ensures { result ≡ slice_index_or (body_forms (D.data tables.now) at.entry.body.text.now at.entry.body.each.now) at.entry.number Form.Isolated }
 {
-    let body = at.body;
-    let Some((c, behind)) = first_char(&body.text[at.offset..]) else {
+    let (before, rest) = at.body.text().split_at(at.offset);
+    let Some((c, behind)) = first_char(rest) else {
         return Form::Isolated;
     };
-    if body.each.len() <= at.number {
+    let Some((earlier, later)) = at.body.each.split_at_checked(at.number) else {
         return Form::Isolated;
-    }
-    let (earlier, later) = body.each.split_at(at.number);
-    let own = (tables.joining(c), later[0].get());
-    let joins_before = match last_joiner(&body.text[..at.offset], earlier, tables) {
-        Some(first) => join(first, own),
-        None => false,
     };
-    let joins_after = match first_joiner(behind, &later[1..], tables) {
-        Some(second) => join(own, second),
-        None => false,
+    let Some((level, after)) = later.split_first() else {
+        return Form::Isolated;
     };
-    form_if(joins_before, joins_after)
+    let own = (tables.joining(c), level.get());
+    form_if(
+        joins_before(own, before, earlier, tables),
+        joins_after(own, behind, after, tables),
+    )
 }
 
 /// Whether a character is a letter with a form.

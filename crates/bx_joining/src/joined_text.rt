@@ -4,7 +4,7 @@ ghost use Rattle.bx_joining.specs.JoinedText.{joined_image};
 ghost use Rattle.bx_joining.specs.Joining.{text_forms};
 ghost use Rattle.bx_joining.specs.Places.{StandsAt};
 
-use crate::forms::{TextAt, shown_form};
+use crate::forms::{LeveledBody, TextAt, shown_form};
 use bx_terms::first_char;
 use bx_ucd::BidiData;
 use std::alloc::{AllocError, Global};
@@ -23,16 +23,26 @@ pub fn joined_image<D: BidiData>(
     ensures { IfOk result (λ t. string_bytes t ≡ joined_image (D.data tables.now)
         (text_forms (D.data tables.now) at.entry.body.text.now at.entry.body.each.now at.entry.number text.now) text.now shown.now) }
 {
+    let body = LeveledBody {
+        text: at.body.text(),
+        each: at.body.each,
+    };
     let mut other = String::new(alloc);
+    let mut rest = text;
     let mut left = shown;
     let mut offset = at.offset;
     let mut number = at.number;
-    for letter in text.chars() {
+    'chars: while let Some((letter, after)) = first_char(rest) {
         let Some((c, behind)) = first_char(left) else {
             return Ok(other);
         };
-        let place = TextAt { body: at.body, offset, number };
+        let place = TextAt {
+            body,
+            offset,
+            number,
+        };
         other.push(shown_form(letter, place, tables).unwrap_or(c))?;
+        rest = after;
         left = behind;
         offset += letter.len_utf8();
         number += 1;
