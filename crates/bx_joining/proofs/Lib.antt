@@ -5,3 +5,4 @@ pub mod TextForms
 pub mod JoinedNeighbours
 pub mod Nearest
 pub mod StandOn
+pub mod Examples
