@@ -2,7 +2,7 @@
 use Rattle.std.proofs.Common.{◌≡◌, Bool, true, false, List, [], ◌∷◌, ◌++◌, All, Option, Some, None, reverse, append_assoc, refl, sym, ap, ◌∙◌, arith}
 use Rattle.std.proofs.lemmas.Grind.{reverse_onto}
 use Rattle.std.proofs.lemmas.List.Elements.{All-rest}
-use Rattle.bx_joining.specs.Joining.{Joiner, is_transparent, join, joins_after, joins_before, neighbour}
+use Rattle.bx_joining.specs.Joining.{Joiner, is_transparent, join, neighbour}
 use Rattle.bx_joining.specs.Laws.{JoiningIsSymmetric}
 
 -- a transparent character is passed over

@@ -1,4 +1,4 @@
-use Rattle.std.proofs.Common.{◌≡◌, ◌∷◌, Option, chars, drop, length, reverse, subst, sym, take, IsUtf8, ap, ap₂, ◌∙◌, arith}
+use Rattle.std.proofs.Common.{◌≡◌, chars, drop, length, reverse, subst, sym, take, IsUtf8, ap, ap₂, ◌∙◌, arith}
 use Rattle.bx_joining.specs.Joining.{form_if, joiners, joins_after, joins_before}
 use Rattle.bx_joining.proofs.FormsAt.{form_here, isolated_end, isolated_past}
 use Rattle.bx_joining.proofs.forms.form_at.Goals as goal

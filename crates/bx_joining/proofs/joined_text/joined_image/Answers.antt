@@ -1,4 +1,4 @@
-use Rattle.std.proofs.Common.{◌≡◌, ◌≤◌, ◌+◌, ◌++◌, ℕ, List, Fits, IsUtf8, append-nil, append_assoc, chars, get_or, length, rules, subst, sym, w64, ap, ◌∙◌, arith}
+use Rattle.std.proofs.Common.{◌≡◌, ◌+◌, ◌++◌, ℕ, List, Fits, IsUtf8, append-nil, append_assoc, get_or, length, rules, subst, sym, w64, ap, ◌∙◌, arith}
 use Rattle.std.specs.Prelude.{encode_utf8, string_bytes, unwrap_or}
 use Rattle.std.proofs.lemmas.Str.{IsUtf8-past_char}
 use Rattle.bx_ucd.specs.declared.joining.Form.TheVariants.{Isolated}
