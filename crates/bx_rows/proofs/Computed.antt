@@ -46,14 +46,18 @@ levels w cs = levels_under_base Auto w cs
 abbrev pub orders : ℕ → List ℕ → List (List ℕ)
 orders w cs = map visual (levels w cs)
 
--- the glyphs of each row
-abbrev pub drawn : (ℕ → Option ℕ) → Base → ℕ → List ℕ → List (List Glyph)
-drawn mirrors base w cs =
+-- the glyphs of each row by any tables
+abbrev pub drawn_by : Data → Base → ℕ → List ℕ → List (List Glyph)
+drawn_by says base w cs =
     let body = encode_utf8_all cs in
-    let says : Data = record small { mirror = mirrors } in
+    let us = units says w body in
     let paragraph = paragraph_level_under says base cs in
     let each = levels_under says base cs in
-    map (λ us. draw says w body paragraph us (row_levels says body paragraph each us)) (rows_units w cs)
+    map (λ r. draw says w body paragraph each (row_units us r) (row_levels says body paragraph each (row_units us r))) (wrap says w body us)
+
+-- the glyphs of each row, with these mirrors
+abbrev pub drawn : (ℕ → Option ℕ) → Base → ℕ → List ℕ → List (List Glyph)
+drawn mirrors base w cs = drawn_by (record small { mirror = mirrors }) base w cs
 
 -- the characters of a row's glyphs from left to right
 abbrev pub texts : List (List Glyph) → List (List ℕ)

@@ -15,12 +15,13 @@ use Rattle.unicode_width.proofs.Rules.{str_width-printable}
 use Rattle.bx_terms.specs.Characters.{are_ascii_printable, are_printable, is_ascii_glyph, is_ascii_printable, is_control}
 use Rattle.bx_terms.specs.Glyphs.{is_one_glyph, run_width}
 use Rattle.bx_ucd.specs.declared.class.Class.{Class}
+use Rattle.bx_ucd.specs.declared.joining.Form.{Form}
 use Rattle.bx_ucd.specs.declared.class.Class.TheVariants.{L, R, AL, EN, ES, ET, AN, CS, NSM, BN, B, S, WS, ON, LRE, RLE, LRO, RLO, PDF, LRI, RLI, FSI, PDI}
 use Rattle.bx_cells.specs.declared.unit.Face.{Face}
 use Rattle.bx_cells.specs.declared.unit.Face.TheVariants.{Tab, Mark, Own}
 use Rattle.bx_cells.specs.Faces.{face, face_of, only_char, is_tab, letter_of, format_letter, sized_face, columns_of}
 use Rattle.bx_cells.proofs.Printable.{ascii_bytes}
-use Rattle.bx_rows.specs.RowPicture.{Glyph, glyph, blank, mirror_image, is_own, mirror_image_within, shown_text, face_glyphs, letter_glyphs}
+use Rattle.bx_rows.specs.RowPicture.{Glyph, glyph, blank, mirror_image, is_own, joined_image, joined_image_within, mirror_image_within, shown_text, face_glyphs, letter_glyphs}
 use Rattle.bx_rows.specs.Wrapping.{columns_at}
 use Rattle.bx_rows.specs.Shown.{HasLetter}
 
@@ -108,10 +109,14 @@ tells-either : (says : Data) (w n : ℕ) (text other : List ℕ) (b : Bool) → 
 tells-either says w n text other true e h = own-from (chars other) n (face says w other) (tells says w (chars other)) e
 tells-either says w n text other false e h = h
 
-pub tells-shown : (says : Data) (w n odd : ℕ) (text : List ℕ) → Tells (chars text) (Own n)
-    → Tells (chars (elim odd [ zero ↦ text | suc _ ↦ mirror_image_within says w n text ])) (Own n)
-tells-shown says w n zero text h = h
-tells-shown says w n (suc k) text h = tells-either says w n text (mirror_image says text) (is_own n (face says w (mirror_image says text))) refl h
+pub tells-shown : (says : Data) (w n odd : ℕ) (forms : List Form) (text : List ℕ) → Tells (chars text) (Own n)
+    → Tells (chars (elim odd [ zero ↦ text | suc _ ↦ joined_image_within says w n forms text (mirror_image_within says w n text) ])) (Own n)
+tells-shown says w n zero forms text h = h
+tells-shown says w n (suc k) forms text h =
+    let mirrored = mirror_image_within says w n text in
+    let joined = joined_image says forms text mirrored in
+    tells-either says w n mirrored joined (is_own n (face says w joined)) refl
+    (tells-either says w n text (mirror_image says text) (is_own n (face says w (mirror_image says text))) refl h)
 
 -- ---- the glyphs of own text
 
@@ -165,19 +170,19 @@ text-sum text n false e h = sum_by-cons (λ g. g.columns) (glyph text n false) [
 
 -- ---- the glyphs of a face
 
-pub face-one : (says : Data) (w columns level : ℕ) (text : List ℕ) (f : Face) → Tells (chars text) f
-    → All IsOneGlyph (face_glyphs says w text f columns level)
-face-one says w columns level text Tab h = All-replicate IsOneGlyph columns blank (refl, refl)
-face-one says w columns level text (Mark letter) h =
+pub face-one : (says : Data) (w columns level : ℕ) (forms : List Form) (text : List ℕ) (f : Face) → Tells (chars text) f
+    → All IsOneGlyph (face_glyphs says w text f columns level forms)
+face-one says w columns level forms text Tab h = All-replicate IsOneGlyph columns blank (refl, refl)
+face-one says w columns level forms text (Mark letter) h =
     All-cons IsOneGlyph (glyph (letter ∷ []) 1 true) [] (letter-one letter true h) (All-nil IsOneGlyph)
-face-one says w columns level text (Own n) h =
-    let own = shown_text says w n level text in
-    text-one own n (are_ascii_printable own) refl (tells-shown says w n (level % 2) text h)
+face-one says w columns level forms text (Own n) h =
+    let own = shown_text says w n level forms text in
+    text-one own n (are_ascii_printable own) refl (tells-shown says w n (level % 2) forms text h)
 
-pub face-sum : (says : Data) (w c level : ℕ) (text : List ℕ) (f : Face) → Tells (chars text) f
-    → sum_by (λ g. g.columns) (face_glyphs says w text f (columns_at w c f) level) ≡ columns_at w c f
-face-sum says w c level text Tab h = sum_by-replicate (λ g. g.columns) (columns_at w c Tab) blank ∙ omega arith
-face-sum says w c level text (Mark letter) h = sum_by-cons (λ g. g.columns) (glyph (letter ∷ []) 1 true) [] ∙ omega arith
-face-sum says w c level text (Own n) h =
-    let own = shown_text says w n level text in
-    text-sum own n (are_ascii_printable own) refl (tells-shown says w n (level % 2) text h)
+pub face-sum : (says : Data) (w c level : ℕ) (forms : List Form) (text : List ℕ) (f : Face) → Tells (chars text) f
+    → sum_by (λ g. g.columns) (face_glyphs says w text f (columns_at w c f) level forms) ≡ columns_at w c f
+face-sum says w c level forms text Tab h = sum_by-replicate (λ g. g.columns) (columns_at w c Tab) blank ∙ omega arith
+face-sum says w c level forms text (Mark letter) h = sum_by-cons (λ g. g.columns) (glyph (letter ∷ []) 1 true) [] ∙ omega arith
+face-sum says w c level forms text (Own n) h =
+    let own = shown_text says w n level forms text in
+    text-sum own n (are_ascii_printable own) refl (tells-shown says w n (level % 2) forms text h)

@@ -247,14 +247,14 @@ abbrev shown : ℕ → Glyph
 shown x = glyph (x ∷ []) 1 true
 
 -- three columns show two marks and one blank, whatever their levels
-marks-and-blank : PicturesShowUnits → (says : Data) (body : List ℕ) (paragraph x y a b : ℕ)
-    → IsPermutation (shown x ∷ shown y ∷ blank ∷ []) (draw says 3 body paragraph (mark x ∷ mark y ∷ []) (a ∷ b ∷ []))
-marks-and-blank law says body paragraph x y a b =
-    let s = law says 3 body paragraph (mark x ∷ mark y ∷ []) (a ∷ b ∷ []) refl in s.glyphs
+marks-and-blank : PicturesShowUnits → (says : Data) (body : List ℕ) (each : List (Option ℕ)) (paragraph x y a b : ℕ)
+    → IsPermutation (shown x ∷ shown y ∷ blank ∷ []) (draw says 3 body paragraph each (mark x ∷ mark y ∷ []) (a ∷ b ∷ []))
+marks-and-blank law says body each paragraph x y a b =
+    let s = law says 3 body paragraph each (mark x ∷ mark y ∷ []) (a ∷ b ∷ []) refl in s.glyphs
 
 -- at an odd level the second mark is shown left of the first
-marks-turned : PicturesGoByLevels → (says : Data) (body : List ℕ) (paragraph x y n : ℕ) → n % 2 ≡ 1
-    → ShowsLeft (draw says 3 body paragraph (mark x ∷ mark y ∷ []) (n ∷ n ∷ [])) (shown y ∷ []) (shown x ∷ [])
-marks-turned law says body paragraph x y n e =
-    let s = law says 3 body paragraph (mark x ∷ mark y ∷ []) (n ∷ n ∷ []) 0 1 n refl (omega arith) (omega arith)
+marks-turned : PicturesGoByLevels → (says : Data) (body : List ℕ) (each : List (Option ℕ)) (paragraph x y n : ℕ) → n % 2 ≡ 1
+    → ShowsLeft (draw says 3 body paragraph each (mark x ∷ mark y ∷ []) (n ∷ n ∷ [])) (shown y ∷ []) (shown x ∷ [])
+marks-turned law says body each paragraph x y n e =
+    let s = law says 3 body paragraph each (mark x ∷ mark y ∷ []) (n ∷ n ∷ []) 0 1 n refl (omega arith) (omega arith)
     (first-lowest n (n ∷ []) (and-least n n [] (omega arith) (All-nil (λ x. n ≤ x)))) in s.odd e

@@ -5,13 +5,13 @@ use Rattle.std.proofs.lemmas.List.{map-set, get_or-map, length-map}
 use Rattle.bx_ucd.specs.Data.{Data}
 use Rattle.bx_ucd.specs.declared.class.Class.{Class}
 use Rattle.bx_rows.specs.declared.drawn.Drawn.{Drawn}
-use Rattle.bx_rows.specs.PlainRows.{leveled_glyphs, single_glyph}
-use Rattle.bx_rows.specs.RowPicture.{Glyph, glyph, blank, shown_text}
+use Rattle.bx_rows.specs.PlainRows.{mirrored_glyphs, single_glyph}
+use Rattle.bx_rows.specs.RowPicture.{Glyph, glyph, blank, mirrored_text}
 use Rattle.bx_rows.specs.Shown.{glyph_of}
 
 -- a glyph of one column at a level
 abbrev pub at_level : Data → ℕ → Glyph → ℕ → Glyph
-at_level says w g level = glyph (shown_text says w 1 level g.text) g.columns g.negative
+at_level says w g level = glyph (mirrored_text says w 1 level g.text) g.columns g.negative
 
 -- glyphs; those with a level are mirrored by it
 abbrev pub leveled : Data → ℕ → List Glyph → List ℕ → List Glyph
@@ -42,7 +42,7 @@ one-leveled says w (g ∷ gs) (l ∷ ls) (suc i) d h = ap (λ xs. at_level says 
 
 -- the glyphs of characters at their levels
 leveled-single : (says : Data) (w : ℕ) (cs levels : List ℕ) → length cs ≡ length levels
-    → leveled says w (map single_glyph cs) levels ≡ leveled_glyphs says w cs levels
+    → leveled says w (map single_glyph cs) levels ≡ mirrored_glyphs says w cs levels
 leveled-single says w [] levels e = refl
 leveled-single says w (c ∷ cs) [] e = absurd (omega arith)
 leveled-single says w (c ∷ cs) (l ∷ ls) e =
@@ -63,7 +63,7 @@ turn says w gs levels ds i d new h within same written =
 -- after the last turn
 pub turned : (says : Data) (w : ℕ) (old : List Drawn) (cs levels : List ℕ) (i : ℕ) (new : List Glyph)
     → length old ≡ length levels → length levels ≤ i → map glyph_of old ≡ map single_glyph cs
-    → new ≡ leveled says w (map glyph_of old) (take i levels) → new ≡ leveled_glyphs says w cs levels
+    → new ≡ leveled says w (map glyph_of old) (take i levels) → new ≡ mirrored_glyphs says w cs levels
 turned says w old cs levels i new count end single same =
     let many : length cs ≡ length levels = sym (length-map cs single_glyph) ∙ ap length (sym single) ∙ length-map old glyph_of ∙ count in
     same ∙ ap₂ (λ gs ls. leveled says w gs ls) single (take_all i levels end) ∙ leveled-single says w cs levels many

@@ -27,6 +27,8 @@ pub mod Leveled
 pub mod MirroredLetters
 pub mod PlainPictures
 mod Examples
+mod JoiningExamples
+pub mod JoinedColumns
 mod LawExamples
 pub mod Unmirrored
 pub mod PlainRows

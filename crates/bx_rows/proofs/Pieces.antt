@@ -10,6 +10,7 @@ use Rattle.bx_ucd.specs.Data.{Data}
 use Rattle.bx_ucd.specs.declared.class.Class.{Class}
 use Rattle.bx_cells.specs.declared.unit.Unit.{Unit}
 use Rattle.bx_cells.specs.Units.{unit_text}
+use Rattle.bx_rows.specs.UnitForms.{unit_forms}
 use Rattle.bx_rows.specs.RowPicture.{Glyph, face_glyphs, own_glyphs, unit_columns, unit_glyphs}
 use Rattle.bx_rows.specs.VisualOrder.{visual}
 
@@ -19,12 +20,13 @@ length-zip (x ∷ xs) [] n e f = f
 length-zip (x ∷ xs) (y ∷ ys) n e f = ap suc (length-zip xs ys (length xs) refl (omega (arith, e, f))) ∙ e
 
 -- the glyphs of unit k
-pub piece-at : (says : Data) (w : ℕ) (body : List ℕ) (us : List Unit) (columns levels : List ℕ) (k a b : ℕ) (d : Unit)
+pub piece-at : (says : Data) (w : ℕ) (body : List ℕ) (each : List (Option ℕ)) (us : List Unit) (columns levels : List ℕ) (k a b : ℕ) (d : Unit)
     → k < length us → length columns ≡ length us → length levels ≡ length us
-    → get_or (unit_glyphs says w body us columns levels) k []
+    → get_or (unit_glyphs says w body each us columns levels) k []
     ≡ face_glyphs says w (unit_text body (get_or us k d)) (get_or us k d).face (get_or columns k a) (get_or levels k b)
-piece-at says w body us columns levels k a b d h e f =
-    let piece : Unit × (ℕ × ℕ) → List Glyph = λ p. face_glyphs says w (unit_text body p.0) p.0.face p.1.0 p.1.1 in
+    (unit_forms says body each (get_or us k d))
+piece-at says w body each us columns levels k a b d h e f =
+    let piece : Unit × (ℕ × ℕ) → List Glyph = λ p. face_glyphs says w (unit_text body p.0) p.0.face p.1.0 p.1.1 (unit_forms says body each p.0) in
     let inner : length (zip columns levels) ≡ length us = length-zip columns levels (length us) e f in
     let outer : length (zip us (zip columns levels)) ≡ length us = length-zip us (zip columns levels) (length us) refl inner in
     get_or-map piece (zip us (zip columns levels)) k (d, (a, b)) [] (omega (arith, h, outer))
@@ -42,27 +44,27 @@ pieces-more f order i k old items new piece h at inv pushed is =
     ∙ ap (λ xs. old ++ flat_map f xs) (sym (take_more order i 0 h))
 
 -- as many pieces as units
-pub pieces-length : (says : Data) (w : ℕ) (body : List ℕ) (us : List Unit) (columns levels : List ℕ) → length columns ≡ length us
-    → length levels ≡ length us → length (unit_glyphs says w body us columns levels) ≡ length us
-pieces-length says w body us columns levels e f =
-    let piece : Unit × (ℕ × ℕ) → List Glyph = λ p. face_glyphs says w (unit_text body p.0) p.0.face p.1.0 p.1.1 in
+pub pieces-length : (says : Data) (w : ℕ) (body : List ℕ) (each : List (Option ℕ)) (us : List Unit) (columns levels : List ℕ) → length columns ≡ length us
+    → length levels ≡ length us → length (unit_glyphs says w body each us columns levels) ≡ length us
+pieces-length says w body each us columns levels e f =
+    let piece : Unit × (ℕ × ℕ) → List Glyph = λ p. face_glyphs says w (unit_text body p.0) p.0.face p.1.0 p.1.1 (unit_forms says body each p.0) in
     length-map (zip us (zip columns levels)) piece ∙ length-zip us (zip columns levels) (length us) refl (length-zip columns levels (length us) e f)
 
 -- ---- the row
 
 -- the glyphs of units in an order
-abbrev pub in_order : Data → ℕ → List ℕ → List Unit → List ℕ → List ℕ → List ℕ → List Glyph
-in_order says w body us columns levels order = flat_map (λ k. get_or (unit_glyphs says w body us columns levels) k []) order
+abbrev pub in_order : Data → ℕ → List ℕ → List (Option ℕ) → List Unit → List ℕ → List ℕ → List ℕ → List Glyph
+in_order says w body each us columns levels order = flat_map (λ k. get_or (unit_glyphs says w body each us columns levels) k []) order
 
-same-order : (says : Data) (w : ℕ) (body : List ℕ) (us : List Unit) (columns levels order : List ℕ)
-    → columns ≡ unit_columns w 0 us → order ≡ visual levels → in_order says w body us columns levels order
-    ≡ in_order says w body us (unit_columns w 0 us) levels (visual levels)
-same-order says w body us columns levels order e f =
-    ap (λ cs. in_order says w body us cs levels order) e ∙ ap (in_order says w body us (unit_columns w 0 us) levels) f
+same-order : (says : Data) (w : ℕ) (body : List ℕ) (each : List (Option ℕ)) (us : List Unit) (columns levels order : List ℕ)
+    → columns ≡ unit_columns w 0 us → order ≡ visual levels → in_order says w body each us columns levels order
+    ≡ in_order says w body each us (unit_columns w 0 us) levels (visual levels)
+same-order says w body each us columns levels order e f =
+    ap (λ cs. in_order says w body each us cs levels order) e ∙ ap (in_order says w body each us (unit_columns w 0 us) levels) f
 
 -- the glyphs of a row's units in visual order
-pub own-of : (says : Data) (w : ℕ) (body : List ℕ) (us : List Unit) (levels columns order : List ℕ) (start new : List Glyph)
-    → columns ≡ unit_columns w 0 us → order ≡ visual levels → start ≡ [] → new ≡ start ++ in_order says w body us columns levels order
-    → new ≡ own_glyphs says w body us levels
-own-of says w body us levels columns order start new e f s pushed =
-    pushed ∙ ap (λ xs. xs ++ in_order says w body us columns levels order) s ∙ same-order says w body us columns levels order e f
+pub own-of : (says : Data) (w : ℕ) (body : List ℕ) (each : List (Option ℕ)) (us : List Unit) (levels columns order : List ℕ) (start new : List Glyph)
+    → columns ≡ unit_columns w 0 us → order ≡ visual levels → start ≡ [] → new ≡ start ++ in_order says w body each us columns levels order
+    → new ≡ own_glyphs says w body each us levels
+own-of says w body each us levels columns order start new e f s pushed =
+    pushed ∙ ap (λ xs. xs ++ in_order says w body each us columns levels order) s ∙ same-order says w body each us columns levels order e f

@@ -55,12 +55,12 @@ shows-pieces paragraph n pieces levels e =
           (subst (λ gs. IsPermutation gs (flat_map piece (visual levels))) all (made-permutes piece levels));
     }
 
-pub shows-units : (says : Data) (w : ℕ) (body : List ℕ) (paragraph : ℕ) (us : List Unit) (levels : List ℕ)
-    → length levels ≡ length us → ShowsEachOnce paragraph (w - columns_used w us) (unit_glyphs says w body us (unit_columns w 0 us) levels)
-    (draw says w body paragraph us levels)
-shows-units says w body paragraph us levels e =
-    let pieces = unit_glyphs says w body us (unit_columns w 0 us) levels in
-    shows-pieces paragraph (w - columns_used w us) pieces levels (e ∙ sym (pieces-length says w body us (unit_columns w 0 us) levels (columns-length w 0 us) e))
+pub shows-units : (says : Data) (w : ℕ) (body : List ℕ) (paragraph : ℕ) (each : List (Option ℕ)) (us : List Unit) (levels : List ℕ)
+    → length levels ≡ length us → ShowsEachOnce paragraph (w - columns_used w us) (unit_glyphs says w body each us (unit_columns w 0 us) levels)
+    (draw says w body paragraph each us levels)
+shows-units says w body paragraph each us levels e =
+    let pieces = unit_glyphs says w body each us (unit_columns w 0 us) levels in
+    shows-pieces paragraph (w - columns_used w us) pieces levels (e ∙ sym (pieces-length says w body each us (unit_columns w 0 us) levels (columns-length w 0 us) e))
 
 -- ---- the order of two units
 
@@ -100,8 +100,8 @@ left-shown paragraph n f order a b s =
     })
 
 pub shows-by-levels : PicturesGoByLevels
-shows-by-levels says w body paragraph us levels i j lowest e h k l =
-    let piece : ℕ → List Glyph = λ n. get_or (unit_glyphs says w body us (unit_columns w 0 us) levels) n [] in
+shows-by-levels says w body paragraph each us levels i j lowest e h k l =
+    let piece : ℕ → List Glyph = λ n. get_or (unit_glyphs says w body each us (unit_columns w 0 us) levels) n [] in
     let n = w - columns_used w us in
     let by = lowest-order levels i j lowest h (omega (arith, e, k)) l in
     record {

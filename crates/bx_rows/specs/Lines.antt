@@ -28,4 +28,4 @@ module _ {D : Type 0} {g : Ghosts D} (s : Lines D g) where
 
   -- the glyphs of its units alone
   abbrev pub own_glyphs_at : ℕ → List Glyph
-  own_glyphs_at k = let us = units_at k in own_glyphs (g.data s.tables.now) s.w s.body.now us (levels_of us)
+  own_glyphs_at k = let us = units_at k in own_glyphs (g.data s.tables.now) s.w s.body.now s.levels.now.each.items us (levels_of us)

@@ -10,4 +10,4 @@ use Rattle.bx_rows.specs.RowStarts.{units_of_row}
 abbrev pub draw_numbered : Data → ℕ → List ℕ → ℕ → List (Option ℕ) → ℕ → List Glyph
 draw_numbered says w body paragraph each k =
     let us = units_of_row says w body k in
-    draw says w body paragraph us (row_levels says body paragraph each us)
+    draw says w body paragraph each us (row_levels says body paragraph each us)

@@ -1,14 +1,15 @@
 -- Rows in which each unit is one character of one column, shown as itself.
-use Rattle.std.specs.Prelude.{◌≡◌, ◌⊎◌, ℕ, ◌+◌, true, false, List, [], ◌∷◌, ◌++◌, map, length, take, drop, encode_utf8, encode_utf8_all, Option}
+use Rattle.std.specs.Prelude.{◌≡◌, ◌⊎◌, ⊤, ℕ, ◌+◌, ◌%◌, true, false, List, [], ◌∷◌, ◌++◌, map, length, take, drop, encode_utf8, encode_utf8_all, Option, None}
 use Rattle.std.specs.List.{zip}
 use Rattle.bx_ucd.specs.Data.{Data}
 use Rattle.bx_ucd.specs.declared.class.Class.{Class}
+use Rattle.bx_ucd.specs.declared.joining.Form.{Form}
 use Rattle.bx_cells.specs.declared.unit.Face.TheVariants.{Own}
 use Rattle.bx_cells.specs.declared.unit.Unit.{Unit}
 use Rattle.bx_cells.specs.Simple.{begins}
 use Rattle.bx_cells.specs.Units.{units_from}
 use Rattle.bx_rows.specs.declared.drawn.Drawn.{Drawn}
-use Rattle.bx_rows.specs.RowPicture.{Glyph, glyph, shown_text}
+use Rattle.bx_rows.specs.RowPicture.{Glyph, glyph, mirrored_text, shown_text}
 use Rattle.bx_rows.specs.Shown.{glyph_of}
 
 -- one unit per character, from an offset on
@@ -26,13 +27,31 @@ IsClusterEnd text = (length text ≡ 0) ⊎ ((d : ℕ) × (more : List ℕ) × (
 abbrev pub single_glyph : ℕ → Glyph
 single_glyph c = glyph (encode_utf8 c) 1 false
 
--- the glyph of a character at a level, mirrored at an odd one
-abbrev pub leveled_glyph : Data → ℕ → ℕ → ℕ → Glyph
-leveled_glyph says w c level = glyph (shown_text says w 1 level (encode_utf8 c)) 1 false
+-- the glyph of a character at a level, mirrored and joined at an odd one
+abbrev pub leveled_glyph : Data → ℕ → ℕ → ℕ → Form → Glyph
+leveled_glyph says w c level form = glyph (shown_text says w 1 level (form ∷ []) (encode_utf8 c)) 1 false
 
--- the glyphs of characters at their levels, in text order
-abbrev pub leveled_glyphs : Data → ℕ → List ℕ → List ℕ → List Glyph
-leveled_glyphs says w cs levels = map (λ (c, level). leveled_glyph says w c level) (zip cs levels)
+-- the glyphs of characters at their levels and in their forms, in text order
+abbrev pub leveled_glyphs : Data → ℕ → List ℕ → List ℕ → List Form → List Glyph
+leveled_glyphs says w cs levels forms = map (λ (c, at). leveled_glyph says w c at.0 at.1) (zip cs (zip levels forms))
+
+-- the same, mirrored alone
+abbrev pub mirrored_glyph : Data → ℕ → ℕ → ℕ → Glyph
+mirrored_glyph says w c level = glyph (mirrored_text says w 1 level (encode_utf8 c)) 1 false
+
+abbrev pub mirrored_glyphs : Data → ℕ → List ℕ → List ℕ → List Glyph
+mirrored_glyphs says w cs levels = map (λ (c, level). mirrored_glyph says w c level) (zip cs levels)
+
+-- at an even level, or where none of the characters has a form
+abbrev pub IsFormless : Data → ℕ → List ℕ → Type 0
+IsFormless says level [] = ⊤
+IsFormless says level (c ∷ cs) = ((level % 2 ≡ 0) ⊎ ((form : Form) → says.form c form ≡ None)) × IsFormless says level cs
+
+-- none of the characters is at an odd level and has a form
+abbrev pub AreFormless : Data → List ℕ → List ℕ → Type 0
+AreFormless says [] levels = ⊤
+AreFormless says (c ∷ cs) [] = ⊤
+AreFormless says (c ∷ cs) (level ∷ levels) = IsFormless says level (c ∷ []) × AreFormless says cs levels
 
 -- the glyphs are those of the first `count` units of a body, or all, from an offset on
 pub record AreSingle (says : Data) (w : ℕ) (body : List ℕ) (at count : ℕ) (glyphs : List Drawn) : Type 0 where

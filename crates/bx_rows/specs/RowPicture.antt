@@ -1,15 +1,18 @@
--- The picture of a row: the glyphs of its units in visual order, mirrored at odd levels (L4), and blanks up to the edge.
+-- The picture of a row: the glyphs of its units in visual order, mirrored (L4) and joined at odd levels, and blanks up to the edge.
 use Rattle.std.specs.Prelude.{ℕ, zero, suc, ◌+◌, ◌-◌, ◌%◌, ◌==◌, Bool, true, false, List, [], ◌∷◌, ◌++◌, map, sum, flat_map, replicate, slice_index_or, Option}
 use Rattle.std.specs.Prelude.{unwrap_or, chars, encode_utf8_all}
 use Rattle.std.specs.List.{zip}
 use Rattle.bx_ucd.specs.Data.{Data}
 use Rattle.bx_terms.specs.Characters.{are_ascii_printable}
 use Rattle.bx_ucd.specs.declared.class.Class.{Class}
+use Rattle.bx_ucd.specs.declared.joining.Form.{Form}
 use Rattle.bx_cells.specs.declared.unit.Face.{Face}
 use Rattle.bx_cells.specs.declared.unit.Face.TheVariants.{Tab, Mark, Own}
 use Rattle.bx_cells.specs.declared.unit.Unit.{Unit}
 use Rattle.bx_cells.specs.Faces.{face}
 use Rattle.bx_cells.specs.Units.{unit_text}
+use Rattle.bx_joining.specs.JoinedText.{joined_image}
+use Rattle.bx_rows.specs.UnitForms.{unit_forms}
 use Rattle.bx_rows.specs.Wrapping.{columns_at}
 use Rattle.bx_rows.specs.VisualOrder.{visual}
 
@@ -46,15 +49,25 @@ is_own n _ = false
 abbrev pub mirror_image_within : Data → ℕ → ℕ → List ℕ → List ℕ
 mirror_image_within says w n text = let other = mirror_image says text in elim (is_own n (face says w other)) [ true ↦ other | false ↦ text ]
 
--- the text shown at a level: mirrored if the level is odd
-abbrev pub shown_text : Data → ℕ → ℕ → ℕ → List ℕ → List ℕ
-shown_text says w n level text = elim (level % 2) [ zero ↦ text | suc _ ↦ mirror_image_within says w n text ]
+-- the text with these forms if it is shown as itself in `n` columns, else without
+abbrev pub joined_image_within : Data → ℕ → ℕ → List Form → List ℕ → List ℕ → List ℕ
+joined_image_within says w n forms text shown =
+    let other = joined_image says forms text shown in elim (is_own n (face says w other)) [ true ↦ other | false ↦ shown ]
 
--- the glyphs of a face in its columns, with the unit's own text at a level
-abbrev pub face_glyphs : Data → ℕ → List ℕ → Face → ℕ → ℕ → List Glyph
-face_glyphs says w text Tab columns level = replicate columns blank
-face_glyphs says w text (Mark letter) columns level = glyph (letter ∷ []) 1 true ∷ []
-face_glyphs says w text (Own n) columns level = text_glyphs n (shown_text says w n level text)
+-- the text at a level, mirrored if the level is odd
+abbrev pub mirrored_text : Data → ℕ → ℕ → ℕ → List ℕ → List ℕ
+mirrored_text says w n level text = elim (level % 2) [ zero ↦ text | suc _ ↦ mirror_image_within says w n text ]
+
+-- the text shown at a level: mirrored and then joined if the level is odd
+abbrev pub shown_text : Data → ℕ → ℕ → ℕ → List Form → List ℕ → List ℕ
+shown_text says w n level forms text =
+    elim (level % 2) [ zero ↦ text | suc _ ↦ joined_image_within says w n forms text (mirror_image_within says w n text) ]
+
+-- the glyphs of a face, with the unit's own text at a level
+abbrev pub face_glyphs : Data → ℕ → List ℕ → Face → ℕ → ℕ → List Form → List Glyph
+face_glyphs says w text Tab columns level forms = replicate columns blank
+face_glyphs says w text (Mark letter) columns level forms = glyph (letter ∷ []) 1 true ∷ []
+face_glyphs says w text (Own n) columns level forms = text_glyphs n (shown_text says w n level forms text)
 
 -- the columns of each unit of a row with `c` columns taken
 abbrev pub unit_columns : ℕ → ℕ → List Unit → List ℕ
@@ -65,21 +78,21 @@ unit_columns w c (u ∷ us) = let n = columns_at w c u.face in n ∷ unit_column
 abbrev pub columns_used : ℕ → List Unit → ℕ
 columns_used w us = sum (unit_columns w 0 us)
 
--- the glyphs of each unit of a row, given the columns and levels of its units
-abbrev pub unit_glyphs : Data → ℕ → List ℕ → List Unit → List ℕ → List ℕ → List (List Glyph)
-unit_glyphs says w body us columns levels =
-    map (λ (u, at). face_glyphs says w (unit_text body u) u.face at.0 at.1) (zip us (zip columns levels))
+-- the glyphs of each unit of a row, given the columns and levels of its units; the body's characters have the levels `each`
+abbrev pub unit_glyphs : Data → ℕ → List ℕ → List (Option ℕ) → List Unit → List ℕ → List ℕ → List (List Glyph)
+unit_glyphs says w body each us columns levels =
+    map (λ (u, at). face_glyphs says w (unit_text body u) u.face at.0 at.1 (unit_forms says body each u)) (zip us (zip columns levels))
 
 -- the blanks of a row are at its end: right in a paragraph of even level, left in one of odd level
 abbrev pub with_blanks : ℕ → ℕ → List Glyph → List Glyph
 with_blanks paragraph n glyphs = elim (paragraph % 2) [ zero ↦ glyphs ++ replicate n blank | suc _ ↦ replicate n blank ++ glyphs ]
 
 -- the glyphs of a row's units in visual order
-abbrev pub own_glyphs : Data → ℕ → List ℕ → List Unit → List ℕ → List Glyph
-own_glyphs says w body us levels =
-    let glyphs = unit_glyphs says w body us (unit_columns w 0 us) levels in
+abbrev pub own_glyphs : Data → ℕ → List ℕ → List (Option ℕ) → List Unit → List ℕ → List Glyph
+own_glyphs says w body each us levels =
+    let glyphs = unit_glyphs says w body each us (unit_columns w 0 us) levels in
     flat_map (λ k. slice_index_or glyphs k []) (visual levels)
 
 -- a row from left to right: the glyphs of its units, and the blanks
-abbrev pub draw : Data → ℕ → List ℕ → ℕ → List Unit → List ℕ → List Glyph
-draw says w body paragraph us levels = with_blanks paragraph (w - columns_used w us) (own_glyphs says w body us levels)
+abbrev pub draw : Data → ℕ → List ℕ → ℕ → List (Option ℕ) → List Unit → List ℕ → List Glyph
+draw says w body paragraph each us levels = with_blanks paragraph (w - columns_used w us) (own_glyphs says w body each us levels)

@@ -4,12 +4,16 @@ ghost use Rattle.std.specs.List.{range_with_len};
 ghost use Rattle.std.specs.Cow.{cow_str_bytes};
 ghost use Rattle.bx_terms.specs.Characters.{are_ascii_printable, is_ascii_printable};
 ghost use Rattle.bx_terms.specs.Glyphs.{is_one_glyph, run_width};
-ghost use Rattle.bx_rows.specs.RowPicture.{blank, face_glyphs, glyph, is_own, letter_glyphs, shown_text, text_glyphs, with_blanks};
+ghost use Rattle.bx_rows.specs.RowPicture.{blank, face_glyphs, glyph, is_own, letter_glyphs, mirror_image_within, shown_text, text_glyphs, with_blanks};
+ghost use Rattle.bx_rows.specs.UnitPlaces.{StandsInRow, forms_of_unit};
 ghost use Rattle.bx_rows.specs.Shown.{HasLetter, glyph_of};
 
 use crate::drawn::{Drawn, RowPicture};
+use crate::joined_text::{OwnSize, joined};
 use crate::mirrors::{has_mirror, mirrored};
+use crate::row_at::RowAt;
 use bx_cells::Face;
+use bx_joining::has_forms;
 use bx_terms::are_ascii_printable;
 use bx_ucd::BidiData;
 use std::alloc::{AllocError, Global};
@@ -146,35 +150,63 @@ pub(crate) fn is_own(face: Face, n: u16) -> bool
     }
 }
 
-/// The text shown at a level: mirrored if the level is odd.
-fn shown_text<'a, D: BidiData>(
+/// A text mirrored, or itself where its mirror image is not shown as itself in as many columns.
+fn mirrored_or_own<'a, D: BidiData>(
     alloc: Global,
     text: &'a str,
-    columns: u16,
-    level: u8,
+    size: OwnSize,
     tables: &D,
-    w: u16,
 ) -> Result<CowStr<'a, Global>, AllocError>
-    ensures { IfOk result (λ t. cow_str_bytes t ≡ shown_text (D.data tables.now) w columns level text.entry.now) }
+    ensures { IfOk result (λ t. cow_str_bytes t ≡ mirror_image_within (D.data tables.now) size.w size.columns text.entry.now) }
 {
-    if level % 2 == 0 {
-        return Ok(CowStr::Borrowed(text));
-    }
     if !has_mirror(text, tables) {
         return Ok(CowStr::Borrowed(text));
     }
-    match mirrored(alloc, text, columns, tables, w)? {
+    match mirrored(alloc, text, size.columns, tables, size.w)? {
         Some(other) => Ok(other),
         None => Ok(CowStr::Borrowed(text)),
     }
 }
 
-/// The face of a unit, its columns and its level.
+/// The text shown at a level: mirrored and then joined if the level is odd.
+fn shown_text<'a, D: BidiData>(
+    alloc: Global,
+    text: &'a str,
+    at: UnitAt<'_>,
+    size: OwnSize,
+    tables: &D,
+) -> Result<CowStr<'a, Global>, AllocError>
+    requires { StandsInRow text.now at }
+    ensures { IfOk result (λ t. cow_str_bytes t ≡ shown_text (D.data tables.now) size.w size.columns at.entry.level (forms_of_unit (D.data tables.now) at.entry text.entry.now) text.entry.now) }
+{
+    if at.level % 2 == 0 {
+        return Ok(CowStr::Borrowed(text));
+    }
+    let mirrored = mirrored_or_own(alloc, text, size, tables)?;
+    if !has_forms(text, tables) {
+        return Ok(mirrored);
+    }
+    let place = at.row.text_at(at.offset);
+    match joined(alloc, text, mirrored.as_str(), place, tables, size)? {
+        Some(other) => Ok(CowStr::Owned(other)),
+        None => Ok(mirrored),
+    }
+}
+
+/// Where a unit stands: its row, its offset in the body, and its level.
 #[derive(Clone, Copy)]
-pub(crate) struct LeveledFace {
+pub(crate) struct UnitAt<'r> {
+    pub(crate) row: RowAt<'r>,
+    pub(crate) offset: usize,
+    pub(crate) level: u8,
+}
+
+/// The face of a unit, its columns, and where it stands.
+#[derive(Clone, Copy)]
+pub(crate) struct LeveledFace<'r> {
     pub(crate) face: Face,
     pub(crate) columns: u16,
-    pub(crate) level: u8,
+    pub(crate) at: UnitAt<'r>,
 }
 
 /// Appends the glyphs of a unit of this text.
@@ -182,19 +214,22 @@ pub(crate) fn push_face<'a, D: BidiData>(
     glyphs: &mut Vec<Drawn<'a>>,
     alloc: Global,
     text: &'a str,
-    unit: LeveledFace,
+    unit: LeveledFace<'_>,
     tables: &D,
     w: u16,
 ) -> Result<(), AllocError>
-    requires { HasLetter unit.face }
+    requires letter { HasLetter unit.face }
+    requires stands { StandsInRow text.now unit.at }
     ensures { OnOk result (map glyph_of glyphs.new.items ≡ map glyph_of glyphs.old.items
-        ++ face_glyphs (D.data tables.now) w text.entry.now unit.face unit.columns unit.level) }
+        ++ face_glyphs (D.data tables.now) w text.entry.now unit.entry.face unit.entry.columns unit.entry.at.level
+        (forms_of_unit (D.data tables.now) unit.entry.at text.entry.now)) }
 {
     match unit.face {
         Face::Tab => push_blanks(glyphs, unit.columns),
         Face::Mark(byte) => push_letter(glyphs, byte, true),
         Face::Own(own) => {
-            let shown = shown_text(alloc, text, own, unit.level, tables, w)?;
+            let size = OwnSize { columns: own, w };
+            let shown = shown_text(alloc, text, unit.at, size, tables)?;
             push_text(glyphs, shown, own)
         }
     }

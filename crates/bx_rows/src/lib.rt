@@ -6,6 +6,7 @@
 mod ascii_part;
 mod drawn;
 mod glyphs;
+mod joined_text;
 mod laws;
 mod level_read;
 mod library;
@@ -17,6 +18,7 @@ mod picture;
 mod plain_picture;
 mod plain_row;
 mod row;
+mod row_at;
 mod row_part;
 mod row_scan;
 mod start_search;
@@ -26,8 +28,9 @@ mod wrapping;
 
 pub use drawn::{Drawn, RowPicture};
 pub use laws::{
-    lowest_levels_order_units, orders_are_permutations, pictures_show_units, rows_are_of_rest,
-    rows_cut_units, rows_meet_again, units_make_body,
+    forms_change_texts_alone, lowest_levels_order_units,
+    orders_are_permutations, pictures_show_units, rows_are_of_rest, rows_cut_units,
+    rows_meet_again, units_make_body,
 };
 pub use library::{has_one_row, row_levels, wrap};
 pub use lines::Lines;

@@ -4,7 +4,9 @@ ghost use Rattle.bx_resolve.specs.Levels.{levels_under, paragraph_level_under};
 ghost use Rattle.bx_rows.specs.RowStarts.{row_starts};
 ghost use Rattle.std.proofs.Props.{props};
 
+use crate::row_at::RowAt;
 use crate::start_search::RowStart;
+use bx_joining::LeveledBody;
 use bx_resolve::Levels;
 use bx_terms::Base;
 use bx_ucd::BidiData;
@@ -34,5 +36,22 @@ impl<'a, 't, D: BidiData> Clone for Lines<'a, 't, D> {
 
     fn clone(&self) -> Result<Lines<'a, 't, D>, AllocError> {
         Ok(*self)
+    }
+}
+
+impl<'a, 't, D: BidiData> Lines<'a, 't, D> {
+    /// A row in the body, by its start.
+    pub(crate) fn row_at(&self, start: RowStart) -> RowAt<'a>
+        ensures start { result.start ≡ start }
+        ensures text { result.body.text.now ≡ self.now.body.now }
+        ensures each { result.body.each.now ≡ self.now.levels.now.each.items }
+    {
+        RowAt {
+            body: LeveledBody {
+                text: self.body,
+                each: self.levels.each.as_slice(),
+            },
+            start,
+        }
     }
 }

@@ -3,14 +3,15 @@ ghost use Rattle.std.specs.Prelude.{◌≡◌, ◌∷◌, [], ℕ, IfOk, IfSome,
 ghost use Rattle.std.specs.Cow.{cow_str_bytes};
 ghost use Rattle.bx_cells.specs.declared.unit.Face.TheVariants.{Own};
 ghost use Rattle.bx_cells.specs.Faces.{face};
-ghost use Rattle.bx_rows.specs.PlainRows.{leveled_glyphs, single_glyph};
-ghost use Rattle.bx_rows.specs.RowPicture.{glyph, mirror_image, mirror_image_within, shown_text};
+ghost use Rattle.bx_rows.specs.PlainRows.{AreFormless, IsFormless, mirrored_glyphs, single_glyph};
+ghost use Rattle.bx_rows.specs.RowPicture.{glyph, mirror_image, mirror_image_within, mirrored_text};
 ghost use Rattle.bx_rows.specs.Shown.{glyph_of};
 
 use crate::drawn::Drawn;
 use crate::glyphs::{is_own, letter};
 use crate::plain_row::is_plain;
 use bx_cells::face;
+use bx_joining::has_forms;
 use bx_terms::first_char;
 use bx_ucd::BidiData;
 use std::alloc::{AllocError, Global};
@@ -128,8 +129,8 @@ fn mirror_text<D: BidiData>(
     Ok(())
 }
 
-/// Mirrors a glyph at an odd level, if one of its characters has a mirror. The rare part is a function of its own, since
-/// a function's locals cost on each call.
+/// Mirrors a glyph at an odd level, if its character has a mirror, and tells whether the character is at an odd level and has
+/// a form. The rare part is a function of its own, since a function's locals cost on each call.
 #[inline(always)]
 fn mirror_at<D: BidiData>(
     drawn: &mut Drawn<'_>,
@@ -137,35 +138,42 @@ fn mirror_at<D: BidiData>(
     level: u8,
     tables: &D,
     w: u16,
-) -> Result<(), AllocError>
-    ensures { OnOk result (glyph_of drawn.new
-        ≡ glyph (shown_text (D.data tables.now) w 1 level (cow_str_bytes drawn.old.text))
+) -> Result<bool, AllocError>
+    ensures mirrored { OnOk result (glyph_of drawn.new
+        ≡ glyph (mirrored_text (D.data tables.now) w 1 level (cow_str_bytes drawn.old.text))
         drawn.old.columns drawn.old.negative) }
+    ensures formless { IfOk result (λ joins. joins ≡ false → IsFormless (D.data tables.now) level (chars (cow_str_bytes drawn.old.text))) }
 {
     if level % 2 == 0 {
-        return Ok(());
+        return Ok(false);
     }
-    if !has_mirror(drawn.text.as_str(), tables) {
-        return Ok(());
+    let text = drawn.text.as_str();
+    let joins = has_forms(text, tables);
+    if has_mirror(text, tables) {
+        mirror_text(drawn, alloc, tables, w)?;
     }
-    mirror_text(drawn, alloc, tables, w)
+    Ok(joins)
 }
 
-/// Mirrors the glyphs at odd levels, each a single character of one column, if the mirror takes one column too.
+/// Mirrors the glyphs at odd levels, each a single character of one column, if the mirror takes one column too. Returns
+/// whether one of these characters has a form.
 pub(crate) fn mirror_odd<D: BidiData>(
     glyphs: &mut [Drawn<'_>],
     alloc: Global,
     levels: &[u8],
     tables: &D,
     w: u16,
-) -> Result<(), AllocError>
+) -> Result<bool, AllocError>
     requires { length glyphs.old ≡ length levels.now }
     ensures count { length glyphs.new ≡ length glyphs.old }
     ensures mirrored { (cs : List ℕ) → map glyph_of glyphs.old ≡ map single_glyph cs
-        → OnOk result (map glyph_of glyphs.new ≡ leveled_glyphs (D.data tables.now) w cs levels.now) }
+        → OnOk result (map glyph_of glyphs.new ≡ mirrored_glyphs (D.data tables.now) w cs levels.now) }
+    ensures formless { (cs : List ℕ) → map glyph_of glyphs.old ≡ map single_glyph cs
+        → IfOk result (λ joins. joins ≡ false → AreFormless (D.data tables.now) cs levels.now) }
 {
+    let mut joins = false;
     for i in 0..glyphs.len() {
-        mirror_at(&mut glyphs[i], alloc, levels[i], tables, w)?;
+        joins |= mirror_at(&mut glyphs[i], alloc, levels[i], tables, w)?;
     }
-    Ok(())
+    Ok(joins)
 }

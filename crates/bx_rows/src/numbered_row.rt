@@ -56,6 +56,8 @@ impl<'a, 't, D: BidiData> Lines<'a, 't, D> {
             units: &units,
             levels: &each,
             paragraph: self.levels.paragraph,
+            each: self.levels.each.as_slice(),
+            start: self.starts[number],
         };
         draw(alloc, self.body, &row, self.tables, self.w)
     }
@@ -75,6 +77,8 @@ impl<'a, 't, D: BidiData> Lines<'a, 't, D> {
             units: &units,
             levels: &each,
             paragraph: self.levels.paragraph,
+            each: self.levels.each.as_slice(),
+            start: self.starts[number],
         };
         draw_units(alloc, self.body, &row, self.tables, self.w)
     }

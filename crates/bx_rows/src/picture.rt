@@ -3,25 +3,50 @@ ghost use Rattle.std.specs.Prelude.{◌≡◌, ◌≤◌, ◌<◌, ◌+◌, ◌+
 ghost use Rattle.std.specs.Cow.{cow_str_bytes};
 ghost use Rattle.bx_terms.specs.Glyphs.{is_one_glyph, run_width};
 ghost use Rattle.bx_cells.specs.Units.{HasFace, StandsIn};
+ghost use Rattle.bx_rows.specs.UnitForms.{StartsRow};
 ghost use Rattle.bx_rows.specs.RowPicture.{columns_used, draw, own_glyphs, unit_columns, unit_glyphs};
 ghost use Rattle.bx_rows.specs.Shown.{glyph_of};
 ghost use Rattle.bx_rows.specs.VisualOrder.{visual};
 
 use crate::drawn::{Drawn, RowPicture};
-use crate::glyphs::{LeveledFace, push_face, with_blanks};
+use crate::glyphs::{LeveledFace, UnitAt, push_face, with_blanks};
+use crate::row_at::RowAt;
+use crate::start_search::RowStart;
 use crate::visual_order::visual;
 use crate::wrapping::columns_at;
 use bx_cells::Unit;
+use bx_joining::LeveledBody;
+use bx_resolve::Level;
 use bx_terms::OutOfMemory;
 use bx_ucd::BidiData;
 use std::alloc::{AllocError, Global};
 
-/// The units of a row and their levels, one for each, in a paragraph of the level `paragraph`.
+/// The units of a row and their levels, one for each, in a paragraph of the level `paragraph`. The row starts at `start` of a
+/// body whose characters have the levels `each`.
 #[derive(Clone, Copy)]
 pub struct LeveledRow<'r> {
     pub units: &'r [Unit],
     pub levels: &'r [u8],
     pub paragraph: u8,
+    pub each: &'r [Level],
+    pub start: RowStart,
+}
+
+impl<'r> LeveledRow<'r> {
+    /// The row in its body.
+    fn at(self, body: &'r str) -> RowAt<'r>
+        ensures text { result.body.text.now ≡ body.now }
+        ensures each { result.body.each.now ≡ self.entry.each.now }
+        ensures start { result.start ≡ self.entry.start }
+    {
+        RowAt {
+            body: LeveledBody {
+                text: body,
+                each: self.each,
+            },
+            start: self.start,
+        }
+    }
 }
 
 /// The units of a row, the columns and the level of each, and the units' numbers, from 0, in visual order.
@@ -31,6 +56,7 @@ struct OrderedRow<'r> {
     columns: &'r [u16],
     levels: &'r [u8],
     order: &'r [usize],
+    at: RowAt<'r>,
 }
 
 /// The columns of each unit of a row in a window of `w` columns, and their sum.
@@ -66,8 +92,11 @@ fn push_units<'a, D: BidiData>(
     requires columns { length row.now.columns.now ≡ length row.now.units.now }
     requires levels { length row.now.levels.now ≡ length row.now.units.now }
     requires order { All (λ k. k < length row.now.units.now) row.now.order.now }
+    requires body { row.now.at.body.text.now ≡ body.now }
+    requires starts { StartsRow body.now row.now.at.start }
+    requires behind { All (λ u. row.now.at.start.offset ≤ u.start) row.now.units.now }
     ensures { OnOk result (map glyph_of glyphs.new.items ≡ map glyph_of glyphs.old.items
-        ++ flat_map (λ k. slice_index_or (unit_glyphs (D.data tables.now) w body.entry.now row.now.units.now row.now.columns.now
+        ++ flat_map (λ k. slice_index_or (unit_glyphs (D.data tables.now) w body.entry.now row.now.at.body.each.now row.now.units.now row.now.columns.now
         row.now.levels.now) k []) row.now.order.now) }
 {
     for number in row.order {
@@ -75,7 +104,11 @@ fn push_units<'a, D: BidiData>(
         let face = LeveledFace {
             face: unit.face,
             columns: row.columns[*number],
-            level: row.levels[*number],
+            at: UnitAt {
+                row: row.at,
+                offset: unit.start,
+                level: row.levels[*number],
+            },
         };
         push_face(glyphs, alloc, &body[unit.start..unit.stop], face, tables, w)?;
     }
@@ -94,8 +127,10 @@ fn unit_row<'a, D: BidiData>(
     requires faces { All (HasFace (D.data tables.now) w body.now) row.now.units.now }
     requires used { columns_used w row.now.units.now ≤ w }
     requires levels { length row.now.levels.now ≡ length row.now.units.now }
+    requires starts { StartsRow body.now row.now.start }
+    requires behind { All (λ u. row.now.start.offset ≤ u.start) row.now.units.now }
     ensures glyphs { IfOk result (λ r. map glyph_of r.0.items
-        ≡ own_glyphs (D.data tables.now) w body.entry.now row.now.units.now row.now.levels.now) }
+        ≡ own_glyphs (D.data tables.now) w body.entry.now row.now.each.now row.now.units.now row.now.levels.now) }
     ensures used { IfOk result (λ r. r.1 ≡ columns_used w row.now.units.now) }
 {
     let (columns, used) = unit_columns(alloc, row.units, w)?;
@@ -106,6 +141,7 @@ fn unit_row<'a, D: BidiData>(
         columns: &columns,
         levels: row.levels,
         order: &order,
+        at: row.at(body),
     };
     push_units(&mut glyphs, alloc, body, &ordered, tables, w)?;
     Ok((glyphs, used))
@@ -123,8 +159,10 @@ fn row_glyphs<'a, D: BidiData>(
     requires faces { All (HasFace (D.data tables.now) w body.now) row.now.units.now }
     requires used { columns_used w row.now.units.now ≤ w }
     requires levels { length row.now.levels.now ≡ length row.now.units.now }
+    requires starts { StartsRow body.now row.now.start }
+    requires behind { All (λ u. row.now.start.offset ≤ u.start) row.now.units.now }
     ensures { IfOk result (λ v. map glyph_of v.items
-        ≡ draw (D.data tables.now) w body.entry.now row.now.paragraph row.now.units.now row.now.levels.now) }
+        ≡ draw (D.data tables.now) w body.entry.now row.now.paragraph row.now.each.now row.now.units.now row.now.levels.now) }
 {
     let (glyphs, used) = unit_row(alloc, body, row, tables, w)?;
     let all = with_blanks(alloc, glyphs, w - used, row.paragraph)?;
@@ -145,8 +183,10 @@ pub fn draw<'a, D: BidiData>(
     requires faces { All (HasFace (D.data tables.now) w body.now) row.now.units.now }
     requires fits { columns_used w row.now.units.now ≤ w }
     requires levels { length row.now.levels.now ≡ length row.now.units.now }
+    requires starts { StartsRow body.now row.now.start }
+    requires behind { All (λ u. row.now.start.offset ≤ u.start) row.now.units.now }
     ensures picture { IfOk result (λ p. map glyph_of p.glyphs.items
-        ≡ draw (D.data tables.now) w body.entry.now row.now.paragraph row.now.units.now row.now.levels.now) }
+        ≡ draw (D.data tables.now) w body.entry.now row.now.paragraph row.now.each.now row.now.units.now row.now.levels.now) }
     ensures glyphs { IfOk result (λ p. All (λ g. is_one_glyph (cow_str_bytes g.text) ≡ true) p.glyphs.items) }
     ensures widths { IfOk result (λ p. All (λ g. run_width (cow_str_bytes g.text) ≡ g.columns) p.glyphs.items) }
     ensures columns { IfOk result (λ p. sum_by (λ g. g.columns) p.glyphs.items ≡ w) }
@@ -169,8 +209,10 @@ pub(crate) fn draw_units<'a, D: BidiData>(
     requires faces { All (HasFace (D.data tables.now) w body.now) row.now.units.now }
     requires fits { columns_used w row.now.units.now ≤ w }
     requires levels { length row.now.levels.now ≡ length row.now.units.now }
+    requires starts { StartsRow body.now row.now.start }
+    requires behind { All (λ u. row.now.start.offset ≤ u.start) row.now.units.now }
     ensures picture { IfOk result (λ p. map glyph_of p.glyphs.items
-        ≡ own_glyphs (D.data tables.now) w body.entry.now row.now.units.now row.now.levels.now) }
+        ≡ own_glyphs (D.data tables.now) w body.entry.now row.now.each.now row.now.units.now row.now.levels.now) }
     ensures glyphs { IfOk result (λ p. All (λ g. is_one_glyph (cow_str_bytes g.text) ≡ true) p.glyphs.items) }
     ensures widths { IfOk result (λ p. All (λ g. run_width (cow_str_bytes g.text) ≡ g.columns) p.glyphs.items) }
 {

@@ -1,7 +1,9 @@
 //! The picture of a row in which each unit is one character of one column.
-ghost use Rattle.std.specs.Prelude.{◌≡◌, ◌≤◌, ◌<◌, ◌-◌, All, IfOk, IfSome, List, ℕ, length, map, slice_index_or, sum_by, true};
+ghost use Rattle.std.specs.Prelude.{◌≡◌, ◌≤◌, ◌<◌, ◌-◌, ◌++◌, All, IfOk, IfSome, List, ℕ, drop, encode_utf8_all, length, map, slice_index_or, sum_by, true};
 ghost use Rattle.std.specs.Cow.{cow_str_bytes};
 ghost use Rattle.bx_terms.specs.Glyphs.{is_one_glyph, run_width};
+ghost use Rattle.bx_joining.specs.Joining.{text_forms};
+ghost use Rattle.bx_rows.specs.UnitForms.{StartsRow};
 ghost use Rattle.bx_rows.specs.Lines.{glyphs_at};
 ghost use Rattle.bx_rows.specs.PlainRows.{leveled_glyphs, single_glyph};
 ghost use Rattle.bx_rows.specs.RowPicture.{blank};
@@ -10,30 +12,39 @@ ghost use Rattle.bx_rows.specs.VisualOrder.{visual};
 
 use crate::drawn::{Drawn, RowPicture};
 use crate::glyphs::with_blanks;
+use crate::joined_text::join_odd;
 use crate::lines::Lines;
 use crate::mirrors::mirror_odd;
 use crate::plain_row::PlainRow;
+use crate::row_at::RowAt;
 use crate::row_part::{most_units, start_of};
 use crate::visual_order::reorder;
 use bx_terms::OutOfMemory;
 use bx_ucd::BidiData;
 use std::alloc::{AllocError, Global};
 
-/// The glyphs of a plain row in visual order, mirrored at odd levels.
+/// The glyphs of a plain row in visual order, mirrored and joined at odd levels.
 fn arranged<'a, D: BidiData>(
     alloc: Global,
     row: PlainRow<'a>,
+    at: RowAt<'_>,
     tables: &D,
     w: u16,
 ) -> Result<Vec<Drawn<'a>>, AllocError>
-    requires { length row.levels.items ≡ length row.glyphs.items }
+    requires levels { length row.levels.items ≡ length row.glyphs.items }
+    requires starts { StartsRow at.body.text.now at.start }
     ensures count { IfOk result (λ v. length v.items ≡ length row.entry.glyphs.items) }
-    ensures order { (cs : List ℕ) → map glyph_of row.entry.glyphs.items ≡ map single_glyph cs → IfOk result (λ v. map glyph_of v.items
-        ≡ map (λ k. slice_index_or (leveled_glyphs (D.data tables.now) w cs row.entry.levels.items) k blank)
+    ensures order { (cs rest : List ℕ) → drop at.entry.start.offset at.entry.body.text.now ≡ encode_utf8_all cs ++ rest
+        → map glyph_of row.entry.glyphs.items ≡ map single_glyph cs → IfOk result (λ v. map glyph_of v.items
+        ≡ map (λ k. slice_index_or (leveled_glyphs (D.data tables.now) w cs row.entry.levels.items
+        (text_forms (D.data tables.now) at.entry.body.text.now at.entry.body.each.now at.entry.start.chars (encode_utf8_all cs))) k blank)
         (visual row.entry.levels.items)) }
 {
     let PlainRow { mut glyphs, levels } = row;
-    mirror_odd(&mut glyphs, alloc, &levels, tables, w)?;
+    let joins = mirror_odd(&mut glyphs, alloc, &levels, tables, w)?;
+    if joins {
+        join_odd(&mut glyphs, alloc, &levels, at, tables, w)?;
+    }
     reorder(&mut glyphs, &levels);
     Ok(glyphs)
 }
@@ -67,7 +78,7 @@ impl<'a, 't, D: BidiData> Lines<'a, 't, D> {
         let Some(row) = self.plain_row(alloc, start, count)? else {
             return Ok(None);
         };
-        let glyphs = arranged(alloc, row, self.tables, w)?;
+        let glyphs = arranged(alloc, row, self.row_at(start), self.tables, w)?;
         let blanks = columns_left(w, glyphs.len());
         let glyphs = with_blanks(alloc, glyphs, blanks, self.levels.paragraph)?;
         Ok(Some(RowPicture { glyphs }))

@@ -6,6 +6,6 @@ use Rattle.bx_rows.proofs.picture.unit_row.Goals as goal
 
 pub returns-clause-glyphs : goal.returns-clause-glyphs
 returns-clause-glyphs g c =
-    own-of (g.D.BidiData.data c.args.tables.now) c.args.w c.args.body.now c.args.row.now.units.now c.args.row.now.levels.now _ _ _ _
+    own-of (g.D.BidiData.data c.args.tables.now) c.args.w c.args.body.now c.args.row.now.each.now c.args.row.now.units.now c.args.row.now.levels.now _ _ _ _
     (c.deref.ensures.value ∙ c.in_ok-columns.ensures.columns) (c.deref-2.ensures.value ∙ c.in_ok-order.ensures.order)
     (ap (map glyph_of) c.in_ok-glyphs.ensures.items) c.in_ok-push_units.ensures

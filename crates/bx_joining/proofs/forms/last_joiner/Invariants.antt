@@ -1,0 +1,17 @@
+-- The nearest character of the text is that of what is left.
+use Rattle.std.proofs.Common.{◌≡◌, length, reverse, chars}
+use denote.Text.{Utf8}
+use denote.Shadow.{shadow}
+use Rattle.bx_joining.specs.Joining.{joiners, neighbour}
+use Rattle.bx_joining.proofs.forms.last_joiner.Given as goal
+
+abbrev pub invariant-chars : goal.invariant-chars
+invariant-chars g l = record {
+  text : shadow (Utf8 l.rest);
+  count : length l.left ≡ length (chars l.rest);
+  near : neighbour (reverse (joiners (g.D.BidiData.data l.tables) l.fn.text l.fn.levels))
+      ≡ neighbour (reverse (joiners (g.D.BidiData.data l.tables) l.rest l.left));
+}
+
+abbrev pub decreases-chars : goal.decreases-chars
+decreases-chars g l = length l.rest

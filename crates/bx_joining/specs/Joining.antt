@@ -1,0 +1,87 @@
+-- The forms of a body's letters. Which letters join is decided by the joining types and levels of neighbours.
+use Rattle.std.specs.Prelude.{ℕ, zero, suc, ◌%◌, ◌==◌, ◌&&◌, Bool, true, false, List, [], ◌∷◌, map, length, drop, Option, Some, None, chars}
+use Rattle.std.specs.List.{zip}
+use Rattle.bx_ucd.specs.Data.{Data}
+use Rattle.bx_ucd.specs.declared.joining.Joining.{Joining}
+use Rattle.bx_ucd.specs.declared.joining.Joining.TheVariants.{R, L, D, C, T}
+use Rattle.bx_ucd.specs.declared.joining.Form.{Form}
+use Rattle.bx_ucd.specs.declared.joining.Form.TheVariants.{Isolated, Initial, Medial, Final}
+
+-- a character's joining type, and its level unless X9 removes it
+abbrev pub Joiner : Type 0
+Joiner = Joining × Option ℕ
+
+abbrev pub is_transparent : Joining → Bool
+is_transparent T = true
+is_transparent _ = false
+
+-- a type that joins what stands before it
+abbrev pub joins_back : Joining → Bool
+joins_back D = true
+joins_back R = true
+joins_back C = true
+joins_back _ = false
+
+-- a type that joins what stands after it
+abbrev pub joins_on : Joining → Bool
+joins_on D = true
+joins_on L = true
+joins_on C = true
+joins_on _ = false
+
+-- the nearest character that is not transparent, if the nearest stands first
+abbrev pub neighbour : List Joiner → Option Joiner
+neighbour [] = None
+neighbour (x ∷ xs) = elim (is_transparent x.0) [ true ↦ neighbour xs | false ↦ Some x ]
+
+abbrev pub is_odd : ℕ → Bool
+is_odd level = level % 2 == 1
+
+-- the levels of two characters, of those that have one, are odd and equal
+abbrev pub are_one_odd : Option ℕ → Option ℕ → Bool
+are_one_odd None None = true
+are_one_odd (Some level) None = is_odd level
+are_one_odd None (Some level) = is_odd level
+are_one_odd (Some level) (Some other) = is_odd level && (level == other)
+
+-- two neighbours join, the first before the second
+abbrev pub join : Joiner → Joiner → Bool
+join first second = (joins_on first.0 && joins_back second.0) && are_one_odd first.1 second.1
+
+-- a character joins the one before it, given those before it, the nearest first
+abbrev pub joins_before : List Joiner → Joiner → Bool
+joins_before before c = elim (neighbour before) [ None ↦ false | Some first ↦ join first c ]
+
+-- a character joins the one after it
+abbrev pub joins_after : Joiner → List Joiner → Bool
+joins_after c after = elim (neighbour after) [ None ↦ false | Some second ↦ join c second ]
+
+-- the form of a character that joins the one before it, and the one after it
+abbrev pub form_if : Bool → Bool → Form
+form_if true true = Medial
+form_if true false = Final
+form_if false true = Initial
+form_if false false = Isolated
+
+-- the forms of characters, given those before them, the nearest first
+abbrev pub forms_behind : List Joiner → List Joiner → List Form
+forms_behind before [] = []
+forms_behind before (c ∷ cs) = form_if (joins_before before c) (joins_after c cs) ∷ forms_behind (c ∷ before) cs
+
+-- the joining types of a text's characters, which have the levels `each`
+abbrev pub joiners : Data → List ℕ → List (Option ℕ) → List Joiner
+joiners says text each = zip (map says.joining (chars text)) each
+
+-- the forms of a body's characters, which have the levels `each`
+abbrev pub body_forms : Data → List ℕ → List (Option ℕ) → List Form
+body_forms says body each = forms_behind [] (joiners says body each)
+
+-- the first `n` of some forms, and isolated ones where there are too few
+abbrev pub first_forms : ℕ → List Form → List Form
+first_forms zero forms = []
+first_forms (suc n) [] = Isolated ∷ first_forms n []
+first_forms (suc n) (f ∷ fs) = f ∷ first_forms n fs
+
+-- the forms of the characters of a text in the body, `number` characters of which stand before it
+abbrev pub text_forms : Data → List ℕ → List (Option ℕ) → ℕ → List ℕ → List Form
+text_forms says body each number text = first_forms (length (chars text)) (drop number (body_forms says body each))

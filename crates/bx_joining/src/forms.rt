@@ -1,0 +1,223 @@
+//! The forms of a body's letters, by the letters beside them.
+ghost use Rattle.std.specs.Prelude.{◌≡◌, ◌<◌, ◌++◌, ◌∷◌, [], IsUtf8, List, MatchOption, None, chars, encode_utf8, false, length, reverse, slice_index_or, take, ℕ};
+ghost use Rattle.std.specs.Str.{IsCharBoundary};
+ghost use Rattle.bx_joining.specs.JoinedText.{joined_image};
+ghost use Rattle.bx_ucd.specs.declared.joining.Form.{Form};
+ghost use Rattle.bx_joining.specs.Joining.{are_one_odd, body_forms, form_if, is_transparent, join, joiners, joins_after, joins_back, joins_before, joins_on, neighbour};
+
+use bx_resolve::Level;
+use bx_terms::first_char;
+use bx_ucd::{BidiData, Form, Joining};
+
+/// A character's joining type, and its level unless X9 removes it.
+type Joiner = (Joining, Option<u8>);
+
+/// The text of a body, and the level of each of its characters.
+#[derive(Clone, Copy)]
+pub struct LeveledBody<'r> {
+    pub text: &'r str,
+    pub each: &'r [Level],
+}
+
+impl<'r> LeveledBody<'r> {
+    /// The text. A call's result is known to be whole characters, a field is not.
+    pub(crate) fn text(self) -> &'r str
+        ensures { result.now ≡ self.entry.text.now }
+    {
+        self.text
+    }
+}
+
+/// Where a text stands in a body: its offset, and the number of characters before it.
+#[derive(Clone, Copy)]
+pub struct TextAt<'r> {
+    pub body: LeveledBody<'r>,
+    pub offset: usize,
+    pub number: usize,
+}
+
+/// The last character of a text, and the text before it.
+fn last_char(text: &str) -> Option<(char, &str)>
+    ensures { MatchOption result (length text.now ≡ 0) (λ (c, before).
+        (text.now ≡ before.now ++ encode_utf8 c) × (length before.now < length text.now) × (chars text.now ≡ chars before.now ++ c ∷ []) × IsUtf8 before.now) }
+{
+    let mut chars = text.chars();
+    match chars.next_back() {
+        Some(c) => Some((c, chars.as_str())),
+        None => None,
+    }
+}
+
+/// Whether letters join across a character of this type.
+fn is_transparent(joining: Joining) -> bool
+    ensures { result ≡ is_transparent joining }
+{
+    matches!(joining, Joining::T)
+}
+
+/// Whether a character of this type joins what stands before it.
+fn joins_back(joining: Joining) -> bool
+    ensures { result ≡ joins_back joining }
+{
+    matches!(joining, Joining::D | Joining::R | Joining::C)
+}
+
+/// Whether a character of this type joins what stands after it.
+fn joins_on(joining: Joining) -> bool
+    ensures { result ≡ joins_on joining }
+{
+    matches!(joining, Joining::D | Joining::L | Joining::C)
+}
+
+/// Whether the levels of two characters, of those that have one, are odd and equal.
+fn are_one_odd(first: Option<u8>, second: Option<u8>) -> bool
+    ensures { result ≡ are_one_odd first second }
+{
+    match (first, second) {
+        (None, None) => true,
+        (Some(level), None) => level % 2 == 1,
+        (None, Some(level)) => level % 2 == 1,
+        (Some(level), Some(other)) => level % 2 == 1 && level == other,
+    }
+}
+
+/// Whether two neighbours join, the first before the second.
+fn join(first: Joiner, second: Joiner) -> bool
+    ensures { result ≡ join first second }
+{
+    joins_on(first.0) && joins_back(second.0) && are_one_odd(first.1, second.1)
+}
+
+/// The form of a letter that joins the one before it, and the one after it.
+fn form_if(joins_before: bool, joins_after: bool) -> Form
+    ensures { result ≡ form_if joins_before joins_after }
+{
+    match (joins_before, joins_after) {
+        (true, true) => Form::Medial,
+        (true, false) => Form::Final,
+        (false, true) => Form::Initial,
+        (false, false) => Form::Isolated,
+    }
+}
+
+/// The first character of a text that is not transparent.
+fn first_joiner<D: BidiData>(text: &str, levels: &[Level], tables: &D) -> Option<Joiner>
+    ensures { result ≡ neighbour (joiners (D.data tables.now) text.now levels.now) }
+{
+    let mut rest = text;
+    let mut left = levels;
+    'chars: while let Some((c, behind)) = first_char(rest) {
+        let Some((level, after)) = left.split_first() else {
+            return None;
+        };
+        let joining = tables.joining(c);
+        if !is_transparent(joining) {
+            return Some((joining, level.get()));
+        }
+        rest = behind;
+        left = after;
+    }
+    None
+}
+
+/// The last character of a text that is not transparent.
+fn last_joiner<D: BidiData>(text: &str, levels: &[Level], tables: &D) -> Option<Joiner>
+    requires { length levels.now ≡ length (chars text.now) }
+    ensures { result ≡ neighbour (reverse (joiners (D.data tables.now) text.now levels.now)) }
+{
+    let mut rest = text;
+    let mut left = levels;
+    'chars: while let Some((c, before)) = last_char(rest) {
+        let Some((level, earlier)) = left.split_last() else {
+            return None;
+        };
+        let joining = tables.joining(c);
+        if !is_transparent(joining) {
+            return Some((joining, level.get()));
+        }
+        rest = before;
+        left = earlier;
+    }
+    None
+}
+
+/// Whether a character joins the one before it, which is in the text before it.
+fn joins_before<D: BidiData>(own: Joiner, text: &str, levels: &[Level], tables: &D) -> bool
+    requires { length levels.now ≡ length (chars text.now) }
+    ensures { result ≡ joins_before (reverse (joiners (D.data tables.now) text.now levels.now)) own }
+{
+    match last_joiner(text, levels, tables) {
+        Some(first) => join(first, own),
+        None => false,
+    }
+}
+
+/// Whether a character joins the one after it, which is in the text behind it.
+fn joins_after<D: BidiData>(own: Joiner, text: &str, levels: &[Level], tables: &D) -> bool
+    ensures { result ≡ joins_after own (joiners (D.data tables.now) text.now levels.now) }
+{
+    match first_joiner(text, levels, tables) {
+        Some(second) => join(own, second),
+        None => false,
+    }
+}
+
+/// The form of the character at a place of its body. Reads the transparent characters on its two sides and the next
+/// character on each; isolated if the body has no such character.
+fn form_at<D: BidiData>(at: TextAt<'_>, tables: &D) -> Form
+    requires boundary { IsCharBoundary at.body.text.now at.offset }
+    requires number { at.number ≡ length (chars (take at.offset at.body.text.now)) }
+    ensures { result ≡ slice_index_or (body_forms (D.data tables.now) at.entry.body.text.now at.entry.body.each.now) at.entry.number Form.Isolated }
+{
+    let (before, rest) = at.body.text().split_at(at.offset);
+    let Some((c, behind)) = first_char(rest) else {
+        return Form::Isolated;
+    };
+    let Some((earlier, later)) = at.body.each.split_at_checked(at.number) else {
+        return Form::Isolated;
+    };
+    let Some((level, after)) = later.split_first() else {
+        return Form::Isolated;
+    };
+    let own = (tables.joining(c), level.get());
+    form_if(
+        joins_before(own, before, earlier, tables),
+        joins_after(own, behind, after, tables),
+    )
+}
+
+/// Whether a character is a letter with a form.
+fn has_form<D: BidiData>(c: char, tables: &D) -> bool
+    ensures { result ≡ false → (form : Form) → (D.data tables.now).form c form ≡ None }
+{
+    tables.form(c, Form::Isolated).is_some()
+        || tables.form(c, Form::Initial).is_some()
+        || tables.form(c, Form::Medial).is_some()
+        || tables.form(c, Form::Final).is_some()
+}
+
+/// The character that shows a letter at a place of its body in its form, if the letter has that form.
+pub fn shown_form<D: BidiData>(letter: char, at: TextAt<'_>, tables: &D) -> Option<char>
+    requires boundary { IsCharBoundary at.body.text.now at.offset }
+    requires number { at.number ≡ length (chars (take at.offset at.body.text.now)) }
+    ensures { result ≡ (D.data tables.now).form letter
+        (slice_index_or (body_forms (D.data tables.now) at.entry.body.text.now at.entry.body.each.now) at.entry.number Form.Isolated) }
+{
+    // a mark has no form, so a cluster of many marks is not read once for each
+    if !has_form(letter, tables) {
+        return None;
+    }
+    tables.form(letter, form_at(at, tables))
+}
+
+/// Whether a text has a letter with a form.
+pub fn has_forms<D: BidiData>(text: &str, tables: &D) -> bool
+    ensures { result ≡ false → (forms : List Form) (shown : List ℕ) → IsUtf8 shown → joined_image (D.data tables.now) forms text.now shown ≡ shown }
+{
+    for c in text.chars() {
+        if has_form(c, tables) {
+            return true;
+        }
+    }
+    false
+}

@@ -1,0 +1,8 @@
+//! Laws of letters that join. The functions are empty: their contracts are the laws.
+
+ghost use Rattle.bx_joining.specs.Laws.{JoiningIsSymmetric};
+
+/// A letter joins the one after it exactly where that one joins the one before it.
+pub fn joining_is_symmetric()
+    ensures { JoiningIsSymmetric }
+{}

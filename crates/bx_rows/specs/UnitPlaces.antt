@@ -1,0 +1,18 @@
+-- Where the units of a row stand in its body.
+use Rattle.std.specs.Prelude.{◌≡◌, ◌≤◌, ℕ, List, length, take, chars}
+use Rattle.bx_ucd.specs.Data.{Data}
+use Rattle.bx_ucd.specs.declared.joining.Form.{Form}
+use Rattle.bx_joining.specs.Joining.{text_forms}
+use Rattle.bx_joining.specs.Places.{StandsAt}
+use Rattle.bx_rows.specs.UnitForms.{StartsRow}
+use Rattle.bx_rows.specs.declared.glyphs.UnitAt.{UnitAt}
+
+-- a text stands at the place, not before its row
+pub record StandsInRow (text : List ℕ) (at : UnitAt) : Type 0 where
+  pub row : StartsRow at.row.body.text.now at.row.start
+  pub order : at.row.start.offset ≤ at.offset
+  pub stands : StandsAt at.row.body.text.now text at.offset (length (chars (take at.offset at.row.body.text.now)))
+
+-- the forms of the letters of a text at the place
+abbrev pub forms_of_unit : Data → UnitAt → List ℕ → List Form
+forms_of_unit says at text = text_forms says at.row.body.text.now at.row.body.each.now (length (chars (take at.offset at.row.body.text.now))) text

@@ -1,0 +1,35 @@
+//! Where a row stands in its body.
+ghost use Rattle.std.specs.Prelude.{◌≡◌, ◌≤◌, chars, length, take};
+ghost use Rattle.std.specs.Str.{IsCharBoundary};
+ghost use Rattle.bx_rows.specs.UnitForms.{StartsRow};
+
+use crate::start_search::RowStart;
+use crate::unit_levels::char_count;
+use bx_joining::{LeveledBody, TextAt};
+
+/// A row of a body: where it starts.
+#[derive(Clone, Copy)]
+pub(crate) struct RowAt<'r> {
+    pub(crate) body: LeveledBody<'r>,
+    pub(crate) start: RowStart,
+}
+
+impl<'r> RowAt<'r> {
+    /// The place of a text of the row by its offset.
+    pub(crate) fn text_at(self, offset: usize) -> TextAt<'r>
+        requires starts { StartsRow self.body.text.now self.start }
+        requires order { self.start.offset ≤ offset }
+        requires boundary { IsCharBoundary self.body.text.now offset }
+        ensures offset { result.offset ≡ offset }
+        ensures number { result.number ≡ length (chars (take offset self.entry.body.text.now)) }
+        ensures text { result.body.text.now ≡ self.entry.body.text.now }
+        ensures each { result.body.each.now ≡ self.entry.body.each.now }
+    {
+        let before = char_count(&self.body.text[self.start.offset..offset]);
+        TextAt {
+            body: self.body,
+            offset,
+            number: self.start.chars + before,
+        }
+    }
+}
