@@ -28,10 +28,18 @@ take_tables() { # FOLDER
     [ -r "$classes" ] || classes=$1/DerivedBidiClass.txt
     brackets=$1/BidiBrackets.txt
     mirroring=$1/BidiMirroring.txt
+    joining=$1/ArabicShaping.txt
+    characters=$1/UnicodeData.txt
     [ -r "$classes" ] && [ -r "$brackets" ] && [ -r "$mirroring" ]
 }
 
-# Finds the tables: from BIDI_EDIT_DATA, else the system's, else the editor's own.
+# Has letters shown apart: the program takes both files of joined letters or neither.
+part_letters() {
+    joining='' characters=''
+}
+
+# Finds the tables: from BIDI_EDIT_DATA, else the system's, else the editor's own. Those of joined letters are taken from the
+# same folder, so that all are of one version.
 find_tables() {
     if [ -n "${BIDI_EDIT_DATA:-}" ]; then
         take_tables "$BIDI_EDIT_DATA" ||
@@ -39,6 +47,7 @@ find_tables() {
     else
         take_tables /usr/share/unicode || take_tables "$own_tables" || fail "$(shown "$own_tables") lacks Unicode's three files"
     fi
+    if [ -n "$is_unjoined" ] || ! [ -r "$joining" ] || ! [ -r "$characters" ]; then part_letters; fi
 }
 
 # ---- FILE

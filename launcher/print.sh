@@ -47,7 +47,7 @@ take_print_file() { # WORD..
     esac
 }
 
-# Parses the words after --print into `columns`, `direction`, `marks` and `file`.
+# Parses the words after --print into `columns`, `direction`, `marks`, `is_unjoined` and `file`.
 read_print_words() { # WORD..
     file='' marks=''
     while [ $# -gt 0 ]; do
@@ -59,6 +59,7 @@ read_print_words() { # WORD..
             ;;
         --cols=* | --direction=*) take_print_option "${1%%=*}" "${1#*=}" ;;
         --marks) marks=--marks ;;
+        --no-joining) is_unjoined=1 ;;
         --)
             shift
             break
@@ -83,7 +84,8 @@ check_print_file() {
 
 # Replaces this script by the printing program.
 print_rows() { # WORD..
-    usage='usage: bidi-edit --print FILE [--cols N] [--marks] [--direction auto|ltr|rtl]'
+    usage='usage: bidi-edit --print FILE [--cols N] [--marks] [--no-joining]
+       [--direction auto|ltr|rtl]'
     find_columns
     read_print_words "$@"
     find_tables
@@ -94,5 +96,5 @@ print_rows() { # WORD..
         build bidi_print
     fi
     exec "$printer" --cols "$columns" --direction "$direction" ${marks:+--marks} --classes "$classes" --brackets "$brackets" \
-        --mirroring "$mirroring" "$file"
+        --mirroring "$mirroring" ${joining:+--joining "$joining" --characters "$characters"} "$file"
 }

@@ -248,7 +248,7 @@ take_by_text() { # SESSION
 
 fill_from_text() { # SESSION NEW
     cp -- "$1/begin" "$2/" && cp -- "$1/snapshot" "$2/text" && : >"$2/journal" && : >"$2/unsaved" && tell_versions >"$2/versions" || return 1
-    for part in mode beside; do [ ! -f "$1/$part" ] || cp -- "$1/$part" "$2/"; done
+    for part in mode beside unjoined; do [ ! -f "$1/$part" ] || cp -- "$1/$part" "$2/"; done
 }
 
 # Asks about a session that cannot be replayed. It never blocks opening FILE.

@@ -6,8 +6,8 @@
 # recovery beside FILE saves; `begin` has the first rows, columns, direction and line (- for none); `process` has the launcher's
 # number and the machine; `mode` has FILE's permissions, if FILE existed; `versions` has the versions that its keys depend on;
 # `journal` has the bytes that the program read; `lock` is held while the session runs. `dropped` marks changes that Quit
-# discarded, `cut` a journal without its end, `unsaved` a text that counts as changed from the start, and `snapshot` is the text
-# at the end. in_place.sh describes the files of saves into FILE itself.
+# discarded, `cut` a journal without its end, `unsaved` a text that counts as changed from the start, `unjoined` letters that
+# were shown apart, and `snapshot` is the text at the end. in_place.sh describes the files of saves into FILE itself.
 
 kept='' forgotten='' is_resumed='' is_waiting='' opened='' unkept='' session_mode='' limit='' found_for='-'
 
@@ -148,7 +148,8 @@ copy_text() { # TO
     cp --reflink=auto -- "$file" "$1" 2>/dev/null || cp -- "$file" "$1"
 }
 
-# Prints the versions that a replay depends on: the launcher's, and checksums of the program and the tables.
+# Prints the versions that a replay depends on: the launcher's, and checksums of the program and the tables. Joined letters
+# change no text and no place, so their tables are not among them.
 tell_versions() {
     echo "bidi-edit $version"
     cksum -- "$editor" "$classes" "$brackets" "$mirroring"
@@ -156,8 +157,12 @@ tell_versions() {
 
 fill_session() { # SESSION
     copy_text "$1/text" && echo "$rows $cols $direction ${line:--}" >"$1/begin" && note_process "$1" && tell_versions >"$1/versions" &&
-        note_mode "$1"
+        note_mode "$1" && note_joining "$1"
 } 2>/dev/null
+
+note_joining() { # SESSION
+    [ -n "$joining" ] || true >"$1/unjoined"
+}
 
 note_mode() { # SESSION
     [ -n "$mode_of_file" ] || return 0
@@ -236,6 +241,8 @@ resume_session() {
         printf '%s' "$told" >&5
     fi
     read_begin "$kept"
+    [ ! -e "$kept/unjoined" ] || part_letters
+    note_joining "$kept"
 }
 
 # Begins or resumes a session in a window of `rows` and `cols`, before the screen changes.

@@ -356,7 +356,7 @@ start_program() {
             [ ! -e "$kept/unsaved" ] || set -- --unsaved "$@"
         fi
         exec "$editor" --rows "$rows" --cols "$cols" --direction "$direction" ${line:+--line "$line"} --classes "$classes" \
-            --brackets "$brackets" --mirroring "$mirroring" "$@"
+            --brackets "$brackets" --mirroring "$mirroring" ${joining:+--joining "$joining" --characters "$characters"} "$@"
     } <&6 2>"$folder/fault" 3<&- 4<&- 5>&- 6<&- 7>&- 8>&- &
     program=$!
     echo "$program" >&8

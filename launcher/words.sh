@@ -11,8 +11,8 @@ help() {
     cat <<'TEXT'
        bidi-edit --print FILE [--cols N] [--marks]: its rows to standard output
 Edits a text of any scripts, each paragraph in its own direction, from line N.
---force opens what cannot be saved, -n keeps no session, --version tells more.
---recover has back what was typed and not saved, or lists it; --to stores it.
+--force opens what cannot be saved, -n keeps no session, --no-joining joins no
+letters. --recover has back what was typed, or lists it; --to stores it.
 
   Left Right Up Down    move as the screen shows; Left, Right with Ctrl by words
   Ctrl-B Ctrl-F         move back, forward as the text is stored
@@ -29,7 +29,7 @@ The last row: * where changes are not saved, else -; paragraph:place; a message.
 Marks, in negative image, stand for what has no look of its own:
   e LRE  E RLE  o LRO  O RLO  p PDF  i LRI  I RLI  f FSI  P PDI
   ? another control   ~ a character with no columns   # wider than the window
-BIDI_EDIT_DATA names a folder of other Unicode files. Installed: man bidi_edit.
+BIDI_EDIT_DATA: a folder of other Unicode files. More: --version, man bidi_edit.
 TEXT
 }
 
@@ -86,9 +86,10 @@ take_place() { # WORD
     esac
 }
 
-# Parses the command line into `direction`, `line`, `is_forced`, `is_unkept`, `is_recovery`, `is_list`, `other` and `file`.
+# Parses the command line into `direction`, `line`, `is_forced`, `is_unkept`, `is_unjoined`, `is_recovery`, `is_list`, `other`
+# and `file`.
 read_words() { # WORD..
-    direction=auto line='' is_forced='' is_recovery='' is_list='' is_unkept='' other=''
+    direction=auto line='' is_forced='' is_recovery='' is_list='' is_unkept='' is_unjoined='' other=''
     while [ $# -gt 0 ]; do
         case $1 in
         -h | --help)
@@ -114,6 +115,7 @@ read_words() { # WORD..
         --recover) is_recovery=1 ;;
         # as in other editors: no swap file
         -n) is_unkept=1 ;;
+        --no-joining) is_unjoined=1 ;;
         # options that callers pass to other editors: no new window, wait for the end
         -f | -w | -nw | --nofork | --wait) ;;
         --)

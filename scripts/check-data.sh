@@ -1,15 +1,16 @@
 #!/bin/sh
-# Compares data/ with Unicode's three files, from Debian's package unicode-data or from the folder named after it: the class,
-# bracket and mirror of each of the 1,114,112 codes. The awk program below reads the files; if crates/ucd_lookup is built, so
-# does the editor's reader, for every character. data/ must contain nothing but facts. Exit status 1: something differs; 77:
-# Unicode's files are missing, or only the editor's reader is not built and all else agrees.
+# Compares data/ with Unicode's five files, from Debian's package unicode-data or from the folder named after it: the class,
+# bracket, mirror, joining type and forms of each of the 1,114,112 codes. The awk program below reads the files; if
+# crates/ucd_lookup is built, so does the editor's reader, for the first three of every character (check-joined-rows.sh prints
+# each letter's forms by both). data/ must contain nothing but facts. Exit status 1: something differs; 77: Unicode's files are
+# missing, or only the editor's reader is not built and all else agrees.
 set -eu
 export LC_ALL=C
 
 folder=${1:-/usr/share/unicode}
 classes=$folder/extracted/DerivedBidiClass.txt
 [ -r "$classes" ] || classes=$folder/DerivedBidiClass.txt
-for file in "$classes" "$folder/BidiBrackets.txt" "$folder/BidiMirroring.txt"; do
+for file in "$classes" "$folder/BidiBrackets.txt" "$folder/BidiMirroring.txt" "$folder/ArabicShaping.txt" "$folder/UnicodeData.txt"; do
     if [ ! -r "$file" ]; then
         echo "skipped: $file is not there (apt-get install unicode-data)"
         exit 77
@@ -20,8 +21,8 @@ data=$top/data
 scratch=$(mktemp -d)
 trap 'rm -rf "$scratch"' EXIT
 
-# Prints a line for each code: class, bracket, mirror. A data line takes precedence over @missing, and a later line over an
-# earlier one of its kind; without any the class is L.
+# Prints a line for each code: class, bracket, mirror, joining type, and the isolated, initial, medial and final form. A data
+# line takes precedence over @missing, and a later line over an earlier one of its kind; without any the class is L.
 answers() {
     awk -F';' '
         function number(code,  i, n) {
@@ -29,37 +30,50 @@ answers() {
             for (i = 1; i <= length(code); i++) n = n * 16 + index("123456789ABCDEF", toupper(substr(code, i, 1)))
             return n
         }
+        BEGIN {
+            count = split("<isolated> <initial> <medial> <final>", tag, " ")
+            for (i = 1; i <= count; i++) kind[tag[i]] = i
+        }
         FNR == 1 { file += 1 }
         { sub(/\r$/, ""); missing = 0 }
         file == 1 && sub(/^[ \t]*#[ \t]*@missing:/, "") { missing = 1 }
-        { sub(/#.*/, ""); gsub(/[ \t]/, "") }
+        { sub(/#.*/, "") }
+        file == 5 {
+            if (split($6, word, " ") == 2 && word[1] in kind) form[kind[word[1]], number(word[2])] = number($1)
+            next
+        }
+        { gsub(/[ \t]/, "") }
         $0 == "" { next }
         { parts = split($1, ends, "[.][.]"); first = number(ends[1]); last = number(ends[parts]) }
         file == 1 && missing { for (code = first; code <= last; code++) missed[code] = $2; next }
         file == 1 { for (code = first; code <= last; code++) class[code] = $2; next }
         file == 2 { bracket[first] = $3 number($2); next }
-        { mirror[first] = number($2) }
+        file == 3 { mirror[first] = number($2); next }
+        { joining[first] = $3 }
         END {
             short["Left_To_Right"] = "L"; short["Right_To_Left"] = "R"; short["Arabic_Letter"] = "AL"
             short["European_Terminator"] = "ET"; short["Boundary_Neutral"] = "BN"; short["Other_Neutral"] = "ON"
             for (code = 0; code <= 1114111; code++) {
                 found = code in class ? class[code] : code in missed ? missed[code] : "L"
-                print code, (found in short ? short[found] : found), bracket[code], mirror[code]
+                print code, (found in short ? short[found] : found), bracket[code], mirror[code], joining[code],
+                    form[1, code] "," form[2, code] "," form[3, code] "," form[4, code]
             }
         }
     ' "$@"
 }
 
-answers "$classes" "$folder/BidiBrackets.txt" "$folder/BidiMirroring.txt" >"$scratch/unicode"
-answers "$data/DerivedBidiClass.txt" "$data/BidiBrackets.txt" "$data/BidiMirroring.txt" >"$scratch/data"
+answers "$classes" "$folder/BidiBrackets.txt" "$folder/BidiMirroring.txt" "$folder/ArabicShaping.txt" "$folder/UnicodeData.txt" >"$scratch/unicode"
+answers "$data/DerivedBidiClass.txt" "$data/BidiBrackets.txt" "$data/BidiMirroring.txt" "$data/ArabicShaping.txt" "$data/UnicodeData.txt" >"$scratch/data"
 [ "$(wc -l <"$scratch/unicode")" = 1114112 ]
 cmp "$scratch/unicode" "$scratch/data"
 echo "data: the answers agree for 1114112 codes: $(cut -d ' ' -f 2 "$scratch/data" | sort -u | wc -l) classes," \
-    "$(grep -c ' [oc][0-9]' "$scratch/data") brackets, $(grep -c ' [0-9][0-9]*$' "$scratch/data") mirrors"
+    "$(cut -d ' ' -f 3 "$scratch/data" | grep -c .) brackets, $(cut -d ' ' -f 4 "$scratch/data" | grep -c .) mirrors," \
+    "$(cut -d ' ' -f 5 "$scratch/data" | grep -c .) joining types, $(cut -d ' ' -f 6 "$scratch/data" | tr ',' '\n' | grep -c .) forms"
 
 # data/ has no prose, only the line that names the file, and ranges with their values
 if grep -v -h -E -x -e '# [A-Za-z]+-[0-9.]+, its facts alone, by scripts/make-data.sh' -e '# @missing: [0-9A-F]+\.\.[0-9A-F]+; [A-Za-z_]+' \
-    -e '[0-9A-F]+(\.\.[0-9A-F]+)?;[A-Z]+' -e '[0-9A-F]+;[0-9A-F]+(;[oc])?' "$data"/*.txt; then
+    -e '[0-9A-F]+(\.\.[0-9A-F]+)?;[A-Z]+' -e '[0-9A-F]+;[0-9A-F]+(;[oc])?' -e '[0-9A-F]+;;[RLDCUT];' \
+    -e '[0-9A-F]+;{5}<(isolated|initial|medial|final)> [0-9A-F]+;{9}' "$data"/*.txt; then
     echo "data: these lines are more than facts"
     exit 1
 fi

@@ -35,6 +35,8 @@ import random, re, shutil, subprocess, sys
 
 editor, data, edits, seed = sys.argv[1], sys.argv[2], int(sys.argv[3]), int(sys.argv[4])
 chance = random.Random(seed)
+FILES = {"classes": "DerivedBidiClass", "brackets": "BidiBrackets", "mirroring": "BidiMirroring", "joining": "ArabicShaping", "characters": "UnicodeData"}
+TABLES = [f"--{word}={data}/{file}.txt" for word, file in FILES.items()]
 PER_TEXT = 200
 # the beginning of a whole painting
 WHOLE = b"\x1b[0m\x1b[2J"
@@ -87,8 +89,7 @@ def check(count):
         keys += edit(is_note) + REPAINT + DIRECTIONS + REPAINT
     with open("text", "wb") as file:
         file.write(text.encode())
-    files = [f"--classes={data}/DerivedBidiClass.txt", f"--brackets={data}/BidiBrackets.txt", f"--mirroring={data}/BidiMirroring.txt"]
-    run = subprocess.run([editor, f"--rows={rows}", f"--cols={columns}", *files, "text"], input=keys + b"\x13\x11\x11", capture_output=True)
+    run = subprocess.run([editor, f"--rows={rows}", f"--cols={columns}", *TABLES, "text"], input=keys + b"\x13\x11\x11", capture_output=True)
     if run.returncode != 0:
         return f"status {run.returncode}: {run.stderr[:200]!r}"
     pages = run.stdout.split(WHOLE)[2:]
@@ -116,7 +117,7 @@ def count_ways(count, kinds):
         keys += edit(True, kinds)
     with open("keys", "wb") as file:
         file.write(keys + b"\x11\x11")
-    words_of = f"--rows=24 --cols=80 --classes={data}/DerivedBidiClass.txt --brackets={data}/BidiBrackets.txt --mirroring={data}/BidiMirroring.txt"
+    words_of = " ".join(["--rows=24", "--cols=80", *TABLES])
     commands = ["set pagination off"] + [f"rbreak ^{name}" for name in FUNCTIONS] + ["ignore 1 1000000000", "ignore 2 1000000000"]
     commands += [f"run {words_of} text <keys >/dev/null", "info breakpoints"]
     with open("commands", "w") as file:

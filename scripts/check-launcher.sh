@@ -38,7 +38,7 @@ cd "$folder/files" || exit 1
 
 # shellcheck source=scripts/report.sh
 . "$top/scripts/report.sh"
-for part in person recorder refusals printing ends modes editor input keys callers; do
+for part in person recorder joining refusals printing ends modes editor input keys callers; do
     # shellcheck source=/dev/null
     . "$top/scripts/launcher/$part.sh"
 done
@@ -50,6 +50,7 @@ for shell in dash bash; do
         continue
     fi
     check_recorder
+    check_joining
     check_refusals
     check_printing
     check_ends

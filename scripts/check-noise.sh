@@ -120,7 +120,8 @@ run_editor() { # ROWS COLS COMMAND..
     shift 2
     dd if=keys bs=1024 2>/dev/null | python3 measure.py "$most" ended timeout -k 10 "$longest" "$editor" --rows "$rows" --cols "$cols" \
         --classes "$top/data/DerivedBidiClass.txt" --brackets "$top/data/BidiBrackets.txt" \
-        --mirroring "$top/data/BidiMirroring.txt" text 2>told | "$@"
+        --mirroring "$top/data/BidiMirroring.txt" --joining "$top/data/ArabicShaping.txt" --characters "$top/data/UnicodeData.txt" \
+        text 2>told | "$@"
 }
 
 # The beginning of a whole painting, and the move to the first cell, at its end on a blank screen.

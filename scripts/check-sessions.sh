@@ -1,10 +1,9 @@
 #!/bin/sh
 # check-sessions.sh SESSIONS [--only NUMBER] [--max COUNT]: runs the program on recorded sessions, and prints how many agree
 # byte by byte in output, status and the resulting file. For a refused command line only the refusal is compared. No other file
-# may be left. SESSIONS is a folder in the form that sessions.sh describes, or an archive of one. Sessions with tables of joining
-# letters are passed over, and counted, where the program takes none. --only selects one session, and --max limits the number of
-# differing sessions that are shown, 20 by default. It is not part of `rt ci`. Exit status 1: a session differs or there is none;
-# 77: no sessions are given.
+# may be left. SESSIONS is a folder in the form that sessions.sh describes, or an archive of one. --only selects one session, and
+# --max limits the number of differing sessions that are shown, 20 by default. It is not part of `rt ci`. Exit status 1: a session
+# differs or there is none; 77: no sessions are given.
 set -eu
 export LC_ALL=C
 
@@ -68,14 +67,10 @@ plain() { # NUMBER
 
 # Runs all sessions, and prints those that differ and the number that agree.
 run_sessions() { # FOLDER
-    agreed=0 differing=0 passed_over=0
+    agreed=0 differing=0
     list_sessions "$1" >"$scratch/list"
     while IFS= read -r session; do
         [ -z "$only" ] || [ "$(plain "${session##*/}")" = "$(plain "$only")" ] || continue
-        if ! takes "$program" "$session"; then
-            passed_over=$((passed_over + 1))
-            continue
-        fi
         run_session "$session"
         if [ ! -s "$scratch/differences" ]; then
             agreed=$((agreed + 1))
@@ -87,7 +82,6 @@ run_sessions() { # FOLDER
         cat "$scratch/differences"
         [ ! -f "$session/notes" ] || sed 's/^/    /' "$session/notes"
     done <"$scratch/list"
-    [ "$passed_over" = 0 ] || echo "$passed_over sessions with tables of joining letters are passed over: the program takes none"
     echo "$agreed of $((agreed + differing)) sessions agree"
     [ "$differing" = 0 ] && [ "$agreed" -gt 0 ]
 }

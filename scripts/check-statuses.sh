@@ -86,6 +86,18 @@ printf '0041\n' >short
 "$editor" --classes short --brackets short --mirroring short text <keys >screen 2>told
 status=$?
 ended bad_line 1 'bidi_edit: classes line 1: bad line'
+run --joining "$top/data/ArabicShaping.txt" --characters "$top/data/UnicodeData.txt" text
+ended joined 0 ''
+run --joining missing --characters missing text
+ended no_joining_file 1 'bidi_edit: cannot read missing'
+run --joining short --characters short text
+ended bad_joining_line 1 'bidi_edit: joining line 1: bad line'
+run --joining "$top/data/ArabicShaping.txt" --characters short text
+ended bad_characters_line 1 'bidi_edit: characters line 1: bad line'
+run --joining "$top/data/ArabicShaping.txt" text
+ended joining_alone 2 'error: '
+run --characters "$top/data/UnicodeData.txt" text
+ended characters_alone 2 'error: '
 if [ -w /dev/full ]; then
     "$editor" --classes "$top/data/DerivedBidiClass.txt" --brackets "$top/data/BidiBrackets.txt" \
         --mirroring "$top/data/BidiMirroring.txt" text <keys >/dev/full 2>told

@@ -60,7 +60,7 @@ copy_all() {
     for program in $programs; do take 755 "$top/crates/$program/out/$program" "lib/bidi_edit/$program"; done
     for part in "$top"/launcher/*.sh; do take 644 "$part" "lib/bidi_edit/launcher/${part##*/}"; done
     take 755 "$top/bidi-edit" bin/bidi-edit
-    for table in DerivedBidiClass BidiBrackets BidiMirroring; do take 644 "$top/data/$table.txt" "share/bidi_edit/$table.txt"; done
+    for table in DerivedBidiClass BidiBrackets BidiMirroring ArabicShaping UnicodeData; do take 644 "$top/data/$table.txt" "share/bidi_edit/$table.txt"; done
     take 644 "$top/docs/bidi_edit.1" share/man/man1/bidi_edit.1
     echo '.so man1/bidi_edit.1' >"$beside/tree/share/man/man1/bidi-edit.1"
     # the toolchain of this machine, which built the editor, for --version

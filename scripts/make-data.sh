@@ -1,7 +1,8 @@
 #!/bin/sh
-# Writes data/ from Unicode's three files, from Debian's package unicode-data or from the folder named after it. It keeps facts
-# only, in the files' own format: the ranges with their classes, also the @missing ones, the brackets and the mirrors. It joins
-# adjacent ranges of one class, and drops comments. scripts/check-data.sh compares the answers.
+# Writes data/ from Unicode's five files, from Debian's package unicode-data or from the folder named after it. It keeps facts
+# only, in the files' own format: the ranges with their classes, also the @missing ones, the brackets, the mirrors, the joining
+# types, and of UnicodeData.txt the lines that give a letter's form. It joins adjacent ranges of one class, and drops comments
+# and names. scripts/check-data.sh compares the answers.
 set -eu
 export LC_ALL=C
 
@@ -44,3 +45,14 @@ facts() {
 for name in BidiBrackets BidiMirroring; do
     { head_line "$folder/$name.txt" && facts "$folder/$name.txt"; } >"$data/$name.txt"
 done
+{
+    head_line "$folder/ArabicShaping.txt"
+    facts "$folder/ArabicShaping.txt" | awk -F';' '{ print $1 ";;" $3 ";" }'
+} >"$data/ArabicShaping.txt"
+# UnicodeData.txt has no comments, so its version is that of the files beside it
+{
+    head_line "$folder/ArabicShaping.txt" | sed 's/ArabicShaping/UnicodeData/'
+    awk -F';' '
+        split($6, word, " ") == 2 && word[1] ~ /^<(isolated|initial|medial|final)>$/ { print $1 ";;;;;" $6 ";;;;;;;;;" }
+    ' "$folder/UnicodeData.txt"
+} >"$data/UnicodeData.txt"

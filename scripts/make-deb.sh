@@ -73,7 +73,8 @@ Priority: optional
 Description: editor for text in both directions, with a proved screen
  A full-screen editor of plain text for the terminal. It shows mixed Hebrew,
  Arabic and Latin text in the order of the Unicode Bidirectional Algorithm,
- each row by itself. That its screen shows the text is proved.
+ each row by itself, with Arabic letters joined. That its screen shows the text
+ is proved.
 END
     (cd "$1" && find usr -type f -exec md5sum {} +) >"$1/DEBIAN/md5sums"
 }
@@ -85,7 +86,7 @@ make_documents() { # FOLDER MAINTAINER
 bidi_edit, its launcher and its manual: Copyright $(date +%Y) the maintainers of bidi_edit, $2.
 They come from the repository bidi_edit, which states no terms of use.
 
-The three files in /usr/share/bidi_edit are facts of the Unicode Character Database:
+The five files in /usr/share/bidi_edit are facts of the Unicode Character Database:
 Copyright 1991-$(date +%Y) Unicode, Inc. Unicode and the Unicode Logo are registered
 trademarks of Unicode, Inc. Terms of use: https://www.unicode.org/terms_of_use.html
 END
@@ -157,11 +158,12 @@ type_keys() {
     tmux -L "$socket" send-keys -t person "$@"
 }
 
-# Opens a text in the editor of a tree, types a letter at its start, saves and quits. Only the tree's own tables are available.
+# Opens a text in the editor of a tree, types a letter at its start, saves and quits. Only the tree's own tables are available,
+# and the Arabic word's letters are joined.
 use() { # NAME FOLDER
     has_tool "$1, used" tmux || return 0
-    printf 'שלום world\n' >"$folder/note"
-    printf 'אשלום world\n' >"$folder/wanted"
+    printf 'שלום world باب\n' >"$folder/note"
+    printf 'אשלום world باب\n' >"$folder/wanted"
     rm -f "$folder/status"
     cat >"$folder/run" <<END
 BIDI_EDIT_DATA='$2/share/bidi_edit' '$2/bin/bidi-edit' '$folder/note' 2>'$folder/errors'
@@ -170,6 +172,8 @@ exec sleep 600
 END
     tmux -u -L "$socket" -f /dev/null new-session -d -s person -x 60 -y 8 "sh '$folder/run'"
     wait_for 100 has_line '1:1' || :
+    has_line "$(printf '\357\272\217\357\272\216\357\272\221')" && found=0 || found=1
+    report "$1, used: joined letters" "$found" 'the word is not seen joined'
     type_keys א
     wait_for 100 has_line '* 1:2' || :
     type_keys C-s

@@ -20,11 +20,6 @@ list_sessions() { # FOLDER
     find "$1" -mindepth 1 -maxdepth 1 -type d -name '[0-9]*' | sort
 }
 
-# Whether a program takes a session's words: some sessions have tables of joining letters, which not every program takes.
-takes() { # PROGRAM SESSION
-    ! grep -q -x -e --joining -e --characters "$2/args" || ! "$1" --joining 2>&1 | grep -q 'unexpected argument'
-}
-
 # Makes a new folder for a session to run in.
 lay_out() { # SESSION FOLDER
     rm -rf "$2"

@@ -39,7 +39,7 @@ WINDOWS = (24, 80), (60, 200), (100, 400), (500, 500)
 DOWN, PAGE, HOME, END, FORWARD = b"\x1b[B", b"\x1b[6~", b"\x1b[H", b"\x1b[F", b"\x06"
 ERASE, UNDO, REPAINT, QUIT = b"\x7f", b"\x1a", b"\x0c", b"\x11\x11"
 WHOLE = b"\x1b[0m\x1b[2J"  # the beginning of a whole painting
-FILES = {"classes": "DerivedBidiClass", "brackets": "BidiBrackets", "mirroring": "BidiMirroring"}
+FILES = {"classes": "DerivedBidiClass", "brackets": "BidiBrackets", "mirroring": "BidiMirroring", "joining": "ArabicShaping", "characters": "UnicodeData"}
 
 
 def seconds(keys):

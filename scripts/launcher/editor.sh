@@ -14,7 +14,8 @@ alone() { # ROWS COLS FILE KEYS
     cp "$3" "$folder/files/alone" 2>/dev/null || rm -f "$folder/files/alone"
     # shellcheck disable=SC2059 # the keys have escapes
     printf "$4" | "$editor" --rows "$1" --cols "$2" --classes "$top/data/DerivedBidiClass.txt" --brackets "$top/data/BidiBrackets.txt" \
-        --mirroring "$top/data/BidiMirroring.txt" "$folder/files/alone" >"$folder/bytes" 2>/dev/null
+        --mirroring "$top/data/BidiMirroring.txt" --joining "$top/data/ArabicShaping.txt" --characters "$top/data/UnicodeData.txt" \
+        "$folder/files/alone" >"$folder/bytes" 2>/dev/null
     rm -f "$folder/files/alone"
     printf 'stty raw -echo; cat "%s/bytes"; exec sleep 600\n' "$folder" >"$folder/show"
     terminal new-session -d -s alone -x "$2" -y "$1" "sh $folder/show" \; set -g status off

@@ -11,7 +11,8 @@ printed() { # NAME WANTED WORD..
 }
 
 check_refused_prints() {
-    lines_told=2
+    # the cause, and the usage
+    lines_told=3
     refused 'printing, no FILE' '2 bidi-edit: one FILE is wanted' --print
     refused 'printing, two' '2 bidi-edit: one FILE is wanted' --print f g
     refused 'printing, an option' '2 bidi-edit: there is no option --line with --print' --print f --line 3
@@ -43,6 +44,10 @@ last' --print --marks --cols=20 -- -text
 a end
 
 last' --print --cols 11 ./-text
+    # beh, alef and beh: the last letter isolated, the alef final, the first letter initial
+    printf 'باب' >-text
+    printed 'printing, joined letters' "$(printf '       \357\272\217\357\272\216\357\272\221')" --print --cols 10 ./-text
+    printed 'printing, letters apart' '       باب' --print --no-joining --cols 10 ./-text
     printed 'printing, a direction' 'םולש (abc) 12
 a end
 

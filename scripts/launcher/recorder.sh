@@ -15,11 +15,13 @@ make_recorder() {
     cat >"$folder/recorder/lib/bidi_edit/bidi_edit" <<'TEXT'
 #!/bin/sh
 # Records its words, and its input until a read ends with a byte 11. With a file `still` no key ends it, and `at-once` needs no
-# key. A check accepts each text.
+# key; of `kept` a journal is left, and a replay has its one key. A check accepts each text.
 [ "$1" != --check ] || exit 0
-printf '%s\n' "$@" >"$BX_WORDS"
-echo 'bidi_edit: a fault' >&2
 for file; do :; done
+case " $* " in *' --to '*) echo 'known 1' && exit 0 ;; esac
+printf '%s\n' "$@" >"$BX_WORDS"
+[ "$file" != kept ] || printf x >"$(grep -A 1 -x -e --journal "$BX_WORDS" | tail -n 1)"
+echo 'bidi_edit: a fault' >&2
 [ "$file" != still ] || exec sleep 1000
 [ "$file" != at-once ] || exit 0
 : >"$BX_RECORD"
@@ -30,7 +32,12 @@ done
 echo ' end' >>"$BX_RECORD"
 exit 9
 TEXT
-    chmod +x "$folder/recorder/lib/bidi_edit/bidi_edit"
+    cat >"$folder/recorder/lib/bidi_edit/bidi_print" <<'TEXT'
+#!/bin/sh
+# Prints its words.
+printf '%s\n' "$@"
+TEXT
+    chmod +x "$folder/recorder/lib/bidi_edit/bidi_edit" "$folder/recorder/lib/bidi_edit/bidi_print"
     # 100,000 bytes without a byte that ends the record
     awk 'BEGIN { while (n < 100000) { line = sprintf("%d \327\220\327\221 word\n", i++); n += length(line); printf "%s", line } }' | head -c 100000 >"$folder/paste"
 }
