@@ -4,6 +4,7 @@ use Rattle.std.specs.Prelude.{IfOk, OnOk, vec_items, unwrap_or, Some}
 use Rattle.std.specs.Global.{Vec}
 use Rattle.bx_terms.specs.declared.base.Base.{Base}
 use Rattle.bx_ucd.specs.Data.{Data}
+use Rattle.bx_words.specs.declared.unicode.UnicodeFiles.{UnicodeFiles}
 use Rattle.bx_session.specs.Session.{Session, SessionState, after_journal, at_opening, with_painting}
 use Rattle.bx_session.specs.Saving.{StoreState, with_text}
 use Rattle.bx_session.specs.Painting.{QueuesPicture}
@@ -20,13 +21,13 @@ bytes_or_none None none result empty is = ap (λ (v : Vec ℕ). vec_items v) is 
 bytes_or_none (Some bytes) none result empty is = ap (λ (v : Vec ℕ). vec_items v) is
 
 pub opened_is : {D : Type 0} (says : D → Data) (tables : D) (first new : SessionState D) (text text' : List ℕ) (height width : ℕ) (base : Base)
-    (unsaved : Bool) (offset : Option ℕ) (classes brackets mirroring : List ℕ) → AreOfFiles (says tables) classes brackets mirroring
+    (unsaved : Bool) (offset : Option ℕ) (files : UnicodeFiles) → AreOfFiles (says tables) files
     → first ≡ record { tables = tables; session = at_opening (says tables) text' height width base }
     → QueuesPicture (says tables) [] None first.session → text' ≡ text
     → new ≡ record first { session = changed_if unsaved (after_going_to (says first.tables) first.session offset) }
-    → (offset' : Option ℕ) × AreOfFiles (says new.tables) classes brackets mirroring
+    → (offset' : Option ℕ) × AreOfFiles (says new.tables) files
     × IsOpened (says new.tables) (begins_with text height width base unsaved [] offset') new.session
-opened_is {D} says tables first new text text' height width base unsaved offset classes brackets mirroring are is queued same gone =
+opened_is {D} says tables first new text text' height width base unsaved offset files are is queued same gone =
     let stays : first.tables ≡ tables = ap (λ (x : SessionState D). x.tables) is in
     let kept : new.tables ≡ tables = ap (λ (x : SessionState D). x.tables) gone ∙ stays in
     let begins : first.session ≡ at_opening (says tables) text height width base =
@@ -38,7 +39,7 @@ opened_is {D} says tables first new text text' height width base unsaved offset 
       paints = subst (QueuesPicture (says tables) [] None) begins queued;
     } in (
       offset,
-      subst (λ (t : D). AreOfFiles (says t) classes brackets mirroring) (sym kept) are,
+      subst (λ (t : D). AreOfFiles (says t) files) (sym kept) are,
       subst (λ (t : D). IsOpened (says t) (begins_with text height width base unsaved [] offset) new.session) (sym kept) opened,
     )
 
@@ -75,17 +76,17 @@ runs_again {D} says contents failures old mid painted keys new store store' read
 -- ---- a whole run
 
 pub edits_of : {J E : Type 0} (contents : J → Option (List ℕ)) (failures : J → ℕ) (d : Data) (text : List ℕ) (height width : ℕ) (base : Base)
-    (unsaved : Bool) (keys classes brackets mirroring : List ℕ) (s new : Session) (store store' : StoreState) (reader reader' writer writer' : Option (List ℕ))
+    (unsaved : Bool) (keys : List ℕ) (files : UnicodeFiles) (s new : Session) (store store' : StoreState) (reader reader' writer writer' : Option (List ℕ))
     (journal journal' : RecorderState J) (r : Result Changes E)
-    → (offset : Option ℕ) × AreOfFiles d classes brackets mirroring × IsOpened d (begins_with text height width base unsaved [] offset) s
+    → (offset : Option ℕ) × AreOfFiles d files × IsOpened d (begins_with text height width base unsaved [] offset) s
     → OnOk r (QueuesPicture d (after_journal d s keys).pending (after_journal d s keys).known (with_painting d (after_journal d s keys)))
     → OnOk r (RunsRecorded contents failures d (with_painting d (after_journal d s keys)) new store store' reader reader' writer writer' journal journal')
     → (r ≡ Ok Saved → new.editor.changed ≡ false)
-    → IfOk r (λ changes. Edits contents failures (begins_with text height width base unsaved keys) classes brackets mirroring store store'
+    → IfOk r (λ changes. Edits contents failures (begins_with text height width base unsaved keys) files store store'
     reader reader' writer writer' journal journal' changes)
-edits_of contents failures d text height width base unsaved keys classes brackets mirroring s new store store' reader reader' writer writer' journal journal'
+edits_of contents failures d text height width base unsaved keys files s new store store' reader reader' writer writer' journal journal'
     (Err fault) opened paints runs saved = tt
-edits_of contents failures d text height width base unsaved keys classes brackets mirroring s new store store' reader reader' writer writer' journal journal'
+edits_of contents failures d text height width base unsaved keys files s new store store' reader reader' writer writer' journal journal'
     (Ok changes) opened paints runs saved =
     let is = opened.2.session in record {
       tables = d;
@@ -102,12 +103,12 @@ edits_of contents failures d text height width base unsaved keys classes bracket
       saved = λ e. saved (ap Ok e);
     }
 
-pub recovers_of : {A E : Type 0} (d : Data) (text : List ℕ) (height width : ℕ) (base : Base) (unsaved : Bool) (keys classes brackets mirroring : List ℕ) (s : Session)
-    (store store' : StoreState) (r : Result A E) → (offset : Option ℕ) × AreOfFiles d classes brackets mirroring × IsOpened d (begins_with text height width base unsaved [] offset) s
+pub recovers_of : {A E : Type 0} (d : Data) (text : List ℕ) (height width : ℕ) (base : Base) (unsaved : Bool) (keys : List ℕ) (files : UnicodeFiles) (s : Session)
+    (store store' : StoreState) (r : Result A E) → (offset : Option ℕ) × AreOfFiles d files × IsOpened d (begins_with text height width base unsaved [] offset) s
     → OnOk r (store' ≡ with_text (after_journal d s keys).editor.content.text store)
-    → OnOk r (Recovers (begins_with text height width base unsaved keys) classes brackets mirroring store store')
-recovers_of d text height width base unsaved keys classes brackets mirroring s store store' (Err fault) opened stored = tt
-recovers_of d text height width base unsaved keys classes brackets mirroring s store store' (Ok done) opened stored = record {
+    → OnOk r (Recovers (begins_with text height width base unsaved keys) files store store')
+recovers_of d text height width base unsaved keys files s store store' (Err fault) opened stored = tt
+recovers_of d text height width base unsaved keys files s store store' (Ok done) opened stored = record {
   tables = d;
   offset = opened.0;
   answers = opened.1;

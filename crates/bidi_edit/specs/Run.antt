@@ -2,8 +2,10 @@
 use Rattle.std.specs.Global.{Vec}
 use Rattle.std.specs.Prelude.{◌≡◌, ℕ, Bool, false, List, [], Option, Some, None, vec_items}
 use Rattle.bx_terms.specs.declared.base.Base.{Base}
-use Rattle.bx_ucd.specs.Reading.{refusal, class_in_file, bracket_in_file, mirror_in_file}
+use Rattle.bx_ucd.specs.Reading.{refusal, class_in_file, bracket_in_file, mirror_in_file, form_if_any, joining_if_any, texts_of}
 use Rattle.bx_ucd.specs.Data.{Data}
+use Rattle.bx_ucd.specs.declared.joining.Form.{Form}
+use Rattle.bx_words.specs.declared.unicode.UnicodeFiles.{UnicodeFiles}
 use Rattle.bx_session.specs.Session.{Session, at_opening}
 use Rattle.bx_session.specs.Saving.{StoreState, with_text}
 use Rattle.bx_session.specs.Painting.{QueuesPicture}
@@ -12,12 +14,14 @@ use Rattle.bx_session.specs.Beginning.{Beginning, IsBegun, at_offset, unpainted_
 use Rattle.bidi_edit.specs.declared.edit.Changes.{Changes}
 use Rattle.bidi_edit.specs.declared.edit.Changes.TheVariants.{Saved}
 
--- the tables agree with Unicode's three files, which have no bad line
-pub record AreOfFiles (d : Data) (classes brackets mirroring : List ℕ) : Type 0 where
-  pub accepted : refusal classes brackets mirroring None ≡ None
-  pub classes_are : (code : ℕ) → d.class code ≡ class_in_file classes code
-  pub brackets_are : (code : ℕ) → d.bracket code ≡ bracket_in_file brackets code
-  pub mirrors_are : (code : ℕ) → d.mirror code ≡ mirror_in_file mirroring code
+-- the tables agree with Unicode's files, which have no bad line
+pub record AreOfFiles (d : Data) (files : UnicodeFiles) : Type 0 where
+  pub accepted : refusal files.classes.now files.brackets.now files.mirroring.now (texts_of files.joining) ≡ None
+  pub classes_are : (code : ℕ) → d.class code ≡ class_in_file files.classes.now code
+  pub brackets_are : (code : ℕ) → d.bracket code ≡ bracket_in_file files.brackets.now code
+  pub mirrors_are : (code : ℕ) → d.mirror code ≡ mirror_in_file files.mirroring.now code
+  pub joining_is : (code : ℕ) → d.joining code ≡ joining_if_any (texts_of files.joining) (class_in_file files.classes.now code) code
+  pub forms_are : (code : ℕ) (form : Form) → d.form code form ≡ form_if_any (texts_of files.joining) code form
 
 -- the session is opened from this start; its journal is not replayed yet
 pub record IsOpened (d : Data) (b : Beginning) (s : Session) : Type 0 where
@@ -42,20 +46,20 @@ begins_with text height width base unsaved journal offset = record {
 }
 
 -- A run from this start that ended without a fault. It is reported as saved only if nothing is unsaved.
-pub record Edits {J : Type 0} (contents : J → Option (List ℕ)) (failures : J → ℕ) (b : Option ℕ → Beginning) (classes brackets mirroring : List ℕ)
+pub record Edits {J : Type 0} (contents : J → Option (List ℕ)) (failures : J → ℕ) (b : Option ℕ → Beginning) (files : UnicodeFiles)
     (store store' : StoreState) (reader reader' writer writer' : Option (List ℕ)) (journal journal' : RecorderState J) (changes : Changes)
     : Type 0 where
   pub tables : Data
   pub offset : Option ℕ
   pub session : Session
-  pub answers : AreOfFiles tables classes brackets mirroring
+  pub answers : AreOfFiles tables files
   pub begins : IsBegun tables (b offset)
   pub runs : RunsRecorded contents failures tables (begun tables (b offset)) session store store' reader reader' writer writer' journal journal'
   pub saved : changes ≡ Saved → session.editor.changed ≡ false
 
 -- the text recovered from this start and its journal was stored
-pub record Recovers (b : Option ℕ → Beginning) (classes brackets mirroring : List ℕ) (store store' : StoreState) : Type 0 where
+pub record Recovers (b : Option ℕ → Beginning) (files : UnicodeFiles) (store store' : StoreState) : Type 0 where
   pub tables : Data
   pub offset : Option ℕ
-  pub answers : AreOfFiles tables classes brackets mirroring
+  pub answers : AreOfFiles tables files
   pub stored : store' ≡ with_text (unpainted_at tables (b offset)).editor.content.text store

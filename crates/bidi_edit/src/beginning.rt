@@ -18,7 +18,7 @@ use std::alloc::Global;
 pub struct Beginning<'a> {
     /// The allocator of the session.
     pub alloc: Global,
-    /// Unicode's three files.
+    /// Unicode's files.
     pub unicode: UnicodeFiles<'a>,
     /// The text's bytes; none if the file does not exist, which is an empty text.
     pub text: Option<Vec<u8>>,
@@ -37,20 +37,25 @@ pub struct Beginning<'a> {
     ghost has_cols: { is_side cols ≡ true },
 }
 
-/// Reads Unicode's three files, and opens a text with the cursor at its line. It does not replay the keys.
+/// Reads Unicode's files, and opens a text with the cursor at its line. It does not replay the keys.
 ///
 /// Errors, in this order: `Tables`; `Open`; `OutOfMemory`.
 pub fn open(beginning: Beginning<'_>) -> Result<Session<Tables>, ProgramFault<'static>>
     ensures begins { IfOk result (λ s. (offset : Option ℕ)
-        × AreOfFiles (⟦<Tables as BidiData>⟧.data s.tables) beginning.entry.unicode.classes.now beginning.entry.unicode.brackets.now beginning.entry.unicode.mirroring.now
+        × AreOfFiles (⟦<Tables as BidiData>⟧.data s.tables) beginning.entry.unicode
         × IsOpened (⟦<Tables as BidiData>⟧.data s.tables) (begins_with (bytes_of beginning.entry.text) beginning.entry.rows beginning.entry.cols beginning.entry.direction
         beginning.entry.unsaved [] offset) s.session) }
 {
     let alloc = beginning.alloc;
     let (rows, cols, direction) = (beginning.rows, beginning.cols, beginning.direction);
     let unsaved = beginning.unsaved;
-    let unicode = beginning.unicode;
-    let tables = Tables::read(alloc, unicode.classes, unicode.brackets, unicode.mirroring, None)?;
+    let UnicodeFiles {
+        classes,
+        brackets,
+        mirroring,
+        joining,
+    } = beginning.unicode;
+    let tables = Tables::read(alloc, classes, brackets, mirroring, joining)?;
     let text = beginning.text.unwrap_or(Vec::new(alloc));
     let start = beginning
         .line

@@ -68,7 +68,7 @@ fn told(end: End, changed: bool) -> Result<Changes, ProgramFault<'static>>
     Ok(Changes::Saved)
 }
 
-/// Reads Unicode's three files, opens a text, replays keys, and runs until Quit or the input's end. Ok is exit status 0, and a
+/// Reads Unicode's files, opens a text, replays keys, and runs until Quit or the input's end. Ok is exit status 0, and a
 /// fault status 1.
 ///
 /// Errors, in this order: `Tables`; `Open`; `OutOfMemory` in replaying or painting; `Run`; `Unsaved` if the input ended with
@@ -82,7 +82,7 @@ pub fn edit<R: Read, J: Journal + Drop, W: Write, S: Store>(
 ) -> Result<Changes, ProgramFault<'static>>
     ensures edits { IfOk result (λ changes. Edits J.contents J.failure_count
         (begins_with (bytes_of beginning.entry.text) beginning.entry.rows beginning.entry.cols beginning.entry.direction beginning.entry.unsaved beginning.entry.keys.now)
-        beginning.entry.unicode.classes.now beginning.entry.unicode.brackets.now beginning.entry.unicode.mirroring.now
+        beginning.entry.unicode
         (store_state S.contents S.failure_count store.old) (store_state S.contents S.failure_count store.new)
         (R.remaining reader.old) (R.remaining reader.new) (W.contents writer.old) (W.contents writer.new) recorder.old recorder.new changes) }
 {

@@ -30,7 +30,7 @@ fn store_replayed<D: BidiData + Drop, S: Store>(
     }
 }
 
-/// Reads Unicode's three files, opens a text, replays keys and stores the result. Returns how the file's current bytes relate
+/// Reads Unicode's files, opens a text, replays keys and stores the result. Returns how the file's current bytes relate
 /// to it.
 ///
 /// Errors, in this order: `Tables`; `Open`; `OutOfMemory`; `Unwritten` if the store fails.
@@ -41,7 +41,7 @@ pub fn recover<S: Store>(
 ) -> Result<Replayed, ProgramFault<'static>>
     ensures recovers { OnOk result (Recovers
         (begins_with (bytes_of beginning.entry.text) beginning.entry.rows beginning.entry.cols beginning.entry.direction beginning.entry.unsaved beginning.entry.keys.now)
-        beginning.entry.unicode.classes.now beginning.entry.unicode.brackets.now beginning.entry.unicode.mirroring.now
+        beginning.entry.unicode
         (store_state S.contents S.failure_count store.old) (store_state S.contents S.failure_count store.new)) }
 {
     let keys = beginning.keys;

@@ -17,5 +17,6 @@ fn small_files() -> UnicodeFiles<'static> {
         classes: CLASSES.as_bytes(),
         brackets: BRACKETS.as_bytes(),
         mirroring: MIRRORING.as_bytes(),
+        joining: None,
     }
 }

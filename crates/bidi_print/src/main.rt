@@ -1,14 +1,15 @@
 //! Prints a text to standard output, one line for each row that UAX #9 gives.
 //!
-//! `bidi_print [--cols N] [--direction auto|ltr|rtl] [--marks] --classes F --brackets F --mirroring F FILE`. Exit status 0: all
-//! was written; 1: a fault, with a line on standard error; 2: the command line was refused, and standard error says why.
+//! `bidi_print [--cols N] [--direction auto|ltr|rtl] [--marks] --classes F --brackets F --mirroring F [--joining F --characters F]
+//! FILE`. Exit status 0: all was written; 1: a fault, with a line on standard error; 2: the command line was refused, and standard
+//! error says why.
 #![tactic(auto)]
 
 mod fault;
 mod printing;
 mod words;
 
-use bx_words::{FileFault, UnicodeFiles, bytes_of, finish, refuse, refuse_words, text_of};
+use bx_words::{FileFault, UnicodeBytes, finish, refuse, refuse_words, text_of};
 use fault::ProgramFault;
 use printing::print_bytes;
 use std::env;
@@ -25,18 +26,17 @@ fn program<'a, W: Write>(
     options: &Options<'a>,
     writer: &mut W,
 ) -> Result<(), ProgramFault<'a>> {
-    let classes = bytes_of(rt, options.classes)?;
-    let brackets = bytes_of(rt, options.brackets)?;
-    let mirroring = bytes_of(rt, options.mirroring)?;
+    let unicode = UnicodeBytes::read(rt, options.unicode)?;
     let Some(bytes) = text_of(rt, options.file)? else {
         return Err(FileFault::Unreadable(options.file).into());
     };
-    let unicode = UnicodeFiles {
-        classes: classes.as_slice(),
-        brackets: brackets.as_slice(),
-        mirroring: mirroring.as_slice(),
-    };
-    print_bytes(rt.alloc(), writer, bytes.as_slice(), unicode, options.style)
+    print_bytes(
+        rt.alloc(),
+        writer,
+        bytes.as_slice(),
+        unicode.lend(),
+        options.style,
+    )
 }
 
 /// The command line's words after the program's name.

@@ -1,7 +1,7 @@
 //! Printing of a file's bytes.
 
 ghost use Rattle.std.specs.Prelude.{◌≡◌, None, OnOk};
-ghost use Rattle.bx_ucd.specs.Reading.{refusal};
+ghost use Rattle.bx_ucd.specs.Reading.{refusal, texts_of};
 
 use crate::fault::ProgramFault;
 use bx_print::{PrintError, Style, print};
@@ -19,7 +19,7 @@ fn copy_of(alloc: Global, characters: &str) -> Result<String, AllocError> {
     Ok(text)
 }
 
-/// Reads Unicode's three files, and prints a file's bytes.
+/// Reads Unicode's files, and prints a file's bytes.
 ///
 /// Errors, in this order: `Tables`; `TooLong`; `NotUtf8`; `OutOfMemory` or `WriteFault`.
 pub fn print_bytes<W: Write>(
@@ -29,9 +29,16 @@ pub fn print_bytes<W: Write>(
     unicode: UnicodeFiles<'_>,
     style: Style,
 ) -> Result<(), ProgramFault<'static>>
-    ensures { OnOk result (refusal unicode.entry.classes.now unicode.entry.brackets.now unicode.entry.mirroring.now ≡ None) }
+    ensures { OnOk result (refusal unicode.entry.classes.now unicode.entry.brackets.now unicode.entry.mirroring.now
+        (texts_of unicode.entry.joining) ≡ None) }
 {
-    let tables = Tables::read(alloc, unicode.classes, unicode.brackets, unicode.mirroring, None)?;
+    let UnicodeFiles {
+        classes,
+        brackets,
+        mirroring,
+        joining,
+    } = unicode;
+    let tables = Tables::read(alloc, classes, brackets, mirroring, joining)?;
     // a file that is too long is cut off, maybe inside a character
     if bytes.len() > LARGEST_TEXT {
         return Err(PrintError::TooLong.into());

@@ -1,7 +1,7 @@
 //! The program's command line.
 
 use bx_print::{Marks, Style};
-use bx_words::{direction, direction_of, side, side_of, table};
+use bx_words::{UnicodePaths, direction, direction_of, paths_of, side, side_of, with_tables};
 use clap::error::ErrorKind;
 use clap::{Arg, ArgAction, ArgMatches, Command};
 use std::alloc::{AllocError, Global};
@@ -12,19 +12,15 @@ use std::convert::AsStr;
 pub struct Options<'a> {
     /// The style of printing.
     pub style: Style,
-    /// The path of DerivedBidiClass.txt.
-    pub classes: &'a str,
-    /// The path of BidiBrackets.txt.
-    pub brackets: &'a str,
-    /// The path of BidiMirroring.txt.
-    pub mirroring: &'a str,
+    /// The paths of Unicode's files.
+    pub unicode: UnicodePaths<'a>,
     /// The path of the file to print.
     pub file: &'a str,
 }
 
 /// The program's command line.
 fn command<'a>(alloc: Global) -> Result<Command<'a>, AllocError> {
-    Command::new(alloc, "bidi_print")
+    let style = Command::new(alloc, "bidi_print")
         .no_binary_name(true)
         .disable_help_flag(true)
         .disable_version_flag(true)
@@ -34,11 +30,8 @@ fn command<'a>(alloc: Global) -> Result<Command<'a>, AllocError> {
             Arg::new(alloc, "marks")
                 .long("marks")
                 .action(ArgAction::SetTrue),
-        )?
-        .arg(table(alloc, "classes"))?
-        .arg(table(alloc, "brackets"))?
-        .arg(table(alloc, "mirroring"))?
-        .arg(Arg::new(alloc, "file").value_name("FILE").required(true))
+        )?;
+    with_tables(style, alloc)?.arg(Arg::new(alloc, "file").value_name("FILE").required(true))
 }
 
 /// Whether marks are printed, by the flag.
@@ -61,9 +54,7 @@ fn options_of<'a>(matches: &ArgMatches<'a>) -> Option<Options<'a>> {
             columns,
             marks,
         },
-        classes: matches.get_str("classes")?,
-        brackets: matches.get_str("brackets")?,
-        mirroring: matches.get_str("mirroring")?,
+        unicode: paths_of(matches)?,
         file: matches.get_str("file")?,
     })
 }

@@ -1,17 +1,13 @@
 //! The input files of a session.
 
 use crate::words::Options;
-use bx_words::{FileFault, UnicodeFiles, bytes_of, text_of};
+use bx_words::{FileFault, UnicodeBytes, bytes_of, text_of};
 
 /// The input files of a session.
 #[derive(Drop)]
 pub struct Files {
-    /// The bytes of DerivedBidiClass.txt.
-    pub classes: Vec<u8>,
-    /// The bytes of BidiBrackets.txt.
-    pub brackets: Vec<u8>,
-    /// The bytes of BidiMirroring.txt.
-    pub mirroring: Vec<u8>,
+    /// The bytes of Unicode's files.
+    pub unicode: UnicodeBytes,
     /// The bytes of the opened text; None if FILE is opened and does not exist.
     pub text: Option<Vec<u8>>,
     /// The bytes of the replayed journal; empty if none is replayed.
@@ -38,23 +34,12 @@ impl Files {
     /// Errors: the fault of the first file that cannot be read.
     pub fn read<'a>(rt: &HostRuntime, options: &Options<'a>) -> Result<Files, FileFault<'a>> {
         Ok(Files {
-            classes: bytes_of(rt, options.classes)?,
-            brackets: bytes_of(rt, options.brackets)?,
-            mirroring: bytes_of(rt, options.mirroring)?,
+            unicode: UnicodeBytes::read(rt, options.unicode)?,
             text: opened_text(rt, options)?,
             keys: match options.replay {
                 Some(path) => bytes_of(rt, path)?,
                 None => Vec::new(rt.alloc()),
             },
         })
-    }
-
-    /// Borrows the bytes of Unicode's three files.
-    pub fn unicode(&self) -> UnicodeFiles<'_> {
-        UnicodeFiles {
-            classes: self.classes.as_slice(),
-            brackets: self.brackets.as_slice(),
-            mirroring: self.mirroring.as_slice(),
-        }
     }
 }

@@ -4,7 +4,7 @@ ghost use Rattle.std.specs.Prelude.{◌≡◌, true};
 ghost use Rattle.bx_terms.specs.Sizes.{is_side};
 
 use bx_terms::Base;
-use bx_words::{direction, direction_of, side, side_of, table};
+use bx_words::{UnicodePaths, direction, direction_of, paths_of, side, side_of, with_tables};
 use clap::error::ErrorKind;
 use clap::{Arg, ArgAction, ArgMatches, Command, value_parser};
 use std::alloc::{AllocError, Global};
@@ -17,12 +17,8 @@ pub struct Options<'a> {
     pub rows: u16,
     /// The window's columns, from 1 to 500.
     pub cols: u16,
-    /// The path of DerivedBidiClass.txt.
-    pub classes: &'a str,
-    /// The path of BidiBrackets.txt.
-    pub brackets: &'a str,
-    /// The path of BidiMirroring.txt.
-    pub mirroring: &'a str,
+    /// The paths of Unicode's files.
+    pub unicode: UnicodePaths<'a>,
     /// The path of the edited file, which saves write.
     pub file: &'a str,
     /// The path of the text to open; None to open FILE itself.
@@ -90,16 +86,14 @@ fn in_place<'a>(alloc: Global) -> Result<Arg<'a>, AllocError> {
 
 /// The program's command line.
 fn command<'a>(alloc: Global) -> Result<Command<'a>, AllocError> {
-    Command::new(alloc, "bidi_edit")
+    let window = Command::new(alloc, "bidi_edit")
         .no_binary_name(true)
         .disable_help_flag(true)
         .disable_version_flag(true)
         .arg(side(alloc, "rows", "24"))?
         .arg(side(alloc, "cols", "80"))?
-        .arg(direction(alloc))?
-        .arg(table(alloc, "classes"))?
-        .arg(table(alloc, "brackets"))?
-        .arg(table(alloc, "mirroring"))?
+        .arg(direction(alloc))?;
+    with_tables(window, alloc)?
         .arg(line(alloc))?
         .arg(check(alloc)?)?
         .arg(path(alloc, "text"))?
@@ -116,9 +110,7 @@ fn options_of<'a>(matches: &ArgMatches<'a>) -> Option<Options<'a>> {
     Some(Options {
         rows: side_of(matches, "rows")?,
         cols: side_of(matches, "cols")?,
-        classes: matches.get_str("classes")?,
-        brackets: matches.get_str("brackets")?,
-        mirroring: matches.get_str("mirroring")?,
+        unicode: paths_of(matches)?,
         file: matches.get_str("file")?,
         text: matches.get_str("text"),
         check: matches.get_flag("check"),

@@ -19,14 +19,6 @@ pub fn side<'a>(alloc: Global, name: &'a str, default: &'a str) -> Arg<'a> {
         .default_value(default)
 }
 
-/// An option that names one of Unicode's files.
-pub fn table<'a>(alloc: Global, name: &'a str) -> Arg<'a> {
-    Arg::new(alloc, name)
-        .long(name)
-        .value_name("F")
-        .required(true)
-}
-
 /// The option that names a direction.
 pub fn direction<'a>(alloc: Global) -> Arg<'a> {
     Arg::new(alloc, "direction")

@@ -6,17 +6,6 @@ use std::fs::{self, File};
 use std::io::{self, ErrorKind, Read};
 use thiserror::Error;
 
-/// The bytes of Unicode's three files.
-#[derive(Clone, Copy)]
-pub struct UnicodeFiles<'a> {
-    /// DerivedBidiClass.txt
-    pub classes: &'a [u8],
-    /// BidiBrackets.txt
-    pub brackets: &'a [u8],
-    /// BidiMirroring.txt
-    pub mirroring: &'a [u8],
-}
-
 /// Why a file could not be read.
 #[derive(Debug, Drop, PartialEq, Eq, Error)]
 pub enum FileFault<'a> {

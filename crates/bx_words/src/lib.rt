@@ -5,8 +5,10 @@ mod arguments;
 mod ending;
 mod files;
 mod shown;
+mod unicode;
 
-pub use arguments::{direction, direction_of, side, side_of, table};
+pub use arguments::{direction, direction_of, side, side_of};
 pub use ending::{finish, refuse, refuse_words};
-pub use files::{FileFault, UnicodeFiles, bytes_of, text_of};
+pub use files::{FileFault, bytes_of, text_of};
 pub use shown::{Numbered, Shown};
+pub use unicode::{JoiningPaths, UnicodeBytes, UnicodeFiles, UnicodePaths, paths_of, with_tables};

@@ -2,7 +2,7 @@
 
 use bx_command::{TextFault, check_text, command_line, start_of_line};
 use bx_terms::Base;
-use bx_words::{refuse, refuse_words};
+use bx_words::{JoiningPaths, UnicodePaths, refuse, refuse_words};
 use clap::error::ErrorKind;
 use std::alloc::{AllocError, Global};
 use std::io;
@@ -14,6 +14,16 @@ const NAME: &str = "bidi_edit";
 
 /// The three tables and FILE.
 const WORDS: [&str; 7] = ["--classes", "c", "--brackets", "b", "--mirroring", "m", "f"];
+
+/// The paths that these words name, with those of the two files by which letters are joined.
+fn unicode(joining: Option<JoiningPaths<'static>>) -> UnicodePaths<'static> {
+    UnicodePaths {
+        classes: "c",
+        brackets: "b",
+        mirroring: "m",
+        joining,
+    }
+}
 
 /// The kind of clap's error; None if the words are accepted.
 fn refusal(alloc: Global, words: &[&str]) -> Option<ErrorKind> {
@@ -38,12 +48,34 @@ fn three_tables_and_file(rt: HostRuntime) -> Result<(), Fail> {
     let options = command_line(rt.alloc(), &WORDS)?;
     assert_eq!(rt; (options.rows, options.cols), (24, 80));
     assert_eq!(rt; options.direction, Base::Auto);
-    assert_eq!(rt; (options.classes, options.brackets), ("c", "b"));
-    assert_eq!(rt; (options.mirroring, options.file), ("m", "f"));
+    assert_eq!(rt; options.unicode, unicode(None));
+    assert_eq!(rt; options.file, "f");
     assert_eq!(rt; (options.text, options.line), (None, None));
     assert!(rt; !options.unsaved && !options.check);
     assert_eq!(rt; (options.journal, options.replay), (None, None));
     assert_eq!(rt; options.in_place, None);
+    Ok(())
+}
+
+#[test]
+fn the_two_joining_files_are_given_together(rt: HostRuntime) -> Result<(), Fail> {
+    let tables = ["--classes=c", "--brackets=b", "--mirroring=m"];
+    let [joining, characters] = ["--joining=j", "--characters=u"];
+    for [first, second] in [[joining, characters], [characters, joining]] {
+        let words = [first, tables[0], tables[1], tables[2], second, "f"];
+        let options = command_line(rt.alloc(), &words)?;
+        let paths = JoiningPaths {
+            joining: "j",
+            characters: "u",
+        };
+        assert_eq!(rt; options.unicode, unicode(Some(paths)));
+    }
+    for name in ["--joining", "--characters"] {
+        assert_eq!(rt;
+            refusal_of_option(rt.alloc(), name, "j"),
+            Some(ErrorKind::MissingRequiredArgument)
+        );
+    }
     Ok(())
 }
 
@@ -163,7 +195,7 @@ fn all_options(rt: HostRuntime) -> Result<(), Fail> {
     let options = command_line(rt.alloc(), &words)?;
     assert_eq!(rt; (options.rows, options.cols), (1, 500));
     assert_eq!(rt; options.direction, Base::Rtl);
-    assert_eq!(rt; (options.classes, options.file), ("c", "f"));
+    assert_eq!(rt; (options.unicode, options.file), (unicode(None), "f"));
     Ok(())
 }
 

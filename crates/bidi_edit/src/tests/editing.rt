@@ -7,6 +7,7 @@ use crate::tests::small_files;
 use bx_session::{NoJournal, OpenError, Recorder, RunFault};
 use bx_store::MemoryStore;
 use bx_terms::Base;
+use bx_ucd::JoiningFiles;
 use bx_words::UnicodeFiles;
 use std::alloc::Global;
 use std::io::{self, ErrorKind, Read, Write};
@@ -62,15 +63,8 @@ fn outcome(alloc: Global, file: &[u8], mut keys: &[u8]) -> Result<Changes, Progr
 fn line_of(
     alloc: Global,
     file: Option<Vec<u8>>,
-    classes: &str,
-    brackets: &str,
-    mirroring: &str,
+    unicode: UnicodeFiles<'_>,
 ) -> Result<String, Fail> {
-    let unicode = UnicodeFiles {
-        classes: classes.as_bytes(),
-        brackets: brackets.as_bytes(),
-        mirroring: mirroring.as_bytes(),
-    };
     let outcome = edit(
         &mut b"".as_slice(),
         &mut Recorder::new(alloc, NoJournal),
@@ -82,6 +76,26 @@ fn line_of(
         Ok(_) => Ok(String::new(alloc)),
         Err(fault) => Ok(format!(in alloc; "{fault}")?),
     }
+}
+
+/// Three files, without the two by which letters are joined.
+fn three<'a>(classes: &'a str, brackets: &'a str, mirroring: &'a str) -> UnicodeFiles<'a> {
+    UnicodeFiles {
+        classes: classes.as_bytes(),
+        brackets: brackets.as_bytes(),
+        mirroring: mirroring.as_bytes(),
+        joining: None,
+    }
+}
+
+/// A third file, and the two by which letters are joined.
+fn last_three<'a>(mirroring: &'a str, joining: &'a str, characters: &'a str) -> UnicodeFiles<'a> {
+    let mut files = three("", "", mirroring);
+    files.joining = Some(JoiningFiles {
+        joining: joining.as_bytes(),
+        characters: characters.as_bytes(),
+    });
+    files
 }
 
 #[test]
@@ -114,38 +128,55 @@ fn a_file_that_is_not_there_is_an_empty_text(rt: HostRuntime) -> Result<(), Fail
     Ok(())
 }
 
+/// What the program says of lines of its tables.
+fn refused_lines() -> [(UnicodeFiles<'static>, &'static str); 11] {
+    [
+        (three("0041", "", ""), "classes line 1: bad line"),
+        (three("\n110000 ; L", "", ""), "classes line 2: bad code"),
+        (
+            three("0042..0041 ; L", "?", "?"),
+            "classes line 1: bad range",
+        ),
+        (
+            three("", "0028; 0029; x", "?"),
+            "brackets line 1: unknown value",
+        ),
+        (
+            three("", "", "# none\n0028; 001B"),
+            "mirroring line 2: control in mirror",
+        ),
+        (
+            last_three("0028", "0628", "0628"),
+            "mirroring line 1: bad line",
+        ),
+        (last_three("", "0628", "0628"), "joining line 1: bad line"),
+        (
+            last_three("", "0628; X; Q; Y", "0628"),
+            "joining line 1: unknown value",
+        ),
+        (
+            last_three("", "0628; X; D; Y", "0628"),
+            "characters line 1: bad line",
+        ),
+        (
+            last_three("", "", "001B;X;Cc;0;BN;<final> 0628;;;;N;;;;;"),
+            "characters line 1: control in mirror",
+        ),
+        (
+            last_three("", "", "\nZZ;X;Lo;0;AL;<final> 0628;;;;N;;;;;"),
+            "characters line 2: bad code",
+        ),
+    ]
+}
+
 #[test]
-fn refused_lines(rt: HostRuntime) -> Result<(), Fail> {
-    for (classes, brackets, mirroring, line) in [
-        ("0041", "", "", "bidi_edit: classes line 1: bad line"),
-        (
-            "\n110000 ; L",
-            "",
-            "",
-            "bidi_edit: classes line 2: bad code",
-        ),
-        (
-            "0042..0041 ; L",
-            "?",
-            "?",
-            "bidi_edit: classes line 1: bad range",
-        ),
-        (
-            "",
-            "0028; 0029; x",
-            "?",
-            "bidi_edit: brackets line 1: unknown value",
-        ),
-        (
-            "",
-            "",
-            "# none\n0028; 001B",
-            "bidi_edit: mirroring line 2: control in mirror",
-        ),
-        ("", "", "", ""),
-    ] {
-        let found = line_of(rt.alloc(), None, classes, brackets, mirroring)?;
-        assert_eq!(rt; found.as_str(), line);
+fn the_first_refused_line_is_told(rt: HostRuntime) -> Result<(), Fail> {
+    for (unicode, line) in refused_lines() {
+        let found = line_of(rt.alloc(), None, unicode)?;
+        assert_eq!(rt; found.as_str().strip_prefix("bidi_edit: "), Some(line));
+    }
+    for unicode in [three("", "", ""), last_three("", "", "")] {
+        assert_eq!(rt; line_of(rt.alloc(), None, unicode)?.as_str(), "");
     }
     Ok(())
 }
@@ -181,8 +212,10 @@ fn input_and_output_that_fail(rt: HostRuntime) {
 
 #[test]
 fn tables_are_refused_before_the_file(rt: HostRuntime) -> Result<(), Fail> {
-    let file = Vec::from_slice(rt.alloc(), b"\xff")?;
-    let found = line_of(rt.alloc(), Some(file), "", "", "0041")?;
-    assert_eq!(rt; found.as_str(), "bidi_edit: mirroring line 1: bad line");
+    for (unicode, line) in refused_lines() {
+        let file = Vec::from_slice(rt.alloc(), b"\xff")?;
+        let found = line_of(rt.alloc(), Some(file), unicode)?;
+        assert_eq!(rt; found.as_str().strip_prefix("bidi_edit: "), Some(line));
+    }
     Ok(())
 }

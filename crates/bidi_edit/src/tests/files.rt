@@ -5,23 +5,43 @@ use crate::program;
 use bx_command::{Options, TextFault};
 use bx_session::OpenError;
 use bx_terms::Base;
-use bx_words::{FileFault, text_of};
+use bx_ucd::{Cause, UcdError, UcdFile};
+use bx_words::{FileFault, JoiningPaths, UnicodePaths, text_of};
 use std::test::Fail;
 use std::{env, fs, process};
 
-/// A session over files of these paths, in a window of one row and five columns.
-fn options<'a>(
-    classes: &'a str,
-    brackets: &'a str,
-    mirroring: &'a str,
-    file: &'a str,
-) -> Options<'a> {
-    Options {
-        rows: 1,
-        cols: 5,
+/// A file without a line.
+const EMPTY: &str = "/dev/null";
+
+/// The paths of three files, without the two by which letters are joined.
+fn three<'a>(classes: &'a str, brackets: &'a str, mirroring: &'a str) -> UnicodePaths<'a> {
+    UnicodePaths {
         classes,
         brackets,
         mirroring,
+        joining: None,
+    }
+}
+
+/// The paths of a third file and of the two by which letters are joined, behind two files without a line.
+fn last_three<'a>(mirroring: &'a str, joining: &'a str, characters: &'a str) -> UnicodePaths<'a> {
+    UnicodePaths {
+        classes: EMPTY,
+        brackets: EMPTY,
+        mirroring,
+        joining: Some(JoiningPaths {
+            joining,
+            characters,
+        }),
+    }
+}
+
+/// A session over files of these paths, in a window of one row and five columns.
+fn options<'a>(unicode: UnicodePaths<'a>, file: &'a str) -> Options<'a> {
+    Options {
+        rows: 1,
+        cols: 5,
+        unicode,
         file,
         text: None,
         check: false,
@@ -38,12 +58,10 @@ fn options<'a>(
 /// The outcome of a run over files of these paths, with empty input.
 fn outcome<'a>(
     rt: &HostRuntime,
-    classes: &'a str,
-    brackets: &'a str,
-    mirroring: &'a str,
+    unicode: UnicodePaths<'a>,
     file: &'a str,
 ) -> Result<(), ProgramFault<'a>> {
-    let options = options(classes, brackets, mirroring, file);
+    let options = options(unicode, file);
     let mut written = Vec::new(rt.alloc());
     program(rt, &options, b"".as_slice(), &mut written)
 }
@@ -54,26 +72,31 @@ fn outcome_of_check<'a>(
     written: &mut Vec<u8>,
     file: &'a str,
 ) -> Result<(), ProgramFault<'a>> {
-    let mut options = options("not here", "not here", "not here", file);
+    let mut options = options(three("not here", "not here", "not here"), file);
     options.check = true;
     program(rt, &options, b"x".as_slice(), written)
 }
 
 #[test]
 fn the_first_file_that_cannot_be_read(rt: HostRuntime) {
-    let empty = "/dev/null";
-    for (classes, brackets, mirroring, file, path) in [
-        ("not here", "/", "/", "/", "not here"),
-        (empty, "not here", "/", "/", "not here"),
-        (empty, empty, "not here", "/", "not here"),
-        (empty, empty, empty, "/", "/"),
+    for (unicode, file, path) in [
+        (three("not here", "/", "/"), "/", "not here"),
+        (three(EMPTY, "not here", "/"), "/", "not here"),
+        (three(EMPTY, EMPTY, "not here"), "/", "not here"),
+        (three(EMPTY, EMPTY, EMPTY), "/", "/"),
+        (last_three("not here", "/", "/"), "/", "not here"),
+        (last_three(EMPTY, "not here", "/"), "/", "not here"),
+        (last_three(EMPTY, EMPTY, "not here"), "/", "not here"),
+        (last_three(EMPTY, EMPTY, EMPTY), "/", "/"),
     ] {
         assert_eq!(rt;
-            outcome(&rt, classes, brackets, mirroring, file),
+            outcome(&rt, unicode, file),
             Err(ProgramFault::File(FileFault::Unreadable(path)))
         );
     }
-    assert_eq!(rt; outcome(&rt, empty, empty, empty, "not here"), Ok(()));
+    for unicode in [three(EMPTY, EMPTY, EMPTY), last_three(EMPTY, EMPTY, EMPTY)] {
+        assert_eq!(rt; outcome(&rt, unicode, "not here"), Ok(()));
+    }
 }
 
 #[test]
@@ -106,17 +129,30 @@ fn a_check_reads_the_file_alone(rt: HostRuntime) -> Result<(), Fail> {
 
 #[test]
 fn files_are_read_before_lines_are_refused(rt: HostRuntime) -> Result<(), Fail> {
-    let name = format!(in rt.alloc(); "bidi_edit-{}-classes", process::id(rt.process()))?;
+    let name = format!(in rt.alloc(); "bidi_edit-{}-table", process::id(rt.process()))?;
     let path = env::temp_dir(&rt)?.join(rt.alloc(), name.as_str())?;
     fs::write(&rt, path.as_path(), b"0041")?;
-    let unreadable = outcome(&rt, path.as_str(), "/dev/null", "/dev/null", "/");
-    let refused = outcome(&rt, path.as_str(), "/dev/null", "/dev/null", "/dev/zero");
+    for (unicode, file) in [
+        (three(path.as_str(), EMPTY, EMPTY), UcdFile::Classes),
+        (last_three(EMPTY, path.as_str(), EMPTY), UcdFile::Joining),
+        (last_three(EMPTY, EMPTY, path.as_str()), UcdFile::Characters),
+    ] {
+        assert_eq!(rt;
+            outcome(&rt, unicode, "/"),
+            Err(ProgramFault::File(FileFault::Unreadable("/")))
+        );
+        let cause = Cause::BadLine;
+        let refusal = UcdError {
+            file,
+            line: 1,
+            cause,
+        };
+        assert_eq!(rt;
+            outcome(&rt, unicode, "/dev/zero"),
+            Err(ProgramFault::Tables(refusal))
+        );
+    }
     fs::remove_file(&rt, path.as_path())?;
-    assert_eq!(rt;
-        unreadable,
-        Err(ProgramFault::File(FileFault::Unreadable("/")))
-    );
-    assert!(rt; matches!(&refused, Err(ProgramFault::Tables(_))));
     Ok(())
 }
 
@@ -124,7 +160,7 @@ fn files_are_read_before_lines_are_refused(rt: HostRuntime) -> Result<(), Fail> 
 fn a_file_without_end_is_too_long(rt: HostRuntime) -> Result<(), Fail> {
     let text = text_of(&rt, "/dev/zero")?;
     assert_eq!(rt; text.map(|bytes| bytes.len()), Some(16_777_217));
-    let outcome = outcome(&rt, "/dev/null", "/dev/null", "/dev/null", "/dev/zero");
+    let outcome = outcome(&rt, three(EMPTY, EMPTY, EMPTY), "/dev/zero");
     assert_eq!(rt; outcome, Err(ProgramFault::Open(OpenError::TooLong)));
     Ok(())
 }

@@ -18,13 +18,15 @@ returns c =
       form = form_in_map t.joined.forms;
     } in
     let b = c.args.beginning in
-    let are : AreOfFiles (says c.in_ok-tables.tables) b.unicode.classes.now b.unicode.brackets.now b.unicode.mirroring.now = record {
+    let are : AreOfFiles (says c.in_ok-tables.tables) b.unicode = record {
       accepted = c.in_ok-tables.ensures.accepted;
       classes_are = c.in_ok-tables.ensures.classes;
       brackets_are = c.in_ok-tables.ensures.brackets;
       mirrors_are = c.in_ok-tables.ensures.mirrors;
+      joining_is = c.in_ok-tables.ensures.joining;
+      forms_are = c.in_ok-tables.ensures.forms;
     } in record {
       begins = opened_is says c.in_ok-tables.tables c.in_ok-session.session c.prepare.new.session (bytes_of b.text) _ b.rows b.cols b.direction b.unsaved
-          c.map-start.result _ _ _ are c.in_ok-session.ensures.ok c.in_ok-session.ensures.paints
+          c.map-start.result _ are c.in_ok-session.ensures.ok c.in_ok-session.ensures.paints
           (bytes_or_none b.text c.new.result c.unwrap_or-text.result c.new.ensures.items c.unwrap_or-text.ensures) c.in_ok-prepare.ensures;
     }

@@ -19,6 +19,6 @@ returns g c =
     } in
     let b = c.args.beginning in record {
       edits = edits_of g.J.Journal.contents g.J.Journal.failure_count (says c.in_ok-session.session.tables) (bytes_of b.text) b.rows b.cols b.direction
-          b.unsaved b.keys.now _ _ _ c.in_ok-session.session.session c.resume-changes.new.session.session _ _ _ _ _ _ _ _ c.resume-changes.result
+          b.unsaved b.keys.now _ c.in_ok-session.session.session c.resume-changes.new.session.session _ _ _ _ _ _ _ _ c.resume-changes.result
           c.in_ok-session.ensures.begins c.resume-changes.ensures.paints c.resume-changes.ensures.runs c.resume-changes.ensures.saved;
     }

@@ -18,6 +18,6 @@ returns g c =
       form = form_in_map t.joined.forms;
     } in
     let b = c.args.beginning in record {
-      recovers = recovers_of (says c.in_ok-session.session.tables) (bytes_of b.text) b.rows b.cols b.direction b.unsaved b.keys.now _ _ _
+      recovers = recovers_of (says c.in_ok-session.session.tables) (bytes_of b.text) b.rows b.cols b.direction b.unsaved b.keys.now _
           c.in_ok-session.session.session _ _ c.store_replayed-replayed.result c.in_ok-session.ensures.begins c.store_replayed-replayed.ensures.stored;
     }

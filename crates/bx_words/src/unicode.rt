@@ -1,0 +1,136 @@
+//! Unicode's files: the options that name them, their paths and their bytes.
+
+use crate::files::{FileFault, bytes_of};
+use bx_ucd::JoiningFiles;
+use clap::{Arg, ArgMatches, Command};
+use std::alloc::{AllocError, Global};
+
+/// The paths of the two files by which letters are joined.
+#[derive(Clone, Copy, PartialEq, Eq, Debug)]
+pub struct JoiningPaths<'a> {
+    /// ArabicShaping.txt
+    pub joining: &'a str,
+    /// UnicodeData.txt
+    pub characters: &'a str,
+}
+
+/// The paths of Unicode's files.
+#[derive(Clone, Copy, PartialEq, Eq, Debug)]
+pub struct UnicodePaths<'a> {
+    /// DerivedBidiClass.txt
+    pub classes: &'a str,
+    /// BidiBrackets.txt
+    pub brackets: &'a str,
+    /// BidiMirroring.txt
+    pub mirroring: &'a str,
+    /// None if letters are not joined.
+    pub joining: Option<JoiningPaths<'a>>,
+}
+
+/// The bytes of Unicode's files, lent.
+#[derive(Clone, Copy)]
+pub struct UnicodeFiles<'a> {
+    /// DerivedBidiClass.txt
+    pub classes: &'a [u8],
+    /// BidiBrackets.txt
+    pub brackets: &'a [u8],
+    /// BidiMirroring.txt
+    pub mirroring: &'a [u8],
+    /// None if letters are not joined.
+    pub joining: Option<JoiningFiles<'a>>,
+}
+
+/// The bytes of the two files by which letters are joined.
+#[derive(Drop)]
+struct JoiningBytes {
+    joining: Vec<u8>,
+    characters: Vec<u8>,
+}
+
+/// The bytes of Unicode's files.
+#[derive(Drop)]
+pub struct UnicodeBytes {
+    classes: Vec<u8>,
+    brackets: Vec<u8>,
+    mirroring: Vec<u8>,
+    joining: Option<JoiningBytes>,
+}
+
+/// An option that names a file.
+fn table<'a>(alloc: Global, name: &'a str) -> Arg<'a> {
+    Arg::new(alloc, name).long(name).value_name("F")
+}
+
+/// Adds the options that name Unicode's files. The two by which letters are joined are given together, or not at all.
+pub fn with_tables<'a>(command: Command<'a>, alloc: Global) -> Result<Command<'a>, AllocError> {
+    command
+        .arg(table(alloc, "classes").required(true))?
+        .arg(table(alloc, "brackets").required(true))?
+        .arg(table(alloc, "mirroring").required(true))?
+        .arg(table(alloc, "joining").requires_arg("characters")?)?
+        .arg(table(alloc, "characters").requires_arg("joining")?)
+}
+
+/// The paths of the two files by which letters are joined; None if one of them is missing.
+fn joining_paths_of<'a>(matches: &ArgMatches<'a>) -> Option<JoiningPaths<'a>> {
+    Some(JoiningPaths {
+        joining: matches.get_str("joining")?,
+        characters: matches.get_str("characters")?,
+    })
+}
+
+/// The paths of Unicode's files, from their options; None if a required one is missing.
+pub fn paths_of<'a>(matches: &ArgMatches<'a>) -> Option<UnicodePaths<'a>> {
+    Some(UnicodePaths {
+        classes: matches.get_str("classes")?,
+        brackets: matches.get_str("brackets")?,
+        mirroring: matches.get_str("mirroring")?,
+        joining: joining_paths_of(matches),
+    })
+}
+
+impl JoiningBytes {
+    fn read<'a>(rt: &HostRuntime, paths: JoiningPaths<'a>) -> Result<JoiningBytes, FileFault<'a>> {
+        Ok(JoiningBytes {
+            joining: bytes_of(rt, paths.joining)?,
+            characters: bytes_of(rt, paths.characters)?,
+        })
+    }
+
+    fn lend(&self) -> JoiningFiles<'_> {
+        JoiningFiles {
+            joining: self.joining.as_slice(),
+            characters: self.characters.as_slice(),
+        }
+    }
+}
+
+impl UnicodeBytes {
+    /// Reads the files at these paths, in the order of the fields.
+    ///
+    /// Errors: the fault of the first file that cannot be read.
+    pub fn read<'a>(
+        rt: &HostRuntime,
+        paths: UnicodePaths<'a>,
+    ) -> Result<UnicodeBytes, FileFault<'a>> {
+        Ok(UnicodeBytes {
+            classes: bytes_of(rt, paths.classes)?,
+            brackets: bytes_of(rt, paths.brackets)?,
+            mirroring: bytes_of(rt, paths.mirroring)?,
+            joining: match paths.joining {
+                Some(paths) => Some(JoiningBytes::read(rt, paths)?),
+                None => None,
+            },
+        })
+    }
+
+    /// Lends the bytes.
+    pub fn lend(&self) -> UnicodeFiles<'_> {
+        UnicodeFiles {
+            classes: self.classes.as_slice(),
+            brackets: self.brackets.as_slice(),
+            mirroring: self.mirroring.as_slice(),
+            joining: self.joining.as_ref().map(|bytes| bytes.lend()),
+        }
+    }
+}
