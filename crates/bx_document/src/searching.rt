@@ -1,7 +1,7 @@
 //! The search of the text for a query, and the place of an offset.
 ghost use Rattle.std.specs.Prelude.{◌≡◌, ◌≤◌, ◌↔◌, [], chars, length, IfOk, IfSome, IsCharBoundary, IsNone};
 ghost use Rattle.bx_find.specs.Letters.{letters};
-ghost use Rattle.bx_find.specs.Standing.{first_from, last_before};
+ghost use Rattle.bx_find.specs.Matches.{first_from, last_before};
 ghost use Rattle.bx_view.specs.Moves.{place_at};
 ghost use Rattle.bx_view.specs.Places.{IsTextPlace};
 ghost use Rattle.bx_document.specs.Document.{rows};

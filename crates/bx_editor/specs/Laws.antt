@@ -5,7 +5,7 @@ use Rattle.bx_terms.specs.declared.base.Base.{Base}
 use Rattle.bx_keys.specs.declared.key.Key.{Key}
 use Rattle.bx_keys.specs.declared.key.Key.TheVariants.{Undo, Redo, Copy, Cut, Put, Find, FindBack}
 use Rattle.bx_ucd.specs.Data.{Data}
-use Rattle.bx_find.specs.Laws.{IsFirst, IsLast, StandsAt}
+use Rattle.bx_find.specs.Laws.{IsFirst, IsLast, MatchesAt}
 use Rattle.bx_view.specs.Moves.{place_at}
 use Rattle.bx_editor.specs.declared.message.Message.{Message}
 use Rattle.bx_editor.specs.declared.message.Message.TheVariants.{FromStart, FromEnd, NotFound}
@@ -95,10 +95,10 @@ pub record Seeks (d : Data) (e : Editor) : Type 0 where
 
 -- the letters stand at no offset from x on, or before x
 abbrev pub NoneFrom : Data → Editor → ℕ → Type 0
-NoneFrom d e x = (i : ℕ) → x ≤ i → ¬ (StandsAt d (sought d e) e.content.text i)
+NoneFrom d e x = (i : ℕ) → x ≤ i → ¬ (MatchesAt d (sought d e) e.content.text i)
 
 abbrev pub NoneBefore : Data → Editor → ℕ → Type 0
-NoneBefore d e x = (i : ℕ) → i < x → ¬ (StandsAt d (sought d e) e.content.text i)
+NoneBefore d e x = (i : ℕ) → i < x → ¬ (MatchesAt d (sought d e) e.content.text i)
 
 -- the cursor went to the place of an offset, with a message
 abbrev pub WentTo : Data → Editor → Editor → Option Message → ℕ → Type 0

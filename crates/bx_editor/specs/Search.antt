@@ -4,7 +4,7 @@ use Rattle.std.specs.Prelude.{Option, Some, None, unwrap_or, if◌then◌else◌
 use Rattle.bx_ucd.specs.Data.{Data}
 use Rattle.bx_paras.specs.Paragraphs.{is_separator}
 use Rattle.bx_find.specs.Letters.{letters}
-use Rattle.bx_find.specs.Standing.{first_from, last_before}
+use Rattle.bx_find.specs.Matches.{first_from, last_before}
 use Rattle.bx_view.specs.Moves.{place_at}
 use Rattle.bx_view.specs.TextRows.{TextRow, places}
 use Rattle.bx_editor.specs.declared.matches.Landing.{Landing}

@@ -1,7 +1,7 @@
 //! From match to match of a query: where a search leads.
 ghost use Rattle.std.specs.Prelude.{◌≡◌, ◌≤◌, Some, IfOk, IfSome, chars, length};
 ghost use Rattle.bx_find.specs.Letters.{letters};
-ghost use Rattle.bx_find.specs.Standing.{first_from, last_before};
+ghost use Rattle.bx_find.specs.Matches.{first_from, last_before};
 ghost use Rattle.bx_view.specs.Places.{IsTextPlace};
 ghost use Rattle.bx_document.specs.Document.{rows};
 ghost use Rattle.bx_editor.specs.Search.{backward, forward, match_or, not_found};
