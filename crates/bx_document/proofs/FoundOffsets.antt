@@ -2,20 +2,20 @@
 use Rattle.std.proofs.Common.{◌≡◌, ℕ, ◌≤◌, ◌<◌, List, Option, Some, None, IsUtf8, IsCharBoundary, sym, subst}
 use Rattle.std.specs.Prelude.{IfSome, MatchOption}
 use Rattle.bx_ucd.specs.Data.{Data}
-use Rattle.bx_find.specs.Laws.{IsFirst, IsLast, StandsAt}
-use Rattle.bx_find.specs.Standing.{first_from, last_before}
+use Rattle.bx_find.specs.Laws.{IsFirst, IsLast, MatchesAt}
+use Rattle.bx_find.specs.Matches.{first_from, last_before}
 use Rattle.bx_find.proofs.Nearest.{first_is, last_is}
 
 module _ (says : Data) (sought text : List ℕ) (x : ℕ) (utf8 : IsUtf8 text) where
-  first-between : (o : Option ℕ) → MatchOption o ((i : ℕ) → x ≤ i → ¬ (StandsAt says sought text i)) (IsFirst says sought text x)
+  first-between : (o : Option ℕ) → MatchOption o ((i : ℕ) → x ≤ i → ¬ (MatchesAt says sought text i)) (IsFirst says sought text x)
       → IfSome o (IsCharBoundary text)
   first-between None h = tt
-  first-between (Some at) h = h.stands.0
+  first-between (Some at) h = h.is_match.0
 
-  last-between : (o : Option ℕ) → MatchOption o ((i : ℕ) → i < x → ¬ (StandsAt says sought text i)) (IsLast says sought text x)
+  last-between : (o : Option ℕ) → MatchOption o ((i : ℕ) → i < x → ¬ (MatchesAt says sought text i)) (IsLast says sought text x)
       → IfSome o (IsCharBoundary text)
   last-between None h = tt
-  last-between (Some at) h = h.stands.0
+  last-between (Some at) h = h.is_match.0
 
   pub first-bound : (o : Option ℕ) → o ≡ first_from says sought text x → IfSome o (IsCharBoundary text)
   first-bound o e =

@@ -17,15 +17,15 @@ pub record DrawnRowState : Type 0 where
 unfoldable pub numbered_row_columns : Data → List ℕ → Base → ℕ → ℕ → List Col
 numbered_row_columns d body base number w = body_row_columns d w (row_at (body_rows d base w body) number)
 
--- a drawn row has the columns of its key, in a window of the same number of columns
+-- a drawn row has the columns that its key determines; the window is as wide as the row
 pub record IsDrawnBy (d : Data) (r : DrawnRowState) : Type 0 where
   pub columns_are : r.columns ≡ numbered_row_columns d r.body r.base r.number (length r.columns)
 
--- each of these rows has
+-- the same for each of these rows
 abbrev pub AreDrawnBy : Data → List DrawnRowState → Type 0
 AreDrawnBy d rows = All (IsDrawnBy d) rows
 
--- this is row `k` of a body, drawn under a base direction, in a window of `w` columns
+-- the drawn row is row `k` of the body, under this base direction, in a window of `w` columns
 pub record IsRowOf (text : List ℕ) (direction : Base) (k w : ℕ) (r : DrawnRowState) : Type 0 where
   pub body_is : r.body ≡ text
   pub base_is : r.base ≡ direction

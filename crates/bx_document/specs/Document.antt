@@ -34,10 +34,10 @@ rows d t = rows_of d t t.content.text
 abbrev pub place_after : Data → Document → ℕ → ℕ → List ℕ → ℕ
 place_after d t start stop new = place_from (rows_of d t (splice t.content.text start stop new)) (start + length new)
 
--- bytes are inserted at a place
+-- after bytes are inserted at a place
 abbrev pub after_insertion : Data → Document → ℕ → List ℕ → Document
 after_insertion d t place new = record t { content = inserted t.content place new place (place_after d t place place new) }
 
--- the bytes from `start` to `stop` are removed, with the cursor at `place` before
+-- after the bytes from `start` to `stop` are removed; the cursor was at `place`
 abbrev pub after_removal : Data → Document → ℕ → ℕ → ℕ → Document
 after_removal d t start stop place = record t { content = removed t.content start stop place (place_after d t start stop []) }

@@ -5,7 +5,7 @@ use Rattle.bx_text.specs.Edits.{Edited, next_redo, next_undo, redone, undone}
 use Rattle.bx_document.specs.declared.history.HistoryStep.{HistoryStep}
 use Rattle.bx_document.specs.declared.history.HistoryStep.TheVariants.{Undo, Redo}
 
--- the text after a step, with its past and future; the same, if there is no edit to undo, or to redo
+-- the text after a step, with its past and future; unchanged if there is no edit to undo, or to redo
 abbrev pub stepped : HistoryStep → Edited → Edited
 stepped Undo t = undone t
 stepped Redo t = redone t

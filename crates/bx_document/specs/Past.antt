@@ -9,7 +9,7 @@ pub record HasPlaces (says : Data) (e : Edit) : Type 0 where
   pub before : IsTextPlace says e.before.text e.before.place
   pub after : IsTextPlace says e.after.text e.after.place
 
--- each edit of the past and the future has such places
+-- the same for each edit of the past and the future
 pub record KeepsPlaces (says : Data) (content : Edited) : Type 0 where
   pub past : All (HasPlaces says) content.past
   pub future : All (HasPlaces says) content.future

@@ -9,7 +9,7 @@ use Rattle.bx_paragraph.specs.BodyRows.{body_rows, row_at}
 use Rattle.bx_paragraph.specs.OwnGlyphs.{row_own_glyphs}
 use Rattle.bx_document.specs.Drawing.{side_by_side}
 
--- the glyphs of a query from left to right: those of its first row, as a paragraph's body in a window of 500 columns
+-- the glyphs of the query's first row, from left to right, laid out alone in 500 columns
 abbrev pub query_glyphs : Data → List ℕ → List Glyph
 query_glyphs d query = row_own_glyphs d 500 (row_at (body_rows d Auto 500 query) 0)
 
@@ -18,6 +18,6 @@ abbrev pub fitting : ℕ → List Glyph → List Glyph
 fitting w [] = []
 fitting w (g ∷ gs) = elim (nat_le g.columns w) [ true ↦ g ∷ fitting (w - g.columns) gs | false ↦ [] ]
 
--- the columns of a row of these glyphs, cut or filled up with blanks
+-- the row's columns: its glyphs, cut at the width or padded with blanks
 abbrev pub glyph_row : ℕ → List Glyph → List Col
 glyph_row w glyphs = take w (side_by_side (fitting w glyphs) ++ replicate w blank)

@@ -13,7 +13,7 @@ touched_start says text start = start_at says text (paragraph_of (lengths says t
 abbrev pub touched_stop : Data → List ℕ → ℕ → ℕ
 touched_stop says text stop = start_at says text (paragraph_of (lengths says text) stop + 1)
 
--- the bytes between these two after an edit that replaces the bytes from `start` to `stop` with `new`
+-- the touched paragraphs' bytes after an edit that replaces the bytes from `start` to `stop` with `new`
 abbrev pub touched : Data → List ℕ → ℕ → ℕ → List ℕ → List ℕ
 touched says text start stop new =
     slice_range text (touched_start says text start) start ++ new ++ slice_range text stop (touched_stop says text stop)

@@ -15,7 +15,7 @@ use bx_ucd::BidiData;
 use bx_view::{Layout, RowAt, Source};
 use std::alloc::Global;
 
-/// Draws glyphs side by side from the left end of a row of `width` columns. They have room in it.
+/// Draws glyphs from the left end of a row of `width` columns; the rest is blank. They must fit.
 ///
 /// Errors: `OutOfMemory`.
 pub(crate) fn draw_glyphs(

@@ -1,7 +1,7 @@
 //! The search of the text for a query, and the place of an offset.
 ghost use Rattle.std.specs.Prelude.{◌≡◌, ◌≤◌, ◌↔◌, [], chars, length, IfOk, IfSome, IsCharBoundary, IsNone};
 ghost use Rattle.bx_find.specs.Letters.{letters};
-ghost use Rattle.bx_find.specs.Standing.{first_from, last_before};
+ghost use Rattle.bx_find.specs.Matches.{first_from, last_before};
 ghost use Rattle.bx_view.specs.Moves.{place_at};
 ghost use Rattle.bx_view.specs.Places.{IsTextPlace};
 ghost use Rattle.bx_document.specs.Document.{rows};
@@ -34,7 +34,7 @@ impl<D: BidiData + Drop> Document<D> {
         Query::new(&self.tables, text)
     }
 
-    /// The least offset in bytes, not before `x`, at which a query stands. No memory.
+    /// The byte offset of a query's first match at or after `x`. No memory.
     pub fn first_from(&self, query: &Query, x: usize) -> Option<usize>
         requires bounds { IsCharBoundary self.now.document.content.text x }
         ensures found { result ≡ first_from (D.data self.now.tables) query.now self.now.document.content.text x }
@@ -45,7 +45,7 @@ impl<D: BidiData + Drop> Document<D> {
         bx_find::first_from(self, &self.tables, query, x)
     }
 
-    /// The greatest offset in bytes before `x` at which a query stands. No memory.
+    /// The byte offset of a query's last match before `x`. No memory.
     pub fn last_before(&self, query: &Query, x: usize) -> Option<usize>
         ensures found { result ≡ last_before (D.data self.now.tables) query.now self.now.document.content.text x }
         ensures boundary { IfSome result (IsCharBoundary self.now.document.content.text) }

@@ -60,7 +60,8 @@ fn touched<D: BidiData>(
     Ok((first, characters))
 }
 
-/// The first place at or after an offset in a text of these characters alone, laid out like `layout`.
+/// The first place at or after an offset, in bytes from 0, of a text that is laid out alone, with `layout`'s width and
+/// base direction.
 ///
 /// Errors: `OutOfMemory`.
 fn place_in<D: BidiData>(
@@ -83,8 +84,8 @@ fn place_in<D: BidiData>(
     Ok(place)
 }
 
-/// The place after a pending edit that replaces the bytes of a range with `new`. The held paragraph follows the edit and
-/// tells the place; where there is none, or the edit exceeds it, a copy of the touched paragraphs does.
+/// The place after a pending edit that replaces the bytes of a range with `new`. If one held paragraph contains the range,
+/// the edit is made in it; otherwise a copy of the touched paragraphs is laid out.
 ///
 /// Errors: `OutOfMemory`.
 pub(crate) fn place_after<D: BidiData>(

@@ -8,7 +8,7 @@ use Rattle.unicode_width.proofs.Computing.{unicode_width}
 use Rattle.bx_terms.specs.declared.base.Base.TheVariants.{Auto}
 use Rattle.bx_keys.specs.declared.key.Key.TheVariants.{Insert, Delete, Down, Find, FindBack, Save, Undo, Redo}
 use Rattle.bx_text.specs.Edits.{Edited}
-use Rattle.bx_find.specs.Laws.{StandsAt}
+use Rattle.bx_find.specs.Laws.{MatchesAt}
 use Rattle.bx_view.specs.Moves.{place_at}
 use Rattle.bx_editor.specs.Editor.{Editor, rows}
 use Rattle.bx_editor.specs.Laws.{FindBackGoesToPrevious, FindGoesToNext, RedoMirrorsUndo, TopStays, UndoGivesBack}
@@ -46,15 +46,15 @@ undo_takes_it_again law =
 abbrev at_the_first_c : Editor
 at_the_first_c = after (start (codes "abcabc") 2 20) (Find ∷ Insert 0x63 ∷ [])
 
-abbrev stands_at : ℕ → Type 0
-stands_at at = StandsAt tables (codes "c") (codes "abcabc") at
+abbrev matches_at : ℕ → Type 0
+matches_at at = MatchesAt tables (codes "c") (codes "abcabc") at
 
--- c stands at 5, and from 3 on at no other offset before
-at_five : (at : ℕ) → 3 ≤ at → at ≤ 5 → stands_at at → at ≡ 5
+-- c is found at 5, and from 3 on at no other offset before
+at_five : (at : ℕ) → 3 ≤ at → at ≤ 5 → matches_at at → at ≡ 5
 unfolding unicode_segmentation unicode_width digits
-at_five at low high stands =
-    ⊎_elim (λ less. (let three : at ≡ 3 = omega (arith, low, less) in absurd (cc (subst stands_at three stands).1)))
-    (λ more. ⊎_elim (λ less. (let four : at ≡ 4 = omega (arith, more, less) in absurd (cc (subst stands_at four stands).1)))
+at_five at low high here =
+    ⊎_elim (λ less. (let three : at ≡ 3 = omega (arith, low, less) in absurd (cc (subst matches_at three here).1)))
+    (λ more. ⊎_elim (λ less. (let four : at ≡ 4 = omega (arith, more, less) in absurd (cc (subst matches_at four here).1)))
     (λ much. omega (arith, high, much)) (cases_lt at 5))
     (cases_lt at 4)
 
@@ -62,8 +62,8 @@ pub find_goes_to_five : FindGoesToNext → (after at_the_first_c (Find ∷ [])).
 unfolding unicode_segmentation unicode_width digits
 find_goes_to_five law =
     let bounds : IsCharBoundary (codes "abcabc") 5 = (omega arith, λ inside high. absurd (omega (arith, high))) in
-    let five : stands_at 5 = (bounds, refl) in
-    ⊎_elim (λ next. next.2.0 ∙ ap (place_at (rows tables at_the_first_c)) (at_five next.0 next.1.not_before (next.1.least 5 (omega arith) five) next.1.stands))
+    let five : matches_at 5 = (bounds, refl) in
+    ⊎_elim (λ next. next.2.0 ∙ ap (place_at (rows tables at_the_first_c)) (at_five next.0 next.1.not_before (next.1.least 5 (omega arith) five) next.1.is_match))
     (λ round. ⊎_elim (λ first. absurd (first.0 5 (omega arith) five)) (λ none. absurd (none.0 5 (omega arith) five)) round)
     (law tables at_the_first_c (record { text = (codes "abcabc", (refl, refl)); on = λ e. cc e; letters = λ e. cc e }))
 
@@ -71,13 +71,13 @@ find_goes_to_five law =
 abbrev at_the_last_c : Editor
 at_the_last_c = after (start (codes "abcabc") 2 20) (Find ∷ Insert 0x63 ∷ Find ∷ [])
 
--- c stands at 2, and from there to 5 at no other offset before
-at_two : (at : ℕ) → 2 ≤ at → at < 5 → stands_at at → at ≡ 2
+-- c is found at 2, and from there to 5 at no other offset before
+at_two : (at : ℕ) → 2 ≤ at → at < 5 → matches_at at → at ≡ 2
 unfolding unicode_segmentation unicode_width digits
-at_two at low high stands =
+at_two at low high here =
     ⊎_elim (λ less. omega (arith, low, less))
-    (λ more. ⊎_elim (λ less. (let three : at ≡ 3 = omega (arith, more, less) in absurd (cc (subst stands_at three stands).1)))
-    (λ much. (let four : at ≡ 4 = omega (arith, high, much) in absurd (cc (subst stands_at four stands).1)))
+    (λ more. ⊎_elim (λ less. (let three : at ≡ 3 = omega (arith, more, less) in absurd (cc (subst matches_at three here).1)))
+    (λ much. (let four : at ≡ 4 = omega (arith, high, much) in absurd (cc (subst matches_at four here).1)))
     (cases_lt at 4))
     (cases_lt at 3)
 
@@ -85,7 +85,7 @@ pub find_back_goes_to_two : FindBackGoesToPrevious → (after at_the_last_c (Fin
 unfolding unicode_segmentation unicode_width digits
 find_back_goes_to_two law =
     let bounds : IsCharBoundary (codes "abcabc") 2 = (omega arith, λ inside high. absurd (omega (arith, high))) in
-    let two : stands_at 2 = (bounds, refl) in
-    ⊎_elim (λ last. last.2.0 ∙ ap (place_at (rows tables at_the_last_c)) (at_two last.0 (last.1.greatest 2 (omega arith) two) last.1.before last.1.stands))
+    let two : matches_at 2 = (bounds, refl) in
+    ⊎_elim (λ last. last.2.0 ∙ ap (place_at (rows tables at_the_last_c)) (at_two last.0 (last.1.greatest 2 (omega arith) two) last.1.before last.1.is_match))
     (λ round. ⊎_elim (λ first. absurd (first.0 2 (omega arith) two)) (λ none. absurd (none.0 2 (omega arith) two)) round)
     (law tables at_the_last_c (record { text = (codes "abcabc", (refl, refl)); on = λ e. cc e; letters = λ e. cc e }))

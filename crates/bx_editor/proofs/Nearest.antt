@@ -3,7 +3,7 @@ use Rattle.std.proofs.Common.{◌≡◌, ◌⊎◌, inl, inr, ℕ, Bool, false, 
 use Rattle.std.specs.Prelude.{MatchOption, unwrap_or}
 use Rattle.bx_ucd.specs.Data.{Data}
 use Rattle.bx_find.specs.Laws.{IsFirst, IsLast}
-use Rattle.bx_find.specs.Standing.{first_from, last_before}
+use Rattle.bx_find.specs.Matches.{first_from, last_before}
 use Rattle.bx_find.proofs.Nearest.{first_is, last_is}
 use Rattle.bx_keys.specs.declared.key.Key.TheVariants.{Find, FindBack}
 use Rattle.bx_editor.specs.declared.matches.Landing.{Landing}

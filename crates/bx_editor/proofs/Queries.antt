@@ -11,7 +11,7 @@ use Rattle.bx_editor.specs.Search.{shortened}
 one_more : (q : List ℕ) (c : ℕ) → IsUtf8 q → IsUtf8 (encode_utf8 c) → chars (q ++ encode_utf8 c) ≡ chars q ++ c ∷ []
 one_more q c utf8 one = chars-append q (encode_utf8 c) utf8 ∙ ap (λ xs. chars q ++ xs) (chars-encode_utf8 c one)
 
--- what stands behind a text that ends between characters
+-- the characters after a text that ends between characters
 behind : (old new : List ℕ) (c : ℕ) → IsUtf8 old → IsUtf8 new → old ≡ new ++ encode_utf8 c → IsUtf8 (encode_utf8 c)
 behind old new c all utf8 e = IsUtf8-past_all (chars new) (encode_utf8 c) old all (e ∙ ap (λ t. t ++ encode_utf8 c) (sym (encodes-chars new utf8)))
 

@@ -2,7 +2,7 @@
 use Rattle.std.proofs.Common.{◌≡◌, ℕ, ◌<◌, Bool, true, false, nat_lt, cond, List, [], ◌∷◌, length, Some, None, refl, arith, ltb-true}
 use Rattle.std.specs.Prelude.{find, unwrap_or}
 use Rattle.bx_ucd.specs.Data.{Data}
-use Rattle.bx_find.specs.Standing.{first_from, last_before}
+use Rattle.bx_find.specs.Matches.{first_from, last_before}
 use Rattle.bx_view.specs.Places.{IsTextPlace}
 use Rattle.bx_view.specs.TextRows.{TextRow}
 use Rattle.bx_editor.specs.declared.message.Message.TheVariants.{FromEnd, FromStart}

@@ -70,7 +70,7 @@ status-printable changed paragraph unit message h k =
     (printable-append (codes ":") behind refl
     (printable-append (decimal unit) (message_part message) (decimal-printable unit k) (part-printable message))))
 
--- ---- what is sought stands after them
+-- ---- the query after them
 
 pub sought-printable : (line : List ℕ) → are_ascii_printable line ≡ true → are_ascii_printable (line ++ codes " find: ") ≡ true
 sought-printable line h = printable-append line (codes " find: ") h refl

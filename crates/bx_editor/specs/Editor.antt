@@ -18,11 +18,11 @@ pub record Editor : Type 0 where
   pub content : Edited
   -- the cursor's place
   pub place : ℕ
-  -- a place of the text: the region is between it and the cursor's place
+  -- the mark's place: the region lies between it and the cursor's place
   pub mark : Option ℕ
-  -- what was copied or cut last, the UTF-8 bytes of characters
+  -- the text copied or cut last, in UTF-8
   pub held : List ℕ
-  -- what is sought, or was sought last: the UTF-8 bytes of at most 64 characters
+  -- the query of the search, or of the latest one: at most 64 characters, in UTF-8
   pub query : List ℕ
   pub seek : Seek
   -- the place at which the latest search began
@@ -30,7 +30,7 @@ pub record Editor : Type 0 where
   -- there was an edit since the opening or the last save
   pub changed : Bool
   pub message : Option Message
-  -- the last key, sizes aside, was Quit
+  -- the last key other than Size was Quit
   pub quit_before : Bool
   pub ended : Bool
   pub base : Base
@@ -70,18 +70,17 @@ rows_of d e text = text_rows d e.base e.width text
 abbrev pub rows : Data → Editor → List TextRow
 rows d e = rows_of d e e.content.text
 
--- the number of text rows that the window shows: all but the last, which is the status row; a single row is for text
+-- the number of the window's text rows: all but the status row, which is the last; a window of one row has no status row
 abbrev pub text_height : ℕ → ℕ
 text_height height = if nat_le 2 height then height - 1 else 1
 
--- ---- edits: one that makes the text another takes the mark away and ends a search
+-- ---- edits: each that changes the text removes the mark and ends the search
 
 -- the first place of a new text at or after an offset
 abbrev pub place_after : Data → Editor → List ℕ → ℕ → ℕ
 place_after d e text offset = place_from (rows_of d e text) offset
 
--- bytes are inserted at the place, unless the text would be too long; the cursor goes to the first place at or after
--- their end
+-- bytes are inserted at the place, unless the text would be too long; the cursor goes to the first place at or after their end
 abbrev pub after_insertion : Data → Editor → List ℕ → Editor
 after_insertion d e new =
     if fits e.content.text e.place e.place new

@@ -16,7 +16,7 @@ use Rattle.bx_editor.specs.declared.seek.Seek.TheVariants.{Off}
 use Rattle.bx_editor.specs.Search.{after_beginning, after_find, after_find_back, after_giving_up, after_letter, after_shortening, without_search}
 use Rattle.bx_editor.specs.Region.{after_copy, after_cut, after_mark, after_put}
 
--- a key other than Size, once the message is cleared; `saved`: a Save succeeds; `again`: the key before was Quit
+-- a key other than Size outside a search, once the message is cleared; `saved`: a Save succeeds; `again`: the key before was Quit
 abbrev pub after_pressing : Data → Bool → Bool → Editor → Key → Editor
 after_pressing d saved again e (Insert c) = after_insertion d e (encode_utf8 c)
 after_pressing d saved again e Erase = after_removal d e (step_logical (rows d e) logical.Back e.place) e.place
@@ -50,7 +50,7 @@ after_pressing d saved again e TextEnd = with_place e (length e.content.text)
 after_pressing d saved again e Help = after_help e
 after_pressing d saved again e (Size height width) = e
 
--- the same in a search: a key that has no effect of its own here does its usual work, and the search is over
+-- the same in a search: a key with no effect of its own in a search ends it, and has its usual effect
 abbrev pub after_seeking : Data → Bool → Bool → Editor → Key → Editor
 after_seeking d saved again e (Insert c) = after_letter d e c
 after_seeking d saved again e Erase = after_shortening d e
@@ -62,7 +62,7 @@ after_seeking d saved again e Copy = after_giving_up e
 after_seeking d saved again e Repaint = e
 after_seeking d saved again e key = without_search (after_pressing d saved again e key)
 
--- the same, as a search is on or not
+-- the same, in a search or outside
 abbrev pub after_any : Data → Bool → Bool → Seek → Editor → Key → Editor
 after_any d saved again Off e key = after_pressing d saved again e key
 after_any d saved again _ e key = after_seeking d saved again e key

@@ -5,7 +5,7 @@ use Rattle.bx_terms.specs.declared.base.Base.{Base}
 use Rattle.bx_keys.specs.declared.key.Key.{Key}
 use Rattle.bx_keys.specs.declared.key.Key.TheVariants.{Undo, Redo, Copy, Cut, Put, Find, FindBack}
 use Rattle.bx_ucd.specs.Data.{Data}
-use Rattle.bx_find.specs.Laws.{IsFirst, IsLast, StandsAt}
+use Rattle.bx_find.specs.Laws.{IsFirst, IsLast, MatchesAt}
 use Rattle.bx_view.specs.Moves.{place_at}
 use Rattle.bx_editor.specs.declared.message.Message.{Message}
 use Rattle.bx_editor.specs.declared.message.Message.TheVariants.{FromStart, FromEnd, NotFound}
@@ -78,7 +78,7 @@ CopyPutsTwice =
     (d : Data) (e : Editor) → e.seek ≡ Off → IsPart e (region e) → length (twice e (region e)) ≤ largest_text
     → (after_keys d false e (Copy ∷ Put ∷ [])).content.text ≡ twice e (region e)
 
--- what is cut and put back at once, with the place where it was, leaves the text as it was
+-- cutting and putting back at once leaves the text unchanged, if the cut leaves the cursor where the cut text began
 abbrev pub PutRestoresCut : Type 0
 PutRestoresCut =
     (d : Data) (e : Editor) → IsPart e (taken d e) → length e.content.text ≤ largest_text
@@ -93,22 +93,22 @@ pub record Seeks (d : Data) (e : Editor) : Type 0 where
   pub on : e.seek ≢ Off
   pub letters : sought d e ≢ []
 
--- the letters stand at no offset from x on, or before x
+-- the query has no match at or after x; none before x
 abbrev pub NoneFrom : Data → Editor → ℕ → Type 0
-NoneFrom d e x = (i : ℕ) → x ≤ i → ¬ (StandsAt d (sought d e) e.content.text i)
+NoneFrom d e x = (i : ℕ) → x ≤ i → ¬ (MatchesAt d (sought d e) e.content.text i)
 
 abbrev pub NoneBefore : Data → Editor → ℕ → Type 0
-NoneBefore d e x = (i : ℕ) → i < x → ¬ (StandsAt d (sought d e) e.content.text i)
+NoneBefore d e x = (i : ℕ) → i < x → ¬ (MatchesAt d (sought d e) e.content.text i)
 
--- the cursor went to the place of an offset, with a message
+-- the cursor went to the place of the offset, with the message
 abbrev pub WentTo : Data → Editor → Editor → Option Message → ℕ → Type 0
 WentTo d e new message offset = (new.place ≡ place_at (rows d e) offset) × (new.message ≡ message)
 
 abbrev pub Stayed : Editor → Editor → Type 0
 Stayed e new = (new.place ≡ e.place) × (new.message ≡ Some NotFound)
 
--- Find in a search goes to the least offset from the next place on at which the letters stand; if there is none, to the least of the
--- text, and says so; if there is none either, it stays
+-- Find in a search goes to the first match from the next place on; if there is none, to the first match of the text, with a
+-- message; without any match the cursor stays
 abbrev pub FindGoesToNext : Type 0
 FindGoesToNext =
     (d : Data) (e : Editor) → Seeks d e → let x = next_or_start d e in let new = after_key d false e Find in
@@ -116,7 +116,7 @@ FindGoesToNext =
     ⊎ ((NoneFrom d e x × ((at : ℕ) × IsFirst d (sought d e) e.content.text 0 at × WentTo d e new (Some FromStart) at))
     ⊎ (NoneFrom d e 0 × Stayed e new))
 
--- FindBack goes to the greatest offset before the place at which they stand; if there is none, to the greatest of the text
+-- FindBack goes to the last match before the place; if there is none, to the last match of the text, with a message
 abbrev pub FindBackGoesToPrevious : Type 0
 FindBackGoesToPrevious =
     (d : Data) (e : Editor) → Seeks d e → let end = length e.content.text in let new = after_key d false e FindBack in

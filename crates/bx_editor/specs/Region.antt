@@ -13,7 +13,7 @@ is_empty part = part.0 == part.1
 abbrev pub bytes_in : Editor → ℕ × ℕ → List ℕ
 bytes_in e part = slice_range e.content.text part.0 part.1
 
--- from the smaller of the mark and the place to the greater; empty where there is no mark
+-- from the smaller of the mark and the place to the greater; empty if there is no mark
 abbrev pub region : Editor → ℕ × ℕ
 region e = (min (unwrap_or e.mark e.place) e.place, max (unwrap_or e.mark e.place) e.place)
 
@@ -21,7 +21,7 @@ region e = (min (unwrap_or e.mark e.place) e.place, max (unwrap_or e.mark e.plac
 abbrev pub line : Data → Editor → ℕ × ℕ
 line d e = lines.line_of d e.content.text e.place
 
--- what Copy and Cut take: the region, or the line where the region is empty
+-- the part that Copy and Cut take: the region, or the line if the region is empty
 abbrev pub taken : Data → Editor → ℕ × ℕ
 taken d e = if is_empty (region e) then line d e else region e
 
@@ -31,12 +31,12 @@ abbrev pub is_at_mark : Option ℕ → ℕ → Bool
 is_at_mark None place = false
 is_at_mark (Some mark) place = mark == place
 
--- the place is marked; a mark that is there already is taken away
+-- Mark sets the mark at the place, or removes it if it is there already
 abbrev pub after_mark : Editor → Editor
 after_mark e =
     if is_at_mark e.mark e.place then record e { mark = None; message = Some MarkOff } else record e { mark = Some e.place; message = Some MarkSet }
 
--- the region is held, or the line where the region is empty; where both are, what is held stays
+-- Copy holds the region, or the line if the region is empty; if both are empty, the held text stays
 abbrev pub after_copy : Data → Editor → Editor
 after_copy d e =
     if is_empty (region e)
@@ -45,13 +45,13 @@ after_copy d e =
     else record e { mark = None; held = bytes_in e (line d e); message = Some LineCopied })
     else record e { mark = None; held = bytes_in e (region e); message = Some Copied }
 
--- the same is held, and removed from the text
+-- Cut holds the same part, and removes it from the text
 abbrev pub after_cut : Data → Editor → Editor
 after_cut d e =
     if is_empty (taken d e)
     then after_copy d e
     else record (after_removal d e ((taken d e).0) ((taken d e).1)) { held = bytes_in e (taken d e) }
 
--- what is held is inserted at the place
+-- Put inserts the held text at the place
 abbrev pub after_put : Data → Editor → Editor
 after_put d e = if length e.held == 0 then record e { message = Some NothingToPut } else after_insertion d e e.held

@@ -4,7 +4,7 @@ use Rattle.std.specs.Prelude.{Option, Some, None, unwrap_or, if◌then◌else◌
 use Rattle.bx_ucd.specs.Data.{Data}
 use Rattle.bx_paras.specs.Paragraphs.{is_separator}
 use Rattle.bx_find.specs.Letters.{letters}
-use Rattle.bx_find.specs.Standing.{first_from, last_before}
+use Rattle.bx_find.specs.Matches.{first_from, last_before}
 use Rattle.bx_view.specs.Moves.{place_at}
 use Rattle.bx_view.specs.TextRows.{TextRow, places}
 use Rattle.bx_editor.specs.declared.matches.Landing.{Landing}
@@ -16,16 +16,16 @@ use Rattle.bx_editor.specs.Editor.{Editor, rows, with_place}
 
 -- ---- the query
 
--- the letters that are sought
+-- the query's letters
 abbrev pub sought : Data → Editor → List ℕ
 sought d e = letters d (chars e.query)
 
--- what a key of a search adds to and takes from: nothing where the search has just begun
+-- the query that a key lengthens or shortens: empty if the search has just begun, so that typing replaces the latest query
 abbrev pub kept : Seek → List ℕ → List ℕ
 kept Begun query = []
 kept _ query = query
 
--- with one more character, if there are fewer than 64
+-- the query with one more character, if it has fewer than 64
 abbrev pub lengthened : List ℕ → ℕ → List ℕ
 lengthened query c = if nat_lt (length (chars query)) 64 then query ++ encode_utf8 c else query
 
@@ -33,35 +33,35 @@ lengthened query c = if nat_lt (length (chars query)) 64 then query ++ encode_ut
 abbrev pub but_last : List ℕ → List ℕ
 but_last cs = take (length cs - 1) cs
 
--- without the last character, if there is one
+-- the query without its last character, if it has one
 abbrev pub shortened : List ℕ → List ℕ
 shortened query = encode_utf8_all (but_last (chars query))
 
--- a tab, or a character that separates paragraphs: no query takes it
+-- no query contains a tab, or a character that separates paragraphs
 abbrev pub is_no_letter : Data → ℕ → Bool
 is_no_letter d c = (c == 0x9) || is_separator (d.class c)
 
 -- ---- where a search leads: to the place of a match, and a message
 
--- nothing is sought: the cursor stays
+-- the query has no letters: the cursor stays
 abbrev pub nothing_sought : Landing
 nothing_sought = record { place = None; message = None }
 
 abbrev pub not_found : Landing
 not_found = record { place = None; message = Some NotFound }
 
--- the place of a match, if there is one; otherwise as given
+-- to the place of a match, if there is one; else to `otherwise`
 abbrev pub match_or : List TextRow → Option Message → Landing → Option ℕ → Landing
 match_or rows message otherwise None = otherwise
 match_or rows message otherwise (Some offset) = record { place = Some (place_at rows offset); message = message }
 
--- the first match not before an offset, else the first of the text
+-- the first match at or after an offset, else the text's first
 abbrev pub forward : Data → List TextRow → List ℕ → ℕ → List ℕ → Landing
 forward d rows text x [] = nothing_sought
 forward d rows text x (c ∷ cs) =
     match_or rows None (match_or rows (Some FromStart) not_found (first_from d (c ∷ cs) text 0)) (first_from d (c ∷ cs) text x)
 
--- the last match before an offset, else the last of the text
+-- the last match before an offset, else the text's last
 abbrev pub backward : Data → List TextRow → List ℕ → ℕ → List ℕ → Landing
 backward d rows text x [] = nothing_sought
 backward d rows text x (c ∷ cs) =
@@ -84,11 +84,11 @@ search_back d e = landed e (backward d (rows d e) e.content.text e.place (sought
 abbrev pub after_beginning : Editor → Editor
 after_beginning e = record e { seek = Begun; origin = e.place }
 
--- the search is over, and the cursor stays
+-- the search ends, and the cursor stays
 abbrev pub without_search : Editor → Editor
 without_search e = record e { seek = Off }
 
--- the search is given up, and the cursor returns
+-- the search ends, and the cursor returns to where it began
 abbrev pub after_giving_up : Editor → Editor
 after_giving_up e = record e { seek = Off; place = e.origin }
 
@@ -102,7 +102,7 @@ after_letter d e c =
     then without_search e
     else if is_no_letter d c then e else search_from d e.place (with_query e (lengthened (kept e.seek e.query) c))
 
--- a character is taken off the query, which is sought from where the search began
+-- the query loses its last character, and is sought from where the search began
 abbrev pub after_shortening : Data → Editor → Editor
 after_shortening d e = search_from d e.origin (with_place (with_query e (shortened (kept e.seek e.query))) e.origin)
 

@@ -1,4 +1,4 @@
--- The status row: whether there are unsaved changes, the cursor's position, a message, and what is sought.
+-- The status row: whether there are unsaved changes, the cursor's position, a message, and the query of a search.
 use Rattle.std.specs.Prelude.{ℕ, ◌+◌, nat_le, Bool, List, [], ◌++◌, Option, Some, None, codes, decimal, if◌then◌else◌}
 use Rattle.bx_terms.specs.declared.base.Base.TheVariants.{Auto, Ltr, Rtl}
 pub use Rattle.bx_view.specs.Numbers.{paragraph_number, unit_number}
@@ -48,7 +48,7 @@ abbrev pub status_text : Data → Editor → List ℕ
 status_text d e =
     status_line e.changed (paragraph_number d e.content.text e.place + 1) (unit_number d e.width e.content.text e.place) e.message
 
--- while a search is on, the query stands after the text
+-- in a search, the query follows the text
 abbrev pub search_glyphs : Data → Seek → List ℕ → List Glyph
 search_glyphs d Off query = []
 search_glyphs d Begun query = letter_glyphs (codes " find: ") ++ query_glyphs d query

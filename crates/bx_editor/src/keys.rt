@@ -184,7 +184,7 @@ impl<D: BidiData + Drop> Editor<D> {
         }
     }
 
-    /// Applies a key as outside a search, and ends the search.
+    /// Applies a key with its usual effect, and ends the search.
     fn press_last(&mut self, key: Key) -> Result<(), OutOfMemory>
         requires no_save { is_save key ≡ false }
         requires no_size { is_size_key key ≡ false }

@@ -27,12 +27,12 @@ pub fn put_restores_cut()
     ensures { PutRestoresCut }
 {}
 
-/// Find in a search goes to the next offset at which the query stands, or from the text's start to the first.
+/// Find in a search goes to the query's next match; if there is none, to the first match of the text.
 pub fn find_goes_to_next()
     ensures { FindGoesToNext }
 {}
 
-/// FindBack in a search goes to the previous offset at which the query stands, or from the text's end to the last.
+/// FindBack in a search goes to the query's previous match; if there is none, to the last match of the text.
 pub fn find_back_goes_to_previous()
     ensures { FindBackGoesToPrevious }
 {}

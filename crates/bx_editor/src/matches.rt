@@ -1,7 +1,7 @@
-//! From match to match of a query: where a search leads.
+//! The next and previous match of a query, and the cursor's place there.
 ghost use Rattle.std.specs.Prelude.{◌≡◌, ◌≤◌, Some, IfOk, IfSome, chars, length};
 ghost use Rattle.bx_find.specs.Letters.{letters};
-ghost use Rattle.bx_find.specs.Standing.{first_from, last_before};
+ghost use Rattle.bx_find.specs.Matches.{first_from, last_before};
 ghost use Rattle.bx_view.specs.Places.{IsTextPlace};
 ghost use Rattle.bx_document.specs.Document.{rows};
 ghost use Rattle.bx_editor.specs.Search.{backward, forward, match_or, not_found};
@@ -20,7 +20,7 @@ pub struct Landing {
     pub message: Option<Message>,
 }
 
-/// Nothing is sought.
+/// The query has no letters.
 const NOTHING_SOUGHT: Landing = Landing {
     place: None,
     message: None,
@@ -89,8 +89,8 @@ fn from_end<D: BidiData + Drop>(
     }
 }
 
-/// Seeks the letters of a query of at most 64 characters from a place on, and then from the text's start. Without letters
-/// nothing is sought.
+/// Seeks a query of at most 64 characters from a place on, and then from the text's start. A query without letters leads
+/// nowhere.
 ///
 /// Errors: `OutOfMemory`.
 pub(crate) fn forward<D: BidiData + Drop>(
@@ -116,8 +116,8 @@ pub(crate) fn forward<D: BidiData + Drop>(
     }
 }
 
-/// Seeks the letters of a query of at most 64 characters before a place, and then before the text's end. Without letters
-/// nothing is sought.
+/// Seeks a query of at most 64 characters before a place, and then before the text's end. A query without letters leads
+/// nowhere.
 ///
 /// Errors: `OutOfMemory`.
 pub(crate) fn backward<D: BidiData + Drop>(

@@ -9,7 +9,7 @@ use bx_terms::Base;
 pub enum Message {
     /// The text was saved.
     Saved,
-    /// A call of the store failed: what was stored before is still there.
+    /// A call of the store failed; the store keeps its old content.
     SaveFailed,
     /// The text would exceed 16,777,216 bytes.
     TextFull,
@@ -27,9 +27,9 @@ pub enum Message {
     LineCopied,
     NothingToCopy,
     NothingToPut,
-    /// The query was found only before the place.
+    /// The match was found from the text's start: there is none after the place.
     FromStart,
-    /// The query was found only at the place or behind it.
+    /// The match was found from the text's end: there is none before the place.
     FromEnd,
     NotFound,
     /// The control keys.

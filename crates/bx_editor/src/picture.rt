@@ -14,7 +14,7 @@ use bx_ucd::BidiData;
 use bx_view::Position;
 use std::alloc::Global;
 
-/// The number of text rows that a window shows: all but the last, which is the status row; a single row is for text.
+/// The number of a window's text rows: all but the status row, which is the last. A window of one row has no status row.
 pub(crate) fn text_height(height: u16) -> u16
     requires { is_side height ≡ true }
     ensures rows { result ≡ text_height height }
@@ -60,8 +60,8 @@ impl<D: BidiData + Drop> Editor<D> {
     }
 
     /// Scrolls from the offset `top` to the cursor and draws the window, with the region in the other rendition. Returns the
-    /// offset of the new top row, and the picture. `page` is a grid of the window's size to draw on. Rows that it shows already
-    /// are left as they are.
+    /// offset of the new top row, and the picture. It is drawn on `page`, a grid of the window's size. Rows that `page` shows
+    /// already are not written again.
     ///
     /// Errors: `OutOfMemory`.
     pub fn picture(

@@ -1,4 +1,4 @@
-//! What is sought: a text of at most 64 characters.
+//! The query of a search: a text of at most 64 characters.
 ghost use Rattle.std.specs.Prelude.{◌≡◌, ◌≤◌, IfOk, chars, length, string_bytes};
 ghost use Rattle.bx_editor.specs.Search.{kept, lengthened, shortened};
 
@@ -15,7 +15,7 @@ fn count(text: &str) -> usize
     text.chars().count()
 }
 
-/// What a key of a search adds to and takes from: nothing where the search has just begun.
+/// The query that a key lengthens or shortens: empty if the search has just begun, so that typing replaces the latest query.
 pub(crate) fn kept(seek: Seek, query: &str) -> &str
     requires few { length (chars query.now) ≤ 64 }
     ensures kept { result.now ≡ kept seek query.now }

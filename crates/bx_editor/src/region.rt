@@ -21,7 +21,7 @@ fn is_at_mark(mark: Option<usize>, place: usize) -> bool
 }
 
 impl<D: BidiData + Drop> Editor<D> {
-    /// Marks the place, or takes the mark away if it is there already.
+    /// Marks the place, or removes the mark if it is there already.
     pub(crate) fn turn_mark(&mut self)
         ensures { self.new ≡ record self.old { editor = after_mark (without_message self.old.editor) } }
     {

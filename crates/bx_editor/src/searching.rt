@@ -40,7 +40,7 @@ impl<D: BidiData + Drop> Editor<D> {
         self.end_search();
     }
 
-    /// Goes where a search led.
+    /// Moves the cursor to where a search led, and sets its message.
     fn land(&mut self, landing: Landing)
         requires origin { IsTextPlace (D.data self.old.tables) self.old.editor.content.text self.old.editor.origin }
         requires place { IfSome landing.place (IsTextPlace (D.data self.old.tables) self.old.editor.content.text) }
@@ -52,8 +52,8 @@ impl<D: BidiData + Drop> Editor<D> {
         self.seek = Seek::Typed;
     }
 
-    /// Adds a character to the query, and seeks it from the place on. Ends the search for a line feed; clears the message
-    /// alone for a tab or another character that separates paragraphs.
+    /// Appends a character to the query, and seeks it from the place on. A line feed ends the search; a tab or another character
+    /// that separates paragraphs only clears the message.
     pub(crate) fn type_letter(&mut self, c: char) -> Result<(), OutOfMemory>
         requires origin { IsTextPlace (D.data self.old.tables) self.old.editor.content.text self.old.editor.origin }
         ensures ok { OnOk result (self.new ≡ record self.old {
@@ -77,7 +77,7 @@ impl<D: BidiData + Drop> Editor<D> {
         Ok(())
     }
 
-    /// Takes the last character off the query, and seeks the rest from where the search began.
+    /// Removes the query's last character, and seeks the rest from where the search began.
     pub(crate) fn shorten(&mut self) -> Result<(), OutOfMemory>
         requires origin { IsTextPlace (D.data self.old.tables) self.old.editor.content.text self.old.editor.origin }
         ensures ok { OnOk result (self.new ≡ record self.old {

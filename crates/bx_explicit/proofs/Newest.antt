@@ -15,7 +15,7 @@ use Rattle.bx_explicit.specs.LevelIndexes.{level_indexes, indexes_from}
 use Rattle.bx_explicit.specs.OpenChains.{OpenRuns, run_at, is_over, newest, newest_sequence, sequence_of_runs}
 use Rattle.bx_explicit.specs.Sequences.{RunSequence, chain_indexes, direction, level_of_first, level_after, start_class, end_class, last_run, sequence_of}
 use Rattle.bx_explicit.specs.Sequences.{starts_with_initiator}
-use Rattle.bx_explicit.specs.Stacked.{BeginsRun, IsOpenChain, AreOpen, chains_of}
+use Rattle.bx_explicit.specs.StoredChains.{BeginsRun, IsOpenChain, AreOpen, chains_of}
 use Rattle.std.proofs.lemmas.List.Elements.{All-head, All-tail}
 use Rattle.bx_explicit.proofs.RunWalk.{indexes_walked, last_below}
 

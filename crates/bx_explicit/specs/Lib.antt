@@ -8,7 +8,7 @@ pub mod Runs
 pub mod Sequences
 pub mod TextLevels
 pub mod OpenChains
-pub mod Stacked
+pub mod StoredChains
 pub mod LevelIndexes
 pub mod Walk
 pub mod Laws

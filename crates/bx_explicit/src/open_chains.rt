@@ -3,7 +3,7 @@ ghost use Rattle.std.specs.Prelude.{◌≡◌, ◌==◌, ◌<◌, ◌≤◌, ◌
 ghost use Rattle.bx_explicit.specs.LevelIndexes.{indexes_from};
 ghost use Rattle.bx_explicit.specs.OpenChains.{run_at, is_over, with_run, others, OpenRuns, newest_sequence};
 ghost use Rattle.bx_explicit.specs.Stack.{max_depth};
-ghost use Rattle.bx_explicit.specs.Stacked.{open_with, chains_of, AreOpen};
+ghost use Rattle.bx_explicit.specs.StoredChains.{open_with, chains_of, AreOpen};
 
 use crate::ends::{end_class, start_class};
 use crate::entry::Explicit;

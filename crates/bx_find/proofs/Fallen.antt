@@ -5,7 +5,7 @@ use Rattle.std.proofs.lemmas.Bool.Decides.{nat_tests}
 use Rattle.std.proofs.lemmas.Bool.{cases_lt}
 use Rattle.std.proofs.lemmas.List.{map-append, length-map, drop-take, take_more, same_from_push, drop-map, take_all}
 use Rattle.bx_find.specs.Borders.{IsBorder}
-use Rattle.bx_find.specs.Standing.{begins, begins_some}
+use Rattle.bx_find.specs.Matches.{begins, begins_some}
 use Rattle.bx_find.specs.Held.{found, with_letters, found_after}
 
 -- the letters of some pairs

@@ -1,4 +1,4 @@
--- The nearest of the offsets at which letters stand.
+-- The nearest matches.
 use Rattle.std.proofs.Common.{◌≡◌, ◌≤◌, ◌<◌, ◌+◌, ◌∙◌, ◌⊎◌, inl, inr, ℕ, Bool, true, false, List, [], ◌∷◌, ◌++◌, length, chars, take, drop}
 use Rattle.std.proofs.Common.{refl, ap, sym, subst, arith, IsCharBoundary}
 use Rattle.std.specs.Prelude.{Option, Some, None, MatchOption, find, nat_le, nat_lt, encode_utf8, encode_utf8_all, IsUtf8}
@@ -7,9 +7,9 @@ use Rattle.std.proofs.lemmas.List.{drop_at}
 use Rattle.std.proofs.lemmas.Bool.Decides.{nat_tests}
 use Rattle.std.proofs.lemmas.Str.{encodes-chars, encodes-append, scalars-chars, chars-encodes, IsCharBoundary-at_seam}
 use Rattle.bx_ucd.specs.Data.{Data}
-use Rattle.bx_find.specs.Standing.{stands, standing, first_from, last_below, last_before}
-use Rattle.bx_find.specs.Laws.{StandsAt, IsFirst, IsLast}
-use Rattle.bx_find.proofs.Offsets.{widths, widths-more, standing-here, standing-not, front-bytes, cut_chars}
+use Rattle.bx_find.specs.Matches.{is_match, matches, first_from, last_below, last_before}
+use Rattle.bx_find.specs.Laws.{MatchesAt, IsFirst, IsLast}
+use Rattle.bx_find.proofs.Offsets.{widths, widths-more, matches-here, matches-not, front-bytes, cut_chars}
 use lib.Utf8.{scalars}
 
 scalars-end : (front rest : List ℕ) → scalars (front ++ rest) ≡ true → scalars rest ≡ true
@@ -17,12 +17,12 @@ scalars-end [] rest h = h
 scalars-end (c ∷ front) rest h = let more : scalars (front ++ rest) ≡ true = grind (arith, nat_tests) in scalars-end front rest more
 
 module _ (says : Data) (sought : List ℕ) where
-  -- letters stand at an offset of characters, the first of which is at another
-  abbrev pub StandsIn : ℕ → List ℕ → ℕ → Type 0
-  StandsIn at [] i = ⊥
-  StandsIn at (c ∷ cs) i = ((i ≡ at) × (stands says sought (c ∷ cs) ≡ true)) ⊎ StandsIn (at + length (encode_utf8 c)) cs i
+  -- the letters match at the offset `i`; the first character is at the offset `at`
+  abbrev pub MatchesIn : ℕ → List ℕ → ℕ → Type 0
+  MatchesIn at [] i = ⊥
+  MatchesIn at (c ∷ cs) i = ((i ≡ at) × (is_match says sought (c ∷ cs) ≡ true)) ⊎ MatchesIn (at + length (encode_utf8 c)) cs i
 
-  above : (at i : ℕ) (cs : List ℕ) → StandsIn at cs i → at ≤ i
+  above : (at i : ℕ) (cs : List ℕ) → MatchesIn at cs i → at ≤ i
   above at i [] h = absurd h
   above at i (c ∷ cs) (inl h) = omega (arith, h.0)
   above at i (c ∷ cs) (inr h) = omega (arith, above (at + length (encode_utf8 c)) i cs h)
@@ -44,23 +44,23 @@ module _ (says : Data) (sought : List ℕ) where
   find-here x at ats h = let e : nat_le x at ≡ true = grind (arith, nat_tests) in rw (e, find) refl
 
   abbrev pub FirstOf : ℕ → ℕ → List ℕ → Type 0
-  FirstOf x at cs = First x (StandsIn at cs) (find (nat_le x) (standing says sought at cs))
+  FirstOf x at cs = First x (MatchesIn at cs) (find (nat_le x) (matches says sought at cs))
 
-  first-by : (x at c : ℕ) (cs : List ℕ) (here : Bool) → stands says sought (c ∷ cs) ≡ here → FirstOf x (at + length (encode_utf8 c)) cs → FirstOf x at (c ∷ cs)
+  first-by : (x at c : ℕ) (cs : List ℕ) (here : Bool) → is_match says sought (c ∷ cs) ≡ here → FirstOf x (at + length (encode_utf8 c)) cs → FirstOf x at (c ∷ cs)
   first-by x at c cs false e h =
-      subst (First x (StandsIn at (c ∷ cs))) (sym (ap (find (nat_le x)) (standing-not says sought at c cs e)))
-      (later x at (stands says sought (c ∷ cs) ≡ true) (StandsIn (at + length (encode_utf8 c)) cs) _ (λ i l f g. let no : false ≡ true = sym e ∙ g in absurd (cc)) h)
+      subst (First x (MatchesIn at (c ∷ cs))) (sym (ap (find (nat_le x)) (matches-not says sought at c cs e)))
+      (later x at (is_match says sought (c ∷ cs) ≡ true) (MatchesIn (at + length (encode_utf8 c)) cs) _ (λ i l f g. let no : false ≡ true = sym e ∙ g in absurd (cc)) h)
   first-by x at c cs true e h =
-      subst (λ os. First x (StandsIn at (c ∷ cs)) (find (nat_le x) os)) (sym (standing-here says sought at c cs e))
+      subst (λ os. First x (MatchesIn at (c ∷ cs)) (find (nat_le x) os)) (sym (matches-here says sought at c cs e))
       (elim (cases_lt at x) [
-        | inl l ↦ subst (First x (StandsIn at (c ∷ cs))) (sym (find-not x at _ l))
-            (later x at (stands says sought (c ∷ cs) ≡ true) (StandsIn (at + length (encode_utf8 c)) cs) _ (λ i m f g. absurd (omega (arith, l, m, f))) h)
-        | inr l ↦ subst (First x (StandsIn at (c ∷ cs))) (sym (find-here x at _ l)) (inl (refl, e), l, λ i m f. above at i (c ∷ cs) f)
+        | inl l ↦ subst (First x (MatchesIn at (c ∷ cs))) (sym (find-not x at _ l))
+            (later x at (is_match says sought (c ∷ cs) ≡ true) (MatchesIn (at + length (encode_utf8 c)) cs) _ (λ i m f g. absurd (omega (arith, l, m, f))) h)
+        | inr l ↦ subst (First x (MatchesIn at (c ∷ cs))) (sym (find-here x at _ l)) (inl (refl, e), l, λ i m f. above at i (c ∷ cs) f)
       ])
 
   first-of : (x at : ℕ) (cs : List ℕ) → FirstOf x at cs
   first-of x at [] = λ i l h. h
-  first-of x at (c ∷ cs) = first-by x at c cs (stands says sought (c ∷ cs)) refl (first-of x (at + length (encode_utf8 c)) cs)
+  first-of x at (c ∷ cs) = first-by x at c cs (is_match says sought (c ∷ cs)) refl (first-of x (at + length (encode_utf8 c)) cs)
 
   -- ---- the last before x
 
@@ -75,7 +75,7 @@ module _ (says : Data) (sought : List ℕ) where
   Last x old P o = ((o ≡ old) × ((i : ℕ) → i < x → ¬ (P i))) ⊎ IsGreatest x P o
 
   abbrev pub LastOf : ℕ → ℕ → List ℕ → Type 0
-  LastOf x at cs = (old : Option ℕ) → Last x old (StandsIn at cs) (last_below x old (standing says sought at cs))
+  LastOf x at cs = (old : Option ℕ) → Last x old (MatchesIn at cs) (last_below x old (matches says sought at cs))
 
   past : (x at : ℕ) (Here : Type 0) (P : ℕ → Type 0) (old o : Option ℕ) → ((i : ℕ) → i < x → i ≡ at → Here → ⊥) → Last x old P o
       → Last x old (λ i. ((i ≡ at) × Here) ⊎ P i) o
@@ -111,43 +111,43 @@ module _ (says : Data) (sought : List ℕ) where
   last-not : (x at : ℕ) (o : Option ℕ) (ats : List ℕ) → x ≤ at → last_below x o (at ∷ ats) ≡ last_below x o ats
   last-not x at o ats h = let e : nat_lt at x ≡ false = grind (arith, nat_tests) in rw (e, last_below) refl
 
-  last-by : (x at c : ℕ) (cs : List ℕ) (here : Bool) → stands says sought (c ∷ cs) ≡ here → LastOf x (at + length (encode_utf8 c)) cs → LastOf x at (c ∷ cs)
+  last-by : (x at c : ℕ) (cs : List ℕ) (here : Bool) → is_match says sought (c ∷ cs) ≡ here → LastOf x (at + length (encode_utf8 c)) cs → LastOf x at (c ∷ cs)
   last-by x at c cs false e h old =
-      subst (Last x old (StandsIn at (c ∷ cs))) (sym (ap (last_below x old) (standing-not says sought at c cs e)))
-      (past x at (stands says sought (c ∷ cs) ≡ true) (StandsIn (at + length (encode_utf8 c)) cs) old _ (λ i l f g. let no : false ≡ true = sym e ∙ g in absurd (cc)) (h old))
+      subst (Last x old (MatchesIn at (c ∷ cs))) (sym (ap (last_below x old) (matches-not says sought at c cs e)))
+      (past x at (is_match says sought (c ∷ cs) ≡ true) (MatchesIn (at + length (encode_utf8 c)) cs) old _ (λ i l f g. let no : false ≡ true = sym e ∙ g in absurd (cc)) (h old))
   last-by x at c cs true e h old =
-      subst (λ os. Last x old (StandsIn at (c ∷ cs)) (last_below x old os)) (sym (standing-here says sought at c cs e))
+      subst (λ os. Last x old (MatchesIn at (c ∷ cs)) (last_below x old os)) (sym (matches-here says sought at c cs e))
       (elim (cases_lt at x) [
-        | inl l ↦ subst (Last x old (StandsIn at (c ∷ cs))) (sym (last-here x at old _ l))
-            (taken x at (stands says sought (c ∷ cs) ≡ true) (StandsIn (at + length (encode_utf8 c)) cs) old _ l e
+        | inl l ↦ subst (Last x old (MatchesIn at (c ∷ cs))) (sym (last-here x at old _ l))
+            (taken x at (is_match says sought (c ∷ cs) ≡ true) (MatchesIn (at + length (encode_utf8 c)) cs) old _ l e
             (λ i f. let up = above (at + length (encode_utf8 c)) i cs f in omega (arith, up)) (h (Some at)))
-        | inr l ↦ subst (Last x old (StandsIn at (c ∷ cs))) (sym (last-not x at old _ l))
-            (past x at (stands says sought (c ∷ cs) ≡ true) (StandsIn (at + length (encode_utf8 c)) cs) old _ (λ i m f g. absurd (omega (arith, l, m, f))) (h old))
+        | inr l ↦ subst (Last x old (MatchesIn at (c ∷ cs))) (sym (last-not x at old _ l))
+            (past x at (is_match says sought (c ∷ cs) ≡ true) (MatchesIn (at + length (encode_utf8 c)) cs) old _ (λ i m f g. absurd (omega (arith, l, m, f))) (h old))
       ])
 
   last-of : (x at : ℕ) (cs : List ℕ) → LastOf x at cs
   last-of x at [] = λ old. inl (refl, λ i l h. h)
-  last-of x at (c ∷ cs) = last-by x at c cs (stands says sought (c ∷ cs)) refl (last-of x (at + length (encode_utf8 c)) cs)
+  last-of x at (c ∷ cs) = last-by x at c cs (is_match says sought (c ∷ cs)) refl (last-of x (at + length (encode_utf8 c)) cs)
 
   -- ---- offsets of a text
 
-  into : (at : ℕ) (front rest : List ℕ) → stands says sought rest ≡ true → StandsIn at (front ++ rest) (at + widths front)
+  into : (at : ℕ) (front rest : List ℕ) → is_match says sought rest ≡ true → MatchesIn at (front ++ rest) (at + widths front)
   into at [] [] h = absurd (cc)
   into at [] (c ∷ rest) h = inl (omega arith, h)
   into at (c ∷ front) rest h =
       let e : at + length (encode_utf8 c) + widths front ≡ at + widths (c ∷ front) = omega (arith, widths-more c front) in
-      inr (subst (StandsIn (at + length (encode_utf8 c)) (front ++ rest)) e (into (at + length (encode_utf8 c)) front rest h))
+      inr (subst (MatchesIn (at + length (encode_utf8 c)) (front ++ rest)) e (into (at + length (encode_utf8 c)) front rest h))
 
   record Cut (at : ℕ) (cs : List ℕ) (i : ℕ) : Type 0 where
     pub front : List ℕ
     pub rest : List ℕ
     pub whole : cs ≡ front ++ rest
     pub offset : i ≡ at + widths front
-    pub standing : stands says sought rest ≡ true
+    pub matches : is_match says sought rest ≡ true
 
-  out : (at i : ℕ) (cs : List ℕ) → StandsIn at cs i → Cut at cs i
+  out : (at i : ℕ) (cs : List ℕ) → MatchesIn at cs i → Cut at cs i
   out at i [] h = absurd h
-  out at i (c ∷ cs) (inl h) = record { front = []; rest = c ∷ cs; whole = refl; offset = omega (arith, h.0); standing = h.1 }
+  out at i (c ∷ cs) (inl h) = record { front = []; rest = c ∷ cs; whole = refl; offset = omega (arith, h.0); matches = h.1 }
   out at i (c ∷ cs) (inr h) =
       let k = out (at + length (encode_utf8 c)) i cs h in
       record {
@@ -155,16 +155,16 @@ module _ (says : Data) (sought : List ℕ) where
         rest = k.rest;
         whole = ap (λ ds. c ∷ ds) k.whole;
         offset = omega (arith, k.offset, widths-more c k.front);
-        standing = k.standing;
+        matches = k.matches;
       }
 
-  in-text : (text : List ℕ) (i : ℕ) → IsUtf8 text → StandsAt says sought text i → StandsIn 0 (chars text) i
+  in-text : (text : List ℕ) (i : ℕ) → IsUtf8 text → MatchesAt says sought text i → MatchesIn 0 (chars text) i
   in-text text i u h =
       let e : 0 + widths (chars (take i text)) ≡ i = omega (arith, front-bytes says sought text i u h.0) in
-      subst (λ cs. StandsIn 0 cs i) (sym (cut_chars says sought text i u h.0))
-      (subst (StandsIn 0 (chars (take i text) ++ chars (drop i text))) e (into 0 (chars (take i text)) (chars (drop i text)) h.1))
+      subst (λ cs. MatchesIn 0 cs i) (sym (cut_chars says sought text i u h.0))
+      (subst (MatchesIn 0 (chars (take i text) ++ chars (drop i text))) e (into 0 (chars (take i text)) (chars (drop i text)) h.1))
 
-  of-text : (text : List ℕ) (i : ℕ) → IsUtf8 text → StandsIn 0 (chars text) i → StandsAt says sought text i
+  of-text : (text : List ℕ) (i : ℕ) → IsUtf8 text → MatchesIn 0 (chars text) i → MatchesAt says sought text i
   of-text text i u h =
       let k = out 0 i (chars text) h in
       let whole : text ≡ encode_utf8_all k.front ++ encode_utf8_all k.rest =
@@ -176,31 +176,31 @@ module _ (says : Data) (sought : List ℕ) where
         subst (IsCharBoundary text) at
             (IsCharBoundary-at_seam text (encode_utf8_all k.front) (encode_utf8_all k.rest) whole
             (k.rest, (scalars-end k.front k.rest (ap scalars (sym k.whole) ∙ scalars-chars text u), refl))),
-        ap (stands says sought) rest ∙ k.standing,
+        ap (is_match says sought) rest ∙ k.matches,
       )
 
-  first-from : (text : List ℕ) (x : ℕ) (o : Option ℕ) → IsUtf8 text → First x (StandsIn 0 (chars text)) o
-      → MatchOption o ((i : ℕ) → x ≤ i → ¬ (StandsAt says sought text i)) (IsFirst says sought text x)
+  first-from : (text : List ℕ) (x : ℕ) (o : Option ℕ) → IsUtf8 text → First x (MatchesIn 0 (chars text)) o
+      → MatchOption o ((i : ℕ) → x ≤ i → ¬ (MatchesAt says sought text i)) (IsFirst says sought text x)
   first-from text x None u h = λ i l e. h i l (in-text text i u e)
-  first-from text x (Some a) u h = record { stands = of-text text a u h.0; not_before = h.1; least = λ i l e. h.2 i l (in-text text i u e) }
+  first-from text x (Some a) u h = record { is_match = of-text text a u h.0; not_before = h.1; least = λ i l e. h.2 i l (in-text text i u e) }
 
-  last-from : (text : List ℕ) (x : ℕ) (o : Option ℕ) → IsUtf8 text → Last x None (StandsIn 0 (chars text)) o
-      → MatchOption o ((i : ℕ) → i < x → ¬ (StandsAt says sought text i)) (IsLast says sought text x)
+  last-from : (text : List ℕ) (x : ℕ) (o : Option ℕ) → IsUtf8 text → Last x None (MatchesIn 0 (chars text)) o
+      → MatchOption o ((i : ℕ) → i < x → ¬ (MatchesAt says sought text i)) (IsLast says sought text x)
   last-from text x None u (inl h) = λ i l e. h.1 i l (in-text text i u e)
   last-from text x None u (inr h) = let no = h.is in absurd (cc)
   last-from text x (Some a) u (inl h) = let no = h.0 in absurd (cc)
   last-from text x (Some a) u (inr h) =
       let same : h.value ≡ a = let is = h.is in cc in
       record {
-        stands = of-text text a u (subst (StandsIn 0 (chars text)) same h.there);
+        is_match = of-text text a u (subst (MatchesIn 0 (chars text)) same h.there);
         before = omega (arith, same, h.before);
         greatest = λ i l e. omega (arith, same, h.greatest i l (in-text text i u e));
       }
 
   pub first_is : (text : List ℕ) (x : ℕ) → IsUtf8 text
-      → MatchOption (first_from says sought text x) ((i : ℕ) → x ≤ i → ¬ (StandsAt says sought text i)) (IsFirst says sought text x)
+      → MatchOption (first_from says sought text x) ((i : ℕ) → x ≤ i → ¬ (MatchesAt says sought text i)) (IsFirst says sought text x)
   first_is text x u = first-from text x (first_from says sought text x) u (first-of x 0 (chars text))
 
   pub last_is : (text : List ℕ) (x : ℕ) → IsUtf8 text
-      → MatchOption (last_before says sought text x) ((i : ℕ) → i < x → ¬ (StandsAt says sought text i)) (IsLast says sought text x)
+      → MatchOption (last_before says sought text x) ((i : ℕ) → i < x → ¬ (MatchesAt says sought text i)) (IsLast says sought text x)
   last_is text x u = last-from text x (last_before says sought text x) u (last-of x 0 (chars text) None)

@@ -1,4 +1,4 @@
--- The offsets at which letters stand in a text: from the letters read on, and in order.
+-- The offsets of the matches in a text: from the letters read on, and in order.
 use Rattle.std.proofs.Common.{◌≡◌, ◌≢◌, get_or, ◌≤◌, ◌<◌, ◌+◌, ◌∙◌, ◌&&◌, ℕ, Bool, true, false, not, List, [], ◌∷◌, ◌++◌, length, chars, take, drop}
 use Rattle.std.proofs.Common.{refl, ap, ap₂, sym, arith, length-append, append-nil, IsCharBoundary}
 use Rattle.std.specs.Prelude.{Option, Some, None, slice_get, find, nat_le, nat_lt, encode_utf8, encode_utf8_all, IsUtf8}
@@ -8,7 +8,7 @@ use Rattle.std.proofs.lemmas.List.{nil_from_length, length-map, take-append-drop
 use Rattle.std.proofs.lemmas.Str.{chars-append, chars-nil, encodes-chars, IsUtf8-take, length-encode, len_utf8_bounds}
 use Rattle.bx_ucd.specs.Data.{Data}
 use Rattle.bx_find.specs.Letters.{is_passed_over, letters}
-use Rattle.bx_find.specs.Standing.{begins, begins_some, stands, standing, first_from, last_below, last_before}
+use Rattle.bx_find.specs.Matches.{begins, begins_some, is_match, matches, first_from, last_below, last_before}
 use Rattle.bx_find.specs.Held.{placed, found, with_letters, to_come}
 use Rattle.bx_find.proofs.Fallen.{letters_in, found-not, found-here, begins-some, none_held, length-with}
 
@@ -24,10 +24,10 @@ widths-more c cs = length-append (encode_utf8 c) (encode_utf8_all cs)
 module _ (says : Data) (sought : List ℕ) where
   -- ---- one character
 
-  step-passed : (at c : ℕ) (cs : List ℕ) → is_passed_over says c ≡ true → standing says sought at (c ∷ cs) ≡ standing says sought (at + length (encode_utf8 c)) cs
+  step-passed : (at c : ℕ) (cs : List ℕ) → is_passed_over says c ≡ true → matches says sought at (c ∷ cs) ≡ matches says sought (at + length (encode_utf8 c)) cs
   step-passed at c cs e =
-      let s : stands says sought (c ∷ cs) ≡ false = ap (λ b. not b && begins_some sought (letters says (c ∷ cs))) e in
-      rw (s, standing) refl
+      let s : is_match says sought (c ∷ cs) ≡ false = ap (λ b. not b && begins_some sought (letters says (c ∷ cs))) e in
+      rw (s, matches) refl
 
   placed-passed : (at c : ℕ) (cs : List ℕ) → is_passed_over says c ≡ true → placed says at (c ∷ cs) ≡ placed says (at + length (encode_utf8 c)) cs
   placed-passed at c cs e = rw (e, placed) refl
@@ -42,13 +42,13 @@ module _ (says : Data) (sought : List ℕ) where
   letters-letter : (c : ℕ) (cs : List ℕ) → is_passed_over says c ≡ false → letters says (c ∷ cs) ≡ to_ascii_lowercase c ∷ letters says cs
   letters-letter c cs e = rw (e, letters) refl
 
-  pub standing-here : (at c : ℕ) (cs : List ℕ) → stands says sought (c ∷ cs) ≡ true
-      → standing says sought at (c ∷ cs) ≡ at ∷ standing says sought (at + length (encode_utf8 c)) cs
-  standing-here at c cs e = rw (e, standing) refl
+  pub matches-here : (at c : ℕ) (cs : List ℕ) → is_match says sought (c ∷ cs) ≡ true
+      → matches says sought at (c ∷ cs) ≡ at ∷ matches says sought (at + length (encode_utf8 c)) cs
+  matches-here at c cs e = rw (e, matches) refl
 
-  pub standing-not : (at c : ℕ) (cs : List ℕ) → stands says sought (c ∷ cs) ≡ false
-      → standing says sought at (c ∷ cs) ≡ standing says sought (at + length (encode_utf8 c)) cs
-  standing-not at c cs e = rw (e, standing) refl
+  pub matches-not : (at c : ℕ) (cs : List ℕ) → is_match says sought (c ∷ cs) ≡ false
+      → matches says sought at (c ∷ cs) ≡ matches says sought (at + length (encode_utf8 c)) cs
+  matches-not at c cs e = rw (e, matches) refl
 
   begins-none-by : (at c : ℕ) (cs : List ℕ) (passed : Bool) → 0 < length sought → get_or sought 0 0 ≢ to_ascii_lowercase c → is_passed_over says c ≡ passed
       → to_come says sought [] at (c ∷ cs) ≡ to_come says sought [] (at + length (encode_utf8 c)) cs
@@ -78,39 +78,39 @@ module _ (says : Data) (sought : List ℕ) where
   letters-placed at [] = refl
   letters-placed at (c ∷ cs) = letters-by at c cs (is_passed_over says c) refl (letters-placed (at + length (encode_utf8 c)) cs)
 
-  standing-letter-by : (at c : ℕ) (cs : List ℕ) (here : Bool) → is_passed_over says c ≡ false → stands says sought (c ∷ cs) ≡ here
-      → standing says sought (at + length (encode_utf8 c)) cs ≡ found sought (placed says (at + length (encode_utf8 c)) cs)
+  matches-letter-by : (at c : ℕ) (cs : List ℕ) (here : Bool) → is_passed_over says c ≡ false → is_match says sought (c ∷ cs) ≡ here
+      → matches says sought (at + length (encode_utf8 c)) cs ≡ found sought (placed says (at + length (encode_utf8 c)) cs)
       → begins_some sought (to_ascii_lowercase c ∷ letters_in (placed says (at + length (encode_utf8 c)) cs)) ≡ here
-      → standing says sought at (c ∷ cs) ≡ found sought (placed says at (c ∷ cs))
-  standing-letter-by at c cs true e f more same =
-      standing-here at c cs f ∙ ap (λ (os : List ℕ). at ∷ os) more
+      → matches says sought at (c ∷ cs) ≡ found sought (placed says at (c ∷ cs))
+  matches-letter-by at c cs true e f more same =
+      matches-here at c cs f ∙ ap (λ (os : List ℕ). at ∷ os) more
       ∙ sym (ap (found sought) (placed-letter at c cs e)
       ∙ found-here sought (at, to_ascii_lowercase c) (placed says (at + length (encode_utf8 c)) cs) same)
-  standing-letter-by at c cs false e f more same =
-      standing-not at c cs f ∙ more
+  matches-letter-by at c cs false e f more same =
+      matches-not at c cs f ∙ more
       ∙ sym (ap (found sought) (placed-letter at c cs e)
       ∙ found-not sought (at, to_ascii_lowercase c) (placed says (at + length (encode_utf8 c)) cs) same)
 
-  standing-letter : (at c : ℕ) (cs : List ℕ) (here : Bool) → is_passed_over says c ≡ false → stands says sought (c ∷ cs) ≡ here
-      → standing says sought (at + length (encode_utf8 c)) cs ≡ found sought (placed says (at + length (encode_utf8 c)) cs)
-      → standing says sought at (c ∷ cs) ≡ found sought (placed says at (c ∷ cs))
-  standing-letter at c cs here e f more =
+  matches-letter : (at c : ℕ) (cs : List ℕ) (here : Bool) → is_passed_over says c ≡ false → is_match says sought (c ∷ cs) ≡ here
+      → matches says sought (at + length (encode_utf8 c)) cs ≡ found sought (placed says (at + length (encode_utf8 c)) cs)
+      → matches says sought at (c ∷ cs) ≡ found sought (placed says at (c ∷ cs))
+  matches-letter at c cs here e f more =
       let behind = placed says (at + length (encode_utf8 c)) cs in
       let same : begins_some sought (to_ascii_lowercase c ∷ letters_in behind) ≡ here =
       ap (λ ls. begins_some sought (to_ascii_lowercase c ∷ ls)) (letters-placed (at + length (encode_utf8 c)) cs)
       ∙ ap (begins_some sought) (sym (letters-letter c cs e))
       ∙ ap (λ b. not b && begins_some sought (letters says (c ∷ cs))) (sym e) ∙ f in
-      standing-letter-by at c cs here e f more same
+      matches-letter-by at c cs here e f more same
 
-  standing-by : (at c : ℕ) (cs : List ℕ) (passed : Bool) → is_passed_over says c ≡ passed
-      → standing says sought (at + length (encode_utf8 c)) cs ≡ found sought (placed says (at + length (encode_utf8 c)) cs)
-      → standing says sought at (c ∷ cs) ≡ found sought (placed says at (c ∷ cs))
-  standing-by at c cs true e more = step-passed at c cs e ∙ more ∙ sym (ap (found sought) (placed-passed at c cs e))
-  standing-by at c cs false e more = standing-letter at c cs (stands says sought (c ∷ cs)) e refl more
+  matches-by : (at c : ℕ) (cs : List ℕ) (passed : Bool) → is_passed_over says c ≡ passed
+      → matches says sought (at + length (encode_utf8 c)) cs ≡ found sought (placed says (at + length (encode_utf8 c)) cs)
+      → matches says sought at (c ∷ cs) ≡ found sought (placed says at (c ∷ cs))
+  matches-by at c cs true e more = step-passed at c cs e ∙ more ∙ sym (ap (found sought) (placed-passed at c cs e))
+  matches-by at c cs false e more = matches-letter at c cs (is_match says sought (c ∷ cs)) e refl more
 
-  pub standing-placed : (at : ℕ) (cs : List ℕ) → standing says sought at cs ≡ found sought (placed says at cs)
-  standing-placed at [] = refl
-  standing-placed at (c ∷ cs) = standing-by at c cs (is_passed_over says c) refl (standing-placed (at + length (encode_utf8 c)) cs)
+  pub matches-placed : (at : ℕ) (cs : List ℕ) → matches says sought at cs ≡ found sought (placed says at cs)
+  matches-placed at [] = refl
+  matches-placed at (c ∷ cs) = matches-by at c cs (is_passed_over says c) refl (matches-placed (at + length (encode_utf8 c)) cs)
 
   -- ---- offsets from x on
 
@@ -120,50 +120,50 @@ module _ (says : Data) (sought : List ℕ) where
   cond-here : (at x : ℕ) (ats : List ℕ) → x ≤ at → find (nat_le x) (at ∷ ats) ≡ Some at
   cond-here at x ats h = let e : nat_le x at ≡ true = grind (arith, nat_tests) in rw (e, find) refl
 
-  one-skipped : (x at c : ℕ) (cs : List ℕ) (here : Bool) → at < x → stands says sought (c ∷ cs) ≡ here
-      → find (nat_le x) (standing says sought at (c ∷ cs)) ≡ find (nat_le x) (standing says sought (at + length (encode_utf8 c)) cs)
-  one-skipped x at c cs true h e = ap (find (nat_le x)) (standing-here at c cs e) ∙ cond-not at x _ h
-  one-skipped x at c cs false h e = ap (find (nat_le x)) (standing-not at c cs e)
+  one-skipped : (x at c : ℕ) (cs : List ℕ) (here : Bool) → at < x → is_match says sought (c ∷ cs) ≡ here
+      → find (nat_le x) (matches says sought at (c ∷ cs)) ≡ find (nat_le x) (matches says sought (at + length (encode_utf8 c)) cs)
+  one-skipped x at c cs true h e = ap (find (nat_le x)) (matches-here at c cs e) ∙ cond-not at x _ h
+  one-skipped x at c cs false h e = ap (find (nat_le x)) (matches-not at c cs e)
 
   skipped : (x at : ℕ) (cs ds : List ℕ) → at + widths cs ≤ x
-      → find (nat_le x) (standing says sought at (cs ++ ds)) ≡ find (nat_le x) (standing says sought (at + widths cs) ds)
-  skipped x at [] ds h = let e : at ≡ at + 0 = omega arith in ap (λ n. find (nat_le x) (standing says sought n ds)) e
+      → find (nat_le x) (matches says sought at (cs ++ ds)) ≡ find (nat_le x) (matches says sought (at + widths cs) ds)
+  skipped x at [] ds h = let e : at ≡ at + 0 = omega arith in ap (λ n. find (nat_le x) (matches says sought n ds)) e
   skipped x at (c ∷ cs) ds h =
       let e : at + length (encode_utf8 c) + widths cs ≡ at + widths (c ∷ cs) = omega (arith, widths-more c cs) in
-      one-skipped x at c (cs ++ ds) (stands says sought (c ∷ cs ++ ds)) (omega (arith, width-some c, e, h)) refl
+      one-skipped x at c (cs ++ ds) (is_match says sought (c ∷ cs ++ ds)) (omega (arith, width-some c, e, h)) refl
       ∙ skipped x (at + length (encode_utf8 c)) cs ds (omega (arith, e, h))
-      ∙ ap (λ n. find (nat_le x) (standing says sought n ds)) e
+      ∙ ap (λ n. find (nat_le x) (matches says sought n ds)) e
 
-  reached-by : (x at c : ℕ) (cs : List ℕ) (here : Bool) → x ≤ at → stands says sought (c ∷ cs) ≡ here
-      → find (nat_le x) (standing says sought (at + length (encode_utf8 c)) cs) ≡ slice_get (standing says sought (at + length (encode_utf8 c)) cs) 0
-      → find (nat_le x) (standing says sought at (c ∷ cs)) ≡ slice_get (standing says sought at (c ∷ cs)) 0
+  reached-by : (x at c : ℕ) (cs : List ℕ) (here : Bool) → x ≤ at → is_match says sought (c ∷ cs) ≡ here
+      → find (nat_le x) (matches says sought (at + length (encode_utf8 c)) cs) ≡ slice_get (matches says sought (at + length (encode_utf8 c)) cs) 0
+      → find (nat_le x) (matches says sought at (c ∷ cs)) ≡ slice_get (matches says sought at (c ∷ cs)) 0
   reached-by x at c cs true h e more =
-      ap (find (nat_le x)) (standing-here at c cs e) ∙ cond-here at x _ h ∙ ap (λ (os : List ℕ). slice_get os 0) (sym (standing-here at c cs e))
+      ap (find (nat_le x)) (matches-here at c cs e) ∙ cond-here at x _ h ∙ ap (λ (os : List ℕ). slice_get os 0) (sym (matches-here at c cs e))
   reached-by x at c cs false h e more =
-      ap (find (nat_le x)) (standing-not at c cs e) ∙ more ∙ ap (λ (os : List ℕ). slice_get os 0) (sym (standing-not at c cs e))
+      ap (find (nat_le x)) (matches-not at c cs e) ∙ more ∙ ap (λ (os : List ℕ). slice_get os 0) (sym (matches-not at c cs e))
 
-  reached : (x at : ℕ) (cs : List ℕ) → x ≤ at → find (nat_le x) (standing says sought at cs) ≡ slice_get (standing says sought at cs) 0
+  reached : (x at : ℕ) (cs : List ℕ) → x ≤ at → find (nat_le x) (matches says sought at cs) ≡ slice_get (matches says sought at cs) 0
   reached x at [] h = refl
   reached x at (c ∷ cs) h =
-      reached-by x at c cs (stands says sought (c ∷ cs)) h refl (reached x (at + length (encode_utf8 c)) cs (omega (arith, h)))
+      reached-by x at c cs (is_match says sought (c ∷ cs)) h refl (reached x (at + length (encode_utf8 c)) cs (omega (arith, h)))
 
-  none-by : (x at c : ℕ) (o : Option ℕ) (cs : List ℕ) (here : Bool) → x ≤ at → stands says sought (c ∷ cs) ≡ here
-      → last_below x o (standing says sought (at + length (encode_utf8 c)) cs) ≡ o → last_below x o (standing says sought at (c ∷ cs)) ≡ o
+  none-by : (x at c : ℕ) (o : Option ℕ) (cs : List ℕ) (here : Bool) → x ≤ at → is_match says sought (c ∷ cs) ≡ here
+      → last_below x o (matches says sought (at + length (encode_utf8 c)) cs) ≡ o → last_below x o (matches says sought at (c ∷ cs)) ≡ o
   none-by x at c o cs true h e more =
       let past : nat_lt at x ≡ false = grind (arith, nat_tests) in
-      ap (last_below x o) (standing-here at c cs e) ∙ rw (past, last_below) more
-  none-by x at c o cs false h e more = ap (last_below x o) (standing-not at c cs e) ∙ more
+      ap (last_below x o) (matches-here at c cs e) ∙ rw (past, last_below) more
+  none-by x at c o cs false h e more = ap (last_below x o) (matches-not at c cs e) ∙ more
 
-  pub none_before : (x at : ℕ) (o : Option ℕ) (cs : List ℕ) → x ≤ at → last_below x o (standing says sought at cs) ≡ o
+  pub none_before : (x at : ℕ) (o : Option ℕ) (cs : List ℕ) → x ≤ at → last_below x o (matches says sought at cs) ≡ o
   none_before x at o [] h = refl
   none_before x at o (c ∷ cs) h =
-      none-by x at c o cs (stands says sought (c ∷ cs)) h refl (none_before x (at + length (encode_utf8 c)) o cs (omega (arith, h)))
+      none-by x at c o cs (is_match says sought (c ∷ cs)) h refl (none_before x (at + length (encode_utf8 c)) o cs (omega (arith, h)))
 
   -- nothing is held, and all that follows is past x
   pub none_left : (x at : ℕ) (o : Option ℕ) (held cs : List ℕ) → length held ≡ 0 → x ≤ at → last_below x o (to_come says sought held at cs) ≡ o
   none_left x at o held cs none h =
       ap (λ (os : List ℕ). last_below x o (to_come says sought os at cs)) (nil_from_length held none)
-      ∙ ap (last_below x o) (sym (standing-placed at cs)) ∙ none_before x at o cs h
+      ∙ ap (last_below x o) (sym (matches-placed at cs)) ∙ none_before x at o cs h
 
   -- ---- a text from an offset on
 
@@ -178,14 +178,14 @@ module _ (says : Data) (sought : List ℕ) where
   from_offset text x u b =
       let front = front-bytes text x u b in
       let at : 0 + widths (chars (take x text)) ≡ x = omega (arith, front) in
-      ap (λ cs. find (nat_le x) (standing says sought 0 cs)) (cut_chars text x u b)
+      ap (λ cs. find (nat_le x) (matches says sought 0 cs)) (cut_chars text x u b)
       ∙ skipped x 0 (chars (take x text)) (chars (drop x text)) (omega (arith, at))
-      ∙ ap (λ n. find (nat_le x) (standing says sought n (chars (drop x text)))) at
+      ∙ ap (λ n. find (nat_le x) (matches says sought n (chars (drop x text)))) at
       ∙ reached x x (chars (drop x text)) (omega arith)
-      ∙ ap (λ (os : List ℕ). slice_get os 0) (standing-placed x (chars (drop x text)))
+      ∙ ap (λ (os : List ℕ). slice_get os 0) (matches-placed x (chars (drop x text)))
 
   pub from_start : (text : List ℕ) (x : ℕ) → last_before says sought text x ≡ last_below x None (to_come says sought [] 0 (chars (drop 0 text)))
-  from_start text x = ap (last_below x None) (standing-placed 0 (chars text))
+  from_start text x = ap (last_below x None) (matches-placed 0 (chars text))
 
 -- ---- a piece, and the end
 

@@ -1,11 +1,11 @@
--- How much of what is held remains, where the next letter does not fit.
+-- The borders of a query: the number of letters that a search still holds after a mismatch.
 use Rattle.std.specs.Prelude.{◌≡◌, ℕ, ◌<◌, ◌-◌, ◌+◌, ◌≤◌, List, length, take, slice_range, get_or}
 
 -- the first i letters are the last i of the first k
 abbrev pub Ends : List ℕ → ℕ → ℕ → Type 0
 Ends ls k i = take i ls ≡ slice_range ls (k - i) k
 
--- f is the greatest such i below k
+-- f is the greatest i below k for which this holds
 pub record IsBorder (ls : List ℕ) (k f : ℕ) : Type 0 where
   pub below : f < k
   pub ends : Ends ls k f

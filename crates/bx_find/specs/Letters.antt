@@ -6,7 +6,7 @@ use Rattle.bx_ucd.specs.Data.{Data}
 use Rattle.bx_ucd.specs.declared.class.Class.{Class}
 use Rattle.bx_ucd.specs.declared.class.Class.TheVariants.{NSM, BN, LRE, RLE, LRO, RLO, PDF, LRI, RLI, FSI, PDI}
 
--- the class of points and accents, of joiners, and of directional formatting characters
+-- the classes of points and accents, of joiners, and of directional formatting characters
 abbrev pub is_unlettered : Class → Bool
 is_unlettered NSM = true
 is_unlettered BN = true

@@ -1,5 +1,5 @@
 pub mod Letters
-pub mod Standing
+pub mod Matches
 pub mod Borders
 pub mod Ring
 pub mod Held

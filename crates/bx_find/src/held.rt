@@ -1,4 +1,4 @@
-//! The letters that a search holds: the longest end of those read with which the query begins.
+//! The letters that a search holds: the longest end of the letters read that begins the query.
 ghost use Rattle.std.specs.Prelude.{◌≡◌, ◌≢◌, true, ℕ, ◌+◌, ◌<◌, ◌++◌, List, [], ◌∷◌, get_or, length, encode_utf8, option_to_list};
 ghost use Rattle.std.specs.Char.{to_ascii_lowercase};
 ghost use Rattle.bx_find.specs.Held.{found_after, to_come};
@@ -8,7 +8,7 @@ use crate::query::Query;
 use crate::ring::Ring;
 use bx_ucd::BidiData;
 
-/// Drops the oldest letters that are held until the next one fits behind the others, or none is held.
+/// Drops the oldest held letters until the next letter continues the others, or none is held.
 fn fall_back(query: &Query, held: &mut Ring, letter: char)
     requires { length held.old < length query.now }
     ensures fewer { length held.new < length query.now }
@@ -20,7 +20,7 @@ fn fall_back(query: &Query, held: &mut Ring, letter: char)
     }
 }
 
-/// Holds one more letter. Returns the offset at which the query stands, if this is the last letter of it.
+/// Holds one more letter. Returns the match's offset if this letter is the query's last.
 fn hold(query: &Query, held: &mut Ring, at: usize) -> Option<usize>
     requires { length held.old < length query.now }
     ensures fewer { length held.new < length query.now }
@@ -37,7 +37,7 @@ fn hold(query: &Query, held: &mut Ring, at: usize) -> Option<usize>
     Some(found)
 }
 
-/// Reads a letter at an offset. Returns the offset at which the query stands, if the letter ends it.
+/// Reads a letter at an offset. Returns the match's offset if the letter ends a match.
 #[inline(always)]
 fn read_letter(query: &Query, held: &mut Ring, letter: char, at: usize) -> Option<usize>
     requires { length held.old < length query.now }
@@ -64,7 +64,7 @@ fn begins_nothing(query: &Query, held: &Ring, c: char) -> bool
     held.len() == 0 && query.letter(0) != c.to_ascii_lowercase()
 }
 
-/// Reads a character at an offset. Returns the offset at which the query stands, if the character ends it.
+/// Reads a character at an offset. Returns the match's offset if the character ends a match.
 #[inline(always)]
 pub fn read<D: BidiData>(
     query: &Query,
@@ -78,7 +78,7 @@ pub fn read<D: BidiData>(
     ensures found { (cs : List ℕ) → to_come (D.data tables.now) query.now held.old at (c ∷ cs)
         ≡ option_to_list result ++ to_come (D.data tables.now) query.now held.new (at + length (encode_utf8 c)) cs }
 {
-    // Most characters begin nothing, whatever their class.
+    // Most characters begin no match; their class need not be looked up.
     if begins_nothing(query, held, c) {
         return None;
     }

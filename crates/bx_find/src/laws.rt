@@ -1,12 +1,12 @@
 //! Laws of the definitions. Each function's contract is a law; its body is empty.
 ghost use Rattle.bx_find.specs.Laws.{FirstIsFirst, LastIsLast};
 
-/// The first offset not before another is the least at which the letters stand.
+/// The first match at or after an offset has the least such offset.
 pub fn first_is_first()
     ensures { FirstIsFirst }
 {}
 
-/// The last offset before another is the greatest at which the letters stand.
+/// The last match before an offset has the greatest such offset.
 pub fn last_is_last()
     ensures { LastIsLast }
 {}

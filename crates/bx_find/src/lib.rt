@@ -1,4 +1,4 @@
-//! The search of a text for the letters of a query, over characters and their classes alone.
+//! Searches a text for the letters of a query. It needs only characters and their classes.
 //!
 //! Nothing allocates: a search holds the offsets of at most 64 letters.
 #![tactic(auto)]

@@ -1,4 +1,4 @@
-//! The letters of a query, ready to be sought.
+//! The letters of a query, with the borders that a search uses.
 ghost use Rattle.std.specs.Prelude.{◌≡◌, ◌+◌, ◌≤◌, ◌<◌, ◌↔◌, [], get_or, length, chars, IfSome, IsSome, IsNone};
 ghost use Rattle.bx_find.specs.Borders.{IsBorder, AreBorders};
 ghost use Rattle.bx_find.specs.Letters.{letters};

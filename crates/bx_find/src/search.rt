@@ -1,7 +1,7 @@
 //! The search of a text for a query, forward and backward.
 ghost use Rattle.std.specs.Prelude.{◌≡◌, ℕ, ◌+◌, ◌≤◌, ◌<◌, ◌^◌, ◌++◌, ◌∷◌, [], List, length, chars, encode_utf8, option_to_list, slice_get, MatchOption, IsCharBoundary};
 ghost use Rattle.bx_find.specs.Held.{to_come};
-ghost use Rattle.bx_find.specs.Standing.{first_from, last_below, last_before};
+ghost use Rattle.bx_find.specs.Matches.{first_from, last_below, last_before};
 
 use crate::held::read;
 use crate::pieces::Pieces;
@@ -10,7 +10,7 @@ use crate::ring::Ring;
 use bx_terms::first_char;
 use bx_ucd::BidiData;
 
-/// Reads a piece that begins at an offset, up to the first offset at which the query stands.
+/// Reads a piece that begins at the offset `start`, up to the first match.
 fn first_in<D: BidiData>(
     query: &Query,
     tables: &D,
@@ -38,7 +38,7 @@ fn first_in<D: BidiData>(
     None
 }
 
-/// The least offset in bytes, not before `x`, at which the query stands in a text. Reads the text from `x` on.
+/// The byte offset of the first match at or after `x`. Reads the text from `x` on.
 pub fn first_from<P: Pieces, D: BidiData>(
     source: &P,
     tables: &D,
@@ -63,7 +63,7 @@ pub fn first_from<P: Pieces, D: BidiData>(
     None
 }
 
-/// The last offset before another that was found so far.
+/// The last match below a bound, of those found so far.
 #[derive(Drop)]
 struct Latest {
     before: usize,
@@ -71,7 +71,7 @@ struct Latest {
 }
 
 impl Latest {
-    /// Takes the next offset that was found, if any.
+    /// Takes the next match, if there is one.
     #[inline(always)]
     fn take(&mut self, next: Option<usize>)
         ensures before { self.new.before ≡ self.old.before }
@@ -86,8 +86,7 @@ impl Latest {
     }
 }
 
-/// Reads a piece that begins at an offset, and takes each offset at which the query stands. Reads no further where all
-/// others are past the bound.
+/// Reads a piece that begins at the offset `start`, and takes each match. Stops once all later matches are past the bound.
 fn last_in<D: BidiData>(
     query: &Query,
     tables: &D,
@@ -116,8 +115,8 @@ fn last_in<D: BidiData>(
     }
 }
 
-/// The greatest offset in bytes before `x` at which the query stands in a text. Reads the text from its start to `x`, and
-/// what it needs behind.
+/// The byte offset of the last match before `x`. Reads the text from its start to `x`, and on to the end of a match that
+/// begins before `x`.
 pub fn last_before<P: Pieces, D: BidiData>(
     source: &P,
     tables: &D,

@@ -1,4 +1,4 @@
-//! The nearest offsets at which queries stand in small texts.
+//! The nearest matches of queries in small texts.
 ghost use Rattle.std.specs.Prelude.{◌≡◌, chars, length};
 
 use crate::{Pieces, Query, first_from, last_before};

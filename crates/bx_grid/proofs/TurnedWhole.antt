@@ -4,7 +4,8 @@ use Rattle.std.proofs.Common.{get_or, set, refl, ap, ap₂, sym, subst, ◌∙�
 use Rattle.std.proofs.lemmas.Bool.Decides.{nat_tests}
 use borrow.Rule.Slice.PartMut.{put_mid}
 use Rattle.std.proofs.Math.Seq.{take-append-add, drop-append-add}
-use Rattle.std.proofs.lemmas.List.{drop-append-le, drop-drop, drop-map, get_or-append-add, get_or-drop, get_or-map, length-drop, length-map, length-take-le, map-append, map-set, take-append-le, take-map}
+use Rattle.std.proofs.lemmas.List.{drop-append-le, drop-drop, drop-map, get_or-append-add, get_or-drop, get_or-map, length-drop, length-map, length-take-le}
+use Rattle.std.proofs.lemmas.List.{map-append, map-set, take-append-le, take-map}
 use Rattle.std.proofs.lemmas.List.Edits.{map_over_more}
 use Rattle.std.proofs.lemmas.List.Elements.{All-head, All-tail}
 use Rattle.std.specs.Prelude.{if◌then◌else◌, All}

@@ -10,12 +10,12 @@ is_byte b = nat_lt b 256
 abbrev pub is_short : List ℕ → Bool
 is_short text = nat_le (length text) 7 && list_all is_byte text
 
--- the bytes as one number, the first lowest, below a 1 that marks their count
+-- the bytes as one number: the first byte is the lowest, and a 1 above the last marks their count
 abbrev pub packed : List ℕ → ℕ
 packed [] = 1
 packed (b ∷ bs) = packed bs * 256 + b
 
--- the code of all columns that have none of their own
+-- the common code of columns with no code of their own
 abbrev pub no_code : ℕ
 no_code = 0x8000_0000_0000_0000
 

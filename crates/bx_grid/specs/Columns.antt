@@ -15,7 +15,7 @@ pub data Col : Type 0 where
 abbrev pub blank : Col
 blank = Glyph (32 ∷ []) 1 0 false
 
--- the number of columns of its glyph after a column, and before it
+-- the number of columns that a column's glyph has after it, and before it
 abbrev pub columns_after : Col → ℕ
 columns_after Unknown = 0
 columns_after (Glyph text columns offset negative) = columns - (offset + 1)
@@ -24,12 +24,12 @@ abbrev pub columns_before : Col → ℕ
 columns_before Unknown = 0
 columns_before (Glyph text columns offset negative) = offset
 
--- a row's columns before an index from which others are put: a glyph that reached past it becomes unknown
+-- the columns of a row before an index from which others are put: a glyph that reaches past it becomes unknown
 abbrev pub cut_before : List Col → List Col
 cut_before [] = []
 cut_before (x ∷ xs) = (if nat_lt (length xs) (columns_after x) then Unknown else x) ∷ cut_before xs
 
--- the same for the columns after the new ones, d of which are passed
+-- the columns behind the new ones, of which `d` come before these: a glyph that begins in the new ones becomes unknown
 abbrev pub cut_after : ℕ → List Col → List Col
 cut_after d [] = []
 cut_after d (x ∷ xs) = (if nat_lt d (columns_before x) then Unknown else x) ∷ cut_after (d + 1) xs
@@ -42,7 +42,7 @@ paste columns k new = take k columns ++ new ++ drop (k + length new) columns
 abbrev pub AreBlank : ℕ → ℕ → List Col → Type 0
 AreBlank k count columns = take count (drop k columns) ≡ replicate count blank
 
--- the columns differ at most in the count from index k on
+-- the two lists agree except in `count` columns from index k on
 pub record AreSameAround (k count : ℕ) (old new : List Col) : Type 0 where
   pub before : take k new ≡ take k old
   pub after : drop (k + count) new ≡ drop (k + count) old
@@ -65,7 +65,7 @@ abbrev pub bool_eq : Bool → Bool → Bool
 bool_eq true b = b
 bool_eq false b = not b
 
--- both columns show the same
+-- both columns look the same
 abbrev pub col_eq : Col → Col → Bool
 col_eq Unknown Unknown = true
 col_eq Unknown (Glyph text columns offset negative) = false

@@ -34,7 +34,7 @@ pub data Token : Type 0 where
   Run : (text : List ℕ) → Token
   -- a control sequence
   Sequence : (bytes : List ℕ) → Token
-  -- a character that is not printable, or bytes that were broken off
+  -- a character that is not printable, or the beginning of an item that the next byte breaks
   Other : (bytes : List ℕ) → Token
 
 -- the token of an item
@@ -62,7 +62,7 @@ cut_within (suc n) (b ∷ bs) =
 
 -- ---- runs as long as possible
 
--- tokens, then a run that may go on, then the bytes that wait for more
+-- tokens, then a run that later characters may extend, then the bytes that wait for more
 pub record Cutting : Type 0 where
   pub tokens : List Token
   pub run : List ℕ
@@ -76,7 +76,7 @@ run_token (b ∷ bs) = Run (b ∷ bs) ∷ []
 abbrev pub with_tokens : List Token → Cutting → Cutting
 with_tokens tokens c = record { tokens = tokens ++ c.tokens; run = c.run; rest = c.rest }
 
--- the last run may go on, unless an escape waits after it
+-- later characters may extend the last run, unless an escape waits after it
 abbrev pub last_run : List ℕ → List ℕ → Cutting
 last_run run [] = record { tokens = []; run = run; rest = [] }
 last_run run (b ∷ bs) =

@@ -36,7 +36,7 @@ run_effects t (Some p) (Some negative) (b ∷ bs) = put_effects t p (run_columns
 run_effects t (Some p) None (b ∷ bs) = Forgets ∷ []
 run_effects t None negative (b ∷ bs) = Forgets ∷ []
 
--- the effects of the pending run
+-- the effects of the run that is not shown yet
 abbrev pub pending_effects : Terminal → List Effect
 pending_effects t = run_effects t t.position t.negative t.run
 

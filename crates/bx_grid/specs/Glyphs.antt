@@ -47,7 +47,7 @@ abbrev pub IsWholeAt : Col → ℕ → List Col → Type 0
 IsWholeAt Unknown index columns = ⊥
 IsWholeAt (Glyph text count offset negative) index columns = StandsWhole text count offset negative index columns
 
--- a column that both have at an index belongs to a glyph that both have there whole
+-- a column that both lists have at an index belongs to a glyph that both have there as a whole
 abbrev pub ShareWholeGlyphs : List Col → List Col → Type 0
 ShareWholeGlyphs old new = (i : ℕ) → i < length old → slice_index_or old i Unknown ≡ slice_index_or new i Unknown
     → IsWholeAt (slice_index_or old i Unknown) i old × IsWholeAt (slice_index_or old i Unknown) i new

@@ -14,7 +14,7 @@ token_done t (Other bytes) = all_unknown t
 abbrev pub tokens_done : Terminal → List Token → Terminal
 tokens_done t tokens = fold token_done t tokens
 
--- a terminal with nothing half read does, for bytes, what their tokens do in order; the remaining bytes are half read
+-- a terminal with nothing half read obeys the tokens of the bytes in order; the remaining bytes are then half read
 abbrev pub ReadsTokens : Type 0
 ReadsTokens = (t : Terminal) (bs : List ℕ) → IsIdle t →
     let c : Cutting = cutting bs in
@@ -40,6 +40,6 @@ are_runs_apart (Run text ∷ tokens) = not (begins_with_run tokens) && are_runs_
 are_runs_apart (Sequence bytes ∷ tokens) = are_runs_apart tokens
 are_runs_apart (Other bytes ∷ tokens) = are_runs_apart tokens
 
--- each run is as long as possible, and so is one that may go on
+-- each run is as long as possible, also the last one, which later characters may extend
 abbrev pub RunsAreLongest : Type 0
 RunsAreLongest = (bs : List ℕ) → let c : Cutting = cutting bs in are_runs_apart (c.tokens ++ run_token c.run) ≡ true

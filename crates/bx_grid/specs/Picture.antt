@@ -60,7 +60,7 @@ pub record IsWithin (height width line column : ℕ) : Type 0 where
   pub left : 1 ≤ column
   pub right : column ≤ width
 
--- count columns from a cell on are in its row, and all are blanks
+-- the `count` columns from a cell on lie in its row, and are blanks
 pub record HasRoom (g : GridState) (line column count : ℕ) : Type 0 where
   pub fits : column - 1 + count ≤ g.width
   pub blank : AreBlank ((line - 1) * g.width + (column - 1)) count g.columns

@@ -4,8 +4,8 @@ use Rattle.bx_grid.specs.declared.token.Command.{Command}
 use Rattle.bx_grid.specs.Terminal.{Terminal, run_ended, after_command, reads}
 use Rattle.bx_terms.specs.Sizes.{largest_side}
 
--- the first len bytes are a sequence: a terminal with no token half read ends its run, obeys this command, and then reads
--- the others
+-- the first `len` bytes are a sequence: a terminal with no token half read ends its run, obeys this command, and then reads
+-- the other bytes
 pub record BeginWithSequence (bytes : List ℕ) (command : Command) (len : ℕ) : Type 0 where
   pub some : 1 ≤ len
   pub within : len ≤ length bytes

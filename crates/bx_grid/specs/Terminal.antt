@@ -18,7 +18,7 @@ pub record Terminal : Type 0 where
   pub position : Option (ℕ × ℕ)
   -- whether the rendition is negative, or unknown
   pub negative : Option Bool
-  -- the characters of a printable run that may go on
+  -- the characters of a printable run that later characters may extend
   pub run : List ℕ
   -- the bytes of a character or a sequence that is half read
   pub half_read : List ℕ
@@ -82,13 +82,13 @@ run_put t (Some p) (Some negative) (b ∷ bs) = glyphs_put t p (run_columns nega
 run_put t (Some p) None (b ∷ bs) = all_unknown t
 run_put t None negative (b ∷ bs) = all_unknown t
 
--- the run takes effect, if it is not empty
+-- the run's glyphs are put, if it is not empty
 abbrev pub run_ended : Terminal → Terminal
 run_ended t = run_put t t.position t.negative t.run
 
 -- ---- reading
 
--- a whole character goes on with the run, or ends it and is a token of its own, which makes all unknown
+-- a printable character extends the run; any other makes the terminal's state unknown
 abbrev pub character_read : Terminal → List ℕ → Terminal
 character_read t bs = if are_printable bs then record t { run = t.run ++ bs; half_read = [] } else all_unknown t
 
@@ -106,7 +106,7 @@ after_first_byte_as t b Breaks = all_unknown t
 abbrev pub after_first_byte : Terminal → ℕ → Terminal
 after_first_byte t b = if b == 0x1B then record (run_ended t) { half_read = b ∷ [] } else after_first_byte_as t b (fate (b ∷ []))
 
--- a byte that breaks a token off: that token makes all unknown, and the byte is read afresh
+-- a byte after a half-read token; if it breaks the token, the state becomes unknown, and the byte is read as a first one
 abbrev pub after_next_byte : Terminal → ℕ → Fate → Terminal
 after_next_byte t b Waits = record t { half_read = t.half_read ++ b ∷ [] }
 after_next_byte t b Ends = token_read t (t.half_read ++ b ∷ [])

@@ -7,7 +7,7 @@ abbrev pub turned : Col → Col
 turned Unknown = Unknown
 turned (Glyph text columns offset negative) = Glyph text columns offset (not negative)
 
--- columns of which the `count` from index `k` on are turned
+-- the columns, with `count` from index `k` on turned
 abbrev pub turned_in : List Col → ℕ → ℕ → List Col
 turned_in columns k count = paste columns k (map turned (take count (drop k columns)))
 

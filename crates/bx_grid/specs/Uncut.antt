@@ -1,8 +1,8 @@
--- Lists of glyphs' columns and unknown ones in which no glyph is cut. Each row of a terminal is one.
+-- Columns in which no glyph is cut, some of them unknown. Each row of a terminal is such a list.
 use Rattle.std.specs.Prelude.{◌≡◌, ◌+◌, ◌⊎◌, ℕ, zero, suc, List, [], ◌∷◌, take, drop}
 use Rattle.bx_grid.specs.Columns.{Col, columns_after, columns_before}
 
--- two adjacent columns: a glyph that goes on after the first goes on in the second, and one that began before the second is in the first
+-- two adjacent columns: a glyph that extends past the first continues in the second, and one that began before the second is in the first
 pub record Meet (x y : Col) : Type 0 where
   pub onward : (columns_after x ≡ 0) ⊎ (columns_after x ≡ columns_after y + 1)
   pub back : (columns_before y ≡ 0) ⊎ (columns_before y ≡ columns_before x + 1)

@@ -102,7 +102,7 @@ impl<'g> BorrowedRow<'g> {
         }
     }
 
-    /// Whether both rows show the same.
+    /// Whether both rows look the same.
     pub fn is_same(&self, other: &BorrowedRow<'_>) -> bool
         ensures { result ≡ are_equal self.now other.now }
     {

@@ -10,7 +10,7 @@ ghost use Rattle.bx_grid.specs.Seen.{seen, all_seen};
 use crate::column::{Column, all_same};
 use std::alloc::{AllocError, Global};
 
-/// The code of all columns that have none of their own.
+/// The common code of columns with no code of their own.
 const NO_CODE: u64 = 0x8000_0000_0000_0000;
 
 /// The code of a blank: `code_in(0x120, 1, 0, false)`, where 0x120 is the packed text of U+0020.
@@ -97,7 +97,7 @@ fn bits_of(codes: &[u64], others: &[u64]) -> Bits
     bits
 }
 
-/// Whether two lists of columns show the same. Compares the columns only if their codes are equal and some is `NO_CODE`.
+/// Whether two lists of columns look the same. Compares the columns only if their codes are equal and some is `NO_CODE`.
 pub fn are_same(columns: &[Column], codes: &[u64], others: &[Column], other_codes: &[u64]) -> bool
     requires codes { codes.now ≡ codes_of (all_seen columns.now) }
     requires others { other_codes.now ≡ codes_of (all_seen others.now) }

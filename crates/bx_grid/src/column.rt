@@ -130,7 +130,7 @@ impl Column {
         }
     }
 
-    /// Whether both columns show the same.
+    /// Whether both columns look the same.
     pub fn same(&self, other: &Column) -> bool
         ensures same { IsTrue result ↔ (seen self.now ≡ seen other.now) }
         ensures equal { result ≡ col_eq (seen self.now) (seen other.now) }
@@ -161,7 +161,7 @@ impl Column {
     }
 }
 
-/// Whether both lists show the same.
+/// Whether both lists look the same.
 pub fn all_same(columns: &[Column], others: &[Column]) -> bool
     requires { length columns.now ≡ length others.now }
     ensures same { IsTrue result ↔ (map seen columns.now ≡ map seen others.now) }

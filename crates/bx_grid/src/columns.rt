@@ -162,7 +162,7 @@ pub(crate) fn put_over_blanks(
 }
 
 impl Column {
-    /// Number of columns of its glyph after this one.
+    /// The number of columns that the glyph has after this one.
     fn after(&self) -> u16
         ensures { result ≡ columns_after (seen self.now) }
     {

@@ -238,7 +238,7 @@ fn packed_bytes(bytes: &[u8]) -> u64
     }
 }
 
-/// Appends a byte below a number.
+/// The number with `byte` appended as its lowest byte.
 fn under(high: u64, byte: u8) -> u64
     requires { high < 2 ^ 56 }
     ensures { result ≡ high * 256 + byte }

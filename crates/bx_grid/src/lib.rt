@@ -50,15 +50,15 @@ pub fn window_keeps_what_is_half_read()
         → ((after_resize t height width).run ≡ t.run) × ((after_resize t height width).half_read ≡ t.half_read) }
 {}
 
-/// A text of printable characters, read where no token is half read, extends the run, whatever the length of its
+/// A text of printable characters, read when no token is half read, extends the run, whatever the lengths of its
 /// characters in bytes.
 pub fn text_goes_on_with_the_run()
     ensures { (t : Terminal) (text : List ℕ) → IsUtf8 text → are_printable text ≡ true → t.half_read ≡ []
         → reads t text ≡ record t { run = t.run ++ text } }
 {}
 
-/// Two pictures of one size differ in whole glyphs: a column that both have belongs to a glyph that both have whole,
-/// and where a column differs, so do all columns of the glyph that either has there.
+/// Two pictures of one size differ in whole glyphs: a column that both have belongs to a glyph that both have as a whole,
+/// and if a column differs, so do all columns of the glyph that either picture has there.
 pub fn pictures_differ_in_whole_glyphs()
     ensures common { (p q : PictureState) → IsPicture p → IsPicture q → p.height ≡ q.height → p.width ≡ q.width
         → ShareWholeGlyphs p.columns q.columns }

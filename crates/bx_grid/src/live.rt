@@ -193,7 +193,7 @@ impl Live {
         Ok(())
     }
 
-    /// Shows the run, if it is not empty.
+    /// Puts the run's glyphs, if it is not empty.
     #[inline(always)]
     fn end_run(&mut self) -> Result<(), AllocError>
         ensures { OnOk result (self.new ≡ run_ended self.old) }
@@ -216,7 +216,7 @@ impl Live {
         }
     }
 
-    /// Shows the run and then a text, if possible without copying the text to the run.
+    /// Puts the glyphs of the run and then of a text, if possible without copying the text to the run.
     #[inline(always)]
     fn show(&mut self, text: &str) -> Result<(), AllocError>
         ensures { OnOk result (self.new ≡ run_ended (record self.old { run = self.old.run ++ text.now })) }
@@ -275,7 +275,7 @@ impl Live {
         Ok(())
     }
 
-    /// Reads a byte after the beginning of a token.
+    /// Reads a byte after a half-read token.
     fn go_on(&mut self, byte: u8) -> Result<(), AllocError>
         requires { 0 < length self.old.half_read }
         ensures { OnOk result (self.new ≡ after_next_byte self.old byte (fate (self.old.half_read ++ byte ∷ []))) }

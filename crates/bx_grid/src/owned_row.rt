@@ -63,7 +63,7 @@ impl Grid {
         }
     }
 
-    /// Replaces a row, counted from 0, by one of the same width. A row that shows the same is left alone.
+    /// Replaces a row, counted from 0, by one of the same width. A row that looks the same already is not written.
     ///
     /// Errors: `OutOfMemory`, and the row is blank.
     pub fn put_row(&mut self, row: u16, new: &OwnedRow) -> Result<(), OutOfMemory>

@@ -12,7 +12,7 @@ pub struct Sequence {
     pub len: usize,
 }
 
-/// A move with both its numbers, if `body` begins with the rest of one after CSI. Reads each number once.
+/// The move at the start of `body`, the bytes after CSI, if it gives both its numbers. Reads each number once.
 fn move_in(body: &[u8]) -> Option<Sequence>
     ensures { IfSome result (λ s. BeginWithSequence (0x1B ∷ 0x5B ∷ body.now) s.command s.len) }
 {

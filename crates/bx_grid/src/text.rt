@@ -75,7 +75,7 @@ fn first_len(bytes: &[u8]) -> usize
     }
 }
 
-/// Length in bytes of the longest front of such characters.
+/// Length in bytes of the longest prefix of characters for which `first_len` is not 0.
 #[inline(always)]
 fn printable_len(bytes: &[u8]) -> usize
     ensures within { result ≤ length bytes.now }
@@ -92,7 +92,7 @@ fn printable_len(bytes: &[u8]) -> usize
     len
 }
 
-/// The longest front of such characters, if it is not empty and an escape follows it.
+/// The prefix of `printable_len` bytes, if it is not empty and an escape follows it.
 #[inline(always)]
 pub fn text_before_escape(bytes: &[u8]) -> Option<&str>
     ensures { IfSome result (λ t. IsBeforeEscape t.now bytes.now) }

@@ -29,7 +29,7 @@ fn turn_columns(columns: &mut [Column], from: usize, to: usize)
 
 impl Grid {
     /// Turns `count` columns of a row, from a column on, to the other rendition: negative if they were normal, normal if they
-    /// were negative. Row and column count from 0. The columns must be those of whole glyphs. Allocates nothing.
+    /// were negative. Row and column count from 0. The columns must cover whole glyphs. Allocates nothing.
     pub fn turn(&mut self, row: u16, column: u16, count: u16)
         requires inside { row < self.old.height }
         requires fits { column + count ≤ self.old.width }

@@ -24,7 +24,7 @@ fn is_mark(c: char) -> bool
         || ('\u{64B}' <= c && c <= '\u{65F}')
 }
 
-/// Whether a character takes no column, and does not change the width of the one before it.
+/// Whether a character takes no column, and leaves the width of the character before it unchanged.
 #[inline(always)]
 #[tactic(auto, using(crate::proofs::Marks::mark_still))]
 fn is_still(c: char) -> bool

@@ -8,7 +8,7 @@ use Rattle.bx_input.specs.Table.{Row, fate, row_of, paste_end}
 use Rattle.bx_input.specs.Paste.{pasted_byte, pasted_part, paste_fate}
 
 -- The waiting bytes begin a sequence that the filter knows. Outside a paste, a sequence that went out unchanged may still be
--- open: its last byte may not have come. Within one, the last byte may have been a CR.
+-- open: its last byte is not read yet. Within a paste, the last byte may have been a CR.
 pub data State : Type 0 where
   Outside : (waiting : List ℕ) (is_open : Bool) → State
   Within : (waiting : List ℕ) (after_return : Bool) → State
@@ -35,7 +35,7 @@ abbrev pub apart_from : Bool → List ℕ → List ℕ
 apart_from is_open [] = if is_open then 0x18 ∷ [] else []
 apart_from is_open (b ∷ bs) = if is_open && not (b == 0x1B) then 0x18 ∷ b ∷ bs else b ∷ bs
 
--- the row's bytes go out, or a paste starts
+-- a known sequence is whole: the bytes of its row go out, or a paste starts
 abbrev pub ended : Bool → Option Row → Step
 ended is_open None = step_to (Within [] false) (apart_from is_open [])
 ended is_open (Some r) = step_to (Outside [] false) (apart_from is_open r.becomes)
@@ -50,7 +50,7 @@ fresh Waits is_open b = step_to (Outside (b ∷ []) is_open) []
 fresh Ends is_open b = ended is_open (row_of (b ∷ []))
 fresh Breaks is_open b = step_to (Outside [] (is_open && is_within 0x20 0x3F b)) (b ∷ [])
 
--- the waiting bytes go out unchanged, and the byte is read afresh
+-- the byte breaks the sequence: the waiting bytes go out unchanged, and the byte is read as if none waited
 abbrev pub broken : List ℕ → Bool → ℕ → Step
 broken waiting is_open b = with_front waiting (fresh (fate (b ∷ [])) (is_open || not (is_empty waiting)) b)
 

@@ -53,7 +53,7 @@ abbrev pub state_of : Place → State
 state_of (place.Outside waiting is_open) = spec.Outside (begun waiting) is_open
 state_of (place.Within waiting after_return) = spec.Within (held_back waiting) after_return
 
--- the bytes that go out
+-- the bytes of an output
 abbrev pub bytes_of : Output → List ℕ
 bytes_of output = output.before.now ++ (output.key.now ++ option_to_list output.byte)
 
@@ -63,7 +63,7 @@ becomes_of read = option_map (λ (r : Row). r.becomes) (row_of read)
 abbrev pub BeginsByEscape : List ℕ → Type 0
 BeginsByEscape bs = slice_index bs 0 ≡ 0x1B
 
--- the answer fits these bytes: those that waited, and one more
+-- `After` describes the bytes `read`: the ones that waited, and one more
 abbrev pub Tells : After → List ℕ → Type 0
 Tells (after.Waits beginning) read = (fate read ≡ Waits) × (begun beginning ≡ read)
 Tells (after.Becomes bytes) read = (fate read ≡ Ends) × (becomes_of read ≡ Some bytes.now) × BeginsByEscape bytes.now
@@ -78,6 +78,6 @@ TellsInPaste after_in_paste.Drops read = (paste_fate read ≡ Ends) × (bytes_eq
 TellsInPaste after_in_paste.EndsPaste read = (paste_fate read ≡ Ends) × (bytes_eq read paste_end ≡ true)
 TellsInPaste after_in_paste.Breaks read = paste_fate read ≡ Breaks
 
--- the filter's state and output are those of a step
+-- the filter goes to the step's state, with the step's output
 abbrev pub Goes : Place × Output → Step → Type 0
 Goes went s = (state_of went.0 ≡ s.state) × (bytes_of went.1 ≡ s.output)

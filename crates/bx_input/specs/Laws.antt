@@ -20,7 +20,7 @@ abbrev pub waiting_in : State → List ℕ
 waiting_in (Outside waiting is_open) = waiting
 waiting_in (Within waiting after_return) = waiting
 
--- no more than five bytes ever wait
+-- at most five bytes wait
 abbrev pub WaitsForFive : Type 0
 WaitsForFive = (bs : List ℕ) → length (waiting_in (run start bs).state) ≤ 5
 
@@ -69,7 +69,7 @@ GrowsFiveTimes = (bs : List ℕ) → length (filtered bs) ≤ 5 * length bs
 abbrev pub is_key_byte : ℕ → Bool
 is_key_byte b = list_any (λ (r : Row). bytes_eq r.sequence (b ∷ [])) control_rows
 
--- without such bytes three bytes become five at most
+-- without such bytes, three bytes become at most five
 abbrev pub GrowsByTwoThirds : Type 0
 GrowsByTwoThirds = (bs : List ℕ) → list_all (λ b. not (is_key_byte b)) bs ≡ true → 3 * length (filtered bs) ≤ 5 * length bs
 

@@ -56,6 +56,6 @@ paste_sequences = exact paste_end ∷ (One 0xC2 0xC2 ∷ One 0x80 0x9F ∷ []) �
 abbrev pub paste_fate : List ℕ → Fate
 paste_fate bs = fate_in paste_sequences bs
 
--- the output for bytes that were broken off
+-- the output for the beginning of a sequence that the next byte breaks
 abbrev pub pasted_part : List ℕ → List ℕ
 pasted_part bs = flat_map (pasted_byte false) bs

@@ -16,7 +16,7 @@ pub record IsFiltered (reader reader' writer writer' : Option (List ℕ)) (bytes
   pub ends : IsAtEnd reader'
   pub writes : Appends writer writer' (filtered bytes)
 
--- the output of these bytes was written, except at most that of the last 256
+-- the output of these bytes was written, except at most the output of the last 256
 pub record IsOneReadLate (writer writer' : Option (List ℕ)) (bytes : List ℕ) : Type 0 where
   pub before : List ℕ
   pub last : List ℕ
@@ -25,7 +25,7 @@ pub record IsOneReadLate (writer writer' : Option (List ℕ)) (bytes : List ℕ)
   pub few : length last ≤ 256
   pub appends : Appends writer writer' ((run start before).output ++ more)
 
--- These bytes were read, and a front of their output was written. Waiting bytes go out only at the reader's end.
+-- These bytes were read, and a prefix of their output was written. Waiting bytes go out only at the reader's end.
 pub record IsBrokenOff (reader reader' writer writer' : Option (List ℕ)) (bytes : List ℕ) : Type 0 where
   pub reads : Consumes reader reader' bytes
   pub writes : WritesFront (run start bytes).output writer writer' ⊎ (IsAtEnd reader' × WritesFront (filtered bytes) writer writer')

@@ -49,7 +49,7 @@ shifted_keys =
     ∷ row (csi (codes "1;2F")) (csi (codes "F")) RowEnd
     ∷ []
 
--- the same of rxvt
+-- the same keys with Shift, as rxvt sends them
 abbrev shifted_rxvt_keys : List Row
 shifted_rxvt_keys =
     row (csi (codes "a")) (csi (codes "A")) Up
@@ -95,7 +95,7 @@ help_keys =
     ∷ row (csi (codes "[A")) (csi (codes "80~")) Help
     ∷ []
 
--- F3, of the same
+-- F3, of the same terminals
 abbrev find_keys : List Row
 find_keys =
     row (ss3 (codes "R")) (csi (codes "70~")) Find

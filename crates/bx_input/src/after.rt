@@ -22,7 +22,7 @@ pub enum After {
     Digit(u8),
     /// They are the start of a paste.
     Pastes,
-    /// They begin nothing.
+    /// They begin no known sequence.
     Breaks,
 }
 
@@ -35,7 +35,7 @@ pub enum AfterInPaste {
     Drops,
     /// They are the paste's end.
     EndsPaste,
-    /// They begin nothing.
+    /// They begin no known sequence.
     Breaks,
 }
 

@@ -10,7 +10,7 @@ pub fn in_any_pieces()
     ensures { ComesInPieces }
 {}
 
-/// No more than five bytes ever wait.
+/// At most five bytes wait.
 pub fn waits_for_five()
     ensures { WaitsForFive }
 {}

@@ -1,6 +1,6 @@
 //! The filter's output for a byte.
 
-/// The output for a byte of input: some bytes, perhaps those of a key, and perhaps one more.
+/// The output for one byte of input: first bytes, a key's sequence and one more byte, of which each may be missing.
 #[derive(Clone, Copy, Debug)]
 pub struct Output {
     /// The first bytes, at most five.

@@ -49,7 +49,7 @@ fn append(out: &mut Vec<u8>, output: Output) -> Result<(), AllocError>
 
 /// Writes the bytes, if there are any, and flushes.
 ///
-/// Errors: `WriteFault`, with a front of them written.
+/// Errors: `WriteFault`; a prefix of them was written.
 fn send<W: Write>(writer: &mut W, bytes: &[u8]) -> Result<(), FilterFault>
     ensures all { OnOk result (Appends (W.contents writer.old) (W.contents writer.new) bytes.now) }
     ensures front { WritesFront bytes.now (W.contents writer.old) (W.contents writer.new) }
@@ -67,9 +67,9 @@ fn send<W: Write>(writer: &mut W, bytes: &[u8]) -> Result<(), FilterFault>
 
 /// Filters all of the reader's input to its end: reads at most 256 bytes at a time, and writes their output in one write.
 ///
-/// Errors: `ReadFault`, and `ReadLimit` after 1,000,000,000,000 reads, with the output of all bytes read written;
-/// `WriteFault` and `OutOfMemory`, with a front of it written that lacks at most the output of the last read. The first
-/// fault ends the run.
+/// Errors: `ReadFault`, and `ReadLimit` after 1,000,000,000,000 reads: the output of all bytes read was written. `WriteFault`
+/// and `OutOfMemory`: a prefix of it was written, which lacks at most the output of the last read. The first fault ends the
+/// run.
 pub fn run<R: Read, W: Write>(
     alloc: Global,
     reader: &mut R,
@@ -99,7 +99,7 @@ pub fn run<R: Read, W: Write>(
 
 /// Filters bytes and writes their output.
 ///
-/// Errors: `WriteFault` and `OutOfMemory`, with a front of it written.
+/// Errors: `WriteFault` and `OutOfMemory`; a prefix of it was written.
 fn pass<W: Write>(
     alloc: Global,
     filter: &mut Filter,

@@ -51,7 +51,7 @@ fn apart(is_open: bool, byte: Option<u8>) -> Output
     output(if is_open { b"\x18" } else { b"" }, byte)
 }
 
-/// Reads a byte that breaks off the waiting bytes.
+/// Reads a byte that does not continue the waiting bytes' sequence.
 fn broken_off(waiting: Beginning, is_open: bool, byte: u8) -> (Place, Output)
     ensures { Goes result (broken (begun waiting) is_open byte) }
 {
@@ -83,7 +83,7 @@ fn broken_off(waiting: Beginning, is_open: bool, byte: u8) -> (Place, Output)
     }
 }
 
-/// These bytes, and perhaps one more.
+/// The output of these bytes, and perhaps one more.
 fn output(before: &'static [u8], byte: Option<u8>) -> Output
     ensures { bytes_of result ≡ before.now ++ option_to_list byte }
 {
@@ -124,7 +124,7 @@ fn waits(waiting: Held) -> Place
     }
 }
 
-/// Reads a byte that breaks off the waiting bytes within a paste.
+/// Reads a byte within a paste that does not continue the waiting bytes' sequence.
 fn broken_off_in_paste(waiting: Held, after_return: bool, byte: u8) -> (Place, Output)
     ensures { Goes result (with_front (pasted_part (held_back waiting)) (fresh_in_paste (paste_fate (byte ∷ [])) after_return byte)) }
 {

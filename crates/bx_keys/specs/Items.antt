@@ -22,7 +22,7 @@ single_shift = escape ∷ One 0x4F 0x4F ∷ One 0x20 0x7E ∷ []
 abbrev pub long_escape : List Piece
 long_escape = escape ∷ One 0x20 0x2F ∷ Many 0x20 0x2F ∷ One 0x30 0x7E ∷ []
 
--- ESC and a final byte, except those of CSI and SS3
+-- ESC and a final byte other than the one of CSI or SS3
 abbrev pub short_escapes : List (List Piece)
 short_escapes =
     (escape ∷ One 0x30 0x4E ∷ [])

@@ -124,7 +124,7 @@ first_key (key ∷ keys) = Some key
 abbrev pub key_after : List ℕ → ℕ → Option Key
 key_after rest b = first_key (decoding (rest ++ b ∷ [])).keys
 
--- the bytes that wait after it
+-- the bytes that wait after that byte
 abbrev pub rest_after : List ℕ → ℕ → List ℕ
 rest_after rest b = (decoding (rest ++ b ∷ [])).rest
 
@@ -132,7 +132,7 @@ rest_after rest b = (decoding (rest ++ b ∷ [])).rest
 abbrev pub head_of : List ℕ → List ℕ
 head_of rest = take 12 rest
 
--- the keys of bytes read one by one, where only that head of the waiting bytes is kept
+-- the keys of bytes read one by one by a decoder that keeps only the first twelve waiting bytes
 abbrev pub keys_from : List ℕ → List ℕ → List Key
 keys_from rest [] = []
 keys_from rest (b ∷ bs) = option_to_list (key_after rest b) ++ keys_from (head_of (rest_after rest b)) bs

@@ -8,12 +8,12 @@ use Rattle.bx_keys.specs.Keys.{Decoding, decoding, key_of}
 use Rattle.bx_keys.specs.Waiting.{fate, IsWaiting}
 use Rattle.bx_keys.specs.declared.key.Key.{Key}
 
--- the bytes that input leaves wait, and bytes that wait are left as they are
+-- the bytes that input leaves wait; read again alone, they still wait
 pub record RestsWait : Type 0 where
   pub left : (bs : List ℕ) → IsWaiting (decoding bs).rest
   pub same : (rest : List ℕ) → IsWaiting rest ↔ (decoding rest ≡ record { keys = []; rest = rest })
 
--- input cut in two has the keys of the first part, then those of the bytes that waited and the second
+-- input cut in two has the keys of the first part, then the keys of the bytes that waited followed by the second part
 abbrev pub ComesInPieces : Type 0
 ComesInPieces = (bs more : List ℕ) →
     let first : Decoding = decoding bs in
@@ -40,7 +40,7 @@ AreParts (part ∷ parts) rest = IsPart part (concat parts ++ rest) × AreParts 
 abbrev pub keys_of_items : List (List ℕ) → List Key
 keys_of_items parts = flat_map (λ item. option_to_list (key_of item)) (filter is_item parts)
 
--- Input is a sequence of parts, and then bytes that wait. However it is divided so, its keys are those of its items.
+-- Input is a sequence of parts, and then bytes that wait. Its keys are the keys of its items, in each division of this kind.
 pub record HasParts : Type 0 where
   pub cut : (bs : List ℕ) → (parts : List (List ℕ)) × (concat parts ++ (decoding bs).rest ≡ bs) × AreParts parts (decoding bs).rest
   pub decoded : (parts : List (List ℕ)) (rest : List ℕ) → AreParts parts rest

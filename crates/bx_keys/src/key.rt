@@ -35,19 +35,19 @@ pub enum Key {
     Redo,
     /// Paints the whole picture again.
     Repaint,
-    /// Switches to the next direction that paragraphs may be given.
+    /// Switches to the next base direction: Auto, Ltr, Rtl.
     Direction,
-    /// Sets the mark at the place, or takes it away there.
+    /// Sets the mark at the place, or removes it if it is there.
     Mark,
-    /// Copies the region, or the line where it is empty.
+    /// Copies the region, or the line if the region is empty.
     Copy,
-    /// Cuts the region, or the line where it is empty.
+    /// Cuts the region, or the line if the region is empty.
     Cut,
     /// Inserts the copied or cut text at the place.
     Put,
-    /// Begins a search, or goes to its next match.
+    /// Begins a search; in a search, goes to the next match.
     Find,
-    /// Begins a search, or goes to its match before.
+    /// Begins a search; in a search, goes to the previous match.
     FindBack,
     /// One word to the left on the screen.
     WordLeft,

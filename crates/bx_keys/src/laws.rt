@@ -12,7 +12,7 @@ pub fn items_are_apart()
     ensures none_longer { NoneBeginsLonger items }
 {}
 
-/// The bytes that input leaves wait for more, and bytes that wait are left as they are.
+/// The bytes that input leaves wait for more; read again alone, they still wait.
 pub fn rests_wait()
     ensures { RestsWait }
 {}
@@ -22,8 +22,8 @@ pub fn in_any_pieces()
     ensures { ComesInPieces }
 {}
 
-/// Input is whole items, bytes that are dropped, and at its end bytes that wait. Its keys are those of its items in order,
-/// the same for every such division.
+/// Input is whole items, bytes that are dropped, and at its end bytes that wait. Its keys are the keys of its items in
+/// order, the same in every division of this kind.
 pub fn input_has_parts()
     ensures { HasParts }
 {}

@@ -11,7 +11,7 @@ abbrev pub ended_within : ℕ → List Lengths → List Lengths
 ended_within k [] = []
 ended_within k (p ∷ ps) = if p.separator == 0 then [] else if nat_le (bytes_of p) k then p ∷ ended_within (k - bytes_of p) ps else []
 
--- the paragraphs of a text from one offset on that end with a separator at or before another
+-- the paragraphs from one offset of a text that end with a separator at or before a later offset
 abbrev pub ended_between : Data → List ℕ → ℕ → ℕ → List Lengths
 ended_between says text start stop = ended_within (stop - start) (lengths says (drop start text))
 

@@ -27,7 +27,7 @@ room_at s at = free_before s.blocks at + block_capacity * s.spares
 abbrev pub separator_of : List Lengths → ℕ → ℕ
 separator_of ps n = (get_or ps n (record { body = 0; separator = 0 })).separator
 
--- the paragraph that an offset falls in: it ends past the offset, or it is the one after all of these
+-- the paragraph that an offset falls in: it ends past the offset, or it is the text's last, which is not in a block
 pub record IsPosition (ps : List Lengths) (offset : ℕ) (p : Position) : Type 0 where
   pub number : p.number ≤ length ps
   pub start : p.start ≡ total (take p.number ps)

@@ -19,7 +19,7 @@ pub record IndexState : Type 0 where
 abbrev pub index_of : Inside → IndexState
 index_of i = record { paragraphs = flat i.front.blocks ++ record { body = i.last; separator = 0 } ∷ []; room = i.room }
 
--- enough spare blocks for those that an edit cuts, and those that it fills: no text has more separators than bytes
+-- enough spare blocks for the blocks that an edit splits and fills: no text has more separators than bytes
 abbrev pub HasSpares : ℕ → ℕ → Type 0
 HasSpares spares separators = min separators largest_text + 2 * block_capacity + 2 ≤ block_capacity * spares
 

@@ -42,7 +42,7 @@ EachEnds says (p ∷ q ∷ ps) = IsSeparator says p.separator × EachEnds says (
 abbrev pub EndWithSeparators : Type 0
 EndWithSeparators = (says : Data) (text : List ℕ) → EachEnds says (paragraphs says text)
 
--- no CR LF is cut: if a paragraph ends with CR alone, the next one is not an LF alone
+-- no CR LF is split: after a paragraph that ends with CR alone, the next one is not an LF alone
 abbrev pub KeepCrLf : List Paragraph → Type 0
 KeepCrLf [] = Unit {0}
 KeepCrLf (p ∷ []) = Unit {0}

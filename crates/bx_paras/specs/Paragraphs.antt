@@ -5,7 +5,7 @@ use Rattle.bx_ucd.specs.declared.class.Class.{Class}
 use Rattle.bx_ucd.specs.declared.class.Class.TheVariants.{B}
 use Rattle.bx_paras.specs.declared.lengths.Lengths.{Lengths}
 
--- a paragraph: the bytes of its body, and those of the separator that ends it, none in the last
+-- a paragraph: the bytes of its body, and the bytes of the separator that ends it, none in the last
 pub record Paragraph : Type 0 where
   pub body : List ℕ
   pub separator : List ℕ

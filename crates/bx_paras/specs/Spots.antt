@@ -1,4 +1,4 @@
--- The place of a paragraph in blocks.
+-- Where a paragraph is stored in the blocks.
 use Rattle.std.specs.Prelude.{◌≡◌, ℕ, ◌+◌, ◌<◌, ◌≤◌, List, [], ◌∷◌, ◌++◌, length, take, get_or}
 use Rattle.bx_paras.specs.declared.lengths.Lengths.{Lengths}
 use Rattle.bx_paras.specs.declared.spot.Spot.{Spot}
@@ -8,7 +8,7 @@ use Rattle.bx_paras.specs.Flat.{flat}
 abbrev pub closed : List (List Lengths) → ℕ → List Lengths
 closed bs last = flat bs ++ record { body = last; separator = 0 } ∷ []
 
--- the place is that of the paragraph with its number: in a block, or after them all
+-- the spot is where the paragraph of its number is stored: in a block, or after all blocks
 pub record IsSpot (bs : List (List Lengths)) (s : Spot) : Type 0 where
   pub inside : s.block ≤ length bs
   pub counted : s.number ≡ length (flat (take s.block bs)) + s.within

@@ -69,7 +69,7 @@ impl Block {
         self.lengths.as_slice()
     }
 
-    /// Whether another paragraph fits in.
+    /// Whether the block has room for another paragraph.
     pub fn has_room(&self) -> bool
         ensures { result ≡ nat_lt (length self.now) block_capacity }
     {
@@ -87,7 +87,7 @@ impl Block {
         self.lengths.push(paragraph).unwrap();
     }
 
-    /// Moves the paragraphs from the index `at` on into another block, whose own are dropped.
+    /// Moves the paragraphs from the index `at` on into another block, and drops that block's own.
     #[tactic(auto, using(crate::proofs::Totals::total_rest))]
     pub fn cut(&mut self, at: usize, mut rest: Block) -> Block
         requires { at ≤ length self.old }

@@ -11,7 +11,7 @@ use crate::splices::{cut_at, join_at, push_at, remove_blocks};
 use std::alloc::{AllocError, Global};
 use std::marker::Model;
 
-/// Number of spare blocks to keep: as many as an edit takes that adds few paragraphs.
+/// Number of spare blocks to keep: enough for an edit that adds few paragraphs.
 const SPARES_KEPT: usize = 4;
 
 /// Paragraphs that end with a separator, in blocks, and spare blocks.

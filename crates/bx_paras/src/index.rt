@@ -48,7 +48,7 @@ impl Model for Index {
     ghost invariant = { IsIndex };
 }
 
-/// The paragraphs at the edges of a change: the one with the byte before it, and the one that goes on after it.
+/// The old paragraphs at the edges of a change: the one with the byte before it, and the one that the text after it begins in.
 fn touched<D: BidiData>(
     front: &Blocks,
     last: u32,
@@ -163,8 +163,8 @@ impl Index {
     }
 
     /// Makes room: after Ok the index follows an edit without an allocation if the added text has at most this number of
-    /// separators. No text has more of them than bytes, so a count of bytes will do. The edit frees the room that is
-    /// left.
+    /// separators. No text has more of them than bytes, so a count of bytes suffices. The edit frees the rest of the
+    /// room.
     ///
     /// Errors: `OutOfMemory`, and the index and the room made before are unchanged.
     pub fn ready(&mut self, separators: usize) -> Result<(), OutOfMemory>
@@ -179,9 +179,9 @@ impl Index {
         Ok(())
     }
 
-    /// Follows an edit of the text. Reads only the added text and what is next to it. Allocates nothing and always succeeds:
-    /// the index was that of the text before the change, by the same data, and `ready` made room for the added
-    /// separators.
+    /// Updates the index after an edit of the text. Reads only the added text and the bytes next to it. Allocates nothing and
+    /// always succeeds: the caller has the index of the text before the change, by the same tables, and `ready` made room for
+    /// the added separators.
     pub fn edited<D: BidiData>(&mut self, text: &Text, tables: &D, change: &Change)
         requires was { (old : List ℕ)
             × IsUtf8 old

@@ -2,7 +2,7 @@
 
 ghost use Rattle.bx_paras.specs.Laws.{BodiesHaveNone, EndWithSeparators, JoinToText, KeepEachCrLf, MatchSpans};
 
-/// The paragraphs of a text, concatenated, are the text. All but the last end with one separator. No CR LF is cut.
+/// The paragraphs of a text, concatenated, are the text. All but the last end with one separator. No CR LF is split.
 pub fn paragraphs_join_to_text()
     ensures joined { JoinToText }
     ensures separators { EndWithSeparators }

@@ -1,4 +1,4 @@
-//! A text with what a scan for its paragraphs looks up.
+//! A text with the tables for a scan for its paragraphs.
 
 ghost use Rattle.bx_paras.specs.LeadBytes.{CoversSeparators};
 

@@ -1,4 +1,4 @@
-//! Places of paragraphs in blocks.
+//! Where paragraphs are stored in the blocks.
 
 ghost use Rattle.std.specs.Prelude.{◌≡◌, ◌+◌, ◌-◌, ◌<◌, ◌≤◌, [], length, take, get_or, MatchOption};
 ghost use Rattle.bx_paras.specs.Flat.{flat};
@@ -7,7 +7,7 @@ ghost use Rattle.bx_paras.specs.Spots.{IsSpot, closed};
 use crate::blocks::Blocks;
 use crate::lengths::Lengths;
 
-/// The place of a paragraph: in a block, or after all blocks if it is the last of the text.
+/// Where a paragraph is stored: in a block, or after all blocks if it is the last of the text.
 #[derive(Clone, Copy, PartialEq, Eq, Debug)]
 pub struct Spot {
     /// The paragraph's number, from 0.
@@ -18,7 +18,7 @@ pub struct Spot {
     pub within: usize,
 }
 
-/// The place of the paragraph of a number.
+/// The spot of the paragraph with a number, from 0.
 pub fn spot_of(blocks: &Blocks, number: usize) -> Spot
     requires { number ≤ length (flat blocks.now.blocks) }
     ensures number { result.number ≡ number }
@@ -72,7 +72,7 @@ fn last_filled(blocks: &Blocks, to: usize) -> (usize, usize)
     (0, 0)
 }
 
-/// The place of the next paragraph; none after the last.
+/// The spot of the next paragraph; none after the last.
 #[tactic(auto, using(crate::proofs::Flats::length_flat_more))]
 pub fn next_spot(blocks: &Blocks, spot: Spot) -> Option<Spot>
     requires { IsSpot blocks.now.blocks spot }
@@ -96,7 +96,7 @@ pub fn next_spot(blocks: &Blocks, spot: Spot) -> Option<Spot>
     })
 }
 
-/// The place of the previous paragraph; none before the first.
+/// The spot of the previous paragraph; none before the first.
 pub fn previous_spot(blocks: &Blocks, spot: Spot) -> Option<Spot>
     requires { IsSpot blocks.now.blocks spot }
     ensures { MatchOption result (spot.number ≡ 0) (λ s. (s.number + 1 ≡ spot.number) × IsSpot blocks.now.blocks s) }
@@ -120,7 +120,7 @@ pub fn previous_spot(blocks: &Blocks, spot: Spot) -> Option<Spot>
     })
 }
 
-/// The paragraph at a place. The last one has `last` bytes.
+/// The paragraph at a spot. The text's last one has `last` bytes.
 pub fn paragraph_at(blocks: &Blocks, last: u32, spot: Spot) -> Lengths
     requires { IsSpot blocks.now.blocks spot }
     ensures { result ≡ get_or (closed blocks.now.blocks last) spot.number result }

@@ -17,8 +17,8 @@ use Rattle.bx_explicit.specs.OpenChains.{is_over, with_run, sequence_of_runs}
 use Rattle.bx_explicit.specs.Walk.{AreGiven, ending, sequences_of}
 use Rattle.bx_explicit.proofs.LevelRuns.{runs_within}
 use Rattle.bx_explicit.proofs.Ending.{ending_over, ending_open}
-use Rattle.bx_explicit.proofs.Waits.{indexes_of_runs}
-use Rattle.bx_explicit.proofs.Overtaken.{given_by_levels}
+use Rattle.bx_explicit.proofs.PendingChains.{indexes_of_runs}
+use Rattle.bx_explicit.proofs.SequenceOrder.{given_by_levels}
 use Rattle.bx_explicit.proofs.Ordered.{drop_on}
 use Rattle.bx_resolve.specs.Laws.{all_indexes}
 

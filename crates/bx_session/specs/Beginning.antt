@@ -5,7 +5,7 @@ use Rattle.bx_ucd.specs.Data.{Data}
 use Rattle.bx_session.specs.Session.{Session, at_opening, after_going, as_changed, after_journal, with_painting}
 use Rattle.bx_session.specs.Painting.{QueuesPicture}
 
--- a text in a window, the offset that the cursor goes to, if any, whether the text is unsaved, and the bytes of a journal, maybe none
+-- a text in a window, the cursor's first offset, if one is given, whether the text is unsaved, and a journal's bytes, maybe none
 pub record Beginning : Type 0 where
   pub text : List ℕ
   pub height : ℕ
@@ -15,7 +15,7 @@ pub record Beginning : Type 0 where
   pub unsaved : Bool
   pub journal : List ℕ
 
--- the cursor goes to the offset, if there is one
+-- after the cursor goes to the offset, if one is given
 abbrev pub after_going_to : Data → Session → Option ℕ → Session
 after_going_to d s None = s
 after_going_to d s (Some offset) = after_going d s offset

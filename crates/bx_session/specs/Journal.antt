@@ -20,20 +20,20 @@ waiting Empty = []
 waiting (Waiting bytes) = vec_items bytes
 waiting Lost = []
 
--- these bytes wait in memory, or they were lost
+-- these bytes wait in memory, or some bytes were lost
 abbrev pub Holds : Backlog → List ℕ → Type 0
 Holds Empty bytes = ⊥
 Holds (Waiting held) bytes = vec_items held ≡ bytes
 Holds Lost bytes = Unit {0}
 
--- a count of failures after `n` more
+-- the count of failures after `n` more
 abbrev pub after_faults : ℕ → ℕ → ℕ
 after_faults zero count = count
 after_faults (suc n) count = one_more (after_faults n count)
 
--- Bytes are handed to a recorder. The bytes that waited, followed by the new ones, fall into three parts in this order: the first are
--- appended to the journal, the next wait, the last are lost. After a loss the recorder never changes. So the journal always has a
--- beginning of the input, and all of it if the backlog is empty. An empty backlog grows only if a call of the journal fails.
+-- A recorder takes bytes. The waiting bytes and then the new ones have three parts, in this order: the first is appended to the
+-- journal, the second waits, the third is lost. After a loss the recorder never changes. So the journal always has a prefix of
+-- the input, and all of it if the backlog is empty. An empty backlog grows only if a call of the journal fails.
 pub record HasKept {J : Type 0} (contents : J → Option (List ℕ)) (failures : J → ℕ) (old new : RecorderState J) (bytes : List ℕ) : Type 0 where
   pub appended : List ℕ
   pub lost : List ℕ
@@ -45,13 +45,13 @@ pub record HasKept {J : Type 0} (contents : J → Option (List ℕ)) (failures :
   pub counted : failures new.journal ≡ after_faults faults (failures old.journal)
   pub fault : old.backlog ≡ Empty → new.backlog ≢ Empty → 1 ≤ faults
 
--- a property that is asked for only while bytes wait, even if they are none
+-- a property that must hold while the backlog is Waiting, even with no bytes
 abbrev pub IfWaiting : Backlog → Type 0 → Type 0
 IfWaiting Empty P = Unit {0}
 IfWaiting (Waiting bytes) P = P
 IfWaiting Lost P = Unit {0}
 
--- one call of a recorder: bytes wait after it only if the journal failed in it, so all that waited before were tried again
+-- one call of a recorder: bytes wait after it only if the journal failed in it, so it tried to append all waiting bytes
 abbrev pub HasTried : {J : Type 0} → (J → ℕ) → RecorderState J → RecorderState J → Type 0
 HasTried failures old new = IfWaiting new.backlog (failures new.journal ≡ one_more (failures old.journal))
 

@@ -19,7 +19,7 @@ abbrev pub Updates : Option PictureState → List ℕ → PictureState → Type 
 Updates (Some old) bytes new = (t : Terminal) → Shows t old → Shows (reads t bytes) new
 Updates None bytes new = (t : Terminal) → IsIdle t → t.height ≡ new.height → t.width ≡ new.width → Shows (reads t bytes) new
 
--- whole tokens were appended to the bytes pending before; they turn the picture that the screen was taken to show into the session's
+-- whole tokens were appended to the pending bytes; they change the picture that the screen was taken to show into the session's
 pub record Paints (d : Data) (before : List ℕ) (old : Option PictureState) (new : Session) (bytes : List ℕ) : Type 0 where
   pub appends : new.pending ≡ before ++ bytes
   pub tokens : AreWholeTokens bytes
@@ -33,7 +33,7 @@ pub record Paints (d : Data) (before : List ℕ) (old : Option PictureState) (ne
 abbrev pub QueuesPicture : Data → List ℕ → Option PictureState → Session → Type 0
 QueuesPicture d before known new = (bytes : List ℕ) × Paints d before known new bytes
 
--- a byte that was not refused and is not idle; the end of a Save does not affect the knowledge of the screen
+-- a byte that was not refused and is not idle; the end of a Save leaves the screen's content known or unknown as before
 abbrev pub FeedPaints : Data → Session → ℕ → Session → Type 0
 FeedPaints d old b new = QueuesPicture d old.pending (unpainted_after_byte d true old b).known new
 

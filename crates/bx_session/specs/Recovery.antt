@@ -28,7 +28,7 @@ pub record HasBack (had replayed : Session) : Type 0 where
   pub rest : replayed.rest ≡ had.rest
   pub goes_on : replayed.editor.ended ≡ false
 
--- in the middle of a replay, or of a search, also how far the search has come
+-- in the middle of a replay, or of a search, also the state of the search
 pub record HasBackMidway (had replayed : Session) : Type 0 where
   pub parts : HasBack had replayed
   pub seek : replayed.editor.seek ≡ had.editor.seek
@@ -40,8 +40,8 @@ pub record RecoveryGivesBack : Type 0 where
   pub gives_back : (d : Data) (text : List ℕ) (height width : ℕ) (base : Base) (store store' : StoreState) (answered : List ByteAnswer)
       (new : Session) → FeedsAll d (at_opening d text height width base) store answered new store' → RefusesNoKey answered
       → HasBack new (after_journal d (at_opening d text height width base) (bytes_of answered))
-  -- the same from any start at which both agree, in a search too: after the cursor was sent to a line, or in a session that was
-  -- recovered from a journal that ends outside a search
+  -- the same from any start at which the two sessions agree, in a search too: such a start comes after the cursor was sent to
+  -- a line, or after a recovery from a journal that ends outside a search
   pub keeps_up : (d : Data) (old replayed : Session) (store store' : StoreState) (answered : List ByteAnswer) (new : Session)
       → HasBackMidway old replayed → FeedsAll d old store answered new store' → RefusesNoKey answered
       → HasBackMidway new (after_replaying d replayed (bytes_of answered))

@@ -87,7 +87,7 @@ at_opening d text height width base = with_painting d (before_painting text heig
 abbrev pub key_of_byte : Session → ℕ → Option Key
 key_of_byte s b = if s.editor.ended then None else key_after s.rest b
 
--- the byte is spent
+-- the byte is consumed
 abbrev pub after_spending : Session → ℕ → Session
 after_spending s b = if s.editor.ended then s else record s { rest = head_of (rest_after s.rest b) }
 
@@ -126,8 +126,7 @@ status_of s = if s.editor.ended then Ended else Running
 
 -- ---- a byte of a journal
 
--- the effect of a key in a replay, as a search is on or not: a Save ends a search, and does nothing else; a Quit gives a search
--- up, and does nothing without one
+-- the effect of a key in a replay: a Save only ends a search; a Quit gives up a search, and outside one does nothing
 abbrev pub after_replayed : Data → Seek → Editor → Key → Editor
 after_replayed d seek e Save = without_search e
 after_replayed d Off e Quit = e
@@ -138,7 +137,7 @@ abbrev pub after_all_replayed : Data → Editor → List Key → Editor
 after_all_replayed d e [] = e
 after_all_replayed d e (key ∷ keys) = after_all_replayed d (after_replayed d e.seek e key) keys
 
--- the session's change goes with it
+-- the session after such a key
 abbrev pub session_after_replayed : Data → Seek → Session → Key → Session
 session_after_replayed d seek s Save = record s { editor = without_search s.editor }
 session_after_replayed d Off s Quit = s

@@ -3,7 +3,7 @@
 /// Why a session refuses a call.
 #[derive(Clone, Copy, PartialEq, Eq, Debug)]
 pub enum Refused {
-    /// Out of memory while applying a key or moving the cursor. Nothing has changed, but a key's bytes are spent.
+    /// Out of memory while applying a key or moving the cursor. A key's bytes are consumed; nothing else has changed.
     Edit,
     /// Out of memory while painting: the key or the size is applied, and the next call that succeeds paints.
     Paint,

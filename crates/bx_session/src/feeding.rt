@@ -102,7 +102,8 @@ impl<D: BidiData + Drop> Session<D> {
 
     /// Decodes a byte and applies the key that it completes. Returns whether to paint.
     ///
-    /// Errors: `Edit` if memory runs out, only for a key that edits, moves, copies or finds; the byte is spent, and nothing else changes.
+    /// Errors: `Edit` if memory runs out, only for a key that edits, moves, copies or finds; the byte is consumed, and nothing
+    /// else has changed.
     fn enter<S: Store>(&mut self, byte: u8, store: &mut S) -> Result<bool, Refused>
         ensures after_byte { (saved : Bool)
             × StoreAfter (is_save_byte self.old.session byte) saved self.old.session.editor.content.text
@@ -126,7 +127,7 @@ impl<D: BidiData + Drop> Session<D> {
 
     /// Handles a byte of input. A byte that completes no key allocates nothing if no painting is owed.
     ///
-    /// Errors: `Edit` if memory runs out for the key: its bytes are spent, and nothing else has changed. `Paint` if it runs
+    /// Errors: `Edit` if memory runs out for the key: its bytes are consumed, and nothing else has changed. `Paint` if it runs
     /// out while painting: the key is applied, and the queue is unchanged.
     pub fn feed<S: Store>(&mut self, byte: u8, store: &mut S) -> Result<Status, Refused>
         ensures after_byte { Feeds (D.data self.old.tables) self.old.session (store_state S.contents S.failure_count store.old) byte result

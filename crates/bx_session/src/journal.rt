@@ -19,8 +19,8 @@ pub struct JournalFault {
     pub written: usize,
 }
 
-/// Where the input is kept. The count of failures rises by one with each call that returns a fault, up to the largest u64, and with
-/// no other call.
+/// A store of the input's bytes. Each call that returns a fault adds one to the count of failures, up to the largest u64; no
+/// other call changes the count.
 pub trait Journal {
     ghost use Rattle.std.specs.Prelude.{◌≡◌, ◌≤◌, ℕ, List, Option, IfErr, OnErr, OnOk, length, take};
     ghost use Rattle.std.specs.Io.KnownBytes.{Appends};
@@ -114,10 +114,10 @@ fn write_out<W: Write>(writer: &mut W, bytes: &[u8]) -> Result<(), JournalFault>
     }
 }
 
-/// The end of the input that a journal does not have.
+/// The input's last bytes, which a journal does not have.
 #[derive(Drop)]
 pub enum Backlog {
-    /// None: all bytes were appended.
+    /// All bytes were appended.
     Empty,
     /// These bytes wait in memory to be appended.
     Waiting(Vec<u8>),
@@ -126,8 +126,8 @@ pub enum Backlog {
 }
 
 /// Appends the input to a journal. Bytes that the journal refuses wait in memory, and the next call appends them first, so the
-/// journal never has a gap. If memory runs out for them, they are lost, and the journal gets no more bytes. The session's input
-/// is the same in every case.
+/// journal never has a gap. If memory runs out for them, they are lost, and the journal gets no more bytes. The session takes
+/// the same input in every case.
 #[derive(Drop)]
 pub struct Recorder<J: Journal + Drop> {
     alloc: Global,

@@ -19,7 +19,7 @@ pub fn keys_are_those_of_input()
     ensures { HasKeysOfInput }
 {}
 
-/// A replay of bytes applies their keys in order. A Save and a Quit do only what they do to a search.
+/// A replay of bytes applies their keys in order. A Save only ends a search, and a Quit only gives one up.
 pub fn replays_apply_keys()
     ensures { ReplaysKeys }
 {}

@@ -1,4 +1,4 @@
-//! Replay of a journal's bytes: keys are applied again, and the store is left alone.
+//! Replay of a journal's bytes: keys are applied again, and nothing is stored.
 
 ghost use Rattle.std.specs.Prelude.{◌≡◌, ◌↔◌, IsTrue, false, true, OnErr, OnOk};
 ghost use Rattle.bx_session.specs.Saving.{is_edit_or_move_key, store_state, with_text};
@@ -16,8 +16,7 @@ use bx_store::{Store, StoreFault};
 use bx_ucd::BidiData;
 
 impl<D: BidiData + Drop> Session<D> {
-    /// Applies a key of a journal. A Save ends a search, and does nothing else; a Quit gives a search up, and does nothing
-    /// without one.
+    /// Applies a key of a journal. A Save only ends a search; a Quit gives up a search, and outside one does nothing.
     ///
     /// Errors: `Edit` if memory runs out, only for a key that edits, moves, copies or finds; nothing has changed.
     fn press_again(&mut self, key: Key) -> Result<(), Refused>
@@ -39,10 +38,10 @@ impl<D: BidiData + Drop> Session<D> {
         }
     }
 
-    /// Decodes a byte of a journal and applies the key that it completes, without painting. A Save and a Quit do only what
-    /// they do to a search. Call [`Session::end_replay`] after the last byte.
+    /// Decodes a byte of a journal and applies the key that it completes, without painting. A Save only ends a search, and a
+    /// Quit only gives one up. Call [`Session::end_replay`] after the last byte.
     ///
-    /// Errors: `Edit` if memory runs out for the key: its bytes are spent, and nothing else has changed.
+    /// Errors: `Edit` if memory runs out for the key: its bytes are consumed, and nothing else has changed.
     pub fn replay(&mut self, byte: u8) -> Result<(), Refused>
         ensures after_byte { OnOk result (self.new ≡ record self.old { session = after_replay (D.data self.old.tables) self.old.session byte }) }
         ensures err { OnErr result (self.new ≡ record self.old { session = after_spending self.old.session byte }) }

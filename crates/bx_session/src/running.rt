@@ -54,7 +54,7 @@ fn feed_all<D: BidiData + Drop, S: Store>(session: &mut Session<D>, bytes: &[u8]
     }
 }
 
-/// Reads input and hands it to the journal. The session goes on, and all its queued bytes were sent.
+/// Reads input and appends it to the journal. Called before the session's end, once all queued bytes were sent.
 ///
 /// Errors: `ReadFault`; the journal is unchanged.
 fn read_keys<D: BidiData + Drop, R: Read, J: Journal + Drop>(

@@ -54,7 +54,7 @@ impl<D: BidiData + Drop> Model for Session<D> {
 }
 
 impl<D: BidiData + Drop> Session<D> {
-    /// Whether the session goes on or Quit has ended it.
+    /// Whether the session is running or Quit has ended it.
     pub(crate) fn status(&self) -> Status
         ensures { result ≡ status_of self.now.session }
     {

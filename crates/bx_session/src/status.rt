@@ -1,6 +1,6 @@
-//! Whether a session goes on.
+//! Whether a session has ended.
 
-/// Whether a session goes on.
+/// Whether a session has ended.
 #[derive(Clone, Copy, PartialEq, Eq, Debug)]
 pub enum Status {
     Running,

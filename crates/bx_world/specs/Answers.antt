@@ -1,4 +1,4 @@
--- Answers of the session as answers of steps, and as changes of the mark `told`.
+-- The answer of a step, and the flag `told` after it, from the session's answer.
 use Rattle.std.specs.Prelude.{Bool, Result, Ok, Err}
 use Rattle.bx_session.specs.declared.error.Refused.{Refused}
 use Rattle.bx_session.specs.declared.error.Refused.TheVariants as refused
@@ -9,7 +9,7 @@ abbrev pub answer_of : {A : Type 0} → Result A Refused → Result (Unit {0}) S
 answer_of (Ok _) = Ok tt
 answer_of (Err fault) = Err (faults.Session fault)
 
--- the mark after a call: a refused call leaves it, unless only its painting was refused
+-- the flag `told` after a call: a refused call leaves it unchanged, unless only its painting was refused
 abbrev pub mark_after : {A : Type 0} → Bool → Bool → Result A Refused → Bool
 mark_after before after (Ok _) = after
 mark_after before after (Err refused.Paint) = after

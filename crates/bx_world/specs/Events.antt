@@ -46,7 +46,7 @@ abbrev pub stored_after : Editor → StoreState → Event → StoreState
 stored_after e store (Input byte key applied saved) = if is_save_key key then after_save_of e.content.text saved store else store
 stored_after e store (Telling height width) = store
 
--- each save with the text of its moment
+-- each save with the text at that moment
 abbrev pub stored_after_all : Data → Editor → StoreState → List Event → StoreState
 stored_after_all d e store [] = store
 stored_after_all d e store (event ∷ more) = stored_after_all d (after_event d e event) (stored_after e store event) more
@@ -85,8 +85,8 @@ abbrev pub HasBytesUntilEnd : {A : Type 0} → List (Step × Result A StepFault)
 HasBytesUntilEnd schedule events e =
     (dropped : List ℕ) × (bytes_of_schedule schedule ≡ input_of events ++ dropped) × (dropped ≢ [] → e.ended ≡ true)
 
--- at every moment, the journal's keys and the events' keys together are those that the input grammar gives for all bytes
--- so far as a whole
+-- at every moment, the journal's keys and then the events' keys are the keys that the input grammar gives for all bytes
+-- read until then as a whole
 abbrev pub HasKeysOfAll : List ℕ → List Event → Type 0
 HasKeysOfAll journal events = (front back : List Event) → events ≡ front ++ back
     → (decoding journal).keys ++ keys_of front ≡ (decoding (journal ++ input_of front)).keys

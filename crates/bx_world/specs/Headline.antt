@@ -26,13 +26,13 @@ pub record Follows {A : Type 0} (d : Data) (old : World) (store : StoreState) (s
   pub as_whole : old.session.rest ≡ [] → HasKeysOfAll [] events
   pub editor : new.session.editor ≡ after_events d old.session.editor events
   pub stored : store' ≡ stored_after_all d old.session.editor store events
-  -- below the greatest number, the store's failures rose by one for each failed save
+  -- the store counts each failed save, up to the largest u64
   pub failures : store'.failures < greatest → store'.failures ≡ store.failures + failed_saves events
 
 -- The headline, for a session's first editor state and the bytes of a journal, if any. The events are the bytes up to the
--- session's end and the told sizes, each as it was answered. Their keys, after the journal's, are those that the input
+-- session's end and the told sizes, each with its answer. The journal's keys and then theirs are the keys that the input
 -- grammar gives for all bytes as a whole. The state is the result of the accepted keys and told sizes, in order, from the
--- first state. Each successful save stored the text of its moment. If the session was told the window's last size, the
+-- first state. Each successful save stored the text at that moment. If the session was told the window's last size, the
 -- last call was accepted and all bytes are read, the terminal shows exactly the picture of that state. Until the session's
 -- end, the cursor of that picture is on the cell of its place.
 pub record Headline {A : Type 0} (d : Data) (start : Editor) (journal : List ℕ) (store : StoreState) (schedule : List (Step × Result A StepFault))

@@ -27,7 +27,7 @@ pub record IsAfterRun (d : Data) (old : World) (s : Session) (written : List ℕ
   pub screen : new.screen ≡ old.screen
   pub in_step : IsInStep d old → IsInStep d new
 
--- a turn of a run, whatever window and terminal did before
+-- a turn of a run, after any steps of the window and the terminal
 abbrev pub TurnsArePlays : Type 0
 TurnsArePlays =
     (d : Data) (old : World) (s : Session) (store store' : StoreState) (turn : Turn) (all : Session)

@@ -13,7 +13,7 @@ pub record World : Type 0 where
   -- the window's rows and columns
   pub height : ℕ
   pub width : ℕ
-  -- the terminal, unless memory ran out in it
+  -- the terminal; none once it has run out of memory
   pub screen : Option Terminal
   -- the session was told the window's last size
   pub told : Bool
@@ -46,7 +46,7 @@ around s height width = record {
   told = true;
 }
 
--- the bytes that the terminal has yet to read, if nothing more is queued
+-- the bytes that the terminal has not read yet: in transit, then pending in the session
 abbrev pub unread : World → List ℕ
 unread w = w.line ++ w.session.pending
 
@@ -55,7 +55,7 @@ unread w = w.line ++ w.session.pending
 abbrev pub is_window : World → ℕ → ℕ → Bool
 is_window w height width = (w.height == height) && (w.width == width)
 
--- the mark after a key, in a window of this size: the key Size tells a size
+-- the flag `told` after a key, in a window of this size: the key Size tells a size
 abbrev pub told_after : ℕ → ℕ → Bool → Option Key → Bool
 told_after height width told (Some (Size rows columns)) = (height == rows) && (width == columns)
 told_after height width told _ = told
@@ -63,11 +63,11 @@ told_after height width told _ = told
 abbrev pub told_after_key : World → Option Key → Bool
 told_after_key w key = told_after w.height w.width w.told key
 
--- a byte was applied, with this session after it
+-- after a byte that leaves this session
 abbrev pub with_byte : World → ℕ → Session → World
 with_byte w b s = record w { session = s; told = told_after_key w (key_of_byte w.session b) }
 
--- a size was told, with this session after it
+-- after a told size that leaves this session
 abbrev pub with_told_size : World → ℕ → ℕ → Session → World
 with_told_size w height width s = record w { session = s; told = is_window w height width }
 
@@ -89,6 +89,6 @@ after_send w count = record w { session = after_sending w.session count; line = 
 abbrev pub after_read : World → ℕ → World
 after_read w count = record w { line = drop count w.line; screen = option_map (λ t. reads t (take count w.line)) w.screen }
 
--- memory ran out in the terminal
+-- after the terminal ran out of memory
 abbrev pub with_failed_screen : World → World
 with_failed_screen w = record w { screen = None }

@@ -3,7 +3,7 @@
 ghost use Rattle.bx_world.specs.Laws.{BeginsWithKeys, HeadlineInChangingWindows, HeadlineOfRuns, RunsArePlays, TurnsArePlays};
 
 /// A turn of a run, its input bytes and then its writing, is a schedule of steps in any world with the run's session,
-/// whatever window and terminal did before.
+/// after any steps of the window and the terminal.
 pub fn turns_are_plays()
     ensures { TurnsArePlays }
 {}

@@ -36,9 +36,9 @@ impl<D: BidiData + Drop> World<D> {
 
     /// Takes all steps of a schedule in order, past refused ones, and returns the answers. If the last call was accepted,
     /// the session was told the window's last size and all bytes are read, the terminal shows the picture of the state: the
-    /// file as edited by the accepted keys. Until the session's end, the cursor is on the cell of its place. The keys are
-    /// those that the input grammar gives for the schedule's bytes as a whole, up to the session's end. Each successful save
-    /// stored the text of its moment.
+    /// file as edited by the accepted keys. Until the session's end, the cursor is on the cell of its place. The keys are the
+    /// ones that the input grammar gives for the schedule's bytes as a whole, up to the session's end. Each successful save
+    /// stored the text at that moment.
     ///
     /// Errors: `Line` if there is no memory for the answers; no step was taken.
     pub fn play<S: Store>(

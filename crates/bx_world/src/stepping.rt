@@ -40,7 +40,7 @@ fn is_told_after<D: BidiData + Drop>(
     }
 }
 
-/// Sets the mark `told` after a call that was accepted, or that lacked memory for its painting alone.
+/// Sets the flag `told` after a call that was accepted, or that ran out of memory only while painting.
 fn mark_after<A>(told: &mut bool, after: bool, answer: &Result<A, Refused>)
     ensures { told.new ≡ answers.mark_after told.old after answer.now }
 {

@@ -2,7 +2,7 @@
 use Rattle.std.proofs.Common.{◌≡◌, ◌<◌, ◌-◌, chars, drop, length, IsCharBoundary}
 use Rattle.std.specs.Prelude.{slice_get}
 use Rattle.bx_find.specs.Held.{to_come}
-use Rattle.bx_find.specs.Standing.{first_from}
+use Rattle.bx_find.specs.Matches.{first_from}
 use Rattle.bx_find.proofs.search.first_from.Given as goal
 
 abbrev pub invariant-loop-at : goal.invariant-loop-at

@@ -2,7 +2,7 @@ use Rattle.std.proofs.Common.{ℕ, List, ◌≤◌, ◌+◌, ◌∙◌, ◌++◌
 use Rattle.std.specs.Prelude.{None}
 use Rattle.std.proofs.lemmas.Str.{IsCharBoundary-start}
 use Rattle.bx_find.specs.Held.{to_come}
-use Rattle.bx_find.specs.Standing.{last_below}
+use Rattle.bx_find.specs.Matches.{last_below}
 use Rattle.bx_find.proofs.Offsets.{from_start, piece_read, none_behind, none_to_come}
 use Rattle.bx_find.proofs.search.last_before.Goals as goal
 

@@ -1,7 +1,7 @@
 -- The last is the last of those to come, or the one so far.
 use Rattle.std.proofs.Common.{◌≡◌, ◌<◌, ◌-◌, chars, drop, length, IsCharBoundary}
 use Rattle.bx_find.specs.Held.{to_come}
-use Rattle.bx_find.specs.Standing.{last_below, last_before}
+use Rattle.bx_find.specs.Matches.{last_below, last_before}
 use Rattle.bx_find.proofs.search.last_before.Given as goal
 
 abbrev pub invariant-loop-at : goal.invariant-loop-at

@@ -2,7 +2,7 @@ use Rattle.std.proofs.Common.{ℕ, List, ◌≡◌, ◌≤◌, ◌+◌, ◌∙�
 use Rattle.std.specs.Prelude.{encode_utf8, option_to_list}
 use Rattle.std.proofs.lemmas.Str.{chars_past_char, IsUtf8-past_char}
 use Rattle.bx_find.specs.Held.{to_come}
-use Rattle.bx_find.specs.Standing.{last_below}
+use Rattle.bx_find.specs.Matches.{last_below}
 use Rattle.bx_find.proofs.Offsets.{none_left}
 use Rattle.bx_find.proofs.ReadOn.{no_chars}
 use Rattle.bx_find.proofs.search.last_in.Goals as goal

@@ -3,7 +3,7 @@ use Rattle.std.proofs.Common.{◌≡◌, ◌<◌, ◌+◌, ◌++◌, ℕ, List, 
 use denote.Text.{Utf8}
 use denote.Shadow.{shadow}
 use Rattle.bx_find.specs.Held.{to_come}
-use Rattle.bx_find.specs.Standing.{last_below}
+use Rattle.bx_find.specs.Matches.{last_below}
 use Rattle.bx_find.proofs.search.last_in.Given as goal
 
 abbrev pub invariant-loop-c : goal.invariant-loop-c

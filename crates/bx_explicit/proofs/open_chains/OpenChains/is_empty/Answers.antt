@@ -2,7 +2,7 @@ use Rattle.std.proofs.Common.{◌≡◌, ◌∙◌, ap, arith, length, reverse}
 use Rattle.std.specs.Prelude.{◌==◌, vec_len}
 use Rattle.std.proofs.lemmas.List.{length-reverse}
 use Rattle.bx_explicit.specs.OpenChains.{OpenRuns}
-use Rattle.bx_explicit.proofs.Taken.{chains_length}
+use Rattle.bx_explicit.proofs.StoredChains.{chains_length}
 use Rattle.bx_explicit.proofs.open_chains.OpenChains.is_empty.Goals as goal
 
 pub returns : goal.returns

@@ -3,7 +3,7 @@ use Rattle.bx_explicit.specs.declared.entry.Explicit.{Explicit}
 use Rattle.bx_explicit.specs.declared.open_chains.OpenChain.{OpenChain}
 use Rattle.bx_explicit.specs.OpenChains.{OpenRuns, newest_sequence}
 use Rattle.bx_explicit.specs.Stack.{max_depth}
-use Rattle.bx_explicit.specs.Stacked.{BeginsRun}
+use Rattle.bx_explicit.specs.StoredChains.{BeginsRun}
 use Rattle.bx_explicit.proofs.Newest.{level_is, newest_index, last_begins, newest_is_open}
 use Rattle.bx_explicit.proofs.RunWalk.{level_low}
 use Rattle.bx_explicit.proofs.open_chains.OpenChains.level.Goals as goal

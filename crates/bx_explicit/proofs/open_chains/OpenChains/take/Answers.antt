@@ -2,8 +2,8 @@ use Rattle.std.proofs.Common.{◌≡◌, ◌∙◌, ℕ, List, Option, ap, sym, 
 use Rattle.bx_explicit.specs.declared.entry.ExplicitChar.{ExplicitChar}
 use Rattle.bx_explicit.specs.declared.open_chains.OpenChain.{OpenChain}
 use Rattle.bx_explicit.specs.OpenChains.{OpenRuns, run_at, with_run}
-use Rattle.bx_explicit.specs.Stacked.{open_with, chains_of}
-use Rattle.bx_explicit.proofs.Taken.{taken_chains, taken_open}
+use Rattle.bx_explicit.specs.StoredChains.{open_with, chains_of}
+use Rattle.bx_explicit.proofs.StoredChains.{taken_chains, taken_open}
 use Rattle.bx_explicit.proofs.open_chains.OpenChains.take.Goals as goal
 
 pub invariant_of-self-2 : goal.invariant_of-self-2

@@ -6,7 +6,7 @@ use Rattle.bx_explicit.specs.Runs.{runs_from}
 use Rattle.bx_explicit.specs.Sequences.{sequences}
 use Rattle.bx_explicit.specs.Walk.{AreGiven, ending, runs_to_come}
 use Rattle.bx_explicit.proofs.Counted.{given_few}
-use Rattle.bx_explicit.proofs.Overtaken.{all_given}
+use Rattle.bx_explicit.proofs.SequenceOrder.{all_given}
 use Rattle.bx_explicit.proofs.Ending.{come_is}
 use Rattle.bx_explicit.proofs.walk.SequenceWalk.new.Goals as goal
 

@@ -1,4 +1,4 @@
--- The chains that wait, after a run is met and after the newest one is over.
+-- Open chains that wait for a later run: their conditions, kept when a run is met, and the sequences that they will form.
 use Rattle.std.proofs.Common.{◌≡◌, ◌<◌, ◌≤◌, ◌∙◌, ℕ, List, [], ◌∷◌, ◌++◌, append_assoc, get_or, reverse, refl, ap, subst, arith, true, false, Option}
 use Rattle.std.specs.Prelude.{All}
 use Rattle.std.proofs.lemmas.List.Elements.{All-cons, All-nil, All-head, All-tail, All-append}
@@ -10,7 +10,7 @@ use Rattle.bx_explicit.specs.Sequences.{RunSequence, is_joined, followers, chain
 use Rattle.bx_explicit.specs.OpenChains.{all_above, first_run_of, sequence_of_runs}
 use Rattle.bx_explicit.specs.Walk.{IsOut}
 use Rattle.bx_explicit.proofs.Spans.{Spans, each_of_chain, all_reverse, spans_before, spans_after}
-use Rattle.bx_explicit.proofs.Unjoined.{AreResumed, other_level, above_more, followers_unjoined}
+use Rattle.bx_explicit.proofs.JoinedRuns.{AreJoinedByLevel, other_level, above_more, followers_unjoined}
 
 -- the newest run of each chain
 abbrev pub heads : List (List Run) → List Run
@@ -96,7 +96,7 @@ pub lower_all : (m n : ℕ) (us : List Run) → m ≤ n → All (λ (u : Run). u
 lower_all m n us h a = λ k d i. let l : (get_or us k d).level < m = a k d i in omega arith
 
 -- a run that is above the newest runs is joined to none of them
-pub none_joined : (cs : List Class) (all : List Run) → AreResumed cs all → (done : List Run) (chains : List (List Run)) (high : ℕ) (q : Run) (rest : List Run)
+pub none_joined : (cs : List Class) (all : List Run) → AreJoinedByLevel cs all → (done : List Run) (chains : List (List Run)) (high : ℕ) (q : Run) (rest : List Run)
     → all ≡ done ++ q ∷ rest → All (λ (u : Run). u.level < q.level) (heads chains) → AreWaiting done chains high
     → All (λ u. is_joined cs u q ≡ false) (heads chains)
 none_joined cs all law done [] high q rest e l w = All-nil (λ u. is_joined cs u q ≡ false)

@@ -1,4 +1,4 @@
--- The chains that may go on, with a run more.
+-- The stored open chains, when they take one more run.
 use Rattle.std.proofs.Common.{◌≡◌, ◌<◌, ◌≤◌, ◌-◌, ◌∙◌, ℕ, suc, List, [], ◌∷◌, ◌++◌, length, drop, take, map, reverse, refl, ap, sym, subst, arith, Bool, true}
 use Rattle.std.proofs.Common.{false, Option}
 use Rattle.std.specs.Prelude.{All, ◌==◌}
@@ -9,7 +9,7 @@ use Rattle.bx_explicit.specs.declared.entry.ExplicitChar.{ExplicitChar}
 use Rattle.bx_explicit.specs.declared.open_chains.OpenChain.{OpenChain}
 use Rattle.bx_explicit.specs.declared.runs.Run.{Run}
 use Rattle.bx_explicit.specs.OpenChains.{run_at, with_run}
-use Rattle.bx_explicit.specs.Stacked.{open_chain, open_with, BeginsRun, IsOpenChain, AreOpen, chains_of}
+use Rattle.bx_explicit.specs.StoredChains.{open_chain, open_with, BeginsRun, IsOpenChain, AreOpen, chains_of}
 use Rattle.bx_explicit.proofs.Newest.{newest_index, newest_first, older, last_begins}
 
 pub chains_length : (kept : List (Option ExplicitChar)) (os : List OpenChain) (ps : List ℕ) → length (chains_of kept os ps) ≡ length os

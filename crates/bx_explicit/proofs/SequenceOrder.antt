@@ -17,12 +17,12 @@ use Rattle.bx_explicit.specs.Sequences.{RunSequence, is_joined, followers, follo
 use Rattle.bx_explicit.specs.OpenChains.{ends_in_initiator, is_over, with_run, sequence_of_runs}
 use Rattle.bx_explicit.specs.Walk.{IsIn, IsOut, AreGiven, ending, sequences_of}
 use Rattle.bx_explicit.proofs.LevelRuns.{runs_within}
-use Rattle.bx_explicit.proofs.Resumed.{joined_by_level}
+use Rattle.bx_explicit.proofs.JoinedByLevel.{joined_by_level}
 use Rattle.bx_explicit.proofs.RunEnd.{EndsAt, run_ends}
 use Rattle.bx_explicit.proofs.Spans.{Spans, each_of_chain, all_reverse, spans_in}
-use Rattle.bx_explicit.proofs.Unjoined.{AreResumed, IsAlone, StandFor, over_alone, resumed_joins, followers_joined, alone, head_over, head_new}
-use Rattle.bx_explicit.proofs.Waits.{heads, IsWaiting, AreWaiting, completed, waiting, ungiven, widen_all, begins_low, wait_before, wait_over, lower_all}
-use Rattle.bx_explicit.proofs.Waits.{none_joined, wait_on, indexes_of_runs, waiting_out}
+use Rattle.bx_explicit.proofs.JoinedRuns.{AreJoinedByLevel, IsAlone, AreJoinedToHeads, over_alone, resumed_joins, followers_joined, alone, head_over, head_new}
+use Rattle.bx_explicit.proofs.PendingChains.{heads, IsWaiting, AreWaiting, completed, waiting, ungiven, widen_all, begins_low, wait_before, wait_over, lower_all}
+use Rattle.bx_explicit.proofs.PendingChains.{none_joined, wait_on, indexes_of_runs, waiting_out}
 use Rattle.bx_explicit.proofs.Ending.{ending_over, ending_open}
 
 -- the sequences of the runs to come
@@ -77,7 +77,7 @@ runs_after kept from = runs_from from (drop from kept)
 pub record IsMet (cs : List Class) (kept : List (Option ExplicitChar)) (done : List Run) (chains : List (List Run)) (from : ℕ) : Type 0 where
   pub split : runs_from 0 kept ≡ done ++ runs_after kept from
   pub waits : AreWaiting done chains from
-  pub joined : StandFor cs (heads chains) done (runs_after kept from)
+  pub joined : AreJoinedToHeads cs (heads chains) done (runs_after kept from)
 
 -- the next run, and the runs after it
 next_runs : (kept : List (Option ExplicitChar)) (from : ℕ) (q : Run) (rest : List Run) → runs_after kept from ≡ q ∷ rest → runs_after kept (q.last + 1) ≡ rest
@@ -87,7 +87,7 @@ next_runs kept from q rest e =
     let d : drop (suc w.skipped) (drop from kept) ≡ drop (q.last + 1) kept = drop-drop (suc w.skipped) from kept ∙ ap (λ k. drop k kept) n in
     ap (runs_from (q.last + 1)) (sym d) ∙ ap (λ k. runs_from k (drop (suc w.skipped) (drop from kept))) (sym n) ∙ w.later
 
-module _ (paragraph : ℕ) (cs : List Class) (kept : List (Option ExplicitChar)) (law : AreResumed cs (runs_from 0 kept)) where
+module _ (paragraph : ℕ) (cs : List Class) (kept : List (Option ExplicitChar)) (law : AreJoinedByLevel cs (runs_from 0 kept)) where
   abbrev Met : List Run → List (List Run) → ℕ → Type 0
   Met done chains from = IsMet cs kept done chains from
 
@@ -187,10 +187,10 @@ module _ (paragraph : ℕ) (cs : List Class) (kept : List (Option ExplicitChar))
       met_more : (chains : List (List Run)) → Met done chains from → runs_from 0 kept ≡ done ++ q ∷ [] ++ rest
       met_more chains w = met chains w ∙ sym (append_assoc done (q ∷ []) rest)
 
-      joined_next : (chains : List (List Run)) → Met done chains from → StandFor cs (heads chains) done (q ∷ rest)
-      joined_next chains w = subst (StandFor cs (heads chains) done) next w.joined
+      joined_next : (chains : List (List Run)) → Met done chains from → AreJoinedToHeads cs (heads chains) done (q ∷ rest)
+      joined_next chains w = subst (AreJoinedToHeads cs (heads chains) done) next w.joined
 
-      joined_rest : (chains : List (List Run)) → Met done chains from → StandFor cs (heads chains) done rest
+      joined_rest : (chains : List (List Run)) → Met done chains from → AreJoinedToHeads cs (heads chains) done rest
       joined_rest chains w = All-tail (λ x. follows cs done x ≡ follows cs (heads chains) x) q rest (joined_next chains w)
 
       joined_here : (chains : List (List Run)) → Met done chains from → follows cs done q ≡ follows cs (heads chains) q
@@ -293,8 +293,8 @@ pub all_given : (e : Explicit) (runs : List Run) → e.kept.items ≡ explicit_l
     → AreGiven (ending e.level e.classes.items e.kept.items [] runs) (sequences e.level e.classes.items e.kept.items)
 all_given e runs levels low is =
     let kept : List (Option ExplicitChar) = e.kept.items in
-    let law : AreResumed e.classes.items (runs_from 0 kept) =
-    subst (λ g. AreResumed e.classes.items (runs_from 0 g)) (sym levels) (joined_by_level e.level e.classes.items low) in
+    let law : AreJoinedByLevel e.classes.items (runs_from 0 kept) =
+    subst (λ g. AreJoinedByLevel e.classes.items (runs_from 0 g)) (sym levels) (joined_by_level e.level e.classes.items low) in
     let begin_within : IsMet e.classes.items kept [] [] 0 = record { split = refl; waits = tt; joined = λ i d h. refl } in
     subst (λ rs. AreGiven (ending e.level e.classes.items kept [] rs) (sequences e.level e.classes.items kept)) (sym is)
     (given_all e.level e.classes.items kept law (runs_from 0 kept) [] [] 0 refl begin_within)

@@ -1,4 +1,4 @@
--- Which of the runs to come a run of a chain is joined to.
+-- The later runs that are joined to a run: at most the first one that is not above it.
 use Rattle.std.proofs.Common.{◌≡◌, ◌≢◌, ◌<◌, ◌≤◌, ◌∙◌, ℕ, List, [], ◌∷◌, ◌++◌, append_assoc, get_or, drop, refl, ap, sym, arith, Bool, true, false, not, ◌&&◌}
 use Rattle.std.proofs.Common.{◌||◌, ◌==◌, Some, None, le-ltb, lt-ltb, ltb-true, nat_lt}
 use Rattle.std.specs.Prelude.{All}
@@ -53,15 +53,15 @@ last_of_three a b c h = and_right (a && b) c h
 all_three : (a b c : Bool) → a ≡ true → b ≡ true → c ≡ true → (a && b && c) ≡ true
 all_three a b c p q r = and_from (a && b) c (and_from a b p q) r
 
--- the run `t` is joined to `q` just where it waits for it
-abbrev pub AreResumed : List Class → List Run → Type 0
-AreResumed cs all = (before : List Run) (t : Run) (between : List Run) (q : Run) (after : List Run) → all ≡ before ++ t ∷ between ++ q ∷ after
+-- `t` is joined to `q` exactly if it ends in an initiator, and `q` is the first later run not above it and has its level
+abbrev pub AreJoinedByLevel : List Class → List Run → Type 0
+AreJoinedByLevel cs all = (before : List Run) (t : Run) (between : List Run) (q : Run) (after : List Run) → all ≡ before ++ t ∷ between ++ q ∷ after
     → is_joined cs t q ≡ is_resumed cs t between q
 
 abbrev pub IsAlone : List Class → Run → List Run → Type 0
 IsAlone cs t rest = All (λ q. is_joined cs t q ≡ false) rest
 
-module _ (cs : List Class) (all : List Run) (law : AreResumed cs all) where
+module _ (cs : List Class) (all : List Run) (law : AreJoinedByLevel cs all) where
   -- after a run that is not above it no run is joined to it
   alone_after : (before : List Run) (t : Run) (between rest : List Run) → all ≡ before ++ t ∷ between ++ rest → all_above t.level between ≡ false
       → IsAlone cs t rest
@@ -120,9 +120,9 @@ alone cs t [] a = refl
 alone cs t (q ∷ rest) a = followers_unjoined cs t q rest (All-head (λ x. is_joined cs t x ≡ false) q rest a)
     ∙ alone cs t rest (All-tail (λ x. is_joined cs t x ≡ false) q rest a)
 
--- the runs joined to a run met so far are the runs joined to the newest run of a chain
-abbrev pub StandFor : List Class → List Run → List Run → List Run → Type 0
-StandFor cs hs done rest = All (λ q. follows cs done q ≡ follows cs hs q) rest
+-- a run to come is joined to a run met so far exactly if it is joined to the newest run of an open chain
+abbrev pub AreJoinedToHeads : List Class → List Run → List Run → List Run → Type 0
+AreJoinedToHeads cs hs done rest = All (λ q. follows cs done q ≡ follows cs hs q) rest
 
 or_none : (b : Bool) → (b || false) ≡ b
 or_none true = refl
@@ -133,10 +133,10 @@ or_comm true true = refl
 or_comm true false = refl
 or_comm false b = sym (or_none b)
 
-pub head_over : (cs : List Class) (t : Run) (hs done rest : List Run) → StandFor cs (t ∷ hs) done rest → IsAlone cs t rest → StandFor cs hs done rest
+pub head_over : (cs : List Class) (t : Run) (hs done rest : List Run) → AreJoinedToHeads cs (t ∷ hs) done rest → IsAlone cs t rest → AreJoinedToHeads cs hs done rest
 head_over cs t hs done rest s a = λ k d h. s k d h ∙ ap (λ b. b || follows cs hs (get_or rest k d)) (a k d h)
 
-pub head_new : (cs : List Class) (q : Run) (hs done rest : List Run) → StandFor cs hs done rest → StandFor cs (q ∷ hs) (done ++ q ∷ []) rest
+pub head_new : (cs : List Class) (q : Run) (hs done rest : List Run) → AreJoinedToHeads cs hs done rest → AreJoinedToHeads cs (q ∷ hs) (done ++ q ∷ []) rest
 head_new cs q hs done rest s = λ k d h.
     let x : Run = get_or rest k d in
     list_any-append (λ u. is_joined cs u x) done (q ∷ [])

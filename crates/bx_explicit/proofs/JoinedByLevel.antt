@@ -25,7 +25,7 @@ use Rattle.bx_explicit.proofs.LevelRuns.{runs_rising}
 use Rattle.bx_explicit.proofs.FirstLow.{resumed_run, resumed_runs, begins_at, first_is}
 use Rattle.bx_explicit.proofs.RunEnd.{IsUnlike, EndsAt, run_ends}
 use Rattle.bx_explicit.proofs.Inside.{IsInside, out_at}
-use Rattle.bx_explicit.proofs.Overflown.{no_other_run}
+use Rattle.bx_explicit.proofs.OverflowIsolate.{no_other_run}
 
 -- the index of a match, from the text before it
 match_further : (i : ℕ) (b : Option ℕ) → further (i + 1) b ≡ elim b [ None ↦ None | Some k ↦ Some (i + 1 + k) ]
