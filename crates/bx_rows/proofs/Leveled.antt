@@ -178,7 +178,7 @@ same-image says w c e =
 -- a letter's form, or what is in its place
 formed : (says : Data) (w d : ℕ) (o : Option ℕ) → formed_glyph says w (glyph (encode_utf8_all (d ∷ [])) 1 false) o
     ≡ glyph (elim (is_own 1 (face says w (encode_utf8_all (unwrap_or o d ∷ [])))) as (λ _. List ℕ) [
-      true ↦ encode_utf8_all (unwrap_or o d ∷ [])
+      | true ↦ encode_utf8_all (unwrap_or o d ∷ [])
       | false ↦ encode_utf8_all (d ∷ [])
     ]) 1 false
 formed says w d None = same-both (is_own 1 (face says w (encode_utf8_all (d ∷ [])))) (encode_utf8_all (d ∷ []))
@@ -202,9 +202,9 @@ one-joined says w c form e =
 
 one-shown : (says : Data) (w c odd : ℕ) (form : Form) → chars (encode_utf8 c) ≡ c ∷ []
     → elim odd as (λ _. Glyph) [
-      zero ↦ glyph (elim odd as (λ _. List ℕ) [ zero ↦ encode_utf8 c | suc _ ↦ mirror_image_within says w 1 (encode_utf8 c) ]) 1 false
+      | zero ↦ glyph (elim odd as (λ _. List ℕ) [ zero ↦ encode_utf8 c | suc _ ↦ mirror_image_within says w 1 (encode_utf8 c) ]) 1 false
       | suc _ ↦ formed_glyph says w (glyph (elim odd as (λ _. List ℕ) [ zero ↦ encode_utf8 c | suc _ ↦ mirror_image_within says w 1 (encode_utf8 c) ]) 1 false)
-        (says.form c form)
+          (says.form c form)
     ]
     ≡ glyph (elim odd as (λ _. List ℕ) [ zero ↦ encode_utf8 c | suc _ ↦ joined_image_within says w 1 (form ∷ []) (encode_utf8 c) ]) 1 false
 one-shown says w c zero form e = refl

@@ -13,8 +13,8 @@ ghost use Rattle.bx_rows.specs.Shown.{glyph_of};
 ghost use Rattle.bx_ucd.specs.declared.joining.Form.{Form};
 
 use crate::drawn::Drawn;
-use crate::row_at::RowAt;
 use crate::glyphs::is_own;
+use crate::row_at::RowAt;
 use bx_cells::face;
 use bx_joining::{LeveledBody, TextAt, joined_image, shown_form};
 use bx_terms::first_char;
@@ -73,9 +73,13 @@ fn join_at<D: BidiData>(
 ) -> Result<(), AllocError>
     requires boundary { IsCharBoundary at.place.body.text.now at.place.offset }
     requires number { at.place.number ≡ length (chars (take at.place.offset at.place.body.text.now)) }
-    ensures { OnOk result (glyph_of drawn.new ≡ joined_glyph (D.data tables.now) w (glyph_of drawn.old)
-        (at.entry.level, (at.entry.letter,
-        slice_index_or (body_forms (D.data tables.now) at.entry.place.body.text.now at.entry.place.body.each.now) at.entry.place.number Form.Isolated))) }
+    ensures { OnOk result (glyph_of drawn.new ≡ joined_glyph (D.data tables.now) w (glyph_of drawn.old) (
+      at.entry.level,
+      (
+        at.entry.letter,
+        slice_index_or (body_forms (D.data tables.now) at.entry.place.body.text.now at.entry.place.body.each.now) at.entry.place.number Form.Isolated,
+      ),
+    )) }
 {
     if at.level % 2 == 0 {
         return Ok(());

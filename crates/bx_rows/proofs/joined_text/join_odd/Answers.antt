@@ -2,6 +2,7 @@ use Rattle.std.proofs.Common.{◌≡◌, ◌+◌, ◌<◌, ◌∙◌, List, ℕ,
 use Rattle.std.proofs.Math.ListN.{length-set}
 use Rattle.std.proofs.Math.Seq.{take-length}
 use Rattle.std.proofs.lemmas.Str.{IsUtf8-drop, IsUtf8-past_char}
+use Rattle.bx_ucd.specs.declared.joining.Form.{Form}
 use Rattle.bx_ucd.specs.declared.joining.Form.TheVariants.{Isolated}
 use Rattle.bx_joining.specs.Joining.{body_forms}
 use Rattle.bx_joining.specs.Places.{StandsAt}
@@ -58,7 +59,7 @@ loop-i-preserved g c =
     let next = stand_on body rest behind c.loop-i.offset number letter u c.loop-i.invariant.stands read.0 in
     let within : i < length levels = omega (arith, c.loop-i-test.true, c.loop-i.invariant.count, c.requires.count) in
     let at = given-at says body each start.chars i letter letters levels (chars behind) within (sym c.loop-i.invariant.left ∙ read.2) in
-    let x = (get_or levels i 0, (letter, get_or (body_forms says body each) (start.chars + i) Isolated)) in
+    let x : ℕ × (ℕ × Form) = (get_or levels i 0, (letter, get_or (body_forms says body each) (start.chars + i) Isolated)) in
     let form : get_or (body_forms says c.text.result.now each) number Isolated ≡ get_or (body_forms says body each) (start.chars + i) Isolated =
     ap₂ (λ (t : List ℕ) n. get_or (body_forms says t each) n Isolated) c.text.ensures c.loop-i.invariant.number in
     record {

@@ -13,4 +13,3 @@ returns-then-not-branch-clause-shown g c cs rest bytes single =
     let number = c.args.row.start.chars in
     c.in_ok-mirror_odd.ensures.formless cs single c.if-not-branch.true (char_forms says body each number cs)
     (length-first_forms (length cs) (drop number (body_forms says body each)))
-

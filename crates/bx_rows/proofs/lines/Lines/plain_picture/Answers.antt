@@ -36,7 +36,8 @@ pub arranged-requires-clause-starts : goal.arranged-requires-clause-starts
 arranged-requires-clause-starts g c =
     let starts = starts-at (g.D.BidiData.data c.args.self.now.tables.now) c.args.self.now.w c.args.self.now.body.now c.args.self.now.starts.now c.args.number _
     c.args.self.now.utf8 c.args.self.now.rows c.requires in
-    subst (StartsRow c.row_at.result.body.text.now) (sym c.row_at.ensures.start) (subst (λ (b : List ℕ). StartsRow b _) (sym c.row_at.ensures.text) starts)
+    subst (λ (b : List ℕ). StartsRow b c.row_at.result.start) (sym c.row_at.ensures.text)
+    (subst (StartsRow c.args.self.now.body.now) (sym c.row_at.ensures.start) starts)
 
 pub returns-clause-picture : goal.returns-clause-picture
 returns-clause-picture g c =
