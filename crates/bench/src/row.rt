@@ -67,6 +67,8 @@ fn once<D: BidiData>(
                 units,
                 levels: each,
                 paragraph: lines.levels.paragraph,
+                each: lines.levels.each.as_slice(),
+                start: lines.starts[number],
             };
             let picture = draw(alloc, lines.body, &row, lines.tables, lines.w)?;
             Ok(picture.glyphs.len())

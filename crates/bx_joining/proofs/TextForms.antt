@@ -1,14 +1,14 @@
 -- The forms of a text's characters, and the text in these forms.
-use Rattle.std.proofs.Common.{◌≡◌, ℕ, zero, suc, ◌+◌, List, [], ◌∷◌, ◌++◌, All, None, Option, length, get_or, drop, chars, IsUtf8, refl, ap, ap₂, ◌∙◌, arith}
+use Rattle.std.proofs.Common.{◌≡◌, ℕ, zero, suc, ◌+◌, List, [], ◌∷◌, ◌++◌, All, None, Option, length, get_or, drop, chars, refl, sym, ap, ap₂, ◌∙◌, arith}
 use Rattle.std.specs.Prelude.{encode_utf8, encode_utf8_all, unwrap_or}
 use Rattle.std.proofs.lemmas.List.{nil_from_length}
 use Rattle.std.proofs.lemmas.List.Elements.{All-rest}
-use Rattle.std.proofs.lemmas.Str.{chars-nil, encodes-chars}
+use Rattle.std.proofs.lemmas.Str.{chars-nil}
 use Rattle.bx_ucd.specs.Data.{Data}
 use Rattle.bx_ucd.specs.declared.joining.Form.{Form}
 use Rattle.bx_ucd.specs.declared.joining.Form.TheVariants.{Isolated}
 use Rattle.bx_joining.specs.Joining.{body_forms, first_forms, text_forms}
-use Rattle.bx_joining.specs.JoinedText.{in_forms, joined_image}
+use Rattle.bx_joining.specs.JoinedText.{AreFormless, in_forms, joined_image}
 
 -- ---- as many forms as characters
 
@@ -66,16 +66,10 @@ no_chars text e = ap (λ bs. length (chars bs)) (nil_from_length text e) ∙ ap 
 
 -- ---- letters with no form
 
-abbrev pub Formless : Data → List ℕ → Type 0
-Formless says letters = All (λ c. (form : Form) → says.form c form ≡ None) letters
-
-as_it_is : (says : Data) (fs : List Form) (ls cs : List ℕ) → Formless says ls → in_forms says fs ls cs ≡ cs
+pub as_it_is : (says : Data) (fs : List Form) (ls cs : List ℕ) → AreFormless says ls → in_forms says fs ls cs ≡ cs
 as_it_is says [] ls cs none = refl
 as_it_is says (f ∷ fs) [] cs none = refl
 as_it_is says (f ∷ fs) (l ∷ ls) [] none = refl
 as_it_is says (f ∷ fs) (l ∷ ls) (c ∷ cs) none =
     ap₂ (λ o ds. unwrap_or o c ∷ ds) (none 0 l (omega arith) f)
     (as_it_is says fs ls cs (All-rest (λ d. (form : Form) → says.form d form ≡ None) l ls (l ∷ ls) refl none))
-
-pub image_same : (says : Data) (forms : List Form) (text shown : List ℕ) → Formless says (chars text) → IsUtf8 shown → joined_image says forms text shown ≡ shown
-image_same says forms text shown none u = ap encode_utf8_all (as_it_is says forms (chars text) (chars shown) none) ∙ encodes-chars shown u

@@ -1,5 +1,5 @@
 -- A text in the forms of its letters.
-use Rattle.std.specs.Prelude.{ℕ, List, ◌∷◌, unwrap_or, chars, encode_utf8_all}
+use Rattle.std.specs.Prelude.{◌≡◌, ℕ, All, List, None, [], ◌∷◌, unwrap_or, chars, encode_utf8_all}
 use Rattle.bx_ucd.specs.Data.{Data}
 use Rattle.bx_ucd.specs.declared.joining.Form.{Form}
 
@@ -11,3 +11,7 @@ in_forms says _ _ cs = cs
 -- a text with the forms of another text's letters
 abbrev pub joined_image : Data → List Form → List ℕ → List ℕ → List ℕ
 joined_image says forms text shown = encode_utf8_all (in_forms says forms (chars text) (chars shown))
+
+-- none of the letters has a form
+abbrev pub AreFormless : Data → List ℕ → Type 0
+AreFormless says letters = All (λ c. (form : Form) → says.form c form ≡ None) letters

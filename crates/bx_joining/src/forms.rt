@@ -1,7 +1,7 @@
 //! The forms of a body's letters, by the letters beside them.
 ghost use Rattle.std.specs.Prelude.{◌≡◌, ◌<◌, ◌++◌, ◌∷◌, [], IsUtf8, List, MatchOption, None, chars, encode_utf8, false, length, reverse, slice_index_or, take, ℕ};
 ghost use Rattle.std.specs.Str.{IsCharBoundary};
-ghost use Rattle.bx_joining.specs.JoinedText.{joined_image};
+ghost use Rattle.bx_joining.specs.JoinedText.{AreFormless};
 ghost use Rattle.bx_ucd.specs.declared.joining.Form.{Form};
 ghost use Rattle.bx_joining.specs.Joining.{are_one_odd, body_forms, form_if, is_transparent, join, joiners, joins_after, joins_back, joins_before, joins_on, neighbour};
 
@@ -14,14 +14,14 @@ type Joiner = (Joining, Option<u8>);
 
 /// The text of a body, and the level of each of its characters.
 #[derive(Clone, Copy)]
-pub struct LeveledBody<'r> {
-    pub text: &'r str,
-    pub each: &'r [Level],
+pub struct LeveledBody<'t, 'e> {
+    pub text: &'t str,
+    pub each: &'e [Level],
 }
 
-impl<'r> LeveledBody<'r> {
+impl<'t, 'e> LeveledBody<'t, 'e> {
     /// The text. A call's result is known to be whole characters, a field is not.
-    pub(crate) fn text(self) -> &'r str
+    pub fn text(self) -> &'t str
         ensures { result.now ≡ self.entry.text.now }
     {
         self.text
@@ -30,8 +30,8 @@ impl<'r> LeveledBody<'r> {
 
 /// Where a text stands in a body: its offset, and the number of characters before it.
 #[derive(Clone, Copy)]
-pub struct TextAt<'r> {
-    pub body: LeveledBody<'r>,
+pub struct TextAt<'t, 'e> {
+    pub body: LeveledBody<'t, 'e>,
     pub offset: usize,
     pub number: usize,
 }
@@ -164,7 +164,7 @@ fn joins_after<D: BidiData>(own: Joiner, text: &str, levels: &[Level], tables: &
 
 /// The form of the character at a place of its body. Reads the transparent characters on its two sides and the next
 /// character on each; isolated if the body has no such character.
-fn form_at<D: BidiData>(at: TextAt<'_>, tables: &D) -> Form
+fn form_at<D: BidiData>(at: TextAt<'_, '_>, tables: &D) -> Form
     requires boundary { IsCharBoundary at.body.text.now at.offset }
     requires number { at.number ≡ length (chars (take at.offset at.body.text.now)) }
     ensures { result ≡ slice_index_or (body_forms (D.data tables.now) at.entry.body.text.now at.entry.body.each.now) at.entry.number Form.Isolated }
@@ -197,7 +197,7 @@ fn has_form<D: BidiData>(c: char, tables: &D) -> bool
 }
 
 /// The character that shows a letter at a place of its body in its form, if the letter has that form.
-pub fn shown_form<D: BidiData>(letter: char, at: TextAt<'_>, tables: &D) -> Option<char>
+pub fn shown_form<D: BidiData>(letter: char, at: TextAt<'_, '_>, tables: &D) -> Option<char>
     requires boundary { IsCharBoundary at.body.text.now at.offset }
     requires number { at.number ≡ length (chars (take at.offset at.body.text.now)) }
     ensures { result ≡ (D.data tables.now).form letter
@@ -212,7 +212,7 @@ pub fn shown_form<D: BidiData>(letter: char, at: TextAt<'_>, tables: &D) -> Opti
 
 /// Whether a text has a letter with a form.
 pub fn has_forms<D: BidiData>(text: &str, tables: &D) -> bool
-    ensures { result ≡ false → (forms : List Form) (shown : List ℕ) → IsUtf8 shown → joined_image (D.data tables.now) forms text.now shown ≡ shown }
+    ensures { result ≡ false → AreFormless (D.data tables.now) (chars text.now) }
 {
     for c in text.chars() {
         if has_form(c, tables) {

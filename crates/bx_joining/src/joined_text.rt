@@ -15,7 +15,7 @@ pub fn joined_image<D: BidiData>(
     alloc: Global,
     text: &str,
     shown: &str,
-    at: TextAt<'_>,
+    at: TextAt<'_, '_>,
     tables: &D,
 ) -> Result<String, AllocError>
     requires stands { StandsAt at.body.text.now text.now at.offset at.number }

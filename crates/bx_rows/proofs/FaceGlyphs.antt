@@ -1,7 +1,7 @@
 -- The glyphs of a unit with the face of its text: each is one glyph, and their columns add up to the unit's.
 use Rattle.std.proofs.Common.{◌≡◌, ℕ, zero, suc, ◌%◌, ◌≤◌, ◌==◌, nat_lt, nat_le, Bool, true, false, not, ◌&&◌, ◌||◌, List, [], ◌∷◌, length, map, sum_by}
 use Rattle.std.proofs.Common.{chars, Option, Some, None, All, refl, sym, subst, ap, ◌∙◌, arith}
-use Rattle.std.specs.Prelude.{⊤}
+use Rattle.std.specs.Prelude.{encode_utf8_all, ⊤}
 use Rattle.std.specs.List.{list_all, list_any}
 use Rattle.std.proofs.lemmas.Bool.{and_parts, and_from, or_left, or_right}
 use Rattle.std.proofs.lemmas.Bool.Decides.{nat_tests}
@@ -21,7 +21,8 @@ use Rattle.bx_cells.specs.declared.unit.Face.{Face}
 use Rattle.bx_cells.specs.declared.unit.Face.TheVariants.{Tab, Mark, Own}
 use Rattle.bx_cells.specs.Faces.{face, face_of, only_char, is_tab, letter_of, format_letter, sized_face, columns_of}
 use Rattle.bx_cells.proofs.Printable.{ascii_bytes}
-use Rattle.bx_rows.specs.RowPicture.{Glyph, glyph, blank, mirror_image, is_own, joined_image, joined_image_within, mirror_image_within, shown_text, face_glyphs, letter_glyphs}
+use Rattle.bx_joining.specs.JoinedText.{in_forms}
+use Rattle.bx_rows.specs.RowPicture.{Glyph, glyph, blank, mirror_image, is_own, joined_image_within, mirror_image_within, mirrored_chars, shown_text, face_glyphs, letter_glyphs}
 use Rattle.bx_rows.specs.Wrapping.{columns_at}
 use Rattle.bx_rows.specs.Shown.{HasLetter}
 
@@ -110,11 +111,12 @@ tells-either says w n text other true e h = own-from (chars other) n (face says 
 tells-either says w n text other false e h = h
 
 pub tells-shown : (says : Data) (w n odd : ℕ) (forms : List Form) (text : List ℕ) → Tells (chars text) (Own n)
-    → Tells (chars (elim odd [ zero ↦ text | suc _ ↦ joined_image_within says w n forms text (mirror_image_within says w n text) ])) (Own n)
+    → Tells (chars (elim odd [ zero ↦ text | suc _ ↦ joined_image_within says w n forms text ])) (Own n)
 tells-shown says w n zero forms text h = h
 tells-shown says w n (suc k) forms text h =
     let mirrored = mirror_image_within says w n text in
-    let joined = joined_image says forms text mirrored in
+    let letters = chars text in
+    let joined = encode_utf8_all (in_forms says forms letters (mirrored_chars says w n letters)) in
     tells-either says w n mirrored joined (is_own n (face says w joined)) refl
     (tells-either says w n text (mirror_image says text) (is_own n (face says w (mirror_image says text))) refl h)
 

@@ -215,7 +215,7 @@ across_a_mark : shown class mirror [] [] Auto 5 (beh ∷ 0x301 ∷ beh ∷ []) �
 unfolding unicode_segmentation unicode_width
 across_a_mark = refl
 
-across_isolates : shown class mirror [] [] Auto 5 (beh ∷ 0x2066 ∷ 0x2069 ∷ beh ∷ []) ≡ ((0x20 ∷ final ∷ 0x50 ∷ isolated ∷ initial ∷ []) ∷ [])
+across_isolates : shown class mirror [] [] Auto 5 (beh ∷ 0x2066 ∷ 0x2069 ∷ beh ∷ []) ≡ ((0x20 ∷ final ∷ 0x50 ∷ 0x69 ∷ initial ∷ []) ∷ [])
 unfolding unicode_segmentation unicode_width
 across_isolates = refl
 

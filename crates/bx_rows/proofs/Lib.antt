@@ -23,7 +23,9 @@ pub mod RowUnits
 pub mod EachRow
 pub mod NarrowSteps
 pub mod AsciiRuns
+pub mod RowPlaces
 pub mod Leveled
+pub mod JoinedLetters
 pub mod MirroredLetters
 pub mod PlainPictures
 mod Examples

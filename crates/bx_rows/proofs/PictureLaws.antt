@@ -125,3 +125,9 @@ sum_if_drawn says w body paragraph each us levels ds e a f g = sum-kept ds ∙ a
 -- a property of all units holds for a row's units
 pub faces-row : (P : Unit → Type 0) (us : List Unit) (r : Row) → All P us → All P (row_units us r)
 faces-row P us r a = All-take P (r.stop - r.start) (drop r.start us) (All-drop P r.start us a)
+
+-- of the same levels and units
+pub same-draw : (says : Data) (w : ℕ) (body : List ℕ) (paragraph : ℕ) (each each' : List (Option ℕ)) (us us' : List Unit) (levels levels' : List ℕ)
+    → each ≡ each' → us ≡ us' → levels ≡ levels' → draw says w body paragraph each us levels ≡ draw says w body paragraph each' us' levels'
+same-draw says w body paragraph each each' us us' levels levels' e f h =
+    ap (λ x. draw says w body paragraph x us levels) e ∙ ap (λ x. draw says w body paragraph each' x levels) f ∙ ap (draw says w body paragraph each' us') h

@@ -1,6 +1,6 @@
 -- The picture of a row of single characters: glyphs read, mirrored and moved into visual order, and blanks added.
 use Rattle.std.proofs.Common.{◌≡◌, ℕ, ◌-◌, ◌<◌, ◌≤◌, List, [], ◌∷◌, ◌++◌, map, length, take, drop, get_or, All, Option, Some, refl, sym, ap, ap₂, subst, ◌∙◌, arith}
-use Rattle.std.specs.Prelude.{IfSome}
+use Rattle.std.specs.Prelude.{IfSome, encode_utf8_all}
 use Rattle.std.specs.Str.{IsUtf8}
 use Rattle.std.proofs.lemmas.List.{get_or-map, length-map, take_at}
 use Rattle.std.proofs.lemmas.List.Elements.{All-rest}
@@ -11,11 +11,12 @@ use Rattle.bx_cells.specs.Units.{HasFace, units_from}
 use Rattle.bx_cells.proofs.Standing.{faces_if_taken}
 use Rattle.bx_rows.specs.declared.drawn.Drawn.{Drawn}
 use Rattle.bx_rows.specs.declared.start_search.RowStart.{RowStart}
-use Rattle.bx_rows.specs.PlainRows.{AreSingle, leveled_glyphs, single_glyph, single_units}
+use Rattle.bx_rows.specs.PlainRows.{AreSingle, char_forms, leveled_glyphs, single_glyph, single_units}
 use Rattle.bx_rows.specs.RowLevels.{row_levels}
 use Rattle.bx_rows.specs.RowPicture.{Glyph, blank, columns_used, draw, with_blanks}
 use Rattle.bx_rows.specs.RowStarts.{most_units, units_of_row}
 use Rattle.bx_rows.specs.Shown.{glyph_of}
+use Rattle.bx_rows.specs.UnitForms.{StartsRow}
 use Rattle.bx_rows.specs.VisualOrder.{visual}
 use Rattle.bx_rows.proofs.EachRow.{IsRowPart, row-alone, whole}
 use Rattle.bx_rows.proofs.NumbersBelow.{below_if_visual}
@@ -25,6 +26,17 @@ use Rattle.bx_rows.proofs.PlainPictures.{columns-single, single-draw}
 singles-count : (says : Data) (w : ℕ) (body : List ℕ) (at count : ℕ) (first : List Drawn) (s : AreSingle says w body at count first)
     → length first ≡ length s.cs
 singles-count says w body at count first s = sym (length-map first glyph_of) ∙ ap length s.shown ∙ length-map s.cs single_glyph
+
+-- the glyphs of the characters from a row's start on, at their levels and in their forms, in visual order
+abbrev pub ShowsRow : Data → ℕ → List Drawn → List ℕ → List Glyph → RowStart → List ℕ → List (Option ℕ) → Type 0
+ShowsRow says w first found two start body each =
+    (cs rest : List ℕ) → drop start.offset body ≡ encode_utf8_all cs ++ rest → map glyph_of first ≡ map single_glyph cs
+    → two ≡ map (λ j. get_or (leveled_glyphs says w cs found (char_forms says body each start.chars cs)) j blank) (visual found)
+
+-- in a body and from a start that are the same
+pub same-row : (P : RowStart → List ℕ → List (Option ℕ) → Type 0) (s start : RowStart) (b body : List ℕ) (es each : List (Option ℕ))
+    → s ≡ start → b ≡ body → es ≡ each → P s b es → P start body each
+same-row P s start b body es each e f h p = subst (λ x. P x body each) e (subst (λ x. P s x each) f (subst (P s b) h p))
 
 module _ (says : Data) (w : ℕ) (body : List ℕ) (k count : ℕ) (start : RowStart) (next : Option RowStart) (us : List Unit) (u : IsUtf8 body)
     (part : IsRowPart says w body us (units_of_row says w body k) start next) (many : count ≡ most_units w body start next) where
@@ -47,20 +59,19 @@ module _ (says : Data) (w : ℕ) (body : List ℕ) (k count : ℕ) (start : RowS
 
   -- the result of the steps is the row's picture
   pub drawn-single : (paragraph n : ℕ) (each : List (Option ℕ)) (first : List Drawn) (two all : List Glyph) (found : List ℕ)
-      → AreSingle says w body start.offset count first → length found ≡ length first
+      → StartsRow body start → AreSingle says w body start.offset count first → length found ≡ length first
       → found ≡ row_levels says body paragraph each (units_of_row says w body k)
-      → ((cs : List ℕ) → map glyph_of first ≡ map single_glyph cs
-      → two ≡ map (λ j. get_or (leveled_glyphs says w cs found) j blank) (visual found))
+      → ShowsRow says w first found two start body each
       → n ≡ length first → all ≡ with_blanks paragraph (w - n) two
-      → all ≡ draw says w body paragraph (units_of_row says w body k) (row_levels says body paragraph each (units_of_row says w body k))
-  drawn-single paragraph n each first two all found s count_is levels ordered length_is blanks =
+      → all ≡ draw says w body paragraph each (units_of_row says w body k) (row_levels says body paragraph each (units_of_row says w body k))
+  drawn-single paragraph n each first two all found starts s count_is levels ordered length_is blanks =
       let here = units_of_row says w body k in
       let own : here ≡ single_units start.offset s.cs = sym taken ∙ s.units in
       let many_are = singles-count says w body start.offset count first s in
-      blanks ∙ ap₂ (λ m xs. with_blanks paragraph (w - m) xs) (length_is ∙ many_are) (ordered s.cs s.shown)
-      ∙ sym (single-draw says w body paragraph start.offset s.cs s.rest found s.bytes (subst (All (HasFace says w body)) own faces)
+      blanks ∙ ap₂ (λ m xs. with_blanks paragraph (w - m) xs) (length_is ∙ many_are) (ordered s.cs s.rest s.bytes s.shown)
+      ∙ sym (single-draw says w body paragraph each start s.cs s.rest found u starts s.bytes (subst (All (HasFace says w body)) own faces)
       (count_is ∙ many_are))
-      ∙ ap₂ (draw says w body paragraph) (sym own) levels
+      ∙ ap₂ (draw says w body paragraph each) (sym own) levels
 
 -- a list that is written back over one as long
 pub written : {A : Type 0} (n : ℕ) (new old : List A) → length new ≡ n → take n (new ++ drop (length new) old) ≡ new
@@ -83,12 +94,11 @@ shown-ordered (d ∷ ds) new levels e f ordered =
     ap (map glyph_of) (ordered d)
     ∙ shown-chosen (d ∷ ds) d (visual levels) (λ i j h. omega (arith, below_if_visual levels (visual levels) refl i j h, e))
 
--- the glyphs at their levels, put into visual order
-pub arranged-are : (says : Data) (w : ℕ) (cs levels : List ℕ) (one two : List Drawn) → length one ≡ length levels
-    → length two ≡ length one → map glyph_of one ≡ leveled_glyphs says w cs levels
-    → ((d : Drawn) → two ≡ map (λ k. get_or one k d) (visual levels))
-    → map glyph_of two ≡ map (λ k. get_or (leveled_glyphs says w cs levels) k blank) (visual levels)
-arranged-are says w cs levels one two e f first ordered =
+-- the glyphs at their levels and in their forms, put into visual order
+pub arranged-are : (all : List Glyph) (levels : List ℕ) (one two : List Drawn) → length one ≡ length levels
+    → length two ≡ length one → map glyph_of one ≡ all → ((d : Drawn) → two ≡ map (λ k. get_or one k d) (visual levels))
+    → map glyph_of two ≡ map (λ k. get_or all k blank) (visual levels)
+arranged-are all levels one two e f first ordered =
     shown-ordered one two levels e f ordered ∙ ap (λ gs. map (λ k. get_or gs k blank) (visual levels)) first
 
 -- a clause about a value that is present

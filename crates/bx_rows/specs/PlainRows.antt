@@ -1,15 +1,17 @@
 -- Rows in which each unit is one character of one column, shown as itself.
-use Rattle.std.specs.Prelude.{◌≡◌, ◌⊎◌, ⊤, ℕ, ◌+◌, ◌%◌, true, false, List, [], ◌∷◌, ◌++◌, map, length, take, drop, encode_utf8, encode_utf8_all, Option, None}
+use Rattle.std.specs.Prelude.{◌≡◌, ◌⊎◌, ℕ, zero, suc, ◌+◌, ◌%◌, true, false, List, [], ◌∷◌, ◌++◌, map, length, take, drop, encode_utf8, encode_utf8_all, Option, None, Some}
 use Rattle.std.specs.List.{zip}
 use Rattle.bx_ucd.specs.Data.{Data}
 use Rattle.bx_ucd.specs.declared.class.Class.{Class}
 use Rattle.bx_ucd.specs.declared.joining.Form.{Form}
 use Rattle.bx_cells.specs.declared.unit.Face.TheVariants.{Own}
 use Rattle.bx_cells.specs.declared.unit.Unit.{Unit}
+use Rattle.bx_cells.specs.Faces.{face}
 use Rattle.bx_cells.specs.Simple.{begins}
 use Rattle.bx_cells.specs.Units.{units_from}
+use Rattle.bx_joining.specs.Joining.{body_forms, first_forms}
 use Rattle.bx_rows.specs.declared.drawn.Drawn.{Drawn}
-use Rattle.bx_rows.specs.RowPicture.{Glyph, glyph, mirrored_text, shown_text}
+use Rattle.bx_rows.specs.RowPicture.{Glyph, glyph, is_own, mirrored_text, shown_text}
 use Rattle.bx_rows.specs.Shown.{glyph_of}
 
 -- one unit per character, from an offset on
@@ -42,16 +44,22 @@ mirrored_glyph says w c level = glyph (mirrored_text says w 1 level (encode_utf8
 abbrev pub mirrored_glyphs : Data → ℕ → List ℕ → List ℕ → List Glyph
 mirrored_glyphs says w cs levels = map (λ (c, level). mirrored_glyph says w c level) (zip cs levels)
 
--- at an even level, or where none of the characters has a form
-abbrev pub IsFormless : Data → ℕ → List ℕ → Type 0
-IsFormless says level [] = ⊤
-IsFormless says level (c ∷ cs) = ((level % 2 ≡ 0) ⊎ ((form : Form) → says.form c form ≡ None)) × IsFormless says level cs
+-- a glyph in the form of its letter, if there is one and it is shown as itself in one column
+abbrev pub formed_glyph : Data → ℕ → Glyph → Option ℕ → Glyph
+formed_glyph says w g None = g
+formed_glyph says w g (Some c) = elim (is_own 1 (face says w (encode_utf8 c))) [ true ↦ glyph (encode_utf8 c) g.columns g.negative | false ↦ g ]
 
--- none of the characters is at an odd level and has a form
-abbrev pub AreFormless : Data → List ℕ → List ℕ → Type 0
-AreFormless says [] levels = ⊤
-AreFormless says (c ∷ cs) [] = ⊤
-AreFormless says (c ∷ cs) (level ∷ levels) = IsFormless says level (c ∷ []) × AreFormless says cs levels
+-- a glyph at an odd level in the form of its letter; the level, the letter and the form are given
+abbrev pub joined_glyph : Data → ℕ → Glyph → ℕ × (ℕ × Form) → Glyph
+joined_glyph says w g (level, at) = elim (level % 2) [ zero ↦ g | suc _ ↦ formed_glyph says w g (says.form at.0 at.1) ]
+
+-- at this level the text is shown as it is mirrored, in whatever form its letter is
+abbrev pub IsFormless : Data → ℕ → ℕ → List ℕ → Type 0
+IsFormless says w level text = (form : Form) → shown_text says w 1 level (form ∷ []) text ≡ mirrored_text says w 1 level text
+
+-- the forms of a body's characters from number `number` on, one for each of `cs`
+abbrev pub char_forms : Data → List ℕ → List (Option ℕ) → ℕ → List ℕ → List Form
+char_forms says body each number cs = first_forms (length cs) (drop number (body_forms says body each))
 
 -- the glyphs are those of the first `count` units of a body, or all, from an offset on
 pub record AreSingle (says : Data) (w : ℕ) (body : List ℕ) (at count : ℕ) (glyphs : List Drawn) : Type 0 where

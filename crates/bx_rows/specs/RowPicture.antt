@@ -11,7 +11,7 @@ use Rattle.bx_cells.specs.declared.unit.Face.TheVariants.{Tab, Mark, Own}
 use Rattle.bx_cells.specs.declared.unit.Unit.{Unit}
 use Rattle.bx_cells.specs.Faces.{face}
 use Rattle.bx_cells.specs.Units.{unit_text}
-use Rattle.bx_joining.specs.JoinedText.{joined_image}
+use Rattle.bx_joining.specs.JoinedText.{in_forms}
 use Rattle.bx_rows.specs.UnitForms.{unit_forms}
 use Rattle.bx_rows.specs.Wrapping.{columns_at}
 use Rattle.bx_rows.specs.VisualOrder.{visual}
@@ -49,10 +49,17 @@ is_own n _ = false
 abbrev pub mirror_image_within : Data → ℕ → ℕ → List ℕ → List ℕ
 mirror_image_within says w n text = let other = mirror_image says text in elim (is_own n (face says w other)) [ true ↦ other | false ↦ text ]
 
--- the text with these forms if it is shown as itself in `n` columns, else without
-abbrev pub joined_image_within : Data → ℕ → ℕ → List Form → List ℕ → List ℕ → List ℕ
-joined_image_within says w n forms text shown =
-    let other = joined_image says forms text shown in elim (is_own n (face says w other)) [ true ↦ other | false ↦ shown ]
+-- the same of a text's characters
+abbrev pub mirrored_chars : Data → ℕ → ℕ → List ℕ → List ℕ
+mirrored_chars says w n cs =
+    let others = map (λ c. unwrap_or (says.mirror c) c) cs in elim (is_own n (face says w (encode_utf8_all others))) [ true ↦ others | false ↦ cs ]
+
+-- the mirrored text in the forms of the text's letters if it is shown as itself in `n` columns, else without
+abbrev pub joined_image_within : Data → ℕ → ℕ → List Form → List ℕ → List ℕ
+joined_image_within says w n forms text =
+    let letters = chars text in
+    let other = encode_utf8_all (in_forms says forms letters (mirrored_chars says w n letters)) in
+    elim (is_own n (face says w other)) [ true ↦ other | false ↦ mirror_image_within says w n text ]
 
 -- the text at a level, mirrored if the level is odd
 abbrev pub mirrored_text : Data → ℕ → ℕ → ℕ → List ℕ → List ℕ
@@ -60,8 +67,7 @@ mirrored_text says w n level text = elim (level % 2) [ zero ↦ text | suc _ ↦
 
 -- the text shown at a level: mirrored and then joined if the level is odd
 abbrev pub shown_text : Data → ℕ → ℕ → ℕ → List Form → List ℕ → List ℕ
-shown_text says w n level forms text =
-    elim (level % 2) [ zero ↦ text | suc _ ↦ joined_image_within says w n forms text (mirror_image_within says w n text) ]
+shown_text says w n level forms text = elim (level % 2) [ zero ↦ text | suc _ ↦ joined_image_within says w n forms text ]
 
 -- the glyphs of a face, with the unit's own text at a level
 abbrev pub face_glyphs : Data → ℕ → List ℕ → Face → ℕ → ℕ → List Form → List Glyph

@@ -172,7 +172,7 @@ fn mirrored_or_own<'a, D: BidiData>(
 fn shown_text<'a, D: BidiData>(
     alloc: Global,
     text: &'a str,
-    at: UnitAt<'_>,
+    at: UnitAt<'_, '_>,
     size: OwnSize,
     tables: &D,
 ) -> Result<CowStr<'a, Global>, AllocError>
@@ -183,11 +183,12 @@ fn shown_text<'a, D: BidiData>(
         return Ok(CowStr::Borrowed(text));
     }
     let mirrored = mirrored_or_own(alloc, text, size, tables)?;
+    let shown = mirrored.as_str();
     if !has_forms(text, tables) {
         return Ok(mirrored);
     }
     let place = at.row.text_at(at.offset);
-    match joined(alloc, text, mirrored.as_str(), place, tables, size)? {
+    match joined(alloc, text, shown, place, tables, size)? {
         Some(other) => Ok(CowStr::Owned(other)),
         None => Ok(mirrored),
     }
@@ -195,18 +196,18 @@ fn shown_text<'a, D: BidiData>(
 
 /// Where a unit stands: its row, its offset in the body, and its level.
 #[derive(Clone, Copy)]
-pub(crate) struct UnitAt<'r> {
-    pub(crate) row: RowAt<'r>,
+pub(crate) struct UnitAt<'t, 'e> {
+    pub(crate) row: RowAt<'t, 'e>,
     pub(crate) offset: usize,
     pub(crate) level: u8,
 }
 
 /// The face of a unit, its columns, and where it stands.
 #[derive(Clone, Copy)]
-pub(crate) struct LeveledFace<'r> {
+pub(crate) struct LeveledFace<'t, 'e> {
     pub(crate) face: Face,
     pub(crate) columns: u16,
-    pub(crate) at: UnitAt<'r>,
+    pub(crate) at: UnitAt<'t, 'e>,
 }
 
 /// Appends the glyphs of a unit of this text.
@@ -214,7 +215,7 @@ pub(crate) fn push_face<'a, D: BidiData>(
     glyphs: &mut Vec<Drawn<'a>>,
     alloc: Global,
     text: &'a str,
-    unit: LeveledFace<'_>,
+    unit: LeveledFace<'_, '_>,
     tables: &D,
     w: u16,
 ) -> Result<(), AllocError>

@@ -7,16 +7,16 @@ ghost use Rattle.bx_joining.specs.JoinedText.{joined_image};
 ghost use Rattle.bx_joining.specs.Joining.{body_forms, text_forms};
 ghost use Rattle.bx_joining.specs.Places.{StandsAt};
 ghost use Rattle.bx_rows.specs.UnitForms.{StartsRow};
-ghost use Rattle.bx_rows.specs.PlainRows.{leveled_glyphs, mirrored_glyphs};
-ghost use Rattle.bx_rows.specs.RowPicture.{glyph, joined_image_within};
+ghost use Rattle.bx_rows.specs.PlainRows.{char_forms, joined_glyph, leveled_glyphs, mirrored_glyphs};
+ghost use Rattle.bx_rows.specs.RowPicture.{joined_image_within, mirror_image_within, mirrored_chars};
 ghost use Rattle.bx_rows.specs.Shown.{glyph_of};
 ghost use Rattle.bx_ucd.specs.declared.joining.Form.{Form};
 
 use crate::drawn::Drawn;
-use crate::row_at::RowAt;
 use crate::glyphs::is_own;
+use crate::row_at::RowAt;
 use bx_cells::face;
-use bx_joining::{TextAt, joined_image, shown_form};
+use bx_joining::{LeveledBody, TextAt, joined_image, shown_form};
 use bx_terms::first_char;
 use bx_ucd::{BidiData, Form};
 use std::alloc::{AllocError, Global};
@@ -29,23 +29,23 @@ pub(crate) struct OwnSize {
     pub(crate) w: u16,
 }
 
-/// The text `shown` in the forms of the letters of `text`, if that is shown as itself in `columns` columns; else none, and
-/// `shown` stays.
+/// A text in the forms of its letters, if that is shown as itself in `columns` columns; else none. `shown`: the text mirrored,
+/// or itself.
 pub(crate) fn joined<D: BidiData>(
     alloc: Global,
     text: &str,
     shown: &str,
-    at: TextAt<'_>,
+    at: TextAt<'_, '_>,
     tables: &D,
     size: OwnSize,
 ) -> Result<Option<String>, AllocError>
     requires stands { StandsAt at.body.text.now text.now at.offset at.number }
-    requires count { length (chars shown.now) ≡ length (chars text.now) }
+    requires mirrored { chars shown.now ≡ mirrored_chars (D.data tables.now) size.w size.columns (chars text.now) }
     ensures { IfOk result (λ o. MatchOption o
         (joined_image_within (D.data tables.now) size.w size.columns (text_forms (D.data tables.now) at.entry.body.text.now at.entry.body.each.now at.entry.number text.now)
-        text.now shown.now ≡ shown.now)
+        text.now ≡ mirror_image_within (D.data tables.now) size.w size.columns text.now)
         (λ t. string_bytes t ≡ joined_image_within (D.data tables.now) size.w size.columns
-        (text_forms (D.data tables.now) at.entry.body.text.now at.entry.body.each.now at.entry.number text.now) text.now shown.now)) }
+        (text_forms (D.data tables.now) at.entry.body.text.now at.entry.body.each.now at.entry.number text.now) text.now)) }
 {
     let other = joined_image(alloc, text, shown, at, tables)?;
     let found = face(other.as_str(), tables, size.w);
@@ -55,22 +55,36 @@ pub(crate) fn joined<D: BidiData>(
     Ok(Some(other))
 }
 
-/// Shows a glyph of one letter in its form, if that is shown as itself in one column.
+/// A letter, its level, and its place in its body.
+#[derive(Clone, Copy)]
+struct LetterAt<'t, 'e> {
+    letter: char,
+    level: u8,
+    place: TextAt<'t, 'e>,
+}
+
+/// Shows a glyph at an odd level in its letter's form, if that is shown as itself in one column.
 fn join_at<D: BidiData>(
     drawn: &mut Drawn<'_>,
     alloc: Global,
-    letter: char,
-    at: TextAt<'_>,
+    at: LetterAt<'_, '_>,
     tables: &D,
     w: u16,
 ) -> Result<(), AllocError>
-    requires boundary { IsCharBoundary at.body.text.now at.offset }
-    requires number { at.number ≡ length (chars (take at.offset at.body.text.now)) }
-    ensures { OnOk result (glyph_of drawn.new ≡ glyph (joined_image_within (D.data tables.now) w 1
-        (slice_index_or (body_forms (D.data tables.now) at.entry.body.text.now at.entry.body.each.now) at.entry.number Form.Isolated ∷ [])
-        (encode_utf8 letter) (cow_str_bytes drawn.old.text)) drawn.old.columns drawn.old.negative) }
+    requires boundary { IsCharBoundary at.place.body.text.now at.place.offset }
+    requires number { at.place.number ≡ length (chars (take at.place.offset at.place.body.text.now)) }
+    ensures { OnOk result (glyph_of drawn.new ≡ joined_glyph (D.data tables.now) w (glyph_of drawn.old) (
+      at.entry.level,
+      (
+        at.entry.letter,
+        slice_index_or (body_forms (D.data tables.now) at.entry.place.body.text.now at.entry.place.body.each.now) at.entry.place.number Form.Isolated,
+      ),
+    )) }
 {
-    let Some(shown) = shown_form(letter, at, tables) else {
+    if at.level % 2 == 0 {
+        return Ok(());
+    }
+    let Some(shown) = shown_form(at.letter, at.place, tables) else {
         return Ok(());
     };
     let mut other = String::new(alloc);
@@ -86,33 +100,41 @@ pub(crate) fn join_odd<D: BidiData>(
     glyphs: &mut [Drawn<'_>],
     alloc: Global,
     levels: &[u8],
-    row: RowAt<'_>,
+    row: RowAt<'_, '_>,
     tables: &D,
     w: u16,
 ) -> Result<(), AllocError>
     requires count { length glyphs.old ≡ length levels.now }
     requires starts { StartsRow row.body.text.now row.start }
     ensures count { length glyphs.new ≡ length glyphs.old }
-    ensures joined { (cs : List ℕ) (rest : List ℕ) → drop row.entry.start.offset row.entry.body.text.now ≡ encode_utf8_all cs ++ rest
-        → map glyph_of glyphs.old ≡ mirrored_glyphs (D.data tables.now) w cs levels.now
+    ensures joined { (cs rest : List ℕ) → drop row.entry.start.offset row.entry.body.text.now ≡ encode_utf8_all cs ++ rest
+        → length cs ≡ length levels.now → map glyph_of glyphs.old ≡ mirrored_glyphs (D.data tables.now) w cs levels.now
         → OnOk result (map glyph_of glyphs.new ≡ leveled_glyphs (D.data tables.now) w cs levels.now
-        (text_forms (D.data tables.now) row.entry.body.text.now row.entry.body.each.now row.entry.start.chars (encode_utf8_all cs))) }
+        (char_forms (D.data tables.now) row.entry.body.text.now row.entry.body.each.now row.entry.start.chars cs)) }
 {
-    let mut rest = &row.body.text[row.start.offset..];
+    let body = LeveledBody {
+        text: row.body.text(),
+        each: row.body.each,
+    };
+    let mut rest = &body.text[row.start.offset..];
+    let mut offset = row.start.offset;
     let mut number = row.start.chars;
     for i in 0..glyphs.len() {
         let Some((letter, behind)) = first_char(rest) else {
             return Ok(());
         };
-        if levels[i] % 2 == 1 {
-            let at = TextAt {
-                body: row.body,
-                offset: row.body.text.len() - rest.len(),
+        let at = LetterAt {
+            letter,
+            level: levels[i],
+            place: TextAt {
+                body,
+                offset,
                 number,
-            };
-            join_at(&mut glyphs[i], alloc, letter, at, tables, w)?;
-        }
+            },
+        };
+        join_at(&mut glyphs[i], alloc, at, tables, w)?;
         rest = behind;
+        offset += letter.len_utf8();
         number += 1;
     }
     Ok(())

@@ -41,7 +41,7 @@ impl<'a, 't, D: BidiData> Clone for Lines<'a, 't, D> {
 
 impl<'a, 't, D: BidiData> Lines<'a, 't, D> {
     /// A row in the body, by its start.
-    pub(crate) fn row_at(&self, start: RowStart) -> RowAt<'a>
+    pub(crate) fn row_at(&self, start: RowStart) -> RowAt<'a, 'a>
         ensures start { result.start ≡ start }
         ensures text { result.body.text.now ≡ self.now.body.now }
         ensures each { result.body.each.now ≡ self.now.levels.now.each.items }

@@ -1,9 +1,10 @@
 //! Mirror images of texts at odd levels, L4.
 ghost use Rattle.std.specs.Prelude.{◌≡◌, ◌∷◌, [], ℕ, IfOk, IfSome, List, MatchOption, OnOk, chars, encode_utf8, false, length, map, string_bytes};
 ghost use Rattle.std.specs.Cow.{cow_str_bytes};
+ghost use Rattle.bx_ucd.specs.declared.joining.Form.{Form};
 ghost use Rattle.bx_cells.specs.declared.unit.Face.TheVariants.{Own};
 ghost use Rattle.bx_cells.specs.Faces.{face};
-ghost use Rattle.bx_rows.specs.PlainRows.{AreFormless, IsFormless, mirrored_glyphs, single_glyph};
+ghost use Rattle.bx_rows.specs.PlainRows.{IsFormless, leveled_glyphs, mirrored_glyphs, single_glyph};
 ghost use Rattle.bx_rows.specs.RowPicture.{glyph, mirror_image, mirror_image_within, mirrored_text};
 ghost use Rattle.bx_rows.specs.Shown.{glyph_of};
 
@@ -142,7 +143,7 @@ fn mirror_at<D: BidiData>(
     ensures mirrored { OnOk result (glyph_of drawn.new
         ≡ glyph (mirrored_text (D.data tables.now) w 1 level (cow_str_bytes drawn.old.text))
         drawn.old.columns drawn.old.negative) }
-    ensures formless { IfOk result (λ joins. joins ≡ false → IsFormless (D.data tables.now) level (chars (cow_str_bytes drawn.old.text))) }
+    ensures formless { IfOk result (λ joins. joins ≡ false → IsFormless (D.data tables.now) w level (cow_str_bytes drawn.old.text)) }
 {
     if level % 2 == 0 {
         return Ok(false);
@@ -169,7 +170,8 @@ pub(crate) fn mirror_odd<D: BidiData>(
     ensures mirrored { (cs : List ℕ) → map glyph_of glyphs.old ≡ map single_glyph cs
         → OnOk result (map glyph_of glyphs.new ≡ mirrored_glyphs (D.data tables.now) w cs levels.now) }
     ensures formless { (cs : List ℕ) → map glyph_of glyphs.old ≡ map single_glyph cs
-        → IfOk result (λ joins. joins ≡ false → AreFormless (D.data tables.now) cs levels.now) }
+        → IfOk result (λ joins. joins ≡ false → (forms : List Form) → length forms ≡ length cs
+        → map glyph_of glyphs.new ≡ leveled_glyphs (D.data tables.now) w cs levels.now forms) }
 {
     let mut joins = false;
     for i in 0..glyphs.len() {

@@ -34,7 +34,7 @@ pub struct LeveledRow<'r> {
 
 impl<'r> LeveledRow<'r> {
     /// The row in its body.
-    fn at(self, body: &'r str) -> RowAt<'r>
+    fn at<'t>(self, body: &'t str) -> RowAt<'t, 'r>
         ensures text { result.body.text.now ≡ body.now }
         ensures each { result.body.each.now ≡ self.entry.each.now }
         ensures start { result.start ≡ self.entry.start }
@@ -51,12 +51,12 @@ impl<'r> LeveledRow<'r> {
 
 /// The units of a row, the columns and the level of each, and the units' numbers, from 0, in visual order.
 #[derive(Clone, Copy)]
-struct OrderedRow<'r> {
+struct OrderedRow<'t, 'r> {
     units: &'r [Unit],
     columns: &'r [u16],
     levels: &'r [u8],
     order: &'r [usize],
-    at: RowAt<'r>,
+    at: RowAt<'t, 'r>,
 }
 
 /// The columns of each unit of a row in a window of `w` columns, and their sum.
@@ -83,7 +83,7 @@ fn push_units<'a, D: BidiData>(
     glyphs: &mut Vec<Drawn<'a>>,
     alloc: Global,
     body: &'a str,
-    row: &OrderedRow<'_>,
+    row: &OrderedRow<'_, '_>,
     tables: &D,
     w: u16,
 ) -> Result<(), AllocError>

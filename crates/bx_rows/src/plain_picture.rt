@@ -1,11 +1,10 @@
 //! The picture of a row in which each unit is one character of one column.
-ghost use Rattle.std.specs.Prelude.{◌≡◌, ◌≤◌, ◌<◌, ◌-◌, ◌++◌, All, IfOk, IfSome, List, ℕ, drop, encode_utf8_all, length, map, slice_index_or, sum_by, true};
+ghost use Rattle.std.specs.Prelude.{◌≡◌, ◌≤◌, ◌<◌, ◌-◌, ◌++◌, All, IfOk, IfSome, List, OnOk, ℕ, drop, encode_utf8_all, length, map, slice_index_or, sum_by, true};
 ghost use Rattle.std.specs.Cow.{cow_str_bytes};
 ghost use Rattle.bx_terms.specs.Glyphs.{is_one_glyph, run_width};
-ghost use Rattle.bx_joining.specs.Joining.{text_forms};
 ghost use Rattle.bx_rows.specs.UnitForms.{StartsRow};
 ghost use Rattle.bx_rows.specs.Lines.{glyphs_at};
-ghost use Rattle.bx_rows.specs.PlainRows.{leveled_glyphs, single_glyph};
+ghost use Rattle.bx_rows.specs.PlainRows.{char_forms, leveled_glyphs, single_glyph};
 ghost use Rattle.bx_rows.specs.RowPicture.{blank};
 ghost use Rattle.bx_rows.specs.Shown.{glyph_of};
 ghost use Rattle.bx_rows.specs.VisualOrder.{visual};
@@ -23,11 +22,34 @@ use bx_terms::OutOfMemory;
 use bx_ucd::BidiData;
 use std::alloc::{AllocError, Global};
 
+/// Mirrors and joins the glyphs at odd levels, each of a single letter of the row.
+fn show_levels<D: BidiData>(
+    glyphs: &mut [Drawn<'_>],
+    alloc: Global,
+    levels: &[u8],
+    row: RowAt<'_, '_>,
+    tables: &D,
+    w: u16,
+) -> Result<(), AllocError>
+    requires count { length glyphs.old ≡ length levels.now }
+    requires starts { StartsRow row.body.text.now row.start }
+    ensures count { length glyphs.new ≡ length glyphs.old }
+    ensures shown { (cs rest : List ℕ) → drop row.entry.start.offset row.entry.body.text.now ≡ encode_utf8_all cs ++ rest
+        → map glyph_of glyphs.old ≡ map single_glyph cs → OnOk result (map glyph_of glyphs.new
+        ≡ leveled_glyphs (D.data tables.now) w cs levels.now
+        (char_forms (D.data tables.now) row.entry.body.text.now row.entry.body.each.now row.entry.start.chars cs)) }
+{
+    if !mirror_odd(glyphs, alloc, levels, tables, w)? {
+        return Ok(());
+    }
+    join_odd(glyphs, alloc, levels, row, tables, w)
+}
+
 /// The glyphs of a plain row in visual order, mirrored and joined at odd levels.
 fn arranged<'a, D: BidiData>(
     alloc: Global,
     row: PlainRow<'a>,
-    at: RowAt<'_>,
+    at: RowAt<'_, '_>,
     tables: &D,
     w: u16,
 ) -> Result<Vec<Drawn<'a>>, AllocError>
@@ -37,14 +59,11 @@ fn arranged<'a, D: BidiData>(
     ensures order { (cs rest : List ℕ) → drop at.entry.start.offset at.entry.body.text.now ≡ encode_utf8_all cs ++ rest
         → map glyph_of row.entry.glyphs.items ≡ map single_glyph cs → IfOk result (λ v. map glyph_of v.items
         ≡ map (λ k. slice_index_or (leveled_glyphs (D.data tables.now) w cs row.entry.levels.items
-        (text_forms (D.data tables.now) at.entry.body.text.now at.entry.body.each.now at.entry.start.chars (encode_utf8_all cs))) k blank)
+        (char_forms (D.data tables.now) at.entry.body.text.now at.entry.body.each.now at.entry.start.chars cs)) k blank)
         (visual row.entry.levels.items)) }
 {
     let PlainRow { mut glyphs, levels } = row;
-    let joins = mirror_odd(&mut glyphs, alloc, &levels, tables, w)?;
-    if joins {
-        join_odd(&mut glyphs, alloc, &levels, at, tables, w)?;
-    }
+    show_levels(&mut glyphs, alloc, &levels, at, tables, w)?;
     reorder(&mut glyphs, &levels);
     Ok(glyphs)
 }

@@ -9,14 +9,14 @@ use bx_joining::{LeveledBody, TextAt};
 
 /// A row of a body: where it starts.
 #[derive(Clone, Copy)]
-pub(crate) struct RowAt<'r> {
-    pub(crate) body: LeveledBody<'r>,
+pub(crate) struct RowAt<'t, 'e> {
+    pub(crate) body: LeveledBody<'t, 'e>,
     pub(crate) start: RowStart,
 }
 
-impl<'r> RowAt<'r> {
+impl<'t, 'e> RowAt<'t, 'e> {
     /// The place of a text of the row by its offset.
-    pub(crate) fn text_at(self, offset: usize) -> TextAt<'r>
+    pub(crate) fn text_at(self, offset: usize) -> TextAt<'t, 'e>
         requires starts { StartsRow self.body.text.now self.start }
         requires order { self.start.offset ≤ offset }
         requires boundary { IsCharBoundary self.body.text.now offset }
@@ -25,9 +25,13 @@ impl<'r> RowAt<'r> {
         ensures text { result.body.text.now ≡ self.entry.body.text.now }
         ensures each { result.body.each.now ≡ self.entry.body.each.now }
     {
-        let before = char_count(&self.body.text[self.start.offset..offset]);
+        let text = self.body.text();
+        let before = char_count(&text[self.start.offset..offset]);
         TextAt {
-            body: self.body,
+            body: LeveledBody {
+                text,
+                each: self.body.each,
+            },
             offset,
             number: self.start.chars + before,
         }

@@ -8,5 +8,5 @@ use Rattle.bx_rows.proofs.picture.push_units.Given as goal
 abbrev pub invariant-loop-number : goal.invariant-loop-number
 invariant-loop-number g l =
     map glyph_of l.glyphs.items ≡ map glyph_of l.initial.glyphs.items
-    ++ flat_map (λ k. slice_index_or (unit_glyphs (g.D.BidiData.data l.tables) l.w l.body l.row.units.now l.row.columns.now l.row.levels.now) k
+    ++ flat_map (λ k. slice_index_or (unit_glyphs (g.D.BidiData.data l.tables) l.w l.body l.row.at.body.each.now l.row.units.now l.row.columns.now l.row.levels.now) k
     []) (take l.number-index l.row.order.now)
