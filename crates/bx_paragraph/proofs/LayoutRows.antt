@@ -44,7 +44,7 @@ rows-count l says is =
 pub row-is : (l : LayoutState) (says : Data) (k : ℕ) (us : List Unit) (levels : List ℕ) (is_last : Bool)
     → IsLayoutBy says l → k < length l.starts → us ≡ get_or (rows_units says l.w l.body) k []
     → levels ≡ row_levels says l.body l.paragraph l.each us → is_last ≡ (k + 1 == length l.starts)
-    → record { body = l.body; paragraph = l.paragraph; units = us; levels = levels; is_last = is_last } ≡ row_by says l k
+    → record { body = l.body; paragraph = l.paragraph; each = l.each; units = us; levels = levels; is_last = is_last } ≡ row_by says l k
 row-is l says k us levels is_last is h units-are levels-are last =
     let xs = rows_units says l.w l.body in
     let count = rows-count l says is in
@@ -52,7 +52,7 @@ row-is l says k us levels is_last is h units-are levels-are last =
     let each = levels_under says l.base (chars l.body) in
     let found = last-at (row_with says l.body paragraph each) xs k (omega (arith, h, count)) in
     let make : ℕ → List (Option ℕ) → Bool → List Unit → BodyRow = λ p e b vs. row_with says l.body p e b vs in
-    ap (λ ls. record { body = l.body; paragraph = l.paragraph; units = us; levels = ls; is_last = is_last }) levels-are
+    ap (λ ls. record { body = l.body; paragraph = l.paragraph; each = l.each; units = us; levels = ls; is_last = is_last }) levels-are
     ∙ ap (λ p. make p l.each is_last us) is.paragraph ∙ ap (λ e. make paragraph e is_last us) is.each
     ∙ ap (λ b. make paragraph each b us) (last ∙ ap (λ n. k + 1 == n) count) ∙ ap (make paragraph each (k + 1 == length xs)) units-are ∙ sym found
 

@@ -16,7 +16,7 @@ pub lent_own_glyphs : {D : Type 0} {g : Ghosts D} (l : LayoutState) (t : D) (s :
 lent_own_glyphs {D} {g} l t s k lent is within =
     let says = g.data t in
     let us = units_of_row says l.w l.body k in
-    let same : own_glyphs_at s k ≡ own_glyphs says l.w l.body us (row_levels says l.body l.paragraph l.each us)
+    let same : own_glyphs_at s k ≡ own_glyphs says l.w l.body l.each us (row_levels says l.body l.paragraph l.each us)
     = rw (lent.tables_are, lent.w_is, lent.body_is, lent.paragraph_is, lent.each_is) refl in
     same ∙ ap (row_own_glyphs says l.w)
     (row-is l says k us (row_levels says l.body l.paragraph l.each us) (k + 1 == length l.starts) is within (units-of-row says l.w l.body k) refl refl)

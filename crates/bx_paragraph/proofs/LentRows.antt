@@ -31,7 +31,7 @@ module _ {D : Type 0} {g : Ghosts D} (l : LayoutState) (t : D) (s : Lines D g) (
   -- it is the same row, with its units and their levels
   pub lent_row : (us : List Unit) (levels : List ℕ) (is_last : Bool) → us ≡ units_at s k → levels ≡ levels_of s us
       → is_last ≡ (k + 1 == length l.starts)
-      → record { body = l.body; paragraph = l.paragraph; units = us; levels = levels; is_last = is_last } ≡ row_by (g.data t) l k
+      → record { body = l.body; paragraph = l.paragraph; each = l.each; units = us; levels = levels; is_last = is_last } ≡ row_by (g.data t) l k
   lent_row us levels is_last units each last =
       row-is l (g.data t) k us levels is_last is within (units ∙ lent_units ∙ units-of-row (g.data t) l.w l.body k)
       (each ∙ lent_levels us) last

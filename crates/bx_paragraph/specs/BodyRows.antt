@@ -11,10 +11,12 @@ use Rattle.bx_rows.specs.Wrapping.{wrap, row_units, first_offset}
 use Rattle.bx_rows.specs.RowLevels.{row_levels}
 use Rattle.bx_rows.specs.RowPicture.{Glyph, draw}
 
--- a row: its body, the paragraph level, the row's units with their levels, and whether it is the paragraph's last row
+-- a row: its body, the paragraph level, the levels of the body's characters, the row's units with their levels, and whether it
+-- is the paragraph's last row
 pub record BodyRow : Type 0 where
   pub body : List ℕ
   pub paragraph : ℕ
+  pub each : List (Option ℕ)
   pub units : List Unit
   pub levels : List ℕ
   pub is_last : Bool
@@ -22,7 +24,7 @@ pub record BodyRow : Type 0 where
 -- the row of some units, in a paragraph of the level `paragraph` whose characters have the levels `each`
 abbrev pub row_with : Data → List ℕ → ℕ → List (Option ℕ) → Bool → List Unit → BodyRow
 row_with says body paragraph each is_last us =
-    record { body = body; paragraph = paragraph; units = us; levels = row_levels says body paragraph each us; is_last = is_last }
+    record { body = body; paragraph = paragraph; each = each; units = us; levels = row_levels says body paragraph each us; is_last = is_last }
 
 -- rows in order, the last one marked as last
 abbrev pub with_last : (Bool → List Unit → BodyRow) → List (List Unit) → List BodyRow
@@ -69,7 +71,7 @@ row_of rows offset = falls_in (map first_of rows) offset
 
 -- an empty row, for numbers without a row
 abbrev pub no_row : BodyRow
-no_row = record { body = []; paragraph = 0; units = []; levels = []; is_last = true }
+no_row = record { body = []; paragraph = 0; each = []; units = []; levels = []; is_last = true }
 
 -- a row by its number
 abbrev pub row_at : List BodyRow → ℕ → BodyRow
@@ -77,4 +79,4 @@ row_at rows k = slice_index_or rows k no_row
 
 -- the glyphs of a row from left to right
 abbrev pub row_glyphs : Data → ℕ → BodyRow → List Glyph
-row_glyphs says w r = draw says w r.body r.paragraph r.units r.levels
+row_glyphs says w r = draw says w r.body r.paragraph r.each r.units r.levels

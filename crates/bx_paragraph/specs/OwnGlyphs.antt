@@ -6,4 +6,4 @@ use Rattle.bx_paragraph.specs.BodyRows.{BodyRow}
 
 -- the glyphs of a row's units from left to right
 abbrev pub row_own_glyphs : Data → ℕ → BodyRow → List Glyph
-row_own_glyphs says w r = own_glyphs says w r.body r.units r.levels
+row_own_glyphs says w r = own_glyphs says w r.body r.each r.units r.levels

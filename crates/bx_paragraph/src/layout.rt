@@ -17,7 +17,7 @@ use crate::row_parts::RowParts;
 use crate::slot::Slot;
 use crate::slots::row_slots;
 use bx_resolve::{Levels, levels};
-use bx_rows::{LeveledRow, Lines, RowPicture, RowStart, row_starts};
+use bx_rows::{Lines, RowPicture, RowStart, row_starts};
 use bx_terms::{Base, OutOfMemory};
 use bx_ucd::BidiData;
 use std::alloc::Global;
@@ -217,12 +217,7 @@ impl ParagraphLayout {
         ensures { IfOk result (λ v. v.items ≡ row_slots self.now.w (row_of_parts self.now parts.now)) }
     {
         let alloc = *parts.units.allocator();
-        let row = LeveledRow {
-            units: &parts.units,
-            levels: &parts.levels,
-            paragraph: self.level(),
-        };
-        let slots = row_slots(alloc, self.body(), &row, parts.is_last, self.width())?;
+        let slots = row_slots(alloc, self.body(), parts, self.level(), self.width())?;
         Ok(slots)
     }
 

@@ -1,13 +1,14 @@
 //! The slots of a row, from its units.
-ghost use Rattle.std.specs.Prelude.{◌≡◌, ◌≤◌, ◌<◌, ◌+◌, ◌++◌, ◌∷◌, [], true, false, All, IfOk, OnOk, length, map};
+ghost use Rattle.std.specs.Prelude.{◌≡◌, ◌≤◌, ◌<◌, ◌+◌, ◌++◌, ◌∷◌, [], ℕ, true, false, All, IfOk, List, OnOk, Option, length, map};
 ghost use Rattle.bx_terms.specs.Sizes.{is_side, largest_side};
 ghost use Rattle.bx_rows.specs.RowPicture.{columns_used};
 ghost use Rattle.bx_paragraph.specs.RowParts.{body_row};
 ghost use Rattle.bx_paragraph.specs.Slots.{columns_of, extent_of, row_slots, side_by_side};
 
+use crate::row_parts::RowParts;
 use crate::slot::Slot;
 use bx_cells::Unit;
-use bx_rows::{LeveledRow, unit_columns, visual};
+use bx_rows::{unit_columns, visual};
 use bx_terms::OutOfMemory;
 use std::alloc::{AllocError, Global};
 
@@ -58,29 +59,28 @@ fn push_end(
     Ok(())
 }
 
-/// The slots of a row of a body from left to right, from its units and their levels.
+/// The slots of a row of a body from left to right, from its units and their levels, in a paragraph of the level `paragraph`.
 pub(crate) fn row_slots(
     alloc: Global,
     body: &str,
-    row: &LeveledRow<'_>,
-    is_last: bool,
+    row: &RowParts,
+    paragraph: u8,
     w: u16,
 ) -> Result<Vec<Slot>, OutOfMemory>
     requires side { is_side w ≡ true }
-    requires fits { columns_used w row.now.units.now ≤ w }
-    requires levels { length row.now.levels.now ≡ length row.now.units.now }
-    ensures { IfOk result (λ v. v.items ≡ row_slots w (body_row body.now row.now is_last)) }
+    requires fits { columns_used w row.now.units.items ≤ w }
+    requires levels { length row.now.levels.items ≡ length row.now.units.items }
+    ensures { IfOk result (λ v. (each : List (Option ℕ)) → v.items ≡ row_slots w (body_row body.now paragraph each row.now)) }
 {
-    let paragraph = row.paragraph;
-    let (columns, used) = unit_columns(alloc, row.units, w)?;
-    let order = visual(alloc, row.levels)?;
+    let (columns, used) = unit_columns(alloc, &row.units, w)?;
+    let order = visual(alloc, &row.levels)?;
     let mut slots = Vec::with_capacity(alloc, row.units.len() + 1)?;
     if paragraph % 2 == 0 {
-        push_units(&mut slots, row.units, &columns, &order, 1)?;
-        push_end(&mut slots, is_last, body.len(), (used + 1).min(w))?;
+        push_units(&mut slots, &row.units, &columns, &order, 1)?;
+        push_end(&mut slots, row.is_last, body.len(), (used + 1).min(w))?;
         return Ok(slots);
     }
-    push_end(&mut slots, is_last, body.len(), (w - used).max(1))?;
-    push_units(&mut slots, row.units, &columns, &order, w - used + 1)?;
+    push_end(&mut slots, row.is_last, body.len(), (w - used).max(1))?;
+    push_units(&mut slots, &row.units, &columns, &order, w - used + 1)?;
     Ok(slots)
 }

@@ -21,6 +21,7 @@ use Rattle.bx_cells.specs.declared.unit.Unit.{Unit}
 use Rattle.bx_cells.specs.Units.{HasFace, unit_text, units}
 use Rattle.bx_cells.proofs.Standing.{faces-units}
 use Rattle.bx_rows.specs.RowPicture.{Glyph, blank, columns_used, unit_columns, unit_glyphs}
+use Rattle.bx_rows.specs.UnitForms.{unit_forms}
 use Rattle.bx_rows.specs.VisualOrder.{visual}
 use Rattle.bx_rows.specs.Wrapping.{columns_at, row_units, wrap}
 use Rattle.bx_rows.proofs.FaceGlyphs.{face-sum, tells-face}
@@ -34,7 +35,7 @@ use Rattle.bx_paragraph.specs.BodyRows.{BodyRow, body_rows, offsets_of, row_with
 use Rattle.bx_paragraph.specs.Slots.{column_in, column_of, end_slot, extent_of, left_column, row_slots, side_by_side, slot, slot_offsets, unit_slots}
 use Rattle.bx_paragraph.proofs.OnceEach.{once-each}
 use Rattle.bx_paragraph.proofs.RowSlots.{extent-is}
-use Rattle.bx_view.specs.Cells.{HasCell, HasCells, IsEndCell, IsUnitCell, glyphs_of, mirrored, times}
+use Rattle.bx_view.specs.Cells.{HasCell, HasCells, IsEndCell, IsUnitCell, glyphs_of, times, with_looks}
 use Rattle.bx_view.specs.TextRows.{IsPlace, TextRow, no_text_row, row_at, row_of, text_row, text_rows}
 use Rattle.bx_view.proofs.RowsAround.{from, own}
 use Rattle.bx_view.proofs.KeptPlaces.{HasLevels, one-at, counted-contains, rows-leveled}
@@ -78,15 +79,15 @@ module _ (says : Data) (base : Base) (w : ℕ) where
 
 -- ---- the glyphs of a unit have its columns
 
-piece-sum : (says : Data) (w c : ℕ) (body : List ℕ) (us : List Unit) (levels : List ℕ) (n : ℕ) → All (HasFace says w body) us
+piece-sum : (says : Data) (w c : ℕ) (body : List ℕ) (each : List (Option ℕ)) (us : List Unit) (levels : List ℕ) (n : ℕ) → All (HasFace says w body) us
     → length levels ≡ length us → n < length us
-    → columns_of_glyphs (get_or (unit_glyphs says w body us (unit_columns w c us) levels) n []) ≡ get_or (unit_columns w c us) n 0
-piece-sum says w c body [] levels n a e h = absurd (omega (arith, h))
-piece-sum says w c body (u ∷ us) [] n a e h = let more : suc (length us) ≡ length (u ∷ us) = refl in absurd (omega (arith, e, more))
-piece-sum says w c body (u ∷ us) (l ∷ ls) zero a e h =
-    face-sum says w c l (unit_text body u) u.face (tells-face says w (unit_text body u) u.face (a 0 u (omega arith)))
-piece-sum says w c body (u ∷ us) (l ∷ ls) (suc n) a e h =
-    piece-sum says w (c + columns_at w c u.face) body us ls n (All-rest (HasFace says w body) u us (u ∷ us) refl a) (omega (arith, e))
+    → columns_of_glyphs (get_or (unit_glyphs says w body each us (unit_columns w c us) levels) n []) ≡ get_or (unit_columns w c us) n 0
+piece-sum says w c body each [] levels n a e h = absurd (omega (arith, h))
+piece-sum says w c body each (u ∷ us) [] n a e h = let more : suc (length us) ≡ length (u ∷ us) = refl in absurd (omega (arith, e, more))
+piece-sum says w c body each (u ∷ us) (l ∷ ls) zero a e h =
+    face-sum says w c l (unit_forms says body each u) (unit_text body u) u.face (tells-face says w (unit_text body u) u.face (a 0 u (omega arith)))
+piece-sum says w c body each (u ∷ us) (l ∷ ls) (suc n) a e h =
+    piece-sum says w (c + columns_at w c u.face) body each us ls n (All-rest (HasFace says w body) u us (u ∷ us) refl a) (omega (arith, e))
     (omega (arith, h))
 
 -- ---- slots side by side, and the glyphs of their units
@@ -226,7 +227,7 @@ module _ (says : Data) (w : ℕ) (r : TextRow) (levels : HasLevels r.row) (faces
   pub sums : All (λ k. columns_of_glyphs (glyphs_of says w r.row k) ≡ (extent_of us columns k).1) order
   sums = λ i d h.
       let k = get_or order i d in
-      piece-sum says w 0 r.row.body us r.row.levels k faces levels (below i d h)
+      piece-sum says w 0 r.row.body r.row.each us r.row.levels k faces levels (below i d h)
       ∙ sym (ap (λ (x : ℕ × ℕ). x.1) (extents k no_unit (below i d h)))
 
   unit-cell : (s : Slot) (place : ℕ) → Contains (unit_slots w r.row) s → r.start + s.offset ≡ place → IsUnitCell says w r place s.column
@@ -289,12 +290,12 @@ module _ (says : Data) (base : Base) (w : ℕ) (some : 1 ≤ w) (text : List ℕ
   rows = text_rows says base w text
 
   pub has-cell : (place : ℕ) → IsPlace rows place → HasCell says w rows place
-  has-cell place is mirror =
+  has-cell place is mirror joining form =
       let n = row_of rows place in
       let r = row_at rows n in
       let one = one-slot says base w some text utf8 place is in
       let at = unmoved r.start (offsets_of r.row) place (in-own-row says base w some text utf8 place is) in
-      place-cell (mirrored says mirror) w r (rows-leveled says base w text n no_text_row one.row)
+      place-cell (with_looks says mirror joining form) w r (rows-leveled says base w text n no_text_row one.row)
       (rows-faced says base w text utf8 n no_text_row one.row) place at.0 at.1
 
   pub has-cells : HasCells says w rows

@@ -50,5 +50,5 @@ module _ (says : Data) (base : Base) (w : ℕ) where
   pub row-filled : (text : List ℕ) → IsUtf8 text → All (λ r. columns_of_glyphs (text_row_glyphs says w r) ≡ w) (text_rows says base w text)
   row-filled text utf8 = λ k d h.
       let r = get_or (text_rows says base w text) k d in
-      draw-sum says w r.row.body r.row.paragraph r.row.units r.row.levels (rows-faced says base w text utf8 k d h) (rows-leveled says base w text k d h)
+      draw-sum says w r.row.body r.row.paragraph r.row.each r.row.units r.row.levels (rows-faced says base w text utf8 k d h) (rows-leveled says base w text k d h)
       (fitting-from 0 (paragraphs says text) k d h)

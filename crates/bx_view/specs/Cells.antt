@@ -2,7 +2,8 @@
 use Rattle.std.specs.Prelude.{◌≡◌, ◌≢◌, ◌⊎◌, ℕ, zero, suc, ◌+◌, ◌-◌, ◌%◌, ◌<◌, ◌==◌, true, List, [], ◌∷◌, ◌++◌, length, count_by, sum_by, flat_map}
 use Rattle.std.specs.Prelude.{replicate, slice_index_or, Contains, HoldsAt, MatchOption, Option}
 use Rattle.bx_ucd.specs.Data.{Data}
-use Rattle.bx_ucd.specs.declared.class.Class.{Class}
+use Rattle.bx_ucd.specs.declared.joining.Form.{Form}
+use Rattle.bx_ucd.specs.declared.joining.Joining.{Joining}
 use Rattle.bx_rows.specs.RowPicture.{Glyph, blank, columns_used, unit_columns, unit_glyphs}
 use Rattle.bx_rows.specs.VisualOrder.{visual}
 use Rattle.bx_paragraph.specs.BodyRows.{BodyRow}
@@ -22,7 +23,7 @@ pub record HasOneSlot (w : ℕ) (rows : List TextRow) (place : ℕ) : Type 0 whe
 
 -- the glyphs of a row's unit `number`
 abbrev pub glyphs_of : Data → ℕ → BodyRow → ℕ → List Glyph
-glyphs_of says w r number = slice_index_or (unit_glyphs says w r.body r.units (unit_columns w 0 r.units) r.levels) number []
+glyphs_of says w r number = slice_index_or (unit_glyphs says w r.body r.each r.units (unit_columns w 0 r.units) r.levels) number []
 
 -- the glyphs of a row left of a unit: its blanks in a paragraph of odd level, then the glyphs of the units `numbers`
 abbrev pub glyphs_before : Data → ℕ → BodyRow → List ℕ → List Glyph
@@ -48,16 +49,17 @@ pub record IsEndCell (w : ℕ) (r : TextRow) (place column : ℕ) : Type 0 where
   pub place_is : place ≡ r.start + length r.row.body
   pub column_is : column ≡ end_column w r.row
 
--- what tables say, with other mirrors
-abbrev pub mirrored : Data → (ℕ → Option ℕ) → Data
-mirrored says mirror = record says { mirror = mirror }
+-- what tables say, with other mirrors, joining types and forms
+abbrev pub with_looks : Data → (ℕ → Option ℕ) → (ℕ → Joining) → (ℕ → Form → Option ℕ) → Data
+with_looks says mirror joining form = record says { mirror = mirror; joining = joining; form = form }
 
--- the cell of a place in its row, whatever the mirrors
+-- the cell of a place in its row, whatever the mirrors and the forms of letters
 abbrev pub HasCell : Data → ℕ → List TextRow → ℕ → Type 0
 HasCell says w rows place =
     let r = row_at rows (row_of rows place) in
     let column = cell_of w rows place in
-    (mirror : ℕ → Option ℕ) → IsUnitCell (mirrored says mirror) w r place column ⊎ IsEndCell w r place column
+    (mirror : ℕ → Option ℕ) (joining : ℕ → Joining) (form : ℕ → Form → Option ℕ)
+    → IsUnitCell (with_looks says mirror joining form) w r place column ⊎ IsEndCell w r place column
 
 -- a row is entered at one of its places, in every column
 abbrev pub IsEntered : ℕ → TextRow → Type 0

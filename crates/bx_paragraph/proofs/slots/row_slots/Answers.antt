@@ -5,35 +5,37 @@ use Rattle.bx_paragraph.proofs.slots.row_slots.Goals as goal
 
 pub push_units-requires-clause-room : goal.push_units-requires-clause-room
 push_units-requires-clause-room c =
-    room-even c.args.w c.args.row.now.units.now c.args.row.now.levels.now _ _ c.requires.side c.requires.fits c.requires.levels
+    room-even c.args.w c.args.row.now.units.items c.args.row.now.levels.items _ _ c.requires.side c.requires.fits c.requires.levels
     (c.deref.ensures.value ∙ c.in_ok-columns.ensures.columns) (c.deref-then-paragraph-eq0.ensures.value ∙ c.in_ok-order.ensures.order)
 
 pub push_units-requires-2-clause-room : goal.push_units-requires-2-clause-room
 push_units-requires-2-clause-room c =
-    room-odd c.args.w c.args.row.now.units.now c.args.row.now.levels.now _ _ c.in_ok-columns.used c.requires.side c.requires.fits c.requires.levels
+    room-odd c.args.w c.args.row.now.units.items c.args.row.now.levels.items _ _ c.in_ok-columns.used c.requires.side c.requires.fits c.requires.levels
     (c.deref-2.ensures.value ∙ c.in_ok-columns.ensures.columns) (c.deref-3.ensures.value ∙ c.in_ok-order.ensures.order) c.in_ok-columns.ensures.used
 
 pub returns-then-paragraph-eq0 : goal.returns-then-paragraph-eq0
-returns-then-paragraph-eq0 c =
+returns-then-paragraph-eq0 c each =
     let r : BodyRow = record {
       body = c.args.body.now;
-      paragraph = c.args.row.now.paragraph;
-      units = c.args.row.now.units.now;
-      levels = c.args.row.now.levels.now;
-      is_last = c.args.is_last;
+      paragraph = c.args.paragraph;
+      each = each;
+      units = c.args.row.now.units.items;
+      levels = c.args.row.now.levels.items;
+      is_last = c.args.row.now.is_last;
     } in
     slots-even c.args.w r _ _ c.in_ok-columns.used c.min.result _ _ _ c.if-paragraph-eq0.true (c.deref.ensures.value ∙ c.in_ok-columns.ensures.columns)
     (c.deref-then-paragraph-eq0.ensures.value ∙ c.in_ok-order.ensures.order) c.in_ok-columns.ensures.used c.in_ok-slots.ensures.items
     c.in_ok-push_units.ensures c.in_ok-push_end.ensures c.min.ensures
 
 pub returns : goal.returns
-returns c =
+returns c each =
     let r : BodyRow = record {
       body = c.args.body.now;
-      paragraph = c.args.row.now.paragraph;
-      units = c.args.row.now.units.now;
-      levels = c.args.row.now.levels.now;
-      is_last = c.args.is_last;
+      paragraph = c.args.paragraph;
+      each = each;
+      units = c.args.row.now.units.items;
+      levels = c.args.row.now.levels.items;
+      is_last = c.args.row.now.is_last;
     } in
     slots-odd c.args.w r _ _ c.in_ok-columns.used c.max.result _ _ _ (omega (arith, c.if-paragraph-eq0.false)) (c.deref-2.ensures.value
     ∙ c.in_ok-columns.ensures.columns)
