@@ -22,7 +22,8 @@ refuse_file() { # NAME CAUSE
 
 # ---- the tables
 
-# Finds Unicode's three files in a folder. In Unicode's own tree the first is one folder deeper.
+# Finds Unicode's files in a folder; the last two, of joined letters, may be missing. In Unicode's own tree the first is one
+# folder deeper.
 take_tables() { # FOLDER
     classes=$1/extracted/DerivedBidiClass.txt
     [ -r "$classes" ] || classes=$1/DerivedBidiClass.txt

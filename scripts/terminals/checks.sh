@@ -12,6 +12,11 @@ write_texts() {
     printf 'abc שלום def\none עברית two (שתיים) 12\n' >"$room/files/text"
     printf 'abc םולש def\none תירבע two (םייתש) 12\n' >"$room/files/rows"
     printf 'abcd\n' >"$room/opened"
+    # in Arabic, Persian with a joiner, and Urdu: the text, its letters in the order of the screen, from right to left in 60 columns,
+    # and their forms in this order by Unicode's joining types
+    printf 'السلام abc كتاب\nمی\342\200\214خواهم ہے (باب) 12\n' >"$room/files/letters"
+    printf '%45sباتك abc مالسلا\n%41s12 (باب) ےہ مهاوخی\342\200\214م\n' '' '' >"$room/files/apart"
+    printf '%45sﺏﺎﺘﻛ abc ﻡﺎﻠﺴﻟﺍ\n%41s12 (ﺏﺎﺑ) ﮯﮨ ﻢﻫﺍﻮﺧﯽ\342\200\214ﻣ\n' '' '' >"$room/files/joined"
 }
 
 check_terminal() { # KIND
@@ -34,6 +39,7 @@ check_terminal() { # KIND
     *_tmux) check_in_tmux "$1" ;;
     *)
         check_rows "$1"
+        check_joined "$1"
         check_keys "$1"
         ! sends_control "$1" || check_control_keys "$1"
         check_title "$1"
@@ -88,6 +94,22 @@ check_rows() { # KIND
     other_picture "$1, rows in the other order" "$1-editor" "$1-wrong"
     same_picture "$1, the shell's rows afterwards" "$1-before" "$1-after"
     same_picture "$1, more of them" "$1-twice" "$1-again"
+}
+
+# Compares the editor's picture of joined letters, and with --no-joining, with the picture of `cat` on their forms and on the
+# letters, in a terminal that is told not to reorder. The two must differ unless the terminal joins letters by itself.
+check_joined() { # KIND
+    open_editor letters "$1-joined"
+    leave_editor "$1, joined letters"
+    open_editor '--no-joining letters' "$1-apart"
+    leave_editor "$1, letters apart"
+    for rows in joined apart; do
+        order "clear; printf '\033[8l'; cat $rows; printf '\033[10;1H- 1:1\033[1;60H'"
+        take_picture "$1-$rows-right"
+        same_picture "$1, letters $rows" "$1-$rows" "$1-$rows-right"
+    done
+    order "printf '\033[8h'"
+    joins "$1" || other_picture "$1, letters joined or apart" "$1-joined" "$1-apart"
 }
 
 # Has the terminal print its screen.

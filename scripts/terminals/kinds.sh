@@ -56,6 +56,12 @@ reorders() { # KIND
     return 1
 }
 
+# Whether it joins letters by itself, also where it is told not to reorder.
+joins() { # KIND
+    case $1 in vte* | kitty) return 0 ;; esac
+    return 1
+}
+
 # Whether it prints its screen as text, to the file `read`.
 prints_screen() { # KIND
     case $1 in xterm | urxvt) return 0 ;; esac

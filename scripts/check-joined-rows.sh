@@ -1,0 +1,226 @@
+#!/bin/sh
+# check-joined-rows.sh [ROWS]: prints texts with joined letters by bidi_print, and compares the rows: with those of ROWS, with the
+# output of fribidi for lines of words, and for each letter those by the tables of data/ with those by Unicode's own files. It is
+# not part of `rt ci`. Exit status 1: a row differs; 77: something is missing (no ROWS, python3, fribidi, word list or
+# unicode-data), and all else agrees.
+#
+# ROWS is a file of rows from an independent source, made with Unicode's five files. A line has fields with tabs between: the
+# body, its characters in hexadecimal; the direction; two ignored fields; what each unit is shown as; and the row of 500 columns
+# from left to right without the blanks that fill it up, in hexadecimal too.
+#
+# The 5,000 lines are of words from Debian's packages hunspell-ar, myspell-fa and firefox-esr-l10n-ur (Arabic, Persian, Urdu), by
+# a generator with a seed: with vowel points, strokes, joiners, direction marks, digits and Latin words among them. fribidi agrees
+# by definition except in these. What differs is made alike before the comparison, and counted:
+#
+# - fribidi makes one character of lam and alef, and has no option against that. Each such ligature is taken apart again, into the
+#   final form of the alef and the initial or medial one of the lam.
+# - A letter without any form in UnicodeData.txt joins in fribidi, which gives its neighbours forms that reach out to a letter of
+#   isolated look. Here such a letter joins nothing. Words with one are left out, and not counted.
+# - A letter of joining type U with an isolated form (the hamza, U+0621) is shown in that form here, and as itself by fribidi.
+# - fribidi sets a joiner or direction mark as a character of its own, and drops it on demand (--clean). A joiner belongs to its
+#   letter's unit here, and is dropped from our rows.
+set -eu
+export LC_ALL=C.UTF-8
+
+top=$(cd "$(dirname "$0")/.." && pwd)
+# shellcheck source=scripts/built.sh
+. "$top/scripts/built.sh"
+rows=''
+[ ! -r "${1:-}" ] || rows=$(readlink -f "$1")
+
+if ! command -v python3 >/dev/null; then
+    echo 'skipped: there is no python3'
+    exit 77
+fi
+folder=$(mktemp -d)
+trap 'rm -rf "$folder"' EXIT
+trap 'exit 1' HUP INT TERM
+
+cat >"$folder/joined_rows.py" <<'END'
+import os, random, re, shutil, subprocess, sys, zipfile
+
+program, data, rows = sys.argv[1:]
+UNICODE = "/usr/share/unicode"
+LINES, SEED = 5000, 1
+ARABIC, PERSIAN = "/usr/share/hunspell/ar.dic", "/usr/share/hunspell/fa.dic"
+URDU = "/usr/lib/firefox-esr/browser/extensions/langpack-ur@firefox-esr.mozilla.org.xpi"
+FILES = {"classes": "DerivedBidiClass", "brackets": "BidiBrackets", "mirroring": "BidiMirroring", "joining": "ArabicShaping", "characters": "UnicodeData"}
+MARK = re.compile(r"\[([eEoOpiIfP?~#])\]")
+POINTS = "\u064b\u064c\u064d\u064e\u064f\u0650\u0651\u0652\u0670"
+JOINERS, MARKS = "\u200c\u200d", "\u200e\u200f"
+BEH = "\u0628"
+# fribidi's ligatures in the order of their codes, an isolated and a final one of each: the final form of the alef
+ALEFS = "\ufe82\ufe84\ufe88\ufe8e"
+LIGATURE = re.compile(f"([\ufef5-\ufefc])([{POINTS}]*)")
+failed = skipped = False
+
+
+def skip(why):
+    global skipped
+    skipped = True
+    print(f"skipped: {why}")
+
+
+def tell(name, alike, count):
+    global failed
+    failed = failed or alike < count or not count
+    print(f"{name}: {alike} of {count} are alike")
+
+
+def printed(lines, tables=data, *words):
+    """The rows of bidi_print for lines that fit, without the blanks around them."""
+    with open("text", "w", encoding="utf-8", newline="") as file:
+        file.write("\n".join(lines))
+    paths = []
+    for word, name in FILES.items():
+        path = f"{tables}/{name}.txt"
+        paths.append(f"--{word}={path if os.path.exists(path) else f'{tables}/extracted/{name}.txt'}")
+    run = subprocess.run([program, "--cols", "500", *words, *paths, "text"], capture_output=True, check=True)
+    return [row.strip(" ") for row in run.stdout.decode().split("\n")]
+
+
+def compare(name, lines, found, wanted):
+    """Compares rows, and shows the first that differ."""
+    if len(found) != len(lines):
+        sys.exit(f"FAILS {name}: {len(found)} rows of {len(lines)} lines")
+    different = [at for at in range(len(lines)) if found[at] != wanted[at]]
+    for at in different[:10]:
+        print(f"FAILS {name}, line {at + 1}:", *(f"\n    {' '.join(f'{ord(c):04X}' for c in text)}" for text in (lines[at], found[at], wanted[at])))
+    tell(name, len(lines) - len(different), len(lines))
+
+
+# ---- rows from an independent source
+
+
+def text_of(codes):
+    return "".join(chr(int(code, 16)) for code in codes.split())
+
+
+def check_rows():
+    cases = {}
+    with open(rows, encoding="utf-8") as file:
+        for line in file:
+            if not line.startswith("#"):
+                body, direction, _, _, _, row = line.rstrip("\n").split("\t")
+                # a mark in brackets and the letter alone are taken for one
+                cases.setdefault(direction, []).append((text_of(body), MARK.sub(r"\1", text_of(row)).strip(" ")))
+    for direction, pairs in cases.items():
+        bodies = [body for body, _ in pairs]
+        found = [MARK.sub(r"\1", row) for row in printed(bodies, data, "--marks", "--direction", direction)]
+        compare(f"rows from elsewhere, {direction}", bodies, found, [row for _, row in pairs])
+
+
+# ---- Unicode's files
+
+
+def lines_of(name):
+    with open(f"{data}/{name}.txt", encoding="utf-8") as file:
+        return [line.split(";") for line in file.read().split("\n") if line and not line.startswith("#")]
+
+
+def read_letters():
+    """The joining type of each character with a line, and the characters that are its forms."""
+    types = {chr(int(code, 16)): joining for code, _, joining, _ in lines_of("ArabicShaping")}
+    forms = {}
+    for fields in lines_of("UnicodeData"):
+        tag, letter = fields[5].split()
+        forms.setdefault(chr(int(letter, 16)), {})[tag] = chr(int(fields[0], 16))
+    return types, forms
+
+
+def check_tables():
+    letters = sorted(types.keys() | forms.keys())
+    lines = [line for c in letters for line in (c, c + c + c, c + BEH, BEH + c, BEH + c + BEH)]
+    compare("letters by data/ and by Unicode's files", lines, printed(lines), printed(lines, UNICODE))
+
+
+# ---- fribidi
+
+
+def words_of(text):
+    formless = {c for c, joining in types.items() if joining in "RLD" and c not in forms}
+    words = set(re.findall("[\u0620-\u064a\u066e-\u06d3\u06fa-\u06ff\u200c]{2,}", text))
+    return sorted(word for word in words if not formless & set(word))
+
+
+def read_words():
+    lists = []
+    for path in ARABIC, PERSIAN:
+        with open(path, encoding="utf-8") as file:
+            lists.append(words_of(file.read()))
+    with zipfile.ZipFile(URDU) as pack:
+        texts = [pack.read(name).decode("utf-8", "replace") for name in pack.namelist() if name.endswith((".ftl", ".properties"))]
+    lists.append(words_of("\n".join(texts)))
+    return lists
+
+
+def changed(chance, word):
+    """A word, now and then with points, a stroke, or a joiner or direction mark between two letters."""
+    kind = chance.random()
+    if kind < 0.1:
+        return "".join(c + chance.choice(POINTS) for c in word)
+    if kind < 0.2:
+        at = chance.randrange(1, len(word))
+        return word[:at] + chance.choice("\u0640" + JOINERS + MARKS) + word[at:]
+    return word
+
+
+def random_lines(lists):
+    chance = random.Random(SEED)
+    others = "12 3.50 (note) the Latin word, ١٢٣ ۴۵ ! ؟ ، . [a] 7%".split()
+    for number in range(LINES):
+        words = lists[number % len(lists)]
+        yield " ".join(
+            chance.choice(others) if chance.random() < 0.1 else changed(chance, chance.choice(words)) for _ in range(chance.randrange(1, 13))
+        )
+
+
+def taken_apart(match):
+    """The final form of an alef with its points, and the lam before it, at its right."""
+    code = ord(match[1]) - 0xFEF5
+    return ALEFS[code // 2] + match[2] + "\ufedf\ufee0"[code % 2]
+
+
+def check_words(lists):
+    unjoined = {forms[c]["<isolated>"]: c for c in forms if types.get(c, "U") == "U" and "<isolated>" in forms[c]}
+    lines = list(random_lines(lists))
+    text = "\n".join(lines)
+    run = subprocess.run(["fribidi", "--nopad", "--nobreak", "--reordernsm", "--clean"], input=text.encode(), capture_output=True, check=True)
+    theirs, ligatures = LIGATURE.subn(taken_apart, run.stdout.decode())
+    ours = "\n".join(printed(lines))
+    dropped = dict.fromkeys(JOINERS + MARKS)
+    counts = {
+        "ligatures taken apart": ligatures,
+        "letters of type U in their form": sum(c in unjoined for c in ours),
+        "joiners and direction marks dropped": sum(c in dropped for c in text),
+        "letters in a form": sum("\ufb50" <= c <= "\ufeff" for c in ours),
+    }
+    ours = ours.translate(str.maketrans(unjoined | dropped))
+    compare("lines beside fribidi", lines, ours.split("\n"), [row.strip(" ") for row in theirs.rstrip("\n").split("\n")])
+    for name, count in counts.items():
+        print(f"    {name}: {count}")
+        if not count:
+            sys.exit(f"FAILS there are no {name}")
+
+
+types, forms = read_letters()
+if rows:
+    check_rows()
+else:
+    skip("no rows from elsewhere are given")
+if os.path.exists(f"{UNICODE}/UnicodeData.txt"):
+    check_tables()
+else:
+    skip("Unicode's files are not there (apt-get install unicode-data)")
+missing = [path for path in (ARABIC, PERSIAN, URDU) if not os.path.exists(path)]
+if not shutil.which("fribidi"):
+    skip("fribidi is not there (apt-get install libfribidi-bin)")
+elif missing:
+    skip(f"{' '.join(missing)} not there (apt-get install hunspell-ar myspell-fa firefox-esr-l10n-ur)")
+else:
+    check_words(read_words())
+sys.exit(1 if failed else 77 if skipped else 0)
+END
+find_built bidi_print
+cd "$folder"
+python3 joined_rows.py "$program" "$top/data" "$rows"
