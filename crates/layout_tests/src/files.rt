@@ -5,11 +5,12 @@ use bx_ucd::{BidiData, Cause, Class, Side, Tables, UcdError, UcdFile};
 use std::alloc::{AllocError, Global};
 use std::test::Fail;
 
-/// Replaces U+240A by LF and U+240D by CR.
-fn with_ends(alloc: Global, words: &str) -> Result<String, AllocError> {
+/// Replaces U+2409 by a tab, U+240A by LF and U+240D by CR.
+pub(crate) fn with_ends(alloc: Global, words: &str) -> Result<String, AllocError> {
     let mut text = String::new(alloc);
     for c in words.chars() {
         text.push(match c {
+            '\u{2409}' => '\t',
             '\u{240a}' => '\n',
             '\u{240d}' => '\r',
             _ => c,

@@ -11,6 +11,8 @@ mod explicit;
 #[cfg(test)]
 mod files;
 #[cfg(test)]
+mod joining;
+#[cfg(test)]
 mod levels;
 #[cfg(test)]
 mod rows;

@@ -9,7 +9,7 @@ use thiserror::Error;
 /// A fault. Its text is the line for standard error.
 #[derive(Debug, Drop, Error)]
 pub enum Fault {
-    #[error("usage: play_scenes CLASSES BRACKETS MIRRORING < SCENES")]
+    #[error("usage: play_scenes CLASSES BRACKETS MIRRORING [JOINING CHARACTERS] < SCENES")]
     Words,
     /// The line of standard input with this number, from 1, is no scene.
     #[error("line {0}: {1}")]

@@ -1,10 +1,10 @@
 //! Plays scenes of the editor from standard input, and prints the answers to each.
 //!
-//!     play_scenes CLASSES BRACKETS MIRRORING < SCENES
+//!     play_scenes CLASSES BRACKETS MIRRORING [JOINING CHARACTERS] < SCENES
 //!
 //! A line of standard input is a scene, unless it is empty or begins with `#`. Tabs separate its fields:
 //!
-//!     NAME DIRECTION ROWS COLUMNS CALL FILE STEPS [MODE]
+//!     NAME DIRECTION ROWS COLUMNS CALL FILE STEPS [MODE [TABLES]]
 //!
 //! NAME describes the scene and is ignored. DIRECTION is `auto`, `ltr` or `rtl`. CALL is the number of the store's call that
 //! fails, counting all of its calls from 1, or `-` if none fails. FILE is the text that is opened, its bytes as pairs of lower-case
@@ -27,6 +27,10 @@
 //! MODE is `both` if it is left out: one world takes the steps one by one, another takes them all by `play`, and the line says so
 //! if their answers or final states differ. `step` and `play` do one of these alone; `play` looks only at the text, last. `alone`
 //! takes the steps in a session without a world: it has no `W` and `R`, and looks only at a session's own state. Only `alone` has `J`.
+//!
+//! Letters are joined only in a scene with TABLES, which is `joined`, or `joined` and further lines of the tables behind those of the
+//! program's files, `|classes:0041 ; R|joining:0628; BEH; D; BEH` and so on; the other files are `brackets`, `mirroring` and
+//! `characters`.
 //!
 //! The line of answers begins with a letter for each step:
 //!
@@ -55,7 +59,7 @@
 //! The buffers for answers are allocated before the first world is opened, so that the world is the first to run out of memory.
 //! If the program itself runs out, it writes `out of memory` to standard error and ends with status 1. It also ends with status 1
 //! if files or streams fail, a line of the tables is refused, or `step` and `play` differ in a scene. It ends with status 2 if it
-//! is not given three words, and at the first line that is no scene, with the line's number and fault.
+//! is not given three words or five, and at the first line that is no scene, with the line's number and fault.
 #![tactic(auto)]
 
 mod alone;
@@ -67,6 +71,7 @@ mod player;
 mod rows;
 mod scene;
 mod stage;
+mod tables;
 mod terminal;
 mod words;
 
@@ -76,20 +81,17 @@ use player::Player;
 use scene::Scene;
 use std::process::ExitCode;
 use std::rt::{Env, Files};
-use std::{env, fs, io};
+use std::{env, io};
+use tables::TableFiles;
 
 /// The exit status if the command line or a line is refused.
 const REFUSED: u8 = 2;
 
-/// Reads the tables from three files.
-fn tables_of<R: Files + AllocGlobal>(rt: &R, paths: &[String]) -> Result<Tables, Fault> {
-    let [classes, brackets, mirroring] = paths else {
-        return Err(Fault::Words);
-    };
-    let classes = fs::read(rt, classes.as_str())?;
-    let brackets = fs::read(rt, brackets.as_str())?;
-    let mirroring = fs::read(rt, mirroring.as_str())?;
-    Ok(Tables::read(rt.alloc(), &classes, &brackets, &mirroring, None)?)
+/// The files of the tables, and the tables of a scene without joined letters.
+#[derive(Drop)]
+struct Sources {
+    files: TableFiles,
+    plain: Tables,
 }
 
 /// Plays the scene of a line and prints its answers. Returns whether `step` and `play` agree in it.
@@ -97,7 +99,7 @@ fn play_line<R: Print + AllocGlobal>(
     rt: &R,
     number: usize,
     line: &str,
-    tables: &Tables,
+    sources: &Sources,
     player: &mut Player,
 ) -> Result<bool, Fault> {
     if line.is_empty() || line.starts_with('#') {
@@ -107,7 +109,11 @@ fn play_line<R: Print + AllocGlobal>(
         Ok(scene) => scene,
         Err(fault) => return Err(Fault::of_line(number, fault)),
     };
-    let (answers, agrees) = player.line_of(&scene, tables)?;
+    let joined = match scene.tables {
+        Some(field) => Some(sources.files.with_lines(rt.alloc(), field, number)?),
+        None => None,
+    };
+    let (answers, agrees) = player.line_of(&scene, joined.as_ref().unwrap_or(&sources.plain))?;
     println!(rt; "{answers}")?;
     Ok(agrees)
 }
@@ -116,13 +122,13 @@ fn play_line<R: Print + AllocGlobal>(
 fn play_lines<R: Print + AllocGlobal>(
     rt: &R,
     scenes: &str,
-    tables: &Tables,
+    sources: &Sources,
     player: &mut Player,
 ) -> Result<bool, Fault> {
     let mut agree = true;
     for (index, line) in scenes.lines().enumerate() {
         let number = index.saturating_add(1);
-        agree = play_line(rt, number, line, tables, player)? && agree;
+        agree = play_line(rt, number, line, sources, player)? && agree;
     }
     Ok(agree)
 }
@@ -132,10 +138,12 @@ fn run<R: Print + Input + Env + Files + AllocGlobal>(rt: &R) -> Result<bool, Fau
     for path in env::args(rt)?.skip(1) {
         paths.push(path)?;
     }
-    let tables = tables_of(rt, &paths)?;
+    let files = TableFiles::read(rt, &paths)?;
+    let plain = files.plain(rt.alloc())?;
+    let sources = Sources { files, plain };
     let scenes = io::read_to_string(rt.alloc(), rt.reader())?;
     let mut player = Player::new(rt.alloc())?;
-    play_lines(rt, scenes.as_str(), &tables, &mut player)
+    play_lines(rt, scenes.as_str(), &sources, &mut player)
 }
 
 fn main(rt: HostRuntime) -> ExitCode {

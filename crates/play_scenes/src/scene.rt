@@ -70,6 +70,8 @@ pub struct Scene<'a> {
     pub file: Vec<u8>,
     pub acts: Vec<Act<'a>>,
     pub mode: Mode,
+    /// The field TABLES; None if letters are not joined.
+    pub tables: Option<&'a str>,
 }
 
 /// Parses the rest of `rows=`: the cursor's line and column, a colon, and rows separated by bars.
@@ -207,6 +209,7 @@ impl<'a> Scene<'a> {
         let file = bytes_of(alloc, fields.next().ok_or(missing)?)?;
         let acts = acts_of(alloc, fields.next().ok_or(missing)?)?;
         let mode = mode_of(fields.next().unwrap_or("both"))?;
+        let tables = fields.next();
         if !acts.iter().all(|act| act.is_of(mode)) {
             return Err(WordFault::Bad("a word is none of this mode"));
         }
@@ -221,6 +224,7 @@ impl<'a> Scene<'a> {
             file,
             acts,
             mode,
+            tables,
         })
     }
 
