@@ -11,8 +11,8 @@ pub mod RegionRow
 pub mod RegionLaid
 pub mod CellColumns
 pub mod TouchedPlace
-pub mod TouchedTold
-pub mod LineTold
+pub mod TouchedSpan
+pub mod LineSpan
 pub mod PlaceAfter
 pub mod PlacesKept
 pub mod PlacesMoved

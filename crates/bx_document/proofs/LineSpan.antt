@@ -10,12 +10,12 @@ use Rattle.bx_view.proofs.Begins.{begin_at}
 use Rattle.bx_view.proofs.Numbers.{falls-at}
 use Rattle.bx_document.specs.Line.{line_of}
 use Rattle.bx_document.specs.Touched.{touched_stop}
-use Rattle.bx_document.proofs.TouchedTold.{begin_told, stop_range}
+use Rattle.bx_document.proofs.TouchedSpan.{begin_of_span, stop_range}
 
 module _ (says : Data) (text : List ℕ) (ls : List Lengths) (utf8 : IsUtf8 text) (same : ls ≡ lengths says text) where
-  pub line_told : (offset n : ℕ) (s : ℕ × ℕ) (stop : ℕ) → n ≡ paragraph_of ls offset → slice_get (spans ls) n ≡ Some s
+  pub line_of_span : (offset n : ℕ) (s : ℕ × ℕ) (stop : ℕ) → n ≡ paragraph_of ls offset → slice_get (spans ls) n ≡ Some s
       → stop ≡ touched_stop says text offset → (s.0, stop) ≡ line_of says text offset
-  line_told offset n s stop e f is = ap₂ (λ (a b : ℕ). (a, b)) (begin_told says text ls utf8 same offset n s e f) is
+  line_of_span offset n s stop e f is = ap₂ (λ (a b : ℕ). (a, b)) (begin_of_span says text ls utf8 same offset n s e f) is
 
   pub line_range : (offset n : ℕ) (s : ℕ × ℕ) (stop : ℕ) → n ≡ paragraph_of ls offset → slice_get (spans ls) n ≡ Some s
       → stop ≡ touched_stop says text offset → IsCharBoundary text offset → IsRange text (s.0) stop
@@ -29,5 +29,5 @@ module _ (says : Data) (text : List ℕ) (ls : List Lengths) (utf8 : IsUtf8 text
         in_order = omega (arith, falls.order, behind.in_order);
       } in
       let whole : IsRange text (s.0) (touched_stop says text offset) =
-      subst (λ a. IsRange text a (touched_stop says text offset)) (sym (begin_told says text ls utf8 same offset n s e f)) line in
+      subst (λ a. IsRange text a (touched_stop says text offset)) (sym (begin_of_span says text ls utf8 same offset n s e f)) line in
       subst (IsRange text (s.0)) (sym is) whole

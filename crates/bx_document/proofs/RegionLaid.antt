@@ -16,7 +16,8 @@ use Rattle.bx_paragraph.proofs.Starts.{side-some}
 use Rattle.bx_view.proofs.HeldRows.{rows-kept}
 use Rattle.bx_view.proofs.Walking.{row-within}
 use Rattle.bx_document.specs.Drawing.{row_columns, rows_columns, with_rows}
-use Rattle.bx_document.specs.Region.{region_columns, region_rows, row_in}
+use Rattle.bx_document.specs.Region.{region_columns, region_rows}
+use Rattle.bx_document.specs.RegionSlots.{row_in}
 use Rattle.bx_document.proofs.RegionColumns.{length-side, none-turned}
 use Rattle.bx_document.proofs.RegionRows.{nothing-laid, rest-laid, row-still, whole-laid}
 use Rattle.bx_document.proofs.RowsDrawn.{AreDrawn, next-drawn, none-drawn}

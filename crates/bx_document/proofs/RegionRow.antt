@@ -14,7 +14,8 @@ use Rattle.bx_view.proofs.KeptPlaces.{HasLevels, rows-leveled}
 use Rattle.bx_paragraph.proofs.Starts.{side-some}
 use Rattle.bx_view.proofs.Walking.{row-within}
 use Rattle.bx_document.specs.Drawing.{row_columns}
-use Rattle.bx_document.specs.Region.{IsSpan, region_columns, turned_slots}
+use Rattle.bx_document.specs.Region.{region_columns}
+use Rattle.bx_document.specs.RegionSlots.{IsSpan, turned_slots}
 use Rattle.bx_document.proofs.RegionColumns.{spans, turned-are}
 
 module _ (says : Data) (v : ViewState) (text : List ℕ) (utf8 : IsUtf8 text) (at : RowAt) (n : ℕ) (on : StandsOn says v text at n) (region : ℕ × ℕ)

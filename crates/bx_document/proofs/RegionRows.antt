@@ -18,7 +18,7 @@ use Rattle.bx_grid.proofs.TurnedWhole.{length-turned}
 use Rattle.bx_paragraph.specs.declared.slot.Slot.{Slot}
 use Rattle.bx_view.specs.TextRows.{TextRow, no_text_row}
 use Rattle.bx_document.specs.Drawing.{with_rows}
-use Rattle.bx_document.specs.Region.{IsSpan, row_in, turned_slots}
+use Rattle.bx_document.specs.RegionSlots.{IsSpan, row_in, turned_slots}
 use Rattle.bx_document.proofs.RegionColumns.{span-turned}
 use Rattle.bx_document.proofs.RowsDrawn.{AreDrawn, front, width-is}
 

@@ -40,26 +40,26 @@ module _ (says : Data) (text : List ℕ) (ls : List Lengths) (utf8 : IsUtf8 text
       omega (arith, falls.within, lengths-count says text, ap length same)
 
   -- where it begins
-  pub begin_told : (offset n : ℕ) (s : ℕ × ℕ) → n ≡ paragraph_of ls offset → slice_get (spans ls) n ≡ Some s
+  pub begin_of_span : (offset n : ℕ) (s : ℕ × ℕ) → n ≡ paragraph_of ls offset → slice_get (spans ls) n ≡ Some s
       → s.0 ≡ start_at says text (paragraph_of (lengths says text) offset)
-  begin_told offset n (a, b) e f =
+  begin_of_span offset n (a, b) e f =
       let told = span_at 0 n ls none (there offset n e) in
       let both = some_pair_parts a (0 + total (take n ls)) b (0 + total (take n ls) + (get_or ls n none).body) (sym f ∙ told) in
       omega (arith, both.0) ∙ ap (λ k. total (take k ls)) e ∙ ap (λ ks. total (take (paragraph_of ks offset) ks)) same
 
-  pub start_told : (start n : ℕ) (s : ℕ × ℕ) → n ≡ paragraph_of ls (start - 1) → slice_get (spans ls) n ≡ Some s → s.0 ≡ touched_start says text start
-  start_told start n s e f = begin_told (start - 1) n s e f
+  pub start_of_span : (start n : ℕ) (s : ℕ × ℕ) → n ≡ paragraph_of ls (start - 1) → slice_get (spans ls) n ≡ Some s → s.0 ≡ touched_start says text start
+  start_of_span start n s e f = begin_of_span (start - 1) n s e f
 
   pub start_range : (start n : ℕ) (s : ℕ × ℕ) → n ≡ paragraph_of ls (start - 1) → slice_get (spans ls) n ≡ Some s → IsCharBoundary text start
       → IsRange text (s.0) start
   start_range start n s e f bounds =
       let front = front_is says text utf8 start in
-      subst (λ a. IsRange text a start) (sym (start_told start n s e f))
+      subst (λ a. IsRange text a start) (sym (start_of_span start n s e f))
       (record { start_bounds = front.bounds; stop_bounds = bounds; in_order = front.order })
 
-  pub stop_told : (stop n : ℕ) (s : ℕ × ℕ) (k : ℕ) → n ≡ paragraph_of ls stop → slice_get (spans ls) n ≡ Some s → slice_get (separators ls) n ≡ Some k
+  pub stop_of_span : (stop n : ℕ) (s : ℕ × ℕ) (k : ℕ) → n ≡ paragraph_of ls stop → slice_get (spans ls) n ≡ Some s → slice_get (separators ls) n ≡ Some k
       → s.1 + k ≡ touched_stop says text stop
-  stop_told stop n (a, b) k e f g =
+  stop_of_span stop n (a, b) k e f g =
       let within = there stop n e in
       let told = span_at 0 n ls none within in
       let both = some_pair_parts a (0 + total (take n ls)) b (0 + total (take n ls) + (get_or ls n none).body) (sym f ∙ told) in

@@ -6,5 +6,6 @@ pub mod History
 pub mod Line
 pub mod Past
 pub mod Region
+pub mod RegionSlots
 pub mod Shown
 pub mod Touched

@@ -1,9 +1,10 @@
-//! Laying a region over drawn rows: the rendition of the columns of its units is turned.
+//! Showing a region in drawn rows: the columns of its units change rendition.
 ghost use Rattle.std.specs.Prelude.{◌≡◌, ◌*◌, ◌++◌, ◌<◌, ◌≤◌, All, OnOk, drop, take};
 ghost use Rattle.bx_view.specs.Source.{IsViewBy, Keeps, OfRow, Stands, rows};
 ghost use Rattle.bx_view.specs.Top.{shown_rows};
 ghost use Rattle.bx_document.specs.Drawing.{row_columns, rows_columns, with_rows};
-ghost use Rattle.bx_document.specs.Region.{IsSpan, region_columns, region_rows, row_in, turned_slots};
+ghost use Rattle.bx_document.specs.Region.{region_columns, region_rows};
+ghost use Rattle.bx_document.specs.RegionSlots.{IsSpan, row_in, turned_slots};
 
 use bx_grid::Grid;
 use bx_paragraph::Slot;
@@ -11,7 +12,7 @@ use bx_terms::OutOfMemory;
 use bx_ucd::BidiData;
 use bx_view::{Layout, RowAt, Source};
 
-/// Turns the columns of slots in row `row` of a grid, from 0.
+/// Changes the rendition of the slots' columns in row `row` of a grid, from 0.
 fn turn_slots(grid: &mut Grid, row: u16, slots: &[Slot])
     requires inside { row < grid.old.height }
     requires spans { All (IsSpan (row_in grid.old row)) slots.now }
@@ -24,7 +25,7 @@ fn turn_slots(grid: &mut Grid, row: u16, slots: &[Slot])
     }
 }
 
-/// Turns the columns of the region's units in row `row` of a grid, from 0, which shows a row of the text.
+/// Changes the rendition of the region's units in row `row` of a grid, from 0. The grid's row shows the text's row `at`.
 ///
 /// Errors: `OutOfMemory`.
 fn turn_row<D: BidiData>(
@@ -46,10 +47,10 @@ fn turn_row<D: BidiData>(
     Ok(())
 }
 
-/// Turns the columns of the region's units in the first `count` rows of a grid, which show the text's rows from the row of the
-/// offset `top` on. An empty region changes nothing.
+/// Changes the rendition of the region's units in the first `count` rows of a grid, which show the text's rows from the row
+/// of the offset `top` on. An empty region changes nothing.
 ///
-/// Errors: `OutOfMemory`; some of the rows may be turned.
+/// Errors: `OutOfMemory`; some of the rows may be changed.
 pub(crate) fn lay_region<D: BidiData>(
     layout: &mut Layout,
     source: &Source<'_, D>,

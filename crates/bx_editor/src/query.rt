@@ -3,17 +3,11 @@ ghost use Rattle.std.specs.Prelude.{◌≡◌, ◌≤◌, IfOk, chars, length, s
 ghost use Rattle.bx_editor.specs.Search.{kept, lengthened, shortened};
 
 use crate::seek::Seek;
+use bx_rows::char_count;
 use std::alloc::{AllocError, Global};
 
 /// The most characters that a query has.
 const LONGEST: usize = 64;
-
-/// The number of characters of a text.
-fn count(text: &str) -> usize
-    ensures { result ≡ length (chars text.now) }
-{
-    text.chars().count()
-}
 
 /// The query that a key lengthens or shortens: empty if the search has just begun, so that typing replaces the latest query.
 pub(crate) fn kept(seek: Seek, query: &str) -> &str
@@ -36,7 +30,7 @@ pub(crate) fn lengthened(alloc: Global, query: &str, c: char) -> Result<String, 
     ensures few { IfOk result (λ q. length (chars (string_bytes q)) ≤ 64) }
 {
     let mut longer = String::from_str(alloc, query)?;
-    if count(query) >= LONGEST {
+    if char_count(query) >= LONGEST {
         return Ok(longer);
     }
     longer.push(c)?;

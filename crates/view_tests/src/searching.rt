@@ -1,19 +1,12 @@
 //! The nearest offsets of a query in a text, and their places.
-ghost use Rattle.std.specs.Prelude.{◌≡◌, chars, length};
 
 use crate::scene::document_of;
 use bx_document::Document;
+use bx_rows::char_count;
 use bx_terms::Base;
 use bx_ucd::{Tables, sample_tables};
 use std::alloc::Global;
 use std::test::Fail;
-
-/// The number of characters of a text.
-fn count(text: &str) -> usize
-    ensures { result ≡ length (chars text.now) }
-{
-    text.chars().count()
-}
 
 /// An offset and its place.
 type Found = Option<(usize, usize)>;
@@ -32,7 +25,7 @@ fn nearest(
     query: &str,
     place: usize,
 ) -> Result<(Found, Found), Fail> {
-    if count(query) > 64 {
+    if char_count(query) > 64 {
         return Err(Fail::new("a long query"));
     }
     let x = document.place_from(place)?;

@@ -1,5 +1,5 @@
-use Rattle.bx_document.proofs.LineTold.{line_range, line_told}
-use Rattle.bx_document.proofs.TouchedTold.{there}
+use Rattle.bx_document.proofs.LineSpan.{line_range, line_of_span}
+use Rattle.bx_document.proofs.TouchedSpan.{there}
 use Rattle.bx_document.proofs.copying.line_at.Goals as goal
 
 pub span-start-requires : goal.span-start-requires
@@ -11,7 +11,7 @@ span-start-requires g c =
 pub returns-clause-line : goal.returns-clause-line
 returns-clause-line g c =
     let s = c.args.source.now in
-    line_told (g.D.BidiData.data s.tables.now) s.text.now.edited.text s.index.now.paragraphs s.utf8
+    line_of_span (g.D.BidiData.data s.tables.now) s.text.now.edited.text s.index.now.paragraphs s.utf8
     s.indexed c.args.offset c.paragraph_of-number.result c.span-start.result c.stop_after-stop.result
     c.paragraph_of-number.ensures c.span-start.ensures c.stop_after-stop.ensures.stop
 

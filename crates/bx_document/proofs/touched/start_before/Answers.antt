@@ -1,6 +1,6 @@
 use Rattle.std.proofs.Common.{ap, ◌∙◌, ◌-◌}
 use Rattle.bx_paras.specs.Positions.{paragraph_of}
-use Rattle.bx_document.proofs.TouchedTold.{start_range, start_told, there}
+use Rattle.bx_document.proofs.TouchedSpan.{start_range, start_of_span, there}
 use Rattle.bx_document.proofs.touched.start_before.Goals as goal
 
 pub span-requires : goal.span-requires
@@ -13,7 +13,7 @@ span-requires g c =
 pub returns-clause-start : goal.returns-clause-start
 returns-clause-start g c =
     let s = c.args.source.now in
-    start_told (g.D.BidiData.data s.tables.now) s.text.now.edited.text s.index.now.paragraphs s.utf8
+    start_of_span (g.D.BidiData.data s.tables.now) s.text.now.edited.text s.index.now.paragraphs s.utf8
     s.indexed c.args.start c.paragraph_of-number.result c.span.result
     (c.paragraph_of-number.ensures ∙ ap (paragraph_of s.index.now.paragraphs) c.saturating_sub.ensures) c.span.ensures
 

@@ -1,6 +1,6 @@
 use Rattle.std.proofs.Common.{◌∙◌, ◌++◌, ap, slice_range}
 use Rattle.bx_document.specs.Touched.{touched_start}
-use Rattle.bx_document.proofs.TouchedTold.{edited_copy}
+use Rattle.bx_document.proofs.TouchedSpan.{edited_copy}
 use Rattle.bx_document.proofs.touched.touched.Goals as goal
 
 pub returns-clause-text : goal.returns-clause-text

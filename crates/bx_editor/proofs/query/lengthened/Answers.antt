@@ -8,4 +8,4 @@ returns-clause-few c =
     let old = c.in_ok-longer.longer in
     let new = c.push.new.self in
     let more = longer_by_one (string_bytes new) (string_bytes old) c.args.c (IsUtf8-string_bytes new) (IsUtf8-string_bytes old) c.in_ok-push.ensures.bytes in
-    omega (arith, more, ap (λ t. length (chars t)) c.in_ok-longer.ensures.ok, c.count.ensures, c.if-count-ge-LONGEST.false)
+    omega (arith, more, ap (λ t. length (chars t)) c.in_ok-longer.ensures.ok, c.char_count.ensures, c.if-char_count-ge-LONGEST.false)
