@@ -15,7 +15,7 @@ use Rattle.bx_cells.specs.Units.{HasFace, unit_text}
 use Rattle.bx_cells.proofs.Printable.{ascii_bytes}
 use Rattle.unicode_width.specs.Width.{str_width}
 use Rattle.unicode_width.proofs.Rules.{str_width-printable}
-use Rattle.bx_rows.specs.UnitForms.{unit_forms}
+use Rattle.bx_rows.specs.RowPicture.{unit_forms}
 use Rattle.bx_rows.specs.JoiningLaws.{FormsChangeTextsAlone, columns_shown, unjoined}
 use Rattle.bx_rows.specs.RowPicture.{Glyph, blank, columns_used, face_glyphs, glyph, shown_text, text_glyphs, unit_columns, unit_glyphs}
 use Rattle.bx_rows.specs.VisualOrder.{visual}

@@ -13,7 +13,7 @@ use Rattle.bx_cells.specs.declared.unit.Unit.{Unit}
 use Rattle.bx_cells.specs.Units.{unit_text, HasFace}
 use Rattle.bx_rows.specs.declared.row.Row.{Row}
 use Rattle.bx_rows.specs.Wrapping.{columns_at, row_units}
-use Rattle.bx_rows.specs.UnitForms.{unit_forms}
+use Rattle.bx_rows.specs.RowPicture.{unit_forms}
 use Rattle.bx_rows.specs.RowPicture.{Glyph, blank, face_glyphs, letter_glyphs, unit_columns, unit_glyphs, columns_used, draw, own_glyphs}
 use Rattle.bx_rows.specs.VisualOrder.{visual}
 use Rattle.bx_rows.proofs.FaceGlyphs.{IsOneGlyph, tells-face, face-one, face-sum, letters-all-one}

@@ -10,7 +10,7 @@ use Rattle.bx_ucd.specs.Data.{Data}
 use Rattle.bx_ucd.specs.declared.class.Class.{Class}
 use Rattle.bx_cells.specs.declared.unit.Unit.{Unit}
 use Rattle.bx_cells.specs.Units.{unit_text}
-use Rattle.bx_rows.specs.UnitForms.{unit_forms}
+use Rattle.bx_rows.specs.RowPicture.{unit_forms}
 use Rattle.bx_rows.specs.RowPicture.{Glyph, face_glyphs, own_glyphs, unit_columns, unit_glyphs}
 use Rattle.bx_rows.specs.VisualOrder.{visual}
 

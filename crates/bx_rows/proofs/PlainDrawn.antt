@@ -16,7 +16,7 @@ use Rattle.bx_rows.specs.RowLevels.{row_levels}
 use Rattle.bx_rows.specs.RowPicture.{Glyph, blank, columns_used, draw, with_blanks}
 use Rattle.bx_rows.specs.RowStarts.{most_units, units_of_row}
 use Rattle.bx_rows.specs.Shown.{glyph_of}
-use Rattle.bx_rows.specs.UnitForms.{StartsRow}
+use Rattle.bx_rows.specs.RowStarts.{StartsRow}
 use Rattle.bx_rows.specs.VisualOrder.{visual}
 use Rattle.bx_rows.proofs.EachRow.{IsRowPart, row-alone, whole}
 use Rattle.bx_rows.proofs.NumbersBelow.{below_if_visual}

@@ -23,7 +23,8 @@ use Rattle.bx_joining.specs.Joining.{body_forms, first_forms, text_forms}
 use Rattle.bx_joining.proofs.TextForms.{length-first_forms, next_form}
 use Rattle.bx_rows.specs.declared.start_search.RowStart.{RowStart}
 use Rattle.bx_rows.specs.PlainRows.{char_forms, single_units, leveled_glyph, leveled_glyphs}
-use Rattle.bx_rows.specs.UnitForms.{StartsRow, unit_forms}
+use Rattle.bx_rows.specs.RowStarts.{StartsRow}
+use Rattle.bx_rows.specs.RowPicture.{unit_forms}
 use Rattle.bx_rows.specs.RowPicture.{Glyph, glyph, blank, shown_text, text_glyphs, unit_columns, unit_glyphs, columns_used, with_blanks, draw}
 use Rattle.bx_rows.specs.VisualOrder.{visual}
 use Rattle.bx_rows.proofs.FaceGlyphs.{Tells, tells-face, tells-shown}

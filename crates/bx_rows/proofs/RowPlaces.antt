@@ -20,7 +20,8 @@ use Rattle.bx_rows.specs.declared.row_at.RowAt.{RowAt}
 use Rattle.bx_rows.specs.declared.start_search.RowStart.{RowStart}
 use Rattle.bx_rows.specs.RowStarts.{most_units, row_starts, start_of, units_of_row}
 use Rattle.bx_rows.specs.RowPicture.{face_glyphs}
-use Rattle.bx_rows.specs.UnitForms.{StartsRow, unit_forms}
+use Rattle.bx_rows.specs.RowStarts.{StartsRow}
+use Rattle.bx_rows.specs.RowPicture.{unit_forms}
 use Rattle.bx_rows.specs.UnitPlaces.{StandsInRow}
 use Rattle.bx_rows.specs.Wrapping.{wrap}
 use Rattle.bx_rows.proofs.EachRow.{found-row, part-at}

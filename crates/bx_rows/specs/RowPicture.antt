@@ -1,5 +1,5 @@
 -- The picture of a row: the glyphs of its units in visual order, mirrored (L4) and joined at odd levels, and blanks up to the edge.
-use Rattle.std.specs.Prelude.{ℕ, zero, suc, ◌+◌, ◌-◌, ◌%◌, ◌==◌, Bool, true, false, List, [], ◌∷◌, ◌++◌, map, sum, flat_map, replicate, slice_index_or, Option}
+use Rattle.std.specs.Prelude.{ℕ, zero, suc, ◌+◌, ◌-◌, ◌%◌, ◌==◌, Bool, true, false, List, [], ◌∷◌, ◌++◌, map, length, take, sum, flat_map, replicate, slice_index_or, Option}
 use Rattle.std.specs.Prelude.{unwrap_or, chars, encode_utf8_all}
 use Rattle.std.specs.List.{zip}
 use Rattle.bx_ucd.specs.Data.{Data}
@@ -11,8 +11,8 @@ use Rattle.bx_cells.specs.declared.unit.Face.TheVariants.{Tab, Mark, Own}
 use Rattle.bx_cells.specs.declared.unit.Unit.{Unit}
 use Rattle.bx_cells.specs.Faces.{face}
 use Rattle.bx_cells.specs.Units.{unit_text}
+use Rattle.bx_joining.specs.Joining.{text_forms}
 use Rattle.bx_joining.specs.JoinedText.{in_forms}
-use Rattle.bx_rows.specs.UnitForms.{unit_forms}
 use Rattle.bx_rows.specs.Wrapping.{columns_at}
 use Rattle.bx_rows.specs.VisualOrder.{visual}
 
@@ -74,6 +74,10 @@ abbrev pub face_glyphs : Data → ℕ → List ℕ → Face → ℕ → ℕ → 
 face_glyphs says w text Tab columns level forms = replicate columns blank
 face_glyphs says w text (Mark letter) columns level forms = glyph (letter ∷ []) 1 true ∷ []
 face_glyphs says w text (Own n) columns level forms = text_glyphs n (shown_text says w n level forms text)
+
+-- the forms of a unit's characters in a body whose characters have the levels `each`
+abbrev pub unit_forms : Data → List ℕ → List (Option ℕ) → Unit → List Form
+unit_forms says body each u = text_forms says body each (length (chars (take u.start body))) (unit_text body u)
 
 -- the columns of each unit of a row with `c` columns taken
 abbrev pub unit_columns : ℕ → ℕ → List Unit → List ℕ

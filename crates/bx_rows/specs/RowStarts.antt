@@ -1,5 +1,6 @@
 -- The starts of a body's rows.
-use Rattle.std.specs.Prelude.{ℕ, zero, suc, ◌-◌, List, [], ◌∷◌, map, length, take, drop, chars, slice_get, Option, Some, None}
+use Rattle.std.specs.Prelude.{◌≡◌, ℕ, zero, suc, ◌-◌, List, [], ◌∷◌, map, length, take, drop, chars, slice_get, Option, Some, None}
+use Rattle.std.specs.Str.{IsCharBoundary}
 use Rattle.bx_ucd.specs.Data.{Data}
 use Rattle.bx_ucd.specs.declared.class.Class.{Class}
 use Rattle.bx_cells.specs.declared.unit.Unit.{Unit}
@@ -34,3 +35,8 @@ abbrev pub most_units : ℕ → List ℕ → RowStart → Option RowStart → �
 most_units zero body start next = 0
 most_units (suc w) body start None = length body
 most_units (suc w) body start (Some next) = next.units - start.units
+
+-- a row starts at a character boundary of a body, and its start counts the characters before it
+pub record StartsRow (body : List ℕ) (start : RowStart) : Type 0 where
+  pub boundary : IsCharBoundary body start.offset
+  pub chars : start.chars ≡ length (chars (take start.offset body))

@@ -4,7 +4,7 @@ use Rattle.bx_ucd.specs.Data.{Data}
 use Rattle.bx_ucd.specs.declared.joining.Form.{Form}
 use Rattle.bx_joining.specs.Joining.{text_forms}
 use Rattle.bx_joining.specs.Places.{StandsAt}
-use Rattle.bx_rows.specs.UnitForms.{StartsRow}
+use Rattle.bx_rows.specs.RowStarts.{StartsRow}
 use Rattle.bx_rows.specs.declared.glyphs.UnitAt.{UnitAt}
 
 -- a text stands at the place, not before its row

@@ -6,7 +6,7 @@ ghost use Rattle.std.specs.Str.{IsCharBoundary};
 ghost use Rattle.bx_joining.specs.JoinedText.{joined_image};
 ghost use Rattle.bx_joining.specs.Joining.{body_forms, text_forms};
 ghost use Rattle.bx_joining.specs.Places.{StandsAt};
-ghost use Rattle.bx_rows.specs.UnitForms.{StartsRow};
+ghost use Rattle.bx_rows.specs.RowStarts.{StartsRow};
 ghost use Rattle.bx_rows.specs.PlainRows.{char_forms, joined_glyph, leveled_glyphs, mirrored_glyphs};
 ghost use Rattle.bx_rows.specs.RowPicture.{joined_image_within, mirror_image_within, mirrored_chars};
 ghost use Rattle.bx_rows.specs.Shown.{glyph_of};

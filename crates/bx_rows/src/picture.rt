@@ -3,7 +3,7 @@ ghost use Rattle.std.specs.Prelude.{◌≡◌, ◌≤◌, ◌<◌, ◌+◌, ◌+
 ghost use Rattle.std.specs.Cow.{cow_str_bytes};
 ghost use Rattle.bx_terms.specs.Glyphs.{is_one_glyph, run_width};
 ghost use Rattle.bx_cells.specs.Units.{HasFace, StandsIn};
-ghost use Rattle.bx_rows.specs.UnitForms.{StartsRow};
+ghost use Rattle.bx_rows.specs.RowStarts.{StartsRow};
 ghost use Rattle.bx_rows.specs.RowPicture.{columns_used, draw, own_glyphs, unit_columns, unit_glyphs};
 ghost use Rattle.bx_rows.specs.Shown.{glyph_of};
 ghost use Rattle.bx_rows.specs.VisualOrder.{visual};

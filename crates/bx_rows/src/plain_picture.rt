@@ -2,7 +2,7 @@
 ghost use Rattle.std.specs.Prelude.{◌≡◌, ◌≤◌, ◌<◌, ◌-◌, ◌++◌, All, IfOk, IfSome, List, OnOk, ℕ, drop, encode_utf8_all, length, map, slice_index_or, sum_by, true};
 ghost use Rattle.std.specs.Cow.{cow_str_bytes};
 ghost use Rattle.bx_terms.specs.Glyphs.{is_one_glyph, run_width};
-ghost use Rattle.bx_rows.specs.UnitForms.{StartsRow};
+ghost use Rattle.bx_rows.specs.RowStarts.{StartsRow};
 ghost use Rattle.bx_rows.specs.Lines.{glyphs_at};
 ghost use Rattle.bx_rows.specs.PlainRows.{char_forms, leveled_glyphs, single_glyph};
 ghost use Rattle.bx_rows.specs.RowPicture.{blank};

@@ -1,7 +1,7 @@
 //! Where a row stands in its body.
 ghost use Rattle.std.specs.Prelude.{◌≡◌, ◌≤◌, chars, length, take};
 ghost use Rattle.std.specs.Str.{IsCharBoundary};
-ghost use Rattle.bx_rows.specs.UnitForms.{StartsRow};
+ghost use Rattle.bx_rows.specs.RowStarts.{StartsRow};
 
 use crate::start_search::RowStart;
 use crate::unit_levels::char_count;

@@ -7,7 +7,7 @@ use Rattle.bx_rows.proofs.PictureLaws.{one_if_drawn, sum_if_drawn}
 use Rattle.bx_rows.proofs.PlainDrawn.{ShowsRow, drawn-single, faces, fits, if_some, same-row, single-fits, taken}
 use Rattle.bx_rows.proofs.Resets.{one_each}
 use Rattle.bx_rows.proofs.RowPlaces.{starts-at}
-use Rattle.bx_rows.specs.UnitForms.{StartsRow}
+use Rattle.bx_rows.specs.RowStarts.{StartsRow}
 use Rattle.bx_rows.specs.Shown.{glyph_of}
 use Rattle.bx_rows.proofs.lines.Lines.plain_picture.Goals as goal
 
