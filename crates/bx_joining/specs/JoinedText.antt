@@ -1,5 +1,5 @@
 -- A text in the forms of its letters.
-use Rattle.std.specs.Prelude.{◌≡◌, ℕ, All, List, None, [], ◌∷◌, unwrap_or, chars, encode_utf8_all}
+use Rattle.std.specs.Prelude.{◌≡◌, ℕ, All, List, None, ◌∷◌, unwrap_or, chars, encode_utf8_all}
 use Rattle.bx_ucd.specs.Data.{Data}
 use Rattle.bx_ucd.specs.declared.joining.Form.{Form}
 

@@ -4,7 +4,6 @@ use Rattle.std.proofs.Common.{refl, sym, ap, subst, ◌∙◌, arith, length-dro
 use Rattle.bx_ucd.specs.Data.{Data}
 use Rattle.bx_terms.specs.Characters.{is_ascii_printable}
 use Rattle.std.specs.Str.{IsCharBoundary, IsUtf8}
-use Rattle.bx_ucd.specs.declared.class.Class.{Class}
 use Rattle.bx_cells.proofs.Printable.{begins_ascii, left_at}
 use Rattle.bx_rows.specs.declared.narrow_run.NarrowRun.{NarrowRun}
 use Rattle.bx_rows.specs.NarrowRuns.{grown}

@@ -9,7 +9,6 @@ use Rattle.std.proofs.Math.Seq.{drop-nil}
 use Rattle.bx_ucd.specs.Data.{Data}
 use Rattle.unicode_segmentation.specs.Grapheme.{graphemes}
 use Rattle.unicode_segmentation.specs.Segments.{with_offsets}
-use Rattle.bx_ucd.specs.declared.class.Class.{Class}
 use Rattle.bx_cells.specs.declared.unit.Unit.{Unit}
 use Rattle.bx_cells.specs.Units.{unit_at, unit_text, units}
 use Rattle.bx_cells.proofs.Rest.{cluster-grows, next-cluster, no-cluster, past-all}

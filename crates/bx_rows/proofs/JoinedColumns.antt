@@ -4,20 +4,22 @@ use Rattle.std.proofs.Common.{◌∙◌, arith, append-nil}
 use Rattle.std.specs.Prelude.{flat_map}
 use Rattle.std.proofs.lemmas.Grind.{flat_map-append}
 use Rattle.std.proofs.lemmas.List.Elements.{All-rest}
-use Rattle.std.proofs.lemmas.Str.{chars-IsAscii}
+use Rattle.std.specs.Str.{IsUtf8}
+use Rattle.std.proofs.lemmas.Str.{chars-IsAscii, IsUtf8-between}
 use Rattle.bx_terms.specs.Characters.{are_ascii_printable}
 use Rattle.bx_ucd.specs.Data.{Data}
 use Rattle.bx_ucd.specs.declared.joining.Form.{Form}
 use Rattle.bx_cells.specs.declared.unit.Face.{Face}
 use Rattle.bx_cells.specs.declared.unit.Face.TheVariants.{Tab, Mark, Own}
 use Rattle.bx_cells.specs.declared.unit.Unit.{Unit}
-use Rattle.bx_cells.specs.Units.{HasFace, unit_text}
+use Rattle.bx_cells.specs.Units.{HasFace, StandsIn, unit_chars, unit_text}
+use Rattle.bx_joining.specs.JoinedText.{AreFormless}
+use Rattle.bx_rows.proofs.Leveled.{formless-shown}
 use Rattle.bx_cells.proofs.Printable.{ascii_bytes}
 use Rattle.unicode_width.specs.Width.{str_width}
 use Rattle.unicode_width.proofs.Rules.{str_width-printable}
-use Rattle.bx_rows.specs.RowPicture.{unit_forms}
-use Rattle.bx_rows.specs.JoiningLaws.{FormsChangeTextsAlone, columns_shown, unjoined}
-use Rattle.bx_rows.specs.RowPicture.{Glyph, blank, columns_used, face_glyphs, glyph, shown_text, text_glyphs, unit_columns, unit_glyphs}
+use Rattle.bx_rows.specs.JoiningLaws.{FormlessRowsStay, FormsChangeTextsAlone, columns_shown, unjoined}
+use Rattle.bx_rows.specs.RowPicture.{Glyph, blank, columns_used, face_glyphs, glyph, shown_text, text_glyphs, unit_columns, unit_forms, unit_glyphs, with_blanks}
 use Rattle.bx_rows.specs.VisualOrder.{visual}
 use Rattle.bx_rows.proofs.FaceGlyphs.{Tells, tells-face, tells-shown}
 
@@ -93,3 +95,35 @@ texts_alone says w body paragraph each us levels faces =
     blanks-beside (paragraph % 2) (w - columns_used w us) _ _
     (chosen-shown (λ k. get_or (unit_glyphs says w body each us columns levels) k []) (λ k. get_or (unit_glyphs (unjoined says) w body each us columns levels) k [])
     (visual levels) (λ k. pieces-shown says w body each us columns levels k faces))
+
+-- ---- letters without forms
+
+own-stays : (says : Data) (w n level : ℕ) (forms forms' : List Form) (text : List ℕ) → IsUtf8 text → AreFormless says (chars text)
+    → shown_text says w n level forms text ≡ shown_text (unjoined says) w n level forms' text
+own-stays says w n level forms forms' text u none =
+    formless-shown says w n level forms text u none ∙ sym (formless-shown (unjoined says) w n level forms' text u (λ k c h form. refl))
+
+face-stays : (says : Data) (w columns level : ℕ) (forms forms' : List Form) (text : List ℕ) (f : Face) → IsUtf8 text → AreFormless says (chars text)
+    → face_glyphs says w text f columns level forms ≡ face_glyphs (unjoined says) w text f columns level forms'
+face-stays says w columns level forms forms' text Tab u none = refl
+face-stays says w columns level forms forms' text (Mark letter) u none = refl
+face-stays says w columns level forms forms' text (Own n) u none = ap (text_glyphs n) (own-stays says w n level forms forms' text u none)
+
+units-stay : (says : Data) (w : ℕ) (body : List ℕ) (each : List (Option ℕ)) (us : List Unit) (columns levels : List ℕ) → IsUtf8 body
+    → All (StandsIn body) us → All (λ u. AreFormless says (unit_chars body u)) us
+    → unit_glyphs says w body each us columns levels ≡ unit_glyphs (unjoined says) w body each us columns levels
+units-stay says w body each [] columns levels v stand none = refl
+units-stay says w body each (u ∷ us) [] levels v stand none = refl
+units-stay says w body each (u ∷ us) (n ∷ ns) [] v stand none = refl
+units-stay says w body each (u ∷ us) (n ∷ ns) (l ∷ ls) v stand none =
+    let at = stand 0 u (omega arith) in
+    let whole : IsUtf8 (unit_text body u) = IsUtf8-between body u.start u.stop v at.0 at.1 at.2 in
+    ap₂ (λ x xs. x ∷ xs)
+    (face-stays says w n l (unit_forms says body each u) (unit_forms (unjoined says) body each u) (unit_text body u) u.face whole (none 0 u (omega arith)))
+    (units-stay says w body each us ns ls v (All-rest (StandsIn body) u us (u ∷ us) refl stand)
+    (All-rest (λ x. AreFormless says (unit_chars body x)) u us (u ∷ us) refl none))
+
+pub rows_stay : FormlessRowsStay
+rows_stay says w body paragraph each us levels v stand none =
+    ap (λ pieces. with_blanks paragraph (w - columns_used w us) (flat_map (λ k. get_or pieces k []) (visual levels)))
+    (units-stay says w body each us (unit_columns w 0 us) levels v stand none)

@@ -1,5 +1,5 @@
 -- The letters and forms of a row's glyphs, one after another.
-use Rattle.std.proofs.Common.{◌≡◌, ℕ, zero, suc, ◌+◌, ◌-◌, ◌<◌, ◌≤◌, List, [], ◌∷◌, ◌++◌, length, map, get_or, take, drop, chars, IsUtf8, All, refl, sym, subst, ap, ap₂, ◌∙◌, arith, take_all, length-append, length-drop, append_assoc}
+use Rattle.std.proofs.Common.{◌≡◌, ℕ, zero, suc, ◌+◌, ◌<◌, ◌≤◌, List, [], ◌∷◌, ◌++◌, length, get_or, take, drop, chars, IsUtf8, All, refl, sym, subst, ap, ap₂, ◌∙◌, arith, take_all, length-append, length-drop, append_assoc}
 use Rattle.std.specs.Prelude.{encode_utf8, encode_utf8_all, Option}
 use Rattle.std.specs.List.{zip}
 use Rattle.std.proofs.lemmas.List.Elements.{All-cons, All-nil}
@@ -12,10 +12,8 @@ use Rattle.bx_ucd.specs.declared.joining.Form.{Form}
 use Rattle.bx_ucd.specs.declared.joining.Form.TheVariants.{Isolated}
 use Rattle.bx_joining.specs.Joining.{body_forms, first_forms}
 use Rattle.bx_joining.proofs.TextForms.{length-first_forms}
-use Rattle.bx_rows.specs.declared.drawn.Drawn.{Drawn}
 use Rattle.bx_rows.specs.PlainRows.{char_forms, joined_glyph, leveled_glyphs, mirrored_glyphs}
 use Rattle.bx_rows.specs.RowPicture.{Glyph}
-use Rattle.bx_rows.specs.Shown.{glyph_of}
 use Rattle.bx_rows.proofs.Leveled.{changed, joined-leveled}
 
 -- the levels, letters and forms of a row's glyphs, of which there are as many as levels

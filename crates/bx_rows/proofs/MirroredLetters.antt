@@ -4,7 +4,6 @@ use Rattle.std.specs.Prelude.{Option, encode_utf8_all, is_some, unwrap_or}
 use Rattle.std.proofs.lemmas.Str.{chars-nil, chars_past_char, encodes-chars}
 use Rattle.std.proofs.lemmas.List.{nil_from_length}
 use Rattle.bx_ucd.specs.Data.{Data}
-use Rattle.bx_ucd.specs.declared.class.Class.{Class}
 use Rattle.bx_cells.specs.declared.unit.Face.TheVariants.{Own}
 use Rattle.bx_cells.specs.Faces.{face, face_of}
 use Rattle.bx_cells.specs.Simple.{begins}

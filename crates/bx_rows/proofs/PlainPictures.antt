@@ -3,8 +3,7 @@ use Rattle.std.proofs.Common.{◌≡◌, ℕ, suc, ◌+◌, ◌-◌, ◌%◌, �
 use Rattle.std.proofs.Common.{Option, All, refl, sym, ap, ap₂, ◌∙◌, arith, append_assoc}
 use Rattle.std.specs.Prelude.{encode_utf8_all, flat_map}
 use Rattle.std.specs.Str.{IsCharBoundary, IsUtf8}
-use Rattle.std.proofs.Math.Seq.{take-append_seam, drop-append_seam}
-use Rattle.std.proofs.lemmas.List.{get_or-map, drop-drop}
+use Rattle.std.proofs.lemmas.List.{get_or-map}
 use Rattle.std.proofs.lemmas.List.Elements.{All-rest}
 use Rattle.std.proofs.lemmas.List.Sums.{sum_by-cons}
 use Rattle.std.proofs.lemmas.Str.{chars-IsAscii}
@@ -12,7 +11,6 @@ use Rattle.bx_ucd.specs.Data.{Data}
 use Rattle.unicode_width.specs.Width.{str_width}
 use Rattle.unicode_width.proofs.Rules.{str_width-printable}
 use Rattle.bx_terms.specs.Characters.{are_ascii_printable}
-use Rattle.bx_ucd.specs.declared.class.Class.{Class}
 use Rattle.bx_cells.specs.declared.unit.Face.TheVariants.{Own}
 use Rattle.bx_cells.specs.declared.unit.Unit.{Unit}
 use Rattle.bx_cells.specs.Units.{unit_text, HasFace}

@@ -5,7 +5,6 @@ use Rattle.std.proofs.lemmas.List.{length-map}
 use Rattle.bx_ucd.specs.Data.{Data}
 use Rattle.bx_cells.specs.declared.unit.Unit.{Unit}
 use Rattle.bx_rows.specs.RowLevels.{chars_before, l1, unit_levels, levels_or_before, row_chars, row_levels}
-use Rattle.bx_ucd.specs.declared.class.Class.{Class}
 use Rattle.bx_cells.specs.Units.{unit_chars}
 
 pub before_none : (body : List ℕ) (us : List Unit) → length us ≡ 0 → chars_before body us ≡ 0

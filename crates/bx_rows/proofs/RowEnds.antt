@@ -7,7 +7,6 @@ use Rattle.std.proofs.lemmas.List.{get_or-drop, get_or-take, length-drop, length
 use Rattle.std.proofs.lemmas.List.Elements.{All-cons, All-nil, All-tail}
 use Rattle.std.proofs.lemmas.List.Sums.{sum_by-cons}
 use Rattle.bx_ucd.specs.Data.{Data}
-use Rattle.bx_ucd.specs.declared.class.Class.{Class}
 use Rattle.bx_cells.specs.declared.unit.Unit.{Unit}
 use Rattle.bx_rows.specs.Laws.{EndsWell, IsFull}
 use Rattle.bx_rows.specs.Wrapping.{FitsWindow, columns_at, fit_count, fit_count_from, is_break, row_len, row_units, rows_from, up_to_break, up_to_last, wrap}

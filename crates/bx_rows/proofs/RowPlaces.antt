@@ -1,5 +1,5 @@
 -- Where the rows of a body, and their units and characters, stand in it.
-use Rattle.std.proofs.Common.{◌≡◌, ℕ, ◌+◌, ◌-◌, ◌<◌, ◌≤◌, List, [], ◌∷◌, ◌++◌, length, map, get_or, take, drop, chars, encode_utf8, All, suc, refl, sym, subst, ap, ap₂, ◌∙◌, arith}
+use Rattle.std.proofs.Common.{◌≡◌, ℕ, ◌+◌, ◌-◌, ◌<◌, ◌≤◌, List, [], ◌∷◌, ◌++◌, length, map, get_or, take, drop, chars, encode_utf8, All, refl, sym, subst, ap, ap₂, ◌∙◌, arith}
 use Rattle.std.specs.Prelude.{Option, slice_get, true}
 use Rattle.std.specs.List.{slice_range}
 use Rattle.std.specs.Str.{IsCharBoundary, IsUtf8}
@@ -9,12 +9,10 @@ use Rattle.std.proofs.lemmas.List.Elements.{All-cons, All-nil, All-take}
 use Rattle.std.proofs.lemmas.Option.{slice_get-get_or}
 use Rattle.std.proofs.lemmas.Str.{IsCharBoundary-past_char, IsUtf8-between, IsUtf8-drop, length-encode}
 use Rattle.bx_ucd.specs.Data.{Data}
-use Rattle.bx_ucd.specs.declared.class.Class.{Class}
 use Rattle.bx_cells.specs.declared.unit.Unit.{Unit}
 use Rattle.bx_cells.specs.Units.{StandsIn, unit_at, unit_text, units, units_from}
 use Rattle.bx_joining.specs.Joining.{text_forms}
 use Rattle.bx_joining.specs.Places.{StandsAt}
-use Rattle.bx_rows.specs.declared.glyphs.UnitAt.{UnitAt}
 use Rattle.bx_rows.specs.declared.row.Row.{Row}
 use Rattle.bx_rows.specs.declared.row_at.RowAt.{RowAt}
 use Rattle.bx_rows.specs.declared.start_search.RowStart.{RowStart}

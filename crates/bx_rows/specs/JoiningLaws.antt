@@ -1,9 +1,11 @@
--- A law of pictures with joined letters.
+-- Laws of pictures with joined letters.
 use Rattle.std.specs.Prelude.{◌≡◌, ℕ, Bool, All, List, Option, None, flat_map, replicate}
+use Rattle.std.specs.Str.{IsUtf8}
 use Rattle.bx_ucd.specs.Data.{Data}
 use Rattle.bx_ucd.specs.declared.joining.Joining.TheVariants.{U}
 use Rattle.bx_cells.specs.declared.unit.Unit.{Unit}
-use Rattle.bx_cells.specs.Units.{HasFace}
+use Rattle.bx_cells.specs.Units.{HasFace, StandsIn, unit_chars}
+use Rattle.bx_joining.specs.JoinedText.{AreFormless}
 use Rattle.bx_rows.specs.RowPicture.{Glyph, draw}
 
 -- what the tables say, without joined letters
@@ -19,3 +21,9 @@ abbrev pub FormsChangeTextsAlone : Type 0
 FormsChangeTextsAlone = (says : Data) (w : ℕ) (body : List ℕ) (paragraph : ℕ) (each : List (Option ℕ)) (us : List Unit) (levels : List ℕ)
     → All (HasFace says w body) us
     → columns_shown (draw says w body paragraph each us levels) ≡ columns_shown (draw (unjoined says) w body paragraph each us levels)
+
+-- a row of units whose letters have no forms has the same picture as without joined letters
+abbrev pub FormlessRowsStay : Type 0
+FormlessRowsStay = (says : Data) (w : ℕ) (body : List ℕ) (paragraph : ℕ) (each : List (Option ℕ)) (us : List Unit) (levels : List ℕ)
+    → IsUtf8 body → All (StandsIn body) us → All (λ u. AreFormless says (unit_chars body u)) us
+    → draw says w body paragraph each us levels ≡ draw (unjoined says) w body paragraph each us levels

@@ -1,7 +1,6 @@
 -- Laws of units and rows of every body.
 use Rattle.std.specs.Prelude.{◌≡◌, ◌⊎◌, ◌+◌, ◌-◌, ◌<◌, ◌≤◌, ℕ, true, All, HoldsAt, IsUtf8, List, [], ◌∷◌, Some, drop, flat_map, length, map, slice_get}
 use Rattle.bx_ucd.specs.Data.{Data}
-use Rattle.bx_ucd.specs.declared.class.Class.{Class}
 use Rattle.bx_cells.specs.declared.unit.Unit.{Unit}
 use Rattle.bx_cells.specs.Units.{units, unit_text}
 use Rattle.bx_rows.specs.declared.row.Row.{Row}

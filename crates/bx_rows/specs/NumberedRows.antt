@@ -1,7 +1,6 @@
 -- The glyphs of a row of a body, by its number.
 use Rattle.std.specs.Prelude.{ℕ, List, Option}
 use Rattle.bx_ucd.specs.Data.{Data}
-use Rattle.bx_ucd.specs.declared.class.Class.{Class}
 use Rattle.bx_rows.specs.RowLevels.{row_levels}
 use Rattle.bx_rows.specs.RowPicture.{Glyph, draw}
 use Rattle.bx_rows.specs.RowStarts.{units_of_row}

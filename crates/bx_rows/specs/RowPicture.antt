@@ -4,7 +4,6 @@ use Rattle.std.specs.Prelude.{unwrap_or, chars, encode_utf8_all}
 use Rattle.std.specs.List.{zip}
 use Rattle.bx_ucd.specs.Data.{Data}
 use Rattle.bx_terms.specs.Characters.{are_ascii_printable}
-use Rattle.bx_ucd.specs.declared.class.Class.{Class}
 use Rattle.bx_ucd.specs.declared.joining.Form.{Form}
 use Rattle.bx_cells.specs.declared.unit.Face.{Face}
 use Rattle.bx_cells.specs.declared.unit.Face.TheVariants.{Tab, Mark, Own}

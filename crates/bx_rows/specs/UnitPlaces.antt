@@ -1,5 +1,5 @@
 -- Where the units of a row stand in its body.
-use Rattle.std.specs.Prelude.{◌≡◌, ◌≤◌, ℕ, List, length, take, chars}
+use Rattle.std.specs.Prelude.{◌≤◌, ℕ, List, length, take, chars}
 use Rattle.bx_ucd.specs.Data.{Data}
 use Rattle.bx_ucd.specs.declared.joining.Form.{Form}
 use Rattle.bx_joining.specs.Joining.{text_forms}

@@ -1,7 +1,7 @@
 //! Laws of units, rows, visual order and pictures. The functions are empty: their contracts are the laws.
 
 ghost use Rattle.bx_rows.specs.Laws.{RowsAreOfRest, RowsCutUnits, RowsEndWell, RowsMeetAgain, UnitsFitWindow, UnitsMakeBody, UnitsStandInTurn};
-ghost use Rattle.bx_rows.specs.JoiningLaws.{FormsChangeTextsAlone};
+ghost use Rattle.bx_rows.specs.JoiningLaws.{FormlessRowsStay, FormsChangeTextsAlone};
 ghost use Rattle.bx_rows.specs.OrderLaws.{EqualLevelsOrder, LowestLevelsOrder, LowestStaysBetween, OrdersArePermutations, PicturesGoByLevels, PicturesShowUnits, StaysBetween};
 
 /// The units of a body joined are the body: they are adjacent from its start to its end. Each fits in the window.
@@ -41,9 +41,10 @@ pub fn pictures_show_units()
     ensures order { PicturesGoByLevels }
 {}
 
-/// Joined letters change the texts of a picture's glyphs alone.
+/// Joined letters change the texts of a picture's glyphs alone, and none where no letter has a form.
 pub fn forms_change_texts_alone()
-    ensures { FormsChangeTextsAlone }
+    ensures alone { FormsChangeTextsAlone }
+    ensures formless { FormlessRowsStay }
 {}
 
 /// From any row on, the rows of a body are those of the rest of the body, taken as a body of its own.

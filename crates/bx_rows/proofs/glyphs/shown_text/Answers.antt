@@ -1,4 +1,4 @@
-use Rattle.std.proofs.Common.{◌≡◌, ◌%◌, ◌∙◌, sym}
+use Rattle.std.proofs.Common.{◌%◌, ◌∙◌, sym}
 use Rattle.bx_rows.specs.UnitPlaces.{forms_of_unit}
 use Rattle.bx_rows.proofs.Leveled.{formless-text, mirrored-are, shown_if_odd}
 use Rattle.bx_rows.proofs.glyphs.shown_text.Goals as goal

@@ -1,4 +1,4 @@
-use Rattle.std.proofs.Common.{◌≡◌, ◌++◌, ◌∙◌, List, ℕ, encode_utf8, string_bytes, ap, sym}
+use Rattle.std.proofs.Common.{◌++◌, ◌∙◌, List, ℕ, encode_utf8, ap, sym}
 use Rattle.bx_cells.specs.Faces.{face}
 use Rattle.bx_rows.specs.RowPicture.{is_own}
 use Rattle.bx_rows.specs.Shown.{glyph_of}

@@ -1,5 +1,8 @@
-use Rattle.bx_rows.proofs.JoinedColumns.{texts_alone}
+use Rattle.bx_rows.proofs.JoinedColumns.{rows_stay, texts_alone}
 use Rattle.bx_rows.proofs.laws.forms_change_texts_alone.Goals as goal
 
-pub returns : goal.returns
-returns c = texts_alone
+pub returns-clause-alone : goal.returns-clause-alone
+returns-clause-alone c = texts_alone
+
+pub returns-clause-formless : goal.returns-clause-formless
+returns-clause-formless c = rows_stay

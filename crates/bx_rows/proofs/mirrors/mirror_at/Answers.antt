@@ -1,4 +1,4 @@
-use Rattle.std.proofs.Common.{◌≡◌, ◌∷◌, [], List, ℕ, IsUtf8, chars, subst}
+use Rattle.std.proofs.Common.{◌∷◌, [], List, ℕ, IsUtf8, chars, subst}
 use Rattle.bx_joining.specs.JoinedText.{AreFormless}
 use Rattle.bx_rows.proofs.Leveled.{formless-shown}
 use Rattle.bx_rows.proofs.mirrors.mirror_at.Goals as goal

@@ -1,7 +1,6 @@
-use Rattle.std.proofs.Common.{◌<◌, [], length, get_or, refl, sym, ◌∙◌, ap, ap₂}
-use Rattle.bx_joining.specs.Joining.{text_forms}
+use Rattle.std.proofs.Common.{◌<◌, [], length, get_or, refl, ◌∙◌}
 use Rattle.bx_cells.specs.Units.{unit_text}
-use Rattle.bx_rows.specs.RowPicture.{unit_glyphs, face_glyphs}
+use Rattle.bx_rows.specs.RowPicture.{unit_glyphs}
 use Rattle.bx_rows.proofs.FaceGlyphs.{letter-face}
 use Rattle.bx_rows.proofs.Pieces.{piece-at, pieces-more}
 use Rattle.bx_rows.proofs.RowPlaces.{drawn-in, stands-in}

@@ -1,8 +1,7 @@
-use Rattle.std.proofs.Common.{◌∙◌, drop, length, arith}
+use Rattle.std.proofs.Common.{drop, length}
 use Rattle.bx_joining.specs.Joining.{body_forms}
 use Rattle.bx_joining.proofs.TextForms.{length-first_forms}
 use Rattle.bx_rows.specs.PlainRows.{char_forms}
-use Rattle.bx_rows.proofs.Leveled.{single-count}
 use Rattle.bx_rows.proofs.plain_picture.show_levels.Goals as goal
 
 pub returns-then-not-branch-clause-shown : goal.returns-then-not-branch-clause-shown

@@ -1,4 +1,4 @@
-use Rattle.std.proofs.Common.{◌≡◌, ◌+◌, ◌∙◌, IsUtf8, chars, length, take, arith, ap, subst, sym}
+use Rattle.std.proofs.Common.{◌+◌, ◌∙◌, IsUtf8, chars, length, arith, ap, subst}
 use Rattle.std.specs.List.{slice_range}
 use Rattle.bx_rows.proofs.RowPlaces.{numbered}
 use Rattle.bx_rows.proofs.RowUnits.{chars-within}
