@@ -1,12 +1,12 @@
 #!/bin/sh
 # draw-screens.sh [SVG]: draws SVG, by default docs/screens.svg, the picture of README.md, from real runs in tmux: note.txt in
-# ./bidi-edit and in emacs, catalogue.txt in ./bidi-edit, and there a search in pointed.txt and a region of note.txt. Exit status
-# 77: a program is missing.
+# ./bidi-edit and in emacs, arabic.txt in ./bidi-edit, vim and emacs, catalogue.txt in ./bidi-edit, and there a search in
+# pointed.txt and a region of note.txt. Exit status 77: a program is missing.
 set -eu
 
 cd "$(dirname "$0")/.."
 out=${1:-docs/screens.svg}
-for program in tmux emacs python3; do
+for program in tmux emacs vim python3; do
     command -v "$program" >/dev/null || { echo "skipped: there is no $program"; exit 77; }
 done
 for program in bidi_edit bidi_input; do
@@ -17,22 +17,34 @@ folder=$(mktemp -d)
 trap 'rm -rf "$folder"' EXIT
 scripts/show.sh --cells scripts/note.txt 9 34 >"$folder/note"
 # without a menu and a start message
-scripts/show.sh --cells scripts/note.txt 9 34 emacs -nw -Q --eval '(menu-bar-mode -1)' --eval '(message nil)' >"$folder/emacs"
+show_emacs() { # FILE ROWS COLS
+    scripts/show.sh --cells "$@" emacs -nw -Q --eval '(menu-bar-mode -1)' --eval '(message nil)'
+}
+show_emacs scripts/note.txt 9 34 >"$folder/emacs"
+scripts/show.sh --cells scripts/arabic.txt 5 24 >"$folder/arabic"
+show_emacs scripts/arabic.txt 5 24 >"$folder/arabic_emacs"
+# in its mode for Arabic, without a message at the start
+scripts/show.sh --cells scripts/arabic.txt 5 24 vim -u NONE -i NONE -n -A --cmd 'set shortmess+=F noruler' >"$folder/arabic_vim"
 scripts/show.sh --cells scripts/catalogue.txt 7 56 ./bidi-edit --direction ltr >"$folder/catalogue"
 scripts/show.sh --cells --keys 'C-w ה א ר ץ' scripts/pointed.txt 6 34 >"$folder/search"
 scripts/show.sh --cells --keys 'C-Right C-@ C-Right C-Right' scripts/note.txt 6 34 >"$folder/region"
 
-title='A note in English, Hebrew and Arabic in bidi_edit and in emacs, a catalogue, a search and a region in bidi_edit'
+title='A note in English, Hebrew and Arabic in bidi_edit and in emacs, an Arabic sentence in bidi_edit, vim and emacs, a catalogue, a '\
+'search and a region in bidi_edit'
 description='Left, bidi_edit in a window of 9 rows and 34 columns. The Hebrew sentence has two rows: the first, from the right, says that '\
 'the meeting is on Tuesday at 10:30, the second goes on with the room, 7 in parentheses, and lunch, and ends in the full stop. The Arabic '\
 'sentence has two rows likewise. The two bidi controls of the English line are letters in negative image. '\
 'Right, emacs, which puts a paragraph in order before it cuts it into rows: each of the two sentences ends in the upper row and begins in '\
-'the lower one. Below, a catalogue in bidi_edit with the direction ltr: the columns number, title, author, year and price stand below one '\
+'the lower one. Below these, an Arabic sentence with the number 25 and the word Hamlet: bidi_edit joins its letters, and shows '\
+'number and word as they are read; vim joins the letters and shows 52 and telmaH; emacs leaves each letter by itself. '\
+'Below, a catalogue in bidi_edit with the direction ltr: the columns number, title, author, year and price stand below one '\
 'another, whether the titles are Hebrew, Arabic or English. At the bottom, left, a search: the last row shows the four letters '\
 'that were typed, without vowel points, and the cursor is on the word with its points. Right, a region in negative image, from the '\
 'second word of an English sentence to the first of two Hebrew words in it, which stands to the right of the second one, so that the '\
 'region is seen in two pieces.'
-python3 scripts/draw_screens.py "$title" "$description" \
-    'bidi_edit' "$folder/note" "$(emacs --version | sed -n '1s/.*Emacs \([0-9.]*\).*/emacs \1/p')" "$folder/emacs" \
+emacs=$(emacs --version | sed -n '1s/.*Emacs \([0-9.]*\).*/emacs \1/p')
+vim=$(vim --version | sed -n '1s/.*IMproved \([0-9.]*\).*/vim \1/p')
+python3 scripts/draw_screens.py "$title" "$description" 'bidi_edit' "$folder/note" "$emacs" "$folder/emacs" \
+    'bidi_edit' "$folder/arabic" "$vim -A" "$folder/arabic_vim" "$emacs" "$folder/arabic_emacs" \
     'bidi_edit --direction ltr' "$folder/catalogue" 'Ctrl-W: find' "$folder/search" 'Ctrl-Space: a region' "$folder/region" >"$folder/svg"
 mv "$folder/svg" "$out"
