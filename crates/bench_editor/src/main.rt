@@ -1,6 +1,6 @@
 //! Measures the whole editor: from the bytes of keys to the bytes for the terminal, in a window of 24 rows and 80 columns.
 //!
-//!     bench_editor [--time] [--tables CLASSES BRACKETS MIRRORING] TASK TEXT BYTES TIMES
+//!     bench_editor [--time] [--tables CLASSES BRACKETS MIRRORING [--joining JOINING CHARACTERS]] TASK TEXT BYTES TIMES
 //!     bench_editor each
 //!
 //! TASK is `opening`, `letter`, `erasure` (a letter and Backspace), `move` (Right and Left), `page` (PageDown and PageUp),
@@ -57,6 +57,21 @@ fn measured<R: CpuClock + AllocGlobal>(
     rounds::run(rt, files, task, wanted, name.as_str())
 }
 
+/// Carries out the words after --tables and its files.
+fn joined<R: Files + CpuClock + AllocGlobal>(
+    rt: &R,
+    mut files: TableFiles,
+    words: &[String],
+) -> Result<Outcome> {
+    match words {
+        [option, joining, characters, rest @ ..] if option.as_str() == "--joining" => {
+            files.add_joining(rt, joining.as_str(), characters.as_str())?;
+            measured(rt, &files, rest)
+        }
+        all => measured(rt, &files, all),
+    }
+}
+
 /// Carries out the words after --time.
 fn asked<R: Files + CpuClock + AllocGlobal>(rt: &R, words: &[String]) -> Result<Outcome> {
     match words {
@@ -67,7 +82,7 @@ fn asked<R: Files + CpuClock + AllocGlobal>(rt: &R, words: &[String]) -> Result<
                 brackets.as_str(),
                 mirroring.as_str(),
             )?;
-            measured(rt, &files, rest)
+            joined(rt, files, rest)
         }
         all => measured(rt, &TableFiles::small(rt.alloc())?, all),
     }

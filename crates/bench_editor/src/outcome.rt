@@ -6,8 +6,8 @@ use std::alloc::{AllocError, Global};
 use std::time::Duration;
 
 /// The program's usage. An error's text has no room for a longer one.
-pub(crate) const USAGE: &str =
-    "usage: bench_editor [--time] [--tables CLASSES BRACKETS MIRRORING] TASK TEXT BYTES TIMES";
+pub(crate) const USAGE: &str = "usage: bench_editor [--time] [--tables CLASSES BRACKETS MIRRORING \
+    [--joining JOINING CHARACTERS]] TASK TEXT BYTES TIMES";
 
 /// The text's script, its least length in bytes, and the number of rounds.
 #[derive(Clone, Copy)]

@@ -1,22 +1,30 @@
 //! The files of a session's tables.
 
 use anyhow::{Context, Result};
-use bx_ucd::Tables;
 use bx_ucd::sample::{BRACKETS, CLASSES, MIRRORING};
+use bx_ucd::{JoiningFiles, Tables};
 use std::alloc::{AllocError, Global};
 use std::fs;
 use std::rt::Files;
 
-/// The bytes of Unicode's three files. A session owns its tables, so each session reads new ones.
+/// The bytes of the two files by which letters are joined.
+#[derive(Drop)]
+struct JoiningBytes {
+    joining: Vec<u8>,
+    characters: Vec<u8>,
+}
+
+/// The bytes of Unicode's files. A session owns its tables, so each session reads new ones.
 #[derive(Drop)]
 pub(crate) struct TableFiles {
     classes: Vec<u8>,
     brackets: Vec<u8>,
     mirroring: Vec<u8>,
+    joining: Option<JoiningBytes>,
 }
 
 impl TableFiles {
-    /// Reads the files at these paths.
+    /// Reads the three files at these paths, without the two by which letters are joined.
     pub(crate) fn read<R: Files + AllocGlobal>(
         rt: &R,
         classes: &str,
@@ -27,7 +35,22 @@ impl TableFiles {
             classes: fs::read(rt, classes).context("classes")?,
             brackets: fs::read(rt, brackets).context("brackets")?,
             mirroring: fs::read(rt, mirroring).context("mirroring")?,
+            joining: None,
         })
+    }
+
+    /// Reads the two files by which letters are joined.
+    pub(crate) fn add_joining<R: Files + AllocGlobal>(
+        &mut self,
+        rt: &R,
+        joining: &str,
+        characters: &str,
+    ) -> Result<()> {
+        self.joining = Some(JoiningBytes {
+            joining: fs::read(rt, joining).context("joining")?,
+            characters: fs::read(rt, characters).context("characters")?,
+        });
+        Ok(())
     }
 
     /// The small samples of the files.
@@ -36,12 +59,23 @@ impl TableFiles {
             classes: String::from_str(alloc, CLASSES)?.into_bytes(),
             brackets: String::from_str(alloc, BRACKETS)?.into_bytes(),
             mirroring: String::from_str(alloc, MIRRORING)?.into_bytes(),
+            joining: None,
         })
     }
 
     /// Reads the tables from the files.
     pub(crate) fn tables(&self, alloc: Global) -> Result<Tables> {
-        let tables = Tables::read(alloc, &self.classes, &self.brackets, &self.mirroring, None)?;
+        let joining = self.joining.as_ref().map(|bytes| JoiningFiles {
+            joining: bytes.joining.as_slice(),
+            characters: bytes.characters.as_slice(),
+        });
+        let tables = Tables::read(
+            alloc,
+            &self.classes,
+            &self.brackets,
+            &self.mirroring,
+            joining,
+        )?;
         Ok(tables)
     }
 }

@@ -2,8 +2,8 @@
 //!
 //! `bidi_edit [--rows N] [--cols N] [--direction auto|ltr|rtl] [--line N] [--text PATH] [--unsaved] [--journal PATH [--in-place
 //! MARK]] [--replay PATH [--to PATH]] --classes F --brackets F --mirroring F [--joining F --characters F] FILE`. With `--check` it
-//! only checks that FILE can be opened. Exit status 0: ended by Quit, or the input ended without unsaved changes, or FILE can be opened; 1: a fault, with a
-//! line on standard error; 2: the command line was refused, and standard error says why.
+//! only checks that FILE can be opened. Exit status 0: ended by Quit, or the input ended without unsaved changes, or FILE can be
+//! opened; 1: a fault, with a line on standard error; 2: the command line was refused, and standard error says why.
 #![tactic(auto)]
 
 mod beginning;

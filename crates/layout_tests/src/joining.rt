@@ -119,8 +119,8 @@ fn answers(alloc: Global, tables: &Tables, c: char) -> Result<String, Fail> {
     Ok(text)
 }
 
-/// Each line: what it shows, lines of joining types and of characters behind those above, with ␉ for a tab, ␊ for LF and ␍ for CR,
-/// a character's code, and its answers.
+/// Each line: what it shows, lines of joining types and of characters behind those above, with ␉ for a tab, ␊ for LF and ␍
+/// for CR, a character's code, and its answers.
 const ANSWERS: &str = "\
 a letter that joins on both sides\t\t\t0628\tD - FE91 FE92 FE90\n\
 a letter that joins the one before it\t\t\t0627\tR - - - FE8E\n\
