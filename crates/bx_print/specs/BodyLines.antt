@@ -1,8 +1,6 @@
 -- The lines of one paragraph's rows, each after a line feed.
-use Rattle.std.specs.Prelude.{ℕ, List, ◌∷◌, flat_map, Option}
+use Rattle.std.specs.Prelude.{ℕ, List, ◌∷◌, flat_map}
 use Rattle.bx_ucd.specs.Data.{Data}
-use Rattle.bx_ucd.specs.declared.class.Class.{Class}
-use Rattle.bx_ucd.specs.declared.data.Side.{Side}
 use Rattle.bx_terms.specs.declared.base.Base.{Base}
 use Rattle.bx_paragraph.specs.BodyRows.{BodyRow, body_rows, row_glyphs}
 use Rattle.bx_print.specs.declared.marks.Marks.{Marks}

@@ -1,6 +1,5 @@
-use Rattle.std.proofs.Common.{◌+◌, ◌∙◌, ℕ, Option, ap, refl, sym, arith, drop, true, false}
+use Rattle.std.proofs.Common.{◌+◌, ◌∙◌, ℕ, ap, refl, sym, arith, drop, true, false}
 use Rattle.std.proofs.lemmas.List.Elements.{All-nil}
-use Rattle.bx_ucd.specs.declared.data.Side.{Side}
 use Rattle.bx_brackets.specs.Resolve.{IsPairWithin}
 use Rattle.bx_brackets.specs.Search.{progress}
 use Rattle.bx_brackets.proofs.Stack.{all_found, over_after, turn_more}
