@@ -49,13 +49,14 @@ pub fn open(beginning: Beginning<'_>) -> Result<Session<Tables>, ProgramFault<'s
     let alloc = beginning.alloc;
     let (rows, cols, direction) = (beginning.rows, beginning.cols, beginning.direction);
     let unsaved = beginning.unsaved;
-    let UnicodeFiles {
-        classes,
-        brackets,
-        mirroring,
-        joining,
-    } = beginning.unicode;
-    let tables = Tables::read(alloc, classes, brackets, mirroring, joining)?;
+    let unicode = beginning.unicode;
+    let tables = Tables::read(
+        alloc,
+        unicode.classes,
+        unicode.brackets,
+        unicode.mirroring,
+        unicode.joining,
+    )?;
     let text = beginning.text.unwrap_or(Vec::new(alloc));
     let start = beginning
         .line

@@ -32,13 +32,13 @@ pub fn print_bytes<W: Write>(
     ensures { OnOk result (refusal unicode.entry.classes.now unicode.entry.brackets.now unicode.entry.mirroring.now
         (texts_of unicode.entry.joining) ≡ None) }
 {
-    let UnicodeFiles {
-        classes,
-        brackets,
-        mirroring,
-        joining,
-    } = unicode;
-    let tables = Tables::read(alloc, classes, brackets, mirroring, joining)?;
+    let tables = Tables::read(
+        alloc,
+        unicode.classes,
+        unicode.brackets,
+        unicode.mirroring,
+        unicode.joining,
+    )?;
     // a file that is too long is cut off, maybe inside a character
     if bytes.len() > LARGEST_TEXT {
         return Err(PrintError::TooLong.into());
