@@ -50,7 +50,7 @@ orders w cs = map visual (levels w cs)
 abbrev pub drawn : (ℕ → Option ℕ) → Base → ℕ → List ℕ → List (List Glyph)
 drawn mirrors base w cs =
     let body = encode_utf8_all cs in
-    let says : Data = record { class = small.class; bracket = small.bracket; mirror = mirrors } in
+    let says : Data = record small { mirror = mirrors } in
     let paragraph = paragraph_level_under says base cs in
     let each = levels_under says base cs in
     map (λ us. draw says w body paragraph us (row_levels says body paragraph each us)) (rows_units w cs)
