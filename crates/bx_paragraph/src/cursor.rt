@@ -1,11 +1,11 @@
 //! The cursor's places in a row, and the moves among them.
-ghost use Rattle.std.specs.Prelude.{◌≡◌, ◌<◌, ◌++◌, ◌∷◌, [], true, false, IfOk, length, map};
+ghost use Rattle.std.specs.Prelude.{◌≡◌, ◌++◌, ◌∷◌, [], true, false, IfOk, map};
 ghost use Rattle.bx_paragraph.specs.BodyRows.{last_of, offsets_of};
-ghost use Rattle.bx_paragraph.specs.Layout.{IsLayoutBy, row_by};
+ghost use Rattle.bx_paragraph.specs.LentRow.{row};
 ghost use Rattle.bx_paragraph.specs.Slots.{beside, covering, entry, or_else};
 ghost use Rattle.bx_paragraph.specs.Slots.{reading_end, reading_start, slot_offsets, toward};
 
-use crate::layout::ParagraphLayout;
+use crate::lent_row::LentRow;
 use crate::moves::{Visual, opposite, reading_side};
 use crate::reading::{covering_in, first_in, last_offset, next_in, offsets_toward};
 use bx_cells::Unit;
@@ -36,50 +36,38 @@ fn place_offsets(
     Ok(offsets)
 }
 
-impl ParagraphLayout {
-    /// The offsets of a row's places in text order, in bytes of the body: the start of each unit, and in the last row the
+impl<'a, 't, D: BidiData> LentRow<'a, 't, D> {
+    /// The offsets of the row's places in text order, in bytes of the body: the start of each unit, and in the last row the
     /// body's end.
     ///
     /// Errors: `OutOfMemory`.
-    pub fn offsets<D: BidiData>(&self, row: usize, tables: &D) -> Result<Vec<usize>, OutOfMemory>
-        requires data { IsLayoutBy (D.data tables.now) self.now }
-        requires row { row < length self.now.starts }
-        ensures { IfOk result (λ v. v.items ≡ offsets_of (row_by (D.data tables.now) self.now row)) }
+    #[tactic(auto, using(crate::proofs::LentRows::lent_offsets))]
+    pub fn offsets(&self) -> Result<Vec<usize>, OutOfMemory>
+        ensures { IfOk result (λ v. v.items ≡ offsets_of (row self.now)) }
     {
         // the places of a row do not depend on its levels
-        let alloc = *self.starts.allocator();
-        let body = self.body.as_str();
-        let units = self.lines(tables).units(alloc, row)?;
-        let is_last = row + 1 == self.starts.len();
-        let offsets = place_offsets(alloc, &units, is_last, body.len())?;
+        let alloc = self.paragraph.allocator();
+        let len = self.paragraph.body().len();
+        let units = self.paragraph.lines(self.tables).units(alloc, self.number)?;
+        let offsets = place_offsets(alloc, &units, self.is_last(), len)?;
         Ok(offsets)
     }
 
-    /// The offset of a row's last place: the body's end in the last row, else the start of the row's last unit.
+    /// The offset of the row's last place: the body's end in the last row, else the start of the row's last unit.
     ///
     /// Errors: `OutOfMemory`.
-    pub fn last<D: BidiData>(&self, row: usize, tables: &D) -> Result<usize, OutOfMemory>
-        requires data { IsLayoutBy (D.data tables.now) self.now }
-        requires row { row < length self.now.starts }
-        ensures { IfOk result (λ o. o ≡ last_of (row_by (D.data tables.now) self.now row)) }
+    pub fn last(&self) -> Result<usize, OutOfMemory>
+        ensures { IfOk result (λ o. o ≡ last_of (row self.now)) }
     {
-        let offsets = self.offsets(row, tables)?;
+        let offsets = self.offsets()?;
         Ok(last_offset(&offsets))
     }
 
-    /// The offsets of a row's slots in the order of a move to a side.
-    fn toward<D: BidiData>(
-        &self,
-        row: usize,
-        side: Visual,
-        tables: &D,
-    ) -> Result<Vec<usize>, OutOfMemory>
-        requires data { IsLayoutBy (D.data tables.now) self.now }
-        requires row { row < length self.now.starts }
-        ensures { IfOk result (λ v. v.items
-            ≡ toward side (slot_offsets self.now.w (row_by (D.data tables.now) self.now row))) }
+    /// The offsets of the row's slots in the order of a move to a side.
+    fn toward(&self, side: Visual) -> Result<Vec<usize>, OutOfMemory>
+        ensures { IfOk result (λ v. v.items ≡ toward side (slot_offsets self.now.paragraph.now.w (row self.now))) }
     {
-        let slots = self.slots(row, tables)?;
+        let slots = self.slots()?;
         let offsets = offsets_toward(*slots.allocator(), &slots, side)?;
         Ok(offsets)
     }
@@ -87,75 +75,48 @@ impl ParagraphLayout {
     /// The offset of the row's slot next to another on a side, if there is one.
     ///
     /// Errors: `OutOfMemory`.
-    pub fn beside<D: BidiData>(
-        &self,
-        row: usize,
-        side: Visual,
-        offset: usize,
-        tables: &D,
-    ) -> Result<Option<usize>, OutOfMemory>
-        requires data { IsLayoutBy (D.data tables.now) self.now }
-        requires row { row < length self.now.starts }
-        ensures { IfOk result (λ o. o ≡ beside self.now.w (row_by (D.data tables.now) self.now row) side offset) }
+    pub fn beside(&self, side: Visual, offset: usize) -> Result<Option<usize>, OutOfMemory>
+        ensures { IfOk result (λ o. o ≡ beside self.now.paragraph.now.w (row self.now) side offset) }
     {
-        let offsets = self.toward(row, side, tables)?;
+        let offsets = self.toward(side)?;
         Ok(next_in(&offsets, offset))
     }
 
-    /// The offset of the slot at a row's reading start: the leftmost at level 0, the rightmost at level 1.
+    /// The offset of the slot at the row's reading start: the leftmost at level 0, the rightmost at level 1.
     ///
     /// Errors: `OutOfMemory`.
     #[tactic(auto, using(crate::proofs::LayoutRows::row_level))]
-    pub fn reading_start<D: BidiData>(
-        &self,
-        row: usize,
-        tables: &D,
-    ) -> Result<Option<usize>, OutOfMemory>
-        requires data { IsLayoutBy (D.data tables.now) self.now }
-        requires row { row < length self.now.starts }
-        ensures { IfOk result (λ o. o ≡ reading_start self.now.w (row_by (D.data tables.now) self.now row)) }
+    pub fn reading_start(&self) -> Result<Option<usize>, OutOfMemory>
+        ensures { IfOk result (λ o. o ≡ reading_start self.now.paragraph.now.w (row self.now)) }
     {
-        let offsets = self.toward(row, reading_side(self.level()), tables)?;
+        let offsets = self.toward(reading_side(self.paragraph.level()))?;
         Ok(first_in(&offsets))
     }
 
-    /// The offset of the slot at a row's reading end: the rightmost at level 0, the leftmost at level 1.
+    /// The offset of the slot at the row's reading end: the rightmost at level 0, the leftmost at level 1.
     ///
     /// Errors: `OutOfMemory`.
     #[tactic(auto, using(crate::proofs::LayoutRows::row_level))]
-    pub fn reading_end<D: BidiData>(
-        &self,
-        row: usize,
-        tables: &D,
-    ) -> Result<Option<usize>, OutOfMemory>
-        requires data { IsLayoutBy (D.data tables.now) self.now }
-        requires row { row < length self.now.starts }
-        ensures { IfOk result (λ o. o ≡ reading_end self.now.w (row_by (D.data tables.now) self.now row)) }
+    pub fn reading_end(&self) -> Result<Option<usize>, OutOfMemory>
+        ensures { IfOk result (λ o. o ≡ reading_end self.now.paragraph.now.w (row self.now)) }
     {
-        let side = opposite(reading_side(self.level()));
-        let offsets = self.toward(row, side, tables)?;
+        let side = opposite(reading_side(self.paragraph.level()));
+        let offsets = self.toward(side)?;
         Ok(first_in(&offsets))
     }
 
-    /// The offset at which a row is entered in a column, from 1: the unit that covers it, else the row's reading end.
+    /// The offset at which the row is entered in a column, from 1: the unit that covers it, else the row's reading end.
     ///
     /// Errors: `OutOfMemory`.
     #[tactic(auto, using(crate::proofs::LayoutRows::row_level))]
-    pub fn entry<D: BidiData>(
-        &self,
-        row: usize,
-        column: u16,
-        tables: &D,
-    ) -> Result<Option<usize>, OutOfMemory>
-        requires data { IsLayoutBy (D.data tables.now) self.now }
-        requires row { row < length self.now.starts }
-        ensures { IfOk result (λ o. o ≡ entry self.now.w (row_by (D.data tables.now) self.now row) column) }
+    pub fn entry(&self, column: u16) -> Result<Option<usize>, OutOfMemory>
+        ensures { IfOk result (λ o. o ≡ entry self.now.paragraph.now.w (row self.now) column) }
     {
-        let slots = self.slots(row, tables)?;
+        let slots = self.slots()?;
         if let Some(offset) = covering_in(&slots, column) {
             return Ok(Some(offset));
         }
-        let side = opposite(reading_side(self.level()));
+        let side = opposite(reading_side(self.paragraph.level()));
         let offsets = offsets_toward(*slots.allocator(), &slots, side)?;
         Ok(first_in(&offsets))
     }

@@ -1,23 +1,13 @@
 //! The layout of one paragraph.
-ghost use Rattle.std.specs.Prelude.{◌≡◌, ◌≤◌, ◌<◌, true, All, IfOk, OnErr, OnOk, count_by, length, nat_le, map, slice_index_or, string_bytes, sum_by};
-ghost use Rattle.std.specs.Cow.{cow_str_bytes};
+ghost use Rattle.std.specs.Prelude.{◌≡◌, ◌≤◌, ◌<◌, true, IfOk, OnErr, OnOk, count_by, length, nat_le, map, slice_index_or, string_bytes};
 ghost use Rattle.std.specs.List.Sorted.{IsNonDecreasingBy};
-ghost use Rattle.bx_terms.specs.Glyphs.{is_one_glyph, run_width};
 ghost use Rattle.bx_terms.specs.Sizes.{is_side};
-ghost use Rattle.bx_cells.specs.Units.{HasFace, StandsIn};
-ghost use Rattle.bx_rows.specs.RowPicture.{columns_used};
-ghost use Rattle.bx_rows.specs.Shown.{glyph_of};
-ghost use Rattle.bx_paragraph.specs.BodyRows.{first_of, offsets_of, row_at, row_glyphs, row_of};
-ghost use Rattle.bx_paragraph.specs.Layout.{IsLayoutBy, OfRows, row_by};
+ghost use Rattle.bx_paragraph.specs.BodyRows.{first_of, row_at, row_of};
+ghost use Rattle.bx_paragraph.specs.Layout.{IsLayoutBy, OfRows};
 ghost use Rattle.bx_paragraph.specs.Lent.{IsLent};
-ghost use Rattle.bx_paragraph.specs.RowParts.{row_of_parts};
-ghost use Rattle.bx_paragraph.specs.Slots.{AreReordered, row_slots};
 
-use crate::row_parts::RowParts;
-use crate::slot::Slot;
-use crate::slots::row_slots;
 use bx_resolve::{Levels, levels};
-use bx_rows::{Lines, RowPicture, RowStart, row_starts};
+use bx_rows::{Lines, RowStart, row_starts};
 use bx_terms::{Base, OutOfMemory};
 use bx_ucd::BidiData;
 use std::alloc::Global;
@@ -173,6 +163,11 @@ impl ParagraphLayout {
         self.starts[row].units
     }
 
+    /// The allocator of its lists.
+    pub(crate) fn allocator(&self) -> Global {
+        *self.starts.allocator()
+    }
+
     /// Lends the body with its row starts and levels, to read rows by the tables that they were computed from.
     pub(crate) fn lines<'t, D: BidiData>(&self, tables: &'t D) -> Lines<'_, 't, D>
         requires { IsLayoutBy (D.data tables.now) self.now }
@@ -186,76 +181,6 @@ impl ParagraphLayout {
             base: self.base,
             w: self.w,
         }
-    }
-
-    /// The units of a row with their levels.
-    pub(crate) fn row<D: BidiData>(&self, row: usize, tables: &D) -> Result<RowParts, OutOfMemory>
-        requires data { IsLayoutBy (D.data tables.now) self.now }
-        requires row { row < length self.now.starts }
-        ensures row { IfOk result (λ r. row_of_parts self.now r ≡ row_by (D.data tables.now) self.now row) }
-        ensures stand { IfOk result (λ r. All (StandsIn self.now.body) r.units.items) }
-        ensures faces { IfOk result (λ r. All (HasFace (D.data tables.now) self.now.w self.now.body) r.units.items) }
-        ensures fits { IfOk result (λ r. columns_used self.now.w r.units.items ≤ self.now.w) }
-        ensures levels { IfOk result (λ r. length r.levels.items ≡ length r.units.items) }
-    {
-        let alloc = *self.starts.allocator();
-        let lines = self.lines(tables);
-        let units = lines.units(alloc, row)?;
-        let levels = lines.levels(alloc, row, &units)?;
-        let is_last = row + 1 == self.starts.len();
-        Ok(RowParts {
-            units,
-            levels,
-            is_last,
-        })
-    }
-
-    /// The slots of a row from left to right, from its units and their levels.
-    pub(crate) fn slots_of(&self, parts: &RowParts) -> Result<Vec<Slot>, OutOfMemory>
-        requires fits { columns_used self.now.w parts.now.units.items ≤ self.now.w }
-        requires levels { length parts.now.levels.items ≡ length parts.now.units.items }
-        ensures { IfOk result (λ v. v.items ≡ row_slots self.now.w (row_of_parts self.now parts.now)) }
-    {
-        let alloc = *parts.units.allocator();
-        let slots = row_slots(alloc, self.body(), parts, self.level(), self.width())?;
-        Ok(slots)
-    }
-
-    /// The slots of a row from left to right, each with its columns: one for each place of the row.
-    ///
-    /// Errors: `OutOfMemory`.
-    pub fn slots<D: BidiData>(&self, row: usize, tables: &D) -> Result<Vec<Slot>, OutOfMemory>
-        requires data { IsLayoutBy (D.data tables.now) self.now }
-        requires row { row < length self.now.starts }
-        ensures slots { IfOk result (λ v. v.items ≡ row_slots self.now.w (row_by (D.data tables.now) self.now row)) }
-        ensures once { IfOk result (λ v. AreReordered (map (λ s. s.offset) v.items)
-            (offsets_of (row_by (D.data tables.now) self.now row))) }
-    {
-        let parts = self.row(row, tables)?;
-        let slots = self.slots_of(&parts)?;
-        Ok(slots)
-    }
-
-    /// The glyphs of a row from left to right, blanks included.
-    ///
-    /// Errors: `OutOfMemory`.
-    #[tactic(auto, using(crate::proofs::LentRows::lent_glyphs))]
-    pub fn picture<D: BidiData>(
-        &self,
-        row: usize,
-        tables: &D,
-    ) -> Result<RowPicture<'_>, OutOfMemory>
-        requires data { IsLayoutBy (D.data tables.now) self.now }
-        requires row { row < length self.now.starts }
-        ensures picture { IfOk result (λ p. map glyph_of p.glyphs.items ≡ row_glyphs (D.data tables.now) self.now.w
-            (row_by (D.data tables.now) self.now row)) }
-        ensures glyphs { IfOk result (λ p. All (λ g. is_one_glyph (cow_str_bytes g.text) ≡ true) p.glyphs.items) }
-        ensures widths { IfOk result (λ p. All (λ g. run_width (cow_str_bytes g.text) ≡ g.columns) p.glyphs.items) }
-        ensures columns { IfOk result (λ p. sum_by (λ g. g.columns) p.glyphs.items ≡ self.now.w) }
-    {
-        let alloc = *self.starts.allocator();
-        let picture = self.lines(tables).picture(alloc, row)?;
-        Ok(picture)
     }
 }
 

@@ -1,9 +1,9 @@
 //! The position of a place in its row.
-ghost use Rattle.std.specs.Prelude.{◌≡◌, ◌<◌, IfOk, count_by, length, nat_lt};
-ghost use Rattle.bx_paragraph.specs.Layout.{IsLayoutBy, row_by};
+ghost use Rattle.std.specs.Prelude.{◌≡◌, IfOk, count_by, nat_lt};
+ghost use Rattle.bx_paragraph.specs.LentRow.{row};
 ghost use Rattle.bx_paragraph.specs.Slots.{column_of};
 
-use crate::layout::ParagraphLayout;
+use crate::lent_row::LentRow;
 use crate::reading::column_in;
 use bx_cells::Unit;
 use bx_terms::OutOfMemory;
@@ -25,24 +25,15 @@ fn count_before(units: &[Unit], offset: usize) -> usize
     units.iter().filter(|u| u.start < offset).count()
 }
 
-impl ParagraphLayout {
-    /// The position in a row of the place at an offset of the body, in bytes.
+impl<'a, 't, D: BidiData> LentRow<'a, 't, D> {
+    /// The position in the row of the place at an offset of the body, in bytes.
     ///
     /// Errors: `OutOfMemory`.
-    pub fn standing<D: BidiData>(
-        &self,
-        row: usize,
-        offset: usize,
-        tables: &D,
-    ) -> Result<Standing, OutOfMemory>
-        requires data { IsLayoutBy (D.data tables.now) self.now }
-        requires row { row < length self.now.starts }
-        ensures column { IfOk result (λ s. s.column
-            ≡ column_of self.now.w (row_by (D.data tables.now) self.now row) offset) }
-        ensures units { IfOk result (λ s. s.units_before
-            ≡ count_by (λ u. nat_lt u.start offset) (row_by (D.data tables.now) self.now row).units) }
+    pub fn standing(&self, offset: usize) -> Result<Standing, OutOfMemory>
+        ensures column { IfOk result (λ s. s.column ≡ column_of self.now.paragraph.now.w (row self.now) offset) }
+        ensures units { IfOk result (λ s. s.units_before ≡ count_by (λ u. nat_lt u.start offset) (row self.now).units) }
     {
-        let parts = self.row(row, tables)?;
+        let parts = self.parts()?;
         let slots = self.slots_of(&parts)?;
         Ok(Standing {
             column: column_in(&slots, offset),

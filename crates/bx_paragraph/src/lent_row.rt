@@ -1,0 +1,31 @@
+//! A row that a layout lends.
+ghost use Rattle.std.specs.Prelude.{⊤, ◌≡◌, ◌<◌, length};
+ghost use Rattle.bx_paragraph.specs.Layout.{IsLayoutBy};
+ghost use Rattle.std.proofs.Props.{props};
+
+use crate::layout::ParagraphLayout;
+use bx_ucd::BidiData;
+use std::alloc::AllocError;
+
+/// A row of a laid out paragraph, with the tables that the paragraph was laid out by. It borrows both, so making one costs
+/// nothing.
+pub struct LentRow<'a, 't, D: BidiData> {
+    pub paragraph: &'a ParagraphLayout,
+    pub tables: &'t D,
+    /// The row's number in the paragraph, from 0.
+    pub number: usize,
+    pub ghost by: { IsLayoutBy (D.data tables.now) paragraph.now } by { Prim.hlevel props },
+    pub ghost within: { number < length paragraph.now.starts },
+}
+
+impl<'a, 't, D: BidiData> Copy for LentRow<'a, 't, D> {}
+
+impl<'a, 't, D: BidiData> Clone for LentRow<'a, 't, D> {
+    ghost is_clone = { λ s t. t ≡ s };
+
+    ghost is_infallible = { λ _. ⊤ };
+
+    fn clone(&self) -> Result<LentRow<'a, 't, D>, AllocError> {
+        Ok(*self)
+    }
+}
