@@ -2,7 +2,6 @@
 use Rattle.std.specs.Prelude.{◌≡◌, ◌≢◌, ◌⊎◌, ℕ, zero, suc, ◌+◌, ◌-◌, ◌%◌, ◌<◌, ◌==◌, true, List, [], ◌∷◌, ◌++◌, length, count_by, sum_by, flat_map}
 use Rattle.std.specs.Prelude.{replicate, slice_index_or, Contains, HoldsAt, MatchOption, Option}
 use Rattle.bx_ucd.specs.Data.{Data}
-use Rattle.bx_ucd.specs.declared.class.Class.{Class}
 use Rattle.bx_rows.specs.RowPicture.{Glyph, blank, columns_used, unit_columns, unit_glyphs}
 use Rattle.bx_rows.specs.VisualOrder.{visual}
 use Rattle.bx_paragraph.specs.BodyRows.{BodyRow}
