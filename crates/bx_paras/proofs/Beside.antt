@@ -3,7 +3,6 @@ use Rattle.std.proofs.Common.{◌≡◌, ◌<◌, ◌≤◌, ◌+◌, ◌-◌, �
 use Rattle.std.proofs.Common.{IsCharBoundary, refl, ap, sym, subst, arith, append_assoc}
 use Rattle.std.proofs.lemmas.Bool.Decides.{nat_tests}
 use Rattle.bx_ucd.specs.Data.{Data}
-use Rattle.bx_ucd.specs.declared.class.Class.{Class}
 use Rattle.bx_text.specs.declared.change.Change.{Change}
 use Rattle.bx_paras.specs.declared.lengths.Lengths.{Lengths}
 use Rattle.bx_paras.specs.Paragraphs.{lengths}

@@ -8,7 +8,6 @@ use Rattle.std.proofs.lemmas.Str.{chars-nil, chars-append, chars-encodes, encode
 use Rattle.std.proofs.Math.Seq.{drop-append_seam, take-append_seam}
 use Rattle.bx_ucd.specs.Data.{Data}
 use lib.Utf8.{encode, scalars}
-use Rattle.bx_ucd.specs.declared.class.Class.{Class}
 use Rattle.bx_paras.specs.Paragraphs.{Paragraph, after_character, after_cr, bare, begins_with_lf, cut, paragraphs, lengths_of}
 use Rattle.bx_paras.specs.Positions.{spans_from}
 use Rattle.bx_paras.specs.Scan.{HasNone}

@@ -4,7 +4,6 @@ use Rattle.std.proofs.Common.{encode_utf8_all, refl, ap, sym, arith, length-appe
 use Rattle.std.proofs.lemmas.Bool.Decides.{nat_tests}
 use Rattle.std.proofs.lemmas.Str.{length-encode, len_utf8_bounds, encodes-append}
 use Rattle.bx_ucd.specs.Data.{Data}
-use Rattle.bx_ucd.specs.declared.class.Class.{Class}
 use Rattle.bx_paras.specs.declared.lengths.Lengths.{Lengths}
 use Rattle.bx_paras.specs.Paragraphs.{Paragraph, is_separator, begins_with_lf, after_character, after_cr, cut, lengths_of}
 use Rattle.bx_paras.specs.Positions.{bytes_of}

@@ -3,7 +3,6 @@ use Rattle.std.proofs.Common.{◌≡◌, ◌<◌, ◌≤◌, ◌+◌, ◌-◌, �
 use Rattle.std.proofs.Common.{arith, length-append, append_assoc, append-nil}
 use Rattle.std.proofs.lemmas.Str.{length-le-encodes}
 use Rattle.bx_ucd.specs.Data.{Data}
-use Rattle.bx_ucd.specs.declared.class.Class.{Class}
 use Rattle.bx_text.specs.declared.change.Change.{Change}
 use Rattle.bx_text.specs.Edits.{IsChange}
 use Rattle.bx_paras.specs.declared.lengths.Lengths.{Lengths}

@@ -8,7 +8,6 @@ use Rattle.std.proofs.lemmas.Str.{scalars-chars, byte_from_char, char_from_byte,
 use Rattle.std.proofs.lemmas.List.{take-append-drop, length-take, get_or-take, drop_all, get_or_append_left, get_or-append-add}
 use Rattle.bx_ucd.specs.Data.{Data}
 use lib.Utf8.{scalar, scalars}
-use Rattle.bx_ucd.specs.declared.class.Class.{Class}
 use Rattle.bx_paras.specs.Paragraphs.{is_separator, begins_with_lf}
 use Rattle.bx_paras.specs.LeadBytes.{lead_of, CoversSeparators}
 use Rattle.bx_paras.specs.Scan.{HasNone, NoneAt, NoneBefore, BeginsAt, IsAt}

@@ -4,7 +4,6 @@ use Rattle.std.proofs.Common.{append_assoc, append-nil}
 use Rattle.std.proofs.lemmas.Bool.Decides.{nat_tests}
 use Rattle.std.proofs.lemmas.List.{append_cancel_right}
 use Rattle.bx_ucd.specs.Data.{Data}
-use Rattle.bx_ucd.specs.declared.class.Class.{Class}
 use Rattle.bx_paras.specs.declared.lengths.Lengths.{Lengths}
 use Rattle.bx_paras.specs.Positions.{bytes_of, total}
 use Rattle.bx_paras.proofs.Cuts.{width, widths, widths_append, unended, grown, joined, lens, ends, is_paired, lens_plain, lens_paired, lens_ended, parts}

@@ -5,7 +5,6 @@ use Rattle.std.proofs.lemmas.Bool.Decides.{nat_tests}
 use Rattle.std.proofs.lemmas.List.{take-append-drop, drop_all, length-drop}
 use Rattle.std.proofs.lemmas.Str.{chars-append, chars-nil, length-le-encodes, IsUtf8-take, IsUtf8-drop}
 use Rattle.bx_ucd.specs.Data.{Data}
-use Rattle.bx_ucd.specs.declared.class.Class.{Class}
 use Rattle.bx_paras.specs.declared.lengths.Lengths.{Lengths}
 use Rattle.bx_paras.specs.Paragraphs.{lengths}
 use Rattle.bx_paras.specs.Positions.{bytes_of, total}

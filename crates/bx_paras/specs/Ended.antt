@@ -4,7 +4,6 @@ use Rattle.bx_ucd.specs.Data.{Data}
 use Rattle.bx_paras.specs.declared.lengths.Lengths.{Lengths}
 use Rattle.bx_paras.specs.Paragraphs.{lengths}
 use Rattle.bx_paras.specs.Positions.{bytes_of}
-use Rattle.bx_ucd.specs.declared.class.Class.{Class}
 
 -- the paragraphs that end with a separator in the first k bytes of some paragraphs
 abbrev pub ended_within : ℕ → List Lengths → List Lengths

@@ -1,7 +1,6 @@
 -- The model of an index: the lengths of each paragraph in bytes, and the room made for the next edit.
 use Rattle.std.specs.Prelude.{ℕ, ◌+◌, ◌*◌, ◌≤◌, min, List, [], ◌∷◌, ◌++◌, length, Option, IfSome, IsUtf8}
 use Rattle.bx_ucd.specs.Data.{Data}
-use Rattle.bx_ucd.specs.declared.class.Class.{Class}
 use Rattle.bx_text.specs.Edits.{largest_text}
 use Rattle.bx_text.specs.Text.{HasRoomFor}
 use Rattle.bx_paras.specs.declared.lengths.Lengths.{Lengths}

@@ -1,7 +1,6 @@
 -- Laws of the paragraphs of any text.
 use Rattle.std.specs.Prelude.{◌≡◌, ◌-◌, ◌⊎◌, ℕ, true, List, [], ◌∷◌, ◌++◌, All, map, take, drop, chars, encode_utf8, IsUtf8}
 use Rattle.bx_ucd.specs.Data.{Data}
-use Rattle.bx_ucd.specs.declared.class.Class.{Class}
 use Rattle.bx_paras.specs.Paragraphs.{Paragraph, is_separator, paragraphs, lengths}
 use Rattle.bx_paras.specs.Positions.{spans}
 use Rattle.bx_paras.specs.Scan.{HasNone}

@@ -2,7 +2,6 @@
 use Rattle.std.specs.Prelude.{◌≡◌, ℕ, Bool, true, false, List, get_or, encode_utf8}
 use Rattle.std.specs.Char.{IsScalar}
 use Rattle.bx_ucd.specs.Data.{Data}
-use Rattle.bx_ucd.specs.declared.class.Class.{Class}
 use Rattle.bx_paras.specs.Paragraphs.{is_separator}
 
 -- the first byte of a character

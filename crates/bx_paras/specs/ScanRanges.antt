@@ -1,7 +1,6 @@
 -- The part of a text that a scan for paragraphs reads.
 use Rattle.std.specs.Prelude.{◌≡◌, ◌≤◌, ℕ, ◌-◌, min, List, drop, IsCharBoundary}
 use Rattle.bx_ucd.specs.Data.{Data}
-use Rattle.bx_ucd.specs.declared.class.Class.{Class}
 use Rattle.bx_paras.specs.declared.lengths.Lengths.{Lengths}
 use Rattle.bx_paras.specs.declared.scan_range.ScanRange.{ScanRange}
 use Rattle.bx_paras.specs.Paragraphs.{lengths}

@@ -1,7 +1,6 @@
 -- The paragraphs of the old text that a change touches.
 use Rattle.std.specs.Prelude.{◌≡◌, ℕ, ◌+◌, ◌-◌, List, [], ◌∷◌, ◌++◌, IsUtf8}
 use Rattle.bx_ucd.specs.Data.{Data}
-use Rattle.bx_ucd.specs.declared.class.Class.{Class}
 use Rattle.bx_text.specs.declared.change.Change.{Change}
 use Rattle.bx_text.specs.Edits.{IsChange}
 use Rattle.bx_paras.specs.declared.lengths.Lengths.{Lengths}

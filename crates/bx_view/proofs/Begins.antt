@@ -5,7 +5,6 @@ use Rattle.std.proofs.lemmas.List.{append_cancel_right, drop-drop, drop-take, dr
 use Rattle.std.proofs.lemmas.Str.{chars-append, chars-encodes, encodes-append, encodes-chars, scalars-chars, IsUtf8-take, IsCharBoundary-from_drop}
 use Rattle.bx_ucd.specs.Data.{Data}
 use lib.Utf8.{scalars}
-use Rattle.bx_ucd.specs.declared.class.Class.{Class}
 use Rattle.bx_paras.specs.declared.lengths.Lengths.{Lengths}
 use Rattle.bx_paras.specs.Paragraphs.{lengths_of}
 use Rattle.bx_paras.proofs.Changes.{scalars_back}

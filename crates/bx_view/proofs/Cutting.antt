@@ -3,7 +3,6 @@ use Rattle.std.proofs.Common.{◌≡◌, ◌<◌, ◌∙◌, ℕ, Bool, true, fa
 use Rattle.std.specs.List.{list_any}
 use Rattle.std.proofs.lemmas.Bool.Decides.{nat_tests}
 use Rattle.bx_ucd.specs.Data.{Data}
-use Rattle.bx_ucd.specs.declared.class.Class.{Class}
 use Rattle.bx_paras.specs.Paragraphs.{Paragraph, after_character, after_cr, bare, cut, is_separator}
 use Rattle.bx_paras.specs.Scan.{HasNone}
 use Rattle.bx_paras.proofs.Bodies.{cut_ended, cut_paired, cut_plain}

@@ -5,8 +5,6 @@ use Rattle.std.proofs.Common.{refl, sym, ap, ap₂, subst, ◌∙◌, arith}
 use Rattle.std.specs.Prelude.{All, IfSome, map}
 use Rattle.bx_ucd.specs.Data.{Data}
 use Rattle.bx_terms.specs.Sizes.{is_side}
-use Rattle.bx_ucd.specs.declared.class.Class.{Class}
-use Rattle.bx_ucd.specs.declared.data.Side.{Side}
 use Rattle.bx_text.specs.Edits.{IsRange}
 use Rattle.bx_paras.specs.Paragraphs.{lengths}
 use Rattle.bx_paras.specs.Positions.{paragraph_of}

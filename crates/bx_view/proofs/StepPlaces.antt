@@ -2,8 +2,6 @@
 use Rattle.std.proofs.Common.{◌≡◌, ℕ, ◌+◌, ◌-◌, ◌<◌, ◌≤◌, nat_le, nat_lt, List, length, map, find, reverse, Option, Some, None, unwrap_or, IsUtf8}
 use Rattle.std.proofs.Common.{sym, ap, ◌∙◌, arith}
 use Rattle.bx_ucd.specs.Data.{Data}
-use Rattle.bx_ucd.specs.declared.class.Class.{Class}
-use Rattle.bx_ucd.specs.declared.data.Side.{Side}
 use Rattle.bx_paragraph.specs.BodyRows.{last_of}
 use Rattle.bx_view.specs.declared.row_at.RowAt.{RowAt}
 use Rattle.bx_view.specs.FoundRow.{StandsOn, rows_by}

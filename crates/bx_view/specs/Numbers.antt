@@ -1,7 +1,6 @@
 -- The numbers of a place's paragraph, and of its unit in the paragraph.
 use Rattle.std.specs.Prelude.{ℕ, ◌+◌, nat_lt, List, [], count_by, map, slice_index_or}
 use Rattle.bx_ucd.specs.Data.{Data}
-use Rattle.bx_ucd.specs.declared.class.Class.{Class}
 use Rattle.bx_paras.specs.Paragraphs.{lengths_of, paragraphs}
 use Rattle.bx_paras.specs.Positions.{paragraph_of, spans}
 use Rattle.bx_cells.specs.Units.{units}

@@ -1,7 +1,6 @@
 -- The position of a place: the column of its cell, and its numbers.
 use Rattle.std.specs.Prelude.{◌≡◌, ℕ, ◌+◌, List}
 use Rattle.bx_ucd.specs.Data.{Data}
-use Rattle.bx_ucd.specs.declared.class.Class.{Class}
 use Rattle.bx_view.specs.declared.position.Position.{Position}
 use Rattle.bx_view.specs.Numbers.{paragraph_number, unit_number}
 use Rattle.bx_view.specs.TextRows.{TextRow, cell_of}

@@ -1,8 +1,6 @@
 -- The rows of a whole text in a window of `w` columns, numbered from 0. Offsets count bytes of the text.
-use Rattle.std.specs.Prelude.{ℕ, ◌+◌, ◌-◌, List, [], ◌∷◌, ◌++◌, map, flat_map, slice_index_or, Option, Contains}
+use Rattle.std.specs.Prelude.{ℕ, ◌+◌, ◌-◌, List, [], ◌∷◌, ◌++◌, map, flat_map, slice_index_or, Contains}
 use Rattle.bx_ucd.specs.Data.{Data}
-use Rattle.bx_ucd.specs.declared.class.Class.{Class}
-use Rattle.bx_ucd.specs.declared.data.Side.{Side}
 use Rattle.bx_terms.specs.declared.base.Base.{Base}
 use Rattle.bx_paras.specs.Paragraphs.{Paragraph, paragraphs, lengths_of}
 use Rattle.bx_paras.specs.Positions.{bytes_of}
