@@ -82,6 +82,11 @@ pub room-odd : (w : ℕ) (us : List Unit) (levels columns order : List ℕ) (use
 room-odd w us levels columns order used side fits e is at count =
     omega (arith, side-few w side, fits, count, columns-in-order w us levels columns order e is at)
 
+-- the same slots, by an equal list of units
+pub side-of : (pre all : List Slot) (column : ℕ) (us vs : List Unit) (columns order : List ℕ)
+    → all ≡ pre ++ side_by_side column (map (extent_of us columns) order) → us ≡ vs → all ≡ pre ++ side_by_side column (map (extent_of vs columns) order)
+side-of pre all column us vs columns order e same = e ∙ ap (λ xs. pre ++ side_by_side column (map (extent_of xs columns) order)) same
+
 -- ---- the end
 
 abbrev by-parity : ℕ → Bool → ℕ → ℕ → ℕ → List (ℕ × ℕ) → List Slot
