@@ -9,16 +9,18 @@
 # from left to right without the blanks that fill it up, in hexadecimal too.
 #
 # The 5,000 lines are of words from Debian's packages hunspell-ar, myspell-fa and firefox-esr-l10n-ur (Arabic, Persian, Urdu), by
-# a generator with a seed: with vowel points, strokes, joiners, direction marks, digits and Latin words among them. fribidi agrees
-# by definition except in these. What differs is made alike before the comparison, and counted:
+# a generator with a seed: with vowel points, strokes, joiners, right-to-left marks, digits and Latin words among them. fribidi
+# agrees by definition except in these. What differs is made alike before the comparison, and counted:
 #
 # - fribidi makes one character of lam and alef, and has no option against that. Each such ligature is taken apart again, into the
 #   final form of the alef and the initial or medial one of the lam.
 # - A letter without any form in UnicodeData.txt joins in fribidi, which gives its neighbours forms that reach out to a letter of
 #   isolated look. Here such a letter joins nothing. Words with one are left out, and not counted.
 # - A letter of joining type U with an isolated form (the hamza, U+0621) is shown in that form here, and as itself by fribidi.
-# - fribidi sets a joiner or direction mark as a character of its own, and drops it on demand (--clean). A joiner belongs to its
-#   letter's unit here, and is dropped from our rows.
+# - fribidi joins only characters of one level, and a left-to-right mark between two letters has another than they have, so it
+#   parts them. Here only the levels of the two letters count. No such mark is put into the lines.
+# - fribidi sets a joiner or right-to-left mark as a character of its own, and drops it on demand (--clean). A joiner belongs to
+#   its letter's unit here, and is dropped from our rows.
 set -eu
 export LC_ALL=C.UTF-8
 
@@ -47,7 +49,7 @@ URDU = "/usr/lib/firefox-esr/browser/extensions/langpack-ur@firefox-esr.mozilla.
 FILES = {"classes": "DerivedBidiClass", "brackets": "BidiBrackets", "mirroring": "BidiMirroring", "joining": "ArabicShaping", "characters": "UnicodeData"}
 MARK = re.compile(r"\[([eEoOpiIfP?~#])\]")
 POINTS = "\u064b\u064c\u064d\u064e\u064f\u0650\u0651\u0652\u0670"
-JOINERS, MARKS = "\u200c\u200d", "\u200e\u200f"
+JOINERS = "\u200c\u200d\u200f"  # also the right-to-left mark, which is transparent
 BEH = "\u0628"
 # fribidi's ligatures in the order of their codes, an isolated and a final one of each: the final form of the alef
 ALEFS = "\ufe82\ufe84\ufe88\ufe8e"
@@ -155,13 +157,13 @@ def read_words():
 
 
 def changed(chance, word):
-    """A word, now and then with points, a stroke, or a joiner or direction mark between two letters."""
+    """A word, now and then with points, or with a stroke or a joiner between two letters."""
     kind = chance.random()
     if kind < 0.1:
         return "".join(c + chance.choice(POINTS) for c in word)
     if kind < 0.2:
         at = chance.randrange(1, len(word))
-        return word[:at] + chance.choice("\u0640" + JOINERS + MARKS) + word[at:]
+        return word[:at] + chance.choice("\u0640" + JOINERS) + word[at:]
     return word
 
 
@@ -188,11 +190,11 @@ def check_words(lists):
     run = subprocess.run(["fribidi", "--nopad", "--nobreak", "--reordernsm", "--clean"], input=text.encode(), capture_output=True, check=True)
     theirs, ligatures = LIGATURE.subn(taken_apart, run.stdout.decode())
     ours = "\n".join(printed(lines))
-    dropped = dict.fromkeys(JOINERS + MARKS)
+    dropped = dict.fromkeys(JOINERS)
     counts = {
         "ligatures taken apart": ligatures,
         "letters of type U in their form": sum(c in unjoined for c in ours),
-        "joiners and direction marks dropped": sum(c in dropped for c in text),
+        "joiners dropped": sum(c in dropped for c in text),
         "letters in a form": sum("\ufb50" <= c <= "\ufeff" for c in ours),
     }
     ours = ours.translate(str.maketrans(unjoined | dropped))
