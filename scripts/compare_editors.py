@@ -120,6 +120,7 @@ def editors(bidi_edit, paragraph_pages):
             text_end=page * paragraph_pages + b'\x02',
             save=b'\x13',
             leave=b'\x11',
+            shapes=True,
         ),
         Editor('emacs', emacs, **control, text_end=b'\x1b>\x02', save=b'\x18\x13', leave=b'\x18\x03'),
         Editor('vim', vim, down=b'j', row_end=b'$', page=b'\x06', text_end=b'G$', save=b':w\r', leave=b':q!\r', **modes),
