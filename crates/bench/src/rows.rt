@@ -6,7 +6,7 @@ ghost use Rattle.bx_paragraph.specs.Layout.{IsLayoutBy};
 
 use crate::outcome::{Outcome, number};
 use anyhow::{Result, bail};
-use bx_paragraph::ParagraphLayout;
+use bx_paragraph::{LentRow, ParagraphLayout};
 use bx_terms::Base;
 use bx_ucd::{BidiData, sample_tables};
 use std::alloc::{AllocError, Global};
@@ -40,8 +40,13 @@ fn page<D: BidiData>(layout: &ParagraphLayout, tables: &D) -> Result<usize>
     requires { IsLayoutBy (D.data tables.now) layout.now }
 {
     let mut count: usize = 0;
-    for row in 0..layout.row_count() {
-        count = count.wrapping_add(layout.picture(row, tables)?.glyphs.len());
+    for number in 0..layout.row_count() {
+        let row = LentRow {
+            paragraph: layout,
+            tables,
+            number,
+        };
+        count = count.wrapping_add(row.picture()?.glyphs.len());
     }
     Ok(count)
 }
@@ -51,8 +56,13 @@ fn slots<D: BidiData>(layout: &ParagraphLayout, tables: &D) -> Result<usize>
     requires { IsLayoutBy (D.data tables.now) layout.now }
 {
     let mut count: usize = 0;
-    for row in 0..layout.row_count() {
-        count = count.wrapping_add(layout.slots(row, tables)?.len());
+    for number in 0..layout.row_count() {
+        let row = LentRow {
+            paragraph: layout,
+            tables,
+            number,
+        };
+        count = count.wrapping_add(row.slots()?.len());
     }
     Ok(count)
 }

@@ -12,7 +12,7 @@ ghost use Rattle.bx_document.specs.QueryRow.{fitting, glyph_row, letter_glyphs, 
 use crate::document::Document;
 use crate::drawing::draw_glyphs;
 use bx_grid::OwnedRow;
-use bx_paragraph::ParagraphLayout;
+use bx_paragraph::{LentRow, ParagraphLayout};
 use bx_rows::{Drawn, RowPicture};
 use bx_terms::{Base, OutOfMemory};
 use bx_ucd::BidiData;
@@ -83,7 +83,12 @@ fn text_and_query<'a, D: BidiData>(
 {
     // proof only: a body has a row
     let _rows = query.row_count();
-    let mut found = query.own_glyphs(0, tables)?;
+    let row = LentRow {
+        paragraph: query,
+        tables,
+        number: 0,
+    };
+    let mut found = row.own_glyphs()?;
     let mut picture = RowPicture::of_letters(alloc, text)?;
     picture.glyphs.append(&mut found.glyphs)?;
     Ok(picture)

@@ -8,7 +8,7 @@ use crate::error::PrintError;
 use crate::line::push_line;
 use crate::marks::Marks;
 use crate::style::Style;
-use bx_paragraph::ParagraphLayout;
+use bx_paragraph::{LentRow, ParagraphLayout};
 use bx_ucd::BidiData;
 use bx_view::Source;
 
@@ -26,7 +26,12 @@ fn push_rows<D: BidiData>(
     ensures memory { OnErr result (result ≡ Err PrintError.OutOfMemory) }
 {
     for row in 0..layout.row_count() {
-        let picture = layout.picture(row, tables)?;
+        let lent = LentRow {
+            paragraph: layout,
+            tables,
+            number: row,
+        };
+        let picture = lent.picture()?;
         page.extend_from_slice(b"\n")?;
         push_line(page, &picture, marks)?;
     }

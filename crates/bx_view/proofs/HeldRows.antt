@@ -103,67 +103,13 @@ module _ (says : Data) where
     abbrev high : ℕ
     high = length (body_at says text at.paragraph)
 
-    high-fits : at.start + high ≤ length text
+    pub high-fits : at.start + high ≤ length text
     high-fits =
         let range : IsRange text (start_at says text at.paragraph) (start_at says text at.paragraph + high) =
         body-range says text at.paragraph on.is.paragraph utf8 in
         let bounds : IsCharBoundary text (start_at says text at.paragraph + high) = range.stop_bounds in
         let inside : start_at says text at.paragraph + high ≤ length text = bounds.0 in
         omega (arith, inside, on.start_is)
-
-    -- the offsets of its places lie in its body
-    abbrev Inside : ℕ → Type 0
-    Inside o = o ≤ high
-
-    lies-in : LiesIn Inside l.w (row_by says l at.row)
-    lies-in =
-        subst (λ w. LiesIn Inside w (row_by says l at.row)) (sym is.w_is) (subst (λ rs. LiesIn Inside v.w (row_at_body rs at.row)) (sym is.rows_are)
-        (body-row-lies Inside says v.base v.w (body_at says text at.paragraph) at.row
-        (body-utf8 says text at.paragraph on.is.paragraph utf8) (λ o b. b.0) on.is.row))
-
-    fits-in : (most : ℕ) (o : Option ℕ) → length text ≤ most → Lies Inside o → IfSome o (λ p. at.start + p ≤ most)
-    fits-in most None short h = tt
-    fits-in most (Some p) short h = omega (arith, short, h, high-fits)
-
-    module _ (most : ℕ) (short : length text ≤ most) where
-      pub last-short : (o : ℕ) → o ≡ last_of (row_by says l at.row) → at.start + o ≤ most
-      last-short o e = omega (arith, e, last-fits Inside l.w (row_by says l at.row) lies-in, high-fits, short)
-
-      pub slots-short : (ss : List Slot) → ss ≡ row_slots l.w (row_by says l at.row) → All (λ s. at.start + s.offset ≤ most) ss
-      slots-short ss e =
-          slots-fit Inside at.start most ss (λ o h. omega (arith, short, high-fits, h)) (subst (λ xs. Within Inside (map (λ (s : Slot). s.offset) xs)) (sym e)
-          lies-in.slots)
-
-      pub found-short : (p : ℕ → Bool) (os : List ℕ) (o : Option ℕ) → os ≡ offsets_of (row_by says l at.row) → o ≡ find p os
-          → IfSome o (λ k. at.start + k ≤ most)
-      found-short p os o e f =
-          fits-in most o short (subst (Lies Inside) (sym (f ∙ ap (find p) e)) (find-lies Inside p (offsets_of (row_by says l at.row)) lies-in.places))
-
-      pub found-back-short : (p : ℕ → Bool) (os : List ℕ) (o : Option ℕ) → os ≡ offsets_of (row_by says l at.row) → o ≡ find p (reverse os)
-          → IfSome o (λ k. at.start + k ≤ most)
-      found-back-short p os o e f =
-          let mine = offsets_of (row_by says l at.row) in
-          fits-in most o short (subst (Lies Inside) (sym (f ∙ ap (λ qs. find p (reverse qs)) e))
-          (find-lies Inside p (reverse mine) (within-reverse Inside mine lies-in.places)))
-
-      pub beside-short : (side : Visual) (offset : ℕ) (o : Option ℕ) → o ≡ beside l.w (row_by says l at.row) side offset
-          → IfSome o (λ p. at.start + p ≤ most)
-      beside-short side offset o e =
-          fits-in most o short (subst (Lies Inside) (sym e) (beside-fits Inside l.w (row_by says l at.row) lies-in side offset))
-
-      pub start-short : (o : Option ℕ) → o ≡ reading_start l.w (row_by says l at.row) → IfSome o (λ p. at.start + p ≤ most)
-      start-short o e = fits-in most o short (subst (Lies Inside) (sym e) (start-fits Inside l.w (row_by says l at.row) lies-in))
-
-      pub end-short : (o : Option ℕ) → o ≡ reading_end l.w (row_by says l at.row) → IfSome o (λ p. at.start + p ≤ most)
-      end-short o e = fits-in most o short (subst (Lies Inside) (sym e) (end-fits Inside l.w (row_by says l at.row) lies-in))
-
-      pub entry-short : (column : ℕ) (o : Option ℕ) → o ≡ entry l.w (row_by says l at.row) column → IfSome o (λ p. at.start + p ≤ most)
-      entry-short column o e = fits-in most o short (subst (Lies Inside) (sym e) (entry-fits Inside l.w (row_by says l at.row) lies-in column))
-
-    -- a place of it, if there is one, by the columns of the view
-    pub place-in-text : (F : ℕ → TextRow → Option ℕ) (o p : Option ℕ) → p ≡ option_map (λ k. at.start + k) o
-        → option_map (λ k. at.start + k) o ≡ F l.w (text_row at.start (row_by says l at.row)) → p ≡ F v.w (row_at (of v text) n)
-    place-in-text F o p e f = e ∙ f ∙ ap (λ w. F w (text_row at.start (row_by says l at.row))) is.w_is ∙ of-row (F v.w)
 
   -- rows stay the same where the base direction and the columns do
   pub rows-kept : (old v : ViewState) (text : List ℕ) → Keeps says old v → of v text ≡ of old text

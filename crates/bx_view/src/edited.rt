@@ -16,7 +16,7 @@ use crate::layout::Layout;
 use crate::logical::first_from;
 use crate::source::Source;
 use crate::span::paragraph_under;
-use bx_paragraph::ParagraphLayout;
+use bx_paragraph::{LentRow, ParagraphLayout};
 use bx_paras::separates;
 use bx_ucd::BidiData;
 
@@ -57,7 +57,12 @@ fn place_in_body<D: BidiData>(
     let _utf8 = paragraph.body();
     let _side = paragraph.width();
     let row = paragraph.row_of(offset);
-    let offsets = paragraph.offsets(row, tables)?;
+    let lent = LentRow {
+        paragraph,
+        tables,
+        number: row,
+    };
+    let offsets = lent.offsets()?;
     if let Some(place) = first_from(&offsets, offset) {
         return Ok(place);
     }
@@ -65,7 +70,7 @@ fn place_in_body<D: BidiData>(
     if row + 1 < rows {
         return Ok(paragraph.first(row + 1));
     }
-    let last = paragraph.last(row, tables)?;
+    let last = lent.last()?;
     Ok(last)
 }
 

@@ -1,31 +1,44 @@
-//! The places of a row of the text.
-ghost use Rattle.std.specs.Prelude.{◌≡◌, ℕ, ◌+◌, ◌-◌, ◌≤◌, IfOk, IfSome, option_map};
+//! Rows of the text, and the places of one.
+ghost use Rattle.std.specs.Prelude.{◌≡◌, ◌+◌, ◌-◌, ◌≤◌, [], true, IfOk, IfSome};
 ghost use Rattle.bx_text.specs.Edits.{largest_text};
 ghost use Rattle.bx_paragraph.specs.BodyRows.{last_of};
-ghost use Rattle.bx_paragraph.specs.Slots.{beside, reading_end, reading_start};
+ghost use Rattle.bx_paragraph.specs.Slots.{beside, reading_end, reading_start, reads_on};
 ghost use Rattle.bx_view.specs.Moves.{entry_in, place_in, row_end};
+ghost use Rattle.bx_view.specs.PlacedRow.{columns, placed};
 ghost use Rattle.bx_view.specs.Source.{IsViewBy, Keeps, OfRow, Stands, rows};
 ghost use Rattle.bx_view.specs.TextRows.{first};
 
 use crate::error::ViewError;
 use crate::layout::Layout;
+use crate::placed_row::PlacedRow;
 use crate::row_at::RowAt;
 use crate::source::Source;
-use bx_paragraph::Visual;
+use bx_paragraph::{LentRow, Visual, reading_side};
 use bx_ucd::BidiData;
 
-/// Converts an offset of a body, which begins at the text's offset `start`, to an offset of the text.
-pub(crate) fn place_in(start: usize, offset: Option<usize>) -> Option<usize>
-    requires { IfSome offset (λ o. start + o ≤ largest_text) }
-    ensures { result ≡ option_map (λ o. start + o) offset }
-{
-    match offset {
-        Some(offset) => Some(start + offset),
-        None => None,
-    }
-}
-
 impl Layout {
+    /// Lends a row with its paragraph and tables.
+    pub(crate) fn row<'t, D: BidiData>(
+        &self,
+        source: &Source<'t, D>,
+        at: RowAt,
+    ) -> PlacedRow<'_, 't, D>
+        requires row { Stands source.now self.now at }
+        ensures start { result.start ≡ at.start }
+        ensures columns { columns result ≡ self.now.w }
+        ensures row { OfRow source.now self.now at (λ r. placed result ≡ r) }
+    {
+        let paragraph = self.paragraph(source, at.paragraph, at.held);
+        PlacedRow {
+            start: at.start,
+            row: LentRow {
+                paragraph,
+                tables: source.tables,
+                number: at.row,
+            },
+        }
+    }
+
     /// The offset at which a row begins, in bytes of the text.
     pub fn first_in<D: BidiData>(&self, source: &Source<'_, D>, at: RowAt) -> usize
         requires row { Stands source.now self.now at }
@@ -33,81 +46,6 @@ impl Layout {
     {
         let paragraph = self.paragraph(source, at.paragraph, at.held);
         at.start + paragraph.first(at.row)
-    }
-
-    /// The last place of a row.
-    pub(crate) fn last_in<D: BidiData>(
-        &self,
-        source: &Source<'_, D>,
-        at: RowAt,
-    ) -> Result<usize, ViewError>
-        requires row { Stands source.now self.now at }
-        ensures { OfRow source.now self.now at (λ r. IfOk result (λ o. o ≡ r.start + last_of r.row)) }
-    {
-        let paragraph = self.paragraph(source, at.paragraph, at.held);
-        let offset = paragraph.last(at.row, source.tables)?;
-        Ok(at.start + offset)
-    }
-
-    /// The place of the row's slot next to a place's slot on a side, if there is one.
-    pub(crate) fn beside<D: BidiData>(
-        &self,
-        source: &Source<'_, D>,
-        at: RowAt,
-        side: Visual,
-        place: usize,
-    ) -> Result<Option<usize>, ViewError>
-        requires row { Stands source.now self.now at }
-        requires order { at.start ≤ place }
-        ensures { OfRow source.now self.now at
-            (λ r. IfOk result (λ o. o ≡ place_in r (beside self.now.w r.row side (place - r.start)))) }
-    {
-        let paragraph = self.paragraph(source, at.paragraph, at.held);
-        let offset = paragraph.beside(at.row, side, place - at.start, source.tables)?;
-        Ok(place_in(at.start, offset))
-    }
-
-    /// The place at the reading start of a row.
-    pub(crate) fn reading_start<D: BidiData>(
-        &self,
-        source: &Source<'_, D>,
-        at: RowAt,
-    ) -> Result<Option<usize>, ViewError>
-        requires row { Stands source.now self.now at }
-        ensures { OfRow source.now self.now at (λ r. IfOk result (λ o. o ≡ place_in r (reading_start self.now.w r.row))) }
-    {
-        let paragraph = self.paragraph(source, at.paragraph, at.held);
-        let offset = paragraph.reading_start(at.row, source.tables)?;
-        Ok(place_in(at.start, offset))
-    }
-
-    /// The place at the reading end of a row.
-    pub(crate) fn reading_end<D: BidiData>(
-        &self,
-        source: &Source<'_, D>,
-        at: RowAt,
-    ) -> Result<Option<usize>, ViewError>
-        requires row { Stands source.now self.now at }
-        ensures { OfRow source.now self.now at (λ r. IfOk result (λ o. o ≡ place_in r (reading_end self.now.w r.row))) }
-    {
-        let paragraph = self.paragraph(source, at.paragraph, at.held);
-        let offset = paragraph.reading_end(at.row, source.tables)?;
-        Ok(place_in(at.start, offset))
-    }
-
-    /// The place at which a vertical move enters a row in a column.
-    pub(crate) fn entry<D: BidiData>(
-        &self,
-        source: &Source<'_, D>,
-        at: RowAt,
-        column: u16,
-    ) -> Result<Option<usize>, ViewError>
-        requires row { Stands source.now self.now at }
-        ensures { OfRow source.now self.now at (λ r. IfOk result (λ o. o ≡ entry_in self.now.w r column)) }
-    {
-        let paragraph = self.paragraph(source, at.paragraph, at.held);
-        let offset = paragraph.entry(at.row, column, source.tables)?;
-        Ok(place_in(at.start, offset))
     }
 
     /// The last place of a place's row: the paragraph's end in its last row, else the start of the row's last unit.
@@ -123,7 +61,76 @@ impl Layout {
         ensures end { IfOk result (λ o. o ≡ row_end (rows source.now self.old) place) }
     {
         let at = self.row_at(source, place)?;
-        let end = self.last_in(source, at)?;
+        let end = self.row(source, at).last()?;
         Ok(end)
+    }
+}
+
+/// Whether a side is the reading direction of a paragraph of a level: right for an even level, left for an odd one.
+fn is_read_on(side: Visual, level: u8) -> bool
+    ensures { result ≡ reads_on side (record { body = []; paragraph = level; units = []; levels = []; is_last = true }) }
+{
+    side == reading_side(level)
+}
+
+impl<'a, 't, D: BidiData> PlacedRow<'a, 't, D> {
+    /// The place at an offset of the paragraph's body.
+    pub(crate) fn place(&self, offset: Option<usize>) -> Option<usize>
+        requires { IfSome offset (λ o. self.now.start + o ≤ largest_text) }
+        ensures { result ≡ place_in (placed self.now) offset }
+    {
+        match offset {
+            Some(offset) => Some(self.start + offset),
+            None => None,
+        }
+    }
+
+    /// The last place of the row.
+    pub(crate) fn last(&self) -> Result<usize, ViewError>
+        ensures { IfOk result (λ o. o ≡ self.now.start + last_of (placed self.now).row) }
+    {
+        let offset = self.row.last()?;
+        Ok(self.start + offset)
+    }
+
+    /// The place of the row's slot next to a place's slot on a side, if there is one.
+    pub(crate) fn beside(&self, side: Visual, place: usize) -> Result<Option<usize>, ViewError>
+        requires { self.now.start ≤ place }
+        ensures { IfOk result (λ o. o ≡ place_in (placed self.now)
+            (beside (columns self.now) (placed self.now).row side (place - self.now.start))) }
+    {
+        let offset = self.row.beside(side, place - self.start)?;
+        Ok(self.place(offset))
+    }
+
+    /// The place at the reading start of the row.
+    pub(crate) fn reading_start(&self) -> Result<Option<usize>, ViewError>
+        ensures { IfOk result (λ o. o ≡ place_in (placed self.now) (reading_start (columns self.now) (placed self.now).row)) }
+    {
+        let offset = self.row.reading_start()?;
+        Ok(self.place(offset))
+    }
+
+    /// The place at the reading end of the row.
+    pub(crate) fn reading_end(&self) -> Result<Option<usize>, ViewError>
+        ensures { IfOk result (λ o. o ≡ place_in (placed self.now) (reading_end (columns self.now) (placed self.now).row)) }
+    {
+        let offset = self.row.reading_end()?;
+        Ok(self.place(offset))
+    }
+
+    /// The place at which a vertical move enters the row in a column.
+    pub(crate) fn entry(&self, column: u16) -> Result<Option<usize>, ViewError>
+        ensures { IfOk result (λ o. o ≡ entry_in (columns self.now) (placed self.now) column) }
+    {
+        let offset = self.row.entry(column)?;
+        Ok(self.place(offset))
+    }
+
+    /// Whether a side is the row's reading direction.
+    pub(crate) fn reads_on(&self, side: Visual) -> bool
+        ensures { result ≡ reads_on side (placed self.now).row }
+    {
+        is_read_on(side, self.row.paragraph.level())
     }
 }

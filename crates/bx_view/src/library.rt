@@ -156,9 +156,9 @@ impl Layout {
             ≡ slots self.old.w (row_at (rows source.now self.old) (row_of (rows source.now self.old) place))) }
     {
         let at = self.row_at(source, place)?;
-        let paragraph = self.paragraph(source, at.paragraph, at.held);
-        let slots = paragraph.slots(at.row, source.tables)?;
-        let offsets = in_text(*slots.allocator(), at.start, &slots)?;
+        let row = self.row(source, at);
+        let slots = row.row.slots()?;
+        let offsets = in_text(*slots.allocator(), row.start, &slots)?;
         Ok(offsets)
     }
 

@@ -1,15 +1,15 @@
 //! Moves in text order, the first place at or after an offset, and the last one at or before it.
-ghost use Rattle.std.specs.Prelude.{◌≡◌, ℕ, ◌≤◌, IfOk, find, nat_le, nat_lt, reverse, unwrap_or};
+ghost use Rattle.std.specs.Prelude.{◌≡◌, ◌≤◌, IfOk, find, nat_le, nat_lt, reverse, unwrap_or};
 ghost use Rattle.std.specs.Str.{IsCharBoundary};
 ghost use Rattle.bx_view.specs.Moves.{place_at, place_from, step_logical};
-ghost use Rattle.bx_view.specs.Source.{IsViewBy, Keeps, OfRow, Stands, bytes, rows};
+ghost use Rattle.bx_view.specs.PlacedRow.{placed};
+ghost use Rattle.bx_view.specs.Source.{IsViewBy, Keeps, bytes, rows};
 ghost use Rattle.bx_view.specs.TextRows.{places, places_of};
 
 use crate::error::ViewError;
-use crate::in_row::place_in;
 use crate::layout::Layout;
 use crate::moves::Logical;
-use crate::row_at::RowAt;
+use crate::placed_row::PlacedRow;
 use crate::source::Source;
 use bx_ucd::BidiData;
 
@@ -41,75 +41,49 @@ fn last_before(offsets: &[usize], offset: usize) -> Option<usize>
     offsets.iter().rev().copied().find(|o| *o < offset)
 }
 
+impl<'a, 't, D: BidiData> PlacedRow<'a, 't, D> {
+    /// The first place of the row at or after an offset.
+    fn first_from(&self, offset: usize) -> Result<Option<usize>, ViewError>
+        requires { self.now.start ≤ offset }
+        ensures { IfOk result (λ o. o ≡ find (nat_le offset) (places_of (placed self.now))) }
+    {
+        let offsets = self.row.offsets()?;
+        let found = first_from(&offsets, offset - self.start);
+        Ok(self.place(found))
+    }
+
+    /// The last place of the row at or before an offset.
+    fn last_at(&self, offset: usize) -> Result<Option<usize>, ViewError>
+        requires { self.now.start ≤ offset }
+        ensures { IfOk result (λ o. o ≡ find (λ p. nat_le p offset) (reverse (places_of (placed self.now)))) }
+    {
+        let offsets = self.row.offsets()?;
+        let found = last_at(&offsets, offset - self.start);
+        Ok(self.place(found))
+    }
+
+    /// The first place of the row after a place.
+    fn first_after(&self, place: usize) -> Result<Option<usize>, ViewError>
+        requires { self.now.start ≤ place }
+        ensures { IfOk result (λ o. o ≡ find (nat_lt place) (places_of (placed self.now))) }
+    {
+        let offsets = self.row.offsets()?;
+        let found = first_after(&offsets, place - self.start);
+        Ok(self.place(found))
+    }
+
+    /// The last place of the row before a place.
+    fn last_before(&self, place: usize) -> Result<Option<usize>, ViewError>
+        requires { self.now.start ≤ place }
+        ensures { IfOk result (λ o. o ≡ find (λ p. nat_lt p place) (reverse (places_of (placed self.now)))) }
+    {
+        let offsets = self.row.offsets()?;
+        let found = last_before(&offsets, place - self.start);
+        Ok(self.place(found))
+    }
+}
+
 impl Layout {
-    /// The first place of a row at or after an offset.
-    fn from_in_row<D: BidiData>(
-        &self,
-        source: &Source<'_, D>,
-        at: RowAt,
-        offset: usize,
-    ) -> Result<Option<usize>, ViewError>
-        requires row { Stands source.now self.now at }
-        requires order { at.start ≤ offset }
-        ensures { OfRow source.now self.now at (λ r. IfOk result (λ o. o ≡ find (nat_le offset) (places_of r))) }
-    {
-        let paragraph = self.paragraph(source, at.paragraph, at.held);
-        let offsets = paragraph.offsets(at.row, source.tables)?;
-        let found = first_from(&offsets, offset - at.start);
-        Ok(place_in(at.start, found))
-    }
-
-    /// The last place of a row at or before an offset.
-    fn at_in_row<D: BidiData>(
-        &self,
-        source: &Source<'_, D>,
-        at: RowAt,
-        offset: usize,
-    ) -> Result<Option<usize>, ViewError>
-        requires row { Stands source.now self.now at }
-        requires order { at.start ≤ offset }
-        ensures { OfRow source.now self.now at (λ r. IfOk result (λ o. o ≡ find (λ p. nat_le p offset) (reverse (places_of r)))) }
-    {
-        let paragraph = self.paragraph(source, at.paragraph, at.held);
-        let offsets = paragraph.offsets(at.row, source.tables)?;
-        let found = last_at(&offsets, offset - at.start);
-        Ok(place_in(at.start, found))
-    }
-
-    /// The first place of a row after a place.
-    fn after_in_row<D: BidiData>(
-        &self,
-        source: &Source<'_, D>,
-        at: RowAt,
-        place: usize,
-    ) -> Result<Option<usize>, ViewError>
-        requires row { Stands source.now self.now at }
-        requires order { at.start ≤ place }
-        ensures { OfRow source.now self.now at (λ r. IfOk result (λ o. o ≡ find (nat_lt place) (places_of r))) }
-    {
-        let paragraph = self.paragraph(source, at.paragraph, at.held);
-        let offsets = paragraph.offsets(at.row, source.tables)?;
-        let found = first_after(&offsets, place - at.start);
-        Ok(place_in(at.start, found))
-    }
-
-    /// The last place of a row before a place.
-    fn before_in_row<D: BidiData>(
-        &self,
-        source: &Source<'_, D>,
-        at: RowAt,
-        place: usize,
-    ) -> Result<Option<usize>, ViewError>
-        requires row { Stands source.now self.now at }
-        requires order { at.start ≤ place }
-        ensures { OfRow source.now self.now at (λ r. IfOk result (λ o. o ≡ find (λ p. nat_lt p place) (reverse (places_of r)))) }
-    {
-        let paragraph = self.paragraph(source, at.paragraph, at.held);
-        let offsets = paragraph.offsets(at.row, source.tables)?;
-        let found = last_before(&offsets, place - at.start);
-        Ok(place_in(at.start, found))
-    }
-
     /// The first place at or after an offset; the text's last place, if there is none.
     ///
     /// Errors: `OutOfMemory`.
@@ -124,11 +98,11 @@ impl Layout {
         ensures boundary { IfOk result (λ o. IsCharBoundary (bytes source.now) o) }
     {
         let at = self.row_at(source, offset)?;
-        if let Some(place) = self.from_in_row(source, at, offset)? {
+        if let Some(place) = self.row(source, at).first_from(offset)? {
             return Ok(place);
         }
         let Some(next) = self.next_row(source, at)? else {
-            let last = self.last_in(source, at)?;
+            let last = self.row(source, at).last()?;
             return Ok(last);
         };
         Ok(self.first_in(source, next))
@@ -149,7 +123,7 @@ impl Layout {
     {
         let at = self.row_at(source, offset)?;
         // A row begins at a place, so there is one.
-        let place = self.at_in_row(source, at, offset)?;
+        let place = self.row(source, at).last_at(offset)?;
         Ok(place.unwrap_or(0))
     }
 
@@ -164,7 +138,7 @@ impl Layout {
         ensures place { IfOk result (λ o. o ≡ unwrap_or (find (nat_lt place) (places (rows source.now self.old))) place) }
     {
         let at = self.row_at(source, place)?;
-        if let Some(after) = self.after_in_row(source, at, place)? {
+        if let Some(after) = self.row(source, at).first_after(place)? {
             return Ok(after);
         }
         let Some(next) = self.next_row(source, at)? else {
@@ -185,13 +159,13 @@ impl Layout {
             (reverse (places (rows source.now self.old)))) place) }
     {
         let at = self.row_at(source, place)?;
-        if let Some(before) = self.before_in_row(source, at, place)? {
+        if let Some(before) = self.row(source, at).last_before(place)? {
             return Ok(before);
         }
         let Some(above) = self.row_before(source, at)? else {
             return Ok(place);
         };
-        let last = self.last_in(source, above)?;
+        let last = self.row(source, above).last()?;
         Ok(last)
     }
 

@@ -10,6 +10,7 @@ use crate::error::ViewError;
 use crate::layout::Layout;
 use crate::row_at::RowAt;
 use crate::source::Source;
+use bx_paragraph::LentRow;
 use bx_ucd::BidiData;
 
 /// The position of a place. All fields count from 1.
@@ -41,7 +42,12 @@ impl Layout {
         // proof only: the number of paragraphs is within its limit
         let _count = source.index.count();
         let paragraph = self.paragraph(source, at.paragraph, at.held);
-        let standing = paragraph.standing(at.row, place - at.start, source.tables)?;
+        let row = LentRow {
+            paragraph,
+            tables: source.tables,
+            number: at.row,
+        };
+        let standing = row.standing(place - at.start)?;
         Ok(Position {
             column: standing.column,
             paragraph: at.paragraph + 1,

@@ -11,6 +11,7 @@ use crate::error::ViewError;
 use crate::layout::Layout;
 use crate::row_at::RowAt;
 use crate::source::Source;
+use bx_paragraph::LentRow;
 use bx_rows::RowPicture;
 use bx_ucd::BidiData;
 
@@ -31,7 +32,12 @@ impl Layout {
         ensures columns { IfOk result (λ p. sum_by (λ g. g.columns) p.glyphs.items ≡ self.now.w) }
     {
         let paragraph = self.paragraph(source, at.paragraph, at.held);
-        let picture = paragraph.picture(at.row, source.tables)?;
+        let row = LentRow {
+            paragraph,
+            tables: source.tables,
+            number: at.row,
+        };
+        let picture = row.picture()?;
         Ok(picture)
     }
 

@@ -7,7 +7,7 @@ use crate::error::ViewError;
 use crate::layout::Layout;
 use crate::row_at::RowAt;
 use crate::source::Source;
-use bx_paragraph::Slot;
+use bx_paragraph::{LentRow, Slot};
 use bx_ucd::BidiData;
 
 /// Keeps the slots of units that begin from `start` up to `stop`, offsets of the body.
@@ -37,7 +37,12 @@ impl Layout {
         if start >= stop || paragraph.body().len() < start {
             return Ok(Vec::new(*self.held.allocator()));
         }
-        let mut slots = paragraph.slots(at.row, source.tables)?;
+        let row = LentRow {
+            paragraph,
+            tables: source.tables,
+            number: at.row,
+        };
+        let mut slots = row.slots()?;
         keep_in(&mut slots, start, stop);
         Ok(slots)
     }

@@ -106,7 +106,7 @@ impl Layout {
         if first == own {
             return Ok(place);
         }
-        let entry = self.entry(source, there, position.column)?;
+        let entry = self.row(source, there).entry(position.column)?;
         Ok(entry.unwrap_or(place))
     }
 }

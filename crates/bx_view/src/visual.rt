@@ -1,38 +1,16 @@
 //! Moves to the left and to the right.
-ghost use Rattle.std.specs.Prelude.{◌≡◌, ℕ, [], true, IfOk};
-ghost use Rattle.bx_paragraph.specs.Slots.{reads_on};
+ghost use Rattle.std.specs.Prelude.{◌≡◌, ℕ, IfOk};
 ghost use Rattle.bx_view.specs.Moves.{end_of, past, row_after, row_before, start_of, step_visual};
-ghost use Rattle.bx_view.specs.Source.{IsViewBy, Keeps, OfRow, Stands, StandsOn, rows};
+ghost use Rattle.bx_view.specs.Source.{IsViewBy, Keeps, Stands, StandsOn, rows};
 
 use crate::error::ViewError;
 use crate::layout::Layout;
 use crate::row_at::RowAt;
 use crate::source::Source;
-use bx_paragraph::{Visual, reading_side};
+use bx_paragraph::Visual;
 use bx_ucd::BidiData;
 
-/// Whether a side is the reading direction of a paragraph of a level: right for an even level, left for an odd one.
-fn is_read_on(side: Visual, level: u8) -> bool
-    ensures { result ≡ reads_on side (record { body = []; paragraph = level; units = []; levels = []; is_last = true }) }
-{
-    side == reading_side(level)
-}
-
 impl Layout {
-    /// Whether a side is a row's reading direction.
-    pub(crate) fn reads_on<D: BidiData>(
-        &self,
-        source: &Source<'_, D>,
-        at: RowAt,
-        side: Visual,
-    ) -> bool
-        requires row { Stands source.now self.now at }
-        ensures { OfRow source.now self.now at (λ r. result ≡ reads_on side r.row) }
-    {
-        let paragraph = self.paragraph(source, at.paragraph, at.held);
-        is_read_on(side, paragraph.level())
-    }
-
     /// The place at the reading start of the next row, if there is one.
     fn start_after<D: BidiData>(
         &mut self,
@@ -47,7 +25,7 @@ impl Layout {
         let Some(there) = self.next_row(source, at)? else {
             return Ok(None);
         };
-        let place = self.reading_start(source, there)?;
+        let place = self.row(source, there).reading_start()?;
         Ok(place)
     }
 
@@ -65,7 +43,7 @@ impl Layout {
         let Some(there) = self.row_before(source, at)? else {
             return Ok(None);
         };
-        let place = self.reading_end(source, there)?;
+        let place = self.row(source, there).reading_end()?;
         Ok(place)
     }
 
@@ -81,7 +59,7 @@ impl Layout {
         ensures place { (n : ℕ) → StandsOn source.now self.old at n
             → IfOk result (λ o. o ≡ past self.old.w (rows source.now self.old) side n) }
     {
-        if self.reads_on(source, at, side) {
+        if self.row(source, at).reads_on(side) {
             let place = self.start_after(source, at)?;
             return Ok(place);
         }
@@ -104,7 +82,7 @@ impl Layout {
         ensures step { IfOk result (λ o. o ≡ step_visual self.old.w (rows source.now self.old) side place) }
     {
         let at = self.row_at(source, place)?;
-        if let Some(next) = self.beside(source, at, side, place)? {
+        if let Some(next) = self.row(source, at).beside(side, place)? {
             return Ok(next);
         }
         let past = self.past(source, at, side)?;

@@ -161,7 +161,7 @@ impl Layout {
         ensures place { IfOk result (λ o. o ≡ word_towards (D.data source.now.tables.now) (bytes source.now) (rows source.now self.old) side place) }
     {
         let at = self.row_at(source, place)?;
-        let way = word_way(self.reads_on(source, at, side));
+        let way = word_way(self.row(source, at).reads_on(side));
         let place = self.step_word(source, way, place)?;
         Ok(place)
     }

@@ -1,8 +1,7 @@
 //! The layout of a paragraph: each public call once with ample memory.
-ghost use Rattle.std.specs.Prelude.{◌<◌, length};
 ghost use Rattle.bx_paragraph.specs.Layout.{IsLayoutBy};
 
-use bx_paragraph::{ParagraphLayout, Visual};
+use bx_paragraph::{LentRow, ParagraphLayout, Visual};
 use bx_terms::{Base, is_side};
 use bx_ucd::{BidiData, sample_tables};
 use std::alloc::Global;
@@ -12,14 +11,9 @@ use std::test::Fail;
 fn add_slots<D: BidiData>(
     line: &mut String,
     alloc: Global,
-    layout: &ParagraphLayout,
-    row: usize,
-    source: &D,
-) -> Result<(), Fail>
-    requires data { IsLayoutBy (D.data source.now) layout.now }
-    requires row { row < length layout.now.starts }
-{
-    for slot in &layout.slots(row, source)? {
+    row: &LentRow<'_, '_, D>,
+) -> Result<(), Fail> {
+    for slot in &row.slots()? {
         let (offset, column) = (slot.offset, slot.column);
         line.push_str(format!(in alloc; " {offset}@{column}")?.as_str())?;
     }
@@ -30,18 +24,13 @@ fn add_slots<D: BidiData>(
 fn add_places<D: BidiData>(
     line: &mut String,
     alloc: Global,
-    layout: &ParagraphLayout,
-    row: usize,
-    source: &D,
-) -> Result<(), Fail>
-    requires data { IsLayoutBy (D.data source.now) layout.now }
-    requires row { row < length layout.now.starts }
-{
-    let first = layout.first(row);
-    let last = layout.last(row, source)?;
-    let count = layout.offsets(row, source)?.len();
-    let start = layout.reading_start(row, source)?.unwrap_or(99);
-    let end = layout.reading_end(row, source)?.unwrap_or(99);
+    row: &LentRow<'_, '_, D>,
+) -> Result<(), Fail> {
+    let first = row.paragraph.first(row.number);
+    let last = row.last()?;
+    let count = row.offsets()?.len();
+    let start = row.reading_start()?.unwrap_or(99);
+    let end = row.reading_end()?.unwrap_or(99);
     line.push_str(format!(in alloc;
         "; {first} to {last}, {count}, {start} on to {end}"
     )?.as_str())?;
@@ -52,22 +41,13 @@ fn add_places<D: BidiData>(
 fn add_steps<D: BidiData>(
     line: &mut String,
     alloc: Global,
-    layout: &ParagraphLayout,
-    row: usize,
-    source: &D,
-) -> Result<(), Fail>
-    requires data { IsLayoutBy (D.data source.now) layout.now }
-    requires row { row < length layout.now.starts }
-{
-    let first = layout.first(row);
-    let right = layout
-        .beside(row, Visual::Right, first, source)?
-        .unwrap_or(99);
-    let left = layout
-        .beside(row, Visual::Left, first, source)?
-        .unwrap_or(99);
-    let column = layout.standing(row, first, source)?.column;
-    let entry = layout.entry(row, 2, source)?.unwrap_or(99);
+    row: &LentRow<'_, '_, D>,
+) -> Result<(), Fail> {
+    let first = row.paragraph.first(row.number);
+    let right = row.beside(Visual::Right, first)?.unwrap_or(99);
+    let left = row.beside(Visual::Left, first)?.unwrap_or(99);
+    let column = row.standing(first)?.column;
+    let entry = row.entry(2)?.unwrap_or(99);
     line.push_str(format!(in alloc; "; {left} {right} {column} {entry}|")?.as_str())?;
     Ok(())
 }
@@ -77,10 +57,15 @@ fn rows_in<D: BidiData>(alloc: Global, layout: &ParagraphLayout, source: &D) -> 
     requires { IsLayoutBy (D.data source.now) layout.now }
 {
     let mut line = String::new(alloc);
-    for row in 0..layout.row_count() {
-        add_slots(&mut line, alloc, layout, row, source)?;
-        add_places(&mut line, alloc, layout, row, source)?;
-        add_steps(&mut line, alloc, layout, row, source)?;
+    for number in 0..layout.row_count() {
+        let row = LentRow {
+            paragraph: layout,
+            tables: source,
+            number,
+        };
+        add_slots(&mut line, alloc, &row)?;
+        add_places(&mut line, alloc, &row)?;
+        add_steps(&mut line, alloc, &row)?;
     }
     Ok(line)
 }
@@ -142,12 +127,16 @@ fn picture_in<D: BidiData>(
     let (w, level, len) = (layout.width(), layout.level(), layout.body().len());
     let is_rtl = layout.base() == Base::Rtl;
     let mut line = format!(in alloc; "{w} {level} {len} {is_rtl}:")?;
-    let row = layout.row_of(offset);
-    for glyph in &layout.picture(row, source)?.glyphs {
+    let row = LentRow {
+        paragraph: layout,
+        tables: source,
+        number: layout.row_of(offset),
+    };
+    for glyph in &row.picture()?.glyphs {
         line.push_str(glyph.text.as_str())?;
     }
     line.push_str("|")?;
-    for glyph in &layout.own_glyphs(row, source)?.glyphs {
+    for glyph in &row.own_glyphs()?.glyphs {
         line.push_str(glyph.text.as_str())?;
     }
     Ok(line)

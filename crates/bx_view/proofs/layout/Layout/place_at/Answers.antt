@@ -1,6 +1,6 @@
-use Rattle.std.proofs.Common.{◌∙◌, IsCharBoundary, subst, sym}
+use Rattle.std.proofs.Common.{◌∙◌, ap, find, nat_le, reverse, IsCharBoundary, subst, sym}
 use Rattle.bx_view.specs.FoundRow.{rows_by}
-use Rattle.bx_view.specs.TextRows.{row_of}
+use Rattle.bx_view.specs.TextRows.{places_of, row_of}
 use Rattle.bx_view.proofs.Boundaries.{bounds-kept}
 use Rattle.bx_view.proofs.KeptRows.{side-kept}
 use Rattle.bx_view.proofs.StepPlaces.{greatest-here}
@@ -14,7 +14,7 @@ returns-clause-place g c =
     let on = c.in_ok-at.ensures.row in
     c.unwrap_or.ensures
     ∙ greatest-here says c.args.self.now v text c.args.offset c.in_ok-at.at c.args.source.now.utf8 c.row_at.ensures.keeps on c.in_ok-place.place
-    (c.in_ok-place.ensures (row_of (rows_by says v text) c.args.offset) on)
+    (c.in_ok-place.ensures ∙ ap (λ r. find (λ p. nat_le p c.args.offset) (reverse (places_of r))) (c.row.ensures.row (row_of (rows_by says v text) c.args.offset) on))
 
 pub returns-clause-boundary : goal.returns-clause-boundary
 returns-clause-boundary g c =
