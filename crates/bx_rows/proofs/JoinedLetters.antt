@@ -1,5 +1,6 @@
 -- The letters and forms of a row's glyphs, one after another.
-use Rattle.std.proofs.Common.{◌≡◌, ℕ, zero, suc, ◌+◌, ◌<◌, ◌≤◌, List, [], ◌∷◌, ◌++◌, length, get_or, take, drop, chars, IsUtf8, All, refl, sym, subst, ap, ap₂, ◌∙◌, arith, take_all, length-append, length-drop, append_assoc}
+use Rattle.std.proofs.Common.{◌≡◌, ℕ, zero, suc, ◌+◌, ◌<◌, ◌≤◌, List, [], ◌∷◌, ◌++◌, length, get_or, take}
+use Rattle.std.proofs.Common.{drop, chars, IsUtf8, All, refl, sym, subst, ap, ap₂, ◌∙◌, arith, take_all, length-append, length-drop, append_assoc}
 use Rattle.std.specs.Prelude.{encode_utf8, encode_utf8_all, Option}
 use Rattle.std.specs.List.{zip}
 use Rattle.std.proofs.lemmas.List.Elements.{All-cons, All-nil}

@@ -1,5 +1,6 @@
 -- Glyphs that are changed one after another: mirrored by their levels, and shown in their letters' forms.
-use Rattle.std.proofs.Common.{◌≡◌, ℕ, zero, suc, ◌+◌, ◌%◌, ◌<◌, ◌≤◌, List, [], ◌∷◌, map, length, get_or, take, set, ◌++◌, ⊎_elim, false, refl, sym, subst, ap, ap₂, ◌∙◌, arith, take_all, append-nil, chars, All, Bool, true, IsUtf8}
+use Rattle.std.proofs.Common.{◌≡◌, ℕ, zero, suc, ◌+◌, ◌%◌, ◌<◌, ◌≤◌, List, [], ◌∷◌, map, length, get_or, take, set}
+use Rattle.std.proofs.Common.{◌++◌, ⊎_elim, false, refl, sym, subst, ap, ap₂, ◌∙◌, arith, take_all, append-nil, chars, All, Bool, true, IsUtf8}
 use Rattle.std.specs.Prelude.{◌||◌, encode_utf8, encode_utf8_all, unwrap_or, Option, None, Some}
 use Rattle.std.specs.List.{zip}
 use Rattle.std.proofs.lemmas.List.{map-set, get_or-map, length-map}

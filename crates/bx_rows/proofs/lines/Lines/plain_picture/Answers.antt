@@ -55,7 +55,8 @@ returns-clause-picture g c =
     (if_some _ _ c.in-Some.row c.in-Some.is c.in_ok-row.ensures.count)
     (if_some _ _ c.in-Some.row c.in-Some.is c.in_ok-row.ensures.levels here (sym told) part.chars)
     (same-row (ShowsRow says c.args.self.now.w c.in-Some.row.glyphs.items c.in-Some.row.levels.items (map glyph_of c.in_ok-glyphs.glyphs.items))
-    _ _ _ body _ c.args.self.now.levels.now.each.items c.row_at.ensures.start c.row_at.ensures.text c.row_at.ensures.each c.in_ok-glyphs.ensures.order) (c.len.ensures ∙ c.in_ok-glyphs.glyphs.ok.0 ∙ c.in_ok-glyphs.ensures.count)
+    _ _ _ body _ c.args.self.now.levels.now.each.items c.row_at.ensures.start c.row_at.ensures.text c.row_at.ensures.each c.in_ok-glyphs.ensures.order)
+    (c.len.ensures ∙ c.in_ok-glyphs.glyphs.ok.0 ∙ c.in_ok-glyphs.ensures.count)
     (c.in_ok-glyphs-2.ensures ∙ ap (λ b. with_blanks c.args.self.now.levels.now.paragraph b (map glyph_of c.in_ok-glyphs.glyphs.items)) c.columns_left-blanks.ensures)
 
 pub returns-clause-glyphs : goal.returns-clause-glyphs
