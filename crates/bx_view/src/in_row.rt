@@ -68,7 +68,7 @@ impl Layout {
 
 /// Whether a side is the reading direction of a paragraph of a level: right for an even level, left for an odd one.
 fn is_read_on(side: Visual, level: u8) -> bool
-    ensures { result ≡ reads_on side (record { body = []; paragraph = level; units = []; levels = []; is_last = true }) }
+    ensures { result ≡ reads_on side (record { body = []; paragraph = level; each = []; units = []; levels = []; is_last = true }) }
 {
     side == reading_side(level)
 }
