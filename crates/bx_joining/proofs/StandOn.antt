@@ -1,4 +1,4 @@
--- What stands behind a character stands in the body.
+-- The text after a character has its place in the body, one character later.
 use Rattle.std.proofs.Common.{◌≡◌, ◌≤◌, ◌+◌, ℕ, List, [], ◌∷◌, ◌++◌, length, take, drop, chars, IsUtf8, sym, ap, ap₂, ◌∙◌, arith, append_assoc, length-append}
 use Rattle.std.specs.Prelude.{encode_utf8}
 use Rattle.std.specs.Char.{len_utf8}

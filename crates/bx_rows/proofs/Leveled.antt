@@ -149,7 +149,7 @@ whole-mirrored : (b : Bool) (others cs text : List ℕ) → encode_utf8_all cs �
 whole-mirrored true others cs text e = refl
 whole-mirrored false others cs text e = e
 
--- of one letter, the mirrored text is that of the mirrored character
+-- the mirrored text of one letter is the mirrored character's
 one-mirrored : (says : Data) (w c : ℕ) (b : Bool) → chars (encode_utf8 c) ≡ c ∷ []
     → encode_utf8_all (elim b as (λ _. List ℕ) [ true ↦ unwrap_or (says.mirror c) c ∷ [] | false ↦ c ∷ [] ])
     ≡ elim b as (λ _. List ℕ) [ true ↦ mirror_image says (encode_utf8 c) | false ↦ encode_utf8 c ]

@@ -1,4 +1,4 @@
--- The nearest character of the text is that of what is left.
+-- The neighbour in the whole text is the neighbour in the rest of it.
 use Rattle.std.proofs.Common.{◌≡◌, length}
 use denote.Text.{Utf8}
 use denote.Shadow.{shadow}
