@@ -1,10 +1,8 @@
 //! Pictures of rows: `_` is a blank, `*` follows a negative glyph, `|` separates rows.
 use crate::words::{field_of, two_of, with_tabs};
-use bx_cells::{Unit, units};
+use bx_cells::units;
 use bx_resolve::levels;
-use bx_rows::{
-    LeveledRow, Lines, RowPicture, RowStart, char_count, draw, row_levels, row_starts, wrap,
-};
+use bx_rows::{LeveledRow, Lines, RowPicture, RowStart, draw, row_levels, row_starts, wrap};
 use bx_terms::Base;
 use bx_ucd::sample::{BRACKETS, CLASSES};
 use bx_ucd::{Tables, sample_tables};
@@ -21,16 +19,6 @@ fn add_picture(text: &mut String, picture: &RowPicture<'_>) -> Result<(), Fail> 
         }
     }
     Ok(())
-}
-
-/// Where a row starts in its body, `before` units after the body's start.
-fn start_of(body: &str, units: &[Unit], before: usize) -> RowStart {
-    let offset = units.first().map_or(0, |unit| unit.start);
-    RowStart {
-        offset,
-        units: before,
-        chars: char_count(&body[..offset]),
-    }
 }
 
 /// The pictures of a body's rows, each drawn from its units.
@@ -53,7 +41,12 @@ fn pictures(
             levels: &each,
             paragraph: levels.paragraph,
             each: levels.each.as_slice(),
-            start: start_of(body, units, row.start),
+            // a row's place may be counted from the body's start
+            start: RowStart {
+                offset: 0,
+                units: 0,
+                chars: 0,
+            },
         };
         let picture = draw(alloc, body, &leveled, tables, w)?;
         if row.start > 0 {
