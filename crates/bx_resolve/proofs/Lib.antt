@@ -18,6 +18,7 @@ pub mod RightMarks
 pub mod RightLevels
 pub mod RightTypes
 pub mod PlainLevels
+pub mod ShortLevels
 pub mod LeftTexts
 pub mod Mapped
 pub mod EachOnce

@@ -7,6 +7,7 @@ pub mod Levels
 pub mod LevelRuns
 pub mod LevelBytes
 pub mod Uniform
+pub mod ClassLevels
 pub mod Edited
 pub mod Laws
 pub mod TestTables

@@ -1,8 +1,9 @@
 //! The levels of a paragraph, with each rule as a pass of its own. The editor does not run this: `levels` takes it only for a
 //! body of 4 GiB or more, and the editor's texts are shorter. With it the crate serves by itself as a library.
-ghost use Rattle.std.specs.Prelude.{◌≡◌, ◌≤◌, ◌<◌, IfOk, All, chars, length};
+ghost use Rattle.std.specs.Prelude.{◌≡◌, ◌≤◌, ◌<◌, IfOk, All, None, chars, length, replicate};
 ghost use Rattle.bx_explicit.specs.Stack.{max_depth};
-ghost use Rattle.bx_resolve.specs.Levels.{levels_in, max_level, paragraph_level_under, levels_under};
+ghost use Rattle.bx_explicit.specs.Sequences.{sequences};
+ghost use Rattle.bx_resolve.specs.Levels.{levels_in, max_level, paragraph_level_under, levels_under, with_sequences};
 
 use crate::at_indexes::{chars_at, types_at, write_levels};
 use crate::body::{chars_of, classes_of};
@@ -11,7 +12,7 @@ use crate::neutral::{implicit, n1, n2};
 use crate::paragraph::{Level, Levels};
 use crate::weak::{marks, w1, w2, w3, w4, w5, w6, w7};
 use bx_brackets::{pairs, resolve_pairs};
-use bx_explicit::{ExplicitChar, Sequence, base_level, explicit, sequences};
+use bx_explicit::{Explicit, ExplicitChar, Sequence, base_level, explicit, sequences};
 use bx_terms::Base;
 use bx_ucd::BidiData;
 use bx_ucd::class::direction;
@@ -50,6 +51,26 @@ fn levels_in<D: BidiData>(
     Ok(implicit(alloc, &types, level)?)
 }
 
+/// The levels of all characters, with each rule as a pass of its own.
+fn each_by_rules<D: BidiData>(
+    alloc: Global,
+    tables: &D,
+    chars: &[char],
+    explicit: &Explicit,
+) -> Result<Vec<Level>, ResolveError>
+    requires as_long { length chars.now ≡ length explicit.now.classes.items }
+    ensures { IfOk result (λ v. v.items ≡ with_sequences (D.data tables.now) chars.now explicit.now.kept.items
+        (sequences explicit.now.level explicit.now.classes.items explicit.now.kept.items) (replicate (length chars.now) None)) }
+{
+    let found = sequences(alloc, explicit)?;
+    let mut each = vec![in alloc; Level::none(); chars.len()]?;
+    for sequence in &found {
+        let levels = levels_in(alloc, tables, chars, &explicit.kept, sequence)?;
+        write_levels(&mut each, sequence.indexes(), &levels);
+    }
+    Ok(each)
+}
+
 /// The levels of a paragraph body under a base direction, with each rule as a pass of its own.
 pub fn levels_by_rules<D: BidiData>(
     alloc: Global,
@@ -64,11 +85,6 @@ pub fn levels_by_rules<D: BidiData>(
     let classes = classes_of(alloc, body, tables)?;
     let paragraph = base_level(&classes, base);
     let explicit = explicit(alloc, &classes, paragraph)?;
-    let found = sequences(alloc, &explicit)?;
-    let mut each = vec![in alloc; Level::none(); chars.len()]?;
-    for sequence in &found {
-        let levels = levels_in(alloc, tables, &chars, &explicit.kept, sequence)?;
-        write_levels(&mut each, sequence.indexes(), &levels);
-    }
+    let each = each_by_rules(alloc, tables, &chars, &explicit)?;
     Ok(Levels { paragraph, each })
 }

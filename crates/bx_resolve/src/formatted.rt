@@ -1,7 +1,7 @@
 //! The levels of a paragraph body with formatting characters, sequence by sequence.
-ghost use Rattle.std.specs.Prelude.{◌≡◌, ◌≤◌, ◌<◌, ◌^◌, ◌++◌, IfOk, OnOk, None, true, chars, drop, length, map, replicate};
+ghost use Rattle.std.specs.Prelude.{◌≡◌, ◌≤◌, ◌<◌, ◌^◌, ◌++◌, All, IfOk, OnOk, None, true, chars, drop, length, map, replicate};
 ghost use Rattle.bx_explicit.specs.Stack.{max_depth};
-ghost use Rattle.bx_explicit.specs.Sequences.{sequences};
+ghost use Rattle.bx_explicit.specs.Sequences.{RunSequence, sequences};
 ghost use Rattle.bx_resolve.specs.Neutral.{implicit};
 ghost use Rattle.bx_resolve.specs.Levels.{chars_at, sequence_levels, types_at, levels_in, with_levels, with_sequences, paragraph_levels};
 ghost use Rattle.bx_resolve.specs.LevelRuns.{WritesRun, run_indexes, sequence_indexes};
@@ -166,8 +166,29 @@ fn write_lent<D: BidiData>(
     )
 }
 
+/// Writes the levels of each sequence that the walk has left.
+fn write_left<D: BidiData>(
+    each: &mut Vec<Level>,
+    buffers: &mut Buffers<'_>,
+    tables: &D,
+    walk: &mut SequenceWalk<'_>,
+    kept: &[Option<ExplicitChar>],
+) -> Result<(), ResolveError>
+    requires same { kept.now ≡ walk.old.explicit.kept.items }
+    requires few { All (λ (s : RunSequence). length s.indexes ≤ length kept.now) walk.old.left }
+    requires small { length kept.now ≤ 2 ^ 32 }
+    requires as_long { length buffers.old.body ≡ length kept.now }
+    requires all { length each.old.items ≡ length kept.now }
+    ensures { OnOk result (each.new.items ≡ with_sequences (D.data tables.now) buffers.old.body kept.now walk.old.left each.old.items) }
+{
+    while walk.advance()? {
+        write_lent(each, buffers, tables, walk, kept)?;
+    }
+    Ok(())
+}
+
 /// The levels of all characters, resolved sequence by sequence.
-#[tactic(auto, using(crate::proofs::Apart::given_written, crate::proofs::Written::levels_length))]
+#[tactic(auto, using(crate::proofs::Apart::given_written))]
 fn each_level<D: BidiData>(
     alloc: Global,
     body: &str,
@@ -186,9 +207,7 @@ fn each_level<D: BidiData>(
         scratch: Scratch::new(alloc),
     };
     let mut walk = SequenceWalk::new(alloc, explicit);
-    while walk.advance()? {
-        write_lent(&mut each, &mut buffers, tables, &walk, &explicit.kept)?;
-    }
+    write_left(&mut each, &mut buffers, tables, &mut walk, &explicit.kept)?;
     Ok(each)
 }
 

@@ -1,9 +1,10 @@
 //! The levels of a paragraph.
-ghost use Rattle.std.specs.Prelude.{◌≡◌, ◌≤◌, ◌<◌, ◌^◌, All, IfOk, IfSome, Some, chars, is_some, length, map, true};
+ghost use Rattle.std.specs.Prelude.{◌≡◌, ◌≤◌, ◌<◌, ◌^◌, All, IfNone, IfOk, IfSome, Some, chars, is_some, length, map, true};
 ghost use Rattle.bx_explicit.specs.Stack.{max_depth};
 ghost use Rattle.bx_resolve.specs.Weak.{weak};
 ghost use Rattle.bx_resolve.specs.Neutral.{implicit_at};
 ghost use Rattle.bx_resolve.specs.Levels.{is_kept, levels_under, max_level, paragraph_levels, paragraph_level_under};
+ghost use Rattle.bx_resolve.specs.ClassLevels.{AreLevelsOf};
 ghost use Rattle.bx_resolve.specs.Uniform.{is_unformatted, all_pass};
 
 use crate::body::classes_of;
@@ -83,10 +84,32 @@ fn unformatted_levels<D: BidiData>(
     Ok(Levels { paragraph, each })
 }
 
-/// The levels of a paragraph body under a base direction. Shortcuts: a text of one plain direction runs no rule, a
-/// right-to-left text without L only W1 to W7 and I2, and a text without formatting characters no explicit rule. A body of
-/// 4 GiB or more takes `levels_by_rules`.
-#[tactic(auto, using(crate::proofs::PlainLevels::plain_levels, crate::proofs::PlainLevels::plain_right_levels, crate::proofs::PlainLevels::from_right_levels))]
+/// The levels of a text that needs few rules: one of a single plain direction runs none, a right-to-left one without L only
+/// W1 to W7 and I2. `None` for any other text.
+#[tactic(auto, using(crate::proofs::ShortLevels::plain_short, crate::proofs::ShortLevels::plain_right_short, crate::proofs::ShortLevels::from_right_short))]
+fn short_levels(
+    alloc: Global,
+    classes: &mut [Class],
+    paragraph: u8,
+) -> Result<Option<Vec<Level>>, AllocError>
+    ensures found { IfOk result (λ r. IfSome r (λ v. AreLevelsOf paragraph classes.old v.items)) }
+    ensures same { IfOk result (λ r. IfNone r (classes.new ≡ classes.old)) }
+{
+    if paragraph == 0 && are_plain(classes) {
+        return Ok(Some(vec![in alloc; Level::of(0); classes.len()]?));
+    }
+    if paragraph == 1 && are_plain_right(classes) {
+        return Ok(Some(vec![in alloc; Level::of(1); classes.len()]?));
+    }
+    if paragraph == 1 && are_from_right(classes) {
+        return Ok(Some(levels_from_right(alloc, classes)?));
+    }
+    Ok(None)
+}
+
+/// The levels of a paragraph body under a base direction. A text without formatting characters runs no explicit rule. A body
+/// of 4 GiB or more takes `levels_by_rules`.
+#[tactic(auto, using(crate::proofs::ShortLevels::short_by))]
 fn resolved_levels<D: BidiData>(
     alloc: Global,
     body: &str,
@@ -101,16 +124,7 @@ fn resolved_levels<D: BidiData>(
     }
     let mut classes = classes_of(alloc, body, tables)?;
     let paragraph = base_level(&classes, base);
-    if paragraph == 0 && are_plain(&classes) {
-        let each = vec![in alloc; Level::of(0); classes.len()]?;
-        return Ok(Levels { paragraph, each });
-    }
-    if paragraph == 1 && are_plain_right(&classes) {
-        let each = vec![in alloc; Level::of(1); classes.len()]?;
-        return Ok(Levels { paragraph, each });
-    }
-    if paragraph == 1 && are_from_right(&classes) {
-        let each = levels_from_right(alloc, &mut classes)?;
+    if let Some(each) = short_levels(alloc, &mut classes, paragraph)? {
         return Ok(Levels { paragraph, each });
     }
     if are_unformatted(&classes) {

@@ -1,36 +1,7 @@
-use Rattle.std.proofs.Common.{◌≡◌, ◌≤◌, ◌∷◌, ◌∙◌, ℕ, List, Option, ap, arith, chars, length, rules, sym}
-use Rattle.bx_explicit.specs.declared.entry.ExplicitChar.{ExplicitChar}
-use Rattle.bx_explicit.specs.Sequences.{RunSequence}
-use Rattle.bx_resolve.specs.Levels.{levels_in, with_levels, with_sequences}
-use Rattle.bx_resolve.proofs.Small.{few_chars, next_is_few, others_are_few}
-use Rattle.bx_resolve.proofs.Written.{levels_length}
+use Rattle.std.proofs.Common.{arith, ap, length}
+use Rattle.bx_resolve.proofs.Small.{few_chars}
 use Rattle.bx_resolve.proofs.formatted.each_level.Goals as goal
 
-pub write_lent-requires-clause-small : goal.write_lent-requires-clause-small
-write_lent-requires-clause-small g c =
-    let next : c.loop-walk.walk.left ≡ c.advance.new.self.current ∷ c.advance.new.self.left = c.in_ok-advance.ensures.next c.if-branch.true in
-    let few : length c.advance.new.self.current.indexes ≤ length c.args.explicit.now.kept.items =
-    next_is_few (length c.args.explicit.now.kept.items) c.loop-walk.walk.left c.advance.new.self.left c.advance.new.self.current c.loop-walk.invariant.few next in
-    omega (arith, few, c.args.explicit.now.as_long, c.requires.as_long, few_chars c.args.body.now c.utf8.body, c.requires.small)
-
-pub loop-walk-preserved : goal.loop-walk-preserved
-loop-walk-preserved g c =
-    let says = g.D.BidiData.data c.args.tables.now in
-    let text : List ℕ = chars c.args.body.now in
-    let kept : List (Option ExplicitChar) = c.args.explicit.now.kept.items in
-    let s : RunSequence = c.advance.new.self.current in
-    let rest : List RunSequence = c.advance.new.self.left in
-    let each : List (Option ℕ) = c.loop-walk.each.items in
-    let next : c.loop-walk.walk.left ≡ s ∷ rest = c.in_ok-advance.ensures.next c.if-branch.true in
-    let here : c.write_lent.new.each.items ≡ with_levels s.indexes (levels_in says text kept s) each =
-    c.in_ok-write_lent.ensures.written
-    ∙ ap (λ cs. with_levels s.indexes (levels_in says cs c.deref.result.now s) each) c.loop-walk.invariant.text
-    ∙ ap (λ ks. with_levels s.indexes (levels_in says text ks s) each) c.deref.ensures.value in
-    record {
-      own = search rules;
-      text = search rules;
-      all = ap length here ∙ levels_length s.indexes (levels_in says text kept s) each ∙ c.loop-walk.invariant.all;
-      few = others_are_few (length kept) c.loop-walk.walk.left rest s c.loop-walk.invariant.few next;
-      written = c.loop-walk.invariant.written ∙ ap (λ ss. with_sequences says text kept ss each) next
-          ∙ ap (with_sequences says text kept rest) (sym here);
-    }
+pub write_left-requires-clause-small : goal.write_left-requires-clause-small
+write_left-requires-clause-small g c =
+    omega (arith, ap length c.deref.ensures.value, c.args.explicit.now.as_long, c.requires.as_long, few_chars c.args.body.now c.utf8.body, c.requires.small)

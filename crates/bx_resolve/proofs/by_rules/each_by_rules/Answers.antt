@@ -3,22 +3,21 @@ use Rattle.bx_explicit.specs.declared.entry.ExplicitChar.{ExplicitChar}
 use Rattle.bx_explicit.specs.Sequences.{RunSequence}
 use Rattle.bx_resolve.specs.Levels.{with_levels, with_sequences, levels_in}
 use Rattle.bx_resolve.proofs.Written.{sequences_more, levels_length}
-use Rattle.bx_resolve.proofs.by_rules.levels_by_rules.Goals as goal
+use Rattle.bx_resolve.proofs.by_rules.each_by_rules.Goals as goal
 
 pub loop-sequence-preserved : goal.loop-sequence-preserved
 loop-sequence-preserved g c =
     let says = g.D.BidiData.data c.args.tables.now in
-    let chars : List ℕ = c.in_ok-chars.chars.items in
-    let kept : List (Option ExplicitChar) = c.in_ok-explicit.explicit.kept.items in
+    let chars : List ℕ = c.args.chars.now in
+    let kept : List (Option ExplicitChar) = c.args.explicit.now.kept.items in
     let ss : List RunSequence = c.deref-sequence-items.result.now in
     let i : ℕ = c.loop-sequence.sequence-index in
     let s : RunSequence = c.sequence-item.result in
     let each : List (Option ℕ) = c.loop-sequence.each.items in
-    let levels : c.deref-in-loop-sequence-3.result.now ≡ levels_in says chars kept s = c.deref-in-loop-sequence-3.ensures.value ∙ c.in_ok-levels.ensures.levels
-    ∙ ap (λ cs. levels_in says cs c.deref-in-loop-sequence-2.result.now s) c.deref-in-loop-sequence.ensures.value
-    ∙ ap (λ k. levels_in says chars k s) c.deref-in-loop-sequence-2.ensures.value in
+    let levels : c.deref-in-loop-sequence.result.now ≡ levels_in says chars kept s = c.deref-in-loop-sequence.ensures.value ∙ c.in_ok-levels.ensures.levels
+    ∙ ap (λ k. levels_in says chars k s) c.deref.ensures.value in
     let new : c.write_levels.new.each.items ≡ with_levels s.indexes (levels_in says chars kept s) each = c.write_levels.ensures
-    ∙ ap (λ ps. with_levels ps c.deref-in-loop-sequence-3.result.now each) c.indexes.ensures ∙ ap (λ ls. with_levels s.indexes ls each) levels in
+    ∙ ap (λ ps. with_levels ps c.deref-in-loop-sequence.result.now each) c.indexes.ensures ∙ ap (λ ls. with_levels s.indexes ls each) levels in
     record {
       as_long = ap length new ∙ levels_length s.indexes (levels_in says chars kept s) each ∙ c.loop-sequence.invariant.as_long;
       written = c.loop-sequence.invariant.written ∙ sequences_more says chars kept ss each i s (omega arith)

@@ -1,0 +1,9 @@
+-- Levels that the classes of the characters alone tell.
+use Rattle.std.specs.Prelude.{◌≡◌, ℕ, List, Option, map}
+use Rattle.bx_ucd.specs.Data.{Data}
+use Rattle.bx_ucd.specs.declared.class.Class.{Class}
+use Rattle.bx_resolve.specs.Levels.{paragraph_levels}
+
+-- each text with these classes has these levels, given the paragraph level
+unfoldable pub AreLevelsOf : ℕ → List Class → List (Option ℕ) → Type 0
+AreLevelsOf paragraph cs each = (says : Data) (chars : List ℕ) → cs ≡ map says.class chars → each ≡ paragraph_levels says paragraph chars
