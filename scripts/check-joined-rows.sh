@@ -19,6 +19,8 @@
 # - A letter of joining type U with an isolated form (the hamza, U+0621) is shown in that form here, and as itself by fribidi.
 # - fribidi joins only characters of one level, and a left-to-right mark between two letters has another than they have, so it
 #   parts them. Here only the levels of the two letters count. No such mark is put into the lines.
+# - A point behind a joiner at the line's beginning is of the joiner's unit, which has no columns and is shown as a mark here. No
+#   line begins with a joiner.
 # - fribidi sets a joiner or right-to-left mark as a character of its own, and drops it on demand (--clean). A joiner belongs to
 #   its letter's unit here, and is dropped from our rows.
 set -eu
@@ -172,9 +174,10 @@ def random_lines(lists):
     others = "12 3.50 (note) the Latin word, ١٢٣ ۴۵ ! ؟ ، . [a] 7%".split()
     for number in range(LINES):
         words = lists[number % len(lists)]
-        yield " ".join(
+        line = " ".join(
             chance.choice(others) if chance.random() < 0.1 else changed(chance, chance.choice(words)) for _ in range(chance.randrange(1, 13))
         )
+        yield line.lstrip(JOINERS)
 
 
 def taken_apart(match):
