@@ -19,8 +19,7 @@
 # - A letter of joining type U with an isolated form (the hamza, U+0621) is shown in that form here, and as itself by fribidi.
 # - fribidi joins only characters of one level, and a left-to-right mark between two letters has another than they have, so it
 #   parts them. Here only the levels of the two letters count. No such mark is put into the lines.
-# - A point behind a joiner at the line's beginning is of the joiner's unit, which has no columns and is shown as a mark here. No
-#   line begins with a joiner.
+# - A joiner or point that begins a line is a unit without columns, which is shown as a mark here. No line begins with one.
 # - fribidi sets a joiner or right-to-left mark as a character of its own, and drops it on demand (--clean). A joiner belongs to
 #   its letter's unit here, and is dropped from our rows.
 set -eu
@@ -177,7 +176,7 @@ def random_lines(lists):
         line = " ".join(
             chance.choice(others) if chance.random() < 0.1 else changed(chance, chance.choice(words)) for _ in range(chance.randrange(1, 13))
         )
-        yield line.lstrip(JOINERS)
+        yield line.lstrip(JOINERS + POINTS)
 
 
 def taken_apart(match):
