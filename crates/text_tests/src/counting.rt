@@ -4,7 +4,7 @@ use bx_ucd::{BidiData, Class, Form, Joining, Side, Tables, UcdError, sample_tabl
 use std::alloc::Global;
 use std::cell::Cell;
 
-/// The small tables without mirrors, with a count of the questions for a class.
+/// The small tables without mirrors and forms, with a count of the questions for a class.
 #[derive(Drop)]
 pub(crate) struct Counting {
     tables: Tables,
@@ -28,11 +28,11 @@ impl Counting {
 impl BidiData for Counting {
     ghost use Rattle.std.specs.Prelude.{None};
 
-    ghost data = { λ s. record (⟦<Tables as BidiData>⟧.data s.tables) { mirror = λ _. None } };
+    ghost data = { λ s. record (⟦<Tables as BidiData>⟧.data s.tables) { mirror = λ _. None; form = λ _ _. None } };
 
     ghost no_mirror_is_control = { λ _ _. tt };
 
-    ghost no_form_is_control = { λ s c form. ⟦<Tables as BidiData>⟧.no_form_is_control s.tables c form };
+    ghost no_form_is_control = { λ _ _ _. tt };
 
     fn class(&self, c: char) -> Class {
         self.asked.set(self.asked.get().wrapping_add(1));
@@ -53,6 +53,7 @@ impl BidiData for Counting {
     }
 
     fn form(&self, c: char, form: Form) -> Option<char> {
-        self.tables.form(c, form)
+        let _ = (c, form);
+        None
     }
 }

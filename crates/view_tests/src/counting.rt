@@ -9,7 +9,7 @@ use std::alloc::Global;
 use std::cell::Cell;
 use std::test::Fail;
 
-/// The small tables without mirrors, with a count of the questions for a class.
+/// The small tables without mirrors and forms, with a count of the questions for a class.
 #[derive(Drop)]
 struct Counting<'a> {
     tables: Tables,
@@ -19,11 +19,11 @@ struct Counting<'a> {
 impl BidiData for Counting<'_> {
     ghost use Rattle.std.specs.Prelude.{None};
 
-    ghost data = { λ s. record (⟦<Tables as BidiData>⟧.data s.tables) { mirror = λ _. None } };
+    ghost data = { λ s. record (⟦<Tables as BidiData>⟧.data s.tables) { mirror = λ _. None; form = λ _ _. None } };
 
     ghost no_mirror_is_control = { λ _ _. tt };
 
-    ghost no_form_is_control = { λ s c form. ⟦<Tables as BidiData>⟧.no_form_is_control s.tables c form };
+    ghost no_form_is_control = { λ _ _ _. tt };
 
     fn class(&self, c: char) -> Class {
         self.questions.set(self.questions.get().wrapping_add(1));
@@ -44,7 +44,8 @@ impl BidiData for Counting<'_> {
     }
 
     fn form(&self, c: char, form: Form) -> Option<char> {
-        self.tables.form(c, form)
+        let _ = (c, form);
+        None
     }
 }
 
