@@ -79,7 +79,8 @@ terminal() {
 
 # tmux would take a number as the index of a window
 open_editor() { # NAME STATE FILE
-    terminal new-session -d -s "$1" -x 80 -y 24 -e "XDG_STATE_HOME=$2" "exec '$top/bidi-edit' '$3'"
+    # letters apart, since the last row is compared with the letters of the query
+    terminal new-session -d -s "$1" -x 80 -y 24 -e "XDG_STATE_HOME=$2" "exec '$top/bidi-edit' --no-joining '$3'"
 }
 
 type_keys() { # NAME FILE
