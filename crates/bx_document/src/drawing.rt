@@ -15,7 +15,7 @@ use bx_ucd::BidiData;
 use bx_view::{Layout, RowAt, Source};
 use std::alloc::Global;
 
-/// Draws glyphs from the left end of a row of `width` columns; the rest is blank. They must fit.
+/// Draws glyphs into a row of `width` columns, from its left end, and fills the row with blanks. The glyphs must fit.
 ///
 /// Errors: `OutOfMemory`.
 pub(crate) fn draw_glyphs(

@@ -59,7 +59,7 @@ fn push_end(
     Ok(())
 }
 
-/// The slots of a row of a body from left to right, from its units and their levels, in a paragraph of the level `paragraph`.
+/// Returns a row's slots from left to right. `paragraph` is the paragraph level, 0 or 1.
 pub(crate) fn row_slots(
     alloc: Global,
     body: &str,

@@ -22,7 +22,7 @@ use bx_ucd::{BidiData, Form};
 use std::alloc::{AllocError, Global};
 use std::borrow::CowStr;
 
-/// The columns of a text that is shown as itself, and those of the window.
+/// The columns of a text without a mark or tab, and the window's columns.
 #[derive(Clone, Copy)]
 pub(crate) struct OwnSize {
     pub(crate) columns: u16,

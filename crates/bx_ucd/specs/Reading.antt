@@ -87,7 +87,7 @@ mirror_in_file bytes code = mirror_by_lines (entries (mirror_lines bytes)) code
 abbrev pub form_in_file : List ℕ → ℕ → Form → Option ℕ
 form_in_file bytes letter form = form_by_lines (entries (character_lines bytes)) letter form
 
--- the joining type of a character of a class: that of its line, else that of its class; R, L and D count as U without a form
+-- a character's joining type: its line gives it, or else its class; R, L and D count as U if the character has no form
 abbrev pub joining_in_files : JoiningTexts → Class → ℕ → Joining
 joining_in_files texts class c =
     counted (unwrap_or (joining_by_lines (entries (joining_lines texts.0)) c) (joining_by_class class c)) (has_form (form_in_file texts.1 c))

@@ -128,8 +128,10 @@ fn read_joined(alloc: Global, files: Option<JoiningFiles<'_>>) -> Result<JoinedL
 }
 
 impl Tables {
-    /// Reads the bytes of DerivedBidiClass.txt, BidiBrackets.txt and BidiMirroring.txt, and those of ArabicShaping.txt and
-    /// UnicodeData.txt if they are given, in this order, up to the first malformed line. The error of a failed allocation names the file that was being read; its later lines may be unread.
+    /// Reads DerivedBidiClass.txt, BidiBrackets.txt and BidiMirroring.txt, then ArabicShaping.txt and UnicodeData.txt if they
+    /// are given. Stops at the first malformed line.
+    ///
+    /// The error of a failed allocation names the file that was being read; its later lines may be unread.
     pub fn read(
         alloc: Global,
         classes: &[u8],

@@ -28,9 +28,8 @@
 //! if their answers or final states differ. `step` and `play` do one of these alone; `play` looks only at the text, last. `alone`
 //! takes the steps in a session without a world: it has no `W` and `R`, and looks only at a session's own state. Only `alone` has `J`.
 //!
-//! Letters are joined only in a scene with TABLES, which is `joined`, or `joined` and further lines of the tables behind those of the
-//! program's files, `|classes:0041 ; R|joining:0628; BEH; D; BEH` and so on; the other files are `brackets`, `mirroring` and
-//! `characters`.
+//! TABLES turns joined letters on. It is the word `joined`, maybe followed by lines that the scene adds to the program's files:
+//! `joined|classes:0041 ; R|joining:0628; BEH; D; BEH`. The other files are `brackets`, `mirroring` and `characters`.
 //!
 //! The line of answers begins with a letter for each step:
 //!

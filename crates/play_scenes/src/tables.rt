@@ -91,7 +91,7 @@ impl TableFiles {
         }
     }
 
-    /// The tables of all files with the lines of the field TABLES. `number` is that of the scene's line.
+    /// Reads the tables of all files and of the lines that the field TABLES adds. `number` is the scene's line, from 1.
     pub fn with_lines(&self, alloc: Global, field: &str, number: usize) -> Result<Tables, Fault> {
         let mut parts = field.split('|');
         if parts.next() != Some("joined") {
