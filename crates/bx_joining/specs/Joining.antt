@@ -15,21 +15,21 @@ abbrev pub is_transparent : Joining → Bool
 is_transparent T = true
 is_transparent _ = false
 
--- a type that joins what stands before it
+-- a type that joins the character before it
 abbrev pub joins_back : Joining → Bool
 joins_back D = true
 joins_back R = true
 joins_back C = true
 joins_back _ = false
 
--- a type that joins what stands after it
+-- a type that joins the character after it
 abbrev pub joins_on : Joining → Bool
 joins_on D = true
 joins_on L = true
 joins_on C = true
 joins_on _ = false
 
--- the nearest character that is not transparent, if the nearest stands first
+-- the nearest character that is not transparent, in a list from the nearest on
 abbrev pub neighbour : List Joiner → Option Joiner
 neighbour [] = None
 neighbour (x ∷ xs) = elim (is_transparent x.0) [ true ↦ neighbour xs | false ↦ Some x ]
@@ -82,6 +82,6 @@ first_forms zero forms = []
 first_forms (suc n) [] = Isolated ∷ first_forms n []
 first_forms (suc n) (f ∷ fs) = f ∷ first_forms n fs
 
--- the forms of the characters of a text in the body, `number` characters of which stand before it
+-- the forms of the characters of a text in the body, behind `number` characters of the body
 abbrev pub text_forms : Data → List ℕ → List (Option ℕ) → ℕ → List ℕ → List Form
 text_forms says body each number text = first_forms (length (chars text)) (drop number (body_forms says body each))

@@ -28,7 +28,7 @@ impl<'t, 'e> LeveledBody<'t, 'e> {
     }
 }
 
-/// Where a text stands in a body: its offset, and the number of characters before it.
+/// The place of a text in a body: its offset in bytes, and the number of characters before it.
 #[derive(Clone, Copy)]
 pub struct TextAt<'t, 'e> {
     pub body: LeveledBody<'t, 'e>,
@@ -55,14 +55,14 @@ fn is_transparent(joining: Joining) -> bool
     matches!(joining, Joining::T)
 }
 
-/// Whether a character of this type joins what stands before it.
+/// Whether a character of this type joins the character before it.
 fn joins_back(joining: Joining) -> bool
     ensures { result ≡ joins_back joining }
 {
     matches!(joining, Joining::D | Joining::R | Joining::C)
 }
 
-/// Whether a character of this type joins what stands after it.
+/// Whether a character of this type joins the character after it.
 fn joins_on(joining: Joining) -> bool
     ensures { result ≡ joins_on joining }
 {
@@ -146,6 +146,10 @@ fn joins_before<D: BidiData>(own: Joiner, text: &str, levels: &[Level], tables: 
     requires { length levels.now ≡ length (chars text.now) }
     ensures { result ≡ joins_before (reverse (joiners (D.data tables.now) text.now levels.now)) own }
 {
+    // most characters that join nothing are marks, so a cluster of many marks is not read once for each
+    if !joins_back(own.0) {
+        return false;
+    }
     match last_joiner(text, levels, tables) {
         Some(first) => join(first, own),
         None => false,
@@ -156,14 +160,17 @@ fn joins_before<D: BidiData>(own: Joiner, text: &str, levels: &[Level], tables: 
 fn joins_after<D: BidiData>(own: Joiner, text: &str, levels: &[Level], tables: &D) -> bool
     ensures { result ≡ joins_after own (joiners (D.data tables.now) text.now levels.now) }
 {
+    if !joins_on(own.0) {
+        return false;
+    }
     match first_joiner(text, levels, tables) {
         Some(second) => join(own, second),
         None => false,
     }
 }
 
-/// The form of the character at a place of its body. Reads the transparent characters on its two sides and the next
-/// character on each; isolated if the body has no such character.
+/// The form of the character at a place of its body; isolated if the body has no such character. Where the character may
+/// join on a side, reads the transparent characters on that side and the next character.
 fn form_at<D: BidiData>(at: TextAt<'_, '_>, tables: &D) -> Form
     requires boundary { IsCharBoundary at.body.text.now at.offset }
     requires number { at.number ≡ length (chars (take at.offset at.body.text.now)) }
@@ -203,10 +210,6 @@ pub fn shown_form<D: BidiData>(letter: char, at: TextAt<'_, '_>, tables: &D) -> 
     ensures { result ≡ (D.data tables.now).form letter
         (slice_index_or (body_forms (D.data tables.now) at.entry.body.text.now at.entry.body.each.now) at.entry.number Form.Isolated) }
 {
-    // a mark has no form, so a cluster of many marks is not read once for each
-    if !has_form(letter, tables) {
-        return None;
-    }
     tables.form(letter, form_at(at, tables))
 }
 

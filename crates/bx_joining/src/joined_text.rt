@@ -9,8 +9,8 @@ use bx_terms::first_char;
 use bx_ucd::BidiData;
 use std::alloc::{AllocError, Global};
 
-/// The text `shown` with the forms of the letters of `text`, which stands in its body at a place. It has a character for
-/// each of `text`; one whose letter has no such form stays.
+/// The text `shown` in the forms of the letters of `text`, a part of the body at a place. `shown` has a character for each of
+/// `text`, and keeps it where the letter has no such form.
 pub fn joined_image<D: BidiData>(
     alloc: Global,
     text: &str,

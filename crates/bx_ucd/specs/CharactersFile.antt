@@ -13,7 +13,7 @@ use Rattle.bx_ucd.specs.declared.characters_file.FormEntry.{FormEntry}
 abbrev pub semicolon_parts : List ℕ → List (List ℕ)
 semicolon_parts text = slice_split (λ b. b == 0x3B) text
 
--- the words of a text: what stands between blanks and is not empty
+-- the words of a text: its parts between blanks that are not empty
 abbrev pub words : List ℕ → List (List ℕ)
 words text = filter (λ word. nat_lt 0 (length word)) (slice_split is_blank text)
 

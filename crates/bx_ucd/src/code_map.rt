@@ -1,30 +1,34 @@
 //! A map from characters to values.
 
-ghost use Rattle.std.specs.Prelude.{◌≡◌, ℕ, ◌%◌, cond, false, true, None, Some, IfOk, OnOk, length, slice_index_or, vec_len};
+ghost use Rattle.std.specs.Prelude.{◌≡◌, ℕ, ◌%◌, cond, None, Some, IfOk, OnOk, length, slice_index_or, vec_len};
+ghost use Rattle.std.specs.Option.{ForSome};
+ghost use Rattle.std.proofs.Props.{props};
 ghost use Rattle.std.specs.Ordering.{is_eq, nat_cmp};
 ghost use Rattle.std.specs.BTreeMap.{get};
 
 use std::alloc::{AllocError, Global};
 use std::collections::BTreeMap;
 
-/// The modulus of the filter `remainders`. Marks and signs in use rarely share a remainder with Unicode's brackets.
-const REMAINDERS: usize = 8192;
+/// The number of slots. Characters in use rarely share a slot: their codes differ by a multiple of it.
+const SLOTS: usize = 8192;
 
-/// The values of some characters. One test mostly rules out a character that has none.
+/// The values of some characters. One look at a slot mostly gives the value, or rules out that there is one.
 #[derive(Drop)]
 pub struct CodeMap<V: Copy> {
     each: BTreeMap<char, V>,
-    /// For each remainder, whether the code of some character with a value leaves it.
-    remainders: Vec<bool>,
-    ghost complete: { vec_len remainders ≡ 8192 },
-    ghost noted: { (code : ℕ) → slice_index_or remainders.items (code % 8192) true ≡ false → get nat_cmp each code ≡ None },
+    /// For each remainder of codes, the last character with it that was inserted, and its value.
+    slots: Vec<Option<(char, V)>>,
+    ghost complete: { vec_len slots ≡ 8192 },
+    ghost noted: { (code : ℕ) → slice_index_or slots.items (code % 8192) None ≡ None → get nat_cmp each code ≡ None },
+    ghost kept: { (k : ℕ) → ForSome (slice_index_or slots.items k None) (λ s. (s.0 % 8192 ≡ k) × (get nat_cmp each s.0 ≡ Some s.1)) } by { Prim.hlevel props },
 }
 
-/// `count` remainders, none noted.
-fn no_remainders(alloc: Global, count: usize) -> Result<Vec<bool>, AllocError>
-    ensures { IfOk result (λ v. length v.items ≡ count) }
+/// `count` slots without a character.
+fn no_slots<V: Copy>(alloc: Global, count: usize) -> Result<Vec<Option<(char, V)>>, AllocError>
+    ensures count { IfOk result (λ v. length v.items ≡ count) }
+    ensures free { IfOk result (λ v. (k : ℕ) → slice_index_or v.items k None ≡ None) }
 {
-    vec![in alloc; false; count]
+    vec![in alloc; None; count]
 }
 
 impl<V: Copy> CodeMap<V> {
@@ -36,7 +40,7 @@ impl<V: Copy> CodeMap<V> {
     {
         Ok(CodeMap {
             each: BTreeMap::new(alloc),
-            remainders: no_remainders(alloc, REMAINDERS)?,
+            slots: no_slots(alloc, SLOTS)?,
         })
     }
 
@@ -44,8 +48,8 @@ impl<V: Copy> CodeMap<V> {
     pub fn insert(&mut self, c: char, value: V) -> Result<(), AllocError>
         ensures { OnOk result ((code : ℕ) → value_in self.new code ≡ cond (is_eq (nat_cmp c code)) (Some value) (value_in self.old code)) }
     {
-        self.remainders[c as usize % REMAINDERS] = true;
         self.each.insert(c, value)?;
+        self.slots[c as usize % SLOTS] = Some((c, value));
         Ok(())
     }
 
@@ -53,8 +57,9 @@ impl<V: Copy> CodeMap<V> {
     pub fn get(&self, c: char) -> Option<V>
         ensures { result ≡ value_in self.now c }
     {
-        if !self.remainders[c as usize % REMAINDERS] {
-            return None;
+        let (found, value) = self.slots[c as usize % SLOTS]?;
+        if found == c {
+            return Some(value);
         }
         self.each.get(&c).copied()
     }
