@@ -20,7 +20,7 @@ pub struct LeveledBody<'t, 'e> {
 }
 
 impl<'t, 'e> LeveledBody<'t, 'e> {
-    /// The text. A call's result is known to be whole characters, a field is not.
+    /// The text.
     pub fn text(self) -> &'t str
         ensures { result.now ≡ self.entry.text.now }
     {

@@ -51,7 +51,7 @@ are_bare says direction text = list_all (is_bare says direction) (chars text)
 abbrev pub are_unformatted : Data → List ℕ → Bool
 are_unformatted says text = list_all (λ c. is_of_direction Either (says.class c)) (chars text)
 
--- an edit between two texts; all characters of its own texts and of these are bare
+-- an edit between `left` and `right`: no character of the four texts is a bracket or against the direction
 pub record IsBareEdit (says : Data) (direction : Direction) (t : TextEdit) (left right : List ℕ) : Type 0 where
   pub left_is : are_bare says direction left ≡ true
   pub removed_is : are_bare says direction t.removed.now ≡ true

@@ -26,7 +26,7 @@ pub record DoMeet (shift stop : ℕ) (found starts : List RowStart) (last i k : 
   pub old_inside : k < length starts
   pub place : IsSamePlace shift stop (slice_index_or found i origin) (slice_index_or starts k origin)
 
--- such rows, with the found ones well before the end of the first `len` bytes of a text
+-- found and old rows that meet, the found ones more than a window's width before the end of the first `len` bytes
 pub record DoMeetNear (w len shift stop : ℕ) (found starts : List RowStart) (i k : ℕ) : Type 0 where
   pub last : ℕ
   pub well : IsWellBefore w len found last

@@ -1,4 +1,4 @@
--- Levels that the classes of the characters alone tell.
+-- Levels that depend on the characters' classes only.
 use Rattle.std.specs.Prelude.{◌≡◌, ℕ, List, Option, map}
 use Rattle.bx_ucd.specs.Data.{Data}
 use Rattle.bx_ucd.specs.declared.class.Class.{Class}

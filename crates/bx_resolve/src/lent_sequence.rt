@@ -7,7 +7,7 @@ use bx_explicit::ExplicitChar;
 /// A sequence of a paragraph.
 #[derive(Clone, Copy)]
 pub(crate) struct LentSequence<'w> {
-    /// What the explicit rules give each character of the paragraph.
+    /// The explicit rules' result for each character of the paragraph.
     pub(crate) kept: &'w [Option<ExplicitChar>],
     /// The first index of each run of the sequence, in text order.
     pub(crate) firsts: &'w [usize],
@@ -17,7 +17,7 @@ pub(crate) struct LentSequence<'w> {
 /// A level run: the kept characters from `first` on, up to the next one of another level.
 #[derive(Clone, Copy)]
 pub(crate) struct LevelRun<'w> {
-    /// What the explicit rules give each character of the paragraph.
+    /// The explicit rules' result for each character of the paragraph.
     pub(crate) kept: &'w [Option<ExplicitChar>],
     pub(crate) first: usize,
     pub(crate) level: u8,

@@ -8,7 +8,7 @@ use Rattle.bx_cells.specs.Units.{HasFace, StandsIn, unit_chars}
 use Rattle.bx_joining.specs.JoinedText.{AreFormless}
 use Rattle.bx_rows.specs.RowPicture.{Glyph, draw}
 
--- what the tables say, without joined letters
+-- the tables' data with no joining types and no forms
 abbrev pub unjoined : Data → Data
 unjoined says = record says { joining = λ _. U; form = λ _ _. None }
 

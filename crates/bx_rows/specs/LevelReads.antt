@@ -11,7 +11,7 @@ settled paragraph waiting [] = []
 settled paragraph zero (l ∷ ls) = paragraph ∷ settled paragraph zero ls
 settled paragraph (suc waiting) (l ∷ ls) = l ∷ settled paragraph waiting ls
 
--- likewise if the characters that follow trail, else the levels as read
+-- the same if the next characters are trailing whitespace, else the levels as read
 abbrev pub settled_if : Bool → ℕ → ℕ → List ℕ → List ℕ
 settled_if trailing paragraph waiting found = cond trailing (settled paragraph waiting found) found
 
@@ -29,7 +29,7 @@ abbrev pub levels_from : ℕ → List ℕ → ℕ → ℕ → List ℕ → List 
 levels_from paragraph found waiting n counts cs =
     with_levels_behind paragraph (settled_if (only_trailing cs) paragraph waiting found) (unit_levels counts (drop n (l1 paragraph cs)))
 
--- likewise inside a unit with `n` unread characters; the flag tells whether the unit's level is found
+-- the same inside a unit with `n` unread characters; the flag is true if the unit's level is known
 abbrev pub unit_from : Bool → ℕ → List ℕ → ℕ → ℕ → List ℕ → List CharLevel → List ℕ
 unit_from true paragraph found waiting n counts cs = levels_from paragraph found waiting n counts cs
 unit_from false paragraph found waiting n counts cs = levels_from paragraph found waiting 0 (n ∷ counts) cs

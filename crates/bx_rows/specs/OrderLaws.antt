@@ -38,7 +38,7 @@ pub record AreAtLevel (n : ℕ) (levels : List ℕ) (i j : ℕ) : Type 0 where
   pub other : HoldsAt (λ l. l ≡ n) levels j
   pub least : All (λ l. n ≤ l) (between i (j + 1) levels)
 
--- such units keep their order at an even level and swap it at an odd one
+-- two units of one level with no lower level between them keep their order at an even level, and swap it at an odd one
 abbrev pub EqualLevelsOrder : Type 0
 EqualLevelsOrder = (levels : List ℕ) (i j n : ℕ) → i < j → j < length levels → AreAtLevel n levels i j → IsOrderAt n (visual levels) i j
 
@@ -50,7 +50,7 @@ StandsBetween order a k b = (StandsLeft order a k × StandsLeft order k b) ⊎ (
 abbrev pub StaysBetween : Type 0
 StaysBetween = (levels : List ℕ) (i k j n : ℕ) → i < k → k < j → j < length levels → AreAtLevel n levels i j → StandsBetween (visual levels) i k j
 
--- so is a unit of the lowest level from one unit to another
+-- a unit that has the lowest level from one unit to another is also between them in the row
 abbrev pub LowestStaysBetween : Type 0
 LowestStaysBetween = (levels : List ℕ) (i k j n : ℕ) → i < k → k < j → j < length levels → HoldsAt (λ l. l ≡ n) levels k
     → All (λ l. n ≤ l) (between i (j + 1) levels) → StandsBetween (visual levels) i k j

@@ -36,7 +36,7 @@ leveled_glyph says w c level form = glyph (shown_text says w 1 level (form ∷ [
 abbrev pub leveled_glyphs : Data → ℕ → List ℕ → List ℕ → List Form → List Glyph
 leveled_glyphs says w cs levels forms = map (λ (c, at). leveled_glyph says w c at.0 at.1) (zip cs (zip levels forms))
 
--- the same, mirrored alone
+-- the glyphs of characters at their levels, mirrored but not joined
 abbrev pub mirrored_glyph : Data → ℕ → ℕ → ℕ → Glyph
 mirrored_glyph says w c level = glyph (mirrored_text says w 1 level (encode_utf8 c)) 1 false
 
@@ -52,7 +52,7 @@ formed_glyph says w g (Some c) = elim (is_own 1 (face says w (encode_utf8 c))) [
 abbrev pub joined_glyph : Data → ℕ → Glyph → ℕ × (ℕ × Form) → Glyph
 joined_glyph says w g (level, at) = elim (level % 2) [ zero ↦ g | suc _ ↦ formed_glyph says w g (says.form at.0 at.1) ]
 
--- at this level the text is shown as it is mirrored, in whatever form its letter is
+-- at this level no form of its letter changes the text: it is only mirrored
 abbrev pub IsFormless : Data → ℕ → ℕ → List ℕ → Type 0
 IsFormless says w level text = (form : Form) → shown_text says w 1 level (form ∷ []) text ≡ mirrored_text says w 1 level text
 

@@ -1,4 +1,4 @@
--- Where the units of a row stand in its body.
+-- The positions of a row's units in its body.
 use Rattle.std.specs.Prelude.{◌≤◌, ℕ, List, length, take, chars}
 use Rattle.bx_ucd.specs.Data.{Data}
 use Rattle.bx_ucd.specs.declared.joining.Form.{Form}
@@ -7,7 +7,7 @@ use Rattle.bx_joining.specs.Places.{StandsAt}
 use Rattle.bx_rows.specs.RowStarts.{StartsRow}
 use Rattle.bx_rows.specs.declared.glyphs.UnitAt.{UnitAt}
 
--- a text stands at the place, not before its row
+-- the body has the text at this position, at the start of the row or later
 pub record StandsInRow (text : List ℕ) (at : UnitAt) : Type 0 where
   pub row : StartsRow at.row.body.text.now at.row.start
   pub order : at.row.start.offset ≤ at.offset

@@ -5,7 +5,7 @@ use std::borrow::CowStr;
 /// A glyph of a row's picture.
 #[derive(Drop)]
 pub struct Drawn<'a> {
-    /// The text: borrowed from the body, a fixed text, or an owned mirror image.
+    /// The text: borrowed from the body, a fixed text, or an owned one, mirrored or joined.
     pub text: CowStr<'a, Global>,
     /// The columns, at least one.
     pub columns: u16,

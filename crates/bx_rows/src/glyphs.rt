@@ -194,7 +194,7 @@ fn shown_text<'a, D: BidiData>(
     }
 }
 
-/// Where a unit stands: its row, its offset in the body, and its level.
+/// The position of a unit: its row, its offset in the body, and its level.
 #[derive(Clone, Copy)]
 pub(crate) struct UnitAt<'t, 'e> {
     pub(crate) row: RowAt<'t, 'e>,
@@ -202,7 +202,7 @@ pub(crate) struct UnitAt<'t, 'e> {
     pub(crate) level: u8,
 }
 
-/// The face of a unit, its columns, and where it stands.
+/// The face of a unit, its columns, and its position.
 #[derive(Clone, Copy)]
 pub(crate) struct LeveledFace<'t, 'e> {
     pub(crate) face: Face,

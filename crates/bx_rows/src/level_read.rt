@@ -12,7 +12,7 @@ use bx_terms::first_char;
 use bx_ucd::{BidiData, Class};
 use std::alloc::AllocError;
 
-/// Whether L1 resets a character of a class wherever it stands.
+/// Whether L1 resets a character of a class anywhere in a row.
 fn is_segment_separator(class: Class) -> bool
     ensures { result ≡ is_segment_separator class }
 {

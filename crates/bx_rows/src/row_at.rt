@@ -1,4 +1,4 @@
-//! Where a row stands in its body.
+//! The position of a row in its body.
 ghost use Rattle.std.specs.Prelude.{◌≡◌, ◌≤◌, chars, length, take};
 ghost use Rattle.std.specs.Str.{IsCharBoundary};
 ghost use Rattle.bx_rows.specs.RowStarts.{StartsRow};
@@ -7,7 +7,7 @@ use crate::start_search::RowStart;
 use crate::unit_levels::char_count;
 use bx_joining::{LeveledBody, TextAt};
 
-/// A row of a body: where it starts.
+/// A body, and the start of one of its rows.
 #[derive(Clone, Copy)]
 pub(crate) struct RowAt<'t, 'e> {
     pub(crate) body: LeveledBody<'t, 'e>,
@@ -15,7 +15,7 @@ pub(crate) struct RowAt<'t, 'e> {
 }
 
 impl<'t, 'e> RowAt<'t, 'e> {
-    /// The place of a text of the row by its offset.
+    /// The position in the body of a text that begins at `offset`, in this row or later.
     pub(crate) fn text_at(self, offset: usize) -> TextAt<'t, 'e>
         requires starts { StartsRow self.body.text.now self.start }
         requires order { self.start.offset ≤ offset }

@@ -52,7 +52,7 @@ fn first_and_sixth(text: &[u8]) -> Option<(&[u8], &[u8])>
     Some((first, sixth))
 }
 
-/// Reads fifteen fields: the form that the sixth tells, if it tells one.
+/// Reads the form in the sixth of fifteen fields, if there is one.
 fn character_entry(text: &[u8]) -> Result<Option<FormEntry>, Cause>
     ensures { result ≡ character_entry (fields text.now) }
 {

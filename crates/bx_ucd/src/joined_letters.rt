@@ -1,4 +1,4 @@
-//! The joining types and forms of letters, from the two files that tell them.
+//! Joining types and forms of letters, read from two files.
 
 ghost use Rattle.std.specs.Prelude.{◌≡◌, ℕ, IfOk, IfErr, None, false};
 ghost use Rattle.std.specs.Option.{ForSome};
