@@ -11,7 +11,7 @@ use Rattle.std.proofs.lemmas.Bool.{and_parts}
 use Rattle.bx_ucd.specs.Data.{Data}
 use Rattle.bx_terms.specs.Characters.{is_ascii_printable}
 
-all-append : (xs ys : List ℕ) → encode_utf8_all (xs ++ ys) ≡ encode_utf8_all xs ++ encode_utf8_all ys
+pub all-append : (xs ys : List ℕ) → encode_utf8_all (xs ++ ys) ≡ encode_utf8_all xs ++ encode_utf8_all ys
 all-append [] ys = refl
 all-append (x ∷ xs) ys = ap (λ zs. encode_utf8 x ++ zs) (all-append xs ys) ∙ sym (append_assoc (encode_utf8 x) (encode_utf8_all xs) (encode_utf8_all ys))
 

@@ -1,21 +1,27 @@
 -- Examples from each law alone. Where the definition would compute, levels, classes or bodies are left open.
 use Rattle.std.proofs.Common.{◌≡◌, ◌⊎◌, ℕ, suc, ◌+◌, ◌%◌, ◌<◌, ◌≤◌, List, [], ◌∷◌, length, map, drop, get_or, slice_range, true, Option, All}
-use Rattle.std.proofs.Common.{refl, ap, ap₂, subst, ◌∙◌, arith, inl, inr}
-use Rattle.std.specs.Prelude.{IsPermutation, codes, flat_map}
+use Rattle.std.proofs.Common.{refl, sym, ap, ap₂, subst, ◌∙◌, arith, inl, inr}
+use Rattle.std.specs.Prelude.{IsPermutation, None, Some, chars, codes, encode_utf8_all, false, flat_map}
 use Rattle.std.specs.Str.{IsUtf8}
 use Rattle.std.proofs.lemmas.Bool.{cases_eq}
 use Rattle.std.proofs.lemmas.List.Elements.{All-cons, All-nil, All-weaker}
 use Rattle.std.proofs.lemmas.List.Sorted.{length_permutation, sum_by-IsPermutation}
+use Rattle.std.proofs.lemmas.Str.{IsCharBoundary-end, IsCharBoundary-start}
 use Rattle.bx_ucd.specs.Data.{Data}
+use Rattle.bx_ucd.specs.declared.joining.Form.{Form}
+use Rattle.bx_ucd.specs.declared.joining.Joining.{Joining}
 use Rattle.unicode_segmentation.proofs.Computing.{unicode_segmentation}
 use Rattle.unicode_width.proofs.Computing.{unicode_width}
 use Rattle.bx_resolve.specs.TestTables.{small}
 use Rattle.bx_cells.specs.declared.unit.Face.{Face}
 use Rattle.bx_cells.specs.declared.unit.Face.TheVariants.{Tab, Mark, Own}
 use Rattle.bx_cells.specs.declared.unit.Unit.{Unit}
-use Rattle.bx_cells.specs.Units.{unit_text, units}
+use Rattle.bx_cells.specs.Units.{HasFace, StandsIn, unit_chars, unit_text, units}
+use Rattle.bx_cells.proofs.Rest.{chars_encoded}
+use Rattle.bx_joining.specs.JoinedText.{AreFormless}
 use Rattle.bx_rows.specs.declared.row.Row.{Row}
 use Rattle.bx_rows.specs.declared.start_search.RowStart.{RowStart}
+use Rattle.bx_rows.specs.JoiningLaws.{FormlessRowsStay, FormsChangeTextsAlone, IsSameOrForm, LettersShowTheirForms, Place, columns_shown, text_shown}
 use Rattle.bx_rows.specs.Laws.{EndsWell, IsFull, RowsAreOfRest, RowsCutUnits, RowsEndWell, RowsMeetAgain, StandInTurn, UnitsFitWindow, UnitsMakeBody, UnitsStandInTurn}
 use Rattle.bx_rows.specs.OrderLaws.{AreAtLevel, EqualLevelsOrder, IsLowest, LowestLevelsOrder, LowestStaysBetween, OrdersArePermutations, PicturesGoByLevels, PicturesShowUnits}
 use Rattle.bx_rows.specs.OrderLaws.{ShowsLeft, StandsBetween, StandsLeft, StaysBetween}
@@ -258,3 +264,102 @@ marks-turned : PicturesGoByLevels → (says : Data) (body : List ℕ) (each : Li
 marks-turned law says body each paragraph x y n e =
     let s = law says 3 body paragraph each (mark x ∷ mark y ∷ []) (n ∷ n ∷ []) 0 1 n refl (omega arith) (omega arith)
     (first-lowest n (n ∷ []) (and-least n n [] (omega arith) (All-nil (λ x. n ≤ x)))) in s.odd e
+
+-- ---- joined letters
+
+-- the small tables with other joining types and forms
+abbrev with_forms : (ℕ → Joining) → (ℕ → Form → Option ℕ) → Data
+with_forms types forms = record small { joining = types; form = forms }
+
+-- one letter, BEH, in two bytes
+abbrev beh : List ℕ
+beh = encode_utf8_all (0x628 ∷ [])
+
+abbrev beh_unit : Unit
+beh_unit = record { start = 0; stop = 2; face = Own 1 }
+
+abbrev beh_glyph : Glyph
+beh_glyph = glyph beh 1 false
+
+whole-beh : IsUtf8 beh
+unfolding unicode_segmentation unicode_width
+whole-beh = (0x628 ∷ [], (refl, refl))
+
+beh-stands : All (StandsIn beh) (beh_unit ∷ [])
+unfolding unicode_segmentation unicode_width
+beh-stands =
+    All-cons (StandsIn beh) beh_unit [] (omega arith, IsCharBoundary-start beh whole-beh, IsCharBoundary-end beh) (All-nil (StandsIn beh))
+
+beh-face : (types : ℕ → Joining) (forms : ℕ → Form → Option ℕ) → All (HasFace (with_forms types forms) 1 beh) (beh_unit ∷ [])
+unfolding unicode_segmentation unicode_width
+beh-face types forms = let P = HasFace (with_forms types forms) 1 beh in All-cons P beh_unit [] refl (All-nil P)
+
+-- a letter and a control character
+abbrev beh_control : List ℕ
+beh_control = encode_utf8_all (0x628 ∷ 1 ∷ [])
+
+abbrev control : Unit
+control = record { start = 2; stop = 3; face = Mark 63 }
+
+faces-there : (types : ℕ → Joining) (forms : ℕ → Form → Option ℕ) → All (HasFace (with_forms types forms) 3 beh_control) (beh_unit ∷ control ∷ [])
+unfolding unicode_segmentation unicode_width
+faces-there types forms =
+    let P = HasFace (with_forms types forms) 3 beh_control in All-cons P beh_unit (control ∷ []) refl (All-cons P control [] refl (All-nil P))
+
+-- a column in negative image for the control character, one for the letter, and a blank, whatever the types and forms
+columns-stay : FormsChangeTextsAlone → (types : ℕ → Joining) (forms : ℕ → Form → Option ℕ)
+    → columns_shown (draw (with_forms types forms) 3 beh_control 0 (Some 1 ∷ Some 1 ∷ []) (beh_unit ∷ control ∷ []) (1 ∷ 1 ∷ []))
+    ≡ true ∷ false ∷ false ∷ []
+unfolding unicode_segmentation unicode_width
+columns-stay law types forms =
+    law (with_forms types forms) 3 beh_control 0 (Some 1 ∷ Some 1 ∷ []) (beh_unit ∷ control ∷ []) (1 ∷ 1 ∷ []) (faces-there types forms)
+
+-- a letter without forms is shown as itself, whatever the types and other letters' forms
+letter-stays : FormlessRowsStay → (types : ℕ → Joining) (forms : ℕ → Form → Option ℕ) → ((f : Form) → forms 0x628 f ≡ None)
+    → draw (with_forms types forms) 2 beh 0 (Some 1 ∷ []) (beh_unit ∷ []) (1 ∷ []) ≡ beh_glyph ∷ blank ∷ []
+unfolding unicode_segmentation unicode_width
+letter-stays law types forms none =
+    let says = with_forms types forms in
+    let formless : AreFormless says (0x628 ∷ []) =
+    All-cons (λ c. (f : Form) → forms c f ≡ None) 0x628 [] none (All-nil (λ c. (f : Form) → forms c f ≡ None)) in
+    law says 2 beh 0 (Some 1 ∷ []) (beh_unit ∷ []) (1 ∷ []) whole-beh beh-stands
+    (All-cons (λ u. AreFormless says (unit_chars beh u)) beh_unit [] formless (All-nil (λ u. AreFormless says (unit_chars beh u))))
+
+-- the text of a row of the letter
+abbrev beh_shown : (ℕ → Joining) → (ℕ → Form → Option ℕ) → List ℕ
+beh_shown types forms = text_shown (draw (with_forms types forms) 1 beh 0 (Some 1 ∷ []) (beh_unit ∷ []) (1 ∷ []))
+
+-- a form of the letter
+record FormOfBeh (forms : ℕ → Form → Option ℕ) (text : List ℕ) : Type 0 where
+  form : Form
+  shown : ℕ
+  is_form : forms 0x628 form ≡ Some shown
+  text_is : text ≡ encode_utf8_all (shown ∷ [])
+
+-- characters are determined by their text
+characters : (cs : List ℕ) → beh ≡ encode_utf8_all cs → cs ≡ 0x628 ∷ []
+unfolding unicode_segmentation unicode_width
+characters cs e = sym (chars_encoded cs (subst IsUtf8 e whole-beh)) ∙ ap chars (sym e)
+
+one-place : (types : ℕ → Joining) (forms : ℕ → Form → Option ℕ) (text : List ℕ) (ps : List Place) → map (λ p. p.letter) ps ≡ 0x628 ∷ []
+    → map (λ p. p.unjoined) ps ≡ 0x628 ∷ [] → text ≡ encode_utf8_all (map (λ p. p.shown) ps) → All (IsSameOrForm (with_forms types forms)) ps
+    → (text ≡ beh) ⊎ FormOfBeh forms text
+one-place types forms text [] e u t a = absurd (cc e)
+one-place types forms text (p ∷ []) e u t a =
+    let letter : p.letter ≡ 0x628 = ap (λ cs. get_or cs 0 0) e in
+    let unjoined : p.unjoined ≡ 0x628 = ap (λ cs. get_or cs 0 0) u in
+    elim (a 0 p (omega arith)) as (λ _. (text ≡ beh) ⊎ FormOfBeh forms text) [
+      | inl same ↦ inl (t ∙ ap (λ c. encode_utf8_all (c ∷ [])) (same ∙ unjoined))
+      | inr found ↦ inr (record { form = found.0; shown = p.shown; is_form = ap (λ c. forms c found.0) (sym letter) ∙ found.1; text_is = t })
+    ]
+one-place types forms text (p ∷ q ∷ ps) e u t a = absurd (let many : suc (suc (length (map (λ p. p.letter) ps))) ≡ 1 = ap length e in omega (arith, many))
+
+-- a letter is shown as itself or as one of its own forms, whatever the types and forms
+one-letter : LettersShowTheirForms → (types : ℕ → Joining) (forms : ℕ → Form → Option ℕ)
+    → (beh_shown types forms ≡ beh) ⊎ FormOfBeh forms (beh_shown types forms)
+unfolding unicode_segmentation unicode_width
+one-letter law types forms =
+    let says = with_forms types forms in
+    let s = law says 1 beh 0 (Some 1 ∷ []) (beh_unit ∷ []) (1 ∷ []) whole-beh beh-stands (beh-face types forms) in
+    one-place types forms (beh_shown types forms) s.places (characters (map (λ p. p.letter) s.places) s.letters_are)
+    (characters (map (λ p. p.unjoined) s.places) s.unjoined_are) s.shown_are s.each

@@ -135,7 +135,7 @@ choose : (b : Bool) (t m : List ℕ) → elim b as (λ _. Glyph) [ true ↦ glyp
 choose true t m = refl
 choose false t m = refl
 
-same-either : (b : Bool) (x y : List ℕ) → x ≡ y → elim b as (λ _. List ℕ) [ true ↦ x | false ↦ y ] ≡ y
+pub same-either : (b : Bool) (x y : List ℕ) → x ≡ y → elim b as (λ _. List ℕ) [ true ↦ x | false ↦ y ] ≡ y
 same-either true x y e = e
 same-either false x y e = refl
 
@@ -144,7 +144,7 @@ either-level : (odd : ℕ) (text x y : List ℕ) → x ≡ y
 either-level zero text x y e = refl
 either-level (suc k) text x y e = e
 
-whole-mirrored : (b : Bool) (others cs text : List ℕ) → encode_utf8_all cs ≡ text
+pub whole-mirrored : (b : Bool) (others cs text : List ℕ) → encode_utf8_all cs ≡ text
     → encode_utf8_all (elim b as (λ _. List ℕ) [ true ↦ others | false ↦ cs ]) ≡ elim b as (λ _. List ℕ) [ true ↦ encode_utf8_all others | false ↦ text ]
 whole-mirrored true others cs text e = refl
 whole-mirrored false others cs text e = e

@@ -31,6 +31,7 @@ pub mod PlainPictures
 mod Examples
 mod JoiningExamples
 pub mod JoinedColumns
+pub mod LetterForms
 mod LawExamples
 pub mod Unmirrored
 pub mod PlainRows

@@ -35,24 +35,24 @@ in-run n run (x ∷ xs) us a =
     high n run x (xs ++ us) (All-head (λ u. n ≤ u.1) x xs a) ∙ in-run n (x ∷ run) xs us (All-tail (λ u. n ≤ u.1) x xs a)
     ∙ ap (λ zs. reverse_runs n zs us) (sym turned)
 
--- the run so far is contiguous, and a unit moved in front of it is in the run too
-record Kept (m n : ℕ) (run us all : List (ℕ × ℕ)) : Type 0 where
+-- the run is contiguous in all units, and each unit moved in front of it is in the run too
+record ContiguousRun (m n : ℕ) (run us all : List (ℕ × ℕ)) : Type 0 where
   front : List (ℕ × ℕ)
   back : List (ℕ × ℕ)
   all_is : all ≡ front ++ (run ++ back)
   in_run : AtLeast n front
   behind : AtLeast m us → AtLeast m back
 
-kept : (m n : ℕ) (run us : List (ℕ × ℕ)) → Kept m n run us (reverse_runs n run us)
-kept m n run [] = record {
+contiguous-run : (m n : ℕ) (run us : List (ℕ × ℕ)) → ContiguousRun m n run us (reverse_runs n run us)
+contiguous-run m n run [] = record {
   front = [];
   back = [];
   all_is = sym (append-nil run);
   in_run = All-nil (λ u. n ≤ u.1);
   behind = λ a. All-nil (λ u. m ≤ u.1);
 }
-kept m n run (u ∷ us) =
-    elim (cases_lt u.1 n) as (λ _. Kept m n run (u ∷ us) (reverse_runs n run (u ∷ us))) [
+contiguous-run m n run (u ∷ us) =
+    elim (cases_lt u.1 n) as (λ _. ContiguousRun m n run (u ∷ us) (reverse_runs n run (u ∷ us))) [
       | inl l ↦ record {
         front = [];
         back = u ∷ reverse_runs n [] us;
@@ -61,7 +61,7 @@ kept m n run (u ∷ us) =
         behind = λ a. All-cons (λ x. m ≤ x.1) u (reverse_runs n [] us) (All-head (λ x. m ≤ x.1) u us a)
             (all-runs (λ x. m ≤ x.1) n [] us (All-nil (λ x. m ≤ x.1)) (All-tail (λ x. m ≤ x.1) u us a));
       }
-      | inr l ↦ let k = kept m n (u ∷ run) us in record {
+      | inr l ↦ let k = contiguous-run m n (u ∷ run) us in record {
         front = k.front ++ (u ∷ []);
         back = k.back;
         all_is = high n run u us l ∙ k.all_is ∙ sym (append_assoc k.front (u ∷ []) (run ++ k.back));
@@ -92,7 +92,7 @@ to-unit : (m n : ℕ) (run middle : List (ℕ × ℕ)) (v : ℕ × ℕ) (back : 
 to-unit m n run [] v back h r a =
     elim (cases_lt v.1 n) as (λ _. Front m v (reverse_runs n run (v ∷ back))) [
       | inl l ↦ record { before = run; rest = reverse_runs n [] back; us_is = low n run v back l; least = r }
-      | inr l ↦ let k = kept m n (v ∷ run) back in
+      | inr l ↦ let k = contiguous-run m n (v ∷ run) back in
           record { before = k.front; rest = run ++ k.back; us_is = high n run v back l ∙ k.all_is; least = lower m n k.front h k.in_run }
     ]
 to-unit m n run (y ∷ middle) v back h r a =
@@ -119,7 +119,7 @@ from-unit m n run [] u middle h r a =
         us_is = low n run u middle l;
         least = all-runs (λ x. m ≤ x.1) n [] middle (All-nil (λ x. m ≤ x.1)) a;
       }
-      | inr l ↦ let k = kept m n (u ∷ run) middle in record {
+      | inr l ↦ let k = contiguous-run m n (u ∷ run) middle in record {
         before = k.front;
         rest = run ++ k.back;
         us_is = high n run u middle l ∙ k.all_is;
@@ -245,7 +245,7 @@ record Turned (xs us : List (ℕ × ℕ)) : Type 0 where
 
 turned-run : (n : ℕ) (run front xs back : List (ℕ × ℕ)) → AtLeast n xs → Turned xs (reverse_runs n run (front ++ (xs ++ back)))
 turned-run n run [] xs back a =
-    let k = kept 0 n (reverse xs ++ run) back in
+    let k = contiguous-run 0 n (reverse xs ++ run) back in
     record {
       front = k.front;
       back = run ++ k.back;

@@ -1,7 +1,7 @@
 //! Laws of units, rows, visual order and pictures. The functions are empty: their contracts are the laws.
 
 ghost use Rattle.bx_rows.specs.Laws.{RowsAreOfRest, RowsCutUnits, RowsEndWell, RowsMeetAgain, UnitsFitWindow, UnitsMakeBody, UnitsStandInTurn};
-ghost use Rattle.bx_rows.specs.JoiningLaws.{FormlessRowsStay, FormsChangeTextsAlone};
+ghost use Rattle.bx_rows.specs.JoiningLaws.{FormlessRowsStay, FormsChangeTextsAlone, LettersShowTheirForms};
 ghost use Rattle.bx_rows.specs.OrderLaws.{EqualLevelsOrder, LowestLevelsOrder, LowestStaysBetween, OrdersArePermutations, PicturesGoByLevels, PicturesShowUnits, StaysBetween};
 
 /// The units of a body joined are the body: they are adjacent from its start to its end. Each fits in the window.
@@ -41,10 +41,12 @@ pub fn pictures_show_units()
     ensures order { PicturesGoByLevels }
 {}
 
-/// Joined letters change the texts of a picture's glyphs alone, and none where no letter has a form.
+/// Joined letters change the texts of a picture's glyphs alone, and none where no letter has a form. Each character that
+/// differs is a form of the letter in its place.
 pub fn forms_change_texts_alone()
     ensures alone { FormsChangeTextsAlone }
     ensures formless { FormlessRowsStay }
+    ensures letters { LettersShowTheirForms }
 {}
 
 /// From any row on, the rows of a body are those of the rest of the body, taken as a body of its own.

@@ -1,4 +1,5 @@
 use Rattle.bx_rows.proofs.JoinedColumns.{rows_stay, texts_alone}
+use Rattle.bx_rows.proofs.LetterForms.{letters_show_forms}
 use Rattle.bx_rows.proofs.laws.forms_change_texts_alone.Goals as goal
 
 pub returns-clause-alone : goal.returns-clause-alone
@@ -6,3 +7,6 @@ returns-clause-alone c = texts_alone
 
 pub returns-clause-formless : goal.returns-clause-formless
 returns-clause-formless c = rows_stay
+
+pub returns-clause-letters : goal.returns-clause-letters
+returns-clause-letters c = letters_show_forms
