@@ -1,8 +1,8 @@
 #!/bin/sh
 # check-joined-rows.sh [ROWS]: prints texts with joined letters by bidi_print, and compares the rows: with those of ROWS, with the
-# output of fribidi for lines of words, and for each letter those by the tables of data/ with those by Unicode's own files. It also
-# plays the scenes of scripts/joined by the tables of data/, and compares the answers. It is not part of `rt ci`. Exit status 1: a row differs; 77: something is missing (no ROWS, python3, fribidi, word list or
-# unicode-data), and all else agrees.
+# output of fribidi for lines of words, and for each letter those by the tables of data/ with those by Unicode's own files. It is
+# not part of `rt ci`, which plays scenes with joined letters (crates/play_scenes/stdin). Exit status 1: a row differs; 77:
+# something is missing (no ROWS, python3, fribidi, word list or unicode-data), and all else agrees.
 #
 # ROWS is a file of rows from an independent source, made with Unicode's five files. A line has fields with tabs between: the
 # body, its characters in hexadecimal; the direction; two ignored fields; what each unit is shown as; and the row of 500 columns
@@ -226,15 +226,6 @@ else:
 sys.exit(1 if failed else 77 if skipped else 0)
 END
 data=$top/data
-find_built play_scenes
-"$program" "$data/DerivedBidiClass.txt" "$data/BidiBrackets.txt" "$data/BidiMirroring.txt" "$data/ArabicShaping.txt" \
-    "$data/UnicodeData.txt" <"$top/scripts/joined/scenes" >"$folder/answers"
-if ! cmp -s "$folder/answers" "$top/scripts/joined/answers"; then
-    diff "$top/scripts/joined/answers" "$folder/answers" || :
-    echo 'FAILS a scene has other answers'
-    exit 1
-fi
-echo "scenes by Unicode's letters: $(wc -l <"$folder/answers") have their answers"
 find_built bidi_print
 cd "$folder"
 python3 joined_rows.py "$program" "$data" "$rows"
