@@ -21,46 +21,8 @@ data=$top/data
 scratch=$(mktemp -d)
 trap 'rm -rf "$scratch"' EXIT
 
-# Prints a line for each code: class, bracket, mirror, joining type, and the isolated, initial, medial and final form. A data
-# line takes precedence over @missing, and a later line over an earlier one of its kind; without any the class is L.
-answers() {
-    awk -F';' '
-        function number(code,  i, n) {
-            n = 0
-            for (i = 1; i <= length(code); i++) n = n * 16 + index("123456789ABCDEF", toupper(substr(code, i, 1)))
-            return n
-        }
-        BEGIN {
-            count = split("<isolated> <initial> <medial> <final>", tag, " ")
-            for (i = 1; i <= count; i++) kind[tag[i]] = i
-        }
-        FNR == 1 { file += 1 }
-        { sub(/\r$/, ""); missing = 0 }
-        file == 1 && sub(/^[ \t]*#[ \t]*@missing:/, "") { missing = 1 }
-        { sub(/#.*/, "") }
-        file == 5 {
-            if (split($6, word, " ") == 2 && word[1] in kind) form[kind[word[1]], number(word[2])] = number($1)
-            next
-        }
-        { gsub(/[ \t]/, "") }
-        $0 == "" { next }
-        { parts = split($1, ends, "[.][.]"); first = number(ends[1]); last = number(ends[parts]) }
-        file == 1 && missing { for (code = first; code <= last; code++) missed[code] = $2; next }
-        file == 1 { for (code = first; code <= last; code++) class[code] = $2; next }
-        file == 2 { bracket[first] = $3 number($2); next }
-        file == 3 { mirror[first] = number($2); next }
-        { joining[first] = $3 }
-        END {
-            short["Left_To_Right"] = "L"; short["Right_To_Left"] = "R"; short["Arabic_Letter"] = "AL"
-            short["European_Terminator"] = "ET"; short["Boundary_Neutral"] = "BN"; short["Other_Neutral"] = "ON"
-            for (code = 0; code <= 1114111; code++) {
-                found = code in class ? class[code] : code in missed ? missed[code] : "L"
-                print code, (found in short ? short[found] : found), bracket[code], mirror[code], joining[code],
-                    form[1, code] "," form[2, code] "," form[3, code] "," form[4, code]
-            }
-        }
-    ' "$@"
-}
+# shellcheck source=scripts/unicode_answers.sh
+. "$top/scripts/unicode_answers.sh"
 
 answers "$classes" "$folder/BidiBrackets.txt" "$folder/BidiMirroring.txt" "$folder/ArabicShaping.txt" "$folder/UnicodeData.txt" >"$scratch/unicode"
 answers "$data/DerivedBidiClass.txt" "$data/BidiBrackets.txt" "$data/BidiMirroring.txt" "$data/ArabicShaping.txt" "$data/UnicodeData.txt" >"$scratch/data"
