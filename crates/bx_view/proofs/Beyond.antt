@@ -2,10 +2,7 @@
 use Rattle.std.proofs.Common.{◌≡◌, ℕ, suc, ◌+◌, ◌-◌, ◌<◌, List, length, Option, Some, None, IsUtf8, sym, ap, ap₂, ◌∙◌, arith}
 use Rattle.std.proofs.lemmas.Option.{slice_get-get_or, slice_get_past}
 use Rattle.bx_ucd.specs.Data.{Data}
-use Rattle.bx_paragraph.specs.declared.moves.Visual.{Visual}
-use Rattle.bx_paragraph.specs.declared.moves.Visual.TheVariants.{Left, Right}
-use Rattle.bx_paragraph.specs.BodyRows.{BodyRow}
-use Rattle.bx_paragraph.specs.Slots.{reading_end, reading_start, reads_on}
+use Rattle.bx_paragraph.specs.Slots.{reading_end, reading_start}
 use Rattle.bx_view.specs.declared.row_at.RowAt.{RowAt}
 use Rattle.bx_view.specs.FoundRow.{StandsOn, rows_by}
 use Rattle.bx_view.specs.Holding.{Keeps, ViewState}
@@ -13,11 +10,6 @@ use Rattle.bx_view.specs.Moves.{end_of, place_in, row_after, row_before, start_o
 use Rattle.bx_view.specs.TextRows.{TextRow, no_text_row, row_at, text_rows}
 use Rattle.bx_paragraph.proofs.Starts.{side-some}
 use Rattle.bx_view.proofs.Walking.{row-within}
-
--- whether a side is the one that a row is read on depends on its paragraph's level alone
-pub reads-same : (side : Visual) (r s : BodyRow) → r.paragraph ≡ s.paragraph → reads_on side r ≡ reads_on side s
-reads-same Right r s e = ap (λ p. reads_on Right (record r { paragraph = p })) e
-reads-same Left r s e = ap (λ p. reads_on Left (record r { paragraph = p })) e
 
 before-at : (rows : List TextRow) (n m : ℕ) → n ≡ suc m → m < length rows → row_before rows n ≡ Some (row_at rows m)
 before-at rows n m e h = ap (row_before rows) e ∙ slice_get-get_or rows m no_text_row h

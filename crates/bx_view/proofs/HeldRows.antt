@@ -1,29 +1,23 @@
 -- The rows of a held paragraph as rows of the text.
-use Rattle.std.proofs.Common.{◌≡◌, ℕ, ◌+◌, ◌-◌, ◌<◌, ◌≤◌, Bool, true, List, length}
-use Rattle.std.proofs.Common.{reverse, find, get_or, nat_le, Option, Some, None, option_map, IsUtf8, IsCharBoundary}
+use Rattle.std.proofs.Common.{◌≡◌, ℕ, ◌+◌, ◌-◌, ◌<◌, ◌≤◌, true, List, length}
+use Rattle.std.proofs.Common.{get_or, IsUtf8, IsCharBoundary}
 use Rattle.std.proofs.Common.{refl, sym, ap, ap₂, subst, ◌∙◌, arith}
-use Rattle.std.specs.Prelude.{All, IfSome, map}
 use Rattle.bx_ucd.specs.Data.{Data}
 use Rattle.bx_terms.specs.Sizes.{is_side}
 use Rattle.bx_text.specs.Edits.{IsRange}
 use Rattle.bx_paras.specs.Paragraphs.{lengths}
 use Rattle.bx_paras.specs.Positions.{paragraph_of}
-use Rattle.bx_paragraph.specs.BodyRows.{body_rows, first_of, last_of, offsets_of}
+use Rattle.bx_paragraph.specs.BodyRows.{body_rows, first_of}
 use Rattle.bx_paragraph.specs.BodyRows.{row_at as row_at_body, row_of as row_of_body}
 use Rattle.bx_paragraph.specs.Layout.{LayoutState, row_by, rows_by}
-use Rattle.bx_paragraph.specs.declared.moves.Visual.{Visual}
-use Rattle.bx_paragraph.specs.Slots.{beside, column_of, entry, reading_end, reading_start, row_slots}
-use Rattle.bx_paragraph.specs.declared.slot.Slot.{Slot}
 use Rattle.bx_paragraph.proofs.Starts.{row_count, side-some}
 use Rattle.bx_view.specs.declared.row_at.RowAt.{RowAt}
 use Rattle.bx_view.specs.FoundRow.{StandsOn}
 use Rattle.bx_view.specs.Holding.{HoldsBody, IsHeld, IsOfText, IsViewBy, Keeps, ViewState}
 use Rattle.bx_view.specs.Moves.{row_home}
 use Rattle.bx_view.specs.Standing.{IsRow, body_at, count, rows_in, start_at}
-use Rattle.bx_view.specs.TextRows.{TextRow, cell_of, first, row_at, row_of, text_row, text_rows}
-use Rattle.bx_view.proofs.Numbers.{body-range, body-utf8}
-use Rattle.bx_view.proofs.Within.{Lies, LiesIn, Within, slots-fit, beside-fits, body-row-lies}
-use Rattle.bx_view.proofs.Within.{end-fits, entry-fits, find-lies, last-fits, start-fits, within-reverse}
+use Rattle.bx_view.specs.TextRows.{TextRow, first, row_at, row_of, text_row, text_rows}
+use Rattle.bx_view.proofs.Numbers.{body-range}
 use Rattle.bx_view.proofs.Walking.{before-over, before-some, first-short, next-none, next-over, row-is, row-under}
 
 module _ (says : Data) where
@@ -121,12 +115,6 @@ module _ (says : Data) where
       (utf8 : IsUtf8 text) (on : StandsOn says v text at (row_of (of v text) place)) (is : IsOfText says v text at.paragraph l) where
     here : row_at (of v text) (row_of (of v text) place) ≡ text_row at.start (row_by says l at.row)
     here = row-in-text v text at (row_of (of v text) place) l utf8 on is
-
-    pub cell-in-text : (c : ℕ) → c ≡ column_of l.w (row_by says l at.row) (place - at.start) → c ≡ cell_of old.w (of old text) place
-    cell-in-text c e =
-        e ∙ ap (λ w. column_of w (row_by says l at.row) (place - at.start)) is.w_is
-        ∙ sym (ap (λ (r : TextRow). column_of v.w r.row (place - r.start)) here)
-        ∙ ap₂ (λ b w. cell_of w (text_rows says b w text) place) keeps.base keeps.w
 
     pub home-in-text : (o : ℕ) → o ≡ first_of (row_by says l at.row) → at.start + o ≡ row_home (of old text) place
     home-in-text o e =

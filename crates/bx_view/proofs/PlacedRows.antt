@@ -18,10 +18,10 @@ module _ {D : Type 0} {g : Ghosts D} (s : PlacedRow D g) where
   abbrev body_length : ℕ
   body_length = length s.row.paragraph.now.body
 
-  abbrev Low : ℕ → Type 0
+  abbrev pub Low : ℕ → Type 0
   Low o = o ≤ body_length
 
-  lies : LiesIn Low (columns s) (row s.row)
+  pub lies : LiesIn Low (columns s) (row s.row)
   lies =
       let l = s.row.paragraph.now in
       let says = g.data s.row.tables.now in

@@ -1,11 +1,11 @@
 //! Rows of the text, and the places of one.
-ghost use Rattle.std.specs.Prelude.{◌≡◌, ◌+◌, ◌-◌, ◌≤◌, [], true, IfOk, IfSome};
+ghost use Rattle.std.specs.Prelude.{◌≡◌, ◌+◌, ◌-◌, ◌≤◌, IfOk, IfSome};
 ghost use Rattle.bx_text.specs.Edits.{largest_text};
 ghost use Rattle.bx_paragraph.specs.BodyRows.{last_of};
 ghost use Rattle.bx_paragraph.specs.Slots.{beside, reading_end, reading_start, reads_on};
 ghost use Rattle.bx_view.specs.Moves.{entry_in, place_in, row_end};
 ghost use Rattle.bx_view.specs.PlacedRow.{columns, placed};
-ghost use Rattle.bx_view.specs.Source.{IsViewBy, Keeps, OfRow, Stands, rows};
+ghost use Rattle.bx_view.specs.Source.{IsOfText, IsViewBy, Keeps, OfRow, Stands, rows};
 ghost use Rattle.bx_view.specs.TextRows.{first};
 
 use crate::error::ViewError;
@@ -26,6 +26,9 @@ impl Layout {
         requires row { Stands source.now self.now at }
         ensures start { result.start ≡ at.start }
         ensures columns { columns result ≡ self.now.w }
+        ensures number { result.row.number ≡ at.row }
+        ensures tables { result.row.tables.now ≡ source.now.tables.now }
+        ensures paragraph { IsOfText source.now self.now at.paragraph result.row.paragraph.now }
         ensures row { OfRow source.now self.now at (λ r. placed result ≡ r) }
     {
         let paragraph = self.paragraph(source, at.paragraph, at.held);
@@ -64,13 +67,6 @@ impl Layout {
         let end = self.row(source, at).last()?;
         Ok(end)
     }
-}
-
-/// Whether a side is the reading direction of a paragraph of a level: right for an even level, left for an odd one.
-fn is_read_on(side: Visual, level: u8) -> bool
-    ensures { result ≡ reads_on side (record { body = []; paragraph = level; each = []; units = []; levels = []; is_last = true }) }
-{
-    side == reading_side(level)
 }
 
 impl<'a, 't, D: BidiData> PlacedRow<'a, 't, D> {
@@ -128,9 +124,10 @@ impl<'a, 't, D: BidiData> PlacedRow<'a, 't, D> {
     }
 
     /// Whether a side is the row's reading direction.
+    #[tactic(auto, using(bx_paragraph::proofs::LayoutRows::row_level))]
     pub(crate) fn reads_on(&self, side: Visual) -> bool
         ensures { result ≡ reads_on side (placed self.now).row }
     {
-        is_read_on(side, self.row.paragraph.level())
+        side == reading_side(self.row.paragraph.level())
     }
 }

@@ -10,7 +10,6 @@ use crate::error::ViewError;
 use crate::layout::Layout;
 use crate::row_at::RowAt;
 use crate::source::Source;
-use bx_paragraph::LentRow;
 use bx_ucd::BidiData;
 
 /// The position of a place. All fields count from 1.
@@ -41,17 +40,12 @@ impl Layout {
     {
         // proof only: the number of paragraphs is within its limit
         let _count = source.index.count();
-        let paragraph = self.paragraph(source, at.paragraph, at.held);
-        let row = LentRow {
-            paragraph,
-            tables: source.tables,
-            number: at.row,
-        };
+        let row = self.row(source, at).row;
         let standing = row.standing(place - at.start)?;
         Ok(Position {
             column: standing.column,
             paragraph: at.paragraph + 1,
-            unit: paragraph.units_ahead(at.row) + standing.units_before + 1,
+            unit: row.paragraph.units_ahead(at.row) + standing.units_before + 1,
         })
     }
 }

@@ -11,7 +11,6 @@ use crate::error::ViewError;
 use crate::layout::Layout;
 use crate::row_at::RowAt;
 use crate::source::Source;
-use bx_paragraph::LentRow;
 use bx_rows::RowPicture;
 use bx_ucd::BidiData;
 
@@ -31,13 +30,7 @@ impl Layout {
         ensures widths { IfOk result (λ p. All (λ g. run_width (cow_str_bytes g.text) ≡ g.columns) p.glyphs.items) }
         ensures columns { IfOk result (λ p. sum_by (λ g. g.columns) p.glyphs.items ≡ self.now.w) }
     {
-        let paragraph = self.paragraph(source, at.paragraph, at.held);
-        let row = LentRow {
-            paragraph,
-            tables: source.tables,
-            number: at.row,
-        };
-        let picture = row.picture()?;
+        let picture = self.row(source, at).row.picture()?;
         Ok(picture)
     }
 

@@ -7,7 +7,7 @@ use crate::error::ViewError;
 use crate::layout::Layout;
 use crate::row_at::RowAt;
 use crate::source::Source;
-use bx_paragraph::{LentRow, Slot};
+use bx_paragraph::Slot;
 use bx_ucd::BidiData;
 
 /// Keeps the slots of units that begin from `start` up to `stop`, offsets of the body.
@@ -31,18 +31,13 @@ impl Layout {
         requires row { Stands source.now self.now at }
         ensures { OfRow source.now self.now at (λ r. IfOk result (λ v. v.items ≡ slots_in self.now.w part r)) }
     {
-        let paragraph = self.paragraph(source, at.paragraph, at.held);
-        let start = part.0.saturating_sub(at.start);
-        let stop = part.1.saturating_sub(at.start);
-        if start >= stop || paragraph.body().len() < start {
+        let row = self.row(source, at);
+        let start = part.0.saturating_sub(row.start);
+        let stop = part.1.saturating_sub(row.start);
+        if start >= stop || row.row.paragraph.body().len() < start {
             return Ok(Vec::new(*self.held.allocator()));
         }
-        let row = LentRow {
-            paragraph,
-            tables: source.tables,
-            number: at.row,
-        };
-        let mut slots = row.slots()?;
+        let mut slots = row.row.slots()?;
         keep_in(&mut slots, start, stop);
         Ok(slots)
     }

@@ -1,49 +1,47 @@
-use Rattle.std.proofs.Common.{◌+◌, ◌∙◌, ap, arith, refl}
-use Rattle.bx_view.specs.Holding.{Keeps}
-use Rattle.bx_view.proofs.HeldRows.{cell-in-text, row-counted, row-own}
+use Rattle.std.proofs.Common.{◌+◌, ◌-◌, ◌∙◌, ap, ap₂, arith, nat_lt, sym}
+use Rattle.std.specs.Prelude.{count_by}
+use Rattle.bx_paragraph.specs.Layout.{row_by}
+use Rattle.bx_paragraph.specs.LentRow.{row}
+use Rattle.bx_paragraph.specs.Slots.{column_of}
+use Rattle.bx_view.specs.PlacedRow.{columns}
 use Rattle.bx_view.proofs.UnitNumbers.{number-short, number-counted}
 use Rattle.bx_view.proofs.layout.Layout.position.Goals as goal
 
 pub overflow_add-result-2 : goal.overflow_add-result-2
 overflow_add-result-2 g c =
-    let says = g.D.BidiData.data c.args.source.now.tables.now in
-    let text = c.args.source.now.text.now.edited.text in
-    let utf8 = c.args.source.now.utf8 in
-    let l = c.paragraph-paragraph.result.now in
-    let is = c.paragraph-paragraph.ensures in
-    let on = c.requires.row in
-    let most = number-short says c.args.self.now text c.args.place c.args.at.paragraph c.args.at.start l utf8 c.requires.paragraph on.start_is is
-    c.args.at.row (row-counted says c.args.self.now text c.args.at _ l utf8 on is)
-    (row-own says c.args.self.now text c.args.place c.args.at l utf8 c.requires.paragraph on is) in
-    omega (arith, most, c.units_ahead.ensures, c.in_ok-standing.ensures.units, c.args.source.now.short)
+    let source = c.args.source.now in
+    let s = c.row.result.row in
+    let units = c.in_ok-standing.ensures.units
+    ∙ ap₂ (λ t k. count_by (λ u. nat_lt u.start (c.args.place - c.args.at.start)) (row_by (g.D.BidiData.data t) s.paragraph.now k).units)
+    c.row.ensures.tables c.row.ensures.number in
+    let most = number-short (g.D.BidiData.data source.tables.now) c.args.self.now source.text.now.edited.text c.args.place c.args.at s.paragraph.now
+    source.utf8 c.requires.paragraph c.requires.row c.row.ensures.paragraph in
+    omega (arith, most, c.units_ahead.ensures, units, source.short)
 
 pub overflow_add-result-3 : goal.overflow_add-result-3
 overflow_add-result-3 g c =
-    let says = g.D.BidiData.data c.args.source.now.tables.now in
-    let text = c.args.source.now.text.now.edited.text in
-    let utf8 = c.args.source.now.utf8 in
-    let l = c.paragraph-paragraph.result.now in
-    let is = c.paragraph-paragraph.ensures in
-    let on = c.requires.row in
-    let most = number-short says c.args.self.now text c.args.place c.args.at.paragraph c.args.at.start l utf8 c.requires.paragraph on.start_is is
-    c.args.at.row (row-counted says c.args.self.now text c.args.at _ l utf8 on is)
-    (row-own says c.args.self.now text c.args.place c.args.at l utf8 c.requires.paragraph on is) in
-    omega (arith, most, c.units_ahead.ensures, c.in_ok-standing.ensures.units, c.args.source.now.short)
+    let source = c.args.source.now in
+    let s = c.row.result.row in
+    let units = c.in_ok-standing.ensures.units
+    ∙ ap₂ (λ t k. count_by (λ u. nat_lt u.start (c.args.place - c.args.at.start)) (row_by (g.D.BidiData.data t) s.paragraph.now k).units)
+    c.row.ensures.tables c.row.ensures.number in
+    let most = number-short (g.D.BidiData.data source.tables.now) c.args.self.now source.text.now.edited.text c.args.place c.args.at s.paragraph.now
+    source.utf8 c.requires.paragraph c.requires.row c.row.ensures.paragraph in
+    omega (arith, most, c.units_ahead.ensures, units, source.short)
 
 pub returns : goal.returns
 returns g c =
-    let says = g.D.BidiData.data c.args.source.now.tables.now in
-    let text = c.args.source.now.text.now.edited.text in
-    let utf8 = c.args.source.now.utf8 in
-    let v = c.args.self.now in
-    let l = c.paragraph-paragraph.result.now in
-    let is = c.paragraph-paragraph.ensures in
-    let on = c.requires.row in
-    let keeps : Keeps says v v = record { base = refl; w = refl; held = on.by } in
-    let counted = number-counted says v text c.args.place c.args.at.paragraph c.args.at.start l utf8 c.requires.paragraph on.start_is is
-    c.args.at.row (row-counted says v text c.args.at _ l utf8 on is) (row-own says v text c.args.place c.args.at l utf8 c.requires.paragraph on is) in
+    let source = c.args.source.now in
+    let s = c.row.result.row in
+    let units = c.in_ok-standing.ensures.units
+    ∙ ap₂ (λ t k. count_by (λ u. nat_lt u.start (c.args.place - c.args.at.start)) (row_by (g.D.BidiData.data t) s.paragraph.now k).units)
+    c.row.ensures.tables c.row.ensures.number in
     record {
-      column = cell-in-text says v v text c.args.place c.args.at l keeps utf8 on is _ c.in_ok-standing.ensures.column;
+      column = c.in_ok-standing.ensures.column
+          ∙ ap (λ a. column_of (columns c.row.result) (row s) (c.args.place - a)) (sym c.row.ensures.start)
+          ∙ ap₂ (λ w r. column_of w r.row (c.args.place - r.start)) c.row.ensures.columns (c.row.ensures.row _ c.requires.row);
       paragraph = ap (λ k. k + 1) c.requires.paragraph;
-      unit = omega (arith, c.units_ahead.ensures, c.in_ok-standing.ensures.units) ∙ counted;
+      unit = omega (arith, c.units_ahead.ensures, units)
+          ∙ number-counted (g.D.BidiData.data source.tables.now) c.args.self.now source.text.now.edited.text c.args.place c.args.at s.paragraph.now
+          source.utf8 c.requires.paragraph c.requires.row c.row.ensures.paragraph;
     }

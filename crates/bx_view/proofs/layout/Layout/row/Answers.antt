@@ -1,6 +1,5 @@
-use Rattle.std.proofs.Common.{◌+◌, ◌≤◌, ◌∙◌, IsUtf8, ap, arith, length, subst, sym}
+use Rattle.std.proofs.Common.{◌∙◌, IsUtf8, ap, arith, length, subst, sym}
 use Rattle.bx_terms.specs.Sizes.{is_side}
-use Rattle.bx_text.specs.Edits.{largest_text}
 use Rattle.bx_view.proofs.HeldRows.{high-fits, of-row}
 use Rattle.bx_view.proofs.Numbers.{body-utf8}
 use Rattle.bx_view.proofs.layout.Layout.row.Goals as goal

@@ -1,4 +1,4 @@
-use Rattle.std.proofs.Common.{◌∙◌, ◌-◌, ap, find, nat_le, nat_lt, option_map, reverse, ◌+◌}
+use Rattle.std.proofs.Common.{◌∙◌, ◌-◌, ap, find, nat_le, reverse}
 use Rattle.bx_paragraph.specs.BodyRows.{offsets_of}
 use Rattle.bx_paragraph.specs.LentRow.{row}
 use Rattle.bx_view.proofs.FindPlaces.{moved-at-most}
