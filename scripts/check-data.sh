@@ -1,9 +1,8 @@
 #!/bin/sh
-# Compares data/ with Unicode's five files, from Debian's package unicode-data or from the folder named after it: the class,
-# bracket, mirror, joining type and forms of each of the 1,114,112 codes. The awk program below reads the files; if
-# crates/ucd_lookup is built, so does the editor's reader, for the first three of every character (check-joined-rows.sh prints
-# each letter's forms by both). data/ must contain nothing but facts. Exit status 1: something differs; 77: Unicode's files are
-# missing, or only the editor's reader is not built and all else agrees.
+# check-data.sh [FOLDER]: compares data/ with Unicode's five files, from Debian's package unicode-data or from FOLDER: the class,
+# bracket, mirror, joining type and forms of each of the 1,114,112 codes. The awk program of unicode_answers.sh reads the files; if
+# crates/ucd_lookup is built, so does the editor's reader, for every character. data/ must contain nothing but facts. Exit status
+# 1: something differs; 77: Unicode's files are missing, or only the editor's reader is not built and all else agrees.
 set -eu
 export LC_ALL=C
 
@@ -47,8 +46,10 @@ if [ ! -x "$lookup" ]; then
 fi
 # surrogates are no characters
 awk 'BEGIN { for (code = 0; code <= 1114111; code++) if (code < 55296 || code > 57343) printf "%04X\n", code }' >"$scratch/codes"
-xargs "$lookup" "$classes" "$folder/BidiBrackets.txt" "$folder/BidiMirroring.txt" <"$scratch/codes" >"$scratch/unicode"
-xargs "$lookup" "$data/DerivedBidiClass.txt" "$data/BidiBrackets.txt" "$data/BidiMirroring.txt" <"$scratch/codes" >"$scratch/data"
+xargs "$lookup" --joining "$folder/ArabicShaping.txt" "$folder/UnicodeData.txt" "$classes" "$folder/BidiBrackets.txt" \
+    "$folder/BidiMirroring.txt" <"$scratch/codes" >"$scratch/unicode"
+xargs "$lookup" --joining "$data/ArabicShaping.txt" "$data/UnicodeData.txt" "$data/DerivedBidiClass.txt" "$data/BidiBrackets.txt" \
+    "$data/BidiMirroring.txt" <"$scratch/codes" >"$scratch/data"
 [ "$(wc -l <"$scratch/unicode")" = 1112064 ]
 cmp "$scratch/unicode" "$scratch/data"
 echo "data: the editor's reader agrees for 1112064 characters"
