@@ -3,12 +3,11 @@ pub mod CopiedRows
 pub mod RowGlyphs
 pub mod Fitting
 pub mod QueryGlyphs
-pub mod RowsDrawn
 pub mod TurnedWhere
 pub mod RegionColumns
-pub mod RegionRows
+pub mod TurnedSlots
 pub mod RegionRow
-pub mod RegionLaid
+pub mod RowsDrawn
 pub mod CellColumns
 pub mod TouchedPlace
 pub mod TouchedSpan
@@ -18,4 +17,3 @@ pub mod PlacesKept
 pub mod PlacesMoved
 pub mod ShownTop
 pub mod FoundOffsets
-pub mod RegionShown

@@ -1,5 +1,5 @@
 -- The glyphs of a text, and of a query after it.
-use Rattle.std.proofs.Common.{◌≡◌, ℕ, true, List, ◌++◌, map, sym, subst, ap, ap₂, ◌∙◌}
+use Rattle.std.proofs.Common.{◌≡◌, ℕ, List, ◌++◌, map, sym, subst, ap, ap₂, ◌∙◌}
 use Rattle.std.specs.Prelude.{All}
 use Rattle.std.proofs.lemmas.List.{map-append}
 use Rattle.std.proofs.lemmas.List.Elements.{All-append}

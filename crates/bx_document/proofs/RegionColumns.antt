@@ -1,5 +1,5 @@
 -- The columns of a row with a region, as the slots of its units are turned one after another.
-use Rattle.std.proofs.Common.{◌≡◌, ℕ, zero, suc, ◌+◌, ◌-◌, ◌%◌, ◌<◌, ◌≤◌, Bool, true, false, ◌&&◌, nat_le, nat_lt, List, [], ◌∷◌, ◌++◌, length, map}
+use Rattle.std.proofs.Common.{◌≡◌, ℕ, zero, suc, ◌+◌, ◌-◌, ◌%◌, ◌<◌, ◌≤◌, Bool, true, false, ◌&&◌, nat_lt, List, [], ◌∷◌, ◌++◌, length, map}
 use Rattle.std.proofs.Common.{get_or, find, cond, Option, Some, None, option_map, refl, sym, ap, ap₂, subst, ◌∙◌, append_assoc, append-nil, length-append, arith}
 use Rattle.std.specs.Prelude.{All, filter}
 use Rattle.std.proofs.Math.Path.{fun_ext}
@@ -17,9 +17,8 @@ use Rattle.bx_rows.specs.RowPicture.{Glyph, unit_columns}
 use Rattle.bx_rows.specs.VisualOrder.{visual}
 use Rattle.bx_rows.proofs.PictureLaws.{columns_of_glyphs}
 use Rattle.bx_paragraph.specs.declared.slot.Slot.{Slot}
-use Rattle.bx_paragraph.specs.Slots.{covering, covering_in, covers, end_slot, extent_of, left_column, side_by_side as slots_beside, slot, unit_slots}
+use Rattle.bx_paragraph.specs.Slots.{covering_in, covers, end_slot, extent_of, left_column, side_by_side as slots_beside, slot, unit_slots}
 use Rattle.bx_ucd.specs.Data.{Data}
-use Rattle.bx_view.specs.Moves.{place_in}
 use Rattle.bx_view.specs.TextParts.{is_covered, is_in, is_some_in, slots_in}
 use Rattle.bx_view.specs.TextRows.{TextRow, text_row_glyphs}
 use Rattle.bx_view.proofs.GlyphCells.{HasFaces}
@@ -32,7 +31,7 @@ use Rattle.bx_document.proofs.TurnedWhere.{differ, in-slot, low-slot, no-columns
 
 -- ---- borders between glyphs
 
-pub length-side : (gs : List Glyph) → length (side_by_side gs) ≡ columns_of_glyphs gs
+length-side : (gs : List Glyph) → length (side_by_side gs) ≡ columns_of_glyphs gs
 length-side [] = refl
 length-side (g ∷ gs) =
     let one : length (glyph_columns g.text g.columns g.negative) ≡ g.columns = length-glyph g.text g.columns 0 g.columns g.negative in
@@ -218,21 +217,3 @@ module _ (says : Data) (w : ℕ) (r : TextRow) (levels : HasLevels r.row) (faces
       slots-turned (slots_in w part r) (row_columns says w r) spans
       ∙ ap (λ ss. turned_where (odd ss) 1 (row_columns says w r)) units-kept
       ∙ ap (λ p. turned_where p 1 (row_columns says w r)) (fun_ext covered)
-
--- ---- an empty region
-
-out-of : (part : ℕ × ℕ) (o : ℕ) → part.1 ≤ part.0 → (b : Bool) → nat_le part.0 o ≡ b → is_in part o ≡ false
-out-of part o h true e =
-    let low : part.0 ≤ o = grind (arith, nat_tests) in
-    let past : nat_lt o part.1 ≡ false = let high : part.1 ≤ o = omega (arith, low, h) in grind (arith, nat_tests) in
-    ap₂ (λ a b. a && b) e past
-out-of part o h false e = ap (λ a. a && nat_lt o part.1) e
-
-none-in : (part : ℕ × ℕ) (o : Option ℕ) → part.1 ≤ part.0 → is_some_in part o ≡ false
-none-in part None h = refl
-none-in part (Some o) h = out-of part o h (nat_le part.0 o) refl
-
-pub none-turned : (says : Data) (w : ℕ) (part : ℕ × ℕ) (r : TextRow) → part.1 ≤ part.0 → region_columns says w part r ≡ row_columns says w r
-none-turned says w part r h =
-    ap (λ p. turned_where p 1 (row_columns says w r)) (fun_ext (λ j. none-in part (place_in r (covering w r.row j)) h))
-    ∙ where-no 1 (row_columns says w r)

@@ -1,4 +1,4 @@
--- Rows of text, put one below another into a grid.
+-- Rows of text with a region, put one below another into a grid.
 use Rattle.std.proofs.Common.{◌≡◌, ℕ, ◌+◌, ◌-◌, ◌*◌, ◌<◌, ◌≤◌, List, [], ◌∷◌, ◌++◌, length, take, drop, replicate, get_or, sym, ap, subst, ◌∙◌}
 use Rattle.std.proofs.Common.{arith, append_assoc, length-append, length-drop, take_all, IsUtf8}
 use Rattle.std.specs.Prelude.{flat_map}
@@ -16,7 +16,10 @@ use Rattle.bx_paragraph.proofs.Starts.{side-some}
 use Rattle.bx_view.proofs.HeldRows.{rows-kept}
 use Rattle.bx_view.proofs.Walking.{row-within}
 use Rattle.bx_ucd.specs.Data.{Data}
-use Rattle.bx_document.specs.Drawing.{row_columns, rows_columns, with_rows}
+use Rattle.bx_document.specs.Drawing.{row_columns, with_rows}
+use Rattle.bx_document.specs.Region.{region_columns, region_rows}
+use Rattle.bx_document.proofs.TurnedSlots.{put-over}
+use Rattle.bx_document.proofs.TurnedWhere.{length-where}
 
 -- columns written at the end of the first ones
 put_behind : (front rest news : List Col) (k : ℕ) → length front ≡ k → paste (front ++ rest) k news ≡ front ++ (news ++ drop (length news) rest)
@@ -77,12 +80,12 @@ module _ (old : GridState) (cols : TextRow → List Col) (rows : List TextRow) w
         }
 
 -- blank rows after them
-pub all-drawn : (d : Data) (old mid : GridState) (w : ℕ) (rows : List TextRow) (n count : ℕ) (new : GridState) → old.width ≡ w → n ≤ count
-    → n ≡ length (take count rows) → take n rows ≡ take count rows → AreDrawn old (row_columns d w) rows n mid
+pub all-drawn : (d : Data) (region : ℕ × ℕ) (old mid : GridState) (w : ℕ) (rows : List TextRow) (n count : ℕ) (new : GridState) → old.width ≡ w
+    → n ≤ count → n ≡ length (take count rows) → take n rows ≡ take count rows → AreDrawn old (region_columns d w region) rows n mid
     → new ≡ with_rows mid n (replicate ((count - n) * mid.width) blank)
-    → new ≡ record old { columns = rows_columns d w count (take count rows) ++ drop (count * old.width) old.columns }
-all-drawn d old mid w rows n count new width few e same is step =
-    let cols = row_columns d w in
+    → new ≡ record old { columns = region_rows d w region count (take count rows) ++ drop (count * old.width) old.columns }
+all-drawn d region old mid w rows n count new width few e same is step =
+    let cols = region_columns d w region in
     let shown = take count rows in
     let left = count - n in
     let blanks = replicate (left * mid.width) blank in
@@ -101,52 +104,41 @@ all-drawn d old mid w rows n count new width few e same is step =
     (sym (append_assoc (flat_map cols shown) (replicate ((count - length shown) * w) blank) (drop (count * old.width) old.columns)))
 
 -- the text has `count` rows
-pub count-drawn : (d : Data) (old : GridState) (w : ℕ) (rows : List TextRow) (count : ℕ) (new : GridState) → count ≤ length rows
-    → AreDrawn old (row_columns d w) rows count new
-    → new ≡ record old { columns = rows_columns d w count (take count rows) ++ drop (count * old.width) old.columns }
-count-drawn d old w rows count new many is =
+pub count-drawn : (d : Data) (region : ℕ × ℕ) (old : GridState) (w : ℕ) (rows : List TextRow) (count : ℕ) (new : GridState) → count ≤ length rows
+    → AreDrawn old (region_columns d w region) rows count new
+    → new ≡ record old { columns = region_rows d w region count (take count rows) ++ drop (count * old.width) old.columns }
+count-drawn d region old w rows count new many is =
     let shown = take count rows in
     let whole : (count - length shown) * w ≡ 0 =
     let all : count - length shown ≡ 0 = omega (arith, length-take-le count rows many) in
     ap (λ k. k * w) all ∙ (let none : 0 * w ≡ 0 = omega arith in none) in
     is.grid
     ∙ ap (λ cs. record old { columns = cs ++ drop (count * old.width) old.columns })
-    (sym (append-nil (flat_map (row_columns d w) shown)) ∙ ap (λ k. flat_map (row_columns d w) shown ++ replicate k blank) (sym whole))
+    (sym (append-nil (flat_map (region_columns d w region) shown))
+    ∙ ap (λ k. flat_map (region_columns d w region) shown ++ replicate k blank) (sym whole))
 
 -- the text has fewer rows
-pub rest-drawn : (d : Data) (old mid : GridState) (w : ℕ) (rows : List TextRow) (n count : ℕ) (new : GridState) → old.width ≡ w
-    → n ≤ count → n ≡ length rows → AreDrawn old (row_columns d w) rows n mid
+pub rest-drawn : (d : Data) (region : ℕ × ℕ) (old mid : GridState) (w : ℕ) (rows : List TextRow) (n count : ℕ) (new : GridState) → old.width ≡ w
+    → n ≤ count → n ≡ length rows → AreDrawn old (region_columns d w region) rows n mid
     → new ≡ with_rows mid n (replicate ((count - n) * mid.width) blank)
-    → new ≡ record old { columns = rows_columns d w count (take count rows) ++ drop (count * old.width) old.columns }
-rest-drawn d old mid w rows n count new width few e is step =
+    → new ≡ record old { columns = region_rows d w region count (take count rows) ++ drop (count * old.width) old.columns }
+rest-drawn d region old mid w rows n count new width few e is step =
     let whole : take count rows ≡ rows = take_all count rows (omega (arith, e, few)) in
-    all-drawn d old mid w rows n count new width few (e ∙ ap length (sym whole)) (take_all n rows (omega (arith, e)) ∙ sym whole) is step
+    all-drawn d region old mid w rows n count new width few (e ∙ ap length (sym whole)) (take_all n rows (omega (arith, e)) ∙ sym whole) is step
 
 -- ---- as the rows of a text are found
 
 module _ (says : Data) (old : ViewState) (text : List ℕ) (utf8 : IsUtf8 text) (was : GridState)
-    (width : was.width ≡ old.w) (k : ℕ) where
+    (width : was.width ≡ old.w) (region : ℕ × ℕ) (k : ℕ) where
   abbrev pub rows : List TextRow
   rows = rows_by says old text
 
   abbrev cols : TextRow → List Col
-  cols r = row_columns says old.w r
+  cols r = region_columns says old.w region r
 
   -- the rows from number `k` on; the first `n` are drawn
   abbrev pub Drawn : ℕ → GridState → Type 0
   Drawn n grid = AreDrawn was cols (drop k rows) n grid
-
-  pub inside : (at : RowAt) (n : ℕ) → StandsOn says old text at n → n < length rows
-  inside at n on = row-within says old.base old.w (side-some old.w on.side) text utf8 at.paragraph at.row n on.is
-
-  pub first-one : (at : RowAt) (new : GridState) → StandsOn says old text at k → length (cols (row_at rows k)) ≡ old.w
-      → new ≡ with_rows was 0 (cols (row_at rows k)) → Drawn 1 new
-  first-one at new on wide step =
-      let within = inside at k on in
-      let start : row_at rows k ≡ get_or (drop k rows) 0 no_text_row =
-      let same : k ≡ k + 0 = omega arith in ap (row_at rows) same ∙ sym (get_or-drop k rows 0 no_text_row) in
-      next-drawn was cols (drop k rows) 0 was (none-drawn was cols (drop k rows)) (row_at rows k) new
-      (omega (arith, within, length-drop k rows)) start (wide ∙ sym width) step
 
   -- with a later state of the layout
   module _ (v : ViewState) (keeps : Keeps says old v) where
@@ -158,25 +150,31 @@ module _ (says : Data) (old : ViewState) (text : List ℕ) (utf8 : IsUtf8 text) 
         let within = row-within says v.base v.w (side-some v.w on.side) text utf8 at.paragraph at.row n on.is in
         omega (arith, within, ap length kept)
 
-    pub one-more : (at : RowAt) (n : ℕ) (mid new : GridState) → StandsOn says v text at (k + n) → Drawn n mid
+    -- one more row is put, and its region's columns are turned
+    pub one-more : (at : RowAt) (n : ℕ) (mid put new : GridState) → StandsOn says v text at (k + n) → Drawn n mid
+        → length mid.columns ≡ mid.height * mid.width → n < mid.height
         → length (row_columns says v.w (row_at (rows_by says v text) (k + n))) ≡ v.w
-        → new ≡ with_rows mid n (row_columns says v.w (row_at (rows_by says v text) (k + n))) → Drawn (n + 1) new
-    one-more at n mid new on is wide step =
+        → put ≡ with_rows mid n (row_columns says v.w (row_at (rows_by says v text) (k + n)))
+        → new ≡ with_rows put n (region_columns says v.w region (row_at (rows_by says v text) (k + n))) → Drawn (n + 1) new
+    one-more at n mid put new on is size below filled first second =
         let r = row_at (rows_by says v text) (k + n) in
         let within = inside-kept at (k + n) on in
-        let same : row_columns says v.w r ≡ cols r = ap (λ w. row_columns says w r) keeps.w in
+        let wide : v.w ≡ mid.width = keeps.w ∙ sym width ∙ sym (width-is was cols (drop k rows) n mid is) in
+        let turned : length (region_columns says v.w region r) ≡ v.w = length-where _ 1 (row_columns says v.w r) ∙ filled in
+        let same : region_columns says v.w region r ≡ cols r = ap (λ w. region_columns says w region r) keeps.w in
         let here : r ≡ get_or (drop k rows) n no_text_row = ap (λ rs. row_at rs (k + n)) kept ∙ sym (get_or-drop k rows n no_text_row) in
+        let step = put-over mid n size below (row_columns says v.w r) (region_columns says v.w region r) put new (filled ∙ wide) (turned ∙ wide) first second in
         next-drawn was cols (drop k rows) n mid is r new (omega (arith, within, length-drop k rows)) here
-        (ap length (sym same) ∙ wide ∙ keeps.w ∙ sym width) (step ∙ ap (with_rows mid n) same)
+        (ap length (sym same) ∙ turned ∙ keeps.w ∙ sym width) (step ∙ ap (with_rows mid n) same)
 
   abbrev Whole : ℕ → GridState → Type 0
-  Whole count grid = grid ≡ record was { columns = rows_columns says old.w count (take count (drop k rows)) ++ drop (count * was.width) was.columns }
+  Whole count grid = grid ≡ record was { columns = region_rows says old.w region count (take count (drop k rows)) ++ drop (count * was.width) was.columns }
 
   pub whole-count : (n count : ℕ) (grid : GridState) → n ≡ count → k + n ≤ length rows → Drawn n grid → Whole count grid
   whole-count n count grid e some is =
-      count-drawn says was old.w (drop k rows) count grid (omega (arith, e, some, length-drop k rows)) (subst (λ m. Drawn m grid) e is)
+      count-drawn says region was old.w (drop k rows) count grid (omega (arith, e, some, length-drop k rows)) (subst (λ m. Drawn m grid) e is)
 
   pub whole-rest : (n count : ℕ) (mid grid : GridState) → k + n ≡ length rows → n ≤ count → Drawn n mid
       → grid ≡ with_rows mid n (replicate ((count - n) * mid.width) blank) → Whole count grid
   whole-rest n count mid grid e few is step =
-      rest-drawn says was mid old.w (drop k rows) n count grid width few (omega (arith, e, length-drop k rows)) is step
+      rest-drawn says region was mid old.w (drop k rows) n count grid width few (omega (arith, e, length-drop k rows)) is step

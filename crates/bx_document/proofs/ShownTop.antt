@@ -11,7 +11,8 @@ use Rattle.bx_paragraph.proofs.Starts.{side-some}
 use Rattle.bx_view.proofs.HeldRows.{rows-kept}
 use Rattle.bx_view.proofs.Walking.{row-within, rows-rise}
 use Rattle.bx_ucd.specs.Data.{Data}
-use Rattle.bx_document.specs.Drawing.{IsAmong, rows_columns}
+use Rattle.bx_document.specs.Drawing.{IsAmong}
+use Rattle.bx_document.specs.Region.{region_rows}
 
 module _ (says : Data) (old v : ViewState) (text : List ℕ) (utf8 : IsUtf8 text)
     (keeps : Keeps says old v) (at : RowAt) (top place t begin above : ℕ)
@@ -48,14 +49,14 @@ module _ (says : Data) (old v : ViewState) (text : List ℕ) (utf8 : IsUtf8 text
   pub among : above < t → IsAmong all begin place t
   among few = record { above = omega (arith, sum, own); below = omega (arith, sum, own, few) }
 
-  pub drawn-told : (was grid : GridState) (count : ℕ)
+  pub drawn-told : (was grid : GridState) (region : ℕ × ℕ) (count : ℕ)
       → grid ≡ record was {
-        columns = rows_columns says v.w count (take count (drop k (rows_by says v text))) ++ drop (count * was.width) was.columns;
+        columns = region_rows says v.w region count (take count (drop k (rows_by says v text))) ++ drop (count * was.width) was.columns;
       }
-      → grid ≡ record was { columns = rows_columns says old.w count (shown_rows all begin count) ++ drop (count * was.width) was.columns }
-  drawn-told was grid count e =
+      → grid ≡ record was { columns = region_rows says old.w region count (shown_rows all begin count) ++ drop (count * was.width) was.columns }
+  drawn-told was grid region count e =
       let rest = drop (count * was.width) was.columns in
       e
-      ∙ ap (λ w. record was { columns = rows_columns says w count (take count (drop k (rows_by says v text))) ++ rest }) keeps.w
-      ∙ ap (λ rs. record was { columns = rows_columns says old.w count (take count (drop k rs)) ++ rest }) same
-      ∙ ap (λ m. record was { columns = rows_columns says old.w count (take count (drop m all)) ++ rest }) (sym own)
+      ∙ ap (λ w. record was { columns = region_rows says w region count (take count (drop k (rows_by says v text))) ++ rest }) keeps.w
+      ∙ ap (λ rs. record was { columns = region_rows says old.w region count (take count (drop k rs)) ++ rest }) same
+      ∙ ap (λ m. record was { columns = region_rows says old.w region count (take count (drop m all)) ++ rest }) (sym own)

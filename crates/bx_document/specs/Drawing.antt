@@ -1,6 +1,6 @@
--- The columns of rows of text, and rows placed in a grid.
-use Rattle.std.specs.Prelude.{ℕ, ◌+◌, ◌-◌, ◌*◌, ◌≤◌, ◌<◌, List, ◌++◌, flat_map, length, replicate}
-use Rattle.bx_grid.specs.Columns.{Col, blank, glyph_columns, paste}
+-- The columns of a row of text, and rows placed in a grid.
+use Rattle.std.specs.Prelude.{ℕ, ◌+◌, ◌*◌, ◌≤◌, ◌<◌, List, flat_map}
+use Rattle.bx_grid.specs.Columns.{Col, glyph_columns, paste}
 use Rattle.bx_grid.specs.Picture.{GridState}
 use Rattle.bx_paragraph.specs.BodyRows.{BodyRow, row_glyphs}
 use Rattle.bx_rows.specs.RowPicture.{Glyph}
@@ -18,10 +18,6 @@ body_row_columns d width r = side_by_side (row_glyphs d width r)
 -- the columns of a row of text
 abbrev pub row_columns : Data → ℕ → TextRow → List Col
 row_columns d width r = body_row_columns d width r.row
-
--- the columns of `count` rows: the shown rows of text, then blank rows
-abbrev pub rows_columns : Data → ℕ → ℕ → List TextRow → List Col
-rows_columns d width count shown = flat_map (row_columns d width) shown ++ replicate ((count - length shown) * width) blank
 
 -- the row of `place` is one of the `count` rows from the row of the offset `top` on
 pub record IsAmong (rows : List TextRow) (top place count : ℕ) : Type 0 where

@@ -1,54 +1,68 @@
-//! Drawing consecutive rows of a text into a grid.
+//! Drawing consecutive rows of a text into a grid, with a region.
 ghost use Rattle.std.specs.Prelude.{◌≡◌, ℕ, ◌<◌, ◌≤◌, ◌++◌, ◌*◌, OnOk, drop, take};
 ghost use Rattle.bx_view.specs.Source.{Keeps, Stands, StandsOn, rows};
 ghost use Rattle.bx_document.specs.Cache.{AreDrawnBy};
-ghost use Rattle.bx_document.specs.Drawing.{rows_columns};
+ghost use Rattle.bx_document.specs.Region.{region_rows};
 
+use crate::region::turn_row;
 use crate::row_cache::RowCache;
 use bx_grid::Grid;
 use bx_terms::OutOfMemory;
 use bx_ucd::BidiData;
 use bx_view::{Layout, RowAt, Source};
 
-/// Fills the first `count` rows of a grid with the text's rows from `at` on, and with blank rows past the text's end.
+/// The rows to draw.
+#[derive(Clone, Copy)]
+pub(crate) struct Page {
+    /// The number of rows.
+    pub(crate) count: u16,
+    /// The offsets of the region's start and end.
+    pub(crate) region: (usize, usize),
+}
+
+/// Fills the first rows of a grid, a page of them, with the text's rows from `at` on, and with blank rows past the text's
+/// end. The columns of units that begin in the region are in the other rendition.
 ///
-/// Errors: `OutOfMemory`.
+/// Errors: `OutOfMemory`; some of the rows may be drawn.
 pub(crate) fn draw_rows<D: BidiData>(
     layout: &mut Layout,
     source: &Source<'_, D>,
     at: RowAt,
     grid: &mut Grid,
-    count: u16,
+    page: Page,
     cache: &mut RowCache,
 ) -> Result<(), OutOfMemory>
     requires row { Stands source.now layout.old at }
-    requires some { 0 < count }
-    requires inside { count ≤ grid.old.height }
+    requires some { 0 < page.count }
+    requires inside { page.count ≤ grid.old.height }
     requires width { grid.old.width ≡ layout.old.w }
     requires cache { AreDrawnBy (D.data source.now.tables.now) cache.old }
     ensures keeps { Keeps source.now layout.old layout.new }
     ensures drawn { (k : ℕ) → StandsOn source.now layout.old at k → OnOk result
         (grid.new ≡ record grid.old {
-          columns = rows_columns (D.data source.now.tables.now) layout.old.w count (take count (drop k (rows source.now layout.old)))
-              ++ drop (count * grid.old.width) grid.old.columns;
+          columns = region_rows (D.data source.now.tables.now) layout.old.w page.region page.count
+              (take page.count (drop k (rows source.now layout.old)))
+              ++ drop (page.count * grid.old.width) grid.old.columns;
         }) }
     ensures cache { AreDrawnBy (D.data source.now.tables.now) cache.new }
 {
-    // proof only: the number of the grid's columns
-    let _columns = grid.columns();
-    cache.begin(count);
-    cache.put_row(layout, source, at, grid, 0)?;
+    cache.begin(page.count);
     let mut walk = layout.walk_from(source, at);
     let mut here = at;
     let mut row = 0;
-    while row + 1 < count {
+    'rows: loop {
+        // proof only: the number of the grid's columns
+        let _columns = grid.columns();
+        cache.put_row(layout, source, here, grid, row)?;
+        turn_row(layout, source, here, grid, row, page.region)?;
+        row += 1;
+        if row == page.count {
+            return Ok(());
+        }
         let Some(next) = layout.next_row_along(source, &mut walk, here)? else {
-            grid.blank_rows(row + 1, count);
+            grid.blank_rows(row, page.count);
             return Ok(());
         };
         here = next;
-        row += 1;
-        cache.put_row(layout, source, here, grid, row)?;
     }
-    Ok(())
 }

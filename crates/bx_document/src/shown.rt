@@ -7,8 +7,7 @@ ghost use Rattle.bx_document.specs.Drawing.{IsAmong};
 ghost use Rattle.bx_document.specs.Shown.{rows_above, shown_columns};
 
 use crate::document::Document;
-use crate::drawn_rows::draw_rows;
-use crate::region::lay_region;
+use crate::drawn_rows::{Page, draw_rows};
 use bx_grid::Grid;
 use bx_terms::OutOfMemory;
 use bx_ucd::BidiData;
@@ -55,10 +54,9 @@ impl<D: BidiData + Drop> Document<D> {
             (rows (D.data self.old.tables) self.old.document) place s.position) }
         ensures inside { IfOk result (λ s. (1 ≤ s.position.column) × (s.position.column ≤ self.old.document.w)) }
     {
-        // proof only: the text is UTF-8, the width is within its limits, and the number of the grid's columns
+        // proof only: the text is UTF-8, and the width is within its limits
         let _utf8 = self.text.len();
         let _side = self.layout.width();
-        let _columns = grid.columns();
         let source = Source {
             text: &self.text,
             index: &self.index,
@@ -71,12 +69,9 @@ impl<D: BidiData + Drop> Document<D> {
             &source,
             located.top,
             grid,
-            count,
+            Page { count, region },
             &mut self.row_cache,
         )?;
-        // proof only: the number is unchanged
-        let _columns = grid.columns();
-        lay_region(&mut self.layout, &source, first, grid, count, region)?;
         Ok(Shown {
             top: first,
             row: located.above as u16,

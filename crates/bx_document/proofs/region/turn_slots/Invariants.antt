@@ -1,4 +1,4 @@
-use Rattle.bx_document.proofs.RegionRows.{AreTurned}
+use Rattle.bx_document.proofs.TurnedSlots.{AreTurned}
 use Rattle.bx_document.proofs.region.turn_slots.Given as goal
 
 abbrev pub invariant-loop-slot : goal.invariant-loop-slot

@@ -1,15 +1,12 @@
-use Rattle.std.proofs.Common.{◌≡◌, ◌≤◌, ◌*◌, ◌∙◌, ◌++◌, ap, drop, subst, sym}
-use Rattle.bx_grid.specs.Picture.{GridState}
+use Rattle.std.proofs.Common.{◌≡◌, ◌≤◌, ◌*◌, ◌++◌, ap, drop, subst, sym}
 use Rattle.bx_view.specs.Position.{IsPosition}
 use Rattle.bx_view.specs.FoundRow.{rows_by}
-use Rattle.bx_view.specs.Top.{follow, shown_rows}
-use Rattle.bx_view.proofs.Beyond.{keeps-then}
+use Rattle.bx_view.specs.Top.{follow}
 use Rattle.bx_paragraph.proofs.Starts.{side-some}
 use Rattle.bx_document.specs.Document.{rows}
-use Rattle.bx_document.specs.Drawing.{IsAmong, rows_columns}
+use Rattle.bx_document.specs.Drawing.{IsAmong}
 use Rattle.bx_document.specs.Shown.{rows_above, shown_columns}
 use Rattle.bx_document.proofs.CellColumns.{cell-inside}
-use Rattle.bx_document.proofs.RegionShown.{first-rows, over-them, region-earlier, rows-later}
 use Rattle.bx_document.proofs.ShownTop.{above-is, among, drawn-told, top-is}
 use Rattle.bx_document.proofs.document.Document.show.Goals as goal
 
@@ -37,36 +34,6 @@ returns-clause-among g c =
     (among says i.layout c.locate.new.self text c.len-utf8.ensures.utf8 c.locate.ensures.keeps located.top c.args.top c.args.place c.from.result
     c.first_in-first.result located.above told.top (c.first_in-first.ensures _ told.top) told.above told.few))
 
-pub lay_region-requires-clause-inside : goal.lay_region-requires-clause-inside
-lay_region-requires-clause-inside g c =
-    let told = c.in_ok-located.ensures in
-    let high = ap (λ (x : GridState). x.height) (c.in_ok-draw_rows.ensures.drawn _ told.top) in
-    subst (λ h. c.args.count ≤ h) (sym high) c.requires.inside
-
-pub lay_region-requires-clause-width : goal.lay_region-requires-clause-width
-lay_region-requires-clause-width g c =
-    let told = c.in_ok-located.ensures in
-    ap (λ (x : GridState). x.width) (c.in_ok-draw_rows.ensures.drawn _ told.top) ∙ c.requires.width ∙ sym (ap (λ s. s.document.w) c.self.view_is)
-    ∙ sym c.locate.ensures.keeps.w ∙ sym c.draw_rows.ensures.keeps.w
-
-pub lay_region-requires-clause-drawn : goal.lay_region-requires-clause-drawn
-lay_region-requires-clause-drawn g c =
-    let i = c.self.inside in
-    let says = g.D.BidiData.data i.tables in
-    let text = i.text.edited.text in
-    let located = c.in_ok-located.located in
-    let told = c.in_ok-located.ensures in
-    let was = c.args.grid.now in
-    let mid = c.draw_rows.new.grid in
-    let first = c.first_in-first.result in
-    let shown = rows_columns says i.layout.w c.args.count (shown_rows (rows_by says i.layout text) first c.args.count) in
-    let drawn : mid ≡ record was { columns = shown ++ drop (c.args.count * was.width) was.columns } =
-    drawn-told says i.layout c.locate.new.self text c.len-utf8.ensures.utf8 c.locate.ensures.keeps located.top c.args.top c.args.place c.from.result
-    first located.above told.top (c.first_in-first.ensures _ told.top) told.above was mid c.args.count (c.in_ok-draw_rows.ensures.drawn _ told.top) in
-    first-rows was mid shown c.args.count c.requires.inside c.columns-columns.ensures.grid.sized.each c.columns-columns-2.ensures.grid.sized.each drawn
-    ∙ rows-later says i.layout c.draw_rows.new.layout text
-    (keeps-then says i.layout c.locate.new.self c.draw_rows.new.layout c.locate.ensures.keeps c.draw_rows.ensures.keeps) first c.args.count
-
 pub returns-clause-drawn : goal.returns-clause-drawn
 returns-clause-drawn g c =
     let i = c.self.inside in
@@ -75,20 +42,13 @@ returns-clause-drawn g c =
     let located = c.in_ok-located.located in
     let told = c.in_ok-located.ensures in
     let was = c.args.grid.now in
-    let mid = c.draw_rows.new.grid in
     let first = c.first_in-first.result in
-    let shown = rows_columns says i.layout.w c.args.count (shown_rows (rows_by says i.layout text) first c.args.count) in
-    let drawn : mid ≡ record was { columns = shown ++ drop (c.args.count * was.width) was.columns } =
-    drawn-told says i.layout c.locate.new.self text c.len-utf8.ensures.utf8 c.locate.ensures.keeps located.top c.args.top c.args.place c.from.result
-    first located.above told.top (c.first_in-first.ensures _ told.top) told.above was mid c.args.count (c.in_ok-draw_rows.ensures.drawn _ told.top) in
-    let keeps = keeps-then says i.layout c.locate.new.self c.draw_rows.new.layout c.locate.ensures.keeps c.draw_rows.ensures.keeps in
-    subst (λ s. c.lay_region.new.grid ≡ record was {
+    subst (λ s. c.draw_rows.new.grid ≡ record was {
       columns = shown_columns (g.D.BidiData.data s.tables) s.document first c.args.region c.args.count ++ drop (c.args.count * was.width) was.columns;
     }) c.self.view_is
-    (over-them was mid shown c.args.count c.requires.inside c.columns-columns.ensures.grid.sized.each c.columns-columns-2.ensures.grid.sized.each drawn
-    c.lay_region.new.grid _ c.in_ok-lay_region.ensures.laid
-    ∙ ap (λ cs. record was { columns = cs ++ drop (c.args.count * was.width) was.columns })
-    (region-earlier says i.layout c.draw_rows.new.layout text keeps first c.args.count c.args.region))
+    (drawn-told says i.layout c.locate.new.self text c.len-utf8.ensures.utf8 c.locate.ensures.keeps located.top c.args.top c.args.place c.from.result
+    first located.above told.top (c.first_in-first.ensures _ told.top) told.above was c.draw_rows.new.grid c.args.region c.args.count
+    (c.in_ok-draw_rows.ensures.drawn _ told.top))
 
 pub returns-clause-row : goal.returns-clause-row
 returns-clause-row g c =
