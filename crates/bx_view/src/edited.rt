@@ -98,10 +98,9 @@ impl Layout {
         if stop < start || last < stop || has_separator(new, source.tables) {
             return Ok(None);
         }
-        let Some(i) = position(&self.held, self.recent, source.text, first, last) else {
+        let Some(i) = position(&self.held, &mut self.recent, source.text, first, last) else {
             return Ok(None);
         };
-        self.recent = i;
         lay_out_in(&mut self.held, i, source.tables, self.base, self.w)?;
         let range = start - first..stop - first;
         let is_edited = edit_in(&mut self.held, i, range, new, source.tables, self.base)?;
@@ -130,8 +129,7 @@ impl Layout {
         if stop < start || last < stop {
             return None;
         }
-        let held = position(&self.held, self.recent, source.text, first, last)?;
-        self.recent = held;
+        let held = position(&self.held, &mut self.recent, source.text, first, last)?;
         Some(HeldRange {
             held,
             start: start - first,

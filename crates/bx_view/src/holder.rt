@@ -35,10 +35,10 @@ fn is_held(held: &[ParagraphLayout], i: usize, text: &Text, start: usize, stop: 
 }
 
 /// The index of the held paragraph whose body is the text's bytes from `start` to `stop`. Tries index `recent` first,
-/// then the next, since the paragraphs of a page are held in order.
+/// then the next, since the paragraphs of a page are held in order, and keeps the found one in `recent`.
 pub(crate) fn position(
     held: &[ParagraphLayout],
-    recent: usize,
+    recent: &mut usize,
     text: &Text,
     start: usize,
     stop: usize,
@@ -47,14 +47,17 @@ pub(crate) fn position(
     requires within { stop ≤ length text.now.edited.text }
     ensures { IfSome result (HasBody (slice_range text.now.edited.text start stop) held.now) }
 {
-    if is_held(held, recent, text, start, stop) {
-        return Some(recent);
+    let first = *recent;
+    if is_held(held, first, text, start, stop) {
+        return Some(first);
     }
-    if recent < held.len() && is_held(held, recent + 1, text, start, stop) {
-        return Some(recent + 1);
+    if first < held.len() && is_held(held, first + 1, text, start, stop) {
+        *recent = first + 1;
+        return Some(first + 1);
     }
     for i in 0..held.len() {
         if is_held(held, i, text, start, stop) {
+            *recent = i;
             return Some(i);
         }
     }

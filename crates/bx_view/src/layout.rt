@@ -128,9 +128,8 @@ impl Layout {
     {
         // used by the contract alone
         let _ = number;
-        if let Some(i) = position(&self.held, self.recent, source.text, start, stop) {
+        if let Some(i) = position(&self.held, &mut self.recent, source.text, start, stop) {
             lay_out_in(&mut self.held, i, source.tables, self.base, self.w)?;
-            self.recent = i;
             return Ok(i);
         }
         let Ok(body) = source.text.copy_range(start, stop) else {
