@@ -21,7 +21,7 @@ lacks() { # CAUSE
     exit 77
 }
 
-for program in Xvfb xdotool import compare; do
+for program in Xvfb xdotool import compare convert; do
     command -v "$program" >/dev/null || lacks "there is no $program"
 done
 for program in bidi_edit bidi_input; do
