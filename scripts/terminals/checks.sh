@@ -43,6 +43,8 @@ check_terminal() { # KIND
     *)
         check_rows "$1"
         check_joined "$1"
+        check_mark "$1"
+        ! draws_clusters "$1" || check_clusters "$1"
         check_keys "$1"
         ! sends_control "$1" || check_control_keys "$1"
         check_title "$1"
@@ -119,6 +121,46 @@ check_joined() { # KIND
     done
     order "printf '$(reordering_on "$1")'"
     joins "$1" || other_picture "$1, letters joined or apart" "$1-joined" "$1-apart"
+}
+
+# A mark on the letter in the last column stays there, or is not shown. A terminal that takes it for a character of its own wraps
+# it onto the next row, in the place of a letter that the editor does not paint, since it has not changed; Ctrl-L brings the letter
+# back.
+check_mark() { # KIND
+    # 59 columns, and a dot below the last letter
+    printf '%58se\314\243\nnext\n' '' | tr ' ' a >"$room/files/typed"
+    open_editor typed "$1-mark"
+    press X
+    take_picture "$1-mark-typed"
+    press ctrl+l
+    take_picture "$1-mark-anew"
+    press ctrl+s
+    leave_editor "$1, a mark in the last column"
+    if wraps_marks "$1"; then
+        other_picture "$1, a mark wraps onto the next row" "$1-mark-typed" "$1-mark-anew"
+    else
+        same_picture "$1, no mark wraps onto the next row" "$1-mark-typed" "$1-mark-anew"
+    fi
+}
+
+# A terminal may draw a cluster in more columns than the editor counts. When the cluster moves to the left, letters of it may stay
+# where it was. Once Ctrl-L has painted all anew, the picture must be that of the saved file when it is opened.
+check_clusters() { # KIND
+    # a family, and a hand with the tone of a skin
+    printf 'abcdefgh \360\237\221\250\342\200\215\360\237\221\251\342\200\215\360\237\221\247\n' >"$room/files/typed"
+    printf 'abcdefgh \360\237\221\215\360\237\217\275\n' >>"$room/files/typed"
+    open_editor typed "$1-clusters"
+    press X Delete Delete Delete Delete Delete Home Down Y Delete Delete Delete Delete Delete Home Up ctrl+s Right Left
+    take_picture "$1-clusters-typed"
+    press ctrl+l
+    take_picture "$1-clusters-anew"
+    leave_editor "$1, clusters"
+    same "$1, clusters, the saved file" "$(tr -d '\200-\377' <"$room/files/typed" | paste -s -d '|')" 'Xfgh |Yfgh '
+    open_editor typed "$1-clusters-opened"
+    leave_editor "$1, clusters, opened again"
+    echo "    before Ctrl-L $(different "$1-clusters-typed" "$1-clusters-anew") pixels differ"
+    same_picture "$1, clusters after Ctrl-L" "$1-clusters-anew" "$1-clusters-opened"
+    other_picture "$1, clusters before they move" "$1-clusters" "$1-clusters-opened"
 }
 
 # Has the terminal print its screen.

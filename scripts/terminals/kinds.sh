@@ -81,6 +81,11 @@ joins() { # KIND
     return 1
 }
 
+# Whether it wraps a combining mark behind the last column onto the next row. terminology shows no marks, and wraps none.
+wraps_marks() { # KIND
+    [ "$1" = st ]
+}
+
 # Whether it keeps a non-joiner on the letter before it. mlterm gives it a column of its own.
 keeps_joiners() { # KIND
     [ "$1" != mlterm ]
@@ -89,6 +94,12 @@ keeps_joiners() { # KIND
 # How many pixels at the edges of joined letters it draws or not, by what it drew before.
 loose_pixels() { # KIND
     if [ "$1" = mlterm ]; then echo 9; else echo 0; fi
+}
+
+# Whether clusters are checked that it may draw in other columns than the editor counts.
+draws_clusters() { # KIND
+    case $1 in xterm | vte | kitty | alacritty) return 0 ;; esac
+    return 1
 }
 
 # Whether it prints its screen as text, to the file `read`.
