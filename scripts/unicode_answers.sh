@@ -66,11 +66,9 @@ told() {
             if ($4 != "") line = line ", mirrored as " character($4)
             joining = $5 != "" ? $5 : is_transparent() ? "T" : "U"
             if ($6 == ",,," && joining ~ /[RLD]/) joining = "U"
-            if (joining != "U") {
-                line = line ", of joining type " joining
-                split($6, form, ",")
-                for (i = 1; i <= count; i++) if (form[i] != "") line = line ", " name[i] " " character(form[i])
-            }
+            if (joining != "U") line = line ", of joining type " joining
+            split($6, form, ",")
+            for (i = 1; i <= count; i++) if (form[i] != "") line = line ", " name[i] " " character(form[i])
             print line
         }
     '

@@ -17,6 +17,9 @@ write_texts() {
     printf 'السلام abc كتاب\nمی\342\200\214خواهم ہے (باب) 12\n' >"$room/files/letters"
     printf '%45sباتك abc مالسلا\n%41s12 (باب) ےہ مهاوخی\342\200\214م\n' '' '' >"$room/files/apart"
     printf '%45sﺏﺎﺘﻛ abc ﻡﺎﻠﺴﻟﺍ\n%41s12 (ﺏﺎﺑ) ﮯﮨ ﻢﻫﺍﻮﺧﯽ\342\200\214ﻣ\n' '' '' >"$room/files/joined"
+    for rows in joined apart; do
+        sed "s/$(printf '\342\200\214')//" "$room/files/$rows" >"$room/files/$rows-without-joiner"
+    done
 }
 
 check_terminal() { # KIND
@@ -40,6 +43,8 @@ check_terminal() { # KIND
     *)
         check_rows "$1"
         check_joined "$1"
+        check_mark "$1"
+        ! draws_clusters "$1" || check_clusters "$1"
         check_keys "$1"
         ! sends_control "$1" || check_control_keys "$1"
         check_title "$1"
@@ -52,6 +57,7 @@ check_terminal() { # KIND
 open_editor() { # FILE PICTURE
     give "'$top/bidi-edit' $1 2>../errors"
     wait_for 200 is_raw
+    wait_for 200 has_status
     sleep 0.5
     take_picture "$2"
 }
@@ -99,17 +105,62 @@ check_rows() { # KIND
 # Compares the editor's picture of joined letters, and with --no-joining, with the picture of `cat` on their forms and on the
 # letters, in a terminal that is told not to reorder. The two must differ unless the terminal joins letters by itself.
 check_joined() { # KIND
+    order clear
     open_editor letters "$1-joined"
     leave_editor "$1, joined letters"
     open_editor '--no-joining letters' "$1-apart"
     leave_editor "$1, letters apart"
     for rows in joined apart; do
-        order "clear; printf '\033[8l'; cat $rows; printf '\033[10;1H- 1:1\033[1;60H'"
+        wanted=$rows
+        keeps_joiners "$1" || wanted=$rows-without-joiner
+        order "clear; printf '$(reordering_off "$1")'; cat $wanted; printf '\033[10;1H- 1:1\033[1;60H'"
         take_picture "$1-$rows-right"
-        same_picture "$1, letters $rows" "$1-$rows" "$1-$rows-right"
+        count=$(different "$1-$rows" "$1-$rows-right")
+        [ "$count" -le "$(loose_pixels "$1")" ]
+        report "$1, letters $rows" $? "$count different pixels"
     done
-    order "printf '\033[8h'"
+    order "printf '$(reordering_on "$1")'"
     joins "$1" || other_picture "$1, letters joined or apart" "$1-joined" "$1-apart"
+}
+
+# A mark on the letter in the last column stays there, or is not shown. A terminal that takes it for a character of its own wraps
+# it onto the next row, in the place of a letter that the editor does not paint, since it has not changed; Ctrl-L brings the letter
+# back.
+check_mark() { # KIND
+    # 59 columns, and a dot below the last letter
+    printf '%58se\314\243\nnext\n' '' | tr ' ' a >"$room/files/typed"
+    open_editor typed "$1-mark"
+    press X
+    take_picture "$1-mark-typed"
+    press ctrl+l
+    take_picture "$1-mark-anew"
+    press ctrl+s
+    leave_editor "$1, a mark in the last column"
+    if wraps_marks "$1"; then
+        other_picture "$1, a mark wraps onto the next row" "$1-mark-typed" "$1-mark-anew"
+    else
+        same_picture "$1, no mark wraps onto the next row" "$1-mark-typed" "$1-mark-anew"
+    fi
+}
+
+# A terminal may draw a cluster in more columns than the editor counts. When the cluster moves to the left, letters of it may stay
+# where it was. Once Ctrl-L has painted all anew, the picture must be that of the saved file when it is opened.
+check_clusters() { # KIND
+    # a family, and a hand with the tone of a skin
+    printf 'abcdefgh \360\237\221\250\342\200\215\360\237\221\251\342\200\215\360\237\221\247\n' >"$room/files/typed"
+    printf 'abcdefgh \360\237\221\215\360\237\217\275\n' >>"$room/files/typed"
+    open_editor typed "$1-clusters"
+    press X Delete Delete Delete Delete Delete Home Down Y Delete Delete Delete Delete Delete Home Up ctrl+s Right Left
+    take_picture "$1-clusters-typed"
+    press ctrl+l
+    take_picture "$1-clusters-anew"
+    leave_editor "$1, clusters"
+    same "$1, clusters, the saved file" "$(tr -d '\200-\377' <"$room/files/typed" | paste -s -d '|')" 'Xfgh |Yfgh '
+    open_editor typed "$1-clusters-opened"
+    leave_editor "$1, clusters, opened again"
+    echo "    before Ctrl-L $(different "$1-clusters-typed" "$1-clusters-anew") pixels differ"
+    same_picture "$1, clusters after Ctrl-L" "$1-clusters-anew" "$1-clusters-opened"
+    other_picture "$1, clusters before they move" "$1-clusters" "$1-clusters-opened"
 }
 
 # Has the terminal print its screen.

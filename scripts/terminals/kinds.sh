@@ -56,9 +56,49 @@ reorders() { # KIND
     return 1
 }
 
+# Prints what tells it to leave rows in the order that they come in, as a format of printf. konsole and mlterm do not obey the
+# first sequence, and are told as the launcher tells them; OSC 50 would ask xterm and urxvt for a font.
+reordering_off() { # KIND
+    case $1 in
+    konsole*) printf %s '\033[8l\033]50;BidiRenderingEnabled=false\a' ;;
+    mlterm) printf %s '\033[8l\033]5379;use_ctl=false\a' ;;
+    *) printf %s '\033[8l' ;;
+    esac
+}
+
+# Prints what tells it to reorder again.
+reordering_on() { # KIND
+    case $1 in
+    konsole*) printf %s '\033]50;BidiRenderingEnabled=true\a\033[8h' ;;
+    mlterm) printf %s '\033]5379;use_ctl=true\a\033[8h' ;;
+    *) printf %s '\033[8h' ;;
+    esac
+}
+
 # Whether it joins letters by itself, also where it is told not to reorder.
 joins() { # KIND
     case $1 in vte* | kitty) return 0 ;; esac
+    return 1
+}
+
+# Whether it wraps a combining mark behind the last column onto the next row. terminology shows no marks, and wraps none.
+wraps_marks() { # KIND
+    [ "$1" = st ]
+}
+
+# Whether it keeps a non-joiner on the letter before it. mlterm gives it a column of its own.
+keeps_joiners() { # KIND
+    [ "$1" != mlterm ]
+}
+
+# How many pixels at the edges of joined letters it draws or not, by what it drew before.
+loose_pixels() { # KIND
+    if [ "$1" = mlterm ]; then echo 9; else echo 0; fi
+}
+
+# Whether clusters are checked that it may draw in other columns than the editor counts.
+draws_clusters() { # KIND
+    case $1 in xterm | vte | kitty | alacritty) return 0 ;; esac
     return 1
 }
 

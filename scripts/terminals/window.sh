@@ -102,6 +102,15 @@ different() { # PICTURE PICTURE
     compare -metric AE "$pictures/$1.png" "$pictures/$2.png" null: 2>&1
 }
 
+# Whether the left end of the window's last row, some way off the border, has more than one colour, as it has once the editor has
+# painted its status row.
+has_status() {
+    # sets X, Y, WIDTH and HEIGHT
+    eval "$(xdotool getwindowgeometry --shell "$window")"
+    part=$((WIDTH / 5))x$((HEIGHT / 12 - 4))+$((X + 4))+$((Y + HEIGHT - HEIGHT / 12))
+    [ "$(import -silent -window root png:- | convert png:- -crop "$part" -format %k info:)" -gt 1 ]
+}
+
 press() { # KEY..
     for key in "$@"; do
         xdotool key --clearmodifiers "$key"

@@ -86,13 +86,12 @@ fn read_all<R: AllocGlobal>(rt: &R, files: &DataFiles) -> Result<Tables> {
     read_tables(rt, files, files.joining.as_ref().map(|bytes| bytes.lend()))
 }
 
-/// Prints how a character joins, if it is not of type U.
+/// Prints the joining type of a character, if it is not U, and the character's forms.
 fn print_joining(rt: &impl Print, tables: &impl BidiData, c: char) -> io::Result<()> {
     let joining = tables.joining(c);
-    if joining == Joining::U {
-        return Ok(());
+    if joining != Joining::U {
+        print!(rt; ", of joining type {joining:?}")?;
     }
-    print!(rt; ", of joining type {joining:?}")?;
     for (form, name) in [
         (Form::Isolated, "isolated"),
         (Form::Initial, "initial"),
