@@ -1,5 +1,5 @@
 //! The keys that edit, undo and redo.
-ghost use Rattle.std.specs.Prelude.{◌≡◌, true, OnErr, OnOk, encode_utf8};
+ghost use Rattle.std.specs.Prelude.{◌≡◌, true, None, OnErr, OnOk, encode_utf8};
 ghost use Rattle.bx_text.specs.Edits.{IsRange};
 ghost use Rattle.bx_view.specs.Moves.{step_logical};
 ghost use Rattle.bx_editor.specs.Editor.{after_insertion, after_removal, after_step, nothing_left, rows, without_message};
@@ -20,6 +20,17 @@ fn nothing_left(step: HistoryStep) -> Message
         HistoryStep::Undo => Message::NothingToUndo,
         HistoryStep::Redo => Message::NothingToRedo,
     }
+}
+
+/// Moves the cursor to the place after an edit, removes the mark and ends the search.
+pub(crate) fn settle(place: &mut usize, mark: &mut Option<usize>, seek: &mut Seek, after: usize)
+    ensures place { place.new ≡ after }
+    ensures mark { mark.new ≡ None }
+    ensures seek { seek.new ≡ Seek.Off }
+{
+    *place = after;
+    *mark = None;
+    *seek = Seek::Off;
 }
 
 impl<D: BidiData + Drop> Editor<D> {
@@ -44,9 +55,7 @@ impl<D: BidiData + Drop> Editor<D> {
             self.tell(Message::TextFull);
             return Ok(());
         };
-        self.place = place;
-        self.mark = None;
-        self.seek = Seek::Off;
+        settle(&mut self.place, &mut self.mark, &mut self.seek, place);
         self.finish_edit();
         Ok(())
     }
@@ -64,9 +73,7 @@ impl<D: BidiData + Drop> Editor<D> {
             return Ok(());
         }
         let place = self.document.remove(start, stop, self.place)?;
-        self.place = place;
-        self.mark = None;
-        self.seek = Seek::Off;
+        settle(&mut self.place, &mut self.mark, &mut self.seek, place);
         self.finish_edit();
         Ok(())
     }
@@ -112,9 +119,7 @@ impl<D: BidiData + Drop> Editor<D> {
             self.tell(nothing_left(step));
             return Ok(());
         };
-        self.place = place;
-        self.mark = None;
-        self.seek = Seek::Off;
+        settle(&mut self.place, &mut self.mark, &mut self.seek, place);
         self.finish_edit();
         Ok(())
     }

@@ -4,9 +4,9 @@ ghost use Rattle.bx_text.specs.Edits.{IsRange};
 ghost use Rattle.bx_editor.specs.Editor.{without_message};
 ghost use Rattle.bx_editor.specs.Region.{after_copy, after_cut, after_mark, after_put, is_at_mark, region, taken};
 
+use crate::editing::settle;
 use crate::editor::Editor;
 use crate::message::Message;
-use crate::seek::Seek;
 use bx_terms::OutOfMemory;
 use bx_ucd::BidiData;
 
@@ -127,9 +127,7 @@ impl<D: BidiData + Drop> Editor<D> {
             self.tell(Message::TextFull);
             return Ok(());
         };
-        self.place = place;
-        self.mark = None;
-        self.seek = Seek::Off;
+        settle(&mut self.place, &mut self.mark, &mut self.seek, place);
         self.finish_edit();
         Ok(())
     }
