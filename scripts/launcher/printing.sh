@@ -44,14 +44,14 @@ last' --print --marks --cols=20 -- -text
 a end
 
 last' --print --cols 11 ./-text
-    # beh, alef and beh: the last letter isolated, the alef final, the first letter initial
-    printf 'باب' >-text
-    printed 'printing, joined letters' "$(printf '       \357\272\217\357\272\216\357\272\221')" --print --cols 10 ./-text
-    printed 'printing, letters apart' '       باب' --print --no-joining --cols 10 ./-text
     printed 'printing, a direction' 'םולש (abc) 12
 a end
 
 last' --direction ltr --print ./-text
+    # beh, alef and beh: the last letter isolated, the alef final, the first letter initial
+    printf 'باب' >-text
+    printed 'printing, joined letters' "$(printf '       \357\272\217\357\272\216\357\272\221')" --print --cols 10 ./-text
+    printed 'printing, letters apart' '       باب' --print --no-joining --cols 10 ./-text
 }
 
 check_printing() {
