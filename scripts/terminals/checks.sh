@@ -199,7 +199,7 @@ check_control_keys() { # KIND
 
 check_title() { # KIND
     order "printf '\033]2;before\007'"
-    wait_for 20 has_title '*before*' || report "$1, a title of before" 1 "$(title)"
+    wait_for 50 has_title '*before*' || report "$1, a title of before" 1 "$(title)"
     open_editor text "$1-title"
     if keeps_title "$1"; then
         wait_for 20 has_title '*^S save ^Q quit*'
@@ -209,7 +209,7 @@ check_title() { # KIND
         report "$1, title" $? "$(title)"
     fi
     leave_editor "$1, title"
-    wait_for 20 has_title '*before*'
+    wait_for 50 has_title '*before*'
     report "$1, title at the end" $? "$(title)"
 }
 
