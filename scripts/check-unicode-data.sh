@@ -40,7 +40,7 @@ fail() { # WHAT
     exit 1
 }
 
-# the names of the excerpts stand behind --joining, and before the codes
+# args holds --joining, the five excerpts' names, and then the codes
 {
     read -r _
     for file in "$joining" "$characters" "$classes" "$brackets" "$mirroring"; do

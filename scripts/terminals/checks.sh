@@ -143,8 +143,8 @@ check_mark() { # KIND
     fi
 }
 
-# A terminal may draw a cluster in more columns than the editor counts. When the cluster moves to the left, letters of it may stay
-# where it was. Once Ctrl-L has painted all anew, the picture must be that of the saved file when it is opened.
+# Moves a cluster that the terminal may draw in more columns than the editor counts, and presses Ctrl-L. The picture must then
+# equal that of the saved file, opened anew.
 check_clusters() { # KIND
     # a family, and a hand with the tone of a skin
     printf 'abcdefgh \360\237\221\250\342\200\215\360\237\221\251\342\200\215\360\237\221\247\n' >"$room/files/typed"
