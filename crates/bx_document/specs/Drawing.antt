@@ -1,4 +1,4 @@
--- The columns of a row of text, and rows placed in a grid.
+-- Defines the columns that show a row of text, and a grid with some of its rows replaced.
 use Rattle.std.specs.Prelude.{ℕ, ◌+◌, ◌*◌, ◌≤◌, ◌<◌, List, flat_map}
 use Rattle.bx_grid.specs.Columns.{Col, glyph_columns, paste}
 use Rattle.bx_grid.specs.Picture.{GridState}

@@ -20,8 +20,8 @@ pub(crate) struct Page {
     pub(crate) region: (usize, usize),
 }
 
-/// Fills the first rows of a grid, a page of them, with the text's rows from `at` on, and with blank rows past the text's
-/// end. The columns of units that begin in the region are in the other rendition.
+/// Fills a page, the first rows of a grid, with the text's rows from `at` on, and with blank rows past the text's end. Turns
+/// the columns of units that begin in the region.
 ///
 /// Errors: `OutOfMemory`; some of the rows may be drawn.
 pub(crate) fn draw_rows<D: BidiData>(
