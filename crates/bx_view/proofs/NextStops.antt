@@ -1,6 +1,6 @@
 -- The stops of a text ascend, so a search finds the least one behind a place, or the greatest one before it.
 use Rattle.std.proofs.Common.{◌≡◌, ℕ, zero, suc, ◌+◌, ◌<◌, ◌≤◌, nat_lt, not, ◌&&◌, cond, Bool, true, false, List, [], ◌∷◌, ◌++◌, map, length, get_or, reverse, find}
-use Rattle.std.proofs.Common.{Option, Some, None, unwrap_or, IsUtf8, refl, sym, subst, ◌∙◌, ap, arith}
+use Rattle.std.proofs.Common.{Option, Some, None, IsUtf8, refl, sym, subst, ◌∙◌, ap, arith}
 use Rattle.std.specs.Prelude.{Contains}
 use Rattle.std.specs.Option.{option_or}
 use Rattle.std.proofs.lemmas.Bool.Decides.{nat_tests}
