@@ -1,5 +1,5 @@
 -- A search that is given up.
-use Rattle.std.proofs.Common.{◌≡◌, ℕ, Bool, true, false, List, [], ◌∷◌, refl, sym, ap, subst, ◌∙◌, inl, inr, if◌then◌else◌}
+use Rattle.std.proofs.Common.{◌≡◌, Bool, true, false, List, [], ◌∷◌, refl, sym, ap, subst, ◌∙◌, inl, inr, if◌then◌else◌}
 use Rattle.std.specs.Prelude.{◌≢◌, ◌==◌}
 use Rattle.bx_keys.specs.declared.key.Key.{Key}
 use Rattle.bx_keys.specs.declared.key.Key.TheVariants.{Insert, Erase, Delete, Back, Forward, Up, Down, Right, Left, RowHome, RowEnd, PageUp, PageDown, Save}
@@ -11,7 +11,7 @@ use Rattle.bx_editor.specs.declared.seek.Seek.TheVariants.{Off, Begun, Typed}
 use Rattle.bx_editor.specs.Editor.{Editor, without_message}
 use Rattle.bx_editor.specs.Keys.{after_any, after_key, after_seeking}
 use Rattle.bx_editor.specs.Laws.{after_typing, BeginsSearch, GivesUp, GivingUpGoesBack, IsGivenUp, StaysOn}
-use Rattle.bx_editor.specs.Search.{after_beginning, after_giving_up, after_letter, is_no_letter, kept, lengthened, search_from, with_query, without_search}
+use Rattle.bx_editor.specs.Search.{after_beginning, after_giving_up, is_no_letter, kept, lengthened, search_from, with_query, without_search}
 use Rattle.bx_editor.proofs.InSearch.{each-key}
 
 -- where the search began, the mark and the text are the same

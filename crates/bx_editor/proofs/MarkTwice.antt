@@ -1,6 +1,6 @@
 -- Mark twice at one place, and the text's ends.
-use Rattle.std.proofs.Common.{◌≡◌, ◌⊎◌, ℕ, Bool, true, false, [], ◌∷◌, length, refl, sym, ap, ap₂, ◌∙◌, arith, ⊎_elim}
-use Rattle.std.specs.Prelude.{◌≢◌, ◌==◌, Option, Some, None, if◌then◌else◌}
+use Rattle.std.proofs.Common.{◌≡◌, ℕ, Bool, true, false, [], ◌∷◌, length, refl, sym, ap, ap₂, ◌∙◌, arith, ⊎_elim}
+use Rattle.std.specs.Prelude.{◌==◌, Option, Some, None, if◌then◌else◌}
 use Rattle.std.proofs.lemmas.Bool.Decides.{nat_tests}
 use Rattle.bx_keys.specs.declared.key.Key.TheVariants.{Mark, TextStart, TextEnd}
 use Rattle.bx_ucd.specs.Data.{Data}
@@ -10,7 +10,7 @@ use Rattle.bx_editor.specs.declared.seek.Seek.{Seek}
 use Rattle.bx_editor.specs.declared.seek.Seek.TheVariants.{Off, Begun, Typed}
 use Rattle.bx_editor.specs.Editor.{Editor, with_place, without_message}
 use Rattle.bx_editor.specs.Keys.{after_any, after_key, after_keys}
-use Rattle.bx_editor.specs.Laws.{AreTwoMarks, GoesToBothEnds, MarkTwiceIsNothing, ReachesBothEnds}
+use Rattle.bx_editor.specs.Laws.{GoesToBothEnds, MarkTwiceIsNothing}
 use Rattle.bx_editor.specs.Region.{after_mark, is_at_mark}
 use Rattle.bx_editor.specs.Search.{without_search}
 

@@ -1,5 +1,5 @@
 -- Worked examples, each from a law alone: what is copied and cut, the mark, the text's ends, and a search that is given up.
-use Rattle.std.proofs.Common.{◌≡◌, ℕ, Bool, true, false, List, [], ◌∷◌, length, ◌<◌, ◌≤◌, refl, ap, ap₂, ◌∙◌, arith, inl, inr}
+use Rattle.std.proofs.Common.{◌≡◌, ℕ, Bool, true, false, List, [], ◌∷◌, length, ◌<◌, ◌≤◌, refl, ap, ◌∙◌, arith, inl, inr}
 use Rattle.std.specs.Prelude.{codes, Option, Some, None}
 use Rattle.std.specs.Fmt.{digits}
 use Rattle.unicode_segmentation.proofs.Computing.{unicode_segmentation}
@@ -15,12 +15,16 @@ use Rattle.bx_editor.specs.Laws.{after_typing, CopyPutsTwice, GivingUpGoesBack, 
 use Rattle.bx_editor.proofs.Computed.{tables, start, after}
 
 -- text, place and mark
+abbrev triple : List ℕ → ℕ → Option ℕ → List ℕ × ℕ × Option ℕ
+triple text place mark = (text, place, mark)
+
 abbrev now : Editor → List ℕ × ℕ × Option ℕ
-now e = (e.content.text, e.place, e.mark)
+now e = triple e.content.text e.place e.mark
 
 same_now : (e : Editor) (text : List ℕ) (place : ℕ) (mark : Option ℕ) → e.content.text ≡ text → e.place ≡ place → e.mark ≡ mark
-    → now e ≡ (text, place, mark)
-same_now e text place mark a b c = ap₂ (λ (t : List ℕ) (rest : ℕ × Option ℕ). (t, rest)) a (ap₂ (λ (p : ℕ) (m : Option ℕ). (p, m)) b c)
+    → now e ≡ triple text place mark
+same_now e text place mark a b c =
+    ap (λ t. triple t e.place e.mark) a ∙ ap (λ p. triple text p e.mark) b ∙ ap (λ m. triple text place m) c
 
 -- ---- Copy, Cut and Put
 
@@ -120,11 +124,11 @@ given_up_by begin give = after_key tables false (after_typing tables (after_key 
 
 stays_on_after_find : StaysOn tables (after_key tables false marked_at_1 Find) in_search
 unfolding unicode_segmentation unicode_width digits
-stays_on_after_find = ((λ e. cc e), (λ e. cc e), (λ e. cc e), (λ e. cc e), (λ e. cc e), λ e. cc e)
+stays_on_after_find = ((λ e. cc e), ((λ e. cc e), ((λ e. cc e), ((λ e. cc e), ((λ e. cc e), λ e. cc e)))))
 
 stays_on_after_find_back : StaysOn tables (after_key tables false marked_at_1 FindBack) in_search
 unfolding unicode_segmentation unicode_width digits
-stays_on_after_find_back = ((λ e. cc e), (λ e. cc e), (λ e. cc e), (λ e. cc e), (λ e. cc e), λ e. cc e)
+stays_on_after_find_back = ((λ e. cc e), ((λ e. cc e), ((λ e. cc e), ((λ e. cc e), ((λ e. cc e), λ e. cc e)))))
 
 -- text, place and mark of an editor that gave a search up are those of another
 given_up_now : (e new : Editor) → IsGivenUp e new → now new ≡ now e
