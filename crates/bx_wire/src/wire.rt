@@ -1,0 +1,96 @@
+//! The two pipes to the host.
+
+use crate::facts::Facts;
+use crate::fault::{HostFault, WireFault};
+use crate::heard::{Heard, Message};
+use crate::host::Host;
+use crate::reading::read_message;
+use crate::said::{Said, write_message};
+use std::alloc::Global;
+use std::io::{Read, Write};
+
+/// The two pipes to the host: what it says is read from one, and what the keeper says is written to the other.
+#[derive(Drop)]
+pub struct Wire<R: Read + Drop, W: Write + Drop> {
+    alloc: Global,
+    reader: R,
+    writer: W,
+}
+
+impl<R: Read + Drop, W: Write + Drop> Wire<R, W> {
+    pub fn new(alloc: Global, reader: R, writer: W) -> Self {
+        Wire {
+            alloc,
+            reader,
+            writer,
+        }
+    }
+
+    /// The next message of the host; None where its pipe has ended.
+    ///
+    /// Errors: as [`read_message`].
+    pub fn hear(&mut self) -> Result<Option<Message>, WireFault> {
+        read_message(&mut self.reader, self.alloc)
+    }
+
+    /// Sends a message to the host.
+    ///
+    /// Errors: as [`write_message`].
+    pub fn say(&mut self, said: Said, text: &str) -> Result<(), WireFault> {
+        write_message(&mut self.writer, self.alloc, said, text.as_bytes())
+    }
+
+    /// The next message, which should be of this kind.
+    fn hear_only(&mut self, heard: Heard) -> Result<Message, HostFault> {
+        match self.hear()? {
+            Some(message) if message.heard == heard => Ok(message),
+            _ => Err(HostFault::Gone),
+        }
+    }
+
+    /// The next message's number.
+    fn hear_number(&mut self, heard: Heard) -> Result<u64, HostFault> {
+        self.hear_only(heard)?.number().ok_or(HostFault::Gone)
+    }
+
+    /// Sends a text that ends in nothing else; a host that is gone is not told.
+    fn try_say(&mut self, said: Said, text: &str) {
+        let _ = self.say(said, text);
+    }
+
+    /// The answer to a question.
+    fn answer(&mut self, question: &str) -> Result<Option<String>, HostFault> {
+        self.say(Said::Question, question)?;
+        match self.hear()? {
+            Some(message) if message.heard == Heard::Answer => {
+                Ok(Some(String::from_utf8(message.text).unwrap_or(String::new(self.alloc))))
+            }
+            _ => Ok(None),
+        }
+    }
+}
+
+impl<R: Read + Drop, W: Write + Drop> Host for Wire<R, W> {
+    fn facts(&mut self, path: &str) -> Result<Facts, HostFault> {
+        self.say(Said::Facts, path)?;
+        let letters = self.hear_only(Heard::Answer)?;
+        let longest_name = self.hear_number(Heard::LongestName)?;
+        let free = self.hear_number(Heard::FreeBytes)?;
+        let real_path = self.hear_only(Heard::RealPath)?;
+        self.hear_only(Heard::End)?;
+        let real_path = String::from_utf8(real_path.text).map_err(|_| HostFault::NotUtf8)?;
+        Ok(Facts::of(letters.text.as_slice(), longest_name, free, real_path))
+    }
+
+    fn ask(&mut self, question: &str) -> Option<String> {
+        self.answer(question).unwrap_or(None)
+    }
+
+    fn tell(&mut self, text: &str) {
+        self.try_say(Said::Output, text);
+    }
+
+    fn warn(&mut self, text: &str) {
+        self.try_say(Said::Error, text);
+    }
+}
