@@ -1,5 +1,7 @@
 //! The host's facts about a path.
 
+ghost use Rattle.std.specs.Prelude.{◌≡◌};
+
 use std::alloc::AllocError;
 
 /// What only the system can tell of a path. All but `in_memory`, `longest_name`, `free` and `real_path` are of what is there,
@@ -33,8 +35,15 @@ pub struct Facts {
 }
 
 impl Facts {
+    ghost use Rattle.bx_wire.specs.Facts.{HasLetters};
+
     /// Facts by their letters, as the host gives them.
-    pub fn of(letters: &[u8], longest_name: u64, free: u64, real_path: String) -> Facts {
+    pub fn of(letters: &[u8], longest_name: u64, free: u64, real_path: String) -> Facts
+        ensures letters { HasLetters result letters.now }
+        ensures longest_name { result.longest_name ≡ longest_name }
+        ensures free { result.free ≡ free }
+        ensures real_path { result.real_path ≡ real_path }
+    {
         Facts {
             readable: letters.contains(&b'r'),
             writable: letters.contains(&b'w'),

@@ -1,5 +1,8 @@
 //! Why a message cannot be read or written.
 
+ghost use Rattle.std.specs.Prelude.{◌≡◌};
+ghost use Rattle.bx_wire.specs.declared.fault.WireFault.TheVariants.{OutOfMemory};
+
 use std::alloc::{AllocError, AllocFailed};
 use thiserror::Error;
 
@@ -29,12 +32,16 @@ pub enum WireFault {
 }
 
 impl From<AllocError> for WireFault {
+    ghost from_gives = { λ _ fault. fault ≡ OutOfMemory };
+
     fn from(_error: AllocError) -> Self {
         WireFault::OutOfMemory
     }
 }
 
 impl<T: Drop> From<AllocFailed<T>> for WireFault {
+    ghost from_gives = { λ _ fault. fault ≡ OutOfMemory };
+
     fn from(_error: AllocFailed<T>) -> Self {
         WireFault::OutOfMemory
     }

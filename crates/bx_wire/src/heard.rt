@@ -1,5 +1,8 @@
 //! What the host says.
 
+ghost use Rattle.std.specs.Prelude.{◌≡◌, IfSome};
+ghost use Rattle.bx_wire.specs.Letters.{heard_by, letter_of};
+
 use std::str;
 
 /// What a message of the host says.
@@ -45,7 +48,9 @@ pub enum Heard {
 
 impl Heard {
     /// The letter that begins such a message.
-    pub fn letter(self) -> u8 {
+    pub fn letter(self) -> u8
+        ensures { result ≡ letter_of self }
+    {
         match self {
             Heard::Word => b'w',
             Heard::Variable => b'v',
@@ -69,7 +74,10 @@ impl Heard {
     }
 
     /// What a message with this letter says; None if no message begins with it.
-    pub fn of_letter(letter: u8) -> Option<Heard> {
+    pub fn of_letter(letter: u8) -> Option<Heard>
+        ensures table { result ≡ heard_by letter }
+        ensures letter { IfSome result (λ heard. letter_of heard ≡ letter) }
+    {
         Some(match letter {
             b'w' => Heard::Word,
             b'v' => Heard::Variable,

@@ -1,5 +1,8 @@
 //! Reading messages from bytes.
 
+ghost use Rattle.bx_wire.specs.Messages.{Reads};
+ghost use Rattle.bx_wire.specs.Reading.{ReadsByte, ReadsText};
+
 use crate::fault::WireFault;
 use crate::heard::{Heard, Message};
 use std::alloc::Global;
@@ -9,9 +12,11 @@ use std::io::{ErrorKind, Read};
 pub const LARGEST_MESSAGE: usize = 65_536;
 
 /// The next byte; None at the input's end.
-fn read_byte<R: Read>(reader: &mut R) -> Result<Option<u8>, WireFault> {
+fn read_byte<R: Read>(reader: &mut R) -> Result<Option<u8>, WireFault>
+    ensures { ReadsByte result (R.remaining reader.old) (R.remaining reader.new) }
+{
     let mut buffer = [0; 1];
-    for _ in 0..u64::MAX {
+    'tries: for _ in 0..u64::MAX {
         match reader.read(&mut buffer) {
             Ok(0) => return Ok(None),
             Ok(_) => return Ok(Some(buffer[0])),
@@ -23,9 +28,11 @@ fn read_byte<R: Read>(reader: &mut R) -> Result<Option<u8>, WireFault> {
 }
 
 /// The bytes up to the next NUL, which is read too.
-fn read_text<R: Read>(reader: &mut R, alloc: Global) -> Result<Vec<u8>, WireFault> {
+fn read_text<R: Read>(reader: &mut R, alloc: Global) -> Result<Vec<u8>, WireFault>
+    ensures { ReadsText result (R.remaining reader.old) (R.remaining reader.new) }
+{
     let mut text = Vec::new(alloc);
-    for _ in 0..=LARGEST_MESSAGE {
+    'bytes: for _ in 0..LARGEST_MESSAGE + 1 {
         match read_byte(reader)? {
             None => return Err(WireFault::CutOff),
             Some(0) => return Ok(text),
@@ -39,11 +46,17 @@ fn read_text<R: Read>(reader: &mut R, alloc: Global) -> Result<Vec<u8>, WireFaul
 ///
 /// Errors, in this order: `UnknownLetter`; then, with the letter read, `CutOff`; `TooLong`; `OutOfMemory`. `Unreadable` where
 /// a read fails.
-pub fn read_message<R: Read>(reader: &mut R, alloc: Global) -> Result<Option<Message>, WireFault> {
+pub fn read_message<R: Read>(reader: &mut R, alloc: Global) -> Result<Option<Message>, WireFault>
+    ensures { Reads result (R.remaining reader.old) (R.remaining reader.new) }
+{
     let Some(letter) = read_byte(reader)? else {
         return Ok(None);
     };
-    let heard = Heard::of_letter(letter).ok_or(WireFault::UnknownLetter(letter))?;
-    let text = read_text(reader, alloc)?;
-    Ok(Some(Message { heard, text }))
+    let Some(heard) = Heard::of_letter(letter) else {
+        return Err(WireFault::UnknownLetter(letter));
+    };
+    match read_text(reader, alloc) {
+        Ok(text) => Ok(Some(Message { heard, text })),
+        Err(fault) => Err(fault),
+    }
 }

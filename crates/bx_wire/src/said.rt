@@ -1,5 +1,12 @@
 //! What the keeper says.
 
+ghost use Rattle.std.specs.Prelude.{◌≡◌, ◌↔◌, IfOk, OnErr, OnOk, eqb, true};
+ghost use Rattle.std.specs.Io.KnownBytes.{Appends};
+ghost use Rattle.std.specs.List.{list_any};
+ghost use Rattle.bx_output.specs.Writing.{WritesFront};
+ghost use Rattle.bx_wire.specs.Messages.{message_bytes};
+ghost use Rattle.bx_wire.specs.Letters.{letter_of_said};
+
 use crate::fault::WireFault;
 use bx_output::write_all;
 use std::alloc::Global;
@@ -38,7 +45,9 @@ pub enum Said {
 
 impl Said {
     /// The letter that begins such a message.
-    pub fn letter(self) -> u8 {
+    pub fn letter(self) -> u8
+        ensures { result ≡ letter_of_said self }
+    {
         match self {
             Said::Output => b'o',
             Said::Error => b'e',
@@ -57,24 +66,41 @@ impl Said {
     }
 }
 
+/// The bytes of a message.
+fn bytes_of(alloc: Global, letter: u8, text: &[u8]) -> Result<Vec<u8>, WireFault>
+    ensures bytes { IfOk result (λ bytes. bytes.items ≡ message_bytes letter text.now) }
+    ensures memory { OnErr result (result ≡ Err WireFault.OutOfMemory) }
+{
+    let mut bytes = Vec::new(alloc);
+    bytes.push(letter)?;
+    bytes.extend_from_slice(text)?;
+    bytes.push(0)?;
+    Ok(bytes)
+}
+
 /// Writes a message and flushes it.
 ///
-/// Errors, in this order: `HoldsNul`, and nothing is written; `OutOfMemory`, and nothing is written; `Unwritten`.
+/// Errors, in this order: `HoldsNul`, and nothing is written; `OutOfMemory`, and nothing is written; `Unwritten`: a part of the
+/// message was written.
 pub fn write_message<W: Write>(
     writer: &mut W,
     alloc: Global,
     said: Said,
     text: &[u8],
-) -> Result<(), WireFault> {
+) -> Result<(), WireFault>
+    ensures writes { OnOk result (Appends (W.contents writer.old) (W.contents writer.new) (message_bytes (letter_of_said said) text.now)) }
+    ensures front { WritesFront (message_bytes (letter_of_said said) text.now) (W.contents writer.old) (W.contents writer.new) }
+    ensures nul { result ≡ Err WireFault.HoldsNul ↔ list_any (λ b. eqb b 0) text.now ≡ true }
+{
     if text.contains(&0) {
         return Err(WireFault::HoldsNul);
     }
-    let mut bytes = Vec::new(alloc);
-    bytes.push(said.letter())?;
-    bytes.extend_from_slice(text)?;
-    bytes.push(0)?;
-    if write_all(writer, bytes.as_slice()).is_err() || writer.flush().is_err() {
+    let bytes = bytes_of(alloc, said.letter(), text)?;
+    if write_all(writer, bytes.as_slice()).is_err() {
         return Err(WireFault::Unwritten);
     }
-    Ok(())
+    match writer.flush() {
+        Ok(()) => Ok(()),
+        Err(_) => Err(WireFault::Unwritten),
+    }
 }

@@ -1,5 +1,10 @@
 //! The two pipes to the host.
 
+ghost use Rattle.std.specs.Prelude.{OnOk};
+ghost use Rattle.std.specs.Io.KnownBytes.{Appends};
+ghost use Rattle.bx_wire.specs.Letters.{letter_of_said};
+ghost use Rattle.bx_wire.specs.Messages.{Reads, message_bytes};
+
 use crate::facts::Facts;
 use crate::fault::{HostFault, WireFault};
 use crate::heard::{Heard, Message};
@@ -13,8 +18,8 @@ use std::io::{Read, Write};
 #[derive(Drop)]
 pub struct Wire<R: Read + Drop, W: Write + Drop> {
     alloc: Global,
-    reader: R,
-    writer: W,
+    pub reader: R,
+    pub writer: W,
 }
 
 impl<R: Read + Drop, W: Write + Drop> Wire<R, W> {
@@ -29,14 +34,18 @@ impl<R: Read + Drop, W: Write + Drop> Wire<R, W> {
     /// The next message of the host; None where its pipe has ended.
     ///
     /// Errors: as [`read_message`].
-    pub fn hear(&mut self) -> Result<Option<Message>, WireFault> {
+    pub fn hear(&mut self) -> Result<Option<Message>, WireFault>
+        ensures { Reads result (R.remaining self.old.reader) (R.remaining self.new.reader) }
+    {
         read_message(&mut self.reader, self.alloc)
     }
 
     /// Sends a message to the host.
     ///
     /// Errors: as [`write_message`].
-    pub fn say(&mut self, said: Said, text: &str) -> Result<(), WireFault> {
+    pub fn say(&mut self, said: Said, text: &str) -> Result<(), WireFault>
+        ensures { OnOk result (Appends (W.contents self.old.writer) (W.contents self.new.writer) (message_bytes (letter_of_said said) text.now)) }
+    {
         write_message(&mut self.writer, self.alloc, said, text.as_bytes())
     }
 
