@@ -27,6 +27,7 @@ known heard.Tables = refl
 known heard.Toolchain = refl
 known heard.Terminal = refl
 known heard.Columns = refl
+known heard.Window = refl
 known heard.End = refl
 known heard.Answer = refl
 known heard.NoAnswer = refl

@@ -53,6 +53,7 @@ all_heard =
     ∷ heard.Toolchain
     ∷ heard.Terminal
     ∷ heard.Columns
+    ∷ heard.Window
     ∷ heard.End
     ∷ heard.Answer
     ∷ heard.NoAnswer

@@ -24,6 +24,8 @@ pub enum Heard {
     Terminal,
     /// The columns of the terminal on standard output, in decimal; 0 if it is none.
     Columns,
+    /// The rows and columns of the window to edit in, in decimal.
+    Window,
     /// The end of several messages that belong together; also the answer of a second that has nothing to say.
     End,
     /// An answer: the user's line, or the letters of the facts about a path.
@@ -60,6 +62,7 @@ impl Heard {
             Heard::Toolchain => b'k',
             Heard::Terminal => b't',
             Heard::Columns => b'c',
+            Heard::Window => b'C',
             Heard::End => b'.',
             Heard::Answer => b'a',
             Heard::NoAnswer => b'A',
@@ -87,6 +90,7 @@ impl Heard {
             b'k' => Heard::Toolchain,
             b't' => Heard::Terminal,
             b'c' => Heard::Columns,
+            b'C' => Heard::Window,
             b'.' => Heard::End,
             b'a' => Heard::Answer,
             b'A' => Heard::NoAnswer,
