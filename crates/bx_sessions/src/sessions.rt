@@ -2,15 +2,16 @@
 
 use crate::fault::FolderFault;
 use crate::file_id::FileId;
-use crate::session::Session;
+use crate::session::{Session, sync_folder};
 use crate::trust::{first_open_above, is_own_folder};
-use crate::when::Moment;
+use crate::when::LocalClock;
 use std::fs::{self, DirBuilder};
 use std::io::{self, ErrorKind};
 use std::os::unix::fs::DirBuilderExt;
 use std::path::Path;
 use std::random::RandomSource;
 use std::rt::Files;
+use std::time::SystemTime;
 
 /// The permissions of a folder of sessions, and of a session's: for the user alone.
 const FOR_USER_ALONE: u32 = 0o700;
@@ -46,7 +47,7 @@ fn real_path_of(rt: &HostRuntime, path: &str) -> io::Result<String> {
     Ok(above.as_path().join(rt.alloc(), name)?.into_string())
 }
 
-/// Random letters for a name, and `length` of them at the most.
+/// Random letters for a name.
 fn random_letters(rt: &HostRuntime) -> io::Result<String> {
     let mut bytes = [0; LETTERS];
     rt.fill_bytes(&mut bytes)?;
@@ -129,15 +130,12 @@ impl Sessions {
         }
     }
 
-    /// The names in the folder for which this holds, in order.
-    fn names(&self, rt: &HostRuntime, is_wanted: fn(&str) -> bool) -> io::Result<Vec<String>> {
+    /// The names in the folder, in order.
+    fn names(&self, rt: &HostRuntime) -> io::Result<Vec<String>> {
         let mut names = Vec::new(rt.alloc());
         for entry in fs::read_dir(rt, self.path())? {
             match entry {
-                Ok(entry) if is_wanted(entry.file_name()) => {
-                    names.push(String::from_str(rt.alloc(), entry.file_name())?)?;
-                }
-                Ok(_) => {}
+                Ok(entry) => names.push(String::from_str(rt.alloc(), entry.file_name())?)?,
                 // no name of a session
                 Err(error) if error.kind() == ErrorKind::InvalidFilename => {}
                 Err(error) => return Err(error),
@@ -145,5 +143,78 @@ impl Sessions {
         }
         names.sort_unstable();
         Ok(names)
+    }
+
+    /// The folder of this name.
+    fn folder(&self, rt: &HostRuntime, name: &str) -> io::Result<Option<Session>> {
+        let path = self.path();
+        let path = format!(in rt.alloc(); "{path}/{name}")?;
+        Session::at(rt, path)
+    }
+
+    /// The folders of these names, in their order.
+    fn folders(&self, rt: &HostRuntime, names: &[String]) -> io::Result<Vec<Session>> {
+        let mut folders = Vec::new(rt.alloc());
+        for name in names {
+            if let Some(folder) = self.folder(rt, name.as_str())? {
+                folders.push(folder)?;
+            }
+        }
+        Ok(folders)
+    }
+
+    /// All sessions, the oldest first; also those that are just being made.
+    pub fn all(&self, rt: &HostRuntime) -> io::Result<Vec<Session>> {
+        let mut names = self.names(rt)?;
+        names.retain(|name| is_session(name.as_str()));
+        self.folders(rt, names.as_slice())
+    }
+
+    /// All sessions, and the folders into which keys were replayed.
+    pub fn all_folders(&self, rt: &HostRuntime) -> io::Result<Vec<Session>> {
+        let mut names = self.names(rt)?;
+        names.retain(|name| is_session(name.as_str()) || is_replay(name.as_str()));
+        self.folders(rt, names.as_slice())
+    }
+
+    /// Makes an empty folder whose name begins so, for the user alone.
+    fn make_folder(&self, rt: &HostRuntime, beginning: &str) -> Result<Session, FolderFault> {
+        if !self.is_same(rt) {
+            return Err(FolderFault::Gone);
+        }
+        let folder = self.path();
+        for _ in 0..TRIES {
+            let letters = random_letters(rt)?;
+            let path = format!(in rt.alloc(); "{folder}/{beginning}{letters}")?;
+            match rt.create_dir_with_mode(path.as_str(), FOR_USER_ALONE) {
+                Ok(()) => return Session::at(rt, path)?.ok_or(FolderFault::Gone),
+                Err(error) if error.kind() == ErrorKind::AlreadyExists => {}
+                Err(error) => return Err(error.into()),
+            }
+        }
+        Err(FolderFault::Io(ErrorKind::AlreadyExists.into()))
+    }
+
+    /// Makes an empty folder for a session, named by the time and by letters that nobody can foresee.
+    ///
+    /// Errors: `Gone` where the folder of sessions is no longer the one that was judged; `Io`.
+    pub fn make_session(&self, rt: &HostRuntime) -> Result<Session, FolderFault> {
+        let now = LocalClock::read(rt).at(SystemTime::now(rt)?);
+        let digits = now.digits(rt.alloc())?;
+        let digits = digits.as_str();
+        let beginning = format!(in rt.alloc(); "{digits}.")?;
+        self.make_folder(rt, beginning.as_str())
+    }
+
+    /// Makes an empty folder into which keys are replayed.
+    ///
+    /// Errors: as `make_session`.
+    pub fn make_replay(&self, rt: &HostRuntime) -> Result<Session, FolderFault> {
+        self.make_folder(rt, REPLAY)
+    }
+
+    /// Syncs the folder, so that the names in it survive a crash of the machine.
+    pub fn sync(&self, rt: &HostRuntime) -> io::Result<()> {
+        sync_folder(rt, self.path())
     }
 }
