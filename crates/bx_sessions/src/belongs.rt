@@ -33,10 +33,7 @@ impl<'a> Target<'a> {
     pub fn at(rt: &HostRuntime, path: &'a str) -> Target<'a> {
         Target {
             path,
-            id: rt
-                .metadata(path)
-                .ok()
-                .map(|found| FileId::of(&found)),
+            id: rt.metadata(path).ok().map(|found| FileId::of(&found)),
         }
     }
 
@@ -56,9 +53,11 @@ impl<'a> Target<'a> {
         let Some(id) = &self.id else {
             return Ok(false);
         };
-        Ok(session
-            .file_id(rt)?
-            .is_some_and(|opened| id.is_surely_same(&opened)))
+        Ok(
+            session
+                .file_id(rt)?
+                .is_some_and(|opened| id.is_surely_same(&opened)),
+        )
     }
 }
 

@@ -1,17 +1,17 @@
 //! Sessions that are removed: unfinished folders, dropped changes, and what the user has forgotten.
 
 use crate::belongs::{Belonging, Target};
-use crate::find::{State, state_of};
+use crate::finding::{State, state_of};
 use crate::machine::Machine;
 use crate::part::Part;
 use crate::session::Session;
 use crate::sessions::Sessions;
 use std::io;
 use std::rt::Files;
-use std::time::{Duration, SystemTime};
+use std::time::SystemTime;
 
-/// The age at which a folder without a path was left by a start that was killed.
-const HOUR: Duration = Duration::from_secs(3600);
+/// The age, in seconds, at which a folder without a path was left by a start that was killed.
+const HOUR: u64 = 3600;
 
 /// A session that was removed.
 #[derive(Drop)]
@@ -28,7 +28,10 @@ pub struct Forgotten {
 fn is_old(rt: &HostRuntime, folder: &Session) -> io::Result<bool> {
     let made = rt.symlink_metadata(folder.path())?.modified()?;
     let now = SystemTime::now(rt)?;
-    Ok(now.duration_since(made).is_ok_and(|age| age >= HOUR))
+    Ok(
+        now.duration_since(made)
+            .is_ok_and(|age| age.as_secs() >= HOUR),
+    )
 }
 
 /// Removes the folders without a path that killed starts left, after an hour. One that is locked waits for room, and stays.

@@ -12,9 +12,10 @@ use thiserror::Error;
 /// The permissions of a lock's file: for the user alone.
 const FOR_USER_ALONE: u32 = 0o600;
 
-/// Number of tries for a lock, and the time between two of them: a second in all.
+/// Number of tries for a lock, and the milliseconds between two of them: a second in all.
 const TRIES: u32 = 20;
-const PAUSE: Duration = Duration::from_millis(50);
+
+const PAUSE: u64 = 50;
 
 /// A lock on a session, held until it is dropped.
 #[derive(Drop)]
@@ -58,7 +59,9 @@ fn lock_file(rt: &HostRuntime, file: &File) -> Result<(), LockFault> {
         match file.try_lock() {
             Ok(()) => return Ok(()),
             Err(TryLockError::Error(error)) => return Err(LockFault::Io(error)),
-            Err(TryLockError::WouldBlock) => thread::sleep(rt, PAUSE),
+            Err(TryLockError::WouldBlock) => {
+                thread::sleep(rt, Duration::from_millis(PAUSE));
+            },
         }
     }
     Err(LockFault::Held)

@@ -7,6 +7,7 @@ use std::fs;
 
 /// The files by which the kernel tells its name and its boot.
 const HOST_NAME: &str = "/proc/sys/kernel/hostname";
+
 const BOOT: &str = "/proc/sys/kernel/random/boot_id";
 
 /// What is written for a boot that is not known.

@@ -1,7 +1,7 @@
 //! A file after a save into it that was cut off.
 
 use crate::belongs::Target;
-use crate::find::{State, state_of};
+use crate::finding::{State, state_of};
 use crate::lock::{Lock, LockFault};
 use crate::machine::Machine;
 use crate::marks::{Verdict, judge_mark};

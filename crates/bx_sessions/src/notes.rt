@@ -30,9 +30,10 @@ impl Session {
 
     /// The first window, direction and line; None if they are not there, or are not those of a session.
     pub fn begin(&self, rt: &HostRuntime) -> io::Result<Option<Begin>> {
-        Ok(self
-            .text_note(rt, Part::Begin)?
-            .and_then(|words| Begin::parse(words.as_str())))
+        Ok(
+            self.text_note(rt, Part::Begin)?
+                .and_then(|words| Begin::parse(words.as_str())),
+        )
     }
 
     /// The process that began or resumed it; None if that is not known.
@@ -59,9 +60,10 @@ impl Session {
 
     /// FILE as it was opened: device, inode and birth; None if it was not there, or an old session does not tell.
     pub fn file_id(&self, rt: &HostRuntime) -> io::Result<Option<FileId>> {
-        Ok(self
-            .text_note(rt, Part::File)?
-            .and_then(|words| FileId::parse(words.as_str())))
+        Ok(
+            self.text_note(rt, Part::File)?
+                .and_then(|words| FileId::parse(words.as_str())),
+        )
     }
 
     /// A path that a file of the session has; None if the file is not there.

@@ -171,10 +171,7 @@ pub fn sessions_folder<H: Host>(
 /// Each is named once; most are not there.
 ///
 /// Errors: out of memory.
-pub fn all_folders(
-    rt: &HostRuntime,
-    around: &Surroundings<'_>,
-) -> Result<Vec<String>, AllocError> {
+pub fn all_folders(rt: &HostRuntime, around: &Surroundings<'_>) -> Result<Vec<String>, AllocError> {
     let mut folders = Vec::new(rt.alloc());
     let named = [
         around.temporary.unwrap_or("/tmp"),

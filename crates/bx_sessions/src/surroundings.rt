@@ -28,20 +28,19 @@ pub struct Surroundings<'a> {
     pub temporary: Option<&'a str>,
 }
 
-/// The nearest folder above a path, or the path itself, that is there.
+/// The nearest folder above an absolute path, or at it, that is there.
 pub fn nearest_folder<'p>(rt: &HostRuntime, path: &'p str) -> &'p str {
-    let mut nearest = "/";
-    for (end, _) in path.match_indices('/') {
+    if Path::new(path).is_dir(rt) {
+        return path;
+    }
+    for (end, _) in path.rmatch_indices('/') {
         if let Some(folder) = path.get(..end) {
-            if !folder.is_empty() && Path::new(folder).is_dir(rt) {
-                nearest = folder;
+            if Path::new(folder).is_dir(rt) {
+                return folder;
             }
         }
     }
-    if Path::new(path).is_dir(rt) {
-        nearest = path;
-    }
-    nearest
+    "/"
 }
 
 /// Whether the nearest folder of a path belongs to another user.

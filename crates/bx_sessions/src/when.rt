@@ -4,9 +4,8 @@ use jiff_core::Timestamp;
 use jiff_core::civil::DateTime;
 use jiff_tz::{SystemTimeZone, TimeZone, TimeZoneDatabase};
 use std::alloc::{AllocError, Global};
-use std::fs;
-use std::io;
 use std::time::{Duration, SystemTime};
+use std::{fs, io};
 
 /// The folder of time zones that TZ names.
 const ZONES: &str = "/usr/share/zoneinfo";
@@ -46,7 +45,9 @@ impl LocalClock {
         let system = SystemTimeZone::read(rt).unwrap_or(SystemTimeZone::Utc);
         let mut named = TimeZoneDatabase::new(rt.alloc());
         if let SystemTimeZone::Name {
-            name, file: None, ..
+            name,
+            file: None,
+            ..
         } = &system
         {
             // without the zone's file times are UTC
