@@ -3,11 +3,12 @@
 use crate::checking::mended_line;
 use crate::fault::Ended;
 use crate::keeping::Text;
-use crate::replaying::{Held, Replay, replay};
+use crate::replaying::{Replay, replay};
 use crate::running::Running;
 use crate::saying::warn;
 use crate::stop::Stop;
 use bx_launch::{are_all_crlf, mixed_line, signal_line};
+use bx_recovery::Held;
 use bx_sessions::{Kept, Look, Mended, Part, forget_dropped, mend};
 use bx_wire::Host;
 use bx_words::Shown;

@@ -1,20 +1,20 @@
 //! Replays of a session's keys.
 
+ghost use Rattle.std.specs.Prelude.{◌≡◌, true, IfSome};
+ghost use Rattle.bx_terms.specs.Sizes.{is_side};
+
 use crate::around::Around;
-use bx_sessions::Session;
+use bx_launch::Tables;
+use bx_recovery::{Beginning, Held, RecoveryFault, recover};
+use bx_sessions::{Part, Session};
+use bx_store::MemoryStore;
+use bx_terms::is_side;
+use bx_words::{FileFault, UnicodeBytes, UnicodePaths};
+use std::alloc::AllocError;
+use std::fs;
+use std::io::{self, ErrorKind};
 
-/// What FILE has, beside a session.
-#[derive(Clone, Copy, PartialEq, Eq, Debug)]
-pub enum Held {
-    /// The session's text.
-    Same,
-    /// The text as it was opened, or one that the session saved.
-    Known,
-    /// Another text.
-    Foreign,
-}
-
-/// A session's text after its keys.
+/// A session's text after its keys, and what FILE has beside it.
 #[derive(Drop)]
 pub struct Replay {
     pub held: Held,
@@ -31,7 +31,98 @@ pub enum ReplayFault {
     OutOfMemory,
 }
 
+impl From<io::Error> for ReplayFault {
+    fn from(error: io::Error) -> Self {
+        match error.kind() {
+            ErrorKind::OutOfMemory => ReplayFault::OutOfMemory,
+            _ => ReplayFault::Unreadable,
+        }
+    }
+}
+
+impl From<AllocError> for ReplayFault {
+    fn from(_error: AllocError) -> Self {
+        ReplayFault::OutOfMemory
+    }
+}
+
+impl From<FileFault<'_>> for ReplayFault {
+    fn from(fault: FileFault<'_>) -> Self {
+        match fault {
+            FileFault::OutOfMemory => ReplayFault::OutOfMemory,
+            FileFault::Unreadable(_) => ReplayFault::Unreadable,
+        }
+    }
+}
+
+impl From<RecoveryFault> for ReplayFault {
+    fn from(fault: RecoveryFault) -> Self {
+        match fault {
+            RecoveryFault::OutOfMemory | RecoveryFault::Unwritten => ReplayFault::OutOfMemory,
+            RecoveryFault::Tables(_) | RecoveryFault::Open(_) => ReplayFault::Unreadable,
+        }
+    }
+}
+
+/// Unicode's files, without those of joined letters, which change no text and no place.
+fn unicode_of(rt: &HostRuntime, tables: &Tables) -> Result<UnicodeBytes, ReplayFault> {
+    let paths = UnicodePaths {
+        classes: tables.classes.as_str(),
+        brackets: tables.brackets.as_str(),
+        mirroring: tables.mirroring.as_str(),
+        joining: None,
+    };
+    Ok(UnicodeBytes::read(rt, paths)?)
+}
+
+/// A side of a window, if it is one.
+fn side_of(side: u32) -> Option<u16>
+    ensures { IfSome result (λ n. is_side n ≡ true) }
+{
+    u16::try_from(side).ok().filter(|n| is_side(*n))
+}
+
+/// All bytes of a session's file.
+fn bytes_in(around: Around<'_>, session: &Session, part: Part) -> Result<Vec<u8>, ReplayFault> {
+    session
+        .read(around.rt, part)?
+        .ok_or(ReplayFault::Unreadable)
+}
+
+/// FILE's bytes; none where it is not there or cannot be read.
+fn bytes_of_file(around: Around<'_>, file: &str) -> Vec<u8> {
+    match fs::read(around.rt, file) {
+        Ok(bytes) => bytes,
+        Err(_) => Vec::new(around.alloc()),
+    }
+}
+
 /// Replays a session's keys over its text, and compares FILE with the text, with the opened one and with each saved one.
-pub fn replay(_around: Around<'_>, _session: &Session, _file: &str) -> Result<Replay, ReplayFault> {
-    Err(ReplayFault::Unreadable)
+///
+/// Errors: `Unreadable`; `OutOfMemory`.
+pub fn replay(around: Around<'_>, session: &Session, file: &str) -> Result<Replay, ReplayFault> {
+    let begin = session.begin(around.rt)?.ok_or(ReplayFault::Unreadable)?;
+    let rows = side_of(begin.rows).ok_or(ReplayFault::Unreadable)?;
+    let cols = side_of(begin.cols).ok_or(ReplayFault::Unreadable)?;
+    let unicode = unicode_of(around.rt, around.tables)?;
+    let text = bytes_in(around, session, Part::Text)?;
+    let keys = bytes_in(around, session, Part::Journal)?;
+    let beginning = Beginning {
+        alloc: around.alloc(),
+        unicode: unicode.lend(),
+        text: Some(text),
+        rows,
+        cols,
+        direction: begin.direction,
+        line: begin.line.map(u64::from),
+        unsaved: session.has(around.rt, Part::Unsaved),
+        keys: keys.as_slice(),
+    };
+    let mut store = MemoryStore::new(around.alloc(), None);
+    let replayed = recover(&mut store, beginning, bytes_of_file(around, file).as_slice())?;
+    Ok(Replay {
+        held: replayed.held,
+        keys: replayed.keys,
+        text: Vec::from_slice(around.alloc(), store.contents())?,
+    })
 }

@@ -109,7 +109,6 @@ pub fn program_words(
 ) -> io::Result<Vec<String>> {
     let alloc = around.alloc();
     let mut words = Vec::new(alloc);
-    add_word(alloc, &mut words, "--words")?;
     add_begin(alloc, &mut words, begun)?;
     add_tables(around, &mut words, begun.is_joined)?;
     if let Some(kept) = &begun.kept {

@@ -5,10 +5,11 @@ use crate::asking::{Rest, ask_rest, ask_to_go_on};
 use crate::checking::{Edited, mended_line};
 use crate::free_name::free_name;
 use crate::parts::keep_parts;
-use crate::replaying::{Held, Replay, ReplayFault, replay};
+use crate::replaying::{Replay, ReplayFault, replay};
 use crate::saying::tell;
 use crate::shelf::unwritable;
 use crate::stop::Stop;
+use bx_recovery::Held;
 use bx_sessions::{Kept, LockFault, Mended, Part, Session, Sessions, mend, renew};
 use bx_wire::Host;
 use bx_words::Shown;
@@ -41,7 +42,8 @@ pub enum Outcome {
     Missed,
 }
 
-/// A session of FILE that another start should not have.
+/// FILE, and the folder whose sessions may go on.
+#[derive(Clone, Copy)]
 pub struct Taking<'a> {
     pub around: Around<'a>,
     pub edited: &'a Edited,

@@ -66,6 +66,12 @@ impl From<AllocError> for HostFault {
     }
 }
 
+impl<T: Drop> From<AllocFailed<T>> for HostFault {
+    fn from(_error: AllocFailed<T>) -> Self {
+        HostFault::OutOfMemory
+    }
+}
+
 impl From<WireFault> for HostFault {
     fn from(fault: WireFault) -> Self {
         match fault {

@@ -104,6 +104,14 @@ impl Heard {
             _ => return None,
         })
     }
+
+    /// Whether the host says it unasked while the program runs.
+    pub fn is_told_unasked(self) -> bool {
+        matches!(
+            self,
+            Heard::Second | Heard::ProgramWord | Heard::Signal | Heard::Status
+        )
+    }
 }
 
 /// A message of the host.

@@ -1,6 +1,6 @@
 //! The two pipes to the host.
 
-ghost use Rattle.std.specs.Prelude.{OnOk};
+ghost use Rattle.std.specs.Prelude.{◌≡◌, [], OnOk};
 ghost use Rattle.std.specs.Io.KnownBytes.{Appends};
 ghost use Rattle.bx_wire.specs.Letters.{letter_of_said};
 ghost use Rattle.bx_wire.specs.Messages.{Reads, message_bytes};
@@ -20,6 +20,8 @@ pub struct Wire<R: Read + Drop, W: Write + Drop> {
     alloc: Global,
     pub reader: R,
     pub writer: W,
+    /// Messages that came while an answer was awaited, the last one first.
+    pub late: Vec<Message>,
 }
 
 impl<R: Read + Drop, W: Write + Drop> Wire<R, W> {
@@ -28,16 +30,27 @@ impl<R: Read + Drop, W: Write + Drop> Wire<R, W> {
             alloc,
             reader,
             writer,
+            late: Vec::new(alloc),
         }
     }
 
-    /// The next message of the host; None where its pipe has ended.
-    ///
-    /// Errors: as [`read_message`].
-    pub fn hear(&mut self) -> Result<Option<Message>, WireFault>
+    /// Reads the next message from the host's pipe; None where that has ended.
+    fn read(&mut self) -> Result<Option<Message>, WireFault>
         ensures { Reads result (R.remaining self.old.reader) (R.remaining self.new.reader) }
     {
         read_message(&mut self.reader, self.alloc)
+    }
+
+    /// The next message of the host, also one that came while an answer was awaited; None where its pipe has ended.
+    ///
+    /// Errors: as [`read_message`].
+    pub fn hear(&mut self) -> Result<Option<Message>, WireFault>
+        ensures { self.old.late.items ≡ [] → Reads result (R.remaining self.old.reader) (R.remaining self.new.reader) }
+    {
+        match self.late.pop() {
+            Some(message) => Ok(Some(message)),
+            None => self.read(),
+        }
     }
 
     /// Sends a message to the host.
@@ -49,12 +62,21 @@ impl<R: Read + Drop, W: Write + Drop> Wire<R, W> {
         write_message(&mut self.writer, self.alloc, said, text.as_bytes())
     }
 
-    /// The next message, which should be of this kind.
+    /// The next message of an answer, which should be of this kind. What comes from the program and its end meanwhile waits.
     fn hear_only(&mut self, heard: Heard) -> Result<Message, HostFault> {
-        match self.hear()? {
-            Some(message) if message.heard == heard => Ok(message),
-            _ => Err(HostFault::Gone),
+        for _ in 0..u64::MAX {
+            let Some(message) = self.read()? else {
+                break;
+            };
+            if message.heard == heard {
+                return Ok(message);
+            }
+            if !message.heard.is_told_unasked() {
+                break;
+            }
+            self.late.insert(0, message)?;
         }
+        Err(HostFault::Gone)
     }
 
     /// The next message's number.
