@@ -1,5 +1,8 @@
 //! Messages at a session's end.
 
+ghost use Rattle.std.specs.Prelude.{◌↔◌, IsTrue};
+ghost use Rattle.bx_launch.specs.LineEnds.{HasOnlyCrlf};
+
 use bx_words::Shown;
 use std::alloc::{AllocError, Global};
 
@@ -11,7 +14,9 @@ static SIGNALS: [&str; 31] = [
 ];
 
 /// Whether a text has lines, and all of them end with CR LF. A last line without an end does not count.
-pub fn are_all_crlf(text: &[u8]) -> bool {
+pub fn are_all_crlf(text: &[u8]) -> bool
+    ensures { IsTrue result ↔ HasOnlyCrlf text.now }
+{
     let mut has_lines = false;
     let mut last = 0;
     for byte in text {

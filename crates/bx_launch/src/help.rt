@@ -50,14 +50,8 @@ pub fn unicode_version(classes: &[u8]) -> Option<&str> {
         .iter()
         .position(|b| !b.is_ascii_digit() && *b != b'.')
         .unwrap_or(named.len());
-    let mut version = &named[..end];
-    while let Some(shorter) = version.strip_suffix(b".") {
-        version = shorter;
-    }
-    if version.is_empty() {
-        return None;
-    }
-    str::from_utf8(version).ok()
+    let last = named[..end].iter().rposition(|b| b.is_ascii_digit())?;
+    str::from_utf8(&named[..=last]).ok()
 }
 
 /// The text of `--version`, of the toolchain noted at the build, if any, and the bytes of DerivedBidiClass.txt.

@@ -1,6 +1,6 @@
 //! Names as messages tell them.
 
-use bx_words::{Numbered, Shown};
+use bx_words::{Inner, Numbered, Shown};
 use std::fmt::{self, Display};
 use std::str;
 
@@ -21,19 +21,6 @@ fn write_numbers<W: fmt::Write>(bytes: &[u8], f: &mut fmt::Formatter<W>) -> fmt:
     Ok(())
 }
 
-/// Writes a text as it stands between `$'` and `'`.
-fn write_escaped<W: fmt::Write>(text: &str, f: &mut fmt::Formatter<W>) -> fmt::Result {
-    let mut buffer = [0; 4];
-    for c in text.chars() {
-        let character = c.encode_utf8(&mut buffer);
-        match c {
-            '\'' | '\\' | '\n' => write_numbers(character.as_bytes(), f)?,
-            _ => write!(f, "{}", Numbered(character))?,
-        }
-    }
-    Ok(())
-}
-
 impl Display for Told<'_> {
     fn fmt<W: fmt::Write>(&self, f: &mut fmt::Formatter<W>) -> fmt::Result {
         if let Ok(name) = str::from_utf8(self.0) {
@@ -41,7 +28,7 @@ impl Display for Told<'_> {
         }
         f.write_str("$'")?;
         for chunk in self.0.utf8_chunks() {
-            write_escaped(chunk.valid(), f)?;
+            write!(f, "{}", Inner(chunk.valid()))?;
             write_numbers(chunk.invalid(), f)?;
         }
         f.write_str("'")

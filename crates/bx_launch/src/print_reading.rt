@@ -1,5 +1,7 @@
 //! Reading the words behind `--print`.
 
+ghost use Rattle.std.specs.Prelude.{◌≤◌, IfOk, IfSome, length};
+
 use crate::call::{Call, CallFault, PrintCall, WordFault};
 use crate::values::{columns_of, direction_of, path_of};
 use bx_terms::Base;
@@ -97,7 +99,9 @@ impl<'a> Before<'a> {
         &mut self,
         word: &'a [u8],
         rest: &'a [Vec<u8>],
-    ) -> Result<Option<&'a [Vec<u8>]>, WordFault<'a>> {
+    ) -> Result<Option<&'a [Vec<u8>]>, WordFault<'a>>
+        ensures { IfOk result (λ r. IfSome r (λ after. length after.now ≤ length rest.entry.now)) }
+    {
         match word_of(word) {
             Word::Wants(option) => {
                 let Some((value, after)) = rest.split_first() else {
@@ -136,12 +140,12 @@ fn before_of<'a>(words: &'a [Vec<u8>]) -> Result<Before<'a>, WordFault<'a>> {
         is_unjoined: false,
     };
     let mut left = words;
-    while let Some((word, rest)) = left.split_first() {
+    'words: while let Some((word, rest)) = left.split_first() {
         match before.take(word.as_slice(), rest)? {
             Some(after) => left = after,
             None => {
                 before.take_last(rest)?;
-                break;
+                break 'words;
             }
         }
     }

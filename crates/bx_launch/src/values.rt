@@ -1,5 +1,10 @@
 //! The values of options, and names of files on the command line.
 
+ghost use Rattle.std.specs.Prelude.{◌≡◌, ◌↔◌, true, IfOk, IfSome, IsSome, IsUtf8, OnOk, string_bytes};
+ghost use Rattle.std.specs.Str.Parse.{IsNumeral, digits_value};
+ghost use Rattle.bx_terms.specs.Sizes.{is_side};
+ghost use Rattle.bx_launch.specs.Values.{line_of_digits, path_of};
+
 use crate::call::{CallFault, WordFault};
 use bx_terms::{Base, LARGEST_SIDE};
 use std::alloc::Global;
@@ -8,28 +13,27 @@ use std::str;
 /// The number of the last line of the longest text: 16,777,216 line feeds end one line fewer.
 pub const LAST_LINE: u64 = 16_777_217;
 
-/// The largest number of digits that count, without zeros in front.
-const MOST_DIGITS: usize = 8;
+/// The most digits of a number of columns.
+const MOST_DIGITS: usize = 3;
 
-/// The number that decimal digits make; the last line's if they are more than eight behind zeros in front.
-pub fn line_of_digits(digits: &[u8]) -> u64 {
-    let mut left = digits;
-    while let [b'0', rest @ ..] = left {
-        left = rest;
-    }
-    if left.len() > MOST_DIGITS {
-        return LAST_LINE;
+/// The least number that counts as the last line's: one of nine digits.
+const TOO_LARGE: u64 = 100_000_000;
+
+/// The line that decimal digits name: the last line if the number has more than eight digits behind zeros in front. None if
+/// the bytes are no digits.
+pub fn line_of_digits(digits: &[u8]) -> Option<u64>
+    ensures numeral { IsSome result ↔ IsNumeral 10 digits.now }
+    ensures line { IfSome result (λ n. n ≡ line_of_digits digits.now) }
+{
+    if digits.is_empty() {
+        return None;
     }
     let mut number = 0;
-    for digit in left {
-        number = number * 10 + u64::from(digit - b'0');
+    for digit in digits {
+        let value = char::from(*digit).to_digit(10)?;
+        number = TOO_LARGE.min(number * 10 + u64::from(value));
     }
-    number
-}
-
-/// Whether bytes are decimal digits, at least one.
-fn are_digits(bytes: &[u8]) -> bool {
-    !bytes.is_empty() && bytes.iter().all(|b| b.is_ascii_digit())
+    Some(if number < TOO_LARGE { number } else { LAST_LINE })
 }
 
 /// A line's number as an option: None for the first.
@@ -41,10 +45,9 @@ fn line_option(number: u64) -> Option<u64> {
 ///
 /// Errors: `NoNumber` where it is no number.
 pub fn line_of(value: &[u8]) -> Result<Option<u64>, WordFault<'_>> {
-    if are_digits(value) {
-        Ok(line_option(line_of_digits(value)))
-    } else {
-        Err(WordFault::NoNumber(value))
+    match line_of_digits(value) {
+        Some(number) => Ok(line_option(number)),
+        None => Err(WordFault::NoNumber(value)),
     }
 }
 
@@ -58,12 +61,7 @@ pub fn line_of_plus(place: &[u8]) -> Option<Option<u64>> {
         .iter()
         .position(|b| *b == b',' || *b == b':')
         .unwrap_or(place.len());
-    let number = &place[..end];
-    if are_digits(number) {
-        Some(line_option(line_of_digits(number)))
-    } else {
-        None
-    }
+    line_of_digits(&place[..end]).map(line_option)
 }
 
 /// The direction that the value of `--direction` names.
@@ -80,16 +78,17 @@ pub fn direction_of(value: &[u8]) -> Result<Base, WordFault<'_>> {
 
 /// The columns that the value of `--cols` names, from 1 to 500.
 ///
-/// Errors: `NoWidth` where it is no such number of at most three digits.
-pub fn columns_of(value: &[u8]) -> Result<u16, WordFault<'_>> {
-    let mut number = 0;
-    if are_digits(value) && value.len() <= 3 {
-        for digit in value {
-            number = number * 10 + u16::from(digit - b'0');
-        }
-    }
-    if number >= 1 && number <= LARGEST_SIDE {
-        Ok(number)
+/// Errors: `NoWidth` where it is no such number, or has more than three digits.
+pub fn columns_of(value: &[u8]) -> Result<u16, WordFault<'_>>
+    ensures number { IfOk result (λ n. n ≡ digits_value 10 value.now) }
+    ensures side { IfOk result (λ n. is_side n ≡ true) }
+{
+    let number = match line_of_digits(value) {
+        Some(number) if value.len() <= MOST_DIGITS => number,
+        _ => 0,
+    };
+    if number >= 1 && number <= u64::from(LARGEST_SIDE) {
+        Ok(number as u16)
     } else {
         Err(WordFault::NoWidth(value))
     }
@@ -98,7 +97,10 @@ pub fn columns_of(value: &[u8]) -> Result<u16, WordFault<'_>> {
 /// The path that a word names, with `./` before it if it begins as an option.
 ///
 /// Errors: `NotUtf8`; `OutOfMemory`.
-pub fn path_of(alloc: Global, word: &[u8]) -> Result<String, CallFault<'_>> {
+pub fn path_of(alloc: Global, word: &[u8]) -> Result<String, CallFault<'_>>
+    ensures path { IfOk result (λ s. string_bytes s ≡ path_of word.now) }
+    ensures text { OnOk result (IsUtf8 word.now) }
+{
     let Ok(name) = str::from_utf8(word) else {
         return Err(CallFault::NotUtf8(word));
     };

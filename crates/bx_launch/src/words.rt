@@ -1,5 +1,7 @@
 //! Reading a command line.
 
+ghost use Rattle.std.specs.Prelude.{◌≤◌, IfOk, length};
+
 use crate::call::{Call, CallFault, EditCall, Options, RecoverCall, WordFault};
 use crate::print_reading::read_print_words;
 use crate::values::{direction_of, line_of, line_of_plus, path_of};
@@ -207,7 +209,9 @@ fn with_files<'a>(
 fn split_value<'a>(
     option: Valued,
     words: &'a [Vec<u8>],
-) -> Result<(&'a [u8], &'a [Vec<u8>]), WordFault<'a>> {
+) -> Result<(&'a [u8], &'a [Vec<u8>]), WordFault<'a>>
+    ensures { IfOk result (λ r. length r.1.now ≤ length words.entry.now) }
+{
     match words.split_first() {
         Some((value, rest)) => Ok((value.as_slice(), rest)),
         None => Err(WordFault::NoValue(option.word())),
@@ -220,7 +224,7 @@ fn split_value<'a>(
 pub fn read_words<'a>(alloc: Global, words: &'a [Vec<u8>]) -> Result<Call, CallFault<'a>> {
     let mut before = Before::new();
     let mut left = words;
-    while let Some((word, rest)) = left.split_first() {
+    'words: while let Some((word, rest)) = left.split_first() {
         match word_of(word.as_slice()) {
             Word::Help => return Ok(Call::Help),
             Word::Version => return Ok(Call::Version),
