@@ -1,3 +1,4 @@
+pub mod Keys
 pub mod LineEnds
 pub mod Marks
 pub mod Trust

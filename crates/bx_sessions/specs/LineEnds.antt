@@ -1,11 +1,11 @@
 -- Lines that end with CR LF.
-use Rattle.std.specs.Prelude.{◌≡◌, ◌<◌, ◌-◌, ℕ, List, length, slice_index}
+use Rattle.std.specs.Prelude.{◌≡◌, ◌==◌, ◌||◌, ◌&&◌, not, ℕ, Bool, true, List, [], ◌∷◌, Contains}
 
--- a line ends at this place of a text
-abbrev pub IsLineEnd : List ℕ → ℕ → Type 0
-IsLineEnd text k = (k < length text) × (slice_index text k ≡ 0x0a)
+-- each line feed of a text is right behind a carriage return, where `before` is the byte before the text
+abbrev pub are_behind_cr : ℕ → List ℕ → Bool
+are_behind_cr before [] = true
+are_behind_cr before (byte ∷ rest) = (not (byte == 0x0a) || before == 0x0d) && are_behind_cr byte rest
 
--- a text has lines, and right before each line's end is a CR
-pub record AllCrlf (text : List ℕ) : Type 0 where
-  pub has_line : (k : ℕ) × IsLineEnd text k
-  pub each : (k : ℕ) → IsLineEnd text k → (0 < k) × (slice_index text (k - 1) ≡ 0x0d)
+-- a text has lines, and each ends with CR LF
+abbrev pub AllCrlf : List ℕ → Type 0
+AllCrlf text = Contains text 0x0a × (are_behind_cr 0 text ≡ true)

@@ -1,7 +1,8 @@
 -- Files that a save into them left torn.
-use Rattle.std.specs.Prelude.{◌≡◌, ◌⊎◌, ◌≤◌, ◌<◌, ℕ, List, length, slice_index}
+use Rattle.std.specs.Prelude.{◌==◌, ◌||◌, ◌&&◌, ℕ, Bool, true, false, List, [], ◌∷◌}
 
--- no longer than the text, and each byte is the text's or 0
-pub record IsTorn (bytes text : List ℕ) : Type 0 where
-  pub short : length bytes ≤ length text
-  pub alike : (k : ℕ) → k < length bytes → (slice_index bytes k ≡ 0) ⊎ (slice_index bytes k ≡ slice_index text k)
+-- bytes are a beginning of a text, with zeros for blocks that were not written
+abbrev pub is_torn : List ℕ → List ℕ → Bool
+is_torn [] text = true
+is_torn (byte ∷ rest) [] = false
+is_torn (byte ∷ rest) (of_text ∷ text) = (byte == 0 || byte == of_text) && is_torn rest text

@@ -7,8 +7,9 @@
 //! - [`Sessions`] is such a folder, judged after it is there: [`Sessions::open`], or [`Sessions::make`] for a new session.
 //! - [`mend_all`] repairs a file after saves into it that were cut off.
 //! - [`find`] finds the sessions of a [`Target`]: live, elsewhere, unfinished, dropped.
-//! - [`Session::lock`] takes one over, [`resume`] continues it, [`renew`] makes a new one of a text that another version left.
-//! - [`begin`] makes a new one, [`fill`] writes its files, and may be tried again where there was no room.
+//! - [`Session::lock`] takes one over, [`Session::take_up`] and [`Session::resume`] continue it, [`renew`] makes a new one of a
+//!   text that another version left.
+//! - [`begin`] makes a new one, and [`Kept::fill`] writes its files; it may be tried again where there was no room.
 //!
 //! While it runs: [`Session::is_there`], [`Sessions::is_same`], [`has_room`]. At its end: [`mend`], [`forget_dropped`],
 //! [`Session::remove`].
@@ -55,7 +56,7 @@ pub use lock::{Lock, LockFault};
 pub use look::Look;
 pub use machine::{Machine, Process, may_go_on_elsewhere};
 pub use marks::{Verdict, judge_mark};
-pub use mending::{Mended, mend, mend_all};
+pub use mending::{Mended, Outcome, mend, mend_all};
 pub use opening::{FillFault, Kept, Opening, Source, begin};
 pub use part::Part;
 pub use places::{PlaceFault, all_folders, sessions_folder};

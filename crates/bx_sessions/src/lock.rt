@@ -112,11 +112,7 @@ impl Session {
     /// Removes the session, unless an editor has it. Returns whether it was removed.
     pub fn drop_unless_held(&self, rt: &HostRuntime) -> bool {
         match self.lock(rt, Part::Path) {
-            Ok(lock) => {
-                let is_removed = self.remove(rt).is_ok();
-                let Lock { file: _ } = lock;
-                is_removed
-            }
+            Ok(_lock) => self.remove(rt).is_ok(),
             Err(_) => false,
         }
     }

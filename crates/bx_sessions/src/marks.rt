@@ -1,7 +1,7 @@
 //! Whether a file has the text of a mark.
 
-ghost use Rattle.std.specs.Prelude.{◌≡◌, ◌≢◌, ◌↔◌, IsTrue};
-ghost use Rattle.bx_sessions.specs.Marks.{IsTorn};
+ghost use Rattle.std.specs.Prelude.{◌≡◌, ◌≢◌, ◌↔◌, true};
+ghost use Rattle.bx_sessions.specs.Marks.{is_torn};
 
 /// A file beside the whole text of a save into it.
 #[derive(Clone, Copy, PartialEq, Eq, Debug)]
@@ -16,19 +16,25 @@ pub enum Verdict {
 
 /// Whether bytes are a beginning of a text, with zeros for blocks that were not written.
 fn is_torn(bytes: &[u8], text: &[u8]) -> bool
-    ensures { IsTrue result ↔ IsTorn bytes.now text.now }
+    ensures { result ≡ is_torn bytes.now text.now }
 {
-    bytes.len() <= text.len()
-        && bytes
-            .iter()
-            .zip(text)
-            .all(|(byte, of_text)| *byte == 0 || *byte == *of_text)
+    let mut rest = text;
+    for byte in bytes {
+        let Some((first, behind)) = rest.split_first() else {
+            return false;
+        };
+        if *byte != 0 && *byte != *first {
+            return false;
+        }
+        rest = behind;
+    }
+    true
 }
 
 /// Compares a file's bytes with the text of a mark.
 pub fn judge_mark(bytes: &[u8], text: &[u8]) -> Verdict
     ensures whole { (result ≡ Verdict.Whole) ↔ (bytes.now ≡ text.now) }
-    ensures torn { (result ≡ Verdict.Torn) ↔ ((bytes.now ≢ text.now) × IsTorn bytes.now text.now) }
+    ensures torn { (result ≡ Verdict.Torn) ↔ ((bytes.now ≢ text.now) × (is_torn bytes.now text.now ≡ true)) }
 {
     if bytes == text {
         Verdict::Whole

@@ -2,11 +2,12 @@
 
 use crate::belongs::Target;
 use crate::finding::{State, state_of};
-use crate::lock::{Lock, LockFault};
+use crate::lock::LockFault;
 use crate::machine::Machine;
 use crate::marks::{Verdict, judge_mark};
+use crate::opening::open_plain;
 use crate::part::Part;
-use crate::session::{Session, if_found};
+use crate::session::Session;
 use crate::sessions::Sessions;
 use std::fs::{File, OpenFile, OpenOptions};
 use std::io::{self, ErrorKind, Read, Seek, SeekFrom, Write};
@@ -21,6 +22,14 @@ pub enum Mended {
     PutBack,
     /// A save of it was cut off, and its text cannot be put back. The mark has it.
     StillTorn,
+}
+
+/// What became of a file by one session's mark.
+#[derive(Drop, PartialEq, Eq, Debug)]
+pub struct Outcome {
+    pub mended: Mended,
+    /// The path of the mark. It is there as long as the file is torn.
+    pub mark: String,
 }
 
 impl Session {
@@ -61,7 +70,7 @@ fn is_being_saved(
 }
 
 /// Opens the file for reading and writing. It is not made: the system refuses that for another user's file in a sticky folder.
-fn open_file(rt: &HostRuntime, path: &str) -> io::Result<File> {
+fn open_to_mend(rt: &HostRuntime, path: &str) -> io::Result<File> {
     if !rt.metadata(path)?.is_file() {
         return Err(ErrorKind::InvalidInput.into());
     }
@@ -75,29 +84,44 @@ fn overwrite(file: &mut File, text: &[u8]) -> io::Result<()> {
     file.sync_all()
 }
 
-/// Puts the text of a mark back into a file that lacks some of it. The file is opened before it is judged, so that both are one
-/// file.
-fn put_back(rt: &HostRuntime, path: &str, text: &[u8]) -> io::Result<Mended> {
+/// The verdict on an open file, from its first byte on. One that is longer than the text is not read.
+fn judge_file(rt: &HostRuntime, file: &mut File, text: &[u8]) -> io::Result<Verdict> {
+    if file.metadata()?.len() > text.len() as u64 {
+        return Ok(Verdict::Other);
+    }
     let mut bytes = Vec::new(rt.alloc());
-    File::open(rt, path)?.read_to_end(&mut bytes)?;
-    if judge_mark(bytes.as_slice(), text) != Verdict::Torn {
+    file.read_to_end(&mut bytes)?;
+    Ok(judge_mark(bytes.as_slice(), text))
+}
+
+/// The verdict on the file at a path; `Other` where it cannot be read.
+fn judge_path(rt: &HostRuntime, path: &str, text: &[u8]) -> Verdict {
+    let judged = match open_plain(rt, path) {
+        Ok(mut file) => judge_file(rt, &mut file, text),
+        Err(error) => Err(error),
+    };
+    judged.unwrap_or(Verdict::Other)
+}
+
+/// Puts the text of a mark back into a torn file. The file is opened before it is judged again, so that both are one file.
+fn put_back(rt: &HostRuntime, path: &str, text: &[u8]) -> io::Result<Mended> {
+    let mut file = open_to_mend(rt, path)?;
+    if judge_file(rt, &mut file, text)? != Verdict::Torn {
         return Ok(Mended::Whole);
     }
-    let mut file = open_file(rt, path)?;
-    bytes.clear();
-    file.read_to_end(&mut bytes)?;
-    if judge_mark(bytes.as_slice(), text) == Verdict::Torn {
-        overwrite(&mut file, text)?;
-    }
+    overwrite(&mut file, text)?;
     Ok(Mended::PutBack)
 }
 
-/// Judges a file by the mark of a session that saves into it.
+/// Judges a file by the mark of a session that saves into it, and puts its text back if it is torn.
 fn mend_by(rt: &HostRuntime, session: &Session, target: &Target<'_>) -> io::Result<Mended> {
-    match session.read(rt, Part::Mark)? {
-        Some(text) => Ok(put_back(rt, target.path, text.as_slice()).unwrap_or(Mended::StillTorn)),
-        None => Ok(Mended::Whole),
+    let Some(text) = session.read(rt, Part::Mark)? else {
+        return Ok(Mended::Whole);
+    };
+    if judge_path(rt, target.path, text.as_slice()) != Verdict::Torn {
+        return Ok(Mended::Whole);
     }
+    Ok(put_back(rt, target.path, text.as_slice()).unwrap_or(Mended::StillTorn))
 }
 
 /// Repairs a file after a save of a locked session was cut off. The mark is kept as the text of the last one that was left,
@@ -147,17 +171,23 @@ fn has_mark_of(
     Ok(state != State::Live && state != State::Elsewhere)
 }
 
-/// Locks a session that has a mark; None if another start has it by now.
-fn lock_marked(rt: &HostRuntime, session: &Session) -> io::Result<Option<Lock>> {
+/// Locks a session that has a mark, and repairs the file. None if another start has the session by now.
+fn mend_unless_held(
+    rt: &HostRuntime,
+    sessions: &Sessions,
+    session: &Session,
+    target: &Target<'_>,
+    here: &Machine,
+) -> io::Result<Option<Mended>> {
     match session.lock(rt, Part::Mark) {
-        Ok(lock) => Ok(Some(lock)),
+        Ok(_lock) => Ok(Some(mend(rt, sessions, session, target, here)?)),
         Err(LockFault::Io(error)) => Err(error),
-        Err(_) => Ok(None),
+        Err(LockFault::Held | LockFault::Gone) => Ok(None),
     }
 }
 
-/// Repairs a file after saves that were cut off, of sessions that no editor has. The caller tells each outcome; after
-/// `StillTorn` comes none, and the last one has the session's path.
+/// Repairs a file after saves that were cut off, of sessions that no editor has. The caller tells each outcome; none comes after
+/// `StillTorn`.
 ///
 /// Errors: `Io` if the folder of sessions, or a session with a mark, cannot be read or written.
 pub fn mend_all(
@@ -165,20 +195,18 @@ pub fn mend_all(
     sessions: &Sessions,
     target: &Target<'_>,
     here: &Machine,
-) -> io::Result<Vec<(Mended, String)>> {
+) -> io::Result<Vec<Outcome>> {
     let mut outcomes = Vec::new(rt.alloc());
     for session in sessions.all(rt)? {
         if !has_mark_of(rt, sessions, &session, target, here)? {
             continue;
         }
-        let Some(lock) = lock_marked(rt, &session)? else {
-            continue;
-        };
-        let mended = mend(rt, sessions, &session, target, here)?;
-        let Lock { .. } = lock;
-        outcomes.push((mended, session.path_of(Part::Mark)?))?;
-        if mended == Mended::StillTorn {
-            break;
+        if let Some(mended) = mend_unless_held(rt, sessions, &session, target, here)? {
+            let mark = session.path_of(Part::Mark)?;
+            outcomes.push(Outcome { mended, mark })?;
+            if mended == Mended::StillTorn {
+                break;
+            }
         }
     }
     Ok(outcomes)

@@ -99,8 +99,8 @@ pub fn begin(rt: &HostRuntime, sessions: &Sessions) -> Result<Kept, FolderFault>
     }
 }
 
-/// Opens a plain file. A pipe is refused before it is opened, since that would wait for a writer.
-fn open_plain(rt: &HostRuntime, path: &str) -> io::Result<File> {
+/// Opens a plain file for reading. A pipe is refused before it is opened, since that would wait for a writer.
+pub fn open_plain(rt: &HostRuntime, path: &str) -> io::Result<File> {
     if !rt.metadata(path)?.is_file() {
         return Err(ErrorKind::InvalidInput.into());
     }

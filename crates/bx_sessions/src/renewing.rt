@@ -10,9 +10,10 @@ use crate::versions::Versions;
 use std::io::{self, ErrorKind};
 
 /// What the new session has of the old one as it is, where the old one has it.
-const COPIED: [Part; 5] = [
+const COPIED: [Part; 6] = [
     Part::Begin,
     Part::Mode,
+    Part::File,
     Part::Beside,
     Part::Unjoined,
     Part::Secret,
