@@ -1,5 +1,8 @@
 //! Questions, which are asked again at any other answer.
 
+ghost use Rattle.std.specs.Prelude.{◌≡◌};
+ghost use Rattle.bidi_keep.specs.Answers.{choice_of};
+
 use crate::stop::Stop;
 use bx_wire::Host;
 use std::alloc::Global;
@@ -65,17 +68,26 @@ pub fn ask_to_go_on<H: Host>(host: &mut H, alloc: Global, question: &str) -> Res
     Err(Stop::Told(NO_FURTHER))
 }
 
+/// What an answer chooses; None if it is another one.
+fn choice_of(answer: &[u8]) -> Option<Choice>
+    ensures { result ≡ choice_of answer.now }
+{
+    match answer {
+        b"r" | b"recover" => Some(Choice::Recover),
+        b"d" | b"delete" => Some(Choice::Delete),
+        b"l" | b"later" => Some(Choice::Later),
+        _ => None,
+    }
+}
+
 /// Asks what to do with an unfinished session.
 ///
 /// Errors: `Told` with status 2 where the input ended; `OutOfMemory`.
 pub fn ask_choice<H: Host>(host: &mut H, alloc: Global) -> Result<Choice, Stop> {
     for _ in 0..u64::MAX {
         let answer = ask(host, alloc, "[r]ecover, [d]elete for good, [l]ater?")?;
-        match answer.as_str() {
-            "r" | "recover" => return Ok(Choice::Recover),
-            "d" | "delete" | "delete for good" => return Ok(Choice::Delete),
-            "l" | "later" => return Ok(Choice::Later),
-            _ => {}
+        if let Some(choice) = choice_of(answer.as_str().as_bytes()) {
+            return Ok(choice);
         }
     }
     Err(Stop::Told(NO_FURTHER))

@@ -1,9 +1,10 @@
 //! The end of a session.
 
 use crate::checking::mended_line;
+use crate::fate::{Fate, Left};
 use crate::fault::Ended;
 use crate::keeping::Text;
-use crate::replaying::{Replay, replay};
+use crate::replaying::{Replay, replay_keys};
 use crate::running::Running;
 use crate::saying::warn;
 use crate::stop::Stop;
@@ -21,17 +22,6 @@ const CUT: &str = " up to where its journal could not be written";
 /// The largest journal whose text is put beside the keys after a signal, in bytes. Larger ones take too long for an end that is
 /// awaited.
 const QUICK: u64 = 20_000;
-
-/// How a session ends.
-#[derive(Clone, Copy)]
-struct End {
-    /// The program's exit status.
-    status: u64,
-    /// FILE has a part of a save, and cannot be repaired.
-    is_torn: bool,
-    /// The journal lacks its end.
-    is_cut: bool,
-}
 
 impl Running<'_> {
     /// Tells a line on standard error.
@@ -131,15 +121,25 @@ impl Running<'_> {
         let _ = kept.session.remove(self.around.rt);
     }
 
-    /// Whether the session has unsaved text even without keys.
-    fn has_unsaved_text(&self, kept: &Kept, status: u64) -> bool {
-        status != 0 && kept.session.has(self.around.rt, Part::Unsaved)
+    /// Whether the session has unsaved text: keys, or a text that counts as changed. A program that ends without unsaved text
+    /// empties the journal.
+    fn has_unsaved(&self, kept: &Kept, status: u64) -> bool {
+        let has_keys = self.journal_size().unwrap_or(0) > 0;
+        has_keys || (status != 0 && kept.session.has(self.around.rt, Part::Unsaved))
     }
 
-    /// Whether there is nothing to keep: the journal is empty, and FILE is whole.
-    fn has_nothing(&self, kept: &Kept, end: End) -> bool {
-        let is_empty = self.journal_size().unwrap_or(0) == 0;
-        is_empty && !end.is_torn && !self.has_unsaved_text(kept, end.status)
+    /// What is known of the session. Fills it if its text waits for room, and leaves its text beside the keys.
+    fn left(&mut self, kept: &Kept, status: u64, is_torn: bool) -> Left {
+        let has_unsaved = self.has_unsaved(kept, status);
+        let is_filled = self.fill_at_end();
+        Left {
+            status,
+            has_unsaved,
+            is_torn,
+            is_filled,
+            is_same: has_unsaved && is_filled && self.leave_text(kept),
+            is_secret: kept.session.has(self.around.rt, Part::Secret),
+        }
     }
 
     /// Ends the session after the program's end.
@@ -148,44 +148,47 @@ impl Running<'_> {
             let cause = self.cause()?;
             return self.tell_lost(host, status, cause.as_str());
         };
-        self.begun.kept = Some(Kept {
-            session: kept.session.copied().map_err(|_| Stop::OutOfMemory)?,
-            lock: kept.lock.copied().map_err(|_| Stop::OutOfMemory)?,
-        });
-        if !self.is_there(&kept) {
+        let ended = self.end_kept(host, &kept, status);
+        self.begun.kept = Some(kept);
+        ended
+    }
+
+    /// Ends a session that was kept.
+    fn end_kept<H: Host>(
+        &mut self,
+        host: &mut H,
+        kept: &Kept,
+        status: u64,
+    ) -> Result<(), Stop> {
+        if !self.is_there(kept) {
             let folder = Shown(kept.session.path());
             let cause = format!(in self.around.alloc(); "its folder {folder} is gone")?;
             return self.tell_lost(host, status, cause.as_str());
         }
-        let is_torn = self.begun.is_in_place && self.mend(host, &kept)?;
-        let end = End {
-            status,
-            is_torn,
-            is_cut: self.is_journal_lost,
-        };
-        self.end_kept(host, &kept, end)
-    }
-
-    /// Ends a session whose folder is there.
-    fn end_kept<H: Host>(&mut self, host: &mut H, kept: &Kept, end: End) -> Result<(), Stop> {
-        if self.has_nothing(kept, end) {
-            if end.is_cut {
-                self.tell_lost(host, end.status, "its journal could not be written")?;
+        let is_torn = self.begun.is_in_place && self.mend(host, kept)?;
+        let left = self.left(kept, status, is_torn);
+        match left.fate() {
+            Fate::Removed => {
+                if self.is_journal_lost && !left.has_unsaved {
+                    self.tell_lost(host, status, "its journal could not be written")?;
+                }
+                self.forget(kept);
             }
-            self.forget(kept);
-        } else if !self.fill_at_end() {
-            let cause = self.cause()?;
-            self.tell_lost(host, end.status, cause.as_str())?;
-            self.forget(kept);
-        } else {
-            self.leave(host, kept, end)?;
+            Fate::Lost => {
+                let cause = self.cause()?;
+                self.tell_lost(host, status, cause.as_str())?;
+                self.forget(kept);
+            }
+            Fate::Dropped => self.drop_changes(host, kept)?,
+            Fate::Wiped => self.wipe_changes(host, kept)?,
+            Fate::Kept => self.leave(host, kept)?,
         }
         Ok(())
     }
 
     /// Notes that the journal lacks its end. A full disk may still have room for another name.
     fn note_cut(&self, kept: &Kept) {
-        if kept.session.note_that(self.around.rt, Part::Cut).is_ok() {
+        if !self.is_journal_lost || kept.session.note_that(self.around.rt, Part::Cut).is_ok() {
             return;
         }
         if let (Ok(from), Ok(to)) = (kept.session.path_of(Part::Begin), kept.session.path_of(Part::Cut)) {
@@ -199,59 +202,50 @@ impl Running<'_> {
         if self.signal.is_some() && self.journal_size().unwrap_or(0) > QUICK {
             return None;
         }
-        replay(self.around, &kept.session, self.edited.path()).ok()
+        replay_keys(self.around, &kept.session, self.edited.path()).ok()
     }
 
-    /// Leaves a session to be recovered. Of sessions with dropped changes only the last is kept.
-    fn leave<H: Host>(&self, host: &mut H, kept: &Kept, end: End) -> Result<(), Stop> {
-        if end.is_cut {
-            self.note_cut(kept);
-        }
-        let replayed = self.replayed(kept);
-        if let Some(replayed) = &replayed {
-            // another version has to recover by the keys then
-            let _ = kept.session.put(self.around.rt, Part::Snapshot, replayed.text.as_slice());
-        }
-        let is_same = replayed.is_some_and(|replayed| replayed.held == Held::Same);
-        if end.status == 0 && !end.is_torn {
-            self.drop_changes(host, kept, end)
-        } else if is_same && !end.is_torn {
-            self.forget(kept);
-            Ok(())
-        } else {
-            self.tell_kept(host, end, "what was typed is kept", " gets it back")
-        }
+    /// Leaves the session's text beside its keys, for a recovery by another version. Whether FILE has the same text.
+    fn leave_text(&self, kept: &Kept) -> bool {
+        let Some(replayed) = self.replayed(kept) else {
+            return false;
+        };
+        // without it another version recovers by the keys
+        let _ = kept.session.put(self.around.rt, Part::Snapshot, replayed.text.as_slice());
+        replayed.held == Held::Same
     }
 
-    /// Keeps the changes that the user dropped, until others are dropped. Those of a FILE that only root can read are not kept.
-    fn drop_changes<H: Host>(&self, host: &mut H, kept: &Kept, end: End) -> Result<(), Stop> {
-        if kept.session.has(self.around.rt, Part::Secret) {
-            self.forget(kept);
-            let file = Shown(self.edited.file());
-            let line = format!(in self.around.alloc(); "what was dropped is not kept, since only root can read {file}")?;
-            return self.tell(host, line.as_str());
-        }
+    /// Leaves a session to be recovered.
+    fn leave<H: Host>(&self, host: &mut H, kept: &Kept) -> Result<(), Stop> {
+        self.note_cut(kept);
+        self.tell_kept(host, "what was typed is kept", " gets it back")
+    }
+
+    /// Keeps the changes that the user dropped, until others are dropped.
+    fn drop_changes<H: Host>(&self, host: &mut H, kept: &Kept) -> Result<(), Stop> {
+        self.note_cut(kept);
         if let Some(sessions) = &self.edited.shelf.sessions {
             // what stays is dropped at another end
             let _ = forget_dropped(self.around.rt, sessions, &kept.session);
         }
         // without it the next start asks about the session
         let _ = kept.session.note_that(self.around.rt, Part::Dropped);
-        self.tell_kept(host, end, "what was dropped can be had back", "")
+        self.tell_kept(host, "what was dropped can be had back", "")
+    }
+
+    /// Removes the changes that the user dropped.
+    fn wipe_changes<H: Host>(&self, host: &mut H, kept: &Kept) -> Result<(), Stop> {
+        self.forget(kept);
+        let file = Shown(self.edited.file());
+        let line = format!(in self.around.alloc(); "what was dropped is not kept, since only root can read {file}")?;
+        self.tell(host, line.as_str())
     }
 
     /// Tells what is kept, and how it is had back.
-    fn tell_kept<H: Host>(
-        &self,
-        host: &mut H,
-        end: End,
-        what: &str,
-        behind: &str,
-    ) -> Result<(), Stop> {
+    fn tell_kept<H: Host>(&self, host: &mut H, what: &str, behind: &str) -> Result<(), Stop> {
         let file = Shown(self.edited.file());
-        let part = if end.is_cut { CUT } else { "" };
-        let colon = ": bidi-edit --recover ";
-        let line = format!(in self.around.alloc(); "{what}{part}{colon}{file}{behind}")?;
+        let part = if self.is_journal_lost { CUT } else { "" };
+        let line = format!(in self.around.alloc(); "{what}{part}: bidi-edit --recover {file}{behind}")?;
         self.tell(host, line.as_str())
     }
 

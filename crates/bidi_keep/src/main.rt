@@ -10,6 +10,7 @@ mod beginning;
 mod checking;
 mod editing;
 mod ending;
+mod fate;
 mod fault;
 mod free_name;
 mod keeping;
@@ -203,3 +204,6 @@ fn main(rt: HostRuntime) -> ExitCode {
         None => ExitCode::SUCCESS,
     }
 }
+
+#[cfg(test)]
+mod tests;

@@ -6,7 +6,7 @@ use crate::checking::Edited;
 use crate::free_name::is_free;
 use crate::meeting::{ask_beside_live, tell_missed};
 use crate::parts::write_new_file;
-use crate::replaying::{ReplayFault, replay};
+use crate::replaying::{ReplayFault, replay_keys};
 use crate::saying::{tell, warn};
 use crate::stop::Stop;
 use crate::taking::{Outcome, Taken, Taking, tell_cut, tell_unsure};
@@ -164,7 +164,7 @@ fn text_of<H: Host>(
         }
         tell_unsure(around, host)?;
     }
-    match replay(around, session, edited.path()) {
+    match replay_keys(around, session, edited.path()) {
         Ok(replayed) => {
             tell_cut(around, host, session, replayed.keys)?;
             Ok((replayed.text, replayed.keys))

@@ -100,7 +100,7 @@ fn bytes_of_file(around: Around<'_>, file: &str) -> Vec<u8> {
 /// Replays a session's keys over its text, and compares FILE with the text, with the opened one and with each saved one.
 ///
 /// Errors: `Unreadable`; `OutOfMemory`.
-pub fn replay(around: Around<'_>, session: &Session, file: &str) -> Result<Replay, ReplayFault> {
+pub fn replay_keys(around: Around<'_>, session: &Session, file: &str) -> Result<Replay, ReplayFault> {
     let begin = session.begin(around.rt)?.ok_or(ReplayFault::Unreadable)?;
     let rows = side_of(begin.rows).ok_or(ReplayFault::Unreadable)?;
     let cols = side_of(begin.cols).ok_or(ReplayFault::Unreadable)?;

@@ -5,7 +5,7 @@ use crate::asking::{Rest, ask_rest, ask_to_go_on};
 use crate::checking::{Edited, mended_line};
 use crate::free_name::free_name;
 use crate::parts::keep_parts;
-use crate::replaying::{Replay, ReplayFault, replay};
+use crate::replaying::{Replay, ReplayFault, replay_keys};
 use crate::saying::tell;
 use crate::shelf::unwritable;
 use crate::stop::Stop;
@@ -104,7 +104,7 @@ impl Taking<'_> {
 
     /// Goes on with a session by its keys.
     fn take_by_keys<H: Host>(&self, host: &mut H, kept: Kept) -> Result<Outcome, Stop> {
-        match replay(self.around, &kept.session, self.edited.path()) {
+        match replay_keys(self.around, &kept.session, self.edited.path()) {
             Ok(replayed) => self.go_on_after(host, kept, &replayed),
             Err(ReplayFault::Unreadable) => self.ask_what_to_keep(host, &kept.session),
             Err(ReplayFault::OutOfMemory) => Err(Stop::OutOfMemory),
