@@ -1,6 +1,6 @@
 use Rattle.std.proofs.Common.{◌≡◌, take}
 use Rattle.bx_session.specs.Session.{after_replaying}
-use Rattle.bidi_edit.proofs.replaying.replay_beside.Given as goal
+use Rattle.bx_recovery.proofs.replaying.replay.Given as goal
 
 abbrev pub invariant-loop-byte : goal.invariant-loop-byte
 invariant-loop-byte g l =

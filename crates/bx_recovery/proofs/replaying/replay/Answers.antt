@@ -1,7 +1,7 @@
 use Rattle.std.proofs.lemmas.List.{take_more}
 use Rattle.bx_ucd.specs.Data.{Data}
-use Rattle.bidi_edit.proofs.Replays.{replayed_one}
-use Rattle.bidi_edit.proofs.replaying.replay_beside.Goals as goal
+use Rattle.bx_recovery.proofs.Replays.{replayed_one}
+use Rattle.bx_recovery.proofs.replaying.replay.Goals as goal
 
 pub loop-byte-preserved : goal.loop-byte-preserved
 loop-byte-preserved g c =
