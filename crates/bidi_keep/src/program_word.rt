@@ -26,6 +26,8 @@ pub enum Fault<'a> {
 pub enum ProgramWord<'a> {
     /// FILE was read with this look; None if it is not there.
     Opened(Option<Look>),
+    /// FILE was changed while it was read.
+    Changed,
     Fault(Fault<'a>),
     /// The journal could not be written.
     JournalLost,
@@ -66,6 +68,8 @@ fn fault_of(words: &str) -> Option<Fault<'_>> {
 pub fn read_program_word(word: &[u8]) -> Option<ProgramWord<'_>> {
     match str::from_utf8(word).ok()? {
         "o -" => Some(ProgramWord::Opened(None)),
+        "o changed" => Some(ProgramWord::Changed),
+        "f not-utf8" => Some(ProgramWord::Fault(Fault::NotUtf8(1))),
         "j lost" => Some(ProgramWord::JournalLost),
         "j kept" => Some(ProgramWord::JournalKept),
         word => match word.split_once(' ')? {

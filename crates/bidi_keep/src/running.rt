@@ -78,6 +78,8 @@ impl<'a> Running<'a> {
                 self.look = look;
                 self.text = keep_text(self.around, self.edited, &self.begun, look);
             }
+            // a text that was read in part cannot be copied
+            Some(ProgramWord::Changed) => self.text = Text::Lost,
             Some(ProgramWord::Fault(fault)) => {
                 self.ended = Some(Ended::of(self.around.alloc(), fault)?);
             }
