@@ -1,0 +1,90 @@
+#include "asking.h"
+
+#include <stdlib.h>
+#include <string.h>
+#include <unistd.h>
+
+#include "facts.h"
+#include "fault.h"
+#include "keeper.h"
+#include "question.h"
+#include "signals.h"
+#include "waiting.h"
+#include "writing.h"
+
+void add_word(struct command *command, const char *word) {
+    if (command->count + 2 > command->room) {
+        size_t room = command->room > 0 ? 2 * command->room : 32;
+        char **words = realloc(command->words, room * sizeof *words);
+        if (!words) fail("there is no memory");
+        command->words = words;
+        command->room = room;
+    }
+    char *copy = strdup(word);
+    if (!copy) fail("there is no memory");
+    command->words[command->count++] = copy;
+    command->words[command->count] = NULL;
+}
+
+static void set_title(struct request *request, const char *title) {
+    free(request->title);
+    request->title = strdup(title);
+}
+
+/* Reads an exit status. Returns -1 for what is none. */
+static int read_status(const char *text) {
+    char *end = NULL;
+    long status = strtol(text, &end, 10);
+    return *text && *end == 0 && status >= 0 && status <= 255 ? (int)status : -1;
+}
+
+/* Carries out one message. Returns whether the keeper said how to go on, and gives that. */
+static bool carry_out_one(const struct message *message, struct request *request, enum outcome *outcome) {
+    switch (message->letter) {
+    case 'o': write_within(STDOUT_FILENO, message->text, message->length, 0, false); return false;
+    case 'e': write_within(STDERR_FILENO, message->text, message->length, 0, false); return false;
+    case 'p': add_word(&request->printer, message->text); return false;
+    case 'b': add_word(&request->program, message->text); return false;
+    case 'f': tell_facts(message->text); return false;
+    case 'q': ask(message->text); return false;
+    case 'n': set_title(request, message->text); return false;
+    case 'g': *outcome = GO; return true;
+    case 'P': *outcome = PRINT; return true;
+    case 'x':
+        request->status = read_status(message->text);
+        *outcome = EXIT;
+        if (request->status >= 0) return true;
+        break;
+    default: break;
+    }
+    refuse_message();
+    *outcome = KEEPER_GONE;
+    return true;
+}
+
+enum outcome carry_out(struct request *request) {
+    struct message message;
+    enum outcome outcome = KEEPER_GONE;
+    for (;;) {
+        while (!end_signal && hear(&message))
+            if (carry_out_one(&message, request, &outcome)) return outcome;
+        if (end_signal) return SIGNALLED;
+        if (keeper.state != KEEPER_SPEAKS) return KEEPER_GONE;
+        wait_once(0);
+    }
+}
+
+bool hear_end(int *status, int64_t end, int64_t limit) {
+    struct message message;
+    for (;;) {
+        while (hear(&message)) {
+            if (message.letter == 'o') write_within(STDOUT_FILENO, message.text, message.length, limit, true);
+            else if (message.letter == 'e') write_within(STDERR_FILENO, message.text, message.length, limit, true);
+            else if (message.letter == 'x' && (*status = read_status(message.text)) >= 0) return true;
+            /* the answer of a second that went before the end */
+            else if (!strchr(".n!r", message.letter)) refuse_message();
+        }
+        if (keeper.state != KEEPER_SPEAKS || now() >= end) return false;
+        wait_once(end);
+    }
+}

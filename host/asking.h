@@ -1,0 +1,33 @@
+/* What the keeper asks for before the screen changes. */
+#ifndef ASKING_H
+#define ASKING_H
+
+#include <stdbool.h>
+#include <stddef.h>
+#include <stdint.h>
+
+/* A command line, word by word. */
+struct command {
+    char **words;
+    size_t count, room;
+};
+
+enum outcome { GO, PRINT, EXIT, KEEPER_GONE, SIGNALLED };
+
+struct request {
+    struct command program, printer;
+    char *title;
+    int status;
+};
+
+/* Puts a word behind a command line. Without memory the host ends. */
+void add_word(struct command *command, const char *word);
+
+/* Carries out what the keeper says until it says how to go on. */
+enum outcome carry_out(struct request *request);
+
+/* Writes the keeper's texts and reads its status behind the end of the program, until the time `end`. Returns false where the
+ * keeper did not answer. */
+bool hear_end(int *status, int64_t end, int64_t limit);
+
+#endif

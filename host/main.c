@@ -1,0 +1,164 @@
+/* bidi-edit [WORD..]: runs the editor in this terminal.
+ *
+ * The keeper, a program beside it, decides about words, files and sessions. The host has what only the system can do: the
+ * terminal, processes, signals and timers. It restores the terminal however the program, the keeper or it itself ends. */
+#include <fcntl.h>
+#include <pwd.h>
+#include <stdio.h>
+#include <stdlib.h>
+#include <string.h>
+#include <sys/ioctl.h>
+#include <sys/wait.h>
+#include <unistd.h>
+
+#include "asking.h"
+#include "children.h"
+#include "fault.h"
+#include "keeper.h"
+#include "kinds.h"
+#include "programs.h"
+#include "running.h"
+#include "signals.h"
+#include "terminal.h"
+#include "writing.h"
+
+/* How long the keeper has for the session's end, and to end itself. */
+enum { ENDING = 30000, ENDING_BY_SIGNAL = 3000, LEAVING = 3000, WHOLE_BY_SIGNAL = 4700, LEAST = 500 };
+enum { TELLING = 10000, TELLING_BY_SIGNAL = 1000 };
+
+static struct programs programs;
+
+/* Opens standard input, output and error where they are closed, so that no other file gets their numbers. */
+static void open_standard_files(void) {
+    int file = open("/dev/null", O_RDWR | O_CLOEXEC);
+    while (file >= 0 && file <= STDERR_FILENO) {
+        fcntl(file, F_SETFD, 0);
+        file = open("/dev/null", O_RDWR | O_CLOEXEC);
+    }
+    if (file >= 0) close(file);
+}
+
+static void say_variable(const char *name) {
+    const char *value = getenv(name);
+    size_t room = strlen(name) + (value ? strlen(value) : 0) + 2;
+    char *text = value ? malloc(room) : NULL;
+    if (!text) return;
+    snprintf(text, room, "%s=%s", name, value);
+    say('v', text);
+    free(text);
+}
+
+static void say_home(void) {
+    const struct passwd *user = getpwuid(geteuid());
+    say('h', user && user->pw_dir ? user->pw_dir : "");
+}
+
+/* Says the toolchain that was noted at the build. */
+static void say_toolchain(void) {
+    char kit[256];
+    FILE *stream = fopen(programs.kit, "re");
+    if (!stream) return;
+    if (fgets(kit, sizeof kit, stream)) {
+        kit[strcspn(kit, "\n")] = 0;
+        say('k', kit);
+    }
+    fclose(stream);
+}
+
+/* Says the first size as LINES and COLUMNS, since a session notes it. */
+static void say_size(struct size size) {
+    char text[32];
+    snprintf(text, sizeof text, "LINES=%u", size.rows);
+    say('v', text);
+    snprintf(text, sizeof text, "COLUMNS=%u", size.columns);
+    say('v', text);
+}
+
+static void say_start(int count, char **own_words, struct size size) {
+    static const char *const names[] = {"HOME", "XDG_STATE_HOME", "XDG_RUNTIME_DIR", "TMPDIR", "BIDI_EDIT_DATA"};
+    struct winsize window = {0};
+    bool is_dumb = strcmp(variable("TERM"), "dumb") == 0;
+    for (int i = 1; i < count; i++) say('w', own_words[i]);
+    for (size_t i = 0; i < sizeof names / sizeof *names; i++) say_variable(names[i]);
+    if (line >= 0) say_size(size);
+    say_number('u', geteuid());
+    say_home();
+    say('d', programs.tables);
+    say_toolchain();
+    say('t', is_dumb ? "dumb" : line >= 0 ? "yes" : "no");
+    say_number('c', ioctl(STDOUT_FILENO, TIOCGWINSZ, &window) == 0 ? window.ws_col : 0);
+    say('.', "");
+}
+
+/* Tells how the keeper ended, or that it was not understood. */
+static void tell_keeper(const char *effect) {
+    char detail[128] = "the keeper of sessions was not understood";
+    if (keeper.state == KEEPER_ENDED && keeper.process == 0 && WIFSIGNALED(keeper.status))
+        snprintf(detail, sizeof detail, "the keeper of sessions was ended by the signal %d", WTERMSIG(keeper.status));
+    else if (keeper.state == KEEPER_ENDED && keeper.process == 0 && WEXITSTATUS(keeper.status) == 127)
+        snprintf(detail, sizeof detail, "the keeper of sessions cannot be started");
+    else if (keeper.state == KEEPER_ENDED) snprintf(detail, sizeof detail, "the keeper of sessions has ended");
+    tell_fault(detail, effect);
+}
+
+static _Noreturn void print(struct request *request) {
+    end_keeper(now() + TELLING_BY_SIGNAL);
+    give_back_signals();
+    execv(programs.printer, request->printer.words);
+    tell_fault(programs.printer, " cannot be started");
+    exit(1);
+}
+
+/* Ends before the screen changed. */
+static _Noreturn void leave(enum outcome outcome, const struct request *request) {
+    end_keeper(now() + LEAVING);
+    if (outcome == SIGNALLED) die_from(end_signal);
+    if (outcome == EXIT) exit(request->status);
+    tell_keeper(": the editor is not started");
+    exit(1);
+}
+
+/* Has the keeper end the session. Returns the host's exit status. */
+static int end_session(int status) {
+    int64_t end = now() + (end_signal ? ENDING_BY_SIGNAL : ENDING), whole = end_time + WHOLE_BY_SIGNAL;
+    if (end_signal && end > whole) end = now() + LEAST > whole ? now() + LEAST : whole;
+    if (end_signal) say_number('y', (uint64_t)end_signal);
+    say_number('z', (uint64_t)status);
+    bool is_told = hear_end(&status, end, end_signal ? TELLING_BY_SIGNAL : TELLING);
+    bool is_late = !is_told && keeper.state == KEEPER_SPEAKS;
+    end_keeper(is_told ? now() + (end_signal ? LEAST : LEAVING) : now());
+    if (is_told) return status;
+    if (is_late) tell_fault("the session could not be ended in time", ": bidi-edit --recover lists what is kept");
+    else tell_keeper(": bidi-edit --recover lists what is kept");
+    return 1;
+}
+
+static _Noreturn void edit(struct request *request, struct size size) {
+    unsigned long length = 0;
+    bool has_filter = access(programs.filter, X_OK) == 0;
+    if (line < 0) fail("there is no terminal: start the editor in one (ssh -t gives one to a command)");
+    int status = run_program(request, programs.editor, has_filter ? programs.filter : NULL, size);
+    const char *said = other_words(&length);
+    if (length > 0) tell_foreign(said, length);
+    if (status < 0) tell_fault("the editor cannot be started", ": the system has no more processes or files");
+    status = end_session(status < 0 ? 1 : status);
+    if (end_signal) die_from(end_signal);
+    exit(status);
+}
+
+int main(int count, char **own_words) {
+    struct request request = {0};
+    struct size size;
+    open_standard_files();
+    if (!find_programs(own_words[0], &programs)) fail("its own place cannot be found");
+    set_signals();
+    if (!start_keeper(programs.keeper)) fail("no process can be started");
+    open_terminal();
+    measure(&size);
+    add_word(&request.printer, programs.printer);
+    say_start(count, own_words, size);
+    enum outcome outcome = carry_out(&request);
+    if (outcome == PRINT) print(&request);
+    if (outcome == GO) edit(&request, size);
+    leave(outcome, &request);
+}

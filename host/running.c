@@ -1,0 +1,159 @@
+#include "running.h"
+
+#include <signal.h>
+#include <stdint.h>
+#include <stdio.h>
+#include <string.h>
+#include <sys/wait.h>
+#include <unistd.h>
+
+#include "children.h"
+#include "ending.h"
+#include "fault.h"
+#include "keeper.h"
+#include "outer.h"
+#include "sequences.h"
+#include "signals.h"
+#include "waiting.h"
+#include "watcher.h"
+#include "writing.h"
+
+/* How long the program has to end, and the terminal to take what restores it, without and with a signal. */
+enum { GRACE = 3000, START = 3000, PATIENCE = 10000, SHORT_PATIENCE = 1000, SECOND = 1000 };
+
+static bool is_answered = true;
+
+/* Carries out what the keeper says while the program runs. */
+static void obey_keeper(void) {
+    struct message message;
+    while (hear(&message)) {
+        switch (message.letter) {
+        case '.': is_answered = true; break;
+        case 'n': show_title(message.text); break;
+        case '!': show("\a"); break;
+        case 'r': is_size_owed = keys >= 0; break;
+        default: refuse_message(); return;
+        }
+    }
+}
+
+/* Tells the keeper of each second, but not before it has answered the last one. */
+static void tell_second(int64_t *next) {
+    if (now() < *next) return;
+    *next = now() + SECOND;
+    if (!is_answered) return;
+    is_answered = false;
+    say('s', "");
+}
+
+/* After a stop another program may have changed the terminal. In the background the host is stopped here again. */
+static void take_up(void) {
+    set_raw();
+    show(sequences.again);
+}
+
+/* Takes note of signals for the window and of stops. */
+static void mind_terminal(void) {
+    if (keys >= 0 && is_continued) take_up();
+    if (keys >= 0 && (is_resized || is_continued)) is_size_owed = true;
+    is_resized = is_continued = 0;
+}
+
+/* Ends the program's input where the session is to end, and kills a program that does not end in time. Returns false where it
+ * does not even then. */
+static bool mind_end(int64_t *end, bool *is_killed) {
+    if (keys >= 0 && (end_signal || filter == 0 || keeper.state != KEEPER_SPEAKS)) {
+        close_input();
+        *end = now() + GRACE;
+    }
+    if (*end == 0 || now() < *end) return true;
+    if (*is_killed) return false;
+    kill(program, SIGKILL);
+    program_status = SIGKILL;
+    *is_killed = true;
+    *end = now() + SHORT_PATIENCE;
+    return true;
+}
+
+static void run(void) {
+    int64_t end = 0, second = now() + SECOND;
+    bool is_killed = false;
+    for (reap_children(); program > 0; reap_children()) {
+        obey_keeper();
+        if (!mind_end(&end, &is_killed)) return;
+        mind_terminal();
+        tell_second(&second);
+        wait_once(end != 0 && end < second ? end : second);
+    }
+}
+
+/* Finds the terminal's kind, and changes the terminal but for its screen. */
+static void change_terminal(struct request *request, bool has_filter) {
+    const char *answer = find_outer();
+    terminal_kind = find_kind(answer);
+    terminal_reordering = find_reordering(terminal_kind);
+    tell_mirroring(terminal_kind);
+    make_sequences(terminal_kind, terminal_reordering, request->title ? request->title : "", has_filter);
+    /* in the background the host is stopped here, until it has the terminal */
+    tell_watcher(TERMINAL_CHANGES, getpid());
+    set_raw();
+    tell_outer('l', terminal_reordering.off, terminal_kind, false);
+    write_ready(line, sequences.saving, strlen(sequences.saving), START, false);
+}
+
+static void add_size(struct command *command, const char *name, unsigned size) {
+    char text[16];
+    snprintf(text, sizeof text, "%u", size);
+    add_word(command, name);
+    add_word(command, text);
+}
+
+/* Makes the program's command line. A session that goes on begins in the window that it had: then the keeper's words have a size,
+ * and this returns false. */
+static bool make_command(struct command *command, const struct request *request, const char *editor, struct size first) {
+    bool has_size = true;
+    for (size_t i = 0; i < request->program.count; i++)
+        if (strcmp(request->program.words[i], "--rows") == 0) has_size = false;
+    add_word(command, editor);
+    if (has_size) {
+        add_size(command, "--rows", first.rows);
+        add_size(command, "--cols", first.columns);
+    }
+    add_word(command, "--words");
+    add_word(command, "--before");
+    add_word(command, sequences.before);
+    for (size_t i = 0; i < request->program.count; i++) add_word(command, request->program.words[i]);
+    return has_size;
+}
+
+/* Restores the terminal, and takes in what the program said last. */
+static void restore(void) {
+    close_input();
+    if (filter > 0) waitpid(filter, NULL, 0);
+    filter = 0;
+    if (words >= 0) hear_words();
+    restore_screen(end_signal ? SHORT_PATIENCE : PATIENCE);
+    restore_settings();
+    end_watcher();
+}
+
+int run_program(struct request *request, const char *editor, char *filter_file, struct size first) {
+    struct command command = {0};
+    bool is_started = false;
+    struct size size;
+    int words_end = open_words();
+    if (words_end < 0 || !note_settings() || !start_watcher(words, words_end)) return -1;
+    change_terminal(request, filter_file != NULL);
+    bool has_size = make_command(&command, request, editor, first);
+    listen_once();
+    if (!end_signal) {
+        is_started = start_children(filter_file, command.words, words_end);
+        /* the window may have changed since the keeper was told its size */
+        measure(&size);
+        is_size_owed = !has_size || size.rows != first.rows || size.columns != first.columns;
+    }
+    if (is_started) run();
+    restore();
+    if (!is_started) return end_signal ? 128 + end_signal : -1;
+    return WIFSIGNALED(program_status) ? 128 + WTERMSIG(program_status) : WEXITSTATUS(program_status);
+}

@@ -1,0 +1,71 @@
+#include "terminal.h"
+
+#include <errno.h>
+#include <fcntl.h>
+#include <signal.h>
+#include <string.h>
+#include <sys/ioctl.h>
+#include <termios.h>
+#include <unistd.h>
+
+enum { LONGEST = 500, MOST_SHOWN = 16384 };
+
+int line = -1, screen = -1;
+struct queue shown;
+static struct termios cooked, raw;
+
+bool open_terminal(void) {
+    const char *name = "/dev/tty";
+    line = open(name, O_RDWR | O_NONBLOCK | O_NOCTTY | O_CLOEXEC);
+    if (line < 0 && isatty(STDIN_FILENO) && isatty(STDOUT_FILENO)) {
+        name = ttyname(STDIN_FILENO);
+        if (name) line = open(name, O_RDWR | O_NONBLOCK | O_NOCTTY | O_CLOEXEC);
+    }
+    if (!name || line < 0) return false;
+    screen = open(name, O_RDWR | O_NOCTTY | O_CLOEXEC);
+    if (screen >= 0) return true;
+    close(line);
+    line = -1;
+    return false;
+}
+
+bool measure(struct size *size) {
+    struct winsize window = {0};
+    bool is_measured = line >= 0 && ioctl(line, TIOCGWINSZ, &window) == 0 && window.ws_row > 0 && window.ws_col > 0;
+    size->rows = window.ws_row == 0 ? 24 : window.ws_row > LONGEST ? LONGEST : window.ws_row;
+    size->columns = window.ws_col == 0 ? 80 : window.ws_col > LONGEST ? LONGEST : window.ws_col;
+    return is_measured;
+}
+
+bool note_settings(void) {
+    if (tcgetattr(line, &cooked) != 0) return false;
+    raw = cooked;
+    raw.c_iflag &= ~(tcflag_t)(IGNBRK | BRKINT | IGNPAR | PARMRK | INPCK | ISTRIP | INLCR | IGNCR | ICRNL);
+    raw.c_iflag &= ~(tcflag_t)(IXON | IXOFF | IXANY | IUCLC | IMAXBEL);
+    raw.c_oflag &= ~(tcflag_t)OPOST;
+    raw.c_lflag &= ~(tcflag_t)(ICANON | ISIG | ECHO | IEXTEN | XCASE);
+    raw.c_cc[VMIN] = 1;
+    raw.c_cc[VTIME] = 0;
+    return true;
+}
+
+void set_raw(void) {
+    while (tcsetattr(line, TCSANOW, &raw) != 0 && errno == EINTR) continue;
+}
+
+void restore_settings(void) {
+    signal(SIGTTOU, SIG_IGN);
+    while (tcsetattr(line, TCSANOW, &cooked) != 0 && errno == EINTR) continue;
+}
+
+void show(const char *text) {
+    size_t length = strlen(text);
+    if (shown.end - shown.start + length <= MOST_SHOWN) add_bytes(&shown, text, length);
+}
+
+void go_on_showing(void) {
+    ssize_t count = write(line, shown.bytes + shown.start, shown.end - shown.start);
+    if (count > 0) take_bytes(&shown, (size_t)count);
+    /* a closed terminal takes nothing any more */
+    if (count < 0 && errno != EAGAIN && errno != EINTR) take_bytes(&shown, shown.end - shown.start);
+}
