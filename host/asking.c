@@ -74,12 +74,18 @@ enum outcome carry_out(struct request *request) {
     }
 }
 
+/* Writes a text of the session's end; a blocked terminal delays nobody for longer than the whole end may take. */
+static void tell_end(int file, const struct message *message, int64_t end, int64_t limit) {
+    int64_t left = end - now();
+    write_within(file, message->text, message->length, left < 1 ? 1 : left < limit ? left : limit, true);
+}
+
 bool hear_end(int *status, int64_t end, int64_t limit) {
     struct message message;
     for (;;) {
         while (hear(&message)) {
-            if (message.letter == 'o') write_within(STDOUT_FILENO, message.text, message.length, limit, true);
-            else if (message.letter == 'e') write_within(STDERR_FILENO, message.text, message.length, limit, true);
+            if (message.letter == 'o') tell_end(STDOUT_FILENO, &message, end, limit);
+            else if (message.letter == 'e') tell_end(STDERR_FILENO, &message, end, limit);
             else if (message.letter == 'x' && (*status = read_status(message.text)) >= 0) return true;
             /* the answer of a second that went before the end */
             else if (!strchr(".n!r", message.letter)) refuse_message();

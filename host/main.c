@@ -23,7 +23,7 @@
 #include "writing.h"
 
 /* How long the keeper has for the session's end, and to end itself. */
-enum { ENDING = 30000, ENDING_BY_SIGNAL = 3000, LEAVING = 3000, WHOLE_BY_SIGNAL = 4700, LEAST = 500 };
+enum { ENDING = 30000, ENDING_BY_SIGNAL = 3000, LEAVING = 3000, WHOLE_BY_SIGNAL = 4500, LEAST = 200 };
 enum { TELLING = 10000, TELLING_BY_SIGNAL = 1000 };
 
 static struct programs programs;

@@ -17,7 +17,7 @@
 #include "writing.h"
 
 /* How long tmux may take to answer, and the terminal to take what it is told. */
-enum { PATIENCE = 2000, TELLING = 1000, MOST_ROWS = 500 };
+enum { PATIENCE = 2000, TELLING = 500, MOST_ROWS = 500 };
 
 static char outer[PATH_MAX];
 

@@ -87,14 +87,17 @@ static void run(void) {
     }
 }
 
-/* Finds the terminal's kind, and changes the terminal but for its screen. */
-static void change_terminal(struct request *request, bool has_filter) {
+/* Finds the terminal's kind, and what it is to be told. */
+static void prepare_terminal(const struct request *request, bool has_filter) {
     const char *answer = find_outer();
     terminal_kind = find_kind(answer);
     terminal_reordering = find_reordering(terminal_kind);
     tell_mirroring(terminal_kind);
     make_sequences(terminal_kind, terminal_reordering, request->title ? request->title : "", has_filter);
-    /* in the background the host is stopped here, until it has the terminal */
+}
+
+/* Changes the terminal but for its screen. In the background the host is stopped here, until it has the terminal. */
+static void change_terminal(void) {
     tell_watcher(TERMINAL_CHANGES, getpid());
     set_raw();
     tell_outer('l', terminal_reordering.off, terminal_kind, false);
@@ -141,10 +144,12 @@ int run_program(struct request *request, const char *editor, char *filter_file, 
     struct command command = {0};
     bool is_started = false;
     struct size size;
+    /* the watcher has what is known at its start */
+    prepare_terminal(request, filter_file != NULL);
+    bool has_size = make_command(&command, request, editor, first);
     int words_end = open_words();
     if (words_end < 0 || !note_settings() || !start_watcher(words, words_end)) return -1;
-    change_terminal(request, filter_file != NULL);
-    bool has_size = make_command(&command, request, editor, first);
+    change_terminal();
     listen_once();
     if (!end_signal) {
         is_started = start_children(filter_file, command.words, words_end);

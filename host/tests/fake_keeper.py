@@ -1,4 +1,4 @@
-#!/usr/bin/python3
+#!/usr/bin/python3 -SI
 """A keeper for tests. What it does is told by the first word of the command line:
 
 edit KIND FILE: has the program edit FILE. KIND: plain; slow (answers no second, and the end after 2 s); mute (never answers the

@@ -142,6 +142,15 @@ class Run:
         while self.is_read and select.select([self.master], [], [], 0)[0]:
             self.output += os.read(self.master, 1 << 16)
 
+    def hang_up(self):
+        """Closes the terminal, as its window's end does."""
+        self.is_read = False
+        os.close(self.master)
+        self.master = -1
+
+    def processes(self):
+        return marked(self.mark)
+
     def child(self, name):
         """The number of a child of the job whose name begins so; 0 without one."""
         for process, (comm, _, parent) in marked(self.mark).items():
@@ -172,5 +181,6 @@ class Run:
         os.close(self.hold)
         os.waitpid(self.leader, 0)
         for file in (self.told, self.master, self.slave):
-            os.close(file)
+            if file >= 0:
+                os.close(file)
         reap(0)
