@@ -82,7 +82,8 @@ static void tell_end(int file, const struct message *message, int64_t end, int64
 
 bool hear_end(int *status, int64_t end, int64_t limit) {
     struct message message;
-    for (;;) {
+    /* what is said in time is heard, also where the telling took all of it */
+    for (bool is_over = false;; is_over = now() >= end) {
         while (hear(&message)) {
             if (message.letter == 'o') tell_end(STDOUT_FILENO, &message, end, limit);
             else if (message.letter == 'e') tell_end(STDERR_FILENO, &message, end, limit);
@@ -90,7 +91,7 @@ bool hear_end(int *status, int64_t end, int64_t limit) {
             /* the answer of a second that went before the end */
             else if (!strchr(".n!r", message.letter)) refuse_message();
         }
-        if (keeper.state != KEEPER_SPEAKS || now() >= end) return false;
+        if (keeper.state != KEEPER_SPEAKS || is_over) return false;
         wait_once(end);
     }
 }

@@ -1,18 +1,24 @@
 #include "fault.h"
 
+#include <stddef.h>
 #include <stdio.h>
 #include <stdlib.h>
 #include <string.h>
 #include <unistd.h>
 
+#include "signals.h"
 #include "writing.h"
 
-enum { LIMIT = 1000, MOST = 4096 };
+enum { LIMIT = 1000, LIMIT_BY_SIGNAL = 200, MOST = 4096 };
+
+static void tell(const char *text, size_t length) {
+    write_within(STDERR_FILENO, text, length, end_signal ? LIMIT_BY_SIGNAL : LIMIT, true);
+}
 
 void tell_fault(const char *cause, const char *detail) {
     char text[1024];
     snprintf(text, sizeof text, "bidi-edit: %s%s\n", cause, detail);
-    write_within(STDERR_FILENO, text, strlen(text), LIMIT, true);
+    tell(text, strlen(text));
 }
 
 _Noreturn void fail(const char *cause) {
@@ -28,5 +34,5 @@ void tell_foreign(const char *text, unsigned long length) {
         letters[i] = (letter < ' ' && letter != '\n') || letter == 127 ? '?' : text[i];
     }
     if (count > 0 && letters[count - 1] != '\n') letters[count++] = '\n';
-    write_within(STDERR_FILENO, letters, count, LIMIT, true);
+    tell(letters, count);
 }

@@ -23,7 +23,7 @@
 #include "writing.h"
 
 /* How long the keeper has for the session's end, and to end itself. */
-enum { ENDING = 30000, ENDING_BY_SIGNAL = 3000, LEAVING = 3000, WHOLE_BY_SIGNAL = 4500, LEAST = 200 };
+enum { ENDING = 30000, ENDING_BY_SIGNAL = 3000, LEAVING = 3000, WHOLE_BY_SIGNAL = 4300, LEAST = 200 };
 enum { TELLING = 10000, TELLING_BY_SIGNAL = 1000 };
 
 static struct programs programs;
@@ -65,13 +65,11 @@ static void say_toolchain(void) {
     fclose(stream);
 }
 
-/* Says the first size as LINES and COLUMNS, since a session notes it. */
-static void say_size(struct size size) {
+/* Says the window, since a session notes its first one. */
+static void say_window(struct size size) {
     char text[32];
-    snprintf(text, sizeof text, "LINES=%u", size.rows);
-    say('v', text);
-    snprintf(text, sizeof text, "COLUMNS=%u", size.columns);
-    say('v', text);
+    snprintf(text, sizeof text, "%u %u", size.rows, size.columns);
+    say('C', text);
 }
 
 static void say_start(int count, char **own_words, struct size size) {
@@ -80,7 +78,7 @@ static void say_start(int count, char **own_words, struct size size) {
     bool is_dumb = strcmp(variable("TERM"), "dumb") == 0;
     for (int i = 1; i < count; i++) say('w', own_words[i]);
     for (size_t i = 0; i < sizeof names / sizeof *names; i++) say_variable(names[i]);
-    if (line >= 0) say_size(size);
+    if (line >= 0) say_window(size);
     say_number('u', geteuid());
     say_home();
     say('d', programs.tables);

@@ -3,6 +3,7 @@
 #include <signal.h>
 #include <stdint.h>
 #include <stdio.h>
+#include <stdlib.h>
 #include <string.h>
 #include <sys/wait.h>
 #include <unistd.h>
@@ -111,14 +112,29 @@ static void add_size(struct command *command, const char *name, unsigned size) {
     add_word(command, text);
 }
 
-/* Makes the program's command line. A session that goes on begins in the window that it had: then the keeper's words have a size,
- * and this returns false. */
-static bool make_command(struct command *command, const struct request *request, const char *editor, struct size first) {
-    bool has_size = true;
-    for (size_t i = 0; i < request->program.count; i++)
-        if (strcmp(request->program.words[i], "--rows") == 0) has_size = false;
+/* The word behind this one; NULL where it is not there. */
+static const char *word_behind(const struct command *command, const char *name) {
+    for (size_t i = 0; i + 1 < command->count; i++)
+        if (strcmp(command->words[i], name) == 0) return command->words[i + 1];
+    return NULL;
+}
+
+static bool is_side(const char *word, unsigned size) {
+    return !word || strtoul(word, NULL, 10) == size;
+}
+
+/* Whether the program begins in another window than the present one, or a replay may end in another. */
+static bool is_other_window(const struct command *program_words) {
+    struct size size;
+    measure(&size);
+    return word_behind(program_words, "--replay") || !is_side(word_behind(program_words, "--rows"), size.rows) ||
+           !is_side(word_behind(program_words, "--cols"), size.columns);
+}
+
+/* Makes the program's command line. The keeper's words may have a size already, as the session began. */
+static void make_command(struct command *command, const struct request *request, const char *editor, struct size first) {
     add_word(command, editor);
-    if (has_size) {
+    if (!word_behind(&request->program, "--rows")) {
         add_size(command, "--rows", first.rows);
         add_size(command, "--cols", first.columns);
     }
@@ -126,7 +142,6 @@ static bool make_command(struct command *command, const struct request *request,
     add_word(command, "--before");
     add_word(command, sequences.before);
     for (size_t i = 0; i < request->program.count; i++) add_word(command, request->program.words[i]);
-    return has_size;
 }
 
 /* Restores the terminal, and takes in what the program said last. */
@@ -143,19 +158,16 @@ static void restore(void) {
 int run_program(struct request *request, const char *editor, char *filter_file, struct size first) {
     struct command command = {0};
     bool is_started = false;
-    struct size size;
     /* the watcher has what is known at its start */
     prepare_terminal(request, filter_file != NULL);
-    bool has_size = make_command(&command, request, editor, first);
+    make_command(&command, request, editor, first);
     int words_end = open_words();
     if (words_end < 0 || !note_settings() || !start_watcher(words, words_end)) return -1;
     change_terminal();
     listen_once();
     if (!end_signal) {
         is_started = start_children(filter_file, command.words, words_end);
-        /* the window may have changed since the keeper was told its size */
-        measure(&size);
-        is_size_owed = !has_size || size.rows != first.rows || size.columns != first.columns;
+        is_size_owed = is_started && is_other_window(&command);
     }
     if (is_started) run();
     restore();

@@ -1,11 +1,12 @@
 """check_host.py HOST [--runs N] [NAME..]: checks the host with programs for tests around it; see scripts/check-host.sh."""
 import json, os, random, shutil, signal, subprocess, sys, tempfile, time
 sys.path.insert(0, os.path.dirname(os.path.abspath(__file__)))
-import ends
+import cases, ends
 from terminals import become_reaper
 from tree import Tree
 
 JOBS = 6
+CASES = {case.__name__: case for case in cases.ALL}
 
 
 def check_ends(tree, kind, runs):
@@ -30,7 +31,7 @@ def worker(host, runs, names):
     tree = Tree(f'{folder}/tree', host)
     try:
         for name in names:
-            for result in check_ends(tree, name, runs):
+            for result in CASES[name](tree) if name in CASES else check_ends(tree, name, runs):
                 print(json.dumps(result), flush=True)
     finally:
         shutil.rmtree(folder, ignore_errors=True)
@@ -45,7 +46,7 @@ def main():
     if words[:1] == ['--worker']:
         worker(host, runs, words[1:])
         return
-    names = words or ends.KINDS
+    names = words or [*CASES, *ends.KINDS]
     jobs = min(JOBS, len(names))
     started = [subprocess.Popen([sys.executable, os.path.abspath(__file__), host, '--runs', str(runs), '--worker', *names[job::jobs]],
                                 stdout=subprocess.PIPE, text=True) for job in range(jobs)]
