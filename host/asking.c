@@ -5,25 +5,18 @@
 #include <unistd.h>
 
 #include "facts.h"
-#include "fault.h"
 #include "keeper.h"
 #include "question.h"
 #include "signals.h"
 #include "waiting.h"
 #include "writing.h"
 
-void add_word(struct command *command, const char *word) {
-    if (command->count + 2 > command->room) {
-        size_t room = command->room > 0 ? 2 * command->room : 32;
-        char **words = realloc(command->words, room * sizeof *words);
-        if (!words) fail("there is no memory");
-        command->words = words;
-        command->room = room;
-    }
-    char *copy = strdup(word);
-    if (!copy) fail("there is no memory");
-    command->words[command->count++] = copy;
-    command->words[command->count] = NULL;
+bool add_word(struct command *command, const char *word) {
+    if (command->count >= MOST_COMMAND) return false;
+    command->words[command->count] = strdup(word);
+    if (!command->words[command->count]) return false;
+    command->count++;
+    return true;
 }
 
 static void set_title(struct request *request, const char *title) {
@@ -43,8 +36,12 @@ static bool carry_out_one(const struct message *message, struct request *request
     switch (message->letter) {
     case 'o': write_within(STDOUT_FILENO, message->text, message->length, 0, false); return false;
     case 'e': write_within(STDERR_FILENO, message->text, message->length, 0, false); return false;
-    case 'p': add_word(&request->printer, message->text); return false;
-    case 'b': add_word(&request->program, message->text); return false;
+    case 'p':
+        if (add_word(&request->printer, message->text)) return false;
+        break;
+    case 'b':
+        if (add_word(&request->program, message->text)) return false;
+        break;
     case 'f': tell_facts(message->text); return false;
     case 'q': ask(message->text); return false;
     case 'n': set_title(request, message->text); return false;

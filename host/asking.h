@@ -6,10 +6,12 @@
 #include <stddef.h>
 #include <stdint.h>
 
-/* A command line, word by word. */
+enum { MOST_COMMAND = 250 };
+
+/* A command line, word by word, with a NULL at its end. */
 struct command {
-    char **words;
-    size_t count, room;
+    char *words[MOST_COMMAND + 1];
+    size_t count;
 };
 
 enum outcome { GO, PRINT, EXIT, KEEPER_GONE, SIGNALLED };
@@ -20,8 +22,8 @@ struct request {
     int status;
 };
 
-/* Puts a word behind a command line. Without memory the host ends. */
-void add_word(struct command *command, const char *word);
+/* Puts a word behind a command line. Returns false where there is no room. */
+bool add_word(struct command *command, const char *word);
 
 /* Carries out what the keeper says until it says how to go on. */
 enum outcome carry_out(struct request *request);

@@ -110,9 +110,9 @@ void close_input(void) {
 }
 
 void send_size(void) {
-    char text[32];
     struct size size;
     if (measure(&size)) {
+        char text[32];
         int length = snprintf(text, sizeof text, "\033[8;%u;%ut", size.rows, size.columns);
         if (write_once_within(keys, text, (size_t)length, SIZE_LIMIT) != length && errno == EINTR) return;
     }

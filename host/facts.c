@@ -51,7 +51,7 @@ static enum answer is_in_mounts(const char *real) {
 static enum answer is_mount(const char *path, const char *real) {
     struct statx look;
     if (statx(AT_FDCWD, path, AT_STATX_DONT_SYNC, 0, &look) == 0 && (look.stx_attributes_mask & STATX_ATTR_MOUNT_ROOT))
-        return look.stx_attributes & STATX_ATTR_MOUNT_ROOT ? YES : NO;
+        return (look.stx_attributes & STATX_ATTR_MOUNT_ROOT) ? YES : NO;
     return is_in_mounts(real);
 }
 
@@ -62,27 +62,24 @@ static bool is_in_memory(const char *folder) {
 }
 
 /* Whether the sticky bit of the folder above lets only another user replace the file, as in /tmp. */
-static bool is_held_by_folder(const char *real, const struct stat *look) {
-    char above[PATH_MAX];
+static bool is_held_by_folder(struct path path, const struct stat *look) {
     struct stat folder;
     uid_t user = geteuid();
-    strcpy(above, real);
-    char *slash = strrchr(above, '/');
-    if (!slash || strcmp(above, "/") == 0) return false;
-    slash[slash == above ? 1 : 0] = 0;
-    if (stat(above, &folder) != 0 || !(folder.st_mode & S_ISVTX)) return false;
+    if (!go_up(&path) || stat(path.text, &folder) != 0 || !(folder.st_mode & S_ISVTX)) return false;
     return user != 0 && user != look->st_uid && user != folder.st_uid;
 }
 
-static void put_own_letters(struct letters *letters, const char *path, const char *real, const char *folder, const struct stat *look) {
+static void put_own_letters(struct letters *letters, const char *path, const struct path *real, const struct stat *look) {
+    struct path above = *real;
+    go_up(&above);
     put_letter(letters, 'r', faccessat(AT_FDCWD, path, R_OK, AT_EACCESS) == 0);
     put_letter(letters, 'w', faccessat(AT_FDCWD, path, W_OK, AT_EACCESS) == 0);
     put_letter(letters, 'x', faccessat(AT_FDCWD, path, X_OK, AT_EACCESS) == 0);
-    enum answer list = has_access_list(path), label = has_label(path, folder), mount = is_mount(path, real);
+    enum answer list = has_access_list(path), label = has_label(path, above.text), mount = is_mount(path, real->text);
     put_letter(letters, 'l', list == YES);
     put_letter(letters, 's', label == YES);
     put_letter(letters, 'm', mount == YES);
-    put_letter(letters, 'k', is_held_by_folder(real, look));
+    put_letter(letters, 'k', is_held_by_folder(*real, look));
     put_letter(letters, '?', list == UNKNOWN || label == UNKNOWN || mount == UNKNOWN);
 }
 
@@ -95,17 +92,17 @@ static uint64_t free_room(const char *folder) {
 }
 
 void tell_facts(const char *path) {
-    static char real[PATH_MAX], folder[PATH_MAX];
+    struct path real, folder;
     struct letters letters = {{0}, 0};
     struct stat look;
-    find_real_path(path, real);
-    find_folder(real, folder);
-    if (stat(path, &look) == 0) put_own_letters(&letters, path, real, folder, &look);
-    put_letter(&letters, 't', is_in_memory(folder));
-    long longest = pathconf(folder, _PC_NAME_MAX);
+    find_real_path(path, &real);
+    find_folder(&real, &folder);
+    if (stat(path, &look) == 0) put_own_letters(&letters, path, &real, &look);
+    put_letter(&letters, 't', is_in_memory(folder.text));
+    long longest = pathconf(folder.text, _PC_NAME_MAX);
     say('a', letters.text);
     say_number('l', longest > 0 ? (uint64_t)longest : 255);
-    say_number('m', free_room(folder));
-    say('r', real);
+    say_number('m', free_room(folder.text));
+    say('r', real.text);
     say('.', "");
 }

@@ -1,5 +1,6 @@
 #include "fault.h"
 
+#include <stdbool.h>
 #include <stddef.h>
 #include <stdio.h>
 #include <stdlib.h>
@@ -28,10 +29,12 @@ _Noreturn void fail(const char *cause) {
 
 void tell_foreign(const char *text, unsigned long length) {
     char letters[MOST + 1];
-    size_t count = length < MOST ? length : MOST;
-    for (size_t i = 0; i < count; i++) {
-        unsigned char letter = (unsigned char)text[i];
-        letters[i] = (letter < ' ' && letter != '\n') || letter == 127 ? '?' : text[i];
+    size_t count = 0;
+    while (count < length && count < MOST) {
+        bool is_control = (unsigned char)text[count] < ' ' || text[count] == 127;
+        letters[count] = '?';
+        if (!is_control || text[count] == '\n') letters[count] = text[count];
+        count++;
     }
     if (count > 0 && letters[count - 1] != '\n') letters[count++] = '\n';
     tell(letters, count);

@@ -56,7 +56,7 @@ static void say_home(void) {
 /* Says the toolchain that was noted at the build. */
 static void say_toolchain(void) {
     char kit[256];
-    FILE *stream = fopen(programs.kit, "re");
+    FILE *stream = fopen(programs.kit.text, "re");
     if (!stream) return;
     if (fgets(kit, sizeof kit, stream)) {
         kit[strcspn(kit, "\n")] = 0;
@@ -81,7 +81,7 @@ static void say_start(int count, char **own_words, struct size size) {
     if (line >= 0) say_window(size);
     say_number('u', geteuid());
     say_home();
-    say('d', programs.tables);
+    say('d', programs.tables.text);
     say_toolchain();
     say('t', is_dumb ? "dumb" : line >= 0 ? "yes" : "no");
     say_number('c', ioctl(STDOUT_FILENO, TIOCGWINSZ, &window) == 0 ? window.ws_col : 0);
@@ -99,11 +99,11 @@ static void tell_keeper(const char *effect) {
     tell_fault(detail, effect);
 }
 
-static _Noreturn void print(struct request *request) {
+static _Noreturn void print(const struct request *request) {
     end_keeper(now() + TELLING_BY_SIGNAL);
     give_back_signals();
-    execv(programs.printer, request->printer.words);
-    tell_fault(programs.printer, " cannot be started");
+    execv(programs.printer.text, request->printer.words);
+    tell_fault(programs.printer.text, " cannot be started");
     exit(1);
 }
 
@@ -131,11 +131,11 @@ static int end_session(int status) {
     return 1;
 }
 
-static _Noreturn void edit(struct request *request, struct size size) {
+static _Noreturn void edit(const struct request *request, struct size size) {
     unsigned long length = 0;
-    bool has_filter = access(programs.filter, X_OK) == 0;
+    bool has_filter = access(programs.filter.text, X_OK) == 0;
     if (line < 0) fail("there is no terminal: start the editor in one (ssh -t gives one to a command)");
-    int status = run_program(request, programs.editor, has_filter ? programs.filter : NULL, size);
+    int status = run_program(request, programs.editor.text, has_filter ? programs.filter.text : NULL, size);
     const char *said = other_words(&length);
     if (length > 0) tell_foreign(said, length);
     if (status < 0) tell_fault("the editor cannot be started", ": the system has no more processes or files");
@@ -145,15 +145,15 @@ static _Noreturn void edit(struct request *request, struct size size) {
 }
 
 int main(int count, char **own_words) {
-    struct request request = {0};
+    static struct request request;
     struct size size;
     open_standard_files();
     if (!find_programs(own_words[0], &programs)) fail("its own place cannot be found");
     set_signals();
-    if (!start_keeper(programs.keeper)) fail("no process can be started");
+    if (!start_keeper(programs.keeper.text)) fail("no process can be started");
     open_terminal();
     measure(&size);
-    add_word(&request.printer, programs.printer);
+    if (!add_word(&request.printer, programs.printer.text)) fail("there is no memory");
     say_start(count, own_words, size);
     enum outcome outcome = carry_out(&request);
     if (outcome == PRINT) print(&request);

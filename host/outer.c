@@ -13,13 +13,14 @@
 #include <sys/wait.h>
 #include <unistd.h>
 
+#include "paths.h"
 #include "signals.h"
 #include "writing.h"
 
 /* How long tmux may take to answer, and the terminal to take what it is told. */
 enum { PATIENCE = 2000, TELLING = 500, MOST_ROWS = 500 };
 
-static char outer[PATH_MAX];
+static struct path outer;
 
 static _Noreturn void become_tmux(int out) {
     /* a client in control mode is a program that reads tmux's protocol, so it does not count */
@@ -70,14 +71,14 @@ static bool can_be_told(const char *path) {
 
 const char *find_outer(void) {
     static char answer[PATH_MAX];
-    outer[0] = 0;
+    outer.text[0] = 0;
     answer[0] = 0;
     if (!*variable("TMUX")) return answer;
     ask_tmux(answer, sizeof answer);
     answer[strcspn(answer, "\n")] = 0;
     char *name = strchr(answer, ' ');
     if (name) *name = 0;
-    if (can_be_told(answer)) strcpy(outer, answer);
+    if (can_be_told(answer)) set_path(&outer, answer);
     return name ? name + 1 : "";
 }
 
@@ -95,13 +96,13 @@ static void tell_rows(int file, char letter, bool is_last) {
 }
 
 void tell_outer(char letter, const char *more, enum kind kind, bool is_last) {
-    char text[128];
-    if (!outer[0]) return;
-    int file = open(outer, O_WRONLY | O_NONBLOCK | O_NOCTTY | O_CLOEXEC);
+    if (!outer.text[0]) return;
+    int file = open(outer.text, O_WRONLY | O_NONBLOCK | O_NOCTTY | O_CLOEXEC);
     if (file < 0) return;
     if (kind == VTE) {
         tell_rows(file, letter, is_last);
     } else {
+        char text[128];
         int length = snprintf(text, sizeof text, "\033[8%c%s", letter, more);
         write_ready(file, text, (size_t)length, TELLING, is_last);
     }

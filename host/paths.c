@@ -1,7 +1,6 @@
 #include "paths.h"
 
 #include <errno.h>
-#include <stdbool.h>
 #include <stdio.h>
 #include <stdlib.h>
 #include <string.h>
@@ -11,84 +10,82 @@
 /* The most links that a path is followed through, as in Linux. */
 enum { MOST_LINKS = 40 };
 
-/* Cuts a path into the folder above and the last name, which may be empty behind a slash. */
-static void split(const char *path, char folder[PATH_MAX], const char **name) {
-    const char *slash = strrchr(path, '/');
-    *name = slash ? slash + 1 : path;
-    size_t length = slash ? (size_t)(slash - path) : 0;
-    if (!slash) {
-        strcpy(folder, ".");
-    } else if (length == 0) {
-        strcpy(folder, "/");
-    } else {
-        memcpy(folder, path, length);
-        folder[length] = 0;
-    }
+bool set_path(struct path *path, const char *text) {
+    size_t length = strlen(text);
+    path->text[0] = 0;
+    if (length >= sizeof path->text) return false;
+    memcpy(path->text, text, length + 1);
+    return true;
 }
 
-/* Joins a folder and a name. Returns false where the path is too long. */
-static bool join(const char *folder, const char *name, char path[PATH_MAX]) {
-    const char *between = *folder && folder[strlen(folder) - 1] == '/' ? "" : "/";
-    int count = snprintf(path, PATH_MAX, "%s%s%s", folder, between, name);
-    return count > 0 && count < PATH_MAX;
+bool join_path(struct path *path, const char *folder, const char *name) {
+    struct path joined;
+    size_t length = strlen(folder);
+    const char *between = length > 0 && folder[length - 1] == '/' ? "" : "/";
+    int count = snprintf(joined.text, sizeof joined.text, "%s%s%s", folder, between, name);
+    if (count < 0 || count >= (int)sizeof joined.text) joined.text[0] = 0;
+    *path = joined;
+    return path->text[0] != 0;
+}
+
+bool go_up(struct path *path) {
+    char *slash = strrchr(path->text, '/');
+    if (!slash || strcmp(path->text, "/") == 0) return false;
+    slash[slash == path->text ? 1 : 0] = 0;
+    return true;
+}
+
+/* Cuts a path into the folder above, `.` for a name alone, and the last name, which may be empty behind a slash. */
+static void split(const struct path *path, struct path *folder, struct path *name) {
+    const char *slash = strrchr(path->text, '/');
+    set_path(name, slash ? slash + 1 : path->text);
+    *folder = *path;
+    if (!go_up(folder) && !slash) set_path(folder, ".");
 }
 
 /* Replaces a path that is a link by the path that it names. */
-static bool follow(char path[PATH_MAX]) {
-    char target[PATH_MAX], folder[PATH_MAX], joined[PATH_MAX];
-    const char *name = NULL;
-    ssize_t length = readlink(path, target, sizeof target - 1);
+static bool follow(struct path *path) {
+    struct path target, folder, name;
+    ssize_t length = readlink(path->text, target.text, sizeof target.text - 1);
     if (length <= 0) return false;
-    target[length] = 0;
-    split(path, folder, &name);
-    if (target[0] == '/') strcpy(joined, target);
-    else if (!join(folder, target, joined)) return false;
-    strcpy(path, joined);
+    target.text[length] = 0;
+    split(path, &folder, &name);
+    if (target.text[0] != '/') return join_path(path, folder.text, target.text);
+    *path = target;
     return true;
 }
 
 /* Resolves the nearest folder above, and puts the rest behind it. */
-static bool resolve_above(const char *path, char real[PATH_MAX]) {
-    char above[PATH_MAX], folder[PATH_MAX], rest[PATH_MAX] = "", joined[PATH_MAX];
-    const char *name = NULL;
-    strcpy(above, path);
-    do {
-        split(above, folder, &name);
-        if (*rest ? !join(name, rest, joined) : strlen(name) >= sizeof joined) return false;
-        if (!*rest) strcpy(joined, name);
-        strcpy(rest, joined);
-        bool is_top = strcmp(folder, above) == 0;
-        strcpy(above, folder);
-        if (realpath(above, folder)) return join(folder, rest, real);
-        if (is_top) return false;
-    } while (strcmp(above, ".") != 0 && strcmp(above, "/") != 0);
-    return false;
+static bool resolve_above(struct path at, struct path *real) {
+    struct path folder, name, rest;
+    split(&at, &folder, &rest);
+    while (!realpath(folder.text, real->text)) {
+        if (strcmp(folder.text, ".") == 0 || strcmp(folder.text, "/") == 0) return false;
+        at = folder;
+        split(&at, &folder, &name);
+        if (!join_path(&rest, name.text, rest.text)) return false;
+    }
+    return join_path(real, real->text, rest.text);
 }
 
-void find_real_path(const char *path, char real[PATH_MAX]) {
-    char at[PATH_MAX];
-    if (strlen(path) >= PATH_MAX) {
-        real[0] = 0;
-        return;
-    }
-    strcpy(at, path);
+void find_real_path(const char *path, struct path *real) {
+    struct path at;
+    real->text[0] = 0;
+    if (!set_path(&at, path)) return;
     for (int links = 0; links < MOST_LINKS; links++) {
-        if (realpath(at, real)) return;
-        if (errno == ELOOP || !follow(at)) break;
+        if (realpath(at.text, real->text)) return;
+        if (errno == ELOOP) set_path(&at, path);
+        if (errno == ELOOP || !follow(&at)) break;
     }
-    if (errno == ELOOP) strcpy(at, path);
-    if (!resolve_above(at, real)) strcpy(real, path);
+    if (!resolve_above(at, real)) set_path(real, path);
 }
 
-void find_folder(const char *real, char folder[PATH_MAX]) {
+void find_folder(const struct path *real, struct path *folder) {
     struct stat look;
-    strcpy(folder, real);
-    while (stat(folder, &look) != 0 || !S_ISDIR(look.st_mode)) {
-        char *slash = strrchr(folder, '/');
-        if (!slash || strcmp(folder, "/") == 0) {
-            strcpy(folder, slash ? "/" : ".");
-            return;
-        }
-        slash[slash == folder ? 1 : 0] = 0;
+    *folder = *real;
+    while (stat(folder->text, &look) != 0 || !S_ISDIR(look.st_mode)) {
+        if (go_up(folder)) continue;
+        set_path(folder, real->text[0] == '/' ? "/" : ".");
+        return;
     }
 }

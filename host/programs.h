@@ -2,11 +2,12 @@
 #ifndef PROGRAMS_H
 #define PROGRAMS_H
 
-#include <limits.h>
 #include <stdbool.h>
 
+#include "paths.h"
+
 struct programs {
-    char keeper[PATH_MAX], filter[PATH_MAX], editor[PATH_MAX], printer[PATH_MAX], tables[PATH_MAX], kit[PATH_MAX];
+    struct path keeper, filter, editor, printer, tables, kit;
 };
 
 /* Finds them. Returns false where the host's own place cannot be found. */

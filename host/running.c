@@ -105,11 +105,10 @@ static void change_terminal(void) {
     write_ready(line, sequences.saving, strlen(sequences.saving), START, false);
 }
 
-static void add_size(struct command *command, const char *name, unsigned size) {
+static bool add_size(struct command *command, const char *name, unsigned size) {
     char text[16];
     snprintf(text, sizeof text, "%u", size);
-    add_word(command, name);
-    add_word(command, text);
+    return add_word(command, name) && add_word(command, text);
 }
 
 /* The word behind this one; NULL where it is not there. */
@@ -132,16 +131,13 @@ static bool is_other_window(const struct command *program_words) {
 }
 
 /* Makes the program's command line. The keeper's words may have a size already, as the session began. */
-static void make_command(struct command *command, const struct request *request, const char *editor, struct size first) {
-    add_word(command, editor);
-    if (!word_behind(&request->program, "--rows")) {
-        add_size(command, "--rows", first.rows);
-        add_size(command, "--cols", first.columns);
-    }
-    add_word(command, "--words");
-    add_word(command, "--before");
-    add_word(command, sequences.before);
-    for (size_t i = 0; i < request->program.count; i++) add_word(command, request->program.words[i]);
+static bool make_command(struct command *command, const struct request *request, const char *editor, struct size first) {
+    bool has_size = word_behind(&request->program, "--rows") != NULL;
+    bool is_made = add_word(command, editor);
+    if (!has_size) is_made = is_made && add_size(command, "--rows", first.rows) && add_size(command, "--cols", first.columns);
+    is_made = is_made && add_word(command, "--words") && add_word(command, "--before") && add_word(command, sequences.before);
+    for (size_t i = 0; i < request->program.count; i++) is_made = is_made && add_word(command, request->program.words[i]);
+    return is_made;
 }
 
 /* Restores the terminal, and takes in what the program said last. */
@@ -155,14 +151,14 @@ static void restore(void) {
     end_watcher();
 }
 
-int run_program(struct request *request, const char *editor, char *filter_file, struct size first) {
-    struct command command = {0};
+int run_program(const struct request *request, const char *editor, char *filter_file, struct size first) {
+    static struct command command;
     bool is_started = false;
     /* the watcher has what is known at its start */
     prepare_terminal(request, filter_file != NULL);
-    make_command(&command, request, editor, first);
+    bool is_made = make_command(&command, request, editor, first);
     int words_end = open_words();
-    if (words_end < 0 || !note_settings() || !start_watcher(words, words_end)) return -1;
+    if (!is_made || words_end < 0 || !note_settings() || !start_watcher(words, words_end)) return -1;
     change_terminal();
     listen_once();
     if (!end_signal) {

@@ -7,6 +7,6 @@
 
 /* Changes the terminal, runs the filter and the program until the program has ended or cannot be ended, and restores the
  * terminal. Returns the program's status, 128 and the signal's number where a signal ended it. */
-int run_program(struct request *request, const char *editor, char *filter_file, struct size first);
+int run_program(const struct request *request, const char *editor, char *filter_file, struct size first);
 
 #endif

@@ -92,6 +92,6 @@ _Noreturn void die_from(int number) {
     sigemptyset(&mask);
     sigaddset(&mask, number);
     sigprocmask(SIG_UNBLOCK, &mask, NULL);
-    raise(number);
+    kill(getpid(), number);
     _exit(128 + number);
 }

@@ -49,13 +49,20 @@ bool note_settings(void) {
     return true;
 }
 
+/* A stop may interrupt this. */
+static void set(const struct termios *settings) {
+    int result = 0;
+    do result = tcsetattr(line, TCSANOW, settings);
+    while (result != 0 && errno == EINTR);
+}
+
 void set_raw(void) {
-    while (tcsetattr(line, TCSANOW, &raw) != 0 && errno == EINTR) continue;
+    set(&raw);
 }
 
 void restore_settings(void) {
     signal(SIGTTOU, SIG_IGN);
-    while (tcsetattr(line, TCSANOW, &cooked) != 0 && errno == EINTR) continue;
+    set(&cooked);
 }
 
 void show(const char *text) {

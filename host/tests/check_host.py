@@ -1,12 +1,12 @@
 """check_host.py HOST [--runs N] [NAME..]: checks the host with programs for tests around it; see scripts/check-host.sh."""
 import json, os, random, shutil, signal, subprocess, sys, tempfile, time
 sys.path.insert(0, os.path.dirname(os.path.abspath(__file__)))
-import cases, ends
+import cases, ends, facts
 from terminals import become_reaper
 from tree import Tree
 
 JOBS = 6
-CASES = {case.__name__: case for case in cases.ALL}
+CASES = {case.__name__: case for case in cases.ALL + facts.ALL}
 
 
 def check_ends(tree, kind, runs):

@@ -108,7 +108,7 @@ def main():
             say(b'x', b'0')
     elif what == b'facts':
         for path in words[1:]:
-            say(b'o', b'|'.join(facts(path)) + b'\n')
+            say(b'o', b'|'.join(facts(path)) + b'\x1e\n')
         say(b'x', b'0')
     elif what == b'print':
         for word in words[1:]:
