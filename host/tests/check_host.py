@@ -1,12 +1,12 @@
 """check_host.py HOST [--runs N] [NAME..]: checks the host with programs for tests around it; see scripts/check-host.sh."""
 import json, os, random, shutil, signal, subprocess, sys, tempfile, time
 sys.path.insert(0, os.path.dirname(os.path.abspath(__file__)))
-import cases, ends, facts
+import cases, ends, facts, kinds, shells
 from terminals import become_reaper
 from tree import Tree
 
 JOBS = 6
-CASES = {case.__name__: case for case in cases.ALL + facts.ALL}
+CASES = {case.__name__: case for case in cases.ALL + facts.ALL + kinds.ALL + shells.ALL}
 
 
 def check_ends(tree, kind, runs):
