@@ -15,8 +15,11 @@
 #include "watcher.h"
 #include "writing.h"
 
+/* Whether the filter takes the terminal's erase character. It does not yet. */
+static const bool tells_erase = false;
+
 /* A size waits this long for the room that the filter took before it. */
-enum { SIZE_LIMIT = 100, MOST_WORDS = 65536 };
+enum { SIZE_LIMIT = 100, TRIES = 3, MOST_WORDS = 65536 };
 
 pid_t filter, program;
 int program_status, keys = -1, words = -1;
@@ -30,8 +33,7 @@ int open_words(void) {
     int ends[2];
     if (pipe2(ends, O_CLOEXEC) != 0) return -1;
     words = ends[0];
-    fcntl(words, F_SETFL, O_NONBLOCK);
-    return ends[1];
+    return fcntl(words, F_SETFL, O_NONBLOCK) == 0 ? ends[1] : -1;
 }
 
 /* Copies keys as they are. */
@@ -56,7 +58,9 @@ static _Noreturn void become_filter(char *file, pid_t host) {
     tell_watcher(FILTER_BEGINS, getpid());
     give_back_signals();
     if (!file) copy_keys();
-    char *own_words[] = {file, NULL};
+    char erase[8], option[] = "--erase";
+    snprintf(erase, sizeof erase, "%u", (unsigned)erase_character());
+    char *own_words[] = {file, tells_erase ? option : NULL, erase, NULL};
     execv(file, own_words);
     _exit(127);
 }
@@ -76,15 +80,16 @@ static _Noreturn void become_program(char **program_words, int in, int words_end
 }
 
 bool start_children(char *filter_file, char **program_words, int words_end) {
-    int ends[2];
+    int ends[2] = {-1, -1};
     pid_t host = getpid();
-    if (pipe2(ends, O_CLOEXEC) != 0) return false;
-    keys = ends[1];
-    filter = fork();
-    if (filter == 0) become_filter(filter_file, host);
-    program = filter > 0 ? fork() : -1;
-    if (program == 0) become_program(program_words, ends[0], words_end);
-    close(ends[0]);
+    if (pipe2(ends, O_CLOEXEC) == 0) {
+        keys = ends[1];
+        filter = fork();
+        if (filter == 0) become_filter(filter_file, host);
+        program = filter > 0 ? fork() : -1;
+        if (program == 0) become_program(program_words, ends[0], words_end);
+        close(ends[0]);
+    }
     close(words_end);
     bool is_started = program > 0;
     if (filter < 0) filter = 0;
@@ -111,12 +116,15 @@ void close_input(void) {
 
 void send_size(void) {
     struct size size;
-    if (measure(&size)) {
-        char text[32];
-        int length = snprintf(text, sizeof text, "\033[8;%u;%ut", size.rows, size.columns);
-        if (write_once_within(keys, text, (size_t)length, SIZE_LIMIT) != length && errno == EINTR) return;
-    }
     is_size_owed = false;
+    if (!measure(&size)) return;
+    char text[32];
+    int length = snprintf(text, sizeof text, "\033[8;%u;%ut", size.rows, size.columns);
+    for (int tries = 0; tries < TRIES; tries++) {
+        if (write_once_within(keys, text, (size_t)length, SIZE_LIMIT) == length) return;
+        is_size_owed = errno == EINTR;
+        if (errno == EINTR || errno == EPIPE) return;
+    }
 }
 
 /* Hands on each word that has its end, and keeps the rest. One that fills all the room is no word. */

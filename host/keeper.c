@@ -6,11 +6,10 @@
 #include <signal.h>
 #include <stdio.h>
 #include <stdlib.h>
-#include <sys/wait.h>
 #include <unistd.h>
 
+#include "processes.h"
 #include "signals.h"
-#include "writing.h"
 
 struct keeper keeper = {.to = -1, .from = -1, .state = KEEPER_ENDED};
 
@@ -38,19 +37,20 @@ bool start_keeper(char *program) {
     close(out[1]);
     keeper.to = in[1];
     keeper.from = out[0];
-    fcntl(keeper.to, F_SETFL, O_NONBLOCK);
-    fcntl(keeper.from, F_SETFL, O_NONBLOCK);
-    if (keeper.process < 0) {
-        keeper.process = 0;
-        return false;
-    }
+    if (keeper.process < 0) keeper.process = 0;
+    if (keeper.process == 0) return false;
+    if (fcntl(keeper.to, F_SETFL, O_NONBLOCK) != 0 || fcntl(keeper.from, F_SETFL, O_NONBLOCK) != 0) return false;
     keeper.state = KEEPER_SPEAKS;
     return true;
 }
 
+static void leave_in_state(enum keeper_state state) {
+    if (keeper.state == KEEPER_SPEAKS) keeper.state = state;
+}
+
 void say(char letter, const char *text) {
     if (keeper.to < 0 || keeper.state == KEEPER_ENDED) return;
-    add_message(&keeper.said, letter, text);
+    if (!add_message(&keeper.said, letter, text)) leave_in_state(KEEPER_LOST);
 }
 
 void say_number(char letter, uint64_t number) {
@@ -62,32 +62,36 @@ void say_number(char letter, uint64_t number) {
 bool hear(struct message *message) {
     take_bytes(&keeper.heard, keeper.taken);
     keeper.taken = 0;
-    return keeper.state != KEEPER_ERRS && find_message(&keeper.heard, &keeper.taken, message);
+    return (keeper.state == KEEPER_SPEAKS || keeper.state == KEEPER_ENDED) && find_message(&keeper.heard, &keeper.taken, message);
 }
 
 void refuse_message(void) {
-    if (keeper.state == KEEPER_SPEAKS) keeper.state = KEEPER_ERRS;
+    leave_in_state(KEEPER_ERRS);
 }
 
 static void read_keeper(void) {
     char bytes[4096];
     ssize_t count = read(keeper.from, bytes, sizeof bytes);
     if (count > 0) {
-        if (!add_bytes(&keeper.heard, bytes, (size_t)count)) refuse_message();
-    } else if (count == 0 || (errno != EAGAIN && errno != EINTR)) {
+        if (!add_bytes(&keeper.heard, bytes, (size_t)count)) leave_in_state(KEEPER_LOST);
+    } else if (count == 0) {
         close(keeper.from);
         keeper.from = -1;
-        if (keeper.state == KEEPER_SPEAKS) keeper.state = KEEPER_ENDED;
+        leave_in_state(KEEPER_ENDED);
+    } else if (errno != EAGAIN && errno != EINTR) {
+        leave_in_state(KEEPER_LOST);
     }
 }
 
 static void write_keeper(void) {
     ssize_t count = write(keeper.to, keeper.said.bytes + keeper.said.start, keeper.said.end - keeper.said.start);
-    if (count > 0) {
+    if (count >= 0) {
         take_bytes(&keeper.said, (size_t)count);
-    } else if (count < 0 && errno != EAGAIN && errno != EINTR) {
+    } else if (errno == EPIPE) {
         /* its end is told by the other pipe, behind what it said before */
         take_bytes(&keeper.said, keeper.said.end - keeper.said.start);
+    } else if (errno != EAGAIN && errno != EINTR) {
+        leave_in_state(KEEPER_LOST);
     }
 }
 
@@ -96,24 +100,11 @@ void mind_keeper(short from_events, short to_events) {
     if (keeper.from >= 0 && from_events != 0) read_keeper();
 }
 
-/* Whether the keeper was waited for, now or before. */
-static bool has_ended(void) {
-    if (keeper.process > 0 && waitpid(keeper.process, &keeper.status, WNOHANG) == keeper.process) keeper.process = 0;
-    return keeper.process <= 0;
-}
-
 bool end_keeper(int64_t end) {
     if (keeper.to >= 0) close(keeper.to);
     if (keeper.from >= 0) close(keeper.from);
     keeper.to = keeper.from = -1;
-    bool is_ended = has_ended();
-    while (!is_ended && now() < end) {
-        /* the end of a child wakes the wait; a signal that asks for the end does not cut it */
-        wait_for(NULL, 0, now() + 50 < end ? now() + 50 : end);
-        is_ended = has_ended();
-    }
-    if (!is_ended) kill(keeper.process, SIGKILL);
-    int64_t last = now() + 200;
-    while (!has_ended() && now() < last) wait_for(NULL, 0, last);
+    bool is_ended = wait_for_child(&keeper.process, &keeper.status, end);
+    kill_child(&keeper.process);
     return is_ended;
 }

@@ -9,8 +9,8 @@
 
 #include "wire.h"
 
-/* Whether it can be spoken with, has ended, or said what no keeper says. */
-enum keeper_state { KEEPER_SPEAKS, KEEPER_ENDED, KEEPER_ERRS };
+/* Whether it can be spoken with, has ended, said what no keeper says, or cannot be reached: a pipe failed, or there is no memory. */
+enum keeper_state { KEEPER_SPEAKS, KEEPER_ENDED, KEEPER_ERRS, KEEPER_LOST };
 
 struct keeper {
     pid_t process; /* 0 once it was waited for */

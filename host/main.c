@@ -48,8 +48,10 @@ static void say_variable(const char *name) {
     free(text);
 }
 
+/* Says the home that root has whatever HOME says, and others where HOME says none. Else it is empty, since a user's database may
+ * be far away. */
 static void say_home(void) {
-    const struct passwd *user = getpwuid(geteuid());
+    const struct passwd *user = geteuid() == 0 || !*variable("HOME") ? getpwuid(geteuid()) : NULL;
     say('h', user && user->pw_dir ? user->pw_dir : "");
 }
 
@@ -88,14 +90,16 @@ static void say_start(int count, char **own_words, struct size size) {
     say('.', "");
 }
 
-/* Tells how the keeper ended, or that it was not understood. */
+/* Tells how the keeper ended, or why the host cannot go on with it. */
 static void tell_keeper(const char *effect) {
-    char detail[128] = "the keeper of sessions was not understood";
-    if (keeper.state == KEEPER_ENDED && keeper.process == 0 && WIFSIGNALED(keeper.status))
+    char detail[128] = "the keeper of sessions has ended";
+    bool is_known = keeper.state == KEEPER_ENDED && keeper.process == 0;
+    if (keeper.state == KEEPER_ERRS) snprintf(detail, sizeof detail, "the keeper of sessions was not understood");
+    if (keeper.state == KEEPER_LOST) snprintf(detail, sizeof detail, "the keeper of sessions cannot be reached");
+    if (is_known && WIFSIGNALED(keeper.status))
         snprintf(detail, sizeof detail, "the keeper of sessions was ended by the signal %d", WTERMSIG(keeper.status));
-    else if (keeper.state == KEEPER_ENDED && keeper.process == 0 && WEXITSTATUS(keeper.status) == 127)
+    if (is_known && WIFEXITED(keeper.status) && WEXITSTATUS(keeper.status) == 127)
         snprintf(detail, sizeof detail, "the keeper of sessions cannot be started");
-    else if (keeper.state == KEEPER_ENDED) snprintf(detail, sizeof detail, "the keeper of sessions has ended");
     tell_fault(detail, effect);
 }
 
@@ -133,12 +137,13 @@ static int end_session(int status) {
 
 static _Noreturn void edit(const struct request *request, struct size size) {
     unsigned long length = 0;
+    const char *cause = "";
     bool has_filter = access(programs.filter.text, X_OK) == 0;
     if (line < 0) fail("there is no terminal: start the editor in one (ssh -t gives one to a command)");
-    int status = run_program(request, programs.editor.text, has_filter ? programs.filter.text : NULL, size);
+    int status = run_program(request, programs.editor.text, has_filter ? programs.filter.text : NULL, size, &cause);
     const char *said = other_words(&length);
     if (length > 0) tell_foreign(said, length);
-    if (status < 0) tell_fault("the editor cannot be started", ": the system has no more processes or files");
+    if (status < 0) tell_fault("the editor is not started: ", cause);
     status = end_session(status < 0 ? 1 : status);
     if (end_signal) die_from(end_signal);
     exit(status);

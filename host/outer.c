@@ -3,17 +3,16 @@
 #include <errno.h>
 #include <fcntl.h>
 #include <limits.h>
-#include <signal.h>
 #include <stdint.h>
 #include <stdio.h>
 #include <string.h>
 #include <sys/ioctl.h>
 #include <sys/stat.h>
 #include <sys/types.h>
-#include <sys/wait.h>
 #include <unistd.h>
 
 #include "paths.h"
+#include "processes.h"
 #include "signals.h"
 #include "writing.h"
 
@@ -56,12 +55,8 @@ static void ask_tmux(char *answer, size_t room) {
     size_t length = child > 0 ? read_answer(ends[0], answer, room - 1) : 0;
     answer[length] = 0;
     close(ends[0]);
-    int status = 0;
-    if (child > 0 && waitpid(child, &status, WNOHANG) != child) {
-        /* it has said all, or says nothing any more */
-        kill(child, SIGKILL);
-        waitpid(child, &status, 0);
-    }
+    /* it has said all, or says nothing any more */
+    kill_child(&child);
 }
 
 static bool can_be_told(const char *path) {

@@ -13,6 +13,7 @@
 #include "fault.h"
 #include "keeper.h"
 #include "outer.h"
+#include "processes.h"
 #include "sequences.h"
 #include "signals.h"
 #include "waiting.h"
@@ -98,11 +99,12 @@ static void prepare_terminal(const struct request *request, bool has_filter) {
 }
 
 /* Changes the terminal but for its screen. In the background the host is stopped here, until it has the terminal. */
-static void change_terminal(void) {
+static bool change_terminal(void) {
     tell_watcher(TERMINAL_CHANGES, getpid());
-    set_raw();
+    if (!set_raw()) return false;
     tell_outer('l', terminal_reordering.off, terminal_kind, false);
     write_ready(line, sequences.saving, strlen(sequences.saving), START, false);
+    return true;
 }
 
 static bool add_size(struct command *command, const char *name, unsigned size) {
@@ -143,26 +145,38 @@ static bool make_command(struct command *command, const struct request *request,
 /* Restores the terminal, and takes in what the program said last. */
 static void restore(void) {
     close_input();
-    if (filter > 0) waitpid(filter, NULL, 0);
-    filter = 0;
+    kill_child(&filter);
     if (words >= 0) hear_words();
     restore_screen(end_signal ? SHORT_PATIENCE : PATIENCE);
     restore_settings();
     end_watcher();
 }
 
-int run_program(const struct request *request, const char *editor, char *filter_file, struct size first) {
+/* Starts the watcher. Returns the writing end of the program's words, or -1 and the cause. */
+static int start_beside(const char **cause) {
+    int words_end = open_words();
+    *cause = "no pipe can be made";
+    if (words_end < 0) return -1;
+    *cause = "the terminal tells no settings";
+    if (!note_settings()) return -1;
+    *cause = "no process can be started";
+    return start_watcher(words, words_end) ? words_end : -1;
+}
+
+int run_program(const struct request *request, const char *editor, char *filter_file, struct size first, const char **cause) {
     static struct command command;
-    bool is_started = false;
     /* the watcher has what is known at its start */
     prepare_terminal(request, filter_file != NULL);
-    bool is_made = make_command(&command, request, editor, first);
-    int words_end = open_words();
-    if (!is_made || words_end < 0 || !note_settings() || !start_watcher(words, words_end)) return -1;
-    change_terminal();
-    listen_once();
-    if (!end_signal) {
-        is_started = start_children(filter_file, command.words, words_end);
+    *cause = "there is no memory";
+    if (!make_command(&command, request, editor, first)) return -1;
+    int words_end = start_beside(cause);
+    if (words_end < 0) return -1;
+    bool is_started = false;
+    *cause = "the terminal takes no settings";
+    if (change_terminal()) {
+        *cause = "no process can be started";
+        listen_once();
+        is_started = !end_signal && start_children(filter_file, command.words, words_end);
         is_size_owed = is_started && is_other_window(&command);
     }
     if (is_started) run();

@@ -8,7 +8,7 @@
 #include <termios.h>
 #include <unistd.h>
 
-enum { LONGEST = 500, MOST_SHOWN = 16384 };
+enum { LONGEST = 500, MOST_SHOWN = 16384, TRIES = 3 };
 
 int line = -1, screen = -1;
 struct queue shown;
@@ -49,15 +49,21 @@ bool note_settings(void) {
     return true;
 }
 
-/* A stop may interrupt this. */
-static void set(const struct termios *settings) {
-    int result = 0;
-    do result = tcsetattr(line, TCSANOW, settings);
-    while (result != 0 && errno == EINTR);
+unsigned char erase_character(void) {
+    return cooked.c_cc[VERASE];
 }
 
-void set_raw(void) {
-    set(&raw);
+/* A stop may interrupt this; what fails once is tried again, since a raw terminal is of no use to anyone. */
+static bool set(const struct termios *settings) {
+    for (int tries = 0; tries < TRIES;) {
+        if (tcsetattr(line, TCSANOW, settings) == 0) return true;
+        if (errno != EINTR) tries++;
+    }
+    return false;
+}
+
+bool set_raw(void) {
+    return set(&raw);
 }
 
 void restore_settings(void) {

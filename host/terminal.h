@@ -24,8 +24,11 @@ bool measure(struct size *size);
 /* Notes the settings that are restored in the end. */
 bool note_settings(void);
 
+/* The character that erases in the terminal's own editing of lines, as noted. */
+unsigned char erase_character(void);
+
 /* Sets raw mode. In the background the host is stopped here, until it has the terminal. */
-void set_raw(void);
+bool set_raw(void);
 
 /* Restores the settings at once, not after the output, which may never go out. A job in the background may do this. */
 void restore_settings(void);

@@ -6,11 +6,11 @@
 #include <signal.h>
 #include <stdint.h>
 #include <string.h>
-#include <sys/wait.h>
 #include <unistd.h>
 
 #include "ending.h"
 #include "keeper.h"
+#include "processes.h"
 #include "terminal.h"
 #include "writing.h"
 
@@ -101,6 +101,5 @@ bool start_watcher(int words, int words_end) {
 }
 
 void end_watcher(void) {
-    if (watcher > 0 && kill(watcher, SIGKILL) == 0) waitpid(watcher, NULL, 0);
-    watcher = 0;
+    kill_child(&watcher);
 }

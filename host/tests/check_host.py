@@ -1,12 +1,12 @@
 """check_host.py HOST [--runs N] [NAME..]: checks the host with programs for tests around it; see scripts/check-host.sh."""
 import json, os, random, shutil, signal, subprocess, sys, tempfile, time
 sys.path.insert(0, os.path.dirname(os.path.abspath(__file__)))
-import cases, ends, facts, kinds, shells
+import cases, ends, facts, faults, kinds, shells
 from terminals import become_reaper
 from tree import Tree
 
 JOBS = 6
-CASES = {case.__name__: case for case in cases.ALL + facts.ALL + kinds.ALL + shells.ALL}
+CASES = {case.__name__: case for case in cases.ALL + facts.ALL + kinds.ALL + shells.ALL + faults.ALL}
 
 
 def check_ends(tree, kind, runs):
@@ -23,7 +23,7 @@ def check_ends(tree, kind, runs):
 def worker(host, runs, names):
     """Does these checks, and prints each result as a line."""
     become_reaper()
-    for number in (signal.SIGPIPE, signal.SIGXFSZ):  # python ignores them, and a program would inherit that
+    for number in (signal.SIGPIPE, signal.SIGXFSZ, signal.SIGINT):  # python ignores or handles them until exec, which would lose them
         signal.signal(number, signal.SIG_DFL)
     random.seed(os.getpid())
     folder = tempfile.mkdtemp(prefix='check-host.')
@@ -31,6 +31,7 @@ def worker(host, runs, names):
     tree = Tree(f'{folder}/tree', host)
     try:
         for name in names:
+            tree.stop_log()
             for result in CASES[name](tree) if name in CASES else check_ends(tree, name, runs):
                 print(json.dumps(result), flush=True)
     finally:
@@ -46,7 +47,7 @@ def main():
     if words[:1] == ['--worker']:
         worker(host, runs, words[1:])
         return
-    names = words or [*CASES, *ends.KINDS]
+    names = words or [name for name in (*CASES, *ends.KINDS) if name != 'faults']  # which takes some minutes
     jobs = min(JOBS, len(names))
     started = [subprocess.Popen([sys.executable, os.path.abspath(__file__), host, '--runs', str(runs), '--worker', *names[job::jobs]],
                                 stdout=subprocess.PIPE, text=True) for job in range(jobs)]

@@ -44,6 +44,10 @@ class Tree:
             os.unlink(self.log)
         write(f'{self.top}/lib/bidi_edit/log', self.log, 0o644)
 
+    def stop_log(self):
+        if os.path.exists(f'{self.top}/lib/bidi_edit/log'):
+            os.unlink(f'{self.top}/lib/bidi_edit/log')
+
     def heard(self):
         """What the keeper heard, a message a line."""
         try:
