@@ -24,8 +24,7 @@ static void set_title(struct request *request, const char *title) {
     request->title = strdup(title);
 }
 
-/* Reads an exit status. Returns -1 for what is none. */
-static int read_status(const char *text) {
+int read_status(const char *text) {
     char *end = NULL;
     long status = strtol(text, &end, 10);
     return *text && *end == 0 && status >= 0 && status <= 255 ? (int)status : -1;
@@ -42,7 +41,7 @@ static bool carry_out_one(const struct message *message, struct request *request
     case 'b':
         if (add_word(&request->program, message->text)) return false;
         break;
-    case 'f': tell_facts(message->text); return false;
+    case 'f': add_facts(&keeper.said, message->text); return false;
     case 'q': ask(message->text); return false;
     case 'n': set_title(request, message->text); return false;
     case 'g': *outcome = GO; return true;
@@ -68,27 +67,5 @@ enum outcome carry_out(struct request *request) {
         if (end_signal) return SIGNALLED;
         if (keeper.state != KEEPER_SPEAKS) return KEEPER_GONE;
         wait_once(0);
-    }
-}
-
-/* Writes a text of the session's end; a blocked terminal delays nobody for longer than the whole end may take. */
-static void tell_end(int file, const struct message *message, int64_t end, int64_t limit) {
-    int64_t left = end - now();
-    write_within(file, message->text, message->length, left < 1 ? 1 : left < limit ? left : limit, true);
-}
-
-bool hear_end(int *status, int64_t end, int64_t limit) {
-    struct message message;
-    /* what is said in time is heard, also where the telling took all of it */
-    for (bool is_over = false;; is_over = now() >= end) {
-        while (hear(&message)) {
-            if (message.letter == 'o') tell_end(STDOUT_FILENO, &message, end, limit);
-            else if (message.letter == 'e') tell_end(STDERR_FILENO, &message, end, limit);
-            else if (message.letter == 'x' && (*status = read_status(message.text)) >= 0) return true;
-            /* the answer of a second that went before the end */
-            else if (!strchr(".n!r", message.letter)) refuse_message();
-        }
-        if (keeper.state != KEEPER_SPEAKS || is_over) return false;
-        wait_once(end);
     }
 }

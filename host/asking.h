@@ -4,7 +4,6 @@
 
 #include <stdbool.h>
 #include <stddef.h>
-#include <stdint.h>
 
 enum { MOST_COMMAND = 250 };
 
@@ -28,8 +27,7 @@ bool add_word(struct command *command, const char *word);
 /* Carries out what the keeper says until it says how to go on. */
 enum outcome carry_out(struct request *request);
 
-/* Writes the keeper's texts and reads its status behind the end of the program, until the time `end`. Returns false where the
- * keeper did not answer. */
-bool hear_end(int *status, int64_t end, int64_t limit);
+/* Reads an exit status. Returns -1 for what is none. */
+int read_status(const char *text);
 
 #endif

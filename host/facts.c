@@ -1,6 +1,7 @@
 #include "facts.h"
 
 #include <fcntl.h>
+#include <inttypes.h>
 #include <linux/magic.h>
 #include <stdbool.h>
 #include <stdint.h>
@@ -12,7 +13,6 @@
 #include <unistd.h>
 
 #include "attributes.h"
-#include "keeper.h"
 #include "paths.h"
 
 /* The letters of the facts, in a text. */
@@ -91,7 +91,13 @@ static uint64_t free_room(const char *folder) {
     return __builtin_mul_overflow(blocks, (uint64_t)look.f_frsize, &room) ? UINT64_MAX : room;
 }
 
-void tell_facts(const char *path) {
+static void add_number(struct queue *queue, char letter, uint64_t number) {
+    char text[24];
+    snprintf(text, sizeof text, "%" PRIu64, number);
+    add_message(queue, letter, text);
+}
+
+void add_facts(struct queue *queue, const char *path) {
     struct path real, folder;
     struct letters letters = {{0}, 0};
     struct stat look;
@@ -100,9 +106,9 @@ void tell_facts(const char *path) {
     if (stat(path, &look) == 0) put_own_letters(&letters, path, &real, &look);
     put_letter(&letters, 't', is_in_memory(folder.text));
     long longest = pathconf(folder.text, _PC_NAME_MAX);
-    say('a', letters.text);
-    say_number('l', longest > 0 ? (uint64_t)longest : 255);
-    say_number('m', free_room(folder.text));
-    say('r', real.text);
-    say('.', "");
+    add_message(queue, 'a', letters.text);
+    add_number(queue, 'l', longest > 0 ? (uint64_t)longest : 255);
+    add_number(queue, 'm', free_room(folder.text));
+    add_message(queue, 'r', real.text);
+    add_message(queue, '.', "");
 }

@@ -2,7 +2,9 @@
 #ifndef FACTS_H
 #define FACTS_H
 
-/* Says the facts about a path to the keeper. */
-void tell_facts(const char *path);
+#include "wire.h"
+
+/* Appends the messages with the facts about a path. */
+void add_facts(struct queue *queue, const char *path);
 
 #endif

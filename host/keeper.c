@@ -50,7 +50,7 @@ static void leave_in_state(enum keeper_state state) {
 
 void say(char letter, const char *text) {
     if (keeper.to < 0 || keeper.state == KEEPER_ENDED) return;
-    if (!add_message(&keeper.said, letter, text)) leave_in_state(KEEPER_LOST);
+    if (!add_message(&keeper.said, letter, text)) lose_keeper();
 }
 
 void say_number(char letter, uint64_t number) {
@@ -69,17 +69,21 @@ void refuse_message(void) {
     leave_in_state(KEEPER_ERRS);
 }
 
+void lose_keeper(void) {
+    leave_in_state(KEEPER_LOST);
+}
+
 static void read_keeper(void) {
     char bytes[4096];
     ssize_t count = read(keeper.from, bytes, sizeof bytes);
     if (count > 0) {
-        if (!add_bytes(&keeper.heard, bytes, (size_t)count)) leave_in_state(KEEPER_LOST);
+        if (!add_bytes(&keeper.heard, bytes, (size_t)count)) lose_keeper();
     } else if (count == 0) {
         close(keeper.from);
         keeper.from = -1;
         leave_in_state(KEEPER_ENDED);
     } else if (errno != EAGAIN && errno != EINTR) {
-        leave_in_state(KEEPER_LOST);
+        lose_keeper();
     }
 }
 
@@ -91,7 +95,7 @@ static void write_keeper(void) {
         /* its end is told by the other pipe, behind what it said before */
         take_bytes(&keeper.said, keeper.said.end - keeper.said.start);
     } else if (errno != EAGAIN && errno != EINTR) {
-        leave_in_state(KEEPER_LOST);
+        lose_keeper();
     }
 }
 

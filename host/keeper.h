@@ -32,8 +32,9 @@ void say_number(char letter, uint64_t number);
 /* Gives the next message that has come. It is there until the next call. */
 bool hear(struct message *message);
 
-/* The keeper said what no keeper says. */
+/* The keeper said what no keeper says; or it cannot be reached. */
 void refuse_message(void);
+void lose_keeper(void);
 
 /* Reads and writes as far as the files are ready. */
 void mind_keeper(short from_events, short to_events);

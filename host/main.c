@@ -8,11 +8,11 @@
 #include <stdlib.h>
 #include <string.h>
 #include <sys/ioctl.h>
-#include <sys/wait.h>
 #include <unistd.h>
 
 #include "asking.h"
 #include "children.h"
+#include "closing.h"
 #include "fault.h"
 #include "keeper.h"
 #include "kinds.h"
@@ -22,9 +22,8 @@
 #include "terminal.h"
 #include "writing.h"
 
-/* How long the keeper has for the session's end, and to end itself. */
-enum { ENDING = 30000, ENDING_BY_SIGNAL = 3000, LEAVING = 3000, WHOLE_BY_SIGNAL = 4300, LEAST = 200 };
-enum { TELLING = 10000, TELLING_BY_SIGNAL = 1000 };
+/* How long the keeper has to end itself. */
+enum { LEAVING = 3000, PRINTING = 1000 };
 
 static struct programs programs;
 
@@ -90,21 +89,8 @@ static void say_start(int count, char **own_words, struct size size) {
     say('.', "");
 }
 
-/* Tells how the keeper ended, or why the host cannot go on with it. */
-static void tell_keeper(const char *effect) {
-    char detail[128] = "the keeper of sessions has ended";
-    bool is_known = keeper.state == KEEPER_ENDED && keeper.process == 0;
-    if (keeper.state == KEEPER_ERRS) snprintf(detail, sizeof detail, "the keeper of sessions was not understood");
-    if (keeper.state == KEEPER_LOST) snprintf(detail, sizeof detail, "the keeper of sessions cannot be reached");
-    if (is_known && WIFSIGNALED(keeper.status))
-        snprintf(detail, sizeof detail, "the keeper of sessions was ended by the signal %d", WTERMSIG(keeper.status));
-    if (is_known && WIFEXITED(keeper.status) && WEXITSTATUS(keeper.status) == 127)
-        snprintf(detail, sizeof detail, "the keeper of sessions cannot be started");
-    tell_fault(detail, effect);
-}
-
 static _Noreturn void print(const struct request *request) {
-    end_keeper(now() + TELLING_BY_SIGNAL);
+    end_keeper(now() + PRINTING);
     give_back_signals();
     execv(programs.printer.text, request->printer.words);
     tell_fault(programs.printer.text, " cannot be started");
@@ -118,21 +104,6 @@ static _Noreturn void leave(enum outcome outcome, const struct request *request)
     if (outcome == EXIT) exit(request->status);
     tell_keeper(": the editor is not started");
     exit(1);
-}
-
-/* Has the keeper end the session. Returns the host's exit status. */
-static int end_session(int status) {
-    int64_t end = now() + (end_signal ? ENDING_BY_SIGNAL : ENDING), whole = end_time + WHOLE_BY_SIGNAL;
-    if (end_signal && end > whole) end = now() + LEAST > whole ? now() + LEAST : whole;
-    if (end_signal) say_number('y', (uint64_t)end_signal);
-    say_number('z', (uint64_t)status);
-    bool is_told = hear_end(&status, end, end_signal ? TELLING_BY_SIGNAL : TELLING);
-    bool is_late = !is_told && keeper.state == KEEPER_SPEAKS;
-    end_keeper(is_told ? now() + (end_signal ? LEAST : LEAVING) : now());
-    if (is_told) return status;
-    if (is_late) tell_fault("the session could not be ended in time", ": bidi-edit --recover lists what is kept");
-    else tell_keeper(": bidi-edit --recover lists what is kept");
-    return 1;
 }
 
 static _Noreturn void edit(const struct request *request, struct size size) {

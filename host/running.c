@@ -8,6 +8,7 @@
 #include <sys/wait.h>
 #include <unistd.h>
 
+#include "beside.h"
 #include "children.h"
 #include "ending.h"
 #include "fault.h"
@@ -34,6 +35,7 @@ static void obey_keeper(void) {
         case 'n': show_title(message.text); break;
         case '!': show("\a"); break;
         case 'r': is_size_owed = keys >= 0; break;
+        case 'f': start_facts(message.text); break;
         default: refuse_message(); return;
         }
     }

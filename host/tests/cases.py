@@ -239,6 +239,35 @@ def told_words(tree):
     yield from finish(run, 'told: the size', 0)
 
 
+def facts_meanwhile(tree):
+    """Facts that are asked for while the program runs, and at the end."""
+    tree.start_log()
+    run = start(tree, 'edit', 'curious', tree.file('curious'))
+    run.pump(5, b'hello')
+    run.rest(1.5)
+    run.type(b'abc')
+    yield holds('facts meanwhile: keys', run.pump(5, b'<abc>'))
+    run.type(QUIT)
+    yield from finish(run, 'facts meanwhile', 0)
+    told = [line for line in tree.heard() if line.count(b'|') == 3]
+    yield same('facts meanwhile: told', [line.split(b'|')[3] for line in told[:1] + told[-1:]],
+               [b'r' + os.path.realpath(tree.file(name)).encode() for name in ('', 'curious')])
+
+
+def late_signals(tree):
+    """A signal while the session's end takes long ends the wait."""
+    run = start(tree, 'edit', 'mute', tree.file('late'))
+    run.pump(5, b'hello')
+    run.type(QUIT)
+    yield holds('late signals: the end waits', not run.pump(1) and run.is_restored())
+    before = time.perf_counter()
+    os.kill(run.job, signal.SIGTERM)
+    yield holds('late signals: soon over', run.pump(6) and time.perf_counter() - before < 5)
+    run.drain()
+    yield holds('late signals: told', b'could not be ended in time: bidi-edit --recover lists' in run.output, run.output)
+    yield from finish(run, 'late signals', signal.SIGTERM)
+
+
 def deaf_programs(tree):
     for name in ('deaf', 'flood'):
         run = start(tree, 'edit', 'plain', tree.file(name))
@@ -279,5 +308,5 @@ def missing_programs(tree):
         os.rename(f'{lib}/bidi_input.away', f'{lib}/bidi_input')
 
 
-ALL = [edits, sizes, resizes, standard_files, questions, refusals, statuses, printing, without_terminal, keepers, told_words, deaf_programs,
+ALL = [edits, sizes, resizes, standard_files, questions, refusals, statuses, printing, without_terminal, keepers, told_words, facts_meanwhile, late_signals, deaf_programs,
        missing_programs]

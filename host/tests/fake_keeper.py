@@ -3,7 +3,7 @@
 
 edit KIND FILE: has the program edit FILE. KIND: plain; slow (answers no second, and the end after 2 s); mute (never answers the
     end); dies (at the first second); errs (says nonsense at the first second); titles (a title and a bell each second); told
-    (asks for the journal each second); sized (gives a size of its own)
+    (asks for the journal each second); sized (gives a size of its own); curious (asks for facts each second and at the end)
 ask FILE: asks a question first, and tells the answer; facts PATH..: tells the facts; print WORD..: has the printer print;
 refuse: refuses; dies, errs, hangs: before the program. All that it hears is written to the file that FAKE_KEEPER_LOG names, which
 is read from the file `log` beside this program, since it has no words."""
@@ -72,12 +72,16 @@ def edit(kind, file, more=()):
                 say(b'!')
             if kind == b'told':
                 say(b'r')
+            if kind == b'curious':
+                note(b'|'.join(facts(os.path.dirname(file))))
             say(b'.')
         if letter == b'z':
             if kind == b'slow':
                 time.sleep(2)
             if kind == b'mute':
                 time.sleep(60)
+            if kind == b'curious':
+                note(b'|'.join(facts(file)))
             status = int(text)
             say(b'e', b'bidi-edit: the end is told (%d)\n' % status)
             say(b'x', b'%d' % status)
