@@ -21,7 +21,7 @@ make_source() {
 
 # Runs the script. Its messages go to `said`, its status to `status`.
 installs() { # WORD..
-    as_user "$shell" "$source/scripts/install.sh" "$@" >"$folder/said" 2>&1
+    as_user sh "$source/scripts/install.sh" "$@" >"$folder/said" 2>&1
     status=$?
 }
 
@@ -35,7 +35,7 @@ check_modes_there() {
     as_user chmod 777 "$source/launcher/words.sh"
     for mask in 077 000 022; do
         # shellcheck disable=SC2016
-        as_user sh -c 'umask "$1"; exec "$2" "$3" "$4"' sh "$mask" "$shell" "$source/scripts/install.sh" "$prefix" >/dev/null
+        as_user sh -c 'umask "$1"; exec "$2" "$3" "$4"' sh "$mask" sh "$source/scripts/install.sh" "$prefix" >/dev/null
         same "packages, umask $mask: folders" "$(find "$prefix" -type d ! -perm 755)" ''
         same "packages, umask $mask: files" "$(find "$prefix" -type f ! -perm 644 ! -perm 755)" ''
         same "packages, umask $mask: programs" "$(cd "$prefix" && find . -type f -perm 755 | sort | paste -s -d ' ')" \
@@ -61,11 +61,11 @@ check_failed_copy() {
 # Starts the editor during installations of the same version.
 check_starts_meanwhile() {
     installs "$prefix"
-    as_user sh -c 'for i in 1 2 3 4 5 6 7 8 9 10 11 12; do "$1" "$2" "$3"; done' sh "$shell" "$source/scripts/install.sh" "$prefix" >/dev/null &
+    as_user sh -c 'for i in 1 2 3 4 5 6 7 8 9 10 11 12; do "$1" "$2" "$3"; done' sh sh "$source/scripts/install.sh" "$prefix" >/dev/null &
     job=$!
     starts=0 refused=0
     while kill -s 0 "$job" 2>/dev/null; do
-        as_user "$shell" "$prefix/bin/bidi-edit" --version >"$folder/said" 2>&1 || refused=$((refused + 1))
+        as_user "$prefix/bin/bidi-edit" --version >"$folder/said" 2>&1 || refused=$((refused + 1))
         starts=$((starts + 1))
     done
     wait "$job"
@@ -130,7 +130,7 @@ check_deb() {
     }
     make_commands
     as_user mkdir "$folder/made" 2>/dev/null
-    as_user env PATH="$folder/commands" TMPDIR="$folder/private" "$shell" "$source/scripts/make-deb.sh" "$folder/made" >"$folder/said" 2>&1
+    as_user env PATH="$folder/commands" TMPDIR="$folder/private" sh "$source/scripts/make-deb.sh" "$folder/made" >"$folder/said" 2>&1
     same 'packages, deb: status' "$?" 0
     has 'packages, deb: its own checks' "$(tail -n 1 "$folder/said")" ' 0 failed, '
     same 'packages, deb: what is made' "$(cd "$folder/made" && echo *)" "bidi-edit_${version}_amd64.deb bidi-edit_${version}_amd64.tar.gz"
@@ -143,7 +143,7 @@ check_deb() {
 
 check_packages() {
     asked packages || return 0
-    version=$(sed -n 's/^version=//p' "$top/launcher/words.sh")
+    version=$(grep -rhoE '"[0-9]+\.[0-9]+\.[0-9]+"' "$top/crates/bx_launch/src" | head -n 1 | tr -d '"')
     make_source
     check_modes_there
     check_failed_copy

@@ -36,9 +36,9 @@ pub fn line_of_digits(digits: &[u8]) -> Option<u64>
     Some(if number < TOO_LARGE { number } else { LAST_LINE })
 }
 
-/// A line's number as an option: None for the first.
+/// A line's number as an option: None for the first, which 0 names too.
 fn line_option(number: u64) -> Option<u64> {
-    if number == 1 { None } else { Some(number) }
+    if number <= 1 { None } else { Some(number) }
 }
 
 /// The line that the value of `--line` names; None for the first.
