@@ -3,9 +3,9 @@
 ghost use Rattle.std.specs.Prelude.{◌≡◌, true, IfSome};
 ghost use Rattle.bx_terms.specs.Sizes.{is_side};
 
-use crate::around::Around;
+use bx_keep::{Around, Held, Replay, ReplayFault, Replayer};
 use bx_launch::Tables;
-use bx_recovery::{Beginning, Held, RecoveryFault, recover};
+use bx_recovery::{Beginning, Held as Found, RecoveryFault, recover};
 use bx_sessions::{Part, Session};
 use bx_store::MemoryStore;
 use bx_terms::is_side;
@@ -14,58 +14,48 @@ use std::alloc::AllocError;
 use std::fs;
 use std::io::{self, ErrorKind};
 
-/// A session's text after its keys, and what FILE has beside it.
-#[derive(Drop)]
-pub struct Replay {
-    pub held: Held,
-    /// The number of keys.
-    pub keys: u64,
-    pub text: Vec<u8>,
-}
+/// Why a session cannot be replayed.
+#[derive(Clone, Copy)]
+struct Fault(ReplayFault);
 
-/// Why a session's keys cannot be replayed.
-#[derive(Clone, Copy, PartialEq, Eq, Debug)]
-pub enum ReplayFault {
-    /// A part of it is missing, or is none of a session.
-    Unreadable,
-    OutOfMemory,
-}
+/// A part of a session is missing, or is none of a session.
+const UNREADABLE: Fault = Fault(ReplayFault::Unreadable);
 
-impl From<io::Error> for ReplayFault {
+impl From<io::Error> for Fault {
     fn from(error: io::Error) -> Self {
         match error.kind() {
-            ErrorKind::OutOfMemory => ReplayFault::OutOfMemory,
-            _ => ReplayFault::Unreadable,
+            ErrorKind::OutOfMemory => Fault(ReplayFault::OutOfMemory),
+            _ => Fault(ReplayFault::Unreadable),
         }
     }
 }
 
-impl From<AllocError> for ReplayFault {
+impl From<AllocError> for Fault {
     fn from(_error: AllocError) -> Self {
-        ReplayFault::OutOfMemory
+        Fault(ReplayFault::OutOfMemory)
     }
 }
 
-impl From<FileFault<'_>> for ReplayFault {
+impl From<FileFault<'_>> for Fault {
     fn from(fault: FileFault<'_>) -> Self {
         match fault {
-            FileFault::OutOfMemory => ReplayFault::OutOfMemory,
-            FileFault::Unreadable(_) => ReplayFault::Unreadable,
+            FileFault::OutOfMemory => Fault(ReplayFault::OutOfMemory),
+            FileFault::Unreadable(_) => Fault(ReplayFault::Unreadable),
         }
     }
 }
 
-impl From<RecoveryFault> for ReplayFault {
+impl From<RecoveryFault> for Fault {
     fn from(fault: RecoveryFault) -> Self {
         match fault {
-            RecoveryFault::OutOfMemory | RecoveryFault::Unwritten => ReplayFault::OutOfMemory,
-            RecoveryFault::Tables(_) | RecoveryFault::Open(_) => ReplayFault::Unreadable,
+            RecoveryFault::OutOfMemory | RecoveryFault::Unwritten => Fault(ReplayFault::OutOfMemory),
+            RecoveryFault::Tables(_) | RecoveryFault::Open(_) => Fault(ReplayFault::Unreadable),
         }
     }
 }
 
 /// Unicode's files, without those of joined letters, which change no text and no place.
-fn unicode_of(rt: &HostRuntime, tables: &Tables) -> Result<UnicodeBytes, ReplayFault> {
+fn unicode_of(rt: &HostRuntime, tables: &Tables) -> Result<UnicodeBytes, Fault> {
     let paths = UnicodePaths {
         classes: tables.classes.as_str(),
         brackets: tables.brackets.as_str(),
@@ -83,10 +73,10 @@ fn side_of(side: u32) -> Option<u16>
 }
 
 /// All bytes of a session's file.
-fn bytes_in(around: Around<'_>, session: &Session, part: Part) -> Result<Vec<u8>, ReplayFault> {
+fn bytes_in(around: Around<'_>, session: &Session, part: Part) -> Result<Vec<u8>, Fault> {
     session
         .read(around.rt, part)?
-        .ok_or(ReplayFault::Unreadable)
+        .ok_or(UNREADABLE)
 }
 
 /// FILE's bytes; none where it is not there or cannot be read.
@@ -97,13 +87,20 @@ fn bytes_of_file(around: Around<'_>, file: &str) -> Vec<u8> {
     }
 }
 
+/// What FILE has, in the keeper's words.
+fn held_of(found: Found) -> Held {
+    match found {
+        Found::Same => Held::Same,
+        Found::Known => Held::Known,
+        Found::Foreign => Held::Foreign,
+    }
+}
+
 /// Replays a session's keys over its text, and compares FILE with the text, with the opened one and with each saved one.
-///
-/// Errors: `Unreadable`; `OutOfMemory`.
-pub fn replay_keys(around: Around<'_>, session: &Session, file: &str) -> Result<Replay, ReplayFault> {
-    let begin = session.begin(around.rt)?.ok_or(ReplayFault::Unreadable)?;
-    let rows = side_of(begin.rows).ok_or(ReplayFault::Unreadable)?;
-    let cols = side_of(begin.cols).ok_or(ReplayFault::Unreadable)?;
+fn replay_keys(around: Around<'_>, session: &Session, file: &str) -> Result<Replay, Fault> {
+    let begin = session.begin(around.rt)?.ok_or(UNREADABLE)?;
+    let rows = side_of(begin.rows).ok_or(UNREADABLE)?;
+    let cols = side_of(begin.cols).ok_or(UNREADABLE)?;
     let unicode = unicode_of(around.rt, around.tables)?;
     let text = bytes_in(around, session, Part::Text)?;
     let keys = bytes_in(around, session, Part::Journal)?;
@@ -121,8 +118,26 @@ pub fn replay_keys(around: Around<'_>, session: &Session, file: &str) -> Result<
     let mut store = MemoryStore::new(around.alloc(), None);
     let replayed = recover(&mut store, beginning, bytes_of_file(around, file).as_slice())?;
     Ok(Replay {
-        held: replayed.held,
+        held: held_of(replayed.held),
         keys: replayed.keys,
         text: Vec::from_slice(around.alloc(), store.contents())?,
     })
+}
+
+/// The editor, which replays keys in this process.
+#[derive(Clone, Copy)]
+pub struct Editor;
+
+impl Replayer for Editor {
+    fn replay(
+        &self,
+        around: Around<'_>,
+        session: &Session,
+        file: &str,
+    ) -> Result<Replay, ReplayFault> {
+        match replay_keys(around, session, file) {
+            Ok(replay) => Ok(replay),
+            Err(Fault(fault)) => Err(fault),
+        }
+    }
 }

@@ -1,7 +1,7 @@
 -- What answers mean.
 use Rattle.std.specs.Prelude.{ℕ, List, [], ◌∷◌, ◌||◌, bytes_eq, codes, Option, Some, None, if◌then◌else◌}
-use Rattle.bidi_keep.specs.declared.asking.Choice.{Choice}
-use Rattle.bidi_keep.specs.declared.asking.Choice.TheVariants.{Recover, Delete, Later}
+use Rattle.bx_keep.specs.declared.asking.Choice.{Choice}
+use Rattle.bx_keep.specs.declared.asking.Choice.TheVariants.{Recover, Delete, Later}
 
 -- what an answer chooses for an unfinished session: its word or the word's first letter
 abbrev pub choice_of : List ℕ → Option Choice

@@ -5,6 +5,7 @@ use crate::beginning::Begun;
 use crate::checking::Edited;
 use crate::meeting::meet;
 use crate::recovering::{recover, recover_elsewhere};
+use crate::replaying::Replayer;
 use crate::running::Running;
 use crate::starting::program_words;
 use crate::stop::Stop;
@@ -35,17 +36,18 @@ fn start<R: Read + Drop, W: Write + Drop>(
 }
 
 /// Starts the program, minds its session, and ends it. Returns the program's exit status; None if the host is gone.
-fn run<R: Read + Drop, W: Write + Drop>(
+fn run<R: Read + Drop, W: Write + Drop, P: Replayer>(
     around: Around<'_>,
     wire: &mut Wire<R, W>,
     edited: &Edited,
     begun: Begun,
+    replayer: &P,
 ) -> Result<Option<u64>, Stop> {
     let mut running = Running::new(around, edited, begun);
     start(wire, &running)?;
     match running.run(wire)? {
         Some(status) => {
-            running.end(wire, status)?;
+            running.end(wire, status, replayer)?;
             Ok(Some(status))
         }
         None => Ok(None),
@@ -53,12 +55,13 @@ fn run<R: Read + Drop, W: Write + Drop>(
 }
 
 /// Edits FILE with a session that goes on, or a new one.
-fn edit_with<R: Read + Drop, W: Write + Drop>(
+fn edit_with<R: Read + Drop, W: Write + Drop, P: Replayer>(
     around: Around<'_>,
     wire: &mut Wire<R, W>,
     mut edited: Edited,
     options: &Options,
     taken: Option<Taken>,
+    replayer: &P,
 ) -> Result<Option<u64>, Stop> {
     let begun = match taken {
         Some(taken) => {
@@ -68,42 +71,44 @@ fn edit_with<R: Read + Drop, W: Write + Drop>(
         }
         None => Begun::fresh(around, wire, &mut edited, options)?,
     };
-    run(around, wire, &edited, begun)
+    run(around, wire, &edited, begun, replayer)
 }
 
 /// Edits FILE. Returns the program's exit status; None if the host is gone.
-pub fn edit<R: Read + Drop, W: Write + Drop>(
+pub fn edit<R: Read + Drop, W: Write + Drop, P: Replayer>(
     around: Around<'_>,
     wire: &mut Wire<R, W>,
     call: &EditCall,
+    replayer: &P,
 ) -> Result<Option<u64>, Stop> {
     let (file, options) = (call.file.as_str(), &call.options);
     let mut edited = Edited::check(around, wire, file, options.is_forced)?;
     check_terminal(around)?;
-    let met = meet(around, wire, &edited)?;
+    let met = meet(around, wire, &edited, replayer)?;
     // an answer takes time
     if met.was_asked && met.taken.is_none() {
         edited = Edited::check(around, wire, file, options.is_forced)?;
     }
-    edit_with(around, wire, edited, options, met.taken)
+    edit_with(around, wire, edited, options, met.taken, replayer)
 }
 
 /// Recovers FILE's session. Returns the exit status; None if the host is gone.
-pub fn edit_recovered<R: Read + Drop, W: Write + Drop>(
+pub fn edit_recovered<R: Read + Drop, W: Write + Drop, P: Replayer>(
     around: Around<'_>,
     wire: &mut Wire<R, W>,
     call: &RecoverCall,
+    replayer: &P,
 ) -> Result<Option<u64>, Stop> {
     let (file, options) = (call.file.as_str(), &call.options);
     if let Some(other) = &call.to {
-        recover_elsewhere(around, wire, file, other.as_str())?;
+        recover_elsewhere(around, wire, file, other.as_str(), replayer)?;
         return Ok(Some(0));
     }
     check_terminal(around)?;
-    let taken = recover(around, wire, file)?;
+    let taken = recover(around, wire, file, replayer)?;
     let edited = match &taken {
         Some(taken) => Edited::find(around, wire, taken.file.as_str())?,
         None => Edited::check(around, wire, file, options.is_forced)?,
     };
-    edit_with(around, wire, edited, options, taken)
+    edit_with(around, wire, edited, options, taken, replayer)
 }

@@ -35,7 +35,7 @@ pub enum Fate {
 }
 
 impl Left {
-    ghost use Rattle.bidi_keep.specs.Fates.{HasAll, MayBeRecovered};
+    ghost use Rattle.bx_keep.specs.Fates.{HasAll, MayBeRecovered};
 
     /// What becomes of the session.
     pub fn fate(self) -> Fate

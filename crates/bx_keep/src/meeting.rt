@@ -3,6 +3,7 @@
 use crate::around::Around;
 use crate::asking::{Choice, ask_choice, ask_to_go_on};
 use crate::checking::Edited;
+use crate::replaying::Replayer;
 use crate::saying::tell;
 use crate::stop::Stop;
 use crate::taking::{Outcome, Taken, Taking};
@@ -74,8 +75,8 @@ pub fn ask_beside_live<H: Host>(
 }
 
 /// Tells of an unfinished session, and asks what to do with it.
-fn ask_what_to_do<H: Host>(
-    taking: &Taking<'_>,
+fn ask_what_to_do<H: Host, P: Replayer>(
+    taking: &Taking<'_, P>,
     host: &mut H,
     session: Session,
 ) -> Result<Try, Stop> {
@@ -112,11 +113,12 @@ pub fn tell_missed<H: Host>(around: Around<'_>, host: &mut H) -> Result<(), Stop
 }
 
 /// Asks once about FILE's sessions.
-fn meet_once<H: Host>(
+fn meet_once<H: Host, P: Replayer>(
     around: Around<'_>,
     host: &mut H,
     edited: &Edited,
     sessions: &Sessions,
+    replayer: &P,
 ) -> Result<Try, Stop> {
     let target = around.target(edited.path());
     let nothing = Met {
@@ -132,6 +134,7 @@ fn meet_once<H: Host>(
         around,
         edited,
         sessions,
+        replayer,
     };
     match found.unfinished {
         Some(session) => ask_what_to_do(&taking, host, session),
@@ -145,10 +148,15 @@ fn meet_once<H: Host>(
 /// Asks about FILE's other sessions before FILE is opened.
 ///
 /// Errors: what ends the start.
-pub fn meet<H: Host>(around: Around<'_>, host: &mut H, edited: &Edited) -> Result<Met, Stop> {
+pub fn meet<H: Host, P: Replayer>(
+    around: Around<'_>,
+    host: &mut H,
+    edited: &Edited,
+    replayer: &P,
+) -> Result<Met, Stop> {
     if let Some(sessions) = &edited.shelf.sessions {
         for _ in 0..u64::MAX {
-            match meet_once(around, host, edited, sessions)? {
+            match meet_once(around, host, edited, sessions, replayer)? {
                 Try::Met(met) => return Ok(met),
                 Try::Again => tell_missed(around, host)?,
             }

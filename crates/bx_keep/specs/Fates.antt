@@ -1,6 +1,6 @@
 -- What is known of a session at its end.
 use Rattle.std.specs.Prelude.{◌≡◌, ◌⊎◌, true, false}
-use Rattle.bidi_keep.specs.declared.fate.Left.{Left}
+use Rattle.bx_keep.specs.declared.fate.Left.{Left}
 
 -- FILE has all of the session: nothing is unsaved, or FILE has the session's text; and no save was cut off
 pub record HasAll (left : Left) : Type 0 where

@@ -1,7 +1,7 @@
 //! Questions, which are asked again at any other answer.
 
 ghost use Rattle.std.specs.Prelude.{◌≡◌};
-ghost use Rattle.bidi_keep.specs.Answers.{choice_of};
+ghost use Rattle.bx_keep.specs.Answers.{choice_of};
 
 use crate::stop::Stop;
 use bx_wire::Host;

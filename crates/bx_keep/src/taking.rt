@@ -5,11 +5,10 @@ use crate::asking::{Rest, ask_rest, ask_to_go_on};
 use crate::checking::{Edited, mended_line};
 use crate::free_name::free_name;
 use crate::parts::keep_parts;
-use crate::replaying::{Replay, ReplayFault, replay_keys};
+use crate::replaying::{Held, Replay, ReplayFault, Replayer};
 use crate::saying::tell;
 use crate::shelf::unwritable;
 use crate::stop::Stop;
-use bx_recovery::Held;
 use bx_sessions::{Kept, LockFault, Mended, Part, Session, Sessions, mend, renew};
 use bx_wire::Host;
 use bx_words::Shown;
@@ -43,14 +42,15 @@ pub enum Outcome {
 }
 
 /// FILE, and the folder whose sessions may go on.
-#[derive(Clone, Copy)]
-pub struct Taking<'a> {
+#[derive(Drop)]
+pub struct Taking<'a, P: Replayer> {
     pub around: Around<'a>,
     pub edited: &'a Edited,
     pub sessions: &'a Sessions,
+    pub replayer: &'a P,
 }
 
-impl Taking<'_> {
+impl<P: Replayer> Taking<'_, P> {
     /// The fault of a folder in which nothing can be written.
     fn unwritten(&self) -> Result<Stop, Stop> {
         let path = unwritable(self.around.alloc(), self.sessions.path())?;
@@ -104,7 +104,8 @@ impl Taking<'_> {
 
     /// Goes on with a session by its keys.
     fn take_by_keys<H: Host>(&self, host: &mut H, kept: Kept) -> Result<Outcome, Stop> {
-        match replay_keys(self.around, &kept.session, self.edited.path()) {
+        let replayed = self.replayer.replay(self.around, &kept.session, self.edited.path());
+        match replayed {
             Ok(replayed) => self.go_on_after(host, kept, &replayed),
             Err(ReplayFault::Unreadable) => self.ask_what_to_keep(host, &kept.session),
             Err(ReplayFault::OutOfMemory) => Err(Stop::OutOfMemory),

@@ -4,12 +4,11 @@ use crate::checking::mended_line;
 use crate::fate::{Fate, Left};
 use crate::fault::Ended;
 use crate::keeping::Text;
-use crate::replaying::{Replay, replay_keys};
+use crate::replaying::{Held, Replay, Replayer};
 use crate::running::Running;
 use crate::saying::warn;
 use crate::stop::Stop;
 use bx_launch::{are_all_crlf, mixed_line, signal_line};
-use bx_recovery::Held;
 use bx_sessions::{Kept, Look, Mended, Part, forget_dropped, mend};
 use bx_wire::Host;
 use bx_words::Shown;
@@ -129,7 +128,13 @@ impl Running<'_> {
     }
 
     /// What is known of the session. Fills it if its text waits for room, and leaves its text beside the keys.
-    fn left(&mut self, kept: &Kept, status: u64, is_torn: bool) -> Left {
+    fn left<P: Replayer>(
+        &mut self,
+        kept: &Kept,
+        status: u64,
+        is_torn: bool,
+        replayer: &P,
+    ) -> Left {
         let has_unsaved = self.has_unsaved(kept, status);
         let is_filled = self.fill_at_end();
         Left {
@@ -137,28 +142,34 @@ impl Running<'_> {
             has_unsaved,
             is_torn,
             is_filled,
-            is_same: has_unsaved && is_filled && self.leave_text(kept),
+            is_same: has_unsaved && is_filled && self.leave_text(kept, replayer),
             is_secret: kept.session.has(self.around.rt, Part::Secret),
         }
     }
 
     /// Ends the session after the program's end.
-    fn end_session<H: Host>(&mut self, host: &mut H, status: u64) -> Result<(), Stop> {
+    fn end_session<H: Host, P: Replayer>(
+        &mut self,
+        host: &mut H,
+        status: u64,
+        replayer: &P,
+    ) -> Result<(), Stop> {
         let Some(kept) = self.begun.kept.take() else {
             let cause = self.cause()?;
             return self.tell_lost(host, status, cause.as_str());
         };
-        let ended = self.end_kept(host, &kept, status);
+        let ended = self.end_kept(host, &kept, status, replayer);
         self.begun.kept = Some(kept);
         ended
     }
 
     /// Ends a session that was kept.
-    fn end_kept<H: Host>(
+    fn end_kept<H: Host, P: Replayer>(
         &mut self,
         host: &mut H,
         kept: &Kept,
         status: u64,
+        replayer: &P,
     ) -> Result<(), Stop> {
         if !self.is_there(kept) {
             let folder = Shown(kept.session.path());
@@ -166,7 +177,7 @@ impl Running<'_> {
             return self.tell_lost(host, status, cause.as_str());
         }
         let is_torn = self.begun.is_in_place && self.mend(host, kept)?;
-        let left = self.left(kept, status, is_torn);
+        let left = self.left(kept, status, is_torn, replayer);
         match left.fate() {
             Fate::Removed => {
                 if self.is_journal_lost && !left.has_unsaved {
@@ -198,16 +209,18 @@ impl Running<'_> {
     }
 
     /// Replays the session, unless that takes too long.
-    fn replayed(&self, kept: &Kept) -> Option<Replay> {
+    fn replayed<P: Replayer>(&self, kept: &Kept, replayer: &P) -> Option<Replay> {
         if self.signal.is_some() && self.journal_size().unwrap_or(0) > QUICK {
             return None;
         }
-        replay_keys(self.around, &kept.session, self.edited.path()).ok()
+        replayer
+            .replay(self.around, &kept.session, self.edited.path())
+            .ok()
     }
 
     /// Leaves the session's text beside its keys, for a recovery by another version. Whether FILE has the same text.
-    fn leave_text(&self, kept: &Kept) -> bool {
-        let Some(replayed) = self.replayed(kept) else {
+    fn leave_text<P: Replayer>(&self, kept: &Kept, replayer: &P) -> bool {
+        let Some(replayed) = self.replayed(kept, replayer) else {
             return false;
         };
         // without it another version recovers by the keys
@@ -261,10 +274,15 @@ impl Running<'_> {
     }
 
     /// Ends the session, and tells what is kept and what is not.
-    pub fn end<H: Host>(&mut self, host: &mut H, status: u64) -> Result<(), Stop> {
+    pub fn end<H: Host, P: Replayer>(
+        &mut self,
+        host: &mut H,
+        status: u64,
+        replayer: &P,
+    ) -> Result<(), Stop> {
         self.tell_fault(host)?;
         self.tell_line_ends(host)?;
-        self.end_session(host, status)?;
+        self.end_session(host, status, replayer)?;
         self.tell_signal(host, status)
     }
 }

@@ -6,12 +6,13 @@ use crate::checking::Edited;
 use crate::free_name::is_free;
 use crate::meeting::{ask_beside_live, tell_missed};
 use crate::parts::write_new_file;
-use crate::replaying::{ReplayFault, replay_keys};
-use crate::saying::{tell, warn};
+use crate::replaying::{ReplayFault, Replayer};
+use crate::saying::tell;
+use crate::shelf::unwritable;
 use crate::stop::Stop;
 use crate::taking::{Outcome, Taken, Taking, tell_cut, tell_unsure};
 use crate::telling::{number_of_keys, told_machine, told_process};
-use bx_sessions::{Found, LockFault, Part, Session, Sessions, find, mend};
+use bx_sessions::{Found, LockFault, Part, Session, Sessions, find};
 use bx_wire::Host;
 use bx_words::Shown;
 use std::fs::Permissions;
@@ -27,7 +28,7 @@ fn find_all(around: Around<'_>, sessions: &Sessions, path: &str) -> Result<Found
     match find(around.rt, sessions, &target, around.here) {
         Ok(found) => Ok(found),
         Err(_) => {
-            let path = crate::shelf::unwritable(around.alloc(), sessions.path())?;
+            let path = unwritable(around.alloc(), sessions.path())?;
             Err(Stop::fault(around.alloc(), path.as_str()))
         }
     }
@@ -100,10 +101,11 @@ fn pick<H: Host>(
 /// Recovers FILE's session without asking which. None if FILE has all of it, or the session is left.
 ///
 /// Errors: what ends the start.
-pub fn recover<H: Host>(
+pub fn recover<H: Host, P: Replayer>(
     around: Around<'_>,
     host: &mut H,
     file: &str,
+    replayer: &P,
 ) -> Result<Option<Taken>, Stop> {
     let edited = Edited::find(around, host, file)?;
     if !edited.mend(around, host)? {
@@ -116,6 +118,7 @@ pub fn recover<H: Host>(
         around,
         edited: &edited,
         sessions,
+        replayer,
     };
     for _ in 0..u64::MAX {
         let found = find_all(around, sessions, edited.path())?;
@@ -151,11 +154,12 @@ fn store(around: Around<'_>, path: &str, text: &[u8], mode: u32) -> Result<(), S
 }
 
 /// The text of a session, and its number of keys: by its keys, or as it was left if another version kept it.
-fn text_of<H: Host>(
+fn text_of<H: Host, P: Replayer>(
     around: Around<'_>,
     host: &mut H,
     edited: &Edited,
     session: &Session,
+    replayer: &P,
 ) -> Result<(Vec<u8>, u64), Stop> {
     let is_of_this_version = around.versions.kept(around.rt, session);
     if !is_of_this_version {
@@ -164,7 +168,7 @@ fn text_of<H: Host>(
         }
         tell_unsure(around, host)?;
     }
-    match replay_keys(around, session, edited.path()) {
+    match replayer.replay(around, session, edited.path()) {
         Ok(replayed) => {
             tell_cut(around, host, session, replayed.keys)?;
             Ok((replayed.text, replayed.keys))
@@ -205,11 +209,12 @@ fn session_to_store(around: Around<'_>, edited: &Edited, found: Found) -> Result
 /// Stores the text of FILE's session as a new file. The session stays.
 ///
 /// Errors: what cannot be done.
-pub fn recover_elsewhere<H: Host>(
+pub fn recover_elsewhere<H: Host, P: Replayer>(
     around: Around<'_>,
     host: &mut H,
     file: &str,
     other: &str,
+    replayer: &P,
 ) -> Result<(), Stop> {
     let alloc = around.alloc();
     let edited = Edited::find(around, host, file)?;
@@ -225,16 +230,17 @@ pub fn recover_elsewhere<H: Host>(
         let cause = format!(in alloc; "{shown} is there already: name a new file")?;
         return Err(Stop::fault(alloc, cause.as_str()));
     }
-    store_session(around, host, &edited, &session, other)
+    store_session(around, host, &edited, &session, other, replayer)
 }
 
 /// Stores the text of a session as a new file.
-fn store_session<H: Host>(
+fn store_session<H: Host, P: Replayer>(
     around: Around<'_>,
     host: &mut H,
     edited: &Edited,
     session: &Session,
     other: &str,
+    replayer: &P,
 ) -> Result<(), Stop> {
     let alloc = around.alloc();
     let _lock = match session.lock(around.rt, Part::Path) {
@@ -246,7 +252,7 @@ fn store_session<H: Host>(
             return Err(Stop::fault(alloc, cause));
         }
     };
-    let (text, keys) = text_of(around, host, edited, session)?;
+    let (text, keys) = text_of(around, host, edited, session, replayer)?;
     let mode = session.mode(around.rt).unwrap_or(0o600);
     store(around, other, text.as_slice(), mode)?;
     let (file, other) = (Shown(edited.file()), Shown(other));
