@@ -84,11 +84,12 @@ impl Edited {
         let Ok(outcomes) = mend_all(around.rt, sessions, &target, around.here) else {
             return Ok(true);
         };
-        for (mended, mark) in outcomes.iter() {
-            if let Some(line) = mended_line(around.alloc(), self.file(), *mended, mark.as_str())? {
+        for outcome in outcomes.iter() {
+            let (mended, mark) = (outcome.mended, outcome.mark.as_str());
+            if let Some(line) = mended_line(around.alloc(), self.file(), mended, mark)? {
                 warn(host, around.alloc(), line.as_str())?;
             }
-            if *mended == Mended::StillTorn {
+            if mended == Mended::StillTorn {
                 return Ok(false);
             }
         }

@@ -113,12 +113,12 @@ pub fn tell_missed<H: Host>(around: Around<'_>, host: &mut H) -> Result<(), Stop
 }
 
 /// Asks once about FILE's sessions.
-fn meet_once<H: Host, P: Replayer>(
-    around: Around<'_>,
+fn meet_once<'a, H: Host, P: Replayer>(
+    around: Around<'a>,
     host: &mut H,
-    edited: &Edited,
-    sessions: &Sessions,
-    replayer: &P,
+    edited: &'a Edited,
+    sessions: &'a Sessions,
+    replayer: &'a P,
 ) -> Result<Try, Stop> {
     let target = around.target(edited.path());
     let nothing = Met {
@@ -136,7 +136,8 @@ fn meet_once<H: Host, P: Replayer>(
         sessions,
         replayer,
     };
-    match found.unfinished {
+    let Found { unfinished, .. } = found;
+    match unfinished {
         Some(session) => ask_what_to_do(&taking, host, session),
         None => Ok(Try::Met(Met {
             taken: None,
