@@ -37,6 +37,8 @@ pub struct Begun {
     pub is_joined: bool,
     /// Saves are written into FILE itself.
     pub is_in_place: bool,
+    /// The user wants no session.
+    pub is_unwanted: bool,
     /// Why unsaved text is not kept.
     pub unkept: Option<String>,
 }
@@ -57,6 +59,7 @@ impl Begun {
             },
             is_joined: around.tables.joining.is_some(),
             is_in_place: false,
+            is_unwanted: options.is_unkept,
             unkept: None,
         }
     }
@@ -93,8 +96,11 @@ impl Begun {
         Ok(())
     }
 
-    /// Gives the session up that waits for room.
+    /// Gives a session up that waits for room, which a save into FILE itself needs at once.
     fn give_up(&mut self, around: Around<'_>) {
+        if !self.is_waiting {
+            return;
+        }
         if let Some(kept) = self.kept.take() {
             // an empty folder is swept later
             let _ = kept.session.remove(around.rt);

@@ -4,7 +4,7 @@ use crate::around::Around;
 use crate::saying::warn;
 use crate::shelf::Shelf;
 use crate::stop::Stop;
-use bx_launch::{Place, check_kind};
+use bx_launch::{FileFault, Place, check_kind};
 use bx_sessions::{Mended, Reason, find_in_place, mend_all};
 use bx_wire::Host;
 use bx_words::Shown;
@@ -43,6 +43,26 @@ pub fn mended_line(
     }
 }
 
+/// The place of a FILE whose folder is gone, as the system resolves its path.
+fn lost_place<H: Host>(around: Around<'_>, host: &mut H, file: &str) -> Result<Place, Stop> {
+    let alloc = around.alloc();
+    let facts = host.facts(file)?;
+    let (folder, name) = match facts.real_path.as_str().rsplit_once('/') {
+        Some((folder, name)) => (folder, name),
+        None => ("", facts.real_path.as_str()),
+    };
+    let folder_facts = host.facts(folder)?;
+    Ok(Place {
+        file: String::from_str(alloc, file)?,
+        target: String::from_str(alloc, facts.real_path.as_str())?,
+        folder: String::from_str(alloc, folder)?,
+        name: String::from_str(alloc, name)?,
+        path: String::from_str(alloc, facts.real_path.as_str())?,
+        facts,
+        folder_facts,
+    })
+}
+
 impl Edited {
     /// Finds FILE and its sessions.
     ///
@@ -52,6 +72,29 @@ impl Edited {
         check_kind(around.rt, alloc, file).map_err(|fault| Stop::of_file(alloc, fault))?;
         let place = Place::find(around.rt, host, alloc, file)
             .map_err(|fault| Stop::of_file(alloc, fault))?;
+        Edited::at(around, host, place)
+    }
+
+    /// Finds FILE and its sessions, also where FILE's folder is gone.
+    ///
+    /// Errors: as `find`.
+    pub fn find_lost<H: Host>(
+        around: Around<'_>,
+        host: &mut H,
+        file: &str,
+    ) -> Result<Edited, Stop> {
+        let alloc = around.alloc();
+        check_kind(around.rt, alloc, file).map_err(|fault| Stop::of_file(alloc, fault))?;
+        let place = match Place::find(around.rt, host, alloc, file) {
+            Ok(place) => place,
+            Err(FileFault::NoFolder(_)) => lost_place(around, host, file)?,
+            Err(fault) => return Err(Stop::of_file(alloc, fault)),
+        };
+        Edited::at(around, host, place)
+    }
+
+    /// Finds the sessions of FILE at a place.
+    fn at<H: Host>(around: Around<'_>, host: &mut H, place: Place) -> Result<Edited, Stop> {
         let shelf = Shelf::find(around, host, &place)?;
         let in_place = match around.rt.metadata(place.path.as_str()) {
             Ok(found) => find_in_place(&place.facts, &found, &place.folder_facts),

@@ -50,7 +50,11 @@ fn run<R: Read + Drop, W: Write + Drop, P: Replayer>(
             running.end(wire, status, replayer)?;
             Ok(Some(status))
         }
-        None => Ok(None),
+        None => {
+            // the session is to be recovered, and needs its text
+            running.fill_at_end();
+            Ok(None)
+        }
     }
 }
 

@@ -155,6 +155,9 @@ impl Running<'_> {
         replayer: &P,
     ) -> Result<(), Stop> {
         let Some(kept) = self.begun.kept.take() else {
+            if self.begun.is_unwanted {
+                return Ok(());
+            }
             let cause = self.cause()?;
             return self.tell_lost(host, status, cause.as_str());
         };

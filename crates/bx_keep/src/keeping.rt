@@ -147,9 +147,6 @@ pub fn keep_text(
     let Some(kept) = &begun.kept else {
         return Text::Unkept(has_all_crlf(around, edited.path(), look));
     };
-    if begun.is_resumed {
-        return Text::Kept;
-    }
     if begun.is_waiting {
         return wait(around, edited.path(), look);
     }

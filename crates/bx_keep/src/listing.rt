@@ -130,7 +130,7 @@ fn tell_all_forgotten<H: Host>(
 
 /// Removes the ended sessions of FILE.
 fn forget_file<H: Host>(around: Around<'_>, host: &mut H, file: &str) -> Result<usize, Stop> {
-    let edited = Edited::find(around, host, file)?;
+    let edited = Edited::find_lost(around, host, file)?;
     let Some(sessions) = &edited.shelf.sessions else {
         return Ok(0);
     };

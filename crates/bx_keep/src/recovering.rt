@@ -107,7 +107,7 @@ pub fn recover<H: Host, P: Replayer>(
     file: &str,
     replayer: &P,
 ) -> Result<Option<Taken>, Stop> {
-    let edited = Edited::find(around, host, file)?;
+    let edited = Edited::find_lost(around, host, file)?;
     if !edited.mend(around, host)? {
         return Err(Stop::Told(REFUSED));
     }
@@ -217,7 +217,7 @@ pub fn recover_elsewhere<H: Host, P: Replayer>(
     replayer: &P,
 ) -> Result<(), Stop> {
     let alloc = around.alloc();
-    let edited = Edited::find(around, host, file)?;
+    let edited = Edited::find_lost(around, host, file)?;
     // the text can be stored elsewhere even if FILE cannot be repaired
     edited.mend(around, host)?;
     let Some(sessions) = &edited.shelf.sessions else {

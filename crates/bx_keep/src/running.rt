@@ -39,6 +39,15 @@ pub struct Running<'a> {
     synced: u64,
 }
 
+/// The text as it was opened, at first: a session that goes on has it.
+fn first_text(begun: &Begun) -> Text {
+    if begun.is_resumed {
+        Text::Kept
+    } else {
+        Text::Unread
+    }
+}
+
 /// The title's note at first.
 fn first_note(begun: &Begun) -> &'static str {
     match &begun.unkept {
@@ -51,11 +60,12 @@ impl<'a> Running<'a> {
     /// A session whose program starts.
     pub fn new(around: Around<'a>, edited: &'a Edited, begun: Begun) -> Self {
         let note = first_note(&begun);
+        let text = first_text(&begun);
         Running {
             around,
             edited,
             begun,
-            text: Text::Unread,
+            text,
             look: None,
             ended: None,
             is_journal_lost: false,
@@ -71,15 +81,26 @@ impl<'a> Running<'a> {
         Ok(title_of(self.around.alloc(), self.edited.file(), self.note)?)
     }
 
+    /// Keeps the text that the program read, unless the session has its own.
+    fn take_look(&mut self, look: Option<Look>) {
+        self.look = look;
+        if !self.begun.is_resumed {
+            self.text = keep_text(self.around, self.edited, &self.begun, look);
+        }
+    }
+
+    /// Notes that FILE was changed while the program read it, so that it cannot be copied.
+    fn lose_text(&mut self) {
+        if !self.begun.is_resumed {
+            self.text = Text::Lost;
+        }
+    }
+
     /// Takes a word of the program in. One that is none is passed over.
     fn take_word(&mut self, word: &[u8]) -> Result<(), Stop> {
         match read_program_word(word) {
-            Some(ProgramWord::Opened(look)) => {
-                self.look = look;
-                self.text = keep_text(self.around, self.edited, &self.begun, look);
-            }
-            // a text that was read in part cannot be copied
-            Some(ProgramWord::Changed) => self.text = Text::Lost,
+            Some(ProgramWord::Opened(look)) => self.take_look(look),
+            Some(ProgramWord::Changed) => self.lose_text(),
             Some(ProgramWord::Fault(fault)) => {
                 self.ended = Some(Ended::of(self.around.alloc(), fault)?);
             }
@@ -127,8 +148,15 @@ impl<'a> Running<'a> {
         let (Some(size), Some(kept)) = (kept_size, &self.begun.kept) else {
             return;
         };
+        if size == self.synced {
+            return;
+        }
+        if self.synced == 0 {
+            // the journal's name is there, even if its folder is not synced
+            let _ = kept.session.sync(self.around.rt);
+        }
         // what cannot be synced is tried again
-        if size != self.synced && kept.session.sync_journal(self.around.rt).is_ok() {
+        if kept.session.sync_journal(self.around.rt).is_ok() {
             self.synced = size;
         }
     }

@@ -8,9 +8,9 @@ use crate::replaying::Replayer;
 use crate::saying::warn;
 use crate::start::Start;
 use crate::stop::Stop;
-use crate::versions::look_at_versions;
+use crate::versions::{look_at_versions, no_versions};
 use bx_launch::{Call, Tables, Told, find_tables, help_text, read_words, version_text};
-use bx_sessions::Machine;
+use bx_sessions::{Machine, Versions};
 use bx_wire::{Host, Said, Wire};
 use std::fs;
 use std::io::{Read, Write};
@@ -25,6 +25,24 @@ fn tables_of(rt: &HostRuntime, start: &Start, is_unjoined: bool) -> Result<Table
         tables.part_letters();
     }
     Ok(tables)
+}
+
+/// No tables, for what needs none.
+fn no_tables(rt: &HostRuntime) -> Tables {
+    Tables {
+        classes: String::new(rt.alloc()),
+        brackets: String::new(rt.alloc()),
+        mirroring: String::new(rt.alloc()),
+        joining: None,
+    }
+}
+
+/// The version of the editor, where sessions may be replayed.
+fn versions_for(rt: &HostRuntime, call: &Call, tables: &Tables) -> Result<Versions, Stop> {
+    match call {
+        Call::List | Call::Forget(_) => no_versions(rt),
+        _ => look_at_versions(rt, tables),
+    }
 }
 
 /// Tells the versions.
@@ -98,7 +116,10 @@ fn obey<R: Read + Drop, W: Write + Drop, P: Replayer>(
         }
         _ => {}
     }
-    let tables = tables_of(rt, start, is_unjoined(call))?;
+    let tables = match call {
+        Call::List | Call::Forget(_) => no_tables(rt),
+        _ => tables_of(rt, start, is_unjoined(call))?,
+    };
     if let Call::Print(call) = call {
         print(rt, wire, call, start.columns, &tables)?;
         return Ok(None);
@@ -108,7 +129,7 @@ fn obey<R: Read + Drop, W: Write + Drop, P: Replayer>(
         rt,
         start,
         tables: &tables,
-        versions: &look_at_versions(rt, &tables)?,
+        versions: &versions_for(rt, call, &tables)?,
         here: &Machine::find(rt)?,
     };
     obey_around(around, wire, call, replayer)

@@ -39,6 +39,14 @@ fn look(rt: &HostRuntime, tables: &Tables) -> io::Result<Versions> {
     Versions::look(rt, VERSION, files.as_slice())
 }
 
+/// A version that kept no session, for what replays none.
+pub fn no_versions(rt: &HostRuntime) -> Result<Versions, Stop> {
+    match Versions::look(rt, VERSION, &[]) {
+        Ok(versions) => Ok(versions),
+        Err(_) => Err(Stop::OutOfMemory),
+    }
+}
+
 /// The version of the editor, with what tells its programs and tables from others.
 ///
 /// Errors: a program that cannot be looked at.
