@@ -1,4 +1,4 @@
 pub mod Keys
-pub mod LineEnds
 pub mod Marks
+pub mod Reasons
 pub mod Trust

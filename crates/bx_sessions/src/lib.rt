@@ -7,7 +7,7 @@
 //! - [`Sessions`] is such a folder, judged after it is there: [`Sessions::open`], or [`Sessions::make`] for a new session.
 //! - [`mend_all`] repairs a file after saves into it that were cut off.
 //! - [`find`] finds the sessions of a [`Target`]: live, elsewhere, unfinished, dropped.
-//! - [`Session::lock`] takes one over, [`Session::take_up`] and [`Session::resume`] continue it, [`renew`] makes a new one of a
+//! - [`Session::lock`] takes one over, [`Session::resume`] continues it, [`renew`] makes a new one of a
 //!   text that another version left.
 //! - [`begin`] makes a new one, and [`Kept::fill`] writes its files; it may be tried again where there was no room.
 //!
@@ -22,7 +22,6 @@ mod file_id;
 mod finding;
 mod forgetting;
 mod keys;
-mod line_ends;
 mod lock;
 mod look;
 mod machine;
@@ -51,7 +50,6 @@ pub use file_id::FileId;
 pub use finding::{Found, State, find, state_of};
 pub use forgetting::{Forgotten, forget, forget_dropped, sweep};
 pub use keys::count_keys;
-pub use line_ends::all_crlf;
 pub use lock::{Lock, LockFault};
 pub use look::Look;
 pub use machine::{Machine, Process, may_go_on_elsewhere};
@@ -62,7 +60,6 @@ pub use part::Part;
 pub use places::{PlaceFault, all_folders, sessions_folder};
 pub use reasons::{Reason, find_in_place};
 pub use renewing::renew;
-pub use resuming::told_size;
 pub use room::has_room;
 pub use session::Session;
 pub use sessions::Sessions;

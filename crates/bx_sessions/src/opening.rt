@@ -201,10 +201,7 @@ impl Kept {
     ) -> Result<Option<Look>, FillFault> {
         let written = self.session.write_all(rt, opening, source);
         if written.is_err() {
-            for part in FILLED {
-                // the first fault is the one to report
-                let _ = self.session.erase(rt, part);
-            }
+            self.unfill(rt);
             return written;
         }
         // the names are there, even if their folders are not synced
@@ -213,8 +210,11 @@ impl Kept {
         written
     }
 
-    /// Whether the session has all its files, so that others find it.
-    pub fn is_filled(&self, rt: &HostRuntime) -> bool {
-        self.session.has(rt, Part::Path)
+    /// Removes the files that filling the session makes, so that it can be filled again.
+    pub fn unfill(&self, rt: &HostRuntime) {
+        for part in FILLED {
+            // one that stays is a fault of the next try
+            let _ = self.session.erase(rt, part);
+        }
     }
 }

@@ -86,13 +86,25 @@ fn stay_in(rt: &HostRuntime, path: &str, folder: &str) -> Result<Option<Stay>, A
     }
 }
 
-impl Surroundings<'_> {
+impl<'a> Surroundings<'a> {
+    /// The user's folder in memory; one that all have, where the environment names none.
+    fn runtime_folder(&self) -> &'a str {
+        self.runtime
+            .filter(|folder| !folder.is_empty())
+            .unwrap_or(SHARED_MEMORY)
+    }
+
+    /// TMPDIR, if it is set to a folder.
+    fn temporary_folder(&self) -> Option<&'a str> {
+        self.temporary.filter(|folder| !folder.is_empty())
+    }
+
     /// How long what is in a folder stays. The folder's path is without links.
     fn stay(&self, rt: &HostRuntime, path: &str, is_in_memory: bool) -> Result<Stay, AllocError> {
         if is_in_memory {
             return Ok(Stay::Memory);
         }
-        for folder in self.temporary.into_iter().chain(TEMPORARY) {
+        for folder in self.temporary_folder().into_iter().chain(TEMPORARY) {
             if let Some(stay) = stay_in(rt, path, folder)? {
                 return Ok(stay);
             }
@@ -126,7 +138,7 @@ fn memory_folder<H: Host>(
     let nearest = nearest_folder(rt, folder_of_file);
     let roots = [
         root_of_file_system(rt, nearest),
-        around.runtime.unwrap_or(SHARED_MEMORY),
+        around.runtime_folder(),
         SHARED_MEMORY,
     ];
     for root in roots {
@@ -174,11 +186,10 @@ pub fn sessions_folder<H: Host>(
 /// Errors: out of memory.
 pub fn all_folders(rt: &HostRuntime, around: &Surroundings<'_>) -> Result<Vec<String>, AllocError> {
     let mut folders = Vec::new(rt.alloc());
-    let named = [
-        around.temporary.unwrap_or("/tmp"),
-        around.runtime.unwrap_or(SHARED_MEMORY),
-    ];
-    for folder in TEMPORARY.into_iter().chain(named) {
+    for folder in TEMPORARY.into_iter().chain(around.temporary_folder()) {
+        folders.push(own_folder_in(rt, folder, around.user)?)?;
+    }
+    for folder in [around.runtime_folder(), SHARED_MEMORY] {
         folders.push(own_folder_in(rt, folder, around.user)?)?;
     }
     for mount in memory_mounts(rt)? {

@@ -1,5 +1,8 @@
 //! Why saves are written into a file itself.
 
+ghost use Rattle.std.specs.Prelude.{◌≡◌, ◌↔◌, IsNone, true};
+ghost use Rattle.bx_sessions.specs.Reasons.{is_replaceable};
+
 use bx_wire::Facts;
 use std::fs::Metadata;
 use std::os::unix::fs::MetadataExt;
@@ -46,16 +49,16 @@ impl Reason {
     }
 }
 
-/// Why saves have to be written into a file itself, by the facts about it and its folder; None if a save can replace it, or if
-/// the user cannot write it.
-pub fn find_in_place(file: &Facts, found: &Metadata, folder: &Facts) -> Option<Reason> {
-    if !found.is_file() || !file.writable {
-        None
-    } else if !folder.writable || file.is_held_by_folder {
+/// Why a plain file that the user can write must not be replaced, by the facts about it and its folder and the number of its
+/// names.
+fn reason_for(file: &Facts, names: u64, folder: &Facts) -> Option<Reason>
+    ensures { IsNone result ↔ (is_replaceable file.now names folder.now ≡ true) }
+{
+    if !folder.writable || file.is_held_by_folder {
         Some(Reason::Held)
     } else if file.is_mount {
         Some(Reason::Mounted)
-    } else if found.nlink() > 1 {
+    } else if names > 1 {
         Some(Reason::Linked)
     } else if file.has_access_list {
         Some(Reason::Listed)
@@ -63,6 +66,16 @@ pub fn find_in_place(file: &Facts, found: &Metadata, folder: &Facts) -> Option<R
         Some(Reason::Labelled)
     } else if folder.has_access_list {
         Some(Reason::GivenList)
+    } else {
+        None
+    }
+}
+
+/// Why saves have to be written into a file itself, by the facts about it and its folder; None if a save can replace it, or if
+/// the user cannot write it.
+pub fn find_in_place(file: &Facts, found: &Metadata, folder: &Facts) -> Option<Reason> {
+    if found.is_file() && file.writable {
+        reason_for(file, found.nlink(), folder)
     } else {
         None
     }

@@ -1,23 +1,12 @@
 //! A session that goes on.
 
-use crate::machine::Process;
 use crate::part::Part;
 use crate::session::{Session, create, if_found};
-use std::fs::{File, OpenFile, OpenOptions, Permissions};
+use std::fs::{File, OpenFile, OpenOptions};
 use std::io::{self, Write};
-use std::os::unix::fs::PermissionsExt;
-use std::rt::Files;
 
 /// The key Save, as it stands in a journal.
 const SAVE: char = '\u{13}';
-
-/// What notes how a session ended.
-const ENDED: [Part; 4] = [Part::Dropped, Part::Snapshot, Part::Cut, Part::Place];
-
-/// The words of a window's size, as a terminal reports it.
-pub fn told_size(rt: &HostRuntime, rows: u32, cols: u32) -> io::Result<String> {
-    Ok(format!(in rt.alloc(); "\u{1b}[8;{rows};{cols}t")?)
-}
 
 /// Opens the journal for appending. One that is not there is made.
 fn open_journal(rt: &HostRuntime, session: &Session) -> io::Result<File> {
@@ -37,9 +26,7 @@ impl Session {
     /// Errors: `Io`, mostly for want of room; the journal is then as it was, and the program has to be told its size as a
     /// terminal reports it, so that it journals it like keys.
     pub fn resume(&self, rt: &HostRuntime, rows: u32, cols: u32) -> io::Result<()> {
-        let size = told_size(rt, rows, cols)?;
-        let size = size.as_str();
-        let words = format!(in rt.alloc(); "{SAVE}{size}")?;
+        let words = format!(in rt.alloc(); "{SAVE}\u{1b}[8;{rows};{cols}t")?;
         let mut journal = open_journal(rt, self)?;
         let length = journal.metadata()?.len();
         let written = journal.write_all(words.as_str().as_bytes());
@@ -50,14 +37,6 @@ impl Session {
         written
     }
 
-    /// Takes up a locked session: it is no longer dropped or cut, its text is that of its keys again, and this process runs it.
-    pub fn take_up(&self, rt: &HostRuntime, process: &Process) -> io::Result<()> {
-        for part in ENDED {
-            self.erase(rt, part)?;
-        }
-        self.put_process(rt, process)
-    }
-
     /// Notes whether letters are joined from now on.
     pub fn put_joining(&self, rt: &HostRuntime, is_joined: bool) -> io::Result<()> {
         if is_joined {
@@ -65,24 +44,6 @@ impl Session {
         } else {
             self.note_that(rt, Part::Unjoined)
         }
-    }
-
-    /// Copies a file of the session to a new file with these permissions.
-    ///
-    /// Errors: `AlreadyExists` if something is there; `NotFound` if the session lacks the file; others. A copy that could not
-    /// be written whole is removed.
-    pub fn copy_out(&self, rt: &HostRuntime, part: Part, to: &str, mode: u32) -> io::Result<()> {
-        let mut source = File::open(rt, self.path_of(part)?.as_str())?;
-        let mut target = create(rt, to)?;
-        let copied = match io::copy(&mut source, &mut target) {
-            Ok(_) => target.set_permissions(Permissions::from_mode(mode)),
-            Err(error) => Err(error),
-        };
-        if copied.is_err() {
-            // the first fault is the one to report
-            let _ = rt.remove_file(to);
-        }
-        copied
     }
 
     /// Syncs the journal. One that is not there yet has no key.

@@ -25,7 +25,7 @@ const ALPHABET: &[u8; 32] = b"abcdefghijklmnopqrstuvwxyz234567";
 /// Number of names that are tried for a session.
 const TRIES: usize = 16;
 
-/// How the name of a folder begins into which keys were replayed.
+/// How the name of a folder begins into which an older editor replayed keys.
 const REPLAY: &str = ".replay.";
 
 /// A folder of sessions that was judged: it is no link, it and all in it is the user's own, and nobody but the user and root can
@@ -65,7 +65,7 @@ fn is_session(name: &str) -> bool {
         .is_some_and(|byte| byte.is_ascii_digit())
 }
 
-/// Whether a name in the folder is that of a folder into which keys were replayed.
+/// Whether a name in the folder is that of a folder into which an older editor replayed keys.
 fn is_replay(name: &str) -> bool {
     name.starts_with(REPLAY)
 }
@@ -170,22 +170,26 @@ impl Sessions {
         self.folders(rt, names.as_slice())
     }
 
-    /// All sessions, and the folders into which keys were replayed.
+    /// All sessions, and the folders into which an older editor replayed keys.
     pub fn all_folders(&self, rt: &HostRuntime) -> io::Result<Vec<Session>> {
         let mut names = self.names(rt)?;
         names.retain(|name| is_session(name.as_str()) || is_replay(name.as_str()));
         self.folders(rt, names.as_slice())
     }
 
-    /// Makes an empty folder whose name begins so, for the user alone.
-    fn make_folder(&self, rt: &HostRuntime, beginning: &str) -> Result<Session, FolderFault> {
+    /// Makes an empty folder for a session, named by the time and by letters that nobody can foresee.
+    ///
+    /// Errors: `Gone` where the folder of sessions is no longer the one that was judged; `Io`.
+    pub fn make_session(&self, rt: &HostRuntime) -> Result<Session, FolderFault> {
         if !self.is_same(rt) {
             return Err(FolderFault::Gone);
         }
-        let folder = self.path();
+        let now = LocalClock::read(rt).at(SystemTime::now(rt)?);
+        let digits = now.digits(rt.alloc())?;
+        let (folder, digits) = (self.path(), digits.as_str());
         for _ in 0..TRIES {
             let letters = random_letters(rt)?;
-            let path = format!(in rt.alloc(); "{folder}/{beginning}{letters}")?;
+            let path = format!(in rt.alloc(); "{folder}/{digits}.{letters}")?;
             match rt.create_dir_with_mode(path.as_str(), FOR_USER_ALONE) {
                 Ok(()) => return Session::at(rt, path)?.ok_or(FolderFault::Gone),
                 Err(error) if error.kind() == ErrorKind::AlreadyExists => {}
@@ -193,24 +197,6 @@ impl Sessions {
             }
         }
         Err(FolderFault::Io(ErrorKind::AlreadyExists.into()))
-    }
-
-    /// Makes an empty folder for a session, named by the time and by letters that nobody can foresee.
-    ///
-    /// Errors: `Gone` where the folder of sessions is no longer the one that was judged; `Io`.
-    pub fn make_session(&self, rt: &HostRuntime) -> Result<Session, FolderFault> {
-        let now = LocalClock::read(rt).at(SystemTime::now(rt)?);
-        let digits = now.digits(rt.alloc())?;
-        let digits = digits.as_str();
-        let beginning = format!(in rt.alloc(); "{digits}.")?;
-        self.make_folder(rt, beginning.as_str())
-    }
-
-    /// Makes an empty folder into which keys are replayed.
-    ///
-    /// Errors: as `make_session`.
-    pub fn make_replay(&self, rt: &HostRuntime) -> Result<Session, FolderFault> {
-        self.make_folder(rt, REPLAY)
     }
 
     /// Syncs the folder, so that the names in it survive a crash of the machine.

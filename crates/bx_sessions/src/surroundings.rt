@@ -85,14 +85,14 @@ impl<'a> Surroundings<'a> {
     /// Errors: out of memory.
     pub fn state_folder(&self, rt: &HostRuntime) -> Result<Option<String>, AllocError> {
         let alloc = rt.alloc();
-        let named = self.named_state(alloc)?;
-        let is_usable = match &named {
-            Some(folder) => self.user != ROOT || !is_of_another(rt, folder.as_str(), ROOT),
-            None => false,
+        let Some(named) = self.named_state(alloc)? else {
+            return Ok(None);
         };
-        if is_usable || self.own_home.is_empty() {
-            return Ok(named);
+        let is_root = self.user == ROOT && !self.own_home.is_empty();
+        if is_root && is_of_another(rt, named.as_str(), ROOT) {
+            Ok(Some(below_home(alloc, self.own_home)?))
+        } else {
+            Ok(Some(named))
         }
-        Ok(Some(below_home(alloc, self.own_home)?))
     }
 }
