@@ -25,4 +25,7 @@ settle_folder
 [ $# != 0 ] || exit 0
 # Ctrl-C reaches both scripts; prove.sh cleans up and reports before this one ends
 trap : INT QUIT
-sh "$top/launcher/proving/prove.sh" "$top" "$@"
+sh "$top/launcher/proving/prove.sh" "$top" "$@" || exit
+# for --version
+kit=$top/crates/bidi_edit/out/kit
+[ ! -d "${kit%/*}" ] || { rt version >"$kit.new" && mv "$kit.new" "$kit"; } 2>/dev/null || :

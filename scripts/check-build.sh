@@ -46,6 +46,7 @@ make_rt() {
     mkdir -p "$folder/bin"
     cat >"$folder/bin/rt" <<'END'
 #!/bin/sh
+if [ "$1" = version ]; then echo a toolchain && exit; fi
 name=$(basename "$PWD")
 mkdir -p out/incremental
 had=$(ls out/incremental | wc -l)
@@ -255,6 +256,7 @@ check_script() {
     same 'script, built and started' "$(cat "$folder/status" 2>/dev/null)" 0
     same 'script, what was built' "$(screen | grep -c 'bidi-edit: built, after')" 1
     same 'script, not the printing program' "$(grep -c 'begin bidi_print' "$folder/told/log")" 0
+    same 'script, the toolchain is noted' "$(cat "$folder/tree/crates/bidi_edit/out/kit")" 'a toolchain'
     same 'script, the host has the words' "$(screen | grep -c -x -F -e "host|$folder/note|")" 1
     tmux -L "$socket" kill-session -t person
     rm "$folder/tree/crates/bidi_edit/out/bidi_edit"

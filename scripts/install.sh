@@ -136,7 +136,7 @@ clean_up() {
 put_there() {
     find_programs
     is_old='' is_new=''
-    [ -f "$record" ] || [ ! -f "$lib/launcher/words.sh" ] || is_old=1
+    [ -f "$record" ] || [ ! -f "$lib/bidi_edit" ] || is_old=1
     [ -d "$prefix" ] || is_new=1
     mkdir -p -- "$prefix"
     beside=$(mktemp -d "$prefix/bidi-edit.XXXXXX")
