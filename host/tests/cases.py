@@ -63,6 +63,12 @@ def sizes(tree):
     yield holds('sizes: the keeper gives one', run.pump(5, b'- 10 x 40') and run.pump(5, b'- 24 x 80'), run.output)
     run.type(QUIT)
     yield from finish(run, 'sizes: the keeper gives one', 0)
+    run = start(tree, 'edit', 'resumed', tree.file('sizes'))
+    run.pump(5, b'hello')
+    run.rest(0.5)
+    yield holds('sizes: told behind a replay', run.output.count(b'- 24 x 80') == 2, run.output)
+    run.type(QUIT)
+    yield from finish(run, 'sizes: told behind a replay', 0)
 
 
 def resizes(tree):
