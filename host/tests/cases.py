@@ -292,6 +292,16 @@ def deaf_programs(tree):
     yield from finish(run, 'a signal that the caller ignores', 0)
 
 
+def limits(tree):
+    """A limit of a file's size ends nothing."""
+    run = Run(['sh', '-c', f"ulimit -f 0; exec '{tree.host}' edit plain '{tree.file('limited')}'"], HOME=f'{tree.top}/home')
+    run.pump(5, b'hello')
+    run.type(b'abc')
+    yield holds('limits: a write beyond the limit fails', run.pump(5, b'<abc>'))
+    run.type(QUIT)
+    yield from finish(run, 'limits', 0)
+
+
 def missing_programs(tree):
     lib = f'{tree.top}/lib/bidi_edit'
     for name, status, text in (('bidi_keep', 1, b'cannot be started'), ('bidi_edit', 127, b'bidi_edit cannot be started: No such file')):
@@ -314,5 +324,5 @@ def missing_programs(tree):
         os.rename(f'{lib}/bidi_input.away', f'{lib}/bidi_input')
 
 
-ALL = [edits, sizes, resizes, standard_files, questions, refusals, statuses, printing, without_terminal, keepers, told_words, facts_meanwhile, late_signals, deaf_programs,
+ALL = [edits, sizes, resizes, standard_files, questions, refusals, statuses, printing, without_terminal, keepers, told_words, facts_meanwhile, late_signals, deaf_programs, limits,
        missing_programs]
