@@ -11,14 +11,6 @@
 #include "waiting.h"
 #include "writing.h"
 
-bool add_word(struct command *command, const char *word) {
-    if (command->count >= MOST_COMMAND) return false;
-    command->words[command->count] = strdup(word);
-    if (!command->words[command->count]) return false;
-    command->count++;
-    return true;
-}
-
 static void set_title(struct request *request, const char *title) {
     free(request->title);
     request->title = strdup(title);

@@ -2,16 +2,7 @@
 #ifndef ASKING_H
 #define ASKING_H
 
-#include <stdbool.h>
-#include <stddef.h>
-
-enum { MOST_COMMAND = 250 };
-
-/* A command line, word by word, with a NULL at its end. */
-struct command {
-    char *words[MOST_COMMAND + 1];
-    size_t count;
-};
+#include "command.h"
 
 enum outcome { GO, PRINT, EXIT, KEEPER_GONE, SIGNALLED };
 
@@ -20,9 +11,6 @@ struct request {
     char *title;
     int status;
 };
-
-/* Puts a word behind a command line. Returns false where there is no room. */
-bool add_word(struct command *command, const char *word);
 
 /* Carries out what the keeper says until it says how to go on. */
 enum outcome carry_out(struct request *request);

@@ -15,7 +15,7 @@ static char value[MOST], other[MOST], names[MOST];
 
 /* Whether the file system has no such attribute, or the file none. */
 static bool is_none(ssize_t length) {
-    return length < 0 && (errno == ENODATA || errno == ENOTSUP || errno == ENOSYS || errno == EINVAL);
+    return length < 0 && (errno == ENODATA || errno == ENOTSUP || errno == ENOSYS);
 }
 
 static uint32_t number_at(const char *at) {
@@ -64,10 +64,18 @@ enum answer has_access_list(const char *path) {
     return own == UNKNOWN || given == UNKNOWN || network == UNKNOWN ? UNKNOWN : NO;
 }
 
-/* Whether an attribute is one that a new file in the folder would not have. */
+static bool is_one_of(const char *name, const char *const *names, size_t count) {
+    for (size_t i = 0; i < count; i++)
+        if (strcmp(name, names[i]) == 0) return true;
+    return false;
+}
+
+/* Whether an attribute is one that a new file in the folder would not have. The kernel makes sums of a file's content anew, and the
+ * user's own attributes are not kept. */
 static enum answer is_own(const char *path, const char *folder, const char *name) {
-    bool is_label = strcmp(name, "security.selinux") == 0 || strcmp(name, "security.SMACK64") == 0;
-    if (!is_label) return strncmp(name, "security.", 9) == 0 || strncmp(name, "trusted.", 8) == 0 ? YES : NO;
+    static const char *const labels[] = {"security.selinux", "security.SMACK64"}, *const sums[] = {"security.ima", "security.evm"};
+    if (is_one_of(name, sums, 2)) return NO;
+    if (!is_one_of(name, labels, 2)) return strncmp(name, "security.", 9) == 0 || strncmp(name, "trusted.", 8) == 0 ? YES : NO;
     ssize_t length = getxattr(path, name, value, sizeof value);
     if (length < 0) return is_none(length) ? NO : UNKNOWN;
     ssize_t folder_length = getxattr(folder, name, other, sizeof other);

@@ -4,6 +4,7 @@
 #include <fcntl.h>
 #include <signal.h>
 #include <sys/prctl.h>
+#include <sys/syscall.h>
 #include <sys/types.h>
 #include <unistd.h>
 
@@ -15,6 +16,13 @@
 /* Numbers of files that are closed where the system cannot close all of them at once. */
 enum { MOST_FILES = 1024 };
 
+static void close_files(unsigned first) {
+#ifdef SYS_close_range
+    if (syscall(SYS_close_range, first, ~0U, 0) == 0) return;
+#endif
+    for (int file = (int)first; file < MOST_FILES; file++) close(file);
+}
+
 int facts_answer = -1;
 static pid_t child;
 static struct queue answer;
@@ -23,8 +31,7 @@ static struct queue answer;
 static _Noreturn void gather(const char *path, int out, pid_t host) {
     struct queue facts = {0};
     if (prctl(PR_SET_PDEATHSIG, SIGKILL) != 0 || getppid() != host || dup2(out, STDOUT_FILENO) < 0) _exit(1);
-    if (close_range(STDERR_FILENO, ~0U, 0) != 0)
-        for (int file = STDERR_FILENO; file < MOST_FILES; file++) close(file);
+    close_files(STDERR_FILENO);
     add_facts(&facts, path);
     while (facts.end > facts.start) {
         ssize_t count = write(STDOUT_FILENO, facts.bytes + facts.start, facts.end - facts.start);

@@ -58,9 +58,13 @@ static _Noreturn void become_filter(char *file, pid_t host) {
     tell_watcher(FILTER_BEGINS, getpid());
     give_back_signals();
     if (!file) copy_keys();
-    char erase[8], option[] = "--erase";
-    snprintf(erase, sizeof erase, "%u", (unsigned)erase_character());
-    char *own_words[] = {file, tells_erase ? option : NULL, erase, NULL};
+    char *own_words[] = {file, NULL, NULL, NULL};
+    if (tells_erase) {
+        static char option[] = "--erase", number[8];
+        snprintf(number, sizeof number, "%u", (unsigned)erase_character());
+        own_words[1] = option;
+        own_words[2] = number;
+    }
     execv(file, own_words);
     _exit(127);
 }

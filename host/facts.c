@@ -15,6 +15,11 @@
 #include "attributes.h"
 #include "paths.h"
 
+/* Older headers lack this. */
+#ifndef STATX_ATTR_MOUNT_ROOT
+#define STATX_ATTR_MOUNT_ROOT 0x2000
+#endif
+
 /* The letters of the facts, in a text. */
 struct letters {
     char text[16];

@@ -41,6 +41,7 @@ static void say_variable(const char *name) {
     const char *value = getenv(name);
     size_t room = strlen(name) + (value ? strlen(value) : 0) + 2;
     char *text = value ? malloc(room) : NULL;
+    if (value && !text) lose_keeper();
     if (!text) return;
     snprintf(text, room, "%s=%s", name, value);
     say('v', text);
@@ -126,7 +127,7 @@ int main(int count, char **own_words) {
     open_standard_files();
     if (!find_programs(own_words[0], &programs)) fail("its own place cannot be found");
     set_signals();
-    if (!start_keeper(programs.keeper.text)) fail("no process can be started");
+    if (!start_keeper(programs.keeper.text)) fail("the keeper of sessions cannot be started");
     open_terminal();
     measure(&size);
     if (!add_word(&request.printer, programs.printer.text)) fail("there is no memory");

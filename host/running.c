@@ -2,16 +2,14 @@
 
 #include <signal.h>
 #include <stdint.h>
-#include <stdio.h>
-#include <stdlib.h>
 #include <string.h>
 #include <sys/wait.h>
 #include <unistd.h>
 
 #include "beside.h"
 #include "children.h"
+#include "command.h"
 #include "ending.h"
-#include "fault.h"
 #include "keeper.h"
 #include "outer.h"
 #include "processes.h"
@@ -109,41 +107,6 @@ static bool change_terminal(void) {
     return true;
 }
 
-static bool add_size(struct command *command, const char *name, unsigned size) {
-    char text[16];
-    snprintf(text, sizeof text, "%u", size);
-    return add_word(command, name) && add_word(command, text);
-}
-
-/* The word behind this one; NULL where it is not there. */
-static const char *word_behind(const struct command *command, const char *name) {
-    for (size_t i = 0; i + 1 < command->count; i++)
-        if (strcmp(command->words[i], name) == 0) return command->words[i + 1];
-    return NULL;
-}
-
-static bool is_side(const char *word, unsigned size) {
-    return !word || strtoul(word, NULL, 10) == size;
-}
-
-/* Whether the program begins in another window than the present one, or a replay may end in another. */
-static bool is_other_window(const struct command *program_words) {
-    struct size size;
-    measure(&size);
-    return word_behind(program_words, "--replay") || !is_side(word_behind(program_words, "--rows"), size.rows) ||
-           !is_side(word_behind(program_words, "--cols"), size.columns);
-}
-
-/* Makes the program's command line. The keeper's words may have a size already, as the session began. */
-static bool make_command(struct command *command, const struct request *request, const char *editor, struct size first) {
-    bool has_size = word_behind(&request->program, "--rows") != NULL;
-    bool is_made = add_word(command, editor);
-    if (!has_size) is_made = is_made && add_size(command, "--rows", first.rows) && add_size(command, "--cols", first.columns);
-    is_made = is_made && add_word(command, "--words") && add_word(command, "--before") && add_word(command, sequences.before);
-    for (size_t i = 0; i < request->program.count; i++) is_made = is_made && add_word(command, request->program.words[i]);
-    return is_made;
-}
-
 /* Restores the terminal, and takes in what the program said last. */
 static void restore(void) {
     close_input();
@@ -170,7 +133,7 @@ int run_program(const struct request *request, const char *editor, char *filter_
     /* the watcher has what is known at its start */
     prepare_terminal(request, filter_file != NULL);
     *cause = "there is no memory";
-    if (!make_command(&command, request, editor, first)) return -1;
+    if (!make_command(&command, &request->program, editor, first)) return -1;
     int words_end = start_beside(cause);
     if (words_end < 0) return -1;
     bool is_started = false;

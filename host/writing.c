@@ -8,7 +8,7 @@
 
 #include "signals.h"
 
-/* A pipe that has room takes this many bytes at once. */
+/* A pipe that has room takes a piece at once. The timer rings once a step. */
 enum { PIECE = 4096, PIECE_LIMIT = 100, STEP = 20, TRIES = 3 };
 
 int64_t now(void) {
@@ -17,14 +17,13 @@ int64_t now(void) {
     return (int64_t)at.tv_sec * 1000 + at.tv_nsec / 1000000;
 }
 
-/* Whether the file takes bytes before the time `end`, or for ever where it is 0. */
+/* Whether the file takes bytes before the time `end`, or for ever where it is 0. The last writes let no signal in. */
 static bool is_ready(int file, int64_t end, bool is_last) {
     int tries = TRIES;
     while (is_last || !end_signal) {
         struct pollfd wanted = {.fd = file, .events = POLLOUT};
-        int64_t step = now() + STEP;
-        /* the last writes let no signal in, but wait in steps, since the clock may be all that goes on */
-        int count = is_last ? poll(&wanted, 1, STEP) : wait_for(&wanted, 1, end != 0 && end < step ? end : step);
+        int64_t left = end - now();
+        int count = is_last ? poll(&wanted, 1, left > 0 ? (int)left : 0) : wait_for(&wanted, 1, end);
         if (count > 0) return (wanted.revents & POLLNVAL) == 0;
         if (count < 0 && errno != EINTR && --tries == 0) return false;
         if (end != 0 && now() >= end) return false;

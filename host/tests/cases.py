@@ -63,6 +63,12 @@ def sizes(tree):
     yield holds('sizes: the keeper gives one', run.pump(5, b'- 10 x 40') and run.pump(5, b'- 24 x 80'), run.output)
     run.type(QUIT)
     yield from finish(run, 'sizes: the keeper gives one', 0)
+    run = start(tree, 'edit', 'resumed', tree.file('sizes'))
+    run.pump(5, b'hello')
+    run.rest(0.5)
+    yield holds('sizes: told behind a replay', run.output.count(b'- 24 x 80') == 2, run.output)
+    run.type(QUIT)
+    yield from finish(run, 'sizes: told behind a replay', 0)
 
 
 def resizes(tree):
@@ -214,6 +220,14 @@ def keepers(tree):
     os.kill(run.job, signal.SIGTERM)
     yield holds('keepers: mute, ended by a signal', run.pump(5) and time.perf_counter() - before < 5)
     yield from finish(run, 'keepers: mute', signal.SIGTERM)
+    for number, status in ((signal.SIGTERM, signal.SIGTERM), (signal.SIGKILL, signal.SIGKILL)):
+        run = start(tree, 'edit', 'stuck', tree.file('kept'))
+        run.pump(5, b'hello')
+        before = time.perf_counter()
+        os.kill(run.job, number)
+        run.pump(5)
+        yield same(f'keepers: stuck, {number.name}: processes', run.left(before + 5 - time.perf_counter()), {})
+        yield from finish(run, f'keepers: stuck, {number.name}', status)
     run = start(tree, 'hangs')
     run.rest(0.5)
     run.type(b'\x03')
@@ -286,6 +300,16 @@ def deaf_programs(tree):
     yield from finish(run, 'a signal that the caller ignores', 0)
 
 
+def limits(tree):
+    """A limit of a file's size ends nothing."""
+    run = Run(['sh', '-c', f"ulimit -f 0; exec '{tree.host}' edit plain '{tree.file('limited')}'"], HOME=f'{tree.top}/home')
+    run.pump(5, b'hello')
+    run.type(b'abc')
+    yield holds('limits: a write beyond the limit fails', run.pump(5, b'<abc>'))
+    run.type(QUIT)
+    yield from finish(run, 'limits', 0)
+
+
 def missing_programs(tree):
     lib = f'{tree.top}/lib/bidi_edit'
     for name, status, text in (('bidi_keep', 1, b'cannot be started'), ('bidi_edit', 127, b'bidi_edit cannot be started: No such file')):
@@ -308,5 +332,5 @@ def missing_programs(tree):
         os.rename(f'{lib}/bidi_input.away', f'{lib}/bidi_input')
 
 
-ALL = [edits, sizes, resizes, standard_files, questions, refusals, statuses, printing, without_terminal, keepers, told_words, facts_meanwhile, late_signals, deaf_programs,
+ALL = [edits, sizes, resizes, standard_files, questions, refusals, statuses, printing, without_terminal, keepers, told_words, facts_meanwhile, late_signals, deaf_programs, limits,
        missing_programs]

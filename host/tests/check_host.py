@@ -11,6 +11,8 @@ CASES = {case.__name__: case for case in cases.ALL + facts.ALL + kinds.ALL + she
 
 def check_ends(tree, kind, runs):
     """One check: all runs of a kind."""
+    if kind == 'kill-filter' and not tree.has_filter:
+        return [('ends, kill-filter: skipped, since bidi_input is not built', '')]
     wrong, times = [], []
     for number in range(runs):
         found, took = ends.try_once(tree, kind, f'note{os.getpid()}')

@@ -9,7 +9,7 @@ LIMIT = 5
 # What ends the host, each by its signal. The last ones are left to the watcher.
 SIGNALS = {name: getattr(signal, 'SIG' + name.upper()) for name in (
     'hup', 'int', 'quit', 'usr1', 'usr2', 'alrm', 'pipe', 'xcpu', 'xfsz', 'vtalrm', 'prof', 'io', 'pwr', 'abrt', 'sys')}
-KINDS = ['term', 'kill', 'kill-job', 'kill-program', 'kill-keeper', 'kill-filter', 'kill-watcher', 'stop', 'closed', 'blocked', *SIGNALS]
+KINDS = ['term', 'term-job', 'kill', 'kill-job', 'kill-program', 'kill-keeper', 'kill-filter', 'kill-watcher', 'stop', 'closed', 'blocked', *SIGNALS]
 
 
 def restored(output):
@@ -146,9 +146,10 @@ def act(kind, run, wrong):
     if kind == 'closed':
         run.hang_up()
         return before, None
-    if kind == 'kill-job':
-        send_job(run, signal.SIGKILL)
-        return before, (signal.SIGKILL,)
+    if kind in ('kill-job', 'term-job'):
+        number = signal.SIGKILL if kind == 'kill-job' else signal.SIGTERM
+        send_job(run, number)
+        return before, (number,)
     number = signal.SIGKILL if kind == 'kill' else SIGNALS[kind]
     send(run.job, number)
     return before, (number,)

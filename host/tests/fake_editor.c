@@ -1,6 +1,6 @@
 /* A program for tests, in place of bidi_edit: paints, reads keys, and keeps them in FILE's journal.
  *
- * fake_editor [--words] [--before TEXT] [--rows N] [--cols N] FILE. FILE's name tells what it does: `refused` is refused; `flood`
+ * fake_editor [--words] [--before TEXT] [--rows N] [--cols N] [--replay PATH] FILE. FILE's name tells what it does: `refused` is refused; `flood`
  * writes without end and reads nothing; `deaf` reads nothing and does not end; `broken` ends by a fault; `chatty` says words. */
 #define _GNU_SOURCE
 #include <errno.h>
@@ -88,6 +88,7 @@ int main(int count, char **words) {
         else if (strcmp(words[i], "--before") == 0 && has_value) before = words[++i];
         else if (strcmp(words[i], "--rows") == 0 && has_value) rows = words[++i];
         else if (strcmp(words[i], "--cols") == 0 && has_value) cols = words[++i];
+        else if (strcmp(words[i], "--replay") == 0 && has_value) i++;
         else file = words[i];
     }
     act_by_name();

@@ -2,8 +2,8 @@
 """A keeper for tests. What it does is told by the first word of the command line:
 
 edit KIND FILE: has the program edit FILE. KIND: plain; slow (answers no second, and the end after 2 s); mute (never answers the
-    end); dies (at the first second); errs (says nonsense at the first second); titles (a title and a bell each second); told
-    (asks for the journal each second); sized (gives a size of its own); curious (asks for facts each second and at the end)
+    end); stuck (reads nothing any more); dies (at the first second); errs (says nonsense at the first second); titles (a title and a bell each second); told
+    (asks for the journal each second); sized (gives a size of its own); resumed (with a replay); curious (asks for facts each second and at the end)
 ask FILE: asks a question first, and tells the answer; facts PATH..: tells the facts; print WORD..: has the printer print;
 refuse: refuses; dies, errs, hangs: before the program. All that it hears is written to the file that FAKE_KEEPER_LOG names, which
 is read from the file `log` beside this program, since it has no words."""
@@ -52,6 +52,8 @@ def edit(kind, file, more=()):
     say(b'b', file)
     say(b'n', os.path.basename(file) + b' - ^S save ^Q quit')
     say(b'g')
+    if kind == b'stuck':
+        time.sleep(60)
     count = 0
     while True:
         letter, text = hear()
@@ -101,7 +103,8 @@ def main():
             words.append(text)
     what = words[0] if words else b''
     if what == b'edit':
-        edit(words[1], words[2], [b'--rows', b'10', b'--cols', b'40'] if words[1] == b'sized' else ())
+        more = {b'sized': [b'--rows', b'10', b'--cols', b'40'], b'resumed': [b'--rows', b'24', b'--cols', b'80', b'--replay', b'journal']}
+        edit(words[1], words[2], more.get(words[1], ()))
     elif what == b'ask':
         say(b'q', b'recover it, discard it, or leave it as it is?')
         letter, text = hear()
