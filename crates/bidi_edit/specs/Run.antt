@@ -1,65 +1,69 @@
--- The start and the result of a run of the program.
-use Rattle.std.specs.Global.{Vec}
-use Rattle.std.specs.Prelude.{◌≡◌, ℕ, Bool, false, List, [], Option, Some, None, vec_items}
-use Rattle.bx_terms.specs.declared.base.Base.{Base}
-use Rattle.bx_ucd.specs.Reading.{refusal, class_in_file, bracket_in_file, mirror_in_file, form_if_any, joining_if_any, texts_of}
+-- The start, the end and the result of a run of the program.
+use Rattle.std.specs.Prelude.{◌≡◌, ℕ, Bool, true, false, List, Option, Result, Ok, Err}
 use Rattle.bx_ucd.specs.Data.{Data}
-use Rattle.bx_ucd.specs.declared.joining.Form.{Form}
 use Rattle.bx_words.specs.declared.unicode.UnicodeFiles.{UnicodeFiles}
-use Rattle.bx_session.specs.Session.{Session, at_opening}
-use Rattle.bx_session.specs.Saving.{StoreState, with_text}
+use Rattle.bx_session.specs.declared.end.End.{End}
+use Rattle.bx_session.specs.declared.end.End.TheVariants.{Quit, InputEnded}
+use Rattle.bx_session.specs.declared.end.RunFault.{RunFault}
+use Rattle.bx_session.specs.Session.{Session, after_journal, with_painting}
+use Rattle.bx_session.specs.Saving.{StoreState}
 use Rattle.bx_session.specs.Painting.{QueuesPicture}
+use Rattle.bx_session.specs.Running.{EndsWith}
 use Rattle.bx_session.specs.Journal.{RecorderState, RunsRecorded}
-use Rattle.bx_session.specs.Beginning.{Beginning, IsBegun, at_offset, unpainted_at, begun}
+use Rattle.bx_session.specs.Beginning.{Beginning, IsBegun, begun}
+use Rattle.bx_recovery.specs.Beginnings.{AreOfFiles}
 use Rattle.bidi_edit.specs.declared.edit.Changes.{Changes}
-use Rattle.bidi_edit.specs.declared.edit.Changes.TheVariants.{Saved}
+use Rattle.bidi_edit.specs.declared.edit.Changes.TheVariants.{Saved, Dropped}
+use Rattle.bidi_edit.specs.declared.fault.ProgramFault.{ProgramFault}
+use Rattle.bidi_edit.specs.declared.fault.ProgramFault.TheVariants as fault
 
--- the tables agree with Unicode's files, which have no bad line
-pub record AreOfFiles (d : Data) (files : UnicodeFiles) : Type 0 where
-  pub accepted : refusal files.classes.now files.brackets.now files.mirroring.now (texts_of files.joining) ≡ None
-  pub classes_are : (code : ℕ) → d.class code ≡ class_in_file files.classes.now code
-  pub brackets_are : (code : ℕ) → d.bracket code ≡ bracket_in_file files.brackets.now code
-  pub mirrors_are : (code : ℕ) → d.mirror code ≡ mirror_in_file files.mirroring.now code
-  pub joining_is : (code : ℕ) → d.joining code ≡ joining_if_any (texts_of files.joining) (class_in_file files.classes.now code) code
-  pub forms_are : (code : ℕ) (form : Form) → d.form code form ≡ form_if_any (texts_of files.joining) code form
+-- the result that tells how a run ended, by whether there are unsaved changes then
+abbrev pub told : Result End RunFault → Bool → Result Changes ProgramFault
+told (Err cause) changed = Err (fault.Run cause)
+told (Ok end) false = Ok Saved
+told (Ok Quit) true = Ok Dropped
+told (Ok (InputEnded unsaved)) true = Err fault.Unsaved
 
--- the session is opened from this start; its journal is not replayed yet
-pub record IsOpened (d : Data) (b : Beginning) (s : Session) : Type 0 where
-  pub session : s ≡ at_offset d b
-  pub paints : QueuesPicture d [] None (at_opening d b.text b.height b.width b.base)
+-- the outside of a run: the store, the reader's unread bytes, the bytes written, and the recorder of the journal
+pub record Outside (J : Type 0) : Type 0 where
+  pub store : StoreState
+  pub unread : Option (List ℕ)
+  pub written : Option (List ℕ)
+  pub recorder : RecorderState J
 
--- a file that does not exist is an empty text
-abbrev pub bytes_of : Option (Vec ℕ) → List ℕ
-bytes_of None = []
-bytes_of (Some bytes) = vec_items bytes
+-- a run of this session, which ended so
+pub record RunsTo {J : Type 0} (contents : J → Option (List ℕ)) (failures : J → ℕ) (d : Data) (old new : Session) (out out' : Outside J)
+    (end : Result End RunFault) : Type 0 where
+  pub runs : RunsRecorded contents failures d old new out.store out'.store out.unread out'.unread out.written out'.written out.recorder out'.recorder
+  pub ends : EndsWith end new out'.unread
 
--- the start of a session, with the bytes of a journal
-abbrev pub begins_with : List ℕ → ℕ → ℕ → Base → Bool → List ℕ → Option ℕ → Beginning
-begins_with text height width base unsaved journal offset = record {
-  text = text;
-  height = height;
-  width = width;
-  base = base;
-  offset = offset;
-  unsaved = unsaved;
-  journal = journal;
-}
-
--- A run from this start that ended without a fault. It is reported as saved only if nothing is unsaved.
-pub record Edits {J : Type 0} (contents : J → Option (List ℕ)) (failures : J → ℕ) (b : Option ℕ → Beginning) (files : UnicodeFiles)
-    (store store' : StoreState) (reader reader' writer writer' : Option (List ℕ)) (journal journal' : RecorderState J) (changes : Changes)
-    : Type 0 where
-  pub tables : Data
-  pub offset : Option ℕ
+-- a session that replayed a journal was painted and run, and the result tells how that ended
+pub record Resumes {J : Type 0} (contents : J → Option (List ℕ)) (failures : J → ℕ) (d : Data) (old : Session) (journal : List ℕ) (out out' : Outside J)
+    (result : Result Changes ProgramFault) : Type 0 where
   pub session : Session
-  pub answers : AreOfFiles tables files
-  pub begins : IsBegun tables (b offset)
-  pub runs : RunsRecorded contents failures tables (begun tables (b offset)) session store store' reader reader' writer writer' journal journal'
-  pub saved : changes ≡ Saved → session.editor.changed ≡ false
+  pub end : Result End RunFault
+  pub painted : QueuesPicture d (after_journal d old journal).pending (after_journal d old journal).known
+      (with_painting d (after_journal d old journal))
+  pub runs : RunsTo contents failures d (with_painting d (after_journal d old journal)) session out out' end
+  pub tells : result ≡ told end session.editor.changed
 
--- the text recovered from this start and its journal was stored
-pub record Recovers (b : Option ℕ → Beginning) (files : UnicodeFiles) (store store' : StoreState) : Type 0 where
+-- a run from this start, by the tables of these files, and the result tells how it ended
+pub record Edits {J : Type 0} (contents : J → Option (List ℕ)) (failures : J → ℕ) (b : Beginning) (files : UnicodeFiles) (out out' : Outside J)
+    (result : Result Changes ProgramFault) : Type 0 where
   pub tables : Data
-  pub offset : Option ℕ
+  pub session : Session
+  pub end : Result End RunFault
   pub answers : AreOfFiles tables files
-  pub stored : store' ≡ with_text (unpainted_at tables (b offset)).editor.content.text store
+  pub begins : IsBegun tables b
+  pub runs : RunsTo contents failures tables (begun tables b) session out out' end
+  pub tells : result ≡ told end session.editor.changed
+
+-- the facts of a run that came to its end, or those of a fault before the run
+abbrev pub RunsUnless : Result Changes ProgramFault → Type 0 → Type 0 → Type 0
+RunsUnless (Ok changes) Runs Stays = Runs
+RunsUnless (Err fault.Unsaved) Runs Stays = Runs
+RunsUnless (Err (fault.Run cause)) Runs Stays = Runs
+RunsUnless (Err (fault.Tables error)) Runs Stays = Stays
+RunsUnless (Err (fault.Open error)) Runs Stays = Stays
+RunsUnless (Err fault.OutOfMemory) Runs Stays = Stays
+RunsUnless (Err other) Runs Stays = ⊥

@@ -1,17 +1,16 @@
 //! One run of the editor over a reader, a writer and a store.
 
-ghost use Rattle.std.specs.Prelude.{◌≡◌, false, IfOk, OnOk};
+ghost use Rattle.std.specs.Prelude.{◌≡◌, Option, List, Result, ℕ, OnErr, OnOk};
 ghost use Rattle.bx_session.specs.Laws.{after_journal};
 ghost use Rattle.bx_session.specs.Painting.{QueuesPicture};
-ghost use Rattle.bx_session.specs.Journal.{RunsRecorded};
 ghost use Rattle.bx_session.specs.Saving.{store_state};
-ghost use Rattle.bx_session.specs.Session.{with_painting};
-ghost use Rattle.bidi_edit.specs.Run.{Edits, begins_with, bytes_of};
+ghost use Rattle.bx_session.specs.Session.{Session as SessionValue, with_painting};
+ghost use Rattle.bx_recovery.specs.Beginnings.{beginning_of};
+ghost use Rattle.bidi_edit.specs.Run.{Edits, Resumes, RunsTo, RunsUnless, told};
 
-use crate::beginning::{Beginning, open};
 use crate::fault::ProgramFault;
-use crate::replaying::replay;
-use bx_session::{End, Journal, Recorder, Session, run_recorded};
+use bx_recovery::{Beginning, open, replay};
+use bx_session::{End, Journal, Recorder, RunFault, Session, run_recorded};
 use bx_store::Store;
 use bx_ucd::BidiData;
 use std::io::{Read, Write};
@@ -25,6 +24,40 @@ pub enum Changes {
     Dropped,
 }
 
+/// The fate of the changes, by a run's end and whether there are unsaved changes then.
+///
+/// Errors: `Run`; `Unsaved` if the input ended with unsaved changes.
+fn told(end: Result<End, RunFault>, changed: bool) -> Result<Changes, ProgramFault<'static>>
+    ensures { result ≡ told end changed }
+{
+    match end {
+        Err(fault) => Err(ProgramFault::Run(fault)),
+        Ok(_) if !changed => Ok(Changes::Saved),
+        Ok(End::Quit) => Ok(Changes::Dropped),
+        Ok(End::InputEnded { .. }) => Err(ProgramFault::Unsaved),
+    }
+}
+
+/// Replays keys and paints the result.
+///
+/// Errors: `OutOfMemory`.
+fn begin<D: BidiData + Drop>(
+    session: &mut Session<D>,
+    keys: &[u8],
+) -> Result<(), ProgramFault<'static>>
+    ensures tables { session.new.tables ≡ session.old.tables }
+    ensures session { OnOk result (session.new.session ≡ with_painting (D.data session.old.tables)
+        (after_journal (D.data session.old.tables) session.old.session keys.now)) }
+    ensures paints { OnOk result (QueuesPicture (D.data session.old.tables)
+        (after_journal (D.data session.old.tables) session.old.session keys.now).pending
+        (after_journal (D.data session.old.tables) session.old.session keys.now).known session.new.session) }
+    ensures err { OnErr result (result ≡ Err ProgramFault.OutOfMemory) }
+{
+    replay(session, keys)?;
+    session.paint()?;
+    Ok(())
+}
+
 /// Replays keys, paints the result, and runs until Quit or the input's end.
 fn resume<D: BidiData + Drop, R: Read, J: Journal + Drop, W: Write, S: Store>(
     reader: &mut R,
@@ -34,45 +67,23 @@ fn resume<D: BidiData + Drop, R: Read, J: Journal + Drop, W: Write, S: Store>(
     session: &mut Session<D>,
     keys: &[u8],
 ) -> Result<Changes, ProgramFault<'static>>
-    ensures tables { session.new.tables ≡ session.old.tables }
-    ensures paints { OnOk result (QueuesPicture (D.data session.old.tables)
-        (after_journal (D.data session.old.tables) session.old.session keys.now).pending
-        (after_journal (D.data session.old.tables) session.old.session keys.now).known
-        (with_painting (D.data session.old.tables)
-        (after_journal (D.data session.old.tables) session.old.session keys.now))) }
-    ensures runs { OnOk result (RunsRecorded J.contents J.failure_count (D.data session.old.tables)
-        (with_painting (D.data session.old.tables)
-        (after_journal (D.data session.old.tables) session.old.session keys.now)) session.new.session
-        (store_state S.contents S.failure_count store.old) (store_state S.contents S.failure_count store.new)
-        (R.remaining reader.old) (R.remaining reader.new) (W.contents writer.old) (W.contents writer.new) recorder.old recorder.new) }
-    ensures saved { result ≡ Ok Changes.Saved → session.new.session.editor.changed ≡ false }
+    ensures { RunsUnless result
+        (Resumes J.contents J.failure_count (D.data session.old.tables) session.old.session keys.now
+        (record { store = store_state S.contents S.failure_count store.old; unread = R.remaining reader.old; written = W.contents writer.old; recorder = recorder.old })
+        (record { store = store_state S.contents S.failure_count store.new; unread = R.remaining reader.new; written = W.contents writer.new; recorder = recorder.new })
+        result)
+        ((store.new ≡ store.old) × (reader.new ≡ reader.old) × (writer.new ≡ writer.old) × (recorder.new ≡ recorder.old)) }
 {
-    replay(session, keys)?;
-    session.paint()?;
-    let end = run_recorded(reader, recorder, writer, store, session)?;
+    begin(session, keys)?;
+    let end = run_recorded(reader, recorder, writer, store, session);
     told(end, session.changed())
-}
-
-/// The fate of the changes, by a run's end and whether there are unsaved changes then.
-///
-/// Errors: `Unsaved` if the input ended with unsaved changes.
-fn told(end: End, changed: bool) -> Result<Changes, ProgramFault<'static>>
-    ensures { result ≡ Ok Changes.Saved → changed ≡ false }
-{
-    if end == (End::InputEnded { changed: true }) {
-        return Err(ProgramFault::Unsaved);
-    }
-    if changed {
-        return Ok(Changes::Dropped);
-    }
-    Ok(Changes::Saved)
 }
 
 /// Reads Unicode's files, opens a text, replays keys, and runs until Quit or the input's end. Ok is exit status 0, and a
 /// fault status 1.
 ///
-/// Errors, in this order: `Tables`; `Open`; `OutOfMemory` in replaying or painting; `Run`; `Unsaved` if the input ended with
-/// unsaved changes.
+/// Errors, in this order: `Tables`; `Open`; `OutOfMemory` in replaying or painting: nothing was read, written, kept or stored;
+/// `Run`; `Unsaved` if the input ended with unsaved changes: what was read was obeyed, and only Saves stored.
 pub fn edit<R: Read, J: Journal + Drop, W: Write, S: Store>(
     reader: &mut R,
     recorder: &mut Recorder<J>,
@@ -80,11 +91,12 @@ pub fn edit<R: Read, J: Journal + Drop, W: Write, S: Store>(
     store: &mut S,
     beginning: Beginning<'_>,
 ) -> Result<Changes, ProgramFault<'static>>
-    ensures edits { IfOk result (λ changes. Edits J.contents J.failure_count
-        (begins_with (bytes_of beginning.entry.text) beginning.entry.rows beginning.entry.cols beginning.entry.direction beginning.entry.unsaved beginning.entry.keys.now)
-        beginning.entry.unicode
-        (store_state S.contents S.failure_count store.old) (store_state S.contents S.failure_count store.new)
-        (R.remaining reader.old) (R.remaining reader.new) (W.contents writer.old) (W.contents writer.new) recorder.old recorder.new changes) }
+    ensures { RunsUnless result
+        (Edits J.contents J.failure_count (beginning_of beginning.entry) beginning.entry.unicode
+        (record { store = store_state S.contents S.failure_count store.old; unread = R.remaining reader.old; written = W.contents writer.old; recorder = recorder.old })
+        (record { store = store_state S.contents S.failure_count store.new; unread = R.remaining reader.new; written = W.contents writer.new; recorder = recorder.new })
+        result)
+        ((store.new ≡ store.old) × (reader.new ≡ reader.old) × (writer.new ≡ writer.old) × (recorder.new ≡ recorder.old)) }
 {
     let keys = beginning.keys;
     let mut session = open(beginning)?;

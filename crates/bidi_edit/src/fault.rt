@@ -1,6 +1,9 @@
 //! Faults that end the program with status 1.
 
+ghost use Rattle.std.specs.Prelude.{◌≡◌};
+
 use bx_command::TextFault;
+use bx_recovery::RecoveryFault;
 use bx_session::{OpenError, Refused, RunFault};
 use bx_store::StoreFault;
 use bx_ucd::UcdError;
@@ -28,16 +31,25 @@ pub enum ProgramFault<'a> {
     /// The recovered text could not be stored.
     #[error("bidi_edit: cannot write the recovered text")]
     Unwritten,
-    /// The line about a recovered text could not be written.
+    /// What comes before the first painting, or the line about a recovered text, could not be written.
     #[error("bidi_edit: output failed")]
     Untold,
     #[error("bidi_edit: out of memory")]
     OutOfMemory,
 }
 
-impl From<UcdError> for ProgramFault<'_> {
-    fn from(error: UcdError) -> Self {
-        ProgramFault::Tables(error)
+impl From<RecoveryFault> for ProgramFault<'_> {
+    ghost use Rattle.bidi_edit.specs.Faults.{fault_of_recovery};
+
+    ghost from_gives = { λ fault new. new ≡ fault_of_recovery fault };
+
+    fn from(fault: RecoveryFault) -> Self {
+        match fault {
+            RecoveryFault::Tables(error) => ProgramFault::Tables(error),
+            RecoveryFault::Open(error) => ProgramFault::Open(error),
+            RecoveryFault::Unwritten => ProgramFault::Unwritten,
+            RecoveryFault::OutOfMemory => ProgramFault::OutOfMemory,
+        }
     }
 }
 
@@ -53,20 +65,10 @@ impl From<TextFault> for ProgramFault<'_> {
     }
 }
 
-impl From<OpenError> for ProgramFault<'_> {
-    fn from(error: OpenError) -> Self {
-        ProgramFault::Open(error)
-    }
-}
-
-impl From<RunFault> for ProgramFault<'_> {
-    fn from(fault: RunFault) -> Self {
-        ProgramFault::Run(fault)
-    }
-}
-
 impl From<Refused> for ProgramFault<'_> {
-    /// A key or a painting is refused when memory runs out; a parsed size is never refused.
+    ghost from_gives = { λ _ new. new ≡ OutOfMemory };
+
+    /// A painting is refused when memory runs out.
     fn from(_refused: Refused) -> Self {
         ProgramFault::OutOfMemory
     }

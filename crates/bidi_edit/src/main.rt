@@ -1,32 +1,33 @@
 //! A full-screen editor: keys come from standard input, the screen goes to standard output.
 //!
 //! `bidi_edit [--rows N] [--cols N] [--direction auto|ltr|rtl] [--line N] [--text PATH] [--unsaved] [--journal PATH [--in-place
-//! MARK]] [--replay PATH [--to PATH]] --classes F --brackets F --mirroring F [--joining F --characters F] FILE`. With `--check` it
-//! only checks that FILE can be opened. Exit status 0: ended by Quit, or the input ended without unsaved changes, or FILE can be
-//! opened; 1: a fault, with a line on standard error; 2: the command line was refused, and standard error says why.
+//! MARK]] [--replay PATH [--to PATH]] [--before TEXT] [--words] --classes F --brackets F --mirroring F [--joining F --characters F]
+//! FILE`. With `--check` it only checks that FILE can be opened. Exit status 0: ended by Quit, or the input ended without unsaved
+//! changes, or FILE can be opened; 1: a fault, with a line on standard error; 2: the command line was refused, and standard error
+//! says why.
+//!
+//! With `--before`, TEXT goes to standard output once FILE is read and can be opened. With `--words`, standard error gets words,
+//! each of which ends with NUL: `o DEVICE INODE SIZE SECONDS NANOS`, or `o -` if FILE does not exist, or `o changed`, once it was
+//! read; `f KIND` or `f KIND VALUE` for a fault; `j lost` and `j kept` for a journal that could not be written, and is kept again.
 #![tactic(auto)]
 
-mod beginning;
 mod edit;
-mod exit;
 mod fault;
-mod foreign;
-mod recover;
-mod replaying;
+mod look;
+mod telling;
 
-use beginning::Beginning;
-use bx_command::{Files, JournalFile, Options, check_text, command_line, empty_journal};
+use bx_command::{Files, JournalFile, Options, TextFault, check_text, command_line, empty_journal};
+use bx_recovery::{Beginning, is_foreign, recover};
 use bx_session::{Recorder, WrittenJournal};
 use bx_store::{FileStore, Store, StoreFault};
-use bx_words::{refuse, refuse_words, text_of};
+use bx_words::{is_text_of, refuse, refuse_words, text_of};
 use edit::{Changes, edit};
-use exit::{finish, tell_lost_journal};
 use fault::ProgramFault;
-use foreign::is_foreign;
-use recover::recover;
+use look::Look;
 use std::env;
 use std::io::{self, Read, Write};
 use std::process::ExitCode;
+use telling::{finish, journal_notes, tell_look, tell_lost_journal};
 
 /// The program's name, at the start of its lines on standard error.
 const NAME: &str = "bidi_edit";
@@ -40,11 +41,11 @@ fn edit_file<'a, R: Read + Drop, W: Write, S: Store>(
     writer: &mut W,
     store: &mut S,
 ) -> Result<(), ProgramFault<'a>> {
-    let journal = JournalFile::open(*rt, options.journal);
+    let journal = JournalFile::open(*rt, options.journal, journal_notes(options));
     let mut recorder = Recorder::new(rt.alloc(), WrittenJournal::new(journal));
     let changes = edit(&mut reader, &mut recorder, writer, store, beginning);
     if !recorder.has_all() {
-        tell_lost_journal(rt);
+        tell_lost_journal(rt, options);
     }
     match (changes?, options.journal) {
         (Changes::Saved, Some(path)) => empty_journal(rt, path),
@@ -110,26 +111,76 @@ fn is_changed(
     if options.text.is_none() || options.to.is_some() || options.unsaved {
         return Ok(false);
     }
-    let Ok(held) = text_of(rt, options.file) else {
+    let Some(text) = &files.text else {
+        return Ok(false);
+    };
+    match is_text_of(rt, options.file, text.as_slice()) {
+        Ok(Some(true)) | Ok(None) => Ok(false),
+        Ok(Some(false)) if !files.keys.is_empty() => is_unknown(
+            rt,
+            options,
+            files,
+            text.as_slice(),
+        ),
+        Ok(Some(false)) | Err(_) => Ok(true),
+    }
+}
+
+/// Whether FILE is no text that the replayed session knows. It is read whole, and the session is opened a second time.
+fn is_unknown(
+    rt: &HostRuntime,
+    options: &Options<'_>,
+    files: &Files,
+    text: &[u8],
+) -> Result<bool, ProgramFault<'static>> {
+    let Ok(Some(held)) = text_of(rt, options.file) else {
         return Ok(true);
     };
-    let (Some(held), Some(text)) = (held, &files.text) else {
-        return Ok(false);
-    };
-    if held.as_slice() == text.as_slice() {
-        return Ok(false);
-    }
-    let text = Vec::from_slice(rt.alloc(), text.as_slice())?;
-    is_foreign(
-        beginning_of(rt, options, files, Some(text)),
-        held.as_slice(),
-    )
+    let text = Vec::from_slice(rt.alloc(), text)?;
+    let beginning = beginning_of(rt, options, files, Some(text));
+    Ok(is_foreign(beginning, held.as_slice())?)
 }
 
 /// Checks that FILE can be opened. A file that does not exist can: it is an empty text.
 fn check_file<'a>(rt: &HostRuntime, path: &'a str) -> Result<(), ProgramFault<'a>> {
     if let Some(bytes) = text_of(rt, path)? {
         check_text(bytes.as_slice())?;
+    }
+    Ok(())
+}
+
+/// Reads the input files. Where words are wanted, also tells how FILE looked, and checks the text.
+fn read_files<'a>(
+    rt: &HostRuntime,
+    options: &Options<'a>,
+    store: &mut FileStore<'_, HostRuntime>,
+) -> Result<Files, ProgramFault<'a>> {
+    let look = Look::at(rt, options.file);
+    let files = Files::read(rt, options)?;
+    if options.words || options.before.is_some() {
+        check_opened(&files)?;
+    }
+    if is_changed(rt, options, &files)? {
+        store.distrust();
+    }
+    if options.words {
+        tell_look(rt, look, Look::at(rt, options.file));
+    }
+    Ok(files)
+}
+
+/// Checks that the text can be opened.
+fn check_opened(files: &Files) -> Result<(), TextFault> {
+    match &files.text {
+        Some(bytes) => check_text(bytes.as_slice()),
+        None => Ok(()),
+    }
+}
+
+/// Writes what comes before the first painting.
+fn write_before<'a, W: Write>(writer: &mut W, text: &str) -> Result<(), ProgramFault<'a>> {
+    if writer.write_all(text.as_bytes()).is_err() || writer.flush().is_err() {
+        return Err(ProgramFault::Untold);
     }
     Ok(())
 }
@@ -143,9 +194,9 @@ fn run<'a, R: Read + Drop, W: Write>(
 ) -> Result<(), ProgramFault<'a>> {
     // before the files are read, so that the first save notices a change by another program in between
     let mut store = store_of(rt, options)?;
-    let mut files = Files::read(rt, options)?;
-    if is_changed(rt, options, &files)? {
-        store.distrust();
+    let mut files = read_files(rt, options, &mut store)?;
+    if let Some(text) = options.before {
+        write_before(writer, text)?;
     }
     let text = files.text.take();
     let beginning = beginning_of(rt, options, &files, text);
@@ -181,7 +232,7 @@ fn main(rt: HostRuntime) -> ExitCode {
     match command_line(rt.alloc(), words.as_slice()) {
         Ok(options) => {
             let outcome = program(&rt, &options, rt.reader(), &mut rt.stdout());
-            finish(&rt, outcome)
+            finish(&rt, options.words, outcome)
         }
         Err(error) => refuse(&rt, NAME, &error),
     }

@@ -13,6 +13,15 @@ const SAVE: u8 = 0x13;
 /// Number of seconds after the last sync at which a flush syncs again.
 const WAIT: u64 = 1;
 
+/// The texts for standard error, with their ends.
+#[derive(Clone, Copy)]
+pub struct JournalNotes<'a> {
+    /// The journal could not be written.
+    pub lost: &'a str,
+    /// It is kept again.
+    pub kept: &'a str,
+}
+
 /// A file that a journal is appended to. A flush syncs it to disk if a Save was written since the last sync, if that was at
 /// least a second ago, or if there is a fault.
 ///
@@ -23,6 +32,7 @@ pub struct JournalFile<'a> {
     rt: HostRuntime,
     /// None if no journal is kept.
     path: Option<&'a str>,
+    notes: JournalNotes<'a>,
     /// None until the file is opened.
     file: Option<File>,
     synced: Option<Instant>,
@@ -54,10 +64,15 @@ fn write_some(file: &mut File, buf: &[u8]) -> io::Result<usize>
 
 impl<'a> JournalFile<'a> {
     /// Opens the file at `path`; without a path all writes are discarded. If opening fails, each write tries again.
-    pub fn open(rt: HostRuntime, path: Option<&'a str>) -> JournalFile<'a> {
+    pub fn open(
+        rt: HostRuntime,
+        path: Option<&'a str>,
+        notes: JournalNotes<'a>,
+    ) -> JournalFile<'a> {
         let mut journal = JournalFile {
             rt,
             path,
+            notes,
             file: None,
             synced: None,
             holds_save: false,
@@ -112,7 +127,7 @@ impl<'a> JournalFile<'a> {
         if self.has_fault && !self.lacks_bytes {
             self.has_fault = false;
             // if standard error fails, nobody can be told
-            let _ = eprintln!(&self.rt; "bidi_edit: the journal is kept again");
+            let _ = eprint!(&self.rt; "{}", self.notes.kept);
         }
     }
 
@@ -121,7 +136,7 @@ impl<'a> JournalFile<'a> {
         if !self.has_fault {
             self.has_fault = true;
             // if standard error fails, nobody can be told
-            let _ = eprintln!(&self.rt; "bidi_edit: the journal could not be written");
+            let _ = eprint!(&self.rt; "{}", self.notes.lost);
         }
     }
 }

@@ -10,6 +10,6 @@ mod words;
 
 pub use check::{TextFault, check_text};
 pub use files::Files;
-pub use journal::{JournalFile, empty_journal};
+pub use journal::{JournalFile, JournalNotes, empty_journal};
 pub use line::start_of_line;
 pub use words::{Options, command_line};

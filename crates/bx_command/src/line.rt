@@ -1,11 +1,18 @@
 //! The cursor's first line.
 
-/// The byte offset at which `line`, counted from 1, begins; the last line's if the text has fewer.
-pub fn start_of_line(text: &[u8], line: u64) -> usize {
+ghost use Rattle.std.specs.Prelude.{◌≡◌};
+ghost use Rattle.bx_command.specs.Lines.{start_of_line};
+
+/// The byte offset at which `line`, counted from 1, begins; the last line's if the text has fewer. Lines end with LF, and 0
+/// counts as 1.
+pub fn start_of_line(text: &[u8], line: u64) -> usize
+    ensures { result ≡ start_of_line text.now line }
+{
     let mut start = 0;
-    let mut left = line;
+    // line feeds that are left to pass
+    let mut left = line.saturating_sub(1);
     for (offset, byte) in text.iter().enumerate() {
-        if left <= 1 {
+        if left == 0 {
             break;
         }
         if *byte == b'\n' {

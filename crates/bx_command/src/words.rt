@@ -39,6 +39,10 @@ pub struct Options<'a> {
     pub line: Option<u64>,
     /// The base direction of the paragraphs at first.
     pub direction: Base,
+    /// The text to write to standard output before the first painting.
+    pub before: Option<&'a str>,
+    /// Whether faults and notes are written to standard error as words, each of which ends with NUL.
+    pub words: bool,
     pub ghost has_rows: { is_side rows ≡ true },
     pub ghost has_cols: { is_side cols ≡ true },
 }
@@ -56,18 +60,19 @@ fn line<'a>(alloc: Global) -> Arg<'a> {
         .value_parser(value_parser!(u64).range(1..))
 }
 
-/// The flag for a text that counts as changed from the start.
-fn unsaved<'a>(alloc: Global) -> Arg<'a> {
-    Arg::new(alloc, "unsaved")
-        .long("unsaved")
-        .action(ArgAction::SetTrue)
+/// A flag.
+fn flag<'a>(alloc: Global, name: &'a str) -> Arg<'a> {
+    Arg::new(alloc, name).long(name).action(ArgAction::SetTrue)
+}
+
+/// The option for a text to write before the first painting.
+fn before<'a>(alloc: Global) -> Arg<'a> {
+    Arg::new(alloc, "before").long("before").value_name("TEXT")
 }
 
 /// The flag for a check of FILE without a session.
 fn check<'a>(alloc: Global) -> Result<Arg<'a>, AllocError> {
-    Arg::new(alloc, "check")
-        .long("check")
-        .action(ArgAction::SetTrue)
+    flag(alloc, "check")
         .conflicts_with("text")?
         .conflicts_with("journal")?
         .conflicts_with("replay")?
@@ -97,7 +102,9 @@ fn command<'a>(alloc: Global) -> Result<Command<'a>, AllocError> {
         .arg(line(alloc))?
         .arg(check(alloc)?)?
         .arg(path(alloc, "text"))?
-        .arg(unsaved(alloc))?
+        .arg(flag(alloc, "unsaved"))?
+        .arg(before(alloc))?
+        .arg(flag(alloc, "words"))?
         .arg(path(alloc, "journal"))?
         .arg(in_place(alloc)?)?
         .arg(path(alloc, "replay"))?
@@ -121,6 +128,8 @@ fn options_of<'a>(matches: &ArgMatches<'a>) -> Option<Options<'a>> {
         to: matches.get_str("to"),
         line: matches.get_one::<u64>("line"),
         direction: direction_of(matches)?,
+        before: matches.get_str("before"),
+        words: matches.get_flag("words"),
     })
 }
 

@@ -1,5 +1,5 @@
 -- A store's bytes, where it models them, and its count of failures.
-use Rattle.std.specs.Prelude.{ℕ, suc, ◌-◌, ◌^◌, ◌==◌, Bool, true, false, List, [], ◌++◌, min, Option, Some, None, option_map}
+use Rattle.std.specs.Prelude.{ℕ, suc, ◌+◌, ◌-◌, ◌<◌, ◌^◌, ◌==◌, Bool, true, false, List, [], ◌++◌, length, min, Option, Some, None, option_map}
 
 -- counts of failures and calls saturate here
 abbrev pub greatest : ℕ
@@ -16,11 +16,12 @@ no_bytes told = option_map (λ _. []) told
 abbrev pub with_bytes : List ℕ → Option (List ℕ) → Option (List ℕ)
 with_bytes bytes draft = option_map (λ before. before ++ bytes) draft
 
--- A store in memory: its contents, the bytes put since the last begin, whether a save is in progress, the counts of calls and
--- of failed calls, and the number of the call that fails, counted from 1.
+-- A store in memory: its contents, the bytes put since the last begin, the number of bytes that fit into the draft's memory,
+-- whether a save is in progress, the counts of calls and of failed calls, and the number of the call that fails, counted from 1.
 pub record MemoryState : Type 0 where
   pub contents : List ℕ
   pub draft : List ℕ
+  pub room : ℕ
   pub has_draft : Bool
   pub calls : ℕ
   pub failures : ℕ
@@ -45,5 +46,13 @@ after_begin s = record s { draft = []; has_draft = true; calls = one_more s.call
 abbrev pub after_put : List ℕ → MemoryState → MemoryState
 after_put bytes s = record s { draft = s.draft ++ bytes; calls = one_more s.calls }
 
+-- the draft's memory may have grown, to this room
+abbrev pub with_room : ℕ → MemoryState → MemoryState
+with_room room s = record s { room = room }
+
+-- the bytes do not fit into the draft's memory behind those put before
+abbrev pub LacksRoom : List ℕ → MemoryState → Type 0
+LacksRoom bytes s = s.room < length s.draft + length bytes
+
 abbrev pub after_commit : MemoryState → MemoryState
-after_commit s = record s { contents = s.draft; draft = []; has_draft = false; calls = one_more s.calls }
+after_commit s = record s { contents = s.draft; draft = []; room = 0; has_draft = false; calls = one_more s.calls }

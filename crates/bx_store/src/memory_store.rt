@@ -1,6 +1,6 @@
 //! A store in memory. A test can have one of its calls fail.
-ghost use Rattle.std.specs.Prelude.{◌≡◌, ◌↔◌, true, false, [], OnOk, OnErr, IsErr};
-ghost use Rattle.bx_store.specs.Stores.{after_begin, after_commit, after_failure, after_put, fails_next};
+ghost use Rattle.std.specs.Prelude.{◌≡◌, ◌≤◌, ◌↔◌, ◌⊎◌, true, false, [], OnOk, OnErr, IsErr};
+ghost use Rattle.bx_store.specs.Stores.{LacksRoom, after_begin, after_commit, after_failure, after_put, fails_next, with_room};
 
 use crate::store::{Store, StoreFault};
 use std::alloc::Global;
@@ -8,7 +8,7 @@ use std::marker::Model;
 use std::mem;
 
 /// A store that models its bytes. Calls of `begin`, `put` and `commit` are counted from 1, and the call with the number
-/// `fail_call` fails. Otherwise only a `put` fails, and only if memory runs out.
+/// `fail_call` fails. Otherwise only a `put` fails, and only where the draft's memory has no room for its bytes and cannot grow.
 #[derive(Drop)]
 pub struct MemoryStore {
     contents: Vec<u8>,
@@ -20,6 +20,7 @@ pub struct MemoryStore {
 }
 
 impl Model for MemoryStore {
+    ghost use Rattle.std.specs.Prelude.{vec_capacity};
     ghost use Rattle.bx_store.specs.Stores.{MemoryState};
 
     ghost Value = { MemoryState };
@@ -27,6 +28,7 @@ impl Model for MemoryStore {
     ghost view = { λ s. record {
       contents = s.contents.items;
       draft = s.draft.items;
+      room = vec_capacity s.draft;
       has_draft = s.has_draft;
       calls = s.calls;
       failures = s.failures;
@@ -37,7 +39,7 @@ impl Model for MemoryStore {
 impl MemoryStore {
     /// An empty store.
     pub fn new(alloc: Global, fail_call: Option<u64>) -> Self
-        ensures { result ≡ record { contents = []; draft = []; has_draft = false; calls = 0; failures = 0; fail_call = fail_call } }
+        ensures { result ≡ record { contents = []; draft = []; room = 0; has_draft = false; calls = 0; failures = 0; fail_call = fail_call } }
     {
         MemoryStore {
             contents: Vec::new(alloc),
@@ -100,9 +102,11 @@ impl Store for MemoryStore {
     }
 
     fn put(&mut self, bytes: &[u8]) -> Result<(), StoreFault>
-        ensures ok { OnOk result (self.new ≡ after_put bytes.now self.old) }
-        ensures err { OnErr result (self.new ≡ after_failure self.old) }
+        ensures ok { OnOk result (self.new ≡ with_room self.new.room (after_put bytes.now self.old)) }
+        ensures err { OnErr result (self.new ≡ with_room self.new.room (after_failure self.old)) }
+        ensures room { self.old.room ≤ self.new.room }
         ensures fails { fails_next self.old ≡ true → IsErr result }
+        ensures full { OnErr result ((fails_next self.old ≡ true) ⊎ LacksRoom bytes.now self.old) }
     {
         if self.fails_next() || self.draft.extend_from_slice(bytes).is_err() {
             return Err(self.fail());

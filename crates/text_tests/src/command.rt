@@ -53,7 +53,8 @@ fn three_tables_and_file(rt: HostRuntime) -> Result<(), Fail> {
     assert_eq!(rt; (options.text, options.line), (None, None));
     assert!(rt; !options.unsaved && !options.check);
     assert_eq!(rt; (options.journal, options.replay), (None, None));
-    assert_eq!(rt; options.in_place, None);
+    assert_eq!(rt; (options.in_place, options.before), (None, None));
+    assert!(rt; !options.words);
     Ok(())
 }
 
@@ -98,6 +99,18 @@ fn options_of_a_session_that_goes_on(rt: HostRuntime) -> Result<(), Fail> {
     assert!(rt; options.unsaved);
     assert_eq!(rt; (options.journal, options.replay), (Some("j"), Some("r")));
     assert_eq!(rt; (options.to, options.line), (Some("o"), Some(7)));
+    Ok(())
+}
+
+#[test]
+fn words_and_a_text_before_the_first_painting(rt: HostRuntime) -> Result<(), Fail> {
+    let before = "--before=\x1b[?1049h";
+    let words = [
+        "--words", before, WORDS[0], WORDS[1], WORDS[2], WORDS[3], WORDS[4], WORDS[5], WORDS[6],
+    ];
+    let options = command_line(rt.alloc(), &words)?;
+    assert!(rt; options.words);
+    assert_eq!(rt; options.before, Some("\x1b[?1049h"));
     Ok(())
 }
 

@@ -1,11 +1,17 @@
 //! A journal's file that cannot be opened or written, and the input files of a session.
 
-use bx_command::{Files, JournalFile, command_line};
+use bx_command::{Files, JournalFile, JournalNotes, command_line};
 use bx_words::FileFault;
 use std::io::Write;
 use std::path::PathBuf;
 use std::test::Fail;
 use std::{env, fs, process};
+
+/// Texts for standard error.
+const NOTES: JournalNotes<'static> = JournalNotes {
+    lost: "lost\n",
+    kept: "kept\n",
+};
 
 /// A path in the folder for temporary files that is unique to this process.
 fn path_of(rt: &HostRuntime, name: &str) -> Result<PathBuf, Fail> {
@@ -22,7 +28,7 @@ fn is_kept(journal: &mut JournalFile<'_>, bytes: &[u8]) -> bool {
 fn a_journal_is_opened_again_at_each_write(rt: HostRuntime) -> Result<(), Fail> {
     let folder = path_of(&rt, "journal")?;
     let path = folder.join(rt.alloc(), "keys")?;
-    let mut journal = JournalFile::open(rt, Some(path.as_str()));
+    let mut journal = JournalFile::open(rt, Some(path.as_str()), NOTES);
     let before = [is_kept(&mut journal, b"a"), is_kept(&mut journal, b"b")];
     fs::create_dir(&rt, folder.as_path())?;
     let after = [is_kept(&mut journal, b"c"), is_kept(&mut journal, b"d")];
@@ -35,14 +41,14 @@ fn a_journal_is_opened_again_at_each_write(rt: HostRuntime) -> Result<(), Fail> 
 
 #[test]
 fn a_disk_without_room_takes_no_journal(rt: HostRuntime) {
-    let mut journal = JournalFile::open(rt, Some("/dev/full"));
+    let mut journal = JournalFile::open(rt, Some("/dev/full"), NOTES);
     assert!(rt; !is_kept(&mut journal, b"a"));
     assert!(rt; !is_kept(&mut journal, b"b"));
 }
 
 #[test]
 fn no_journal_takes_all(rt: HostRuntime) {
-    let mut journal = JournalFile::open(rt, None);
+    let mut journal = JournalFile::open(rt, None, NOTES);
     assert!(rt; is_kept(&mut journal, b"a"));
 }
 

@@ -1,9 +1,9 @@
 //! Runs over texts, tables and keys given as bytes, in a window of one row and five columns.
 
-use crate::beginning::Beginning;
 use crate::edit::{Changes, edit};
 use crate::fault::ProgramFault;
 use crate::tests::small_files;
+use bx_recovery::Beginning;
 use bx_session::{NoJournal, OpenError, Recorder, RunFault};
 use bx_store::MemoryStore;
 use bx_terms::Base;

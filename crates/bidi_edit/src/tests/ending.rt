@@ -1,7 +1,7 @@
 //! Lines and exit statuses of faults.
 
-use crate::exit::finish;
 use crate::fault::ProgramFault;
+use crate::telling::finish;
 use bx_command::TextFault;
 use bx_session::{OpenError, Refused, RunFault};
 use bx_store::StoreFault;
@@ -17,13 +17,13 @@ fn faults_by_their_lines(rt: HostRuntime) -> Result<(), Fail> {
         ProgramFault::from(FileFault::OutOfMemory),
         ProgramFault::from(TextFault::TooLong),
         ProgramFault::from(TextFault::NotUtf8(3)),
-        ProgramFault::from(OpenError::TooLong),
-        ProgramFault::from(OpenError::NotUtf8(1)),
-        ProgramFault::from(OpenError::OutOfMemory),
-        ProgramFault::from(RunFault::ReadFault),
-        ProgramFault::from(RunFault::WriteFault),
-        ProgramFault::from(RunFault::ReadLimit),
-        ProgramFault::from(Refused::Edit),
+        ProgramFault::Open(OpenError::TooLong),
+        ProgramFault::Open(OpenError::NotUtf8(1)),
+        ProgramFault::Open(OpenError::OutOfMemory),
+        ProgramFault::Run(RunFault::ReadFault),
+        ProgramFault::Run(RunFault::WriteFault),
+        ProgramFault::Run(RunFault::ReadLimit),
+        ProgramFault::from(Refused::Paint),
         ProgramFault::from(StoreFault),
         ProgramFault::Unsaved,
         ProgramFault::Unwritten,
@@ -55,6 +55,6 @@ fn faults_by_their_lines(rt: HostRuntime) -> Result<(), Fail> {
 
 #[test]
 fn statuses(rt: HostRuntime) {
-    assert!(rt; finish(&rt, Ok(())) == ExitCode::from(0));
-    assert!(rt; finish(&rt, Err(ProgramFault::Unsaved)) == ExitCode::from(1));
+    assert!(rt; finish(&rt, false, Ok(())) == ExitCode::from(0));
+    assert!(rt; finish(&rt, true, Err(ProgramFault::Unsaved)) == ExitCode::from(1));
 }

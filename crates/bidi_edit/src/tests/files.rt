@@ -52,6 +52,8 @@ fn options<'a>(unicode: UnicodePaths<'a>, file: &'a str) -> Options<'a> {
         to: None,
         line: None,
         direction: Base::Auto,
+        before: None,
+        words: false,
     }
 }
 

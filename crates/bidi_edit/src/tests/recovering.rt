@@ -1,11 +1,8 @@
 //! Replay and recovery of the text `ab` in a window of one row and five columns.
 
-use crate::beginning::Beginning;
 use crate::edit::{Changes, edit};
-use crate::fault::ProgramFault;
-use crate::recover::recover;
-use crate::replaying::{Held, Replayed};
 use crate::tests::small_files;
+use bx_recovery::{Beginning, Held, RecoveryFault, Replayed, recover};
 use bx_session::{NoJournal, Recorder, Session, WrittenJournal, run_recorded};
 use bx_store::MemoryStore;
 use bx_terms::Base;
@@ -34,7 +31,7 @@ fn recovered(
     store: &mut MemoryStore,
     keys: &[u8],
     file: &[u8],
-) -> Result<Result<Replayed, ProgramFault<'static>>, Fail> {
+) -> Result<Result<Replayed, RecoveryFault>, Fail> {
     Ok(recover(store, beginning(alloc, keys)?, file))
 }
 
@@ -58,7 +55,7 @@ fn a_journal_beside_its_file(rt: HostRuntime) -> Result<(), Fail> {
 fn a_text_that_cannot_be_stored(rt: HostRuntime) -> Result<(), Fail> {
     let mut store = MemoryStore::new(rt.alloc(), Some(1));
     let replayed = recovered(rt.alloc(), &mut store, b"x", b"ab")?;
-    assert_eq!(rt; replayed, Err(ProgramFault::Unwritten));
+    assert_eq!(rt; replayed, Err(RecoveryFault::Unwritten));
     Ok(())
 }
 

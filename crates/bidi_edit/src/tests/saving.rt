@@ -1,9 +1,9 @@
 //! The result of a Save: the keys are `x`, Save and Quit, in a window of one row and five columns.
 
-use crate::beginning::Beginning;
 use crate::edit::{Changes, edit};
 use crate::fault::ProgramFault;
 use crate::tests::small_files;
+use bx_recovery::Beginning;
 use bx_session::{NoJournal, Recorder};
 use bx_store::{FileStore, MemoryStore, Store};
 use bx_terms::Base;

@@ -5,9 +5,9 @@ ghost use Rattle.bx_terms.specs.Sizes.{is_side};
 
 mod vectors;
 
-use crate::beginning::Beginning;
 use crate::edit::edit;
 use crate::tests::small_files;
+use bx_recovery::Beginning;
 use bx_session::{NoJournal, Recorder};
 use bx_store::MemoryStore;
 use bx_terms::{Base, is_side};

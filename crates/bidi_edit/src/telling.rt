@@ -1,0 +1,86 @@
+//! What goes to standard error: sentences for a reader, or words for another program. A word ends with NUL.
+
+use crate::fault::ProgramFault;
+use crate::look::Look;
+use bx_command::{JournalNotes, Options, TextFault};
+use bx_session::{OpenError, RunFault};
+use bx_words::FileFault;
+use std::fmt;
+use std::process::ExitCode;
+
+/// The notes on a journal, as sentences.
+const SENTENCES: JournalNotes<'static> = JournalNotes {
+    lost: "bidi_edit: the journal could not be written\n",
+    kept: "bidi_edit: the journal is kept again\n",
+};
+
+/// The notes on a journal, as words.
+const WORDS: JournalNotes<'static> = JournalNotes {
+    lost: "j lost\0",
+    kept: "j kept\0",
+};
+
+/// What is told when a session ends whose journal is incomplete. That alone does not end a session.
+const LOST: &str =
+    "bidi_edit: the journal could not be written, so a crash would have lost what was not saved\n";
+
+/// The notes on a journal.
+pub fn journal_notes(options: &Options<'_>) -> JournalNotes<'static> {
+    if options.words { WORDS } else { SENTENCES }
+}
+
+/// Tells that a session has ended whose journal is incomplete.
+pub fn tell_lost_journal(rt: &HostRuntime, options: &Options<'_>) {
+    let note = if options.words { WORDS.lost } else { LOST };
+    // if standard error fails, nobody can be told
+    let _ = eprint!(rt; "{note}");
+}
+
+/// Tells how FILE looked before and after it was read; None if it does not exist.
+pub fn tell_look(rt: &HostRuntime, before: Option<Look>, after: Option<Look>) {
+    // if standard error fails, nobody can be told
+    let _ = match after {
+        _ if before != after => eprint!(rt; "o changed\0"),
+        Some(look) => eprint!(rt; "o {look}\0"),
+        None => eprint!(rt; "o -\0"),
+    };
+}
+
+/// A fault as a word, without its end.
+#[derive(Drop)]
+struct Word<'a>(ProgramFault<'a>);
+
+impl fmt::Display for Word<'_> {
+    fn fmt<W: fmt::Write>(&self, f: &mut fmt::Formatter<W>) -> fmt::Result {
+        let kind = match &self.0 {
+            ProgramFault::Tables(error) => return write!(f, "f tables {error}"),
+            ProgramFault::Text(TextFault::NotUtf8(line)) => return write!(f, "f not-utf8 {line}"),
+            ProgramFault::Open(OpenError::NotUtf8(_)) => "not-utf8",
+            ProgramFault::Text(TextFault::TooLong) | ProgramFault::Open(OpenError::TooLong) => {
+                "too-long"
+            }
+            ProgramFault::File(FileFault::Unreadable(_)) => "unreadable",
+            ProgramFault::Run(RunFault::ReadFault) => "input",
+            ProgramFault::Run(RunFault::WriteFault) | ProgramFault::Untold => "output",
+            ProgramFault::Run(RunFault::ReadLimit) => "reads",
+            ProgramFault::Unsaved => "unsaved",
+            ProgramFault::Unwritten => "unwritten",
+            _ => "memory",
+        };
+        write!(f, "f {kind}")
+    }
+}
+
+/// The exit status after a run. Tells the fault, if any.
+pub fn finish(rt: &HostRuntime, words: bool, outcome: Result<(), ProgramFault<'_>>) -> ExitCode {
+    let Err(fault) = outcome else {
+        return ExitCode::SUCCESS;
+    };
+    // if standard error fails, nobody can be told
+    let _ = if words {
+        eprint!(rt; "{}\0", Word(fault))
+    } else {
+        eprintln!(rt; "{fault}")
+    };
+    ExitCode::FAILURE
+}

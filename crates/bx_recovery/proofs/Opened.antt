@@ -1,0 +1,84 @@
+-- A session opened from its files, and what a recovery from it says.
+use Rattle.std.proofs.Common.{◌≡◌, ℕ, Bool, true, false, List, [], Option, None, Some, Result, Ok, Err, refl, sym, ap, subst, ◌∙◌, length}
+use Rattle.std.specs.Prelude.{IfOk, IsTrue, ◌↔◌, vec_items, unwrap_or}
+use Rattle.std.specs.Global.{Vec}
+use Rattle.bx_terms.specs.declared.base.Base.{Base}
+use Rattle.bx_keys.specs.Keys.{keys_from}
+use Rattle.bx_ucd.specs.Data.{Data}
+use Rattle.bx_words.specs.declared.unicode.UnicodeFiles.{UnicodeFiles}
+use Rattle.bx_session.specs.Session.{Session, SessionState, at_opening}
+use Rattle.bx_session.specs.Saving.{StoreState}
+use Rattle.bx_session.specs.Painting.{QueuesPicture}
+use Rattle.bx_session.specs.Beginning.{Beginning, after_going_to, at_offset, changed_if}
+use Rattle.bx_recovery.specs.declared.replaying.Held.{Held}
+use Rattle.bx_recovery.specs.declared.replaying.Replayed.{Replayed}
+use Rattle.bx_recovery.specs.declared.replaying.Held.TheVariants.{Same, Known, Foreign}
+use Rattle.bx_recovery.specs.Beginnings.{AreOfFiles, IsOpened, bytes_of}
+use Rattle.bx_recovery.specs.Recovery.{HoldsBeside, IsForeign, RecoversFrom, Recovers, TellsForeign}
+
+pub bytes_or_none : (text : Option (Vec ℕ)) (none result : Vec ℕ) → vec_items none ≡ [] → result ≡ unwrap_or text none → vec_items result ≡ bytes_of text
+bytes_or_none None none result empty is = ap (λ (v : Vec ℕ). vec_items v) is ∙ empty
+bytes_or_none (Some bytes) none result empty is = ap (λ (v : Vec ℕ). vec_items v) is
+
+pub opened_is : {D : Type 0} (says : D → Data) (tables : D) (first new : SessionState D) (text : List ℕ) (b : Beginning)
+    → first ≡ record { tables = tables; session = at_opening (says tables) text b.height b.width b.base }
+    → QueuesPicture (says tables) [] None first.session → text ≡ b.text
+    → new ≡ record first { session = changed_if b.unsaved (after_going_to (says first.tables) first.session b.offset) }
+    → (new.tables ≡ tables) × IsOpened (says new.tables) b new.session
+opened_is {D} says tables first new text b is queued same gone =
+    let stays : first.tables ≡ tables = ap (λ (x : SessionState D). x.tables) is in
+    let kept : new.tables ≡ tables = ap (λ (x : SessionState D). x.tables) gone ∙ stays in
+    let begins : first.session ≡ at_opening (says tables) b.text b.height b.width b.base =
+    ap (λ (x : SessionState D). x.session) is ∙ ap (λ (t : List ℕ). at_opening (says tables) t b.height b.width b.base) same in
+    let opened : IsOpened (says tables) b new.session = record {
+      session = ap (λ (x : SessionState D). x.session) gone
+          ∙ ap (λ (t : D). changed_if b.unsaved (after_going_to (says t) first.session b.offset)) stays
+          ∙ ap (λ (s : Session). changed_if b.unsaved (after_going_to (says tables) s b.offset)) begins;
+      paints = subst (QueuesPicture (says tables) [] None) begins queued;
+    } in (kept, subst (λ (t : D). IsOpened (says t) b new.session) (sym kept) opened)
+
+-- ---- no byte is read yet
+
+reads_all_at : (d : Data) (text : List ℕ) (height width : ℕ) (base : Base) (offset : Option ℕ) (unsaved : Bool)
+    → let s = changed_if unsaved (after_going_to d (at_opening d text height width base) offset) in (s.rest ≡ []) × (s.editor.ended ≡ false)
+reads_all_at d text height width base None true = (refl, refl)
+reads_all_at d text height width base None false = (refl, refl)
+reads_all_at d text height width base (Some offset) true = (refl, refl)
+reads_all_at d text height width base (Some offset) false = (refl, refl)
+
+pub reads_all : (d : Data) (b : Beginning) → ((at_offset d b).rest ≡ []) × ((at_offset d b).editor.ended ≡ false)
+reads_all d b = reads_all_at d b.text b.height b.width b.base b.offset b.unsaved
+
+-- ---- what is recovered
+
+pub recovers_of : {E : Type 0} (b : Beginning) (files : UnicodeFiles) (file : List ℕ) (d : Data) (s : Session) (r : Result Replayed E)
+    (store store' : StoreState) → AreOfFiles d files → IsOpened d b s
+    → IfOk r (λ x. RecoversFrom d s b.journal file x store store') → IfOk r (λ x. Recovers b files file x store store')
+recovers_of b files file d s (Err fault) store store' are opened recovers = tt
+recovers_of b files file d s (Ok x) store store' are opened recovers =
+    let from : RecoversFrom d (at_offset d b) b.journal file x store store' =
+    subst (λ (t : Session). RecoversFrom d t b.journal file x store store') opened.session recovers in
+    let reads = reads_all d b in record {
+      tables = d;
+      answers = are;
+      stored = from.stored;
+      holds = from.holds;
+      keys = from.keys reads.1 ∙ ap (λ rest. length (keys_from rest b.journal)) reads.0;
+    }
+
+-- ---- a foreign file
+
+tells_at : (d : Data) (b : Beginning) (file : List ℕ) (held : Held) (foreign : Bool) → HoldsBeside d (at_offset d b) b.journal file held
+    → (IsTrue foreign ↔ (held ≡ Foreign)) → IsTrue foreign ↔ IsForeign d b file
+tells_at d b file Same foreign holds is = (λ f. absurd (let e : Same ≡ Foreign = is.0 f in cc e), λ h. absurd (h.0 holds))
+tells_at d b file Known foreign holds is = (λ f. absurd (let e : Known ≡ Foreign = is.0 f in cc e), λ h. absurd (h.1 holds.1))
+tells_at d b file Foreign foreign holds is = (λ f. holds, λ h. is.1 refl)
+
+pub tells_foreign : (b : Beginning) (files : UnicodeFiles) (file : List ℕ) (d : Data) (s : Session) (held : Held) (foreign : Bool)
+    → AreOfFiles d files → IsOpened d b s → HoldsBeside d s b.journal file held → (IsTrue foreign ↔ (held ≡ Foreign))
+    → TellsForeign b files file foreign
+tells_foreign b files file d s held foreign are opened holds is = record {
+  tables = d;
+  answers = are;
+  tells = tells_at d b file held foreign (subst (λ (t : Session). HoldsBeside d t b.journal file held) opened.session holds) is;
+}

@@ -1,0 +1,113 @@
+-- Replay of a journal's keys in order, and what it meets.
+use Rattle.std.proofs.Common.{◌≡◌, ◌≢◌, ◌≤◌, ◌+◌, ℕ, Bool, true, false, List, [], ◌∷◌, ◌++◌, take, length, Option, Some, None, Contains, ◌⊎◌, ⊎_elim, inl, inr, ◌↔◌, IsTrue, IsFalse, refl, sym, ap, subst, ◌∙◌, add_assoc, if◌then◌else◌, arith}
+use Rattle.std.specs.Prelude.{option_to_list}
+use Rattle.std.proofs.Math.Seq.{length-++}
+use Rattle.bx_keys.specs.declared.key.Key.{Key}
+use Rattle.bx_keys.specs.Keys.{key_after, keys_from, rest_after}
+use Rattle.bx_keys.specs.Waiting.{head_of}
+use Rattle.bx_ucd.specs.Data.{Data}
+use Rattle.bx_session.specs.Session.{Session, SessionState, after_journal, after_replay, after_replaying, key_of_byte}
+use Rattle.bx_session.specs.Saving.{is_save_byte}
+use Rattle.bx_session.proofs.Replayed.{applies, replayed_more}
+use Rattle.bx_recovery.specs.declared.replaying.Held.{Held}
+use Rattle.bx_recovery.specs.declared.replaying.Held.TheVariants.{Same, Known, Foreign}
+use Rattle.bx_recovery.specs.Recovery.{HoldsBeside, known_texts, replayed_text, texts_at_saves, with_text_if}
+use Rattle.bx_recovery.proofs.Texts.{no_text_is_there, first_or_later, first_is_there, later_is_there, saved_or_later, saved_is_there, passed_is_there}
+
+-- one byte more
+one_more : (d : Data) (old now new : Session) (keys : List ℕ) (i b : ℕ) → now ≡ after_replaying d old (take i keys)
+    → take (i + 1) keys ≡ take i keys ++ b ∷ [] → new ≡ after_replay d now b → new ≡ after_replaying d old (take (i + 1) keys)
+one_more d old now new keys i b was more is =
+    is
+    ∙ ap (λ (s : Session). after_replay d s b) was
+    ∙ sym (replayed_more d old (take i keys) b)
+    ∙ ap (after_replaying d old) (sym more)
+
+-- the tables stay the same
+pub replayed_one : {D : Type 0} (says : D → Data) (tables : D) (mid new : SessionState D) (old : Session) (keys : List ℕ) (i b : ℕ)
+    → (mid.session ≡ after_replaying (says tables) old (take i keys)) × (mid.tables ≡ tables) → take (i + 1) keys ≡ take i keys ++ b ∷ []
+    → new ≡ record mid { session = after_replay (says mid.tables) mid.session b }
+    → (new.session ≡ after_replaying (says tables) old (take (i + 1) keys)) × (new.tables ≡ tables)
+replayed_one {D} says tables mid new old keys i b was more is = (
+  one_more (says tables) old mid.session new.session keys i b was.0 more
+      (ap (λ (x : SessionState D). x.session) is ∙ ap (λ (t : D). after_replay (says t) mid.session b) was.1),
+  ap (λ (x : SessionState D). x.tables) is ∙ was.1,
+)
+
+-- ---- what a replay meets
+
+-- the bytes `rest` are left of the journal; `known` tells whether the file was met, and `count` counts the keys
+pub record HasMet (d : Data) (old now : Session) (keys rest file : List ℕ) (known : Bool) (count : ℕ) : Type 0 where
+  pub known : (IsTrue known ⊎ Contains (texts_at_saves d now rest) file) ↔ Contains (known_texts d old keys) file
+  pub keys : old.editor.ended ≡ false → (now.editor.ended ≡ false) × (count + length (keys_from now.rest rest) ≡ length (keys_from old.rest keys))
+
+pub met_at_first : (d : Data) (s : Session) (keys file : List ℕ) (known : Bool) → (IsTrue known ↔ (s.editor.content.text ≡ file))
+    → HasMet d s s keys keys file known 0
+met_at_first d s keys file known is = record {
+  known = (
+    ⊎_elim (λ e. first_is_there s.editor.content.text file (texts_at_saves d s keys) (is.0 e)) (later_is_there s.editor.content.text file (texts_at_saves d s keys)),
+    λ c. ⊎_elim (λ e. inl (is.1 e)) inr (first_or_later s.editor.content.text file (texts_at_saves d s keys) c),
+  );
+  keys = λ h. (h, refl);
+}
+
+key_before_end : (s : Session) (b : ℕ) → s.editor.ended ≡ false → key_of_byte s b ≡ key_after s.rest b
+key_before_end s b h = ap (λ ended. if ended then None else key_after s.rest b) h
+
+pub met_more : (d : Data) (old now new : Session) (keys rest file : List ℕ) (b : ℕ) (known known' : Bool) (count count' : ℕ)
+    → HasMet d old now keys (b ∷ rest) file known count
+    → (IsTrue known' ↔ (IsTrue known ⊎ ((is_save_byte now b ≡ true) × (now.editor.content.text ≡ file))))
+    → count' ≡ count + length (option_to_list (key_of_byte now b)) → new ≡ after_replay d now b
+    → HasMet d old new keys rest file known' count'
+met_more d old now new keys rest file b known known' count count' was met counted is =
+    let save = is_save_byte now b in
+    let text = now.editor.content.text in
+    let later : List (List ℕ) = texts_at_saves d (after_replay d now b) rest in
+    let known_next : (IsTrue known' ⊎ Contains later file) ↔ Contains (known_texts d old keys) file = (
+      λ c. was.known.0 (⊎_elim
+          (λ e. ⊎_elim inl (λ here. inr (saved_is_there save text file later here.0 here.1)) (met.0 e))
+          (λ more. inr (passed_is_there save text file later more)) c),
+      λ c. ⊎_elim (λ e. inl (met.1 (inl e))) (λ more. ⊎_elim (λ here. inl (met.1 (inr here))) inr (saved_or_later save text file later more))
+          (was.known.1 c),
+    ) in
+    let keys_next : old.editor.ended ≡ false → ((after_replay d now b).editor.ended ≡ false)
+    × (count' + length (keys_from (after_replay d now b).rest rest) ≡ length (keys_from old.rest keys)) =
+    λ h.
+    let each = applies d now b (was.keys h).0 in
+    let next = head_of (rest_after now.rest b) in
+    let first = option_to_list (key_after now.rest b) in
+    let counts : count' ≡ count + length first =
+    counted ∙ ap (λ k. count + length (option_to_list k)) (key_before_end now b (was.keys h).0) in (
+      each.goes_on,
+      ap (λ r. count' + length (keys_from r rest)) each.rest_is
+          ∙ ap (λ n. n + length (keys_from next rest)) counts
+          ∙ add_assoc count (length first) (length (keys_from next rest))
+          ∙ ap (λ n. count + n) (sym (length-++ first (keys_from next rest)))
+          ∙ (was.keys h).1,
+    ) in
+    subst (λ (s : Session). HasMet d old s keys rest file known' count') (sym is) (record { known = known_next; keys = keys_next })
+
+pub one_key_at_most : (key : Option Key) → length (option_to_list key) ≤ 1
+one_key_at_most None = omega arith
+one_key_at_most (Some key) = omega arith
+
+-- ---- what the file holds
+
+differs : (d : Data) (s new : Session) (journal file : List ℕ) (same : Bool) → new ≡ after_journal d s journal
+    → (IsTrue same ↔ (new.editor.content.text ≡ file)) → IsFalse same → file ≢ replayed_text d s journal
+differs d s new journal file same is tells no_same =
+    λ e. absurd (let h : IsTrue same = tells.1 (ap (λ (x : Session). x.editor.content.text) is ∙ sym e) in cc (no_same, h))
+
+pub holds_beside : (d : Data) (s new : Session) (journal file : List ℕ) (same known : Bool) (held : Held) → new ≡ after_journal d s journal
+    → (IsTrue same ↔ (new.editor.content.text ≡ file)) → ((IsTrue known ⊎ Contains [] file) ↔ Contains (known_texts d s journal) file)
+    → (IsTrue same → held ≡ Same) → (IsFalse same → IsTrue known → held ≡ Known) → (IsFalse same → IsFalse known → held ≡ Foreign)
+    → HoldsBeside d s journal file held
+holds_beside d s new journal file true known held is tells knows if_same if_known if_foreign =
+    subst (HoldsBeside d s journal file) (sym (if_same refl)) (sym (tells.0 refl) ∙ ap (λ (x : Session). x.editor.content.text) is)
+holds_beside d s new journal file false true held is tells knows if_same if_known if_foreign =
+    subst (HoldsBeside d s journal file) (sym (if_known refl refl)) (differs d s new journal file false is tells refl, knows.0 (inl refl))
+holds_beside d s new journal file false false held is tells knows if_same if_known if_foreign =
+    subst (HoldsBeside d s journal file) (sym (if_foreign refl refl)) (
+      differs d s new journal file false is tells refl,
+      λ c. ⊎_elim (λ e. absurd (cc e)) no_text_is_there (knows.1 c),
+    )

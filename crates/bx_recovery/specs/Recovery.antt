@@ -1,0 +1,60 @@
+-- What an edited file holds beside the replay of a journal, and the text that is recovered.
+use Rattle.std.specs.Prelude.{◌≡◌, ◌≢◌, ◌↔◌, ℕ, Bool, true, false, IsTrue, List, [], ◌∷◌, Contains, length}
+use Rattle.bx_ucd.specs.Data.{Data}
+use Rattle.bx_keys.specs.Keys.{keys_from}
+use Rattle.bx_words.specs.declared.unicode.UnicodeFiles.{UnicodeFiles}
+use Rattle.bx_session.specs.Session.{Session, after_journal, after_replay}
+use Rattle.bx_session.specs.Saving.{StoreState, is_save_byte, with_text}
+use Rattle.bx_session.specs.Beginning.{Beginning, at_offset, unpainted_at}
+use Rattle.bx_recovery.specs.declared.replaying.Held.{Held}
+use Rattle.bx_recovery.specs.declared.replaying.Held.TheVariants.{Same, Known, Foreign}
+use Rattle.bx_recovery.specs.declared.replaying.Replayed.{Replayed}
+use Rattle.bx_recovery.specs.Beginnings.{AreOfFiles}
+
+abbrev pub with_text_if : Bool → List ℕ → List (List ℕ) → List (List ℕ)
+with_text_if true text texts = text ∷ texts
+with_text_if false text texts = texts
+
+-- the text at each Save of a journal, in order: each of them was stored, unless its save failed
+abbrev pub texts_at_saves : Data → Session → List ℕ → List (List ℕ)
+texts_at_saves d s [] = []
+texts_at_saves d s (b ∷ bytes) = with_text_if (is_save_byte s b) s.editor.content.text (texts_at_saves d (after_replay d s b) bytes)
+
+-- the texts that the session knows of its file: the text at the start of a journal, and the text at each Save
+abbrev pub known_texts : Data → Session → List ℕ → List (List ℕ)
+known_texts d s journal = s.editor.content.text ∷ texts_at_saves d s journal
+
+-- the text after a journal
+abbrev pub replayed_text : Data → Session → List ℕ → List ℕ
+replayed_text d s journal = (after_journal d s journal).editor.content.text
+
+-- what a file of these bytes holds beside a session that replays a journal
+abbrev pub HoldsBeside : Data → Session → List ℕ → List ℕ → Held → Type 0
+HoldsBeside d s journal file Same = file ≡ replayed_text d s journal
+HoldsBeside d s journal file Known = (file ≢ replayed_text d s journal) × Contains (known_texts d s journal) file
+HoldsBeside d s journal file Foreign = (file ≢ replayed_text d s journal) × ¬ Contains (known_texts d s journal) file
+
+-- a file of these bytes is neither the text after the journal nor one that the session knows
+abbrev pub IsForeign : Data → Beginning → List ℕ → Type 0
+IsForeign d b file = HoldsBeside d (at_offset d b) b.journal file Foreign
+
+-- the file is told to be foreign exactly if it is, by the tables of these files
+pub record TellsForeign (b : Beginning) (files : UnicodeFiles) (file : List ℕ) (foreign : Bool) : Type 0 where
+  pub tables : Data
+  pub answers : AreOfFiles tables files
+  pub tells : IsTrue foreign ↔ IsForeign tables b file
+
+-- The session's text after a journal was stored. `replayed` tells what a file of these bytes holds, and the number of keys in
+-- the journal.
+pub record RecoversFrom (d : Data) (s : Session) (journal file : List ℕ) (replayed : Replayed) (store store' : StoreState) : Type 0 where
+  pub stored : store' ≡ with_text (replayed_text d s journal) store
+  pub holds : HoldsBeside d s journal file replayed.held
+  pub keys : s.editor.ended ≡ false → replayed.keys ≡ length (keys_from s.rest journal)
+
+-- the text recovered from this start and its journal was stored, by the tables of these files
+pub record Recovers (b : Beginning) (files : UnicodeFiles) (file : List ℕ) (replayed : Replayed) (store store' : StoreState) : Type 0 where
+  pub tables : Data
+  pub answers : AreOfFiles tables files
+  pub stored : store' ≡ with_text (unpainted_at tables b).editor.content.text store
+  pub holds : HoldsBeside tables (at_offset tables b) b.journal file replayed.held
+  pub keys : replayed.keys ≡ length (keys_from [] b.journal)

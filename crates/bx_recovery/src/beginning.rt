@@ -1,0 +1,32 @@
+//! Everything that a session starts from.
+
+ghost use Rattle.std.specs.Prelude.{◌≡◌, true};
+ghost use Rattle.bx_terms.specs.Sizes.{is_side};
+
+use bx_terms::Base;
+use bx_words::UnicodeFiles;
+use std::alloc::Global;
+
+/// Everything that a session starts from.
+#[derive(Drop)]
+pub struct Beginning<'a> {
+    /// The allocator of the session.
+    pub alloc: Global,
+    /// Unicode's files.
+    pub unicode: UnicodeFiles<'a>,
+    /// The text's bytes; none if the file does not exist, which is an empty text.
+    pub text: Option<Vec<u8>>,
+    /// The window's rows and columns.
+    pub rows: u16,
+    pub cols: u16,
+    /// The base direction of the paragraphs at first.
+    pub direction: Base,
+    /// The cursor's line, from 1.
+    pub line: Option<u64>,
+    /// Whether the text counts as changed from the start.
+    pub unsaved: bool,
+    /// The bytes of the journal to replay.
+    pub keys: &'a [u8],
+    pub ghost has_rows: { is_side rows ≡ true },
+    pub ghost has_cols: { is_side cols ≡ true },
+}

@@ -1,0 +1,30 @@
+//! Detection of a file that another program changed.
+
+ghost use Rattle.std.specs.Prelude.{◌≡◌, ◌↔◌, IfOk, IsTrue};
+ghost use Rattle.bx_recovery.specs.Beginnings.{beginning_of};
+ghost use Rattle.bx_recovery.specs.Recovery.{TellsForeign};
+
+use crate::beginning::Beginning;
+use crate::fault::RecoveryFault;
+use crate::opening::open;
+use crate::replaying::{Held, replay_beside};
+
+/// Whether it is another text that the file holds.
+fn is_other(held: Held) -> bool
+    ensures { IsTrue result ↔ (held ≡ Held.Foreign) }
+{
+    matches!(held, Held::Foreign)
+}
+
+/// Whether a file's bytes differ from the opened text, from the text after the keys, and from the text at each Save among them.
+///
+/// Errors, in this order: `Tables`; `Open`; `OutOfMemory`.
+pub fn is_foreign(beginning: Beginning<'_>, file: &[u8]) -> Result<bool, RecoveryFault>
+    ensures { IfOk result (λ foreign. TellsForeign (beginning_of beginning.entry) beginning.entry.unicode file.now foreign) }
+{
+    let keys = beginning.keys;
+    let mut session = open(beginning)?;
+    let replayed = replay_beside(&mut session, keys, file);
+    drop(session);
+    Ok(is_other(replayed?.held))
+}

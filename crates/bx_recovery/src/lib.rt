@@ -1,0 +1,16 @@
+//! Sessions from their files: a text opened again, the keys of its journal replayed, and what the edited file holds beside it.
+#![tactic(auto)]
+
+mod beginning;
+mod fault;
+mod foreign;
+mod opening;
+mod recover;
+mod replaying;
+
+pub use beginning::Beginning;
+pub use fault::RecoveryFault;
+pub use foreign::is_foreign;
+pub use opening::open;
+pub use recover::recover;
+pub use replaying::{Held, Replayed, replay, replay_beside};

@@ -1,0 +1,57 @@
+//! The opening of a session.
+
+ghost use Rattle.std.specs.Prelude.{◌≡◌, IfOk, OnOk};
+ghost use Rattle.bx_session.specs.Beginning.{after_going_to, changed_if};
+ghost use Rattle.bx_recovery.specs.Beginnings.{AreOfFiles, IsOpened, beginning_of};
+
+use crate::beginning::Beginning;
+use crate::fault::RecoveryFault;
+use bx_command::start_of_line;
+use bx_session::Session;
+use bx_ucd::{BidiData, Tables};
+
+/// Reads Unicode's files, and opens a text with the cursor at its line. It does not replay the keys.
+///
+/// Errors, in this order: `Tables`; `Open`; `OutOfMemory`.
+pub fn open(beginning: Beginning<'_>) -> Result<Session<Tables>, RecoveryFault>
+    ensures tables { IfOk result (λ s. AreOfFiles (⟦<Tables as BidiData>⟧.data s.tables) beginning.entry.unicode) }
+    ensures opens { IfOk result (λ s. IsOpened (⟦<Tables as BidiData>⟧.data s.tables) (beginning_of beginning.entry) s.session) }
+{
+    let alloc = beginning.alloc;
+    let (rows, cols, direction) = (beginning.rows, beginning.cols, beginning.direction);
+    let unsaved = beginning.unsaved;
+    let unicode = beginning.unicode;
+    let tables = Tables::read(
+        alloc,
+        unicode.classes,
+        unicode.brackets,
+        unicode.mirroring,
+        unicode.joining,
+    )?;
+    let text = beginning.text.unwrap_or(Vec::new(alloc));
+    let start = beginning
+        .line
+        .map(|line| start_of_line(text.as_slice(), line));
+    let mut session = Session::open(text, tables, rows, cols, direction)?;
+    prepare(&mut session, start, unsaved)?;
+    Ok(session)
+}
+
+/// Moves the cursor to an offset, if there is one, and counts an unsaved text as changed.
+fn prepare<D: BidiData + Drop>(
+    session: &mut Session<D>,
+    offset: Option<usize>,
+    unsaved: bool,
+) -> Result<(), RecoveryFault>
+    ensures { OnOk result (session.new ≡ record session.old {
+      session = changed_if unsaved (after_going_to (D.data session.old.tables) session.old.session offset);
+    }) }
+{
+    if let Some(offset) = offset {
+        session.go_to(offset)?;
+    }
+    if unsaved {
+        session.count_as_changed();
+    }
+    Ok(())
+}

@@ -1,0 +1,52 @@
+//! Recovery of a text from a journal, without a terminal.
+
+ghost use Rattle.std.specs.Prelude.{◌≡◌, IfOk, OnErr};
+ghost use Rattle.bx_session.specs.Saving.{store_state};
+ghost use Rattle.bx_recovery.specs.Beginnings.{beginning_of};
+ghost use Rattle.bx_recovery.specs.Recovery.{RecoversFrom, Recovers};
+
+use crate::beginning::Beginning;
+use crate::fault::RecoveryFault;
+use crate::opening::open;
+use crate::replaying::{Replayed, replay_beside};
+use bx_session::Session;
+use bx_store::Store;
+use bx_ucd::BidiData;
+
+/// Replays keys, comparing with the file's bytes, and stores the text.
+fn store_replayed<D: BidiData + Drop, S: Store>(
+    store: &mut S,
+    session: &mut Session<D>,
+    keys: &[u8],
+    file: &[u8],
+) -> Result<Replayed, RecoveryFault>
+    ensures recovers { IfOk result (λ r. RecoversFrom (D.data session.old.tables) session.old.session keys.now file.now r
+        (store_state S.contents S.failure_count store.old) (store_state S.contents S.failure_count store.new)) }
+    ensures stored { OnErr result (S.contents store.new ≡ S.contents store.old) }
+{
+    let replayed = replay_beside(session, keys, file)?;
+    match session.copy_to(store) {
+        Ok(()) => Ok(replayed),
+        Err(_) => Err(RecoveryFault::Unwritten),
+    }
+}
+
+/// Reads Unicode's files, opens a text, replays keys and stores the result. Returns what a file of these bytes holds beside
+/// it.
+///
+/// Errors, in this order: `Tables`; `Open`; `OutOfMemory`; `Unwritten` if the store fails. The store's content is unchanged.
+pub fn recover<S: Store>(
+    store: &mut S,
+    beginning: Beginning<'_>,
+    file: &[u8],
+) -> Result<Replayed, RecoveryFault>
+    ensures recovers { IfOk result (λ r. Recovers (beginning_of beginning.entry) beginning.entry.unicode file.now r
+        (store_state S.contents S.failure_count store.old) (store_state S.contents S.failure_count store.new)) }
+    ensures stored { OnErr result (S.contents store.new ≡ S.contents store.old) }
+{
+    let keys = beginning.keys;
+    let mut session = open(beginning)?;
+    let replayed = store_replayed(store, &mut session, keys, file);
+    drop(session);
+    replayed
+}

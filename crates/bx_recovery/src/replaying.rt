@@ -1,0 +1,142 @@
+//! Replay of a journal's keys, and what the edited file holds beside it.
+
+ghost use Rattle.std.specs.Prelude.{◌≡◌, ◌<◌, ◌+◌, ◌-◌, ◌⊎◌, ◌↔◌, ◌^◌, IfOk, OnErr, OnOk, IsTrue, IsFalse, true, false, length};
+ghost use Rattle.std.specs.Prelude.{option_to_list};
+ghost use Rattle.bx_keys.specs.Keys.{keys_from};
+ghost use Rattle.bx_editor.specs.Keys as keys;
+ghost use Rattle.bx_session.specs.Laws.{after_journal};
+ghost use Rattle.bx_session.specs.Saving.{is_save_byte};
+ghost use Rattle.bx_session.specs.Session.{key_of_byte};
+ghost use Rattle.bx_recovery.specs.Recovery.{HoldsBeside};
+
+use crate::fault::RecoveryFault;
+use bx_keys::Key;
+use bx_session::Session;
+use bx_ucd::BidiData;
+use std::fmt;
+
+/// A file's content, compared with a session replayed over an earlier content of it.
+#[derive(Clone, Copy, PartialEq, Eq, Debug)]
+pub enum Held {
+    /// The replayed text.
+    Same,
+    /// The opened text, or the text at a Save in the journal.
+    Known,
+    /// Another text.
+    Foreign,
+}
+
+/// The result of a replay: the file's content, and the number of keys in the journal.
+#[derive(Clone, Copy, PartialEq, Eq, Debug)]
+pub struct Replayed {
+    pub held: Held,
+    pub keys: u64,
+}
+
+impl fmt::Display for Replayed {
+    fn fmt<W: fmt::Write>(&self, f: &mut fmt::Formatter<W>) -> fmt::Result {
+        let keys = self.keys;
+        match self.held {
+            Held::Same => write!(f, "same {keys}"),
+            Held::Known => write!(f, "known {keys}"),
+            Held::Foreign => write!(f, "foreign {keys}"),
+        }
+    }
+}
+
+/// Replays keys without painting.
+///
+/// Errors: `OutOfMemory`; the keys before the refused one are applied.
+pub fn replay<D: BidiData + Drop>(
+    session: &mut Session<D>,
+    keys: &[u8],
+) -> Result<(), RecoveryFault>
+    ensures tables { session.new.tables ≡ session.old.tables }
+    ensures replays { OnOk result (session.new.session
+        ≡ after_journal (D.data session.old.tables) session.old.session keys.now) }
+    ensures err { OnErr result (result ≡ Err RecoveryFault.OutOfMemory) }
+{
+    for byte in keys {
+        session.replay(*byte)?;
+    }
+    session.end_replay();
+    Ok(())
+}
+
+/// What a replay has met.
+#[derive(Clone, Copy)]
+struct Met {
+    /// Whether the file is the text at the start or at a Save.
+    is_known: bool,
+    /// Number of keys.
+    keys: u64,
+}
+
+/// Whether a key is Save.
+fn is_save(key: Key) -> bool
+    ensures { result ≡ keys.is_save key }
+{
+    matches!(key, Key::Save)
+}
+
+/// What a replay has met once it takes the next byte.
+fn met_with<D: BidiData + Drop>(met: Met, session: &Session<D>, byte: u8, file: &[u8]) -> Met
+    requires { met.keys < 2 ^ 64 - 1 }
+    ensures known { IsTrue result.is_known ↔ (IsTrue met.is_known
+        ⊎ ((is_save_byte session.now.session byte ≡ true) × (session.now.session.editor.content.text ≡ file.now))) }
+    ensures keys { result.keys ≡ met.keys + length (option_to_list (key_of_byte session.now.session byte)) }
+{
+    let Some(key) = session.key_of(byte) else {
+        return met;
+    };
+    Met {
+        is_known: met.is_known || (is_save(key) && session.has_text(file)),
+        keys: met.keys + 1,
+    }
+}
+
+/// What a file holds, by whether it is the replayed text, and whether it is a text that the session knows.
+fn held_by(is_same: bool, is_known: bool) -> Held
+    ensures same { IsTrue is_same → result ≡ Held.Same }
+    ensures known { IsFalse is_same → IsTrue is_known → result ≡ Held.Known }
+    ensures foreign { IsFalse is_same → IsFalse is_known → result ≡ Held.Foreign }
+{
+    if is_same {
+        Held::Same
+    } else if is_known {
+        Held::Known
+    } else {
+        Held::Foreign
+    }
+}
+
+/// Replays keys over a text, and compares a file's bytes with the text at the start, at each Save and at the end.
+///
+/// Errors: `OutOfMemory`, as in [`replay`].
+pub fn replay_beside<D: BidiData + Drop>(
+    session: &mut Session<D>,
+    keys: &[u8],
+    file: &[u8],
+) -> Result<Replayed, RecoveryFault>
+    ensures tables { session.new.tables ≡ session.old.tables }
+    ensures replays { OnOk result (session.new.session
+        ≡ after_journal (D.data session.old.tables) session.old.session keys.now) }
+    ensures holds { IfOk result (λ r. HoldsBeside (D.data session.old.tables) session.old.session keys.now file.now r.held) }
+    ensures keys { session.old.session.editor.ended ≡ false
+        → IfOk result (λ r. r.keys ≡ length (keys_from session.old.session.rest keys.now)) }
+    ensures err { OnErr result (result ≡ Err RecoveryFault.OutOfMemory) }
+{
+    let mut met = Met {
+        is_known: session.has_text(file),
+        keys: 0,
+    };
+    for byte in keys {
+        met = met_with(met, session, *byte, file);
+        session.replay(*byte)?;
+    }
+    session.end_replay();
+    Ok(Replayed {
+        held: held_by(session.has_text(file), met.is_known),
+        keys: met.keys,
+    })
+}

@@ -1,0 +1,28 @@
+/* Command lines of programs. */
+#ifndef COMMAND_H
+#define COMMAND_H
+
+#include <stdbool.h>
+#include <stddef.h>
+
+#include "terminal.h"
+
+enum { MOST_COMMAND = 250 };
+
+/* A command line, word by word, with a NULL at its end. */
+struct command {
+    char *words[MOST_COMMAND + 1];
+    size_t count;
+};
+
+/* Puts a word behind a command line. Returns false where there is no room. */
+bool add_word(struct command *command, const char *word);
+
+/* Makes the program's command line: the host's words, then those of the keeper, which may have a size already, as the session
+ * began. Returns false where there is no room. */
+bool make_command(struct command *command, const struct command *keepers, const char *editor, struct size first);
+
+/* Whether the program begins in another window than the present one, or a replay may end in another. */
+bool is_other_window(const struct command *command);
+
+#endif

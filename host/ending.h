@@ -1,0 +1,16 @@
+/* The end: the terminal as it was. Host and watcher do this. */
+#ifndef ENDING_H
+#define ENDING_H
+
+#include <stdint.h>
+
+#include "kinds.h"
+
+/* The kind of the terminal, and what has it reorder again; set before the terminal changes. */
+extern enum kind terminal_kind;
+extern struct reordering terminal_reordering;
+
+/* Restores the screen within this time, as far as the terminal takes it. */
+void restore_screen(int64_t limit);
+
+#endif

@@ -1,0 +1,24 @@
+/* What the terminal is told at the start, after a stop and at the end. */
+#ifndef SEQUENCES_H
+#define SEQUENCES_H
+
+#include <stdbool.h>
+
+#include "kinds.h"
+
+enum { MOST_SEQUENCES = 8192 };
+
+/* `saving` changes nothing that is seen; the program writes `before` in front of its first painting. */
+struct sequences {
+    char saving[MOST_SEQUENCES], before[MOST_SEQUENCES], again[MOST_SEQUENCES], ending[MOST_SEQUENCES];
+};
+
+extern struct sequences sequences;
+
+/* Makes them, with this title where the terminal keeps its own, and for pastes where there is a filter. */
+void make_sequences(enum kind kind, struct reordering reordering, const char *title, bool has_filter);
+
+/* Shows a title where the terminal can give its own back. */
+void show_title(const char *title);
+
+#endif

@@ -1,0 +1,336 @@
+"""Single cases of the host. Each function takes the installation and gives pairs of a name and what is wrong, empty if nothing."""
+import os, signal, subprocess, termios, time
+from ends import TAIL, restored
+from terminals import Run
+
+QUIT = b'\x11'
+
+
+def same(name, found, wanted):
+    return name, '' if found == wanted else f'{found!r}, and not {wanted!r}'
+
+
+def holds(name, is_so, detail=''):
+    return name, '' if is_so else f'does not hold {detail}'
+
+
+def start(tree, *words, **variables):
+    return Run(tree.words(*words), HOME=f'{tree.top}/home', **variables)
+
+
+def finish(run, name, status, seconds=6):
+    """Waits for the end, and gives what holds after each."""
+    run.pump(seconds)
+    run.drain()
+    yield same(f'{name}: status', run.status, status)
+    yield holds(f'{name}: settings', run.is_restored())
+    yield same(f'{name}: screen', restored(run.output), [])
+    yield same(f'{name}: processes', run.left(3), {})
+    run.close()
+
+
+def edits(tree):
+    """A session with keys and a size, and what the keeper hears of it."""
+    tree.start_log()
+    run = start(tree, 'edit', 'plain', tree.file('edits'))
+    yield holds('edits: painted', run.pump(5, b'hello <>'))
+    yield holds('edits: raw', not termios.tcgetattr(run.slave)[3] & (termios.ICANON | termios.ECHO | termios.ISIG))
+    run.type(b'abc')
+    yield holds('edits: keys', run.pump(5, b'<abc>'))
+    run.resize(30, 90)
+    yield holds('edits: size', run.pump(5, b'- 30 x 90'))
+    yield holds('edits: title', b'\x1b]2;edits - ^S save ^Q quit\x07' in run.output)
+    run.rest(2.2)
+    run.type(QUIT)
+    yield from finish(run, 'edits', 0)
+    heard = tree.heard()
+    yield holds('edits: seconds', 1 <= heard.count(b's') <= 3, heard)
+    yield holds('edits: the word of the opened file', b'io 1 2 3 4 5' in heard)
+    yield same('edits: the end', heard[-1], b'z0')
+    yield holds('edits: the start', heard[:3] == [b'wedit', b'wplain', b'w' + tree.file('edits').encode()], heard)
+    for message in (b'u%d' % os.geteuid(), b'tyes', b'c80', b'C24 80', b'ktoolchain 1.2', b'.', b'd' + f'{tree.top}/share/bidi_edit'.encode(),
+                    b'vHOME=' + f'{tree.top}/home'.encode()):
+        yield holds(f'edits: hears {message!r}', message in heard, heard)
+
+
+def sizes(tree):
+    for rows, columns, shown in ((0, 0, b'24 x 80'), (600, 700, b'500 x 500'), (1, 1, b'1 x 1')):
+        run = Run(tree.words('edit', 'plain', tree.file('sizes')), rows, columns, HOME=f'{tree.top}/home')
+        yield holds(f'sizes: {rows} {columns}', run.pump(5, b'- ' + shown), run.output)
+        run.type(QUIT)
+        yield from finish(run, f'sizes: {rows} {columns}', 0)
+    run = start(tree, 'edit', 'sized', tree.file('sizes'))
+    yield holds('sizes: the keeper gives one', run.pump(5, b'- 10 x 40') and run.pump(5, b'- 24 x 80'), run.output)
+    run.type(QUIT)
+    yield from finish(run, 'sizes: the keeper gives one', 0)
+    run = start(tree, 'edit', 'resumed', tree.file('sizes'))
+    run.pump(5, b'hello')
+    run.rest(0.5)
+    yield holds('sizes: told behind a replay', run.output.count(b'- 24 x 80') == 2, run.output)
+    run.type(QUIT)
+    yield from finish(run, 'sizes: told behind a replay', 0)
+
+
+def resizes(tree):
+    """300 sizes inside typing lose no letter, and the last one is shown."""
+    run = start(tree, 'edit', 'plain', tree.file('resizes'))
+    run.pump(5, b'hello')
+    for number in range(300):
+        run.resize(10 + number % 40, 40 + number % 100)
+        run.type(b'abc')
+        run.rest(0.002)
+    run.resize(33, 77)
+    yield holds('resizes: no letter lost', run.pump(10, b'> 900'))
+    run.rest(0.3)
+    seen = len(run.output)
+    run.type(b'x')
+    run.rest(0.5)
+    yield holds('resizes: the last size', b'- 33 x 77' in run.output[seen:], run.output[seen:])
+    run.type(QUIT)
+    yield from finish(run, 'resizes', 0)
+
+
+def standard_files(tree):
+    plain = f"'{tree.host}' edit plain '{tree.file('files')}'"
+    for how in ('<&- >&- 2>&-', '</dev/null >/dev/null', '2>&-', '<&-', '| cat', '>/dev/full 2>/dev/full'):
+        run = Run(['sh', '-c', f'{plain} {how}'], HOME=f'{tree.top}/home')
+        yield holds(f'files {how}: screen', run.pump(5, b'hello'))
+        run.type(QUIT)
+        yield from finish(run, f'files {how}', 0)
+
+
+def questions(tree):
+    question = b'recover it, discard it, or leave it as it is? '
+    run = start(tree, 'ask')
+    yield holds('questions: asked', run.pump(5, question))
+    run.type(b'leave\n')
+    run.pump(5)
+    yield holds('questions: answered', b'answer: aleave\r\n' in run.output, run.output)
+    yield from finish(run, 'questions: answered', 0)
+    run = start(tree, 'ask')
+    run.pump(5, question)
+    run.type(b'\x04')
+    run.pump(5)
+    yield holds('questions: input ended', b'answer: A\r\n' in run.output, run.output)
+    yield from finish(run, 'questions: input ended', 0)
+    run = start(tree, 'ask')
+    run.pump(5, question)
+    run.type(b'\x03')
+    yield from finish(run, 'questions: Ctrl-C', signal.SIGINT)
+    run = start(tree, 'ask', tree.file('asked'))
+    run.pump(5, question)
+    run.type(b'yes\n')
+    yield holds('questions: then the screen', run.pump(5, b'hello'))
+    run.type(QUIT)
+    yield from finish(run, 'questions: then the screen', 0)
+
+
+def refusals(tree):
+    run = start(tree, 'refuse')
+    run.pump(5)
+    yield same('refusals: text', run.output, b'bidi-edit: it is refused\r\n')
+    yield from finish(run, 'refusals', 2 << 8)
+    tree.start_log()
+    run = start(tree, 'edit', 'plain', tree.file('refused'))
+    run.pump(5)
+    yield holds('refusals: by the program, no screen', b'1049h' not in run.output and b'hello' not in run.output, run.output)
+    yield from finish(run, 'refusals: by the program', 1 << 8)
+    yield holds('refusals: by the program, heard', b'if not-utf8 3' in tree.heard() and tree.heard()[-1] == b'z1', tree.heard())
+
+
+def statuses(tree):
+    for status in (0, 1, 7, 255):
+        yield from finish(start(tree, 'status', str(status)), f'statuses: {status}', status << 8)
+    for status in ('256', '-1', 'x', ''):
+        run = start(tree, 'status', status)
+        run.pump(5)
+        yield holds(f'statuses: {status!r} is none', b'was not understood' in run.output, run.output)
+        yield from finish(run, f'statuses: {status!r}', 1 << 8)
+    run = start(tree, 'edit', 'plain', tree.file('broken'))
+    yield from finish(run, 'statuses: a fault of the program', (128 + signal.SIGSEGV) << 8)
+    tree.start_log()
+    run = start(tree, 'edit', 'plain', tree.file('said'))
+    run.pump(5)
+    run.drain()
+    yield holds('statuses: what is no word is told', b'an odd ? line\r\n' in run.output.rpartition(TAIL)[2], run.output)
+    yield from finish(run, 'statuses: what is no word', 1 << 8)
+
+
+def printing(tree):
+    told = subprocess.run([tree.host, 'print', 'a b', '--cols', '40'], stdout=subprocess.PIPE, stdin=subprocess.DEVNULL)
+    yield same('printing: words', (told.returncode, told.stdout), (0, b'printed <a b> <--cols> <40>\n'))
+    with subprocess.Popen([tree.host, 'long'], stdout=subprocess.PIPE, start_new_session=True) as told:
+        time.sleep(0.5)
+        output = told.stdout.read()
+    yield same('printing: a long text into a pipe', (told.returncode, len(output)), (0, 300001))
+    with subprocess.Popen([tree.host, 'long'], stdout=subprocess.PIPE, start_new_session=True) as told:
+        told.stdout.close()
+        told.wait(5)
+    yield same('printing: a pipe that nobody reads', told.returncode, 0)
+    with subprocess.Popen([tree.host, 'long'], stdout=subprocess.PIPE, start_new_session=True) as told:
+        time.sleep(0.3)
+        told.send_signal(signal.SIGTERM)
+        status = told.wait(5)
+    yield same('printing: TERM at a pipe that is full', status, -signal.SIGTERM)
+
+
+def without_terminal(tree):
+    tree.start_log()
+    told = subprocess.run([tree.host, 'status', '3'], stdin=subprocess.DEVNULL, stdout=subprocess.PIPE, start_new_session=True)
+    yield same('without a terminal: status', told.returncode, 3)
+    yield holds('without a terminal: heard', b'tno' in tree.heard() and b'c0' in tree.heard(), tree.heard())
+    told = subprocess.run([tree.host, 'ask'], input=b'so', stdout=subprocess.PIPE, start_new_session=True)
+    yield holds('without a terminal: asks by standard input', told.stdout.endswith(b' \nanswer: aso\n'), told.stdout)
+    tree.start_log()
+    run = start(tree, 'status', '2', TERM='dumb')
+    yield from finish(run, 'dumb', 2 << 8)
+    yield holds('dumb: heard', b'tdumb' in tree.heard(), tree.heard())
+    tree.start_log()
+    run = Run(['sh', '-c', f"cd '{tree.top}/bin' && PATH=.:$PATH bidi-edit status 4"])
+    yield from finish(run, 'found by PATH', 4 << 8)
+    os.symlink(tree.host, tree.file('link'))
+    yield from finish(Run([tree.file('link'), 'status', '5']), 'found through a link', 5 << 8)
+
+
+def keepers(tree):
+    """Keepers that die, say nonsense, or do not answer."""
+    for what, text in (('dies', b'was ended by the signal 11: the editor is not started'), ('errs', b'was not understood: the editor is not started')):
+        run = start(tree, what)
+        run.pump(6)
+        yield holds(f'keepers: {what} before the screen', text in run.output, run.output)
+        yield from finish(run, f'keepers: {what} before the screen', 1 << 8)
+    for what, text in (('dies', b'was ended by the signal 9'), ('errs', b'was not understood')):
+        run = start(tree, 'edit', what, tree.file('kept'))
+        run.pump(5, b'hello')
+        run.type(b'abc')
+        run.pump(6)
+        run.drain()
+        yield holds(f'keepers: {what} in a session', text in run.output.rpartition(TAIL)[2], run.output)
+        yield from finish(run, f'keepers: {what} in a session', 1 << 8)
+    run = start(tree, 'edit', 'slow', tree.file('kept'))
+    run.pump(5, b'hello')
+    run.rest(1.5)
+    run.type(b'abc')
+    yield holds('keepers: slow, keys go on', run.pump(1, b'<abc>'))
+    run.type(QUIT)
+    yield from finish(run, 'keepers: slow', 0)
+    run = start(tree, 'edit', 'mute', tree.file('kept'))
+    run.pump(5, b'hello')
+    before = time.perf_counter()
+    os.kill(run.job, signal.SIGTERM)
+    yield holds('keepers: mute, ended by a signal', run.pump(5) and time.perf_counter() - before < 5)
+    yield from finish(run, 'keepers: mute', signal.SIGTERM)
+    for number, status in ((signal.SIGTERM, signal.SIGTERM), (signal.SIGKILL, signal.SIGKILL)):
+        run = start(tree, 'edit', 'stuck', tree.file('kept'))
+        run.pump(5, b'hello')
+        before = time.perf_counter()
+        os.kill(run.job, number)
+        run.pump(5)
+        yield same(f'keepers: stuck, {number.name}: processes', run.left(before + 5 - time.perf_counter()), {})
+        yield from finish(run, f'keepers: stuck, {number.name}', status)
+    run = start(tree, 'hangs')
+    run.rest(0.5)
+    run.type(b'\x03')
+    yield from finish(run, 'keepers: hangs before the screen', signal.SIGINT)
+
+
+def told_words(tree):
+    """Titles, bells and words while the program runs."""
+    tree.start_log()
+    run = start(tree, 'edit', 'titles', tree.file('chatty'))
+    run.pump(5, b'hello')
+    run.type(b'ab')
+    yield holds('told: a title and a bell', run.pump(5, b'\x1b]2;title 1\x07\x07'), run.output)
+    run.type(QUIT)
+    yield from finish(run, 'told', 0)
+    yield same('told: words', tree.heard().count(b'ij lost'), 2)
+    run = start(tree, 'edit', 'told', tree.file('told'))
+    run.pump(5, b'hello')
+    seen = len(run.output)
+    run.rest(1.5)
+    yield holds('told: the size where the journal is to be tried', b'hello' in run.output[seen:])
+    run.type(QUIT)
+    yield from finish(run, 'told: the size', 0)
+
+
+def facts_meanwhile(tree):
+    """Facts that are asked for while the program runs, and at the end."""
+    tree.start_log()
+    run = start(tree, 'edit', 'curious', tree.file('curious'))
+    run.pump(5, b'hello')
+    run.rest(1.5)
+    run.type(b'abc')
+    yield holds('facts meanwhile: keys', run.pump(5, b'<abc>'))
+    run.type(QUIT)
+    yield from finish(run, 'facts meanwhile', 0)
+    told = [line for line in tree.heard() if line.count(b'|') == 3]
+    yield same('facts meanwhile: told', [line.split(b'|')[3] for line in told[:1] + told[-1:]],
+               [b'r' + os.path.realpath(tree.file(name)).encode() for name in ('', 'curious')])
+
+
+def late_signals(tree):
+    """A signal while the session's end takes long ends the wait."""
+    run = start(tree, 'edit', 'mute', tree.file('late'))
+    run.pump(5, b'hello')
+    run.type(QUIT)
+    yield holds('late signals: the end waits', not run.pump(1) and run.is_restored())
+    before = time.perf_counter()
+    os.kill(run.job, signal.SIGTERM)
+    yield holds('late signals: soon over', run.pump(6) and time.perf_counter() - before < 5)
+    run.drain()
+    yield holds('late signals: told', b'could not be ended in time: bidi-edit --recover lists' in run.output, run.output)
+    yield from finish(run, 'late signals', signal.SIGTERM)
+
+
+def deaf_programs(tree):
+    for name in ('deaf', 'flood'):
+        run = start(tree, 'edit', 'plain', tree.file(name))
+        run.pump(5, b'1049h')
+        before = time.perf_counter()
+        os.kill(run.job, signal.SIGTERM)
+        run.pump(6)
+        yield holds(f'{name}: killed after 3 s', 2.9 < time.perf_counter() - before < 5)
+        yield from finish(run, name, signal.SIGTERM)
+    run = Run(['sh', '-c', f"trap '' HUP; exec '{tree.host}' edit plain '{tree.file('ignored')}'"])
+    run.pump(5, b'hello')
+    os.kill(run.job, signal.SIGHUP)
+    run.type(b'abc')
+    yield holds('a signal that the caller ignores', run.pump(5, b'<abc>'))
+    run.type(QUIT)
+    yield from finish(run, 'a signal that the caller ignores', 0)
+
+
+def limits(tree):
+    """A limit of a file's size ends nothing."""
+    run = Run(['sh', '-c', f"ulimit -f 0; exec '{tree.host}' edit plain '{tree.file('limited')}'"], HOME=f'{tree.top}/home')
+    run.pump(5, b'hello')
+    run.type(b'abc')
+    yield holds('limits: a write beyond the limit fails', run.pump(5, b'<abc>'))
+    run.type(QUIT)
+    yield from finish(run, 'limits', 0)
+
+
+def missing_programs(tree):
+    lib = f'{tree.top}/lib/bidi_edit'
+    for name, status, text in (('bidi_keep', 1, b'cannot be started'), ('bidi_edit', 127, b'bidi_edit cannot be started: No such file')):
+        os.rename(f'{lib}/{name}', f'{lib}/{name}.away')
+        run = start(tree, 'edit', 'plain', tree.file('missing'))
+        run.pump(6)
+        run.drain()
+        yield holds(f'no {name}: told', text in run.output, run.output)
+        yield from finish(run, f'no {name}', status << 8)
+        os.rename(f'{lib}/{name}.away', f'{lib}/{name}')
+    if tree.has_filter:
+        os.rename(f'{lib}/bidi_input', f'{lib}/bidi_input.away')
+    run = start(tree, 'edit', 'plain', tree.file('missing'))
+    run.pump(5, b'hello')
+    run.type(b'abc')
+    yield holds('no filter: keys', run.pump(5, b'<abc>') and b'2004h' not in run.output)
+    run.type(QUIT)
+    yield from finish(run, 'no filter', 0)
+    if tree.has_filter:
+        os.rename(f'{lib}/bidi_input.away', f'{lib}/bidi_input')
+
+
+ALL = [edits, sizes, resizes, standard_files, questions, refusals, statuses, printing, without_terminal, keepers, told_words, facts_meanwhile, late_signals, deaf_programs, limits,
+       missing_programs]

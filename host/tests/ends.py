@@ -1,0 +1,193 @@
+"""Ends at random moments. After each no process is left within five seconds, the terminal's settings are back, and where it takes
+output the alternate screen, pastes, reordering and the modes of Alt and of arrows are as before, with nothing behind that."""
+import os, random, re, signal, termios, time
+from terminals import Run
+
+TAIL = b'\x1b[23;0t\x1b[?1049l'
+LIMIT = 5
+
+# What ends the host, each by its signal. The last ones are left to the watcher.
+SIGNALS = {name: getattr(signal, 'SIG' + name.upper()) for name in (
+    'hup', 'int', 'quit', 'usr1', 'usr2', 'alrm', 'pipe', 'xcpu', 'xfsz', 'vtalrm', 'prof', 'io', 'pwr', 'abrt', 'sys')}
+KINDS = ['term', 'term-job', 'kill', 'kill-job', 'kill-program', 'kill-keeper', 'kill-filter', 'kill-watcher', 'stop', 'closed', 'blocked', *SIGNALS]
+
+
+def restored(output):
+    """What is wrong with the terminal after this output."""
+    wrong = []
+    if b'\x1b[?1049h' not in output:
+        return wrong
+    behind = output.rpartition(TAIL)
+    if not behind[1]:
+        wrong.append('alternate screen')
+    elif b'\x1b' in behind[2]:
+        wrong.append(f'output behind the restoration: {behind[2][:60]!r}')
+    pairs = [(b'\x1b[8l', b'\x1b[8h', 'reordering'), (b'\x1b[?1036s', b'\x1b[?1036r', 'Alt'), (b'\x1b[?1s', b'\x1b[?1r', 'arrows'),
+             (b'\x1b[?1047h', TAIL, 'screen after a stop')]
+    if b'\x1b[?2004h' in output:
+        pairs.append((b'\x1b[?2004h', b'\x1b[?2004l', 'pastes'))
+    return wrong + [name for on, off, name in pairs if output.rfind(off) < output.rfind(on)]
+
+
+def moment():
+    return random.choice((random.uniform(0, 0.012), random.uniform(0, 0.05), random.uniform(0.03, 0.3)))
+
+
+def send(process, number):
+    try:
+        os.kill(process, number)
+    except ProcessLookupError:
+        pass
+
+
+def send_job(run, number):
+    try:
+        os.killpg(run.job, number)
+    except ProcessLookupError:
+        send(run.job, number)
+
+
+def wait_for_child(run, name):
+    """The number of the job's child of this name, once it is there."""
+    end = time.perf_counter() + LIMIT
+    while not (child := run.child(name)) and time.perf_counter() < end and run.status is None:
+        run.rest(0.001)
+    run.rest(random.choice((0, random.uniform(0, 0.05))))
+    return child
+
+
+def block(run):
+    """Has the terminal take no output any more."""
+    if random.random() < 0.5:
+        termios.tcflow(run.slave, termios.TCOOFF)
+    run.is_read = False
+    if run.status is None:
+        os.set_blocking(run.master, False)
+        try:
+            for _ in range(60):
+                os.write(run.master, b'abc\x0c' * 8)
+                time.sleep(0.002)
+        except OSError:
+            pass
+        os.set_blocking(run.master, True)
+    run.rest(random.uniform(0, 0.3))
+
+
+def stop_and_go_on(run):
+    """Stops the host or its job up to three times; returns what was written since the last time."""
+    for _ in range(random.randint(1, 3)):
+        send_this = random.choice((lambda number: send_job(run, number), lambda number: send(run.job, number)))
+        send_this(signal.SIGSTOP)
+        run.rest(random.uniform(0, 0.03))
+        if random.random() < 0.5:  # as a shell does
+            termios.tcsetattr(run.slave, termios.TCSANOW, run.settings)
+        seen = len(run.output)
+        send_this(signal.SIGCONT)
+        run.rest(random.uniform(0, 0.02))
+    return seen
+
+
+def is_cooked(run):
+    return termios.tcgetattr(run.slave)[3] & (termios.ECHO | termios.ICANON)
+
+
+def try_stop(run, wrong):
+    seen = stop_and_go_on(run)
+    if not run.pump(LIMIT, b'hello'):
+        wrong.append('no screen')
+    end = time.perf_counter() + LIMIT
+    while b'1047h' in run.output[seen:] and b'hello' not in run.output.rpartition(b'\x1b[?1047h')[2] and time.perf_counter() < end:
+        run.rest(0.01)
+    if b'1047h' in run.output[seen:] and b'hello' not in run.output.rpartition(b'\x1b[?1047h')[2]:
+        wrong.append('not painted after the stop')
+    while is_cooked(run) and time.perf_counter() < end:
+        run.rest(0.01)
+    if is_cooked(run):
+        wrong.append('not raw after the stop')
+    before = time.perf_counter()
+    for _ in range(20):
+        run.type(b'\x11')
+        if run.pump(0.3):
+            break
+    return before, (0,)
+
+
+def resize(run):
+    run.resize(random.randint(5, 60), random.randint(20, 200))
+
+
+def act(kind, run, wrong):
+    """Does what the kind says. Returns when, and the statuses that are right; none if any is."""
+    if kind == 'stop':
+        run.rest(moment())
+        return try_stop(run, wrong)
+    children = {'kill-program': ('bidi_edit', (137 << 8,)), 'kill-filter': ('bidi_input', None), 'kill-keeper': ('bidi_keep', (1 << 8,))}
+    if kind in children:
+        name, statuses = children[kind]
+        child = wait_for_child(run, name)
+        before = time.perf_counter()
+        if child:
+            send(child, signal.SIGKILL)
+        return before, statuses
+    run.rest(moment())
+    before = time.perf_counter()
+    if kind == 'term':
+        acts = [lambda: send(run.job, signal.SIGTERM), lambda: resize(run)] * 2
+        random.shuffle(acts)
+        for one in acts:
+            one()
+        return before, (signal.SIGTERM,)
+    if kind == 'blocked':
+        block(run)
+        before = time.perf_counter()
+        number = random.choice((signal.SIGTERM, signal.SIGHUP, signal.SIGUSR1))
+        send(run.job, number)
+        return before, (number,)
+    if kind == 'closed':
+        run.hang_up()
+        return before, None
+    if kind in ('kill-job', 'term-job'):
+        number = signal.SIGKILL if kind == 'kill-job' else signal.SIGTERM
+        send_job(run, number)
+        return before, (number,)
+    number = signal.SIGKILL if kind == 'kill' else SIGNALS[kind]
+    send(run.job, number)
+    return before, (number,)
+
+
+def kill_watcher(run):
+    """Kills the process in a job of its own, which harms nothing, and quits."""
+    run.pump(LIMIT, b'hello')
+    watchers = [process for process in run.processes() if process != run.job and os.getpgid(process) == process]
+    for process in watchers:
+        send(process, signal.SIGKILL)
+    before = time.perf_counter()
+    run.type(b'\x11')
+    return before, (0,)
+
+
+def try_once(tree, kind, name):
+    """Ends one run. Returns what is wrong, and the seconds until all was over."""
+    file = tree.file('flood' if kind == 'blocked' and random.random() < 0.3 else name)
+    run = Run(tree.words('edit', random.choice(('plain', 'plain', 'titles', 'told')), file), HOME=f'{tree.top}/home')
+    wrong = []
+    before, statuses = kill_watcher(run) if kind == 'kill-watcher' else act(kind, run, wrong)
+    if not run.pump(LIMIT):
+        wrong.append('the host did not end')
+    elif statuses and run.status not in statuses and run.status & 0x7F not in statuses:
+        wrong.append(f'status {run.status}')
+    left = run.left(max(0.0, before + LIMIT - time.perf_counter()))
+    took = time.perf_counter() - before
+    if left:
+        wrong.append(f'left: {left}')
+    if kind != 'closed' and not run.is_restored():
+        wrong.append('settings')
+    if kind == 'blocked':
+        termios.tcflow(run.slave, termios.TCOON)
+    run.drain()
+    if kind not in ('blocked', 'closed'):
+        wrong += restored(run.output)
+    if re.search(rb'Sanitizer|runtime error', run.output):
+        wrong.append(run.output[-2000:].decode(errors='replace'))
+    run.close()
+    return wrong, took

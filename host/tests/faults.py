@@ -1,0 +1,71 @@
+"""Each system call of the host failed in turn, by strace: the terminal is restored, no process is left, and a session that does not
+go on says why."""
+import os, re, shutil
+from cases import QUIT
+from ends import restored
+from terminals import Run
+
+ERRORS = {'fork': 'EAGAIN', 'clone': 'EAGAIN', 'vfork': 'EAGAIN', 'mmap': 'ENOMEM', 'brk': 'ENOMEM', 'openat': 'EMFILE', 'pipe2': 'EMFILE', 'readlink': 'EACCES'}
+# The end itself, what does not return, what cannot fail, and what fails in the loader or, as no kernel does, in malloc.
+PASSED_OVER = {'brk', 'mmap', 'exit_group', 'execve', 'rt_sigreturn', 'getpid', 'geteuid', 'gettid', 'arch_prctl', 'set_tid_address', 'set_robust_list', 'rseq', '+++', '---'}
+MOST = 12
+
+
+def session(tree, strace):
+    """A session with a size and keys. Returns the run after its end."""
+    run = Run(['strace', '-D', *strace, *tree.words('edit', 'titles', tree.file('faults'))], HOME=f'{tree.top}/home')
+    if run.pump(4, b'hello'):
+        run.resize(30, 90)
+        run.type(b'abc')
+        run.rest(0.2)
+    if run.status is None:
+        run.type(QUIT)
+    run.pump(3)
+    if run.status is None:  # a call that failed may have lost the keys; a signal ends all the same
+        os.kill(run.job, 15)
+        run.pump(6)
+    run.drain()
+    return run
+
+
+def calls(tree):
+    """The system calls of a session, and how often each is made."""
+    trace = tree.file('trace')
+    session(tree, ['-o', trace]).close()
+    counts = {}
+    with open(trace) as file:
+        for call in re.findall(r'^(?:\d+ +)?(\w+)\(', file.read(), re.M):
+            counts[call] = counts.get(call, 0) + 1
+    return {call: min(count, MOST) for call, count in counts.items() if call not in PASSED_OVER}
+
+
+def fail_once(tree, call, number):
+    """What is wrong where one call of the host fails."""
+    error = ERRORS.get(call, 'EIO')
+    run = session(tree, ['-o', '/dev/null', '-e', f'trace={call}', '-e', f'inject={call}:error={error}:when={number}'])
+    wrong = [] if run.status is not None else ['the host did not end']
+    left = run.left(5)
+    if left:
+        wrong.append(f'left: {left}')
+    if not run.is_restored():
+        wrong.append('settings')
+    wrong += restored(run.output)
+    if b'hello' not in run.output and run.status == 0:
+        wrong.append('no screen, and status 0')
+    if run.status not in (None, 0) and not re.search(rb'bidi-edit: .|error while loading|Cannot open', run.output) and run.status != 15:
+        wrong.append(f'status {run.status} and nothing said: {run.output[-200:]!r}')
+    run.close()
+    return wrong
+
+
+def faults(tree):
+    """Only where it is asked for: it takes some minutes."""
+    if not shutil.which('strace'):
+        yield 'faults: skipped, since there is no strace', ''
+        return
+    for call, count in sorted(calls(tree).items()):
+        found = {number: wrong for number in range(1, count + 1) if (wrong := fail_once(tree, call, number))}
+        yield f'faults: {call}, {count} times', '; '.join(f'{number}: {wrong}' for number, wrong in found.items())
+
+
+ALL = [faults]

@@ -1,0 +1,53 @@
+"""The host as a job of interactive shells: in the background and back, stopped and back, killed."""
+import os, shutil, signal, termios
+from cases import QUIT, holds, same
+from ends import TAIL
+from terminals import Run
+
+SHELLS = (['bash', '--norc', '--noprofile', '--noediting', '-i'], ['bash', '--norc', '--noprofile', '-i'], ['dash', '-i'])
+
+
+def in_shell(tree, words):
+    name = ' '.join(words)
+    plain = f"'{tree.host}' edit plain '{tree.file('job')}'".encode()
+    run = Run(words, PS1='P> ', HOME=f'{tree.top}/home')
+
+    def show(keys, seconds=0.6):
+        """What is written after these keys."""
+        at = len(run.output)
+        run.type(keys)
+        run.rest(seconds)
+        return run.output[at:]
+
+    run.pump(5, b'P> ')
+    yield holds(f'{name}: in the background nothing is shown', b'1049h' not in show(plain + b' &\n'), run.output)
+    run.type(b'fg\n')
+    yield holds(f'{name}: fg shows it', run.pump(5, b'hello'), run.output)
+    run.rest(0.2)
+    at = len(run.output)
+    os.killpg(run.child('bidi-edit'), signal.SIGSTOP)
+    run.rest(0.6)
+    yield holds(f'{name}: stopped', b'P> ' in run.output[at:] or b'topped' in run.output[at:], run.output[at:])
+    yield holds(f'{name}: painted after fg', b'hello' in show(b'fg\n').rpartition(b'1047h')[2], run.output)
+    yield holds(f'{name}: raw after fg', not termios.tcgetattr(run.slave)[3] & termios.ICANON)
+    shown = show(QUIT)
+    yield holds(f'{name}: Quit', TAIL in shown and b'P> ' in shown, shown)
+    before = termios.tcgetattr(run.slave)
+    show(plain + b'\n', 1)
+    at = len(run.output)
+    job = run.child('bidi-edit')
+    os.kill(job, signal.SIGKILL)
+    run.rest(0.8)
+    yield holds(f'{name}: killed', TAIL in run.output[at:], run.output[at:])
+    yield same(f'{name}: settings as at the prompt before', termios.tcgetattr(run.slave), before)
+    yield holds(f'{name}: the shell goes on', b'a2b' in show(b'echo a$((1+1))b\n'), run.output)
+    run.close()
+
+
+def shells(tree):
+    for words in SHELLS:
+        if shutil.which(words[0]):
+            yield from in_shell(tree, words)
+
+
+ALL = [shells]
