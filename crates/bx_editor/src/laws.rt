@@ -1,6 +1,7 @@
 //! Laws of the editor. The functions are empty: their contracts are the laws.
 
-ghost use Rattle.bx_editor.specs.Laws.{CopyPutsTwice, FindBackGoesToPrevious, FindGoesToNext, GivingUpGoesBack, GoesToBothEnds, MarkTwiceIsNothing, PutRestoresCut, RedoMirrorsUndo, TopStays, UndoGivesBack};
+ghost use Rattle.bx_editor.specs.Laws.{CopyPutsTwice, GoesToBothEnds, MarkTwiceIsNothing, PutRestoresCut, RedoMirrorsUndo, TopStays, UndoGivesBack};
+ghost use Rattle.bx_editor.specs.Laws.{FindBackGoesToPrevious, FindGoesToNext, GivingUpGoesBack};
 
 /// Scrolling to the cursor a second time leaves the top where it is.
 pub fn top_stays()
