@@ -1,3 +1,4 @@
+pub mod TablesData
 pub mod Texts
 pub mod Replays
 pub mod Opened
