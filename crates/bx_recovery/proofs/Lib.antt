@@ -2,3 +2,4 @@ pub mod TablesData
 pub mod Texts
 pub mod Replays
 pub mod Opened
+pub mod Examples
