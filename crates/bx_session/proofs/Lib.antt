@@ -10,6 +10,7 @@ pub mod Examples
 pub mod Shown
 pub mod Turns
 pub mod Recovered
+pub mod QuitParts
 pub mod LawExamples
 pub mod ReplayExamples
 mod ClauseExamples

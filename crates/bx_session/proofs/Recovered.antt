@@ -273,7 +273,7 @@ key_lasts d saved e f key =
     (ap lasting (save-ends d saved e) ∙ save_lasts (without_message e) saved) (quit_lasts d saved e.seek e f refl)
     (λ k other. other_lasts d saved e f k other) key
 
-abbrev editor_after : Data → Bool → Editor → Option Key → Editor
+abbrev pub editor_after : Data → Bool → Editor → Option Key → Editor
 editor_after d saved e None = e
 editor_after d saved e (Some key) = after_key d saved e key
 
@@ -285,7 +285,7 @@ any_lasts d saved e f (Some key) h =
 
 -- ---- the session after a byte
 
-record Leaves (d : Data) (saved : Bool) (old : Session) (key : Option Key) (rest : List ℕ) (new : Session) : Type 0 where
+pub record Leaves (d : Data) (saved : Bool) (old : Session) (key : Option Key) (rest : List ℕ) (new : Session) : Type 0 where
   pub editor : new.editor ≡ editor_after d saved old.editor key
   pub rest_is : new.rest ≡ rest
 
@@ -307,7 +307,7 @@ painted_at true owed None d saved old spent ends rest e h = h
 painted_at true owed (Some key) d saved old spent ends rest e h = absurd (cc e)
 painted_at false owed key d saved old spent ends rest e h = record { editor = h.editor; rest_is = h.rest_is }
 
-byte_leaves : (d : Data) (saved : Bool) (s : Session) (b : ℕ) (a : Result Status Refused) (new : Session) → s.editor.ended ≡ false
+pub byte_leaves : (d : Data) (saved : Bool) (s : Session) (b : ℕ) (a : Result Status Refused) (new : Session) → s.editor.ended ≡ false
     → a ≢ Err refused.Edit → AfterByte d saved s b a new
     → Leaves d saved s (key_after s.rest b) (head_of (rest_after s.rest b)) new
 byte_leaves d saved s b (Ok status) new runs some h =

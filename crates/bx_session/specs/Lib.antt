@@ -3,6 +3,7 @@ pub mod Saving
 pub mod Painting
 pub mod Running
 pub mod Journal
+pub mod Parts
 pub mod Laws
 pub mod Beginning
 pub mod Anew

@@ -6,6 +6,7 @@ mod error;
 mod feeding;
 mod going;
 mod journal;
+mod keeping;
 mod laws;
 mod open;
 mod painting;

@@ -2,12 +2,13 @@
 
 ghost use Rattle.std.specs.Prelude.{◌≡◌, ◌≤◌, ◌++◌, [], List, ℕ, false, length, take, IfOk, OnOk, OnErr, IsErrOf};
 ghost use Rattle.std.specs.Io.KnownBytes.{ReadConsumes};
-ghost use Rattle.bx_session.specs.Journal.{HasKept, RunsRecorded};
+ghost use Rattle.bx_session.specs.Journal.{RunsRecorded};
 ghost use Rattle.bx_session.specs.Running.{ByteAnswer, FedUntilEnd, HasRead, Sent, Runs, EndsWith, read_size};
 ghost use Rattle.bx_session.specs.Saving.{store_state};
 
 use crate::end::{End, RunFault};
 use crate::journal::{Journal, NoJournal, Recorder};
+use crate::keeping::keep_and_feed;
 use crate::session::Session;
 use bx_output::write_all;
 use bx_store::Store;
@@ -40,7 +41,7 @@ fn send<D: BidiData + Drop, W: Write>(
 }
 
 /// Feeds bytes until the session ends. A refusal does not stop it.
-fn feed_all<D: BidiData + Drop, S: Store>(session: &mut Session<D>, bytes: &[u8], store: &mut S)
+pub(crate) fn feed_all<D: BidiData + Drop, S: Store>(session: &mut Session<D>, bytes: &[u8], store: &mut S)
     ensures bytes { (answered : List ByteAnswer) × (dropped : List ℕ)
         × FedUntilEnd (D.data session.old.tables) session.old.session (store_state S.contents S.failure_count store.old) bytes.now
         session.new.session (store_state S.contents S.failure_count store.new) answered dropped }
@@ -54,12 +55,11 @@ fn feed_all<D: BidiData + Drop, S: Store>(session: &mut Session<D>, bytes: &[u8]
     }
 }
 
-/// Reads input and appends it to the journal. Called before the session's end, once all queued bytes were sent.
+/// Reads input. Called before the session's end, once all queued bytes were sent.
 ///
-/// Errors: `ReadFault`; the journal is unchanged.
-fn read_keys<D: BidiData + Drop, R: Read, J: Journal + Drop>(
+/// Errors: `ReadFault`.
+fn read_keys<D: BidiData + Drop, R: Read>(
     reader: &mut R,
-    recorder: &mut Recorder<J>,
     session: &Session<D>,
     buffer: &mut [u8; 256],
 ) -> Result<usize, RunFault>
@@ -68,16 +68,11 @@ fn read_keys<D: BidiData + Drop, R: Read, J: Journal + Drop>(
     ensures bound { IfOk result (λ count. count ≤ length buffer.new) }
     ensures most { IfOk result (λ count. count ≤ read_size) }
     ensures bytes { ReadConsumes (R.remaining reader.old) (R.remaining reader.new) result buffer.new }
-    ensures keeps { IfOk result (λ count. HasKept J.contents J.failure_count recorder.old recorder.new (take count buffer.new)) }
-    ensures err { OnErr result (recorder.new ≡ recorder.old) }
     ensures fault { OnErr result (result ≡ Err RunFault.ReadFault) }
 {
     let _ = session;
     match reader.read(buffer) {
-        Ok(count) => {
-            recorder.keep(&buffer[..count]);
-            Ok(count)
-        }
+        Ok(count) => Ok(count),
         Err(_) => Err(RunFault::ReadFault),
     }
 }
@@ -123,7 +118,8 @@ pub fn run_within<D: BidiData + Drop, R: Read, W: Write, S: Store>(
     run_turns(limit, reader, &mut recorder, writer, store, session)
 }
 
-/// Runs a session as [`run`] does, and hands the bytes of each read to the journal before it feeds them.
+/// Runs a session as [`run`] does, and hands each byte to the journal before it feeds it. What follows the session's end is not
+/// handed over.
 pub fn run_recorded<D: BidiData + Drop, R: Read, J: Journal + Drop, W: Write, S: Store>(
     reader: &mut R,
     recorder: &mut Recorder<J>,
@@ -163,15 +159,16 @@ fn run_turns<D: BidiData + Drop, R: Read, J: Journal + Drop, W: Write, S: Store>
         if session.ended() {
             return Ok(End::Quit);
         }
-        let count = match read_keys(reader, recorder, session, &mut buffer) {
+        let count = match read_keys(reader, session, &mut buffer) {
             Ok(count) => count,
             Err(fault) => return Err(fault),
         };
         if count == 0 {
+            recorder.keep(&[]);
             let changed = session.changed();
             return Ok(End::InputEnded { changed });
         }
-        feed_all(session, &buffer[..count], store);
+        keep_and_feed(session, &buffer[..count], recorder, store);
         send(writer, session)?;
     }
     if session.ended() {

@@ -1,0 +1,117 @@
+-- Only a Quit ends a session, so all bytes of a part are fed.
+use Rattle.std.proofs.Common.{◌≡◌, ◌≢◌, ◌≤◌, ◌<◌, ◌+◌, ℕ, suc, Bool, true, false, List, [], ◌∷◌, ◌++◌, Option, Some, None, Result, Ok, Err}
+use Rattle.std.proofs.Common.{refl, sym, ap, subst, ◌∙◌, append_assoc, take, drop, length, take-append-drop, if◌then◌else◌, arith}
+use Rattle.std.proofs.lemmas.List.{length-append, length-map, length-take-le}
+use Rattle.bx_keys.specs.declared.key.Key.{Key}
+use Rattle.bx_keys.specs.Keys.{key_after, rest_after}
+use Rattle.bx_keys.specs.Waiting.{head_of}
+use Rattle.bx_ucd.specs.Data.{Data}
+use Rattle.bx_editor.specs.Editor.{Editor, after_save, without_message}
+use Rattle.bx_editor.specs.Keys.{after_key}
+use Rattle.bx_editor.specs.Search.{without_search}
+use Rattle.bx_editor.proofs.InSearch.{save-ends}
+use Rattle.bx_session.specs.declared.error.Refused.{Refused}
+use Rattle.bx_session.specs.declared.error.Refused.TheVariants as refused
+use Rattle.bx_session.specs.declared.status.Status.{Status}
+use Rattle.bx_session.specs.Parts.{is_quit, part_length}
+use Rattle.bx_session.specs.Running.{ByteAnswer, FeedsAll, FedUntilEnd, bytes_of}
+use Rattle.bx_session.specs.Saving.{StoreState, Feeds}
+use Rattle.bx_session.specs.Session.{Session, after_spending}
+use Rattle.bx_session.proofs.Recovered.{Leaves, byte_leaves, editor_after}
+use Rattle.bx_session.proofs.Replayed.{each-replayed, key_steps}
+
+-- ---- only a Quit ends a session
+
+save_goes_on : (e : Editor) (saved : Bool) → e.ended ≡ false → (without_search (after_save (without_message e) saved)).ended ≡ false
+save_goes_on e true h = h
+save_goes_on e false h = h
+
+-- any key but Quit
+other_goes_on : (d : Data) (saved : Bool) (e : Editor) (key : Key) → is_quit (Some key) ≡ false → e.ended ≡ false → (after_key d saved e key).ended ≡ false
+other_goes_on d saved e key =
+    each-replayed d e.seek e (λ k new. is_quit (Some k) ≡ false → e.ended ≡ false → (after_key d saved e k).ended ≡ false)
+    (λ other h. ap (λ (x : Editor). x.ended) (save-ends d saved e) ∙ save_goes_on e saved h) (λ other h. absurd (cc other))
+    (λ k other small h. (key_steps d saved e k other).goes_on ∙ h) key
+
+any_goes_on : (d : Data) (saved : Bool) (e : Editor) (key : Option Key) → is_quit key ≡ false → e.ended ≡ false → (editor_after d saved e key).ended ≡ false
+any_goes_on d saved e None other h = h
+any_goes_on d saved e (Some key) other h = other_goes_on d saved e key other h
+
+-- a session after a byte that completes no Quit
+record GoesOn (rest : List ℕ) (new : Session) : Type 0 where
+  pub running : new.editor.ended ≡ false
+  pub rest_is : new.rest ≡ rest
+
+spent : (ended : Bool) (s : Session) (rest : List ℕ) → s.editor.ended ≡ ended → ended ≡ false → GoesOn rest (if ended then s else record s { rest = rest })
+spent true s rest is h = absurd (cc h)
+spent false s rest is h = record { running = is; rest_is = refl }
+
+left : (d : Data) (saved : Bool) (s : Session) (key : Option Key) (rest : List ℕ) (new : Session) → is_quit key ≡ false → s.editor.ended ≡ false
+    → Leaves d saved s key rest new → GoesOn rest new
+left d saved s key rest new other runs h = record {
+  running = ap (λ (e : Editor). e.ended) h.editor ∙ any_goes_on d saved s.editor key other runs;
+  rest_is = h.rest_is;
+}
+
+byte_goes_on : (d : Data) (s : Session) (store store' : StoreState) (b : ℕ) (a : Result Status Refused) (new : Session) → s.editor.ended ≡ false
+    → is_quit (key_after s.rest b) ≡ false → Feeds d s store b a new store' → GoesOn (head_of (rest_after s.rest b)) new
+byte_goes_on d s store store' b (Ok status) new runs other h =
+    left d h.0 s (key_after s.rest b) (head_of (rest_after s.rest b)) new other runs (byte_leaves d h.0 s b (Ok status) new runs (λ e. cc e) h.2)
+byte_goes_on d s store store' b (Err refused.Edit) new runs other h =
+    subst (GoesOn (head_of (rest_after s.rest b))) (sym h.2.0) (spent s.editor.ended s (head_of (rest_after s.rest b)) refl runs)
+byte_goes_on d s store store' b (Err refused.Paint) new runs other h =
+    left d h.0 s (key_after s.rest b) (head_of (rest_after s.rest b)) new other runs (byte_leaves d h.0 s b (Err refused.Paint) new runs (λ e. cc e) h.2)
+byte_goes_on d s store store' b (Err refused.Size) new runs other h = absurd h.2
+
+-- ---- a session goes on before the last byte of a part
+
+within : (quits : Bool) (n m : ℕ) → suc m < (if quits then 1 else suc n) → (quits ≡ false) × (m < n)
+within true n m h = absurd (omega (arith, h))
+within false n m h = (refl, omega (arith, h))
+
+part_goes_on : (d : Data) (s : Session) (store store' : StoreState) (answered : List ByteAnswer) (new : Session) (behind : List ℕ)
+    → FeedsAll d s store answered new store' → s.editor.ended ≡ false → length answered < part_length s.rest (bytes_of answered ++ behind)
+    → new.editor.ended ≡ false
+part_goes_on d s store store' [] new behind feeds runs short = ap (λ (x : Session). x.editor.ended) feeds.0 ∙ runs
+part_goes_on d s store store' (a ∷ answered) new behind feeds runs short =
+    let rest = head_of (rest_after s.rest a.0) in
+    let here = within (is_quit (key_after s.rest a.0)) (part_length rest (bytes_of answered ++ behind)) (length answered) short in
+    let next = byte_goes_on d s store feeds.1 a.0 a.1 feeds.0 runs here.0 feeds.3 in
+    part_goes_on d feeds.0 feeds.1 store' answered new behind feeds.5 next.running
+    (subst (λ xs. length answered < part_length xs (bytes_of answered ++ behind)) (sym next.rest_is) here.1)
+
+-- ---- lengths
+
+pub part_most : (rest bs : List ℕ) → part_length rest bs ≤ length bs
+part_most rest [] = omega arith
+part_most rest (b ∷ bs) = by_quit (is_quit (key_after rest b)) where
+  by_quit : (quits : Bool) → (if quits then 1 else suc (part_length (head_of (rest_after rest b)) bs)) ≤ length (b ∷ bs)
+  by_quit true = omega arith
+  by_quit false = let others = part_most (head_of (rest_after rest b)) bs in omega (arith, others)
+
+some_in : (quits : Bool) (n : ℕ) → 1 ≤ (if quits then 1 else suc n)
+some_in true n = omega arith
+some_in false n = omega arith
+
+pub part_some : (rest bs : List ℕ) → bs ≢ [] → 1 ≤ part_length rest bs
+part_some rest [] some = absurd (some refl)
+part_some rest (b ∷ bs) some = some_in (is_quit (key_after rest b)) (part_length (head_of (rest_after rest b)) bs)
+
+-- ---- a part is fed whole
+
+pub fed_whole : (d : Data) (s new : Session) (store store' : StoreState) (bytes : List ℕ) (answered : List ByteAnswer) (dropped : List ℕ)
+    → FedUntilEnd d s store (take (part_length s.rest bytes) bytes) new store' answered dropped → s.editor.ended ≡ false → dropped ≡ []
+fed_whole d s new store store' bytes answered [] fed runs = refl
+fed_whole d s new store store' bytes answered (x ∷ dropped) fed runs =
+    let n = part_length s.rest bytes in
+    let behind = (x ∷ dropped) ++ drop n bytes in
+    let all : bytes ≡ bytes_of answered ++ behind =
+    sym (take-append-drop n bytes) ∙ ap (λ xs. xs ++ drop n bytes) fed.all ∙ append_assoc (bytes_of answered) (x ∷ dropped) (drop n bytes) in
+    let count : length (bytes_of answered) ≡ length answered = length-map answered (λ (a : ByteAnswer). a.0) in
+    let parts : length (take n bytes) ≡ length (bytes_of answered) + length (x ∷ dropped) =
+    ap (λ (xs : List ℕ). length xs) fed.all ∙ length-append (bytes_of answered) (x ∷ dropped) in
+    let most : length (take n bytes) ≡ n = length-take-le n bytes (part_most s.rest bytes) in
+    let short : length answered < n = omega (arith, count, parts, most) in
+    let running : new.editor.ended ≡ false =
+    part_goes_on d s store store' answered new behind fed.feeds runs (subst (λ xs. length answered < part_length s.rest xs) all short) in
+    absurd (let both : true ≡ false = sym (fed.drops (λ e. cc e)) ∙ running in cc both)
