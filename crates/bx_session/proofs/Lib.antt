@@ -11,6 +11,7 @@ pub mod Shown
 pub mod Turns
 pub mod Recovered
 pub mod QuitParts
+pub mod GivenBack
 pub mod LawExamples
 pub mod ReplayExamples
 mod ClauseExamples

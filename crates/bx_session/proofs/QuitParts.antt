@@ -1,7 +1,7 @@
 -- Only a Quit ends a session, so all bytes of a part are fed.
 use Rattle.std.proofs.Common.{◌≡◌, ◌≢◌, ◌≤◌, ◌<◌, ◌+◌, ℕ, suc, Bool, true, false, List, [], ◌∷◌, ◌++◌, Option, Some, None, Result, Ok, Err}
 use Rattle.std.proofs.Common.{refl, sym, ap, subst, ◌∙◌, append_assoc, take, drop, length, take-append-drop, if◌then◌else◌, arith}
-use Rattle.std.proofs.lemmas.List.{length-append, length-map, length-take-le}
+use Rattle.std.proofs.lemmas.List.{append-nil, length-append, length-map, length-take-le, map-append}
 use Rattle.bx_keys.specs.declared.key.Key.{Key}
 use Rattle.bx_keys.specs.Keys.{key_after, rest_after}
 use Rattle.bx_keys.specs.Waiting.{head_of}
@@ -13,10 +13,13 @@ use Rattle.bx_editor.proofs.InSearch.{save-ends}
 use Rattle.bx_session.specs.declared.error.Refused.{Refused}
 use Rattle.bx_session.specs.declared.error.Refused.TheVariants as refused
 use Rattle.bx_session.specs.declared.status.Status.{Status}
+use Rattle.bx_session.specs.Journal.{HasKept, RecorderState}
 use Rattle.bx_session.specs.Parts.{is_quit, part_length}
 use Rattle.bx_session.specs.Running.{ByteAnswer, FeedsAll, FedUntilEnd, bytes_of}
 use Rattle.bx_session.specs.Saving.{StoreState, Feeds}
 use Rattle.bx_session.specs.Session.{Session, after_spending}
+use Rattle.bx_session.proofs.Recorded.{kept_more}
+use Rattle.bx_session.proofs.Turns.{FeedsAll-append}
 use Rattle.bx_session.proofs.Recovered.{Leaves, byte_leaves, editor_after}
 use Rattle.bx_session.proofs.Replayed.{each-replayed, key_steps}
 
@@ -115,3 +118,37 @@ fed_whole d s new store store' bytes answered (x ∷ dropped) fed runs =
     let running : new.editor.ended ≡ false =
     part_goes_on d s store store' answered new behind fed.feeds runs (subst (λ xs. length answered < part_length s.rest xs) all short) in
     absurd (let both : true ≡ false = sym (fed.drops (λ e. cc e)) ∙ running in cc both)
+
+-- ---- one part more
+
+-- all bytes of a part are fed and kept
+pub part_more : {D J : Type 0} (says : D → Data) (contents : J → Option (List ℕ)) (failures : J → ℕ) (tables tables1 : D) (old now new : Session)
+    (store store1 store2 : StoreState) (journal journal1 journal2 : RecorderState J) (bytes rest part behind : List ℕ) (count : ℕ)
+    (answered answered' : List ByteAnswer) (dropped : List ℕ)
+    → FeedsAll (says tables) old store answered now store1 → tables1 ≡ tables → bytes ≡ bytes_of answered ++ rest
+    → HasKept contents failures journal journal1 (bytes_of answered) → now.editor.ended ≡ false → count ≡ part_length now.rest rest
+    → part ≡ take count rest → behind ≡ drop count rest → HasKept contents failures journal1 journal2 part
+    → FedUntilEnd (says tables1) now store1 part new store2 answered' dropped
+    → FeedsAll (says tables) old store (answered ++ answered') new store2 × (bytes ≡ bytes_of (answered ++ answered') ++ behind)
+    × HasKept contents failures journal journal2 (bytes_of (answered ++ answered'))
+part_more {D} {J} says contents failures tables tables1 old now new store store1 store2 journal journal1 journal2 bytes rest part behind count
+    answered answered' dropped feeds stay all kept runs is part_is behind_is keeps fed =
+    let d = says tables in
+    let fed_here : FedUntilEnd d now store1 part new store2 answered' dropped =
+    subst (λ (t : D). FedUntilEnd (says t) now store1 part new store2 answered' dropped) stay fed in
+    let whole : part ≡ take (part_length now.rest rest) rest = part_is ∙ ap (λ n. take n rest) is in
+    let none : dropped ≡ [] =
+    fed_whole d now new store1 store2 rest answered' dropped
+    (subst (λ xs. FedUntilEnd d now store1 xs new store2 answered' dropped) whole fed_here) runs in
+    let fed_all : part ≡ bytes_of answered' = fed_here.all ∙ ap (λ xs. bytes_of answered' ++ xs) none ∙ append-nil (bytes_of answered') in
+    let both : bytes_of (answered ++ answered') ≡ bytes_of answered ++ bytes_of answered' = map-append (λ (a : ByteAnswer). a.0) answered answered' in (
+      FeedsAll-append d old store answered answered' now store1 new store2 feeds fed_here.feeds,
+      all
+          ∙ ap (λ xs. bytes_of answered ++ xs) (sym (take-append-drop count rest) ∙ ap (λ xs. xs ++ drop count rest) (sym part_is ∙ fed_all)
+          ∙ ap (λ xs. bytes_of answered' ++ xs) (sym behind_is))
+          ∙ sym (append_assoc (bytes_of answered) (bytes_of answered') behind)
+          ∙ ap (λ xs. xs ++ behind) (sym both),
+      subst (HasKept contents failures journal journal2) (sym both)
+          (kept_more contents failures journal journal1 journal2 (bytes_of answered) (bytes_of answered') kept
+          (subst (HasKept contents failures journal1 journal2) fed_all keeps)),
+    )

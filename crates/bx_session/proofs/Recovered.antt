@@ -36,7 +36,7 @@ use Rattle.bx_session.proofs.Replayed.{applies, each-replayed, is_other, replays
 -- ---- lasting state
 
 -- the parts of an editor that a Save and a Quit change in a replay too
-record Lasting : Type 0 where
+pub record Lasting : Type 0 where
   pub content : Edited
   pub place : ℕ
   pub mark : Option ℕ
@@ -48,7 +48,7 @@ record Lasting : Type 0 where
   pub height : ℕ
   pub width : ℕ
 
-abbrev lasting : Editor → Lasting
+abbrev pub lasting : Editor → Lasting
 lasting e = record {
   content = e.content;
   place = e.place;
@@ -323,12 +323,12 @@ byte_leaves d saved s b (Err refused.Size) new runs some h = absurd h
 
 -- ---- the replay follows the session
 
-record Follows (s r : Session) : Type 0 where
+pub record Follows (s r : Session) : Type 0 where
   pub lasts : lasting s.editor ≡ lasting r.editor
   pub rest_is : s.rest ≡ r.rest
   pub goes_on : r.editor.ended ≡ false
 
-byte_follows : (d : Data) (s r : Session) (store store' : StoreState) (b : ℕ) (a : Result Status Refused) (new : Session) → Follows s r
+pub byte_follows : (d : Data) (s r : Session) (store store' : StoreState) (b : ℕ) (a : Result Status Refused) (new : Session) → Follows s r
     → s.editor.ended ≡ false → a ≢ Err refused.Edit → Feeds d s store b a new store' → Follows new (after_replay d r b)
 byte_follows d s r store store' b a new before runs some feeds =
     let leaves = byte_leaves d feeds.0 s b a new runs some feeds.2 in
@@ -342,7 +342,7 @@ byte_follows d s r store store' b a new before runs some feeds =
       goes_on = each.goes_on;
     }
 
-all_follow : (d : Data) (s r : Session) (store store' : StoreState) (answered : List ByteAnswer) (new : Session) → Follows s r
+pub all_follow : (d : Data) (s r : Session) (store store' : StoreState) (answered : List ByteAnswer) (new : Session) → Follows s r
     → FeedsAll d s store answered new store' → RefusesNoKey answered → Follows new (after_replaying d r (bytes_of answered))
 all_follow d s r store store' [] new before feeds none = subst (λ (x : Session). Follows x r) (sym feeds.0) before
 all_follow d s r store store' (a ∷ answered) new before feeds none =
@@ -370,7 +370,7 @@ same_lasts e f content place mark held query seek origin base height width =
     ∙ ap (λ x. record sought { base = f.base; height = x }) (sym height)
     ∙ ap (λ x. record sought { base = f.base; height = f.height; width = x }) (sym width)
 
-follows : (s r : Session) → HasBackMidway s r → Follows s r
+pub follows : (s r : Session) → HasBackMidway s r → Follows s r
 follows s r h =
     let p = h.parts in record {
       lasts = same_lasts s.editor r.editor p.content p.place p.mark p.held p.query h.seek h.origin p.base p.height p.width;
@@ -378,7 +378,7 @@ follows s r h =
       goes_on = p.goes_on;
     }
 
-has_back : (s r : Session) → Follows s r → HasBackMidway s r
+pub has_back : (s r : Session) → Follows s r → HasBackMidway s r
 has_back s r h = record {
   parts = record {
     content = ap (λ (l : Lasting). l.content) (sym h.lasts);
@@ -396,7 +396,7 @@ has_back s r h = record {
   origin = ap (λ (l : Lasting). l.origin) (sym h.lasts);
 }
 
-ended_back : (s r : Session) → HasBackMidway s r → HasBack s (at_replay_end r)
+pub ended_back : (s r : Session) → HasBackMidway s r → HasBack s (at_replay_end r)
 ended_back s r h =
     let p = h.parts in record {
       content = p.content;

@@ -102,7 +102,7 @@ FeedsAll-prefixed d p s store (a ∷ answered) s' store' h = (
   FeedsAll-prefixed d p h.0 h.1 answered s' store' h.5,
 )
 
-FeedsAll-append : (d : Data) (s : Session) (store : StoreState) (first second : List ByteAnswer) (m : Session) (m_store : StoreState)
+pub FeedsAll-append : (d : Data) (s : Session) (store : StoreState) (first second : List ByteAnswer) (m : Session) (m_store : StoreState)
     (s' : Session) (store' : StoreState) → FeedsAll d s store first m m_store → FeedsAll d m m_store second s' store'
     → FeedsAll d s store (first ++ second) s' store'
 FeedsAll-append d s store [] second m m_store s' store' h k =

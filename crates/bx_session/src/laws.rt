@@ -2,7 +2,9 @@
 
 ghost use Rattle.bx_session.specs.Anew.{AlwaysStaysPainted};
 ghost use Rattle.bx_session.specs.Laws.{AlwaysShowsState, HasKeysOfInput, ReplaysKeys};
-ghost use Rattle.bx_session.specs.Recovery.{RecoveryGivesBack};
+ghost use Rattle.bx_session.specs.Recovery.{JournalsGiveBack, RecoveryGivesBack};
+
+use crate::journal::Journal;
 
 /// If no painting is owed, the picture last painted is the picture of the session's state.
 pub fn paintings_keep_up()
@@ -29,4 +31,11 @@ pub fn replays_apply_keys()
 /// the replay.
 pub fn recovery_gives_back()
     ensures { RecoveryGivesBack }
+{}
+
+/// The bytes of a journal that lacks none, replayed over the opened text, restore the session that was run with it, as
+/// [`recovery_gives_back`] says. Keys typed behind the session's end do not come back. The session counts as changed wherever it
+/// did before.
+pub fn journals_give_back<J: Journal + Drop>()
+    ensures { JournalsGiveBack J.contents J.failure_count }
 {}

@@ -21,8 +21,8 @@ pub use end::{End, RunFault};
 pub use error::Refused;
 pub use journal::{Journal, JournalFault, NoJournal, Recorder, WrittenJournal};
 pub use laws::{
-    keys_are_those_of_input, painting_anew_sends_nothing, paintings_keep_up, recovery_gives_back,
-    replays_apply_keys,
+    journals_give_back, keys_are_those_of_input, painting_anew_sends_nothing, paintings_keep_up,
+    recovery_gives_back, replays_apply_keys,
 };
 pub use running::{run, run_recorded, run_within};
 pub use session::Session;
