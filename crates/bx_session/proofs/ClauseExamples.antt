@@ -69,6 +69,21 @@ pub what_waits_comes_first : {J : Type 0} (contents : J → Option (List ℕ)) (
 what_waits_comes_first contents failures old new held there kept was has is before after =
     grown (kept_in_all contents failures old new (codes "y") kept (codes "x") (ap waiting was ∙ has) is) before after kept.grows
 
+-- the journal lacks only what waits
+pub only_what_waits_is_missing : {J : Type 0} (contents : J → Option (List ℕ)) (failures : J → ℕ) (old new : RecorderState J) (held : Vec ℕ) (there : List ℕ)
+    (kept : HasKept contents failures old new (codes "xy")) → old.backlog ≡ Empty → new.backlog ≡ Waiting held → vec_items held ≡ codes "y"
+    → contents old.journal ≡ Some (codes "ab") → contents new.journal ≡ Some there → there ++ codes "y" ≡ codes "abxy"
+only_what_waits_is_missing contents failures old new held there kept was waits has before after =
+    let none : kept.lost ≡ [] = kept.all (ap is_lost waits) in
+    let all : codes "xy" ≡ kept.appended ++ codes "y" =
+    ap (λ k. waiting k ++ codes "xy") (sym was)
+    ∙ kept.order
+    ∙ ap (λ xs. kept.appended ++ (waiting new.backlog ++ xs)) none
+    ∙ ap (λ k. kept.appended ++ (waiting k ++ [])) waits
+    ∙ ap (λ xs. kept.appended ++ (xs ++ [])) has in
+    let journal : there ≡ codes "ab" ++ kept.appended = grown refl before after kept.grows in
+    ap (λ xs. xs ++ codes "y") journal ∙ append_assoc (codes "ab") kept.appended (codes "y") ∙ ap (λ xs. codes "ab" ++ xs) (sym all)
+
 -- an empty backlog grows only if a call of the journal fails
 pub no_failure_is_no_fault : {J : Type 0} (contents : J → Option (List ℕ)) (failures : J → ℕ) (old new : RecorderState J)
     → HasKept contents failures old new (codes "x") → old.backlog ≡ Empty → failures old.journal ≡ 0 → failures new.journal ≡ 0 → new.backlog ≡ Empty

@@ -1,21 +1,22 @@
 -- Replayed bytes apply their keys in order.
 use Rattle.std.proofs.Common.{◌≡◌, ◌≢◌, ℕ, Bool, true, false, not, ◌&&◌, List, [], ◌∷◌, ◌++◌, Option, Some, None, refl, sym, ap, subst, ◌∙◌, append_assoc, length, ◌⊎◌, inl, inr, if◌then◌else◌, arith}
-use Rattle.std.specs.Prelude.{◌==◌, encode_utf8, option_to_list}
+use Rattle.std.specs.Prelude.{◌==◌, ◌+◌, encode_utf8, option_to_list}
 use Rattle.bx_keys.specs.declared.key.Key.{Key}
 use Rattle.bx_keys.specs.declared.key.Key.TheVariants.{Insert, Erase, Delete, Back, Forward, Up, Down, Right, Left, RowHome, RowEnd, PageUp, PageDown, Save}
 use Rattle.bx_keys.specs.declared.key.Key.TheVariants.{Quit, Undo, Redo, Repaint, Direction, Size, Mark, Copy, Cut, Put}
 use Rattle.bx_keys.specs.declared.key.Key.TheVariants.{Find, FindBack, WordLeft, WordRight, TextStart, TextEnd, Help}
 use Rattle.bx_keys.specs.Keys.{key_after, rest_after}
 use Rattle.bx_keys.specs.Waiting.{head_of}
-use Rattle.bx_text.specs.Edits.{Edit, redone_in, undone_in}
+use Rattle.bx_text.specs.Edits.{Edit, Edited, edit_of, fits, inserted, redone_in, removed, replaced, splice, undone_in}
 use Rattle.bx_ucd.specs.Data.{Data}
-use Rattle.bx_editor.specs.Editor.{Editor, after_insertion, after_removal, after_undo, after_redo, with_size, without_message}
+use Rattle.bx_editor.specs.declared.message.Message.TheVariants.{TextFull}
+use Rattle.bx_editor.specs.Editor.{Editor, after_insertion, after_removal, after_undo, after_redo, place_after, with_size, without_message}
 use Rattle.bx_editor.specs.declared.seek.Seek.{Seek}
 use Rattle.bx_editor.specs.declared.seek.Seek.TheVariants.{Off, Begun, Typed}
 use Rattle.bx_editor.specs.Keys.{after_any, after_key, after_pressing, after_seeking, is_save}
 use Rattle.bx_editor.specs.Search.{after_letter, is_no_letter, without_search}
 use Rattle.bx_editor.proofs.InSearch.{each-key}
-use Rattle.bx_editor.specs.Region.{after_copy, after_cut, after_put, bytes_in, is_at_mark, is_empty, line, region, taken}
+use Rattle.bx_editor.specs.Region.{after_copy, after_cut, after_put, is_at_mark, is_empty, line, region, taken}
 use Rattle.bx_session.specs.Parts.{is_quit}
 use Rattle.bx_session.specs.Laws.{keys_from, after_replaying, ReplaysKeys}
 use Rattle.bx_session.specs.Session.{Session, after_all_replayed, after_replay, after_replayed, after_replayed_key, session_after_replayed, with_painting_owed}
@@ -59,19 +60,28 @@ redo_steps e (x ∷ xs) is = record {
   edits = inr (refl, λ h. longer x e.content.past (sym (ap (λ ys. length (redone_in e.content ys).past) is) ∙ h));
 }
 
+-- an edit is added to the past
+more_past : (t : Edited) (start stop : ℕ) (new : List ℕ) (before after : ℕ) → length (replaced t start stop new before after).past ≢ length t.past
+more_past t start stop new before after = longer (edit_of t.text start stop new before after) t.past
+
 insertion_steps : (d : Data) (e : Editor) (bytes : List ℕ) → Steps e (after_insertion d e bytes)
-insertion_steps d e bytes = either_steps _ e _ _ (record { goes_on = refl; edits = inr (refl, λ h. longer _ e.content.past h) }) (idle e _ refl refl refl)
+insertion_steps d e bytes =
+    let after = place_after d e (splice e.content.text e.place e.place bytes) (e.place + length bytes) in
+    let put : Editor = record e { content = inserted e.content e.place bytes e.place after; place = after; mark = None; seek = Off; changed = true } in
+    let full : Editor = record e { message = Some TextFull } in
+    either_steps (fits e.content.text e.place e.place bytes) e put full
+    (record { goes_on = refl; edits = inr (refl, more_past e.content e.place e.place bytes e.place after) }) (idle e full refl refl refl)
 
 removal_steps : (d : Data) (e : Editor) (start stop : ℕ) → Steps e (after_removal d e start stop)
 removal_steps d e start stop =
-    either_steps (start == stop) e e _ (idle e e refl refl refl) (record { goes_on = refl; edits = inr (refl, λ h. longer _ e.content.past h) })
+    let after = place_after d e (splice e.content.text start stop []) start in
+    let cut : Editor = record e { content = removed e.content start stop e.place after; place = after; mark = None; seek = Off; changed = true } in
+    either_steps (start == stop) e e cut (idle e e refl refl refl)
+    (record { goes_on = refl; edits = inr (refl, more_past e.content start stop [] e.place after) })
 
 copy_steps : (d : Data) (e : Editor) → Steps e (after_copy d e)
 copy_steps d e =
     either_steps (is_empty (region e)) e _ _ (either_steps (is_empty (line d e)) e _ _ (idle e _ refl refl refl) (idle e _ refl refl refl)) (idle e _ refl refl refl)
-
-cut_out : (d : Data) (e : Editor) → Editor
-cut_out d e = record (after_removal d e ((taken d e).0) ((taken d e).1)) { held = bytes_in e (taken d e) }
 
 cut_steps : (d : Data) (e : Editor) → Steps e (after_cut d e)
 cut_steps d e =
