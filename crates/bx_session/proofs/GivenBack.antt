@@ -66,7 +66,7 @@ replays d s (b ∷ bs) h =
       unchanged = λ is.
           let rest = more.unchanged is in
           let first = settled s.editor (after_all_replayed d s.editor (option_to_list (key_after s.rest b))) steps.edits
-              (sym (ap (λ (e : Editor). e.changed) each.editor) ∙ rest.1) in
+          (sym (ap (λ (e : Editor). e.changed) each.editor) ∙ rest.1) in
           (rest.0 ∙ ap (λ (e : Editor). e.content) each.editor ∙ first.0, first.1);
     }
 

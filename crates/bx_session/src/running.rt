@@ -41,7 +41,11 @@ fn send<D: BidiData + Drop, W: Write>(
 }
 
 /// Feeds bytes until the session ends. A refusal does not stop it.
-pub(crate) fn feed_all<D: BidiData + Drop, S: Store>(session: &mut Session<D>, bytes: &[u8], store: &mut S)
+pub(crate) fn feed_all<D: BidiData + Drop, S: Store>(
+    session: &mut Session<D>,
+    bytes: &[u8],
+    store: &mut S,
+)
     ensures bytes { (answered : List ByteAnswer) × (dropped : List ℕ)
         × FedUntilEnd (D.data session.old.tables) session.old.session (store_state S.contents S.failure_count store.old) bytes.now
         session.new.session (store_state S.contents S.failure_count store.new) answered dropped }
