@@ -195,7 +195,7 @@ wrote_more_turns [] turn = append-nil turn.written
 wrote_more_turns (first ∷ turns) turn =
     ap (λ xs. first.written ++ xs) (wrote_more_turns turns turn) ∙ sym (append_assoc first.written (written_in turns) turn.written)
 
-pub started : (d : Data) (s s1 : Session) (store : StoreState) (r w w1 : Option (List ℕ)) (written : List ℕ) → Sent s s1 w w1 written
+unfoldable pub started : (d : Data) (s s1 : Session) (store : StoreState) (r w w1 : Option (List ℕ)) (written : List ℕ) → Sent s s1 w w1 written
     → HasRun d s s1 store store r r w w1 [] [] written s
 started d s s1 store r w w1 written a = record {
   feeds = (refl, refl);
@@ -249,7 +249,7 @@ pub run_drops : (d : Data) (old s : Session) (store store1 : StoreState) (r r1 w
     → dropped ≢ [] → s.editor.ended ≡ true
 run_drops d old s store store1 r r1 w w1 answered dropped written all run some = ap (λ (x : Session). x.editor.ended) run.session ∙ run.drops some
 
-pub turned : {D : Type 0} (says : D → Data) (tables tables1 : D) (old s s2 s3 : Session) (store store1 store2 : StoreState) (r r1 r2 w w1 w2 : Option (List ℕ))
+unfoldable pub turned : {D : Type 0} (says : D → Data) (tables tables1 : D) (old s s2 s3 : Session) (store store1 store2 : StoreState) (r r1 r2 w w1 w2 : Option (List ℕ))
     (answered answered' : List ByteAnswer) (dropped dropped' written written' bytes : List ℕ) (all : Session)
     → HasRun (says tables) old s store store1 r r1 w w1 answered dropped written all → tables1 ≡ tables → s.pending ≡ []
     → s.editor.ended ≡ false → 1 ≤ length bytes → length bytes ≤ read_size → Consumes r1 r2 bytes

@@ -1,6 +1,7 @@
 //! Laws of sessions, for any input. The functions are empty: their contracts are the laws.
 
 ghost use Rattle.bx_session.specs.Anew.{AlwaysStaysPainted};
+ghost use Rattle.bx_session.specs.InMemory.{HasWholeLog};
 ghost use Rattle.bx_session.specs.Laws.{AlwaysShowsState, HasKeysOfInput, ReplaysKeys};
 ghost use Rattle.bx_session.specs.Recovery.{RecoveryGivesBack};
 
@@ -29,4 +30,9 @@ pub fn replays_apply_keys()
 /// the replay.
 pub fn recovery_gives_back()
     ensures { RecoveryGivesBack }
+{}
+
+/// The log of a device in memory has all that was done to the device, in order, unless memory ran out for it.
+pub fn devices_log_all()
+    ensures { HasWholeLog }
 {}
