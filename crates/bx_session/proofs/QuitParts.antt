@@ -1,6 +1,8 @@
 -- Only a Quit ends a session, so all bytes of a part are fed.
 use Rattle.std.proofs.Common.{◌≡◌, ◌≢◌, ◌≤◌, ◌<◌, ◌+◌, ℕ, suc, Bool, true, false, List, [], ◌∷◌, ◌++◌, Option, Some, None, Result, Ok, Err}
 use Rattle.std.proofs.Common.{refl, sym, ap, subst, ◌∙◌, append_assoc, take, drop, length, take-append-drop, if◌then◌else◌, arith}
+use Rattle.std.specs.List.{concat}
+use Rattle.std.proofs.lemmas.List.Folds.{concat-append}
 use Rattle.std.proofs.lemmas.List.{append-nil, length-append, length-map, length-take-le, map-append}
 use Rattle.bx_keys.specs.declared.key.Key.{Key}
 use Rattle.bx_keys.specs.Keys.{key_after, rest_after}
@@ -13,12 +15,14 @@ use Rattle.bx_editor.proofs.InSearch.{save-ends}
 use Rattle.bx_session.specs.declared.error.Refused.{Refused}
 use Rattle.bx_session.specs.declared.error.Refused.TheVariants as refused
 use Rattle.bx_session.specs.declared.status.Status.{Status}
-use Rattle.bx_session.specs.Journal.{HasKept, RecorderState}
+use Rattle.bx_session.specs.declared.action.Action.{Action}
+use Rattle.bx_session.specs.declared.action.Action.TheVariants.{Append}
+use Rattle.bx_session.specs.Log.{DidAll, appends}
 use Rattle.bx_session.specs.Parts.{is_quit, part_length}
 use Rattle.bx_session.specs.Running.{ByteAnswer, FeedsAll, FedUntilEnd, bytes_of}
 use Rattle.bx_session.specs.Saving.{StoreState, Feeds}
 use Rattle.bx_session.specs.Session.{Session, after_spending}
-use Rattle.bx_session.proofs.Recorded.{kept_more}
+use Rattle.bx_session.proofs.Logged.{appends_more, did_more}
 use Rattle.bx_session.proofs.Turns.{FeedsAll-append}
 use Rattle.bx_session.proofs.Recovered.{Leaves, byte_leaves, editor_after}
 use Rattle.bx_session.proofs.Replayed.{each-replayed, key_steps}
@@ -85,19 +89,21 @@ part_goes_on d s store store' (a ∷ answered) new behind feeds runs short =
 
 -- ---- lengths
 
+most_in : (quits : Bool) (n m : ℕ) → n ≤ m → (if quits then 1 else suc n) ≤ suc m
+most_in true n m h = omega arith
+most_in false n m h = omega (arith, h)
+
 pub part_most : (rest bs : List ℕ) → part_length rest bs ≤ length bs
 part_most rest [] = omega arith
-part_most rest (b ∷ bs) = by_quit (is_quit (key_after rest b)) where
-  by_quit : (quits : Bool) → (if quits then 1 else suc (part_length (head_of (rest_after rest b)) bs)) ≤ length (b ∷ bs)
-  by_quit true = omega arith
-  by_quit false = let others = part_most (head_of (rest_after rest b)) bs in omega (arith, others)
+part_most rest (b ∷ bs) =
+    let next = head_of (rest_after rest b) in most_in (is_quit (key_after rest b)) (part_length next bs) (length bs) (part_most next bs)
 
 some_in : (quits : Bool) (n : ℕ) → 1 ≤ (if quits then 1 else suc n)
 some_in true n = omega arith
 some_in false n = omega arith
 
-pub part_some : (rest bs : List ℕ) → bs ≢ [] → 1 ≤ part_length rest bs
-part_some rest [] some = absurd (some refl)
+pub part_some : (rest bs : List ℕ) → 1 ≤ length bs → 1 ≤ part_length rest bs
+part_some rest [] some = absurd (omega (arith, some))
 part_some rest (b ∷ bs) some = some_in (is_quit (key_after rest b)) (part_length (head_of (rest_after rest b)) bs)
 
 -- ---- a part is fed whole
@@ -121,18 +127,16 @@ fed_whole d s new store store' bytes answered (x ∷ dropped) fed runs =
 
 -- ---- one part more
 
--- all bytes of a part are fed and kept
-pub part_more : {D J : Type 0} (says : D → Data) (contents : J → Option (List ℕ)) (failures : J → ℕ) (tables tables1 : D) (old now new : Session)
-    (store store1 store2 : StoreState) (journal journal1 journal2 : RecorderState J) (bytes rest part behind : List ℕ) (count : ℕ)
-    (answered answered' : List ByteAnswer) (dropped : List ℕ)
-    → FeedsAll (says tables) old store answered now store1 → tables1 ≡ tables → bytes ≡ bytes_of answered ++ rest
-    → HasKept contents failures journal journal1 (bytes_of answered) → now.editor.ended ≡ false → count ≡ part_length now.rest rest
-    → part ≡ take count rest → behind ≡ drop count rest → HasKept contents failures journal1 journal2 part
+-- all bytes of a part are fed
+pub part_more : {D : Type 0} (says : D → Data) (tables tables1 : D) (old now new : Session) (store store1 store2 : StoreState)
+    (bytes rest part behind : List ℕ) (count : ℕ) (answered answered' : List ByteAnswer) (dropped : List ℕ)
+    → FeedsAll (says tables) old store answered now store1 → tables1 ≡ tables → bytes ≡ bytes_of answered ++ rest → now.editor.ended ≡ false
+    → count ≡ part_length now.rest rest → part ≡ take count rest → behind ≡ drop count rest
     → FedUntilEnd (says tables1) now store1 part new store2 answered' dropped
     → FeedsAll (says tables) old store (answered ++ answered') new store2 × (bytes ≡ bytes_of (answered ++ answered') ++ behind)
-    × HasKept contents failures journal journal2 (bytes_of (answered ++ answered'))
-part_more {D} {J} says contents failures tables tables1 old now new store store1 store2 journal journal1 journal2 bytes rest part behind count
-    answered answered' dropped feeds stay all kept runs is part_is behind_is keeps fed =
+    × (part ≡ bytes_of answered')
+part_more {D} says tables tables1 old now new store store1 store2 bytes rest part behind count answered answered' dropped feeds stay all runs is part_is
+    behind_is fed =
     let d = says tables in
     let fed_here : FedUntilEnd d now store1 part new store2 answered' dropped =
     subst (λ (t : D). FedUntilEnd (says t) now store1 part new store2 answered' dropped) stay fed in
@@ -148,7 +152,22 @@ part_more {D} {J} says contents failures tables tables1 old now new store store1
           ∙ ap (λ xs. bytes_of answered' ++ xs) (sym behind_is))
           ∙ sym (append_assoc (bytes_of answered) (bytes_of answered') behind)
           ∙ ap (λ xs. xs ++ behind) (sym both),
-      subst (HasKept contents failures journal journal2) (sym both)
-          (kept_more contents failures journal journal1 journal2 (bytes_of answered) (bytes_of answered') kept
-          (subst (HasKept contents failures journal1 journal2) fed_all keeps)),
+      fed_all,
+    )
+
+-- ---- the journal's parts
+
+-- parts handed over, and one more
+pub parts_more : {V : Type 0} (did : V → Action → V → Type 0) (device device1 device2 : V) (parts : List (List ℕ)) (part : List ℕ)
+    (answered answered' : List ByteAnswer) → DidAll did device (appends parts) device1 → concat parts ≡ bytes_of answered
+    → did device1 (Append part) device2 → part ≡ bytes_of answered'
+    → DidAll did device (appends (parts ++ part ∷ [])) device2 × (concat (parts ++ part ∷ []) ≡ bytes_of (answered ++ answered'))
+parts_more {V} did device device1 device2 parts part answered answered' before joined appended fed =
+    let one : concat (part ∷ []) ≡ part = append-nil part in (
+      subst (λ actions. DidAll did device actions device2) (sym (appends_more parts (part ∷ [])))
+          (did_more did device device1 device2 (appends parts) (Append part ∷ []) before (device2, appended, refl)),
+      concat-append parts (part ∷ [])
+          ∙ ap (λ xs. concat parts ++ xs) (one ∙ fed)
+          ∙ ap (λ xs. xs ++ bytes_of answered') joined
+          ∙ sym (map-append (λ (a : ByteAnswer). a.0) answered answered'),
     )

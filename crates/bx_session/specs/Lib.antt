@@ -2,6 +2,9 @@ pub mod Session
 pub mod Saving
 pub mod Painting
 pub mod Running
+pub mod Log
+pub mod Wire
+pub mod InMemory
 pub mod Journal
 pub mod Parts
 pub mod Laws

@@ -1,13 +1,14 @@
-//! Bytes of a read: appended to the journal and fed, up to the session's end.
+//! Bytes of a read: handed to the journal and fed, up to the session's end.
 
 ghost use Rattle.std.specs.Prelude.{◌≡◌, ◌≤◌, ℕ, List, length};
-ghost use Rattle.bx_session.specs.Journal.{HasKept};
+ghost use Rattle.std.specs.List.{concat};
+ghost use Rattle.bx_session.specs.declared.action.Action.{Action};
+ghost use Rattle.bx_session.specs.Log.{DidAll, WasAppended, appends};
 ghost use Rattle.bx_session.specs.Parts.{part_length};
 ghost use Rattle.bx_session.specs.Running.{ByteAnswer, FedUntilEnd, bytes_of};
 ghost use Rattle.bx_session.specs.Saving.{store_state};
 
-use crate::journal::{Journal, Recorder};
-use crate::running::feed_all;
+use crate::device::Device;
 use crate::session::Session;
 use bx_keys::Key;
 use bx_store::Store;
@@ -31,18 +32,40 @@ impl<D: BidiData + Drop> Session<D> {
     }
 }
 
-/// Appends bytes to the journal and feeds them, up to the session's end, in parts that each end behind a Quit: so each byte is
-/// appended before it is fed, and none that follows the end is appended.
-pub(crate) fn keep_and_feed<D: BidiData + Drop, J: Journal + Drop, S: Store>(
+/// Feeds bytes until the session ends. A refusal does not stop it. Called with bytes that the journal was handed just before.
+fn feed_all<D: BidiData + Drop, V: Device, S: Store>(
     session: &mut Session<D>,
     bytes: &[u8],
-    recorder: &mut Recorder<J>,
+    device: &V,
     store: &mut S,
 )
+    requires appended { WasAppended V.did device.now bytes.now }
     ensures bytes { (answered : List ByteAnswer) × (dropped : List ℕ)
         × FedUntilEnd (D.data session.old.tables) session.old.session (store_state S.contents S.failure_count store.old) bytes.now
+        session.new.session (store_state S.contents S.failure_count store.new) answered dropped }
+    ensures tables { session.new.tables ≡ session.old.tables }
+{
+    let _ = device;
+    for byte in bytes {
+        if session.ended() {
+            return;
+        }
+        let _ = session.feed(*byte, store);
+    }
+}
+
+/// Hands bytes to the journal and feeds them, up to the session's end, in parts that each end behind a Quit: so each byte is
+/// handed over before it is fed, and none that follows the end is.
+pub(crate) fn keep_and_feed<D: BidiData + Drop, V: Device, S: Store>(
+    session: &mut Session<D>,
+    bytes: &[u8],
+    device: &mut V,
+    store: &mut S,
+)
+    ensures bytes { (answered : List ByteAnswer) × (dropped : List ℕ) × (parts : List (List ℕ))
+        × FedUntilEnd (D.data session.old.tables) session.old.session (store_state S.contents S.failure_count store.old) bytes.now
         session.new.session (store_state S.contents S.failure_count store.new) answered dropped
-        × HasKept J.contents J.failure_count recorder.old recorder.new (bytes_of answered) }
+        × DidAll V.did device.old (appends parts) device.new × (concat parts ≡ bytes_of answered) }
     ensures tables { session.new.tables ≡ session.old.tables }
 {
     let mut rest = bytes;
@@ -51,8 +74,8 @@ pub(crate) fn keep_and_feed<D: BidiData + Drop, J: Journal + Drop, S: Store>(
             return;
         }
         let (part, behind) = rest.split_at(session.part_length(rest));
-        recorder.keep(part);
-        feed_all(session, part, store);
+        device.append(part);
+        feed_all(session, part, device, store);
         rest = behind;
     }
 }

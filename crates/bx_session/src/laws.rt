@@ -1,6 +1,7 @@
 //! Laws of sessions, for any input. The functions are empty: their contracts are the laws.
 
 ghost use Rattle.bx_session.specs.Anew.{AlwaysStaysPainted};
+ghost use Rattle.bx_session.specs.InMemory.{HasWholeLog};
 ghost use Rattle.bx_session.specs.Laws.{AlwaysShowsState, HasKeysOfInput, ReplaysKeys};
 ghost use Rattle.bx_session.specs.Recovery.{JournalsGiveBack, RecoveryGivesBack};
 
@@ -38,4 +39,9 @@ pub fn recovery_gives_back()
 /// did before.
 pub fn journals_give_back<J: Journal + Drop>()
     ensures { JournalsGiveBack J.contents J.failure_count }
+{}
+
+/// The log of a device in memory has all that was done to the device, in order, unless memory ran out for it.
+pub fn devices_log_all()
+    ensures { HasWholeLog }
 {}
