@@ -85,19 +85,21 @@ part_goes_on d s store store' (a ∷ answered) new behind feeds runs short =
 
 -- ---- lengths
 
+most_in : (quits : Bool) (n m : ℕ) → n ≤ m → (if quits then 1 else suc n) ≤ suc m
+most_in true n m h = omega arith
+most_in false n m h = omega (arith, h)
+
 pub part_most : (rest bs : List ℕ) → part_length rest bs ≤ length bs
 part_most rest [] = omega arith
-part_most rest (b ∷ bs) = by_quit (is_quit (key_after rest b)) where
-  by_quit : (quits : Bool) → (if quits then 1 else suc (part_length (head_of (rest_after rest b)) bs)) ≤ length (b ∷ bs)
-  by_quit true = omega arith
-  by_quit false = let others = part_most (head_of (rest_after rest b)) bs in omega (arith, others)
+part_most rest (b ∷ bs) =
+    let next = head_of (rest_after rest b) in most_in (is_quit (key_after rest b)) (part_length next bs) (length bs) (part_most next bs)
 
 some_in : (quits : Bool) (n : ℕ) → 1 ≤ (if quits then 1 else suc n)
 some_in true n = omega arith
 some_in false n = omega arith
 
-pub part_some : (rest bs : List ℕ) → bs ≢ [] → 1 ≤ part_length rest bs
-part_some rest [] some = absurd (some refl)
+pub part_some : (rest bs : List ℕ) → 1 ≤ length bs → 1 ≤ part_length rest bs
+part_some rest [] some = absurd (omega (arith, some))
 part_some rest (b ∷ bs) some = some_in (is_quit (key_after rest b)) (part_length (head_of (rest_after rest b)) bs)
 
 -- ---- a part is fed whole

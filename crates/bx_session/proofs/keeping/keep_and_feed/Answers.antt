@@ -1,28 +1,36 @@
-use Rattle.std.proofs.Common.{◌++◌, refl, sym, ◌∙◌}
+use Rattle.std.proofs.Common.{◌≤◌, ◌++◌, [], length, refl, subst, sym, ◌∙◌, arith}
 use Rattle.bx_ucd.specs.Data.{Data}
-use Rattle.bx_session.proofs.QuitParts.{part_more}
+use Rattle.bx_session.proofs.QuitParts.{part_more, part_most, part_some}
 use Rattle.bx_session.proofs.Recorded.{kept_nothing}
 use Rattle.bx_session.proofs.keeping.keep_and_feed.Goals as goal
 
 pub parts-init : goal.parts-init
 parts-init g c = (([], (refl, refl), refl, kept_nothing _ _ _), refl)
 
+pub split_at-requires : goal.split_at-requires
+split_at-requires g c =
+    subst (λ n. n ≤ length c.parts.rest.now) (sym c.part_length.ensures) (part_most c.parts.session.session.rest c.parts.rest.now)
+
 pub parts-preserved : goal.parts-preserved
 parts-preserved g c =
     let says : g.row.D.Denot → Data = g.D.BidiData.data in
     let run = c.parts.invariant.0 in
-    let fed = c.feed_all.ensures.bytes in (
-      (
-        run.0 ++ fed.0,
-        part_more says g.J.Journal.contents g.J.Journal.failure_count c.args.session.now.tables c.parts.session.tables c.args.session.now.session
-            c.parts.session.session c.feed_all.new.session.session _ _ _ c.args.recorder.now c.parts.recorder c.keep.new.self c.args.bytes.now c.parts.rest
-            c.split_at.result.0.now c.split_at.result.1.now c.part_length.result run.0 fed.0 fed.1 run.1 c.parts.invariant.1 run.2 run.3
-            (sym c.ended.ensures ∙ c.if-ended.false) c.part_length.ensures ? ? c.keep.ensures.keeps fed.2,
-      ),
-      c.feed_all.ensures.tables ∙ c.parts.invariant.1,
-    )
+    let fed = c.feed_all.ensures.bytes in
+    let more =
+    part_more says g.J.Journal.contents g.J.Journal.failure_count c.args.session.now.tables c.parts.session.tables c.args.session.now.session
+    c.parts.session.session c.feed_all.new.session.session _ _ _ c.args.recorder.now c.parts.recorder c.keep.new.self c.args.bytes.now c.parts.rest.now
+    c.split_at.result.0.now c.split_at.result.1.now c.part_length.result run.0 fed.0 fed.1 run.1 c.parts.invariant.1 run.2 run.3
+    (sym c.ended.ensures ∙ c.if-ended.false) c.part_length.ensures c.split_at.ensures.front c.split_at.ensures.back c.keep.ensures.keeps fed.2 in
+    ((run.0 ++ fed.0, more.0, more.1, more.2), c.feed_all.ensures.tables ∙ c.parts.invariant.1)
+
+pub parts-smaller : goal.parts-smaller
+parts-smaller g c =
+    let some : 1 ≤ length c.parts.rest.now = search rules in
+    let count : 1 ≤ c.part_length.result =
+    subst (λ n. 1 ≤ n) (sym c.part_length.ensures) (part_some c.parts.session.session.rest c.parts.rest.now some) in
+    omega (arith, count, c.split_at.ensures.back_len)
 
 pub returns-then-ended-clause-bytes : goal.returns-then-ended-clause-bytes
 returns-then-ended-clause-bytes g c =
     let run = c.parts.invariant.0 in
-    (run.0, c.parts.rest, record { all = run.2; feeds = run.1; drops = λ some. sym c.ended.ensures ∙ c.if-ended.true }, run.3)
+    (run.0, c.parts.rest.now, record { all = run.2; feeds = run.1; drops = λ some. sym c.ended.ensures ∙ c.if-ended.true }, run.3)
