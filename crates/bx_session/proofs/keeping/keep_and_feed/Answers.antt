@@ -1,4 +1,4 @@
-use Rattle.std.proofs.Common.{◌≤◌, ◌++◌, [], length, refl, subst, sym, ◌∙◌, arith}
+use Rattle.std.proofs.Common.{◌≤◌, ◌++◌, [], length, refl, rules, subst, sym, ◌∙◌, arith}
 use Rattle.bx_ucd.specs.Data.{Data}
 use Rattle.bx_session.proofs.QuitParts.{part_more, part_most, part_some}
 use Rattle.bx_session.proofs.Recorded.{kept_nothing}
