@@ -1,5 +1,5 @@
 -- The terminal is there as long as it has memory.
-use Rattle.std.proofs.Common.{◌≡◌, true, List, [], ◌∷◌, Option, Some, None, Result, Ok, Err, sym, ap, subst}
+use Rattle.std.proofs.Common.{◌≡◌, true, List, [], ◌∷◌, Option, Result, Ok, Err, sym, ap, subst}
 use Rattle.std.specs.Prelude.{IsSome, option_map}
 use Rattle.bx_grid.specs.declared.error.GridError.TheVariants as grid
 use Rattle.bx_grid.specs.Terminal.{Terminal}
