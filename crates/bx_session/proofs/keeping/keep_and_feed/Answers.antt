@@ -10,10 +10,6 @@ pub split_at-requires : goal.split_at-requires
 split_at-requires g c =
     subst (λ n. n ≤ length c.parts.rest.now) (sym c.part_length.ensures) (part_most c.parts.session.session.rest c.parts.rest.now)
 
-pub split_at-requires : goal.split_at-requires
-split_at-requires g c =
-    subst (λ n. n ≤ length c.parts.rest.now) (sym c.part_length.ensures) (part_most c.parts.session.session.rest c.parts.rest.now)
-
 pub parts-preserved : goal.parts-preserved
 parts-preserved g c =
     let says : g.row.D.Denot → Data = g.D.BidiData.data in
