@@ -190,8 +190,8 @@ module _ {D V : Type 0} (says : D → Data) (tables tables1 : D) (did : V → Ac
       → FedUntilEnd (says tables1) s store1 bytes s2 store2 answered dropped → (joined : concat parts ≡ bytes_of answered)
       → Sent s2 s3 None None written → IsSentAlone written actions
       → IsLog limit result before.run.in_turns.first (before.turns
-          ++ record { turn = record { fed = answered; dropped = dropped; written = written }; parts = parts; joined = joined } ∷ [])
-          (before.log ++ turn_by bytes parts actions)
+      ++ record { turn = record { fed = answered; dropped = dropped; written = written }; parts = parts; joined = joined } ∷ [])
+      (before.log ++ turn_by bytes parts actions)
       → HasLogged did (says tables) limit result old s3 store store2 device device3
   unfolding turned
   turn_more stay empty running some most reads kept sends fed joined sent alone order =
@@ -248,8 +248,8 @@ module _ {D V : Type 0} (says : D → Data) (tables tables1 : D) (did : V → Ac
   pub turn_failed : IsFailedSending written actions → HasLogged did (says tables) limit (Err WriteFault) old s3 store store2 device device3
   turn_failed failed =
       turn_more says tables tables1 did limit (Err WriteFault) old s s2 s3 store store1 store2 device device1 mid device2 device3 answered dropped written
-          bytes parts actions before stay empty running some most reads kept sends fed joined sent (failed_alone written actions failed)
-          (failed_turn before.log before.run.in_turns.first before.turns this bytes actions before.order fed.all failed)
+      bytes parts actions before stay empty running some most reads kept sends fed joined sent (failed_alone written actions failed)
+      (failed_turn before.log before.run.in_turns.first before.turns this bytes actions before.order fed.all failed)
 
 -- ---- the end
 

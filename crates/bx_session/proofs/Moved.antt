@@ -25,9 +25,9 @@ use Rattle.bx_session.proofs.Recorded.{kept_more, kept_nothing}
 turn_reads : (logged : LoggedTurn) (more : List Action) → bytes_by read_by (turn_actions logged ++ more) ≡ read_in logged.turn ++ bytes_by read_by more
 turn_reads logged more =
     ap (λ xs. read_in logged.turn ++ xs) (
-      bytes_more read_by (appends logged.parts ++ Write logged.turn.written ∷ Flush ∷ []) more
-      ∙ ap (λ xs. xs ++ bytes_by read_by more) (bytes_more read_by (appends logged.parts) (Write logged.turn.written ∷ Flush ∷ [])
-      ∙ ap (λ xs. xs ++ []) (appends_read logged.parts))
+    bytes_more read_by (appends logged.parts ++ Write logged.turn.written ∷ Flush ∷ []) more
+    ∙ ap (λ xs. xs ++ bytes_by read_by more) (bytes_more read_by (appends logged.parts) (Write logged.turn.written ∷ Flush ∷ [])
+    ∙ ap (λ xs. xs ++ []) (appends_read logged.parts))
     )
 
 -- each turn read a byte at least
@@ -89,7 +89,7 @@ module _ {R J W : Type 0} (remaining : R → Option (List ℕ)) (contents : J �
 
     pub recorded : (result : Result End RunFault) → HasLogged (DidWired remaining contents failures out) d limit result old new store store' device device'
         → RunsRecorded contents failures d old new store store' (remaining device.reader.now) (remaining device'.reader.now)
-            (out device.writer.now) (out device'.writer.now) device.recorder.now device'.recorder.now
+        (out device.writer.now) (out device'.writer.now) device.recorder.now device'.recorder.now
     recorded result logged =
         let moved = all_moved device device' logged.log logged.did_all in
         let run = logged.run in (

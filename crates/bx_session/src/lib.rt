@@ -21,15 +21,15 @@ mod session;
 mod status;
 mod wired;
 
-pub use bx_editor::{OpenError, Seek};
 pub use action::{Action, ActionBytes};
+pub use bx_editor::{OpenError, Seek};
 pub use device::{Device, DeviceFault};
 pub use end::{End, RunFault};
 pub use error::Refused;
 pub use journal::{Journal, JournalFault, NoJournal, Recorder, WrittenJournal};
 pub use laws::{
-    devices_log_all, journals_give_back, keys_are_those_of_input, painting_anew_sends_nothing, paintings_keep_up,
-    recovery_gives_back, replays_apply_keys,
+    devices_log_all, journals_give_back, keys_are_those_of_input, painting_anew_sends_nothing,
+    paintings_keep_up, recovery_gives_back, replays_apply_keys,
 };
 pub use memory_device::MemoryDevice;
 pub use over_reader::{run, run_recorded, run_within};

@@ -60,10 +60,7 @@ impl MemoryDevice {
 }
 
 /// The log with one action more; none if memory ran out, now or before.
-fn with_action(
-    log: Option<Vec<Action>>,
-    action: Result<Action, AllocError>,
-) -> Option<Vec<Action>>
+fn with_action(log: Option<Vec<Action>>, action: Result<Action, AllocError>) -> Option<Vec<Action>>
     ensures { DidLog (option_map vec_items log) action (option_map vec_items result) }
 {
     match (log, action) {

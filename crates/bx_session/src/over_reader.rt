@@ -55,15 +55,11 @@ pub fn run_within<D: BidiData + Drop, R: Read, W: Write, S: Store>(
     ensures limit { IsErrOf result RunFault.ReadLimit → HasRead limit (R.remaining reader.old) (R.remaining reader.new) }
 {
     let mut recorder = Recorder::new(*session.queue.allocator(), NoJournal);
-    let mut device = Wired {
-        reader,
-        recorder: &mut recorder,
-        writer,
-    };
-    run_wired(limit, &mut device, store, session)
+    run_limited(limit, reader, &mut recorder, writer, store, session)
 }
 
-/// Runs a session as [`run`] does, and hands the bytes of each read to the journal before it feeds them.
+/// Runs a session as [`run`] does, and hands each byte to the journal before it feeds it. What follows the session's end is not
+/// handed over.
 pub fn run_recorded<D: BidiData + Drop, R: Read, J: Journal + Drop, W: Write, S: Store>(
     reader: &mut R,
     recorder: &mut Recorder<J>,
@@ -78,12 +74,31 @@ pub fn run_recorded<D: BidiData + Drop, R: Read, J: Journal + Drop, W: Write, S:
     ensures ends { EndsWith result session.new.session (R.remaining reader.new) }
     ensures limit { IsErrOf result RunFault.ReadLimit → HasRead 1000000000 (R.remaining reader.old) (R.remaining reader.new) }
 {
+    run_limited(READS, reader, recorder, writer, store, session)
+}
+
+/// Runs a session with a journal and at most `limit` reads, over a device of reader, recorder and writer.
+fn run_limited<D: BidiData + Drop, R: Read, J: Journal + Drop, W: Write, S: Store>(
+    limit: u64,
+    reader: &mut R,
+    recorder: &mut Recorder<J>,
+    writer: &mut W,
+    store: &mut S,
+    session: &mut Session<D>,
+) -> Result<End, RunFault>
+    ensures runs { RunsRecorded J.contents J.failure_count (D.data session.old.tables) session.old.session session.new.session
+        (store_state S.contents S.failure_count store.old) (store_state S.contents S.failure_count store.new)
+        (R.remaining reader.old) (R.remaining reader.new) (W.contents writer.old) (W.contents writer.new) recorder.old recorder.new }
+    ensures tables { session.new.tables ≡ session.old.tables }
+    ensures ends { EndsWith result session.new.session (R.remaining reader.new) }
+    ensures limit { IsErrOf result RunFault.ReadLimit → HasRead limit (R.remaining reader.old) (R.remaining reader.new) }
+{
     let mut device = Wired {
         reader,
         recorder,
         writer,
     };
-    run_wired(READS, &mut device, store, session)
+    run_wired(limit, &mut device, store, session)
 }
 
 /// Runs a session with a journal and at most `limit` reads.
