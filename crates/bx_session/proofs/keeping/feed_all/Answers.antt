@@ -2,7 +2,7 @@ use Rattle.std.proofs.Common.{drop, sym, ◌∙◌}
 use Rattle.std.proofs.lemmas.List.{take_more}
 use Rattle.bx_ucd.specs.Data.{Data}
 use Rattle.bx_session.proofs.Turns.{fed_more, fed_until}
-use Rattle.bx_session.proofs.running.feed_all.Goals as goal
+use Rattle.bx_session.proofs.keeping.feed_all.Goals as goal
 
 pub returns-then-ended-clause-bytes : goal.returns-then-ended-clause-bytes
 returns-then-ended-clause-bytes g c =

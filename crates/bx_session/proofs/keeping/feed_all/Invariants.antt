@@ -2,7 +2,7 @@ use Rattle.std.proofs.Common.{◌≡◌, List}
 use Rattle.bx_session.specs.Running.{ByteAnswer}
 use Rattle.bx_session.specs.Saving.{store_state}
 use Rattle.bx_session.proofs.Turns.{Fed}
-use Rattle.bx_session.proofs.running.feed_all.Given as goal
+use Rattle.bx_session.proofs.keeping.feed_all.Given as goal
 
 abbrev pub invariant-loop-byte : goal.invariant-loop-byte
 invariant-loop-byte g l =
