@@ -1,116 +1,105 @@
--- The start and the result of a run, from the contracts of the calls within.
-use Rattle.std.proofs.Common.{◌≡◌, ℕ, Bool, false, List, [], Option, None, Result, Ok, Err, sym, ap, subst, ◌∙◌}
-use Rattle.std.specs.Prelude.{IfOk, OnOk, vec_items, unwrap_or, Some}
-use Rattle.std.specs.Global.{Vec}
-use Rattle.bx_terms.specs.declared.base.Base.{Base}
+-- The start and the end of a run, from the contracts of the calls within.
+use Rattle.std.proofs.Common.{◌≡◌, ℕ, Bool, true, false, List, Option, Result, Ok, Err, IsErrAnd, sym, ap, subst, ◌∙◌}
 use Rattle.bx_ucd.specs.Data.{Data}
 use Rattle.bx_words.specs.declared.unicode.UnicodeFiles.{UnicodeFiles}
-use Rattle.bx_session.specs.Session.{Session, SessionState, after_journal, at_opening, with_painting}
-use Rattle.bx_session.specs.Saving.{StoreState, with_text}
+use Rattle.bx_session.specs.declared.end.End.{End}
+use Rattle.bx_session.specs.declared.end.End.TheVariants.{Quit, InputEnded}
+use Rattle.bx_session.specs.declared.end.RunFault.{RunFault}
+use Rattle.bx_session.specs.Session.{Session, SessionState, after_journal, with_painting}
 use Rattle.bx_session.specs.Painting.{QueuesPicture}
-use Rattle.bx_session.specs.Journal.{RecorderState, RunsRecorded}
-use Rattle.bx_session.specs.Beginning.{after_going_to, changed_if}
+use Rattle.bx_session.specs.Running.{EndsWith}
+use Rattle.bx_session.specs.Journal.{RunsRecorded}
+use Rattle.bx_session.specs.Beginning.{Beginning, at_offset}
+use Rattle.bx_recovery.specs.declared.fault.RecoveryFault.{RecoveryFault}
+use Rattle.bx_recovery.specs.declared.fault.RecoveryFault.TheVariants as recovery
+use Rattle.bx_recovery.specs.Beginnings.{AreOfFiles, IsOpened}
 use Rattle.bidi_edit.specs.declared.edit.Changes.{Changes}
-use Rattle.bidi_edit.specs.declared.edit.Changes.TheVariants.{Saved}
-use Rattle.bidi_edit.specs.Run.{AreOfFiles, Edits, IsOpened, Recovers, begins_with, bytes_of}
+use Rattle.bidi_edit.specs.declared.fault.ProgramFault.{ProgramFault}
+use Rattle.bidi_edit.specs.declared.fault.ProgramFault.TheVariants as fault
+use Rattle.bidi_edit.specs.Faults.{fault_of_recovery}
+use Rattle.bidi_edit.specs.Run.{Edits, Outside, Resumes, RunsTo, RunsUnless, told}
 
--- ---- opening
+-- ---- which results come of a run
 
-pub bytes_or_none : (text : Option (Vec ℕ)) (none result : Vec ℕ) → vec_items none ≡ [] → result ≡ unwrap_or text none → vec_items result ≡ bytes_of text
-bytes_or_none None none result empty is = ap (λ (v : Vec ℕ). vec_items v) is ∙ empty
-bytes_or_none (Some bytes) none result empty is = ap (λ (v : Vec ℕ). vec_items v) is
+runs_told : (P Q : Type 0) (end : Result End RunFault) (changed : Bool) → P → RunsUnless (told end changed) P Q
+runs_told P Q (Err cause) changed p = p
+runs_told P Q (Ok Quit) false p = p
+runs_told P Q (Ok (InputEnded unsaved)) false p = p
+runs_told P Q (Ok Quit) true p = p
+runs_told P Q (Ok (InputEnded unsaved)) true p = p
 
-pub opened_is : {D : Type 0} (says : D → Data) (tables : D) (first new : SessionState D) (text text' : List ℕ) (height width : ℕ) (base : Base)
-    (unsaved : Bool) (offset : Option ℕ) (files : UnicodeFiles) → AreOfFiles (says tables) files
-    → first ≡ record { tables = tables; session = at_opening (says tables) text' height width base }
-    → QueuesPicture (says tables) [] None first.session → text' ≡ text
-    → new ≡ record first { session = changed_if unsaved (after_going_to (says first.tables) first.session offset) }
-    → (offset' : Option ℕ) × AreOfFiles (says new.tables) files
-    × IsOpened (says new.tables) (begins_with text height width base unsaved [] offset') new.session
-opened_is {D} says tables first new text text' height width base unsaved offset files are is queued same gone =
-    let stays : first.tables ≡ tables = ap (λ (x : SessionState D). x.tables) is in
-    let kept : new.tables ≡ tables = ap (λ (x : SessionState D). x.tables) gone ∙ stays in
-    let begins : first.session ≡ at_opening (says tables) text height width base =
-    ap (λ (x : SessionState D). x.session) is ∙ ap (λ (t : List ℕ). at_opening (says tables) t height width base) same in
-    let opened : IsOpened (says tables) (begins_with text height width base unsaved [] offset) new.session = record {
-      session = ap (λ (x : SessionState D). x.session) gone
-          ∙ ap (λ (t : D). changed_if unsaved (after_going_to (says t) first.session offset)) stays
-          ∙ ap (λ (s : Session). changed_if unsaved (after_going_to (says tables) s offset)) begins;
-      paints = subst (QueuesPicture (says tables) [] None) begins queued;
-    } in (
-      offset,
-      subst (λ (t : D). AreOfFiles (says t) files) (sym kept) are,
-      subst (λ (t : D). IsOpened (says t) (begins_with text height width base unsaved [] offset) new.session) (sym kept) opened,
-    )
+stays_by : (P Q : Type 0) (cause : RecoveryFault) → Q → RunsUnless (Err (fault_of_recovery cause)) P Q
+stays_by P Q (recovery.Tables error) q = q
+stays_by P Q (recovery.Open error) q = q
+stays_by P Q recovery.Unwritten q = q
+stays_by P Q recovery.OutOfMemory q = q
+
+pub stays_on : (P Q : Type 0) (r : Result Changes ProgramFault) (cause : RecoveryFault) → IsErrAnd r (λ e. e ≡ fault_of_recovery cause) → Q
+    → RunsUnless r P Q
+stays_on P Q (Ok changes) cause is q = absurd is
+stays_on P Q (Err e) cause is q = subst (λ (x : ProgramFault). RunsUnless (Err x) P Q) (sym is) (stays_by P Q cause q)
+
+-- other facts of a run follow from these
+pub runs_further : (P P' Q : Type 0) (r : Result Changes ProgramFault) → (P → P') → RunsUnless r P Q → RunsUnless r P' Q
+runs_further P P' Q (Ok changes) f h = f h
+runs_further P P' Q (Err fault.Unsaved) f h = f h
+runs_further P P' Q (Err (fault.Run cause)) f h = f h
+runs_further P P' Q (Err (fault.Tables error)) f h = h
+runs_further P P' Q (Err (fault.File error)) f h = h
+runs_further P P' Q (Err (fault.Text error)) f h = h
+runs_further P P' Q (Err (fault.Open error)) f h = h
+runs_further P P' Q (Err fault.Unwritten) f h = h
+runs_further P P' Q (Err fault.Untold) f h = h
+runs_further P P' Q (Err fault.OutOfMemory) f h = h
 
 -- ---- after the opening
 
-pub painted_again : {D A E : Type 0} (says : D → Data) (old mid new : SessionState D) (keys : List ℕ) (r : Result A E) → mid.tables ≡ old.tables
-    → mid.session ≡ after_journal (says old.tables) old.session keys → new.session ≡ with_painting (says mid.tables) mid.session
-    → QueuesPicture (says mid.tables) mid.session.pending mid.session.known new.session
-    → OnOk r (QueuesPicture (says old.tables) (after_journal (says old.tables) old.session keys).pending
-    (after_journal (says old.tables) old.session keys).known (with_painting (says old.tables) (after_journal (says old.tables) old.session keys)))
-painted_again says old mid new keys (Err fault) same is painted queued = tt
-painted_again {D} says old mid new keys (Ok done) same is painted queued =
+pub resumes_of : {J D : Type 0} (Q : Type 0) (says : D → Data) (contents : J → Option (List ℕ)) (failures : J → ℕ) (old begun : SessionState D) (new : Session)
+    (journal : List ℕ) (out out' : Outside J) (end : Result End RunFault) (changed : Bool) (result : Result Changes ProgramFault)
+    → begun.tables ≡ old.tables
+    → begun.session ≡ with_painting (says old.tables) (after_journal (says old.tables) old.session journal)
+    → QueuesPicture (says old.tables) (after_journal (says old.tables) old.session journal).pending
+    (after_journal (says old.tables) old.session journal).known begun.session
+    → RunsRecorded contents failures (says begun.tables) begun.session new out.store out'.store out.unread out'.unread out.written out'.written
+    out.recorder out'.recorder
+    → EndsWith end new out'.unread → result ≡ told end changed → changed ≡ new.editor.changed
+    → RunsUnless result (Resumes contents failures (says old.tables) old.session journal out out' result) Q
+resumes_of {J} {D} Q says contents failures old begun new journal out out' end changed result same is paints runs ends tells changes =
     let d = says old.tables in
-    subst (λ (x : Session). QueuesPicture d x.pending x.known (with_painting d x)) is
-    (subst (λ (t : D). QueuesPicture (says t) mid.session.pending mid.session.known (with_painting (says t) mid.session)) same
-    (subst (QueuesPicture (says mid.tables) mid.session.pending mid.session.known) painted queued))
-
-pub runs_again : {D J A E : Type 0} (says : D → Data) (contents : J → Option (List ℕ)) (failures : J → ℕ) (old mid painted : SessionState D) (keys : List ℕ)
-    (new : Session) (store store' : StoreState) (reader reader' writer writer' : Option (List ℕ)) (journal journal' : RecorderState J) (r : Result A E)
-    → mid.tables ≡ old.tables → mid.session ≡ after_journal (says old.tables) old.session keys → painted.tables ≡ mid.tables
-    → painted.session ≡ with_painting (says mid.tables) mid.session
-    → RunsRecorded contents failures (says painted.tables) painted.session new store store' reader reader' writer writer' journal journal'
-    → OnOk r (RunsRecorded contents failures (says old.tables) (with_painting (says old.tables) (after_journal (says old.tables) old.session keys)) new
-    store store' reader reader' writer writer' journal journal')
-runs_again says contents failures old mid painted keys new store store' reader reader' writer writer' journal journal' (Err fault) same is stays paints runs = tt
-runs_again {D} says contents failures old mid painted keys new store store' reader reader' writer writer' journal journal' (Ok done) same is stays paints runs =
-    let d = says old.tables in
-    let begins : painted.session ≡ with_painting d (after_journal d old.session keys) =
-    paints ∙ ap (λ (t : D). with_painting (says t) mid.session) same ∙ ap (with_painting d) is in
-    subst (λ (s : Session). RunsRecorded contents failures d s new store store' reader reader' writer writer' journal journal') begins
-    (subst (λ (t : D). RunsRecorded contents failures (says t) painted.session new store store' reader reader' writer writer' journal journal')
-    (stays ∙ same) runs)
+    let from = after_journal d old.session journal in
+    let from_tables : RunsRecorded contents failures d begun.session new out.store out'.store out.unread out'.unread out.written out'.written
+    out.recorder out'.recorder =
+    subst (λ (t : D). RunsRecorded contents failures (says t) begun.session new out.store out'.store out.unread out'.unread out.written out'.written
+    out.recorder out'.recorder) same runs in
+    let all : Resumes contents failures d old.session journal out out' result = record {
+      session = new;
+      end = end;
+      painted = subst (QueuesPicture d from.pending from.known) is paints;
+      runs = record {
+        runs = subst (λ (s : Session). RunsRecorded contents failures d s new out.store out'.store out.unread out'.unread out.written out'.written
+            out.recorder out'.recorder) is from_tables;
+        ends = ends;
+      };
+      tells = tells ∙ ap (told end) changes;
+    } in
+    subst (λ (r : Result Changes ProgramFault). RunsUnless r (Resumes contents failures d old.session journal out out' result) Q) (sym tells)
+    (runs_told _ Q end changed all)
 
 -- ---- a whole run
 
-pub edits_of : {J E : Type 0} (contents : J → Option (List ℕ)) (failures : J → ℕ) (d : Data) (text : List ℕ) (height width : ℕ) (base : Base)
-    (unsaved : Bool) (keys : List ℕ) (files : UnicodeFiles) (s new : Session) (store store' : StoreState) (reader reader' writer writer' : Option (List ℕ))
-    (journal journal' : RecorderState J) (r : Result Changes E)
-    → (offset : Option ℕ) × AreOfFiles d files × IsOpened d (begins_with text height width base unsaved [] offset) s
-    → OnOk r (QueuesPicture d (after_journal d s keys).pending (after_journal d s keys).known (with_painting d (after_journal d s keys)))
-    → OnOk r (RunsRecorded contents failures d (with_painting d (after_journal d s keys)) new store store' reader reader' writer writer' journal journal')
-    → (r ≡ Ok Saved → new.editor.changed ≡ false)
-    → IfOk r (λ changes. Edits contents failures (begins_with text height width base unsaved keys) files store store'
-    reader reader' writer writer' journal journal' changes)
-edits_of contents failures d text height width base unsaved keys files s new store store' reader reader' writer writer' journal journal'
-    (Err fault) opened paints runs saved = tt
-edits_of contents failures d text height width base unsaved keys files s new store store' reader reader' writer writer' journal journal'
-    (Ok changes) opened paints runs saved =
-    let is = opened.2.session in record {
+pub edits_of : {J : Type 0} (Q : Type 0) (contents : J → Option (List ℕ)) (failures : J → ℕ) (b : Beginning) (files : UnicodeFiles) (d : Data) (s : Session)
+    (out out' : Outside J) (result : Result Changes ProgramFault) → AreOfFiles d files → IsOpened d b s
+    → RunsUnless result (Resumes contents failures d s b.journal out out' result) Q
+    → RunsUnless result (Edits contents failures b files out out' result) Q
+edits_of {J} Q contents failures b files d s out out' result are opened =
+    runs_further _ _ Q result (λ (given : Resumes contents failures d s b.journal out out' result).
+    let here : Resumes contents failures d (at_offset d b) b.journal out out' result =
+    subst (λ (t : Session). Resumes contents failures d t b.journal out out' result) opened.session given in record {
       tables = d;
-      offset = opened.0;
-      session = new;
-      answers = opened.1;
-      begins = record {
-        opened = opened.2.paints;
-        painted = subst (λ (x : Session). QueuesPicture d (after_journal d x keys).pending (after_journal d x keys).known
-            (with_painting d (after_journal d x keys))) is paints;
-      };
-      runs = subst (λ (x : Session). RunsRecorded contents failures d (with_painting d (after_journal d x keys)) new store store'
-          reader reader' writer writer' journal journal') is runs;
-      saved = λ e. saved (ap Ok e);
-    }
-
-pub recovers_of : {A E : Type 0} (d : Data) (text : List ℕ) (height width : ℕ) (base : Base) (unsaved : Bool) (keys : List ℕ) (files : UnicodeFiles) (s : Session)
-    (store store' : StoreState) (r : Result A E) → (offset : Option ℕ) × AreOfFiles d files × IsOpened d (begins_with text height width base unsaved [] offset) s
-    → OnOk r (store' ≡ with_text (after_journal d s keys).editor.content.text store)
-    → OnOk r (Recovers (begins_with text height width base unsaved keys) files store store')
-recovers_of d text height width base unsaved keys files s store store' (Err fault) opened stored = tt
-recovers_of d text height width base unsaved keys files s store store' (Ok done) opened stored = record {
-  tables = d;
-  offset = opened.0;
-  answers = opened.1;
-  stored = stored ∙ ap (λ (x : Session). with_text (after_journal d x keys).editor.content.text store) opened.2.session;
-}
+      session = here.session;
+      end = here.end;
+      answers = are;
+      begins = record { opened = opened.paints; painted = here.painted };
+      runs = here.runs;
+      tells = here.tells;
+    })

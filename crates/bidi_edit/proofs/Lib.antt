@@ -1,2 +1,2 @@
-pub mod Replays
 pub mod Edited
+pub mod Examples

@@ -63,7 +63,4 @@ abbrev pub RunsUnless : Result Changes ProgramFault → Type 0 → Type 0 → Ty
 RunsUnless (Ok changes) Runs Stays = Runs
 RunsUnless (Err fault.Unsaved) Runs Stays = Runs
 RunsUnless (Err (fault.Run cause)) Runs Stays = Runs
-RunsUnless (Err (fault.Tables error)) Runs Stays = Stays
-RunsUnless (Err (fault.Open error)) Runs Stays = Stays
-RunsUnless (Err fault.OutOfMemory) Runs Stays = Stays
-RunsUnless (Err other) Runs Stays = ⊥
+RunsUnless (Err before) Runs Stays = Stays

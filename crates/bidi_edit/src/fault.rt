@@ -66,6 +66,8 @@ impl From<TextFault> for ProgramFault<'_> {
 }
 
 impl From<Refused> for ProgramFault<'_> {
+    ghost use Rattle.bidi_edit.specs.declared.fault.ProgramFault.TheVariants.{OutOfMemory};
+
     ghost from_gives = { λ _ new. new ≡ OutOfMemory };
 
     /// A painting is refused when memory runs out.

@@ -1,3 +1,5 @@
+pub mod TablesData
 pub mod Texts
 pub mod Replays
 pub mod Opened
+pub mod Examples

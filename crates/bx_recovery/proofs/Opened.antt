@@ -20,22 +20,23 @@ pub bytes_or_none : (text : Option (Vec ℕ)) (none result : Vec ℕ) → vec_it
 bytes_or_none None none result empty is = ap (λ (v : Vec ℕ). vec_items v) is ∙ empty
 bytes_or_none (Some bytes) none result empty is = ap (λ (v : Vec ℕ). vec_items v) is
 
-pub opened_is : {D : Type 0} (says : D → Data) (tables : D) (first new : SessionState D) (text : List ℕ) (b : Beginning)
+pub opened_is : {D : Type 0} (says : D → Data) (tables : D) (first new : SessionState D) (text : List ℕ) (b : Beginning) (offset : Option ℕ)
     → first ≡ record { tables = tables; session = at_opening (says tables) text b.height b.width b.base }
-    → QueuesPicture (says tables) [] None first.session → text ≡ b.text
-    → new ≡ record first { session = changed_if b.unsaved (after_going_to (says first.tables) first.session b.offset) }
-    → (new.tables ≡ tables) × IsOpened (says new.tables) b new.session
-opened_is {D} says tables first new text b is queued same gone =
+    → QueuesPicture (says tables) [] None first.session → text ≡ b.text → offset ≡ b.offset
+    → new ≡ record first { session = changed_if b.unsaved (after_going_to (says first.tables) first.session offset) }
+    → IsOpened (says new.tables) b new.session
+opened_is {D} says tables first new text b offset is queued same sent gone =
     let stays : first.tables ≡ tables = ap (λ (x : SessionState D). x.tables) is in
     let kept : new.tables ≡ tables = ap (λ (x : SessionState D). x.tables) gone ∙ stays in
     let begins : first.session ≡ at_opening (says tables) b.text b.height b.width b.base =
     ap (λ (x : SessionState D). x.session) is ∙ ap (λ (t : List ℕ). at_opening (says tables) t b.height b.width b.base) same in
     let opened : IsOpened (says tables) b new.session = record {
       session = ap (λ (x : SessionState D). x.session) gone
+          ∙ ap (λ (o : Option ℕ). changed_if b.unsaved (after_going_to (says first.tables) first.session o)) sent
           ∙ ap (λ (t : D). changed_if b.unsaved (after_going_to (says t) first.session b.offset)) stays
           ∙ ap (λ (s : Session). changed_if b.unsaved (after_going_to (says tables) s b.offset)) begins;
       paints = subst (QueuesPicture (says tables) [] None) begins queued;
-    } in (kept, subst (λ (t : D). IsOpened (says t) b new.session) (sym kept) opened)
+    } in subst (λ (t : D). IsOpened (says t) b new.session) (sym kept) opened
 
 -- ---- no byte is read yet
 

@@ -1,7 +1,6 @@
 -- Replay of a journal's keys in order, and what it meets.
-use Rattle.std.proofs.Common.{◌≡◌, ◌≢◌, ◌≤◌, ◌+◌, ℕ, Bool, true, false, List, [], ◌∷◌, ◌++◌, take, length, Option, Some, None, Contains, ◌⊎◌, ⊎_elim, inl, inr, ◌↔◌, IsTrue, IsFalse, refl, sym, ap, subst, ◌∙◌, add_assoc, if◌then◌else◌, arith}
+use Rattle.std.proofs.Common.{◌≡◌, ◌≢◌, ◌≤◌, ◌+◌, ℕ, Bool, true, false, List, [], ◌∷◌, ◌++◌, take, length, Option, Some, None, Contains, ◌⊎◌, ⊎_elim, inl, inr, ◌↔◌, IsTrue, IsFalse, refl, sym, ap, subst, ◌∙◌, zero-add, add_assoc, length-append, if◌then◌else◌, arith}
 use Rattle.std.specs.Prelude.{option_to_list}
-use Rattle.std.proofs.Math.Seq.{length-++}
 use Rattle.bx_keys.specs.declared.key.Key.{Key}
 use Rattle.bx_keys.specs.Keys.{key_after, keys_from, rest_after}
 use Rattle.bx_keys.specs.Waiting.{head_of}
@@ -36,34 +35,34 @@ replayed_one {D} says tables mid new old keys i b was more is = (
 
 -- ---- what a replay meets
 
--- the bytes `rest` are left of the journal; `known` tells whether the file was met, and `count` counts the keys
-pub record HasMet (d : Data) (old now : Session) (keys rest file : List ℕ) (known : Bool) (count : ℕ) : Type 0 where
-  pub known : (IsTrue known ⊎ Contains (texts_at_saves d now rest) file) ↔ Contains (known_texts d old keys) file
-  pub keys : old.editor.ended ≡ false → (now.editor.ended ≡ false) × (count + length (keys_from now.rest rest) ≡ length (keys_from old.rest keys))
+-- the bytes `rest` are left of the journal; `is_known` tells whether the file was met, and `count` counts the keys
+pub record HasMet (d : Data) (old now : Session) (journal rest file : List ℕ) (is_known : Bool) (count : ℕ) : Type 0 where
+  pub known : (IsTrue is_known ⊎ Contains (texts_at_saves d now rest) file) ↔ Contains (known_texts d old journal) file
+  pub keys : old.editor.ended ≡ false → (now.editor.ended ≡ false) × (count + length (keys_from now.rest rest) ≡ length (keys_from old.rest journal))
 
-pub met_at_first : (d : Data) (s : Session) (keys file : List ℕ) (known : Bool) → (IsTrue known ↔ (s.editor.content.text ≡ file))
-    → HasMet d s s keys keys file known 0
-met_at_first d s keys file known is = record {
+pub met_at_first : (d : Data) (s : Session) (journal file : List ℕ) (known : Bool) → (IsTrue known ↔ (s.editor.content.text ≡ file))
+    → HasMet d s s journal journal file known 0
+met_at_first d s journal file known is = record {
   known = (
-    ⊎_elim (λ e. first_is_there s.editor.content.text file (texts_at_saves d s keys) (is.0 e)) (later_is_there s.editor.content.text file (texts_at_saves d s keys)),
-    λ c. ⊎_elim (λ e. inl (is.1 e)) inr (first_or_later s.editor.content.text file (texts_at_saves d s keys) c),
+    ⊎_elim (λ e. first_is_there s.editor.content.text file (texts_at_saves d s journal) (is.0 e)) (later_is_there s.editor.content.text file (texts_at_saves d s journal)),
+    λ c. ⊎_elim (λ e. inl (is.1 e)) inr (first_or_later s.editor.content.text file (texts_at_saves d s journal) c),
   );
-  keys = λ h. (h, refl);
+  keys = λ h. (h, zero-add (length (keys_from s.rest journal)));
 }
 
 key_before_end : (s : Session) (b : ℕ) → s.editor.ended ≡ false → key_of_byte s b ≡ key_after s.rest b
 key_before_end s b h = ap (λ ended. if ended then None else key_after s.rest b) h
 
-pub met_more : (d : Data) (old now new : Session) (keys rest file : List ℕ) (b : ℕ) (known known' : Bool) (count count' : ℕ)
-    → HasMet d old now keys (b ∷ rest) file known count
+pub met_more : (d : Data) (old now new : Session) (journal rest file : List ℕ) (b : ℕ) (known known' : Bool) (count count' : ℕ)
+    → HasMet d old now journal (b ∷ rest) file known count
     → (IsTrue known' ↔ (IsTrue known ⊎ ((is_save_byte now b ≡ true) × (now.editor.content.text ≡ file))))
     → count' ≡ count + length (option_to_list (key_of_byte now b)) → new ≡ after_replay d now b
-    → HasMet d old new keys rest file known' count'
-met_more d old now new keys rest file b known known' count count' was met counted is =
+    → HasMet d old new journal rest file known' count'
+met_more d old now new journal rest file b known known' count count' was met counted is =
     let save = is_save_byte now b in
     let text = now.editor.content.text in
     let later : List (List ℕ) = texts_at_saves d (after_replay d now b) rest in
-    let known_next : (IsTrue known' ⊎ Contains later file) ↔ Contains (known_texts d old keys) file = (
+    let known_next : (IsTrue known' ⊎ Contains later file) ↔ Contains (known_texts d old journal) file = (
       λ c. was.known.0 (⊎_elim
           (λ e. ⊎_elim inl (λ here. inr (saved_is_there save text file later here.0 here.1)) (met.0 e))
           (λ more. inr (passed_is_there save text file later more)) c),
@@ -71,7 +70,7 @@ met_more d old now new keys rest file b known known' count count' was met counte
           (was.known.1 c),
     ) in
     let keys_next : old.editor.ended ≡ false → ((after_replay d now b).editor.ended ≡ false)
-    × (count' + length (keys_from (after_replay d now b).rest rest) ≡ length (keys_from old.rest keys)) =
+    × (count' + length (keys_from (after_replay d now b).rest rest) ≡ length (keys_from old.rest journal)) =
     λ h.
     let each = applies d now b (was.keys h).0 in
     let next = head_of (rest_after now.rest b) in
@@ -82,10 +81,10 @@ met_more d old now new keys rest file b known known' count count' was met counte
       ap (λ r. count' + length (keys_from r rest)) each.rest_is
           ∙ ap (λ n. n + length (keys_from next rest)) counts
           ∙ add_assoc count (length first) (length (keys_from next rest))
-          ∙ ap (λ n. count + n) (sym (length-++ first (keys_from next rest)))
+          ∙ ap (λ n. count + n) (sym (length-append first (keys_from next rest)))
           ∙ (was.keys h).1,
     ) in
-    subst (λ (s : Session). HasMet d old s keys rest file known' count') (sym is) (record { known = known_next; keys = keys_next })
+    subst (λ (s : Session). HasMet d old s journal rest file known' count') (sym is) (record { known = known_next; keys = keys_next })
 
 pub one_key_at_most : (key : Option Key) → length (option_to_list key) ≤ 1
 one_key_at_most None = omega arith

@@ -23,6 +23,8 @@ pub enum RecoveryFault {
 }
 
 impl From<UcdError> for RecoveryFault {
+    ghost use Rattle.bx_recovery.specs.declared.fault.RecoveryFault.TheVariants.{Tables};
+
     ghost from_gives = { λ error fault. fault ≡ Tables error };
 
     fn from(error: UcdError) -> Self {
@@ -31,6 +33,8 @@ impl From<UcdError> for RecoveryFault {
 }
 
 impl From<OpenError> for RecoveryFault {
+    ghost use Rattle.bx_recovery.specs.declared.fault.RecoveryFault.TheVariants.{Open};
+
     ghost from_gives = { λ error fault. fault ≡ Open error };
 
     fn from(error: OpenError) -> Self {
@@ -39,6 +43,8 @@ impl From<OpenError> for RecoveryFault {
 }
 
 impl From<Refused> for RecoveryFault {
+    ghost use Rattle.bx_recovery.specs.declared.fault.RecoveryFault.TheVariants.{OutOfMemory};
+
     ghost from_gives = { λ _ fault. fault ≡ OutOfMemory };
 
     /// A key is refused when memory runs out.

@@ -5,12 +5,12 @@ mod beginning;
 mod fault;
 mod foreign;
 mod opening;
-mod recover;
+mod recovering;
 mod replaying;
 
 pub use beginning::Beginning;
 pub use fault::RecoveryFault;
 pub use foreign::is_foreign;
 pub use opening::open;
-pub use recover::recover;
+pub use recovering::recover;
 pub use replaying::{Held, Replayed, replay, replay_beside};

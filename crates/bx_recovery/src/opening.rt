@@ -2,13 +2,21 @@
 
 ghost use Rattle.std.specs.Prelude.{◌≡◌, IfOk, OnOk};
 ghost use Rattle.bx_session.specs.Beginning.{after_going_to, changed_if};
-ghost use Rattle.bx_recovery.specs.Beginnings.{AreOfFiles, IsOpened, beginning_of};
+ghost use Rattle.bx_recovery.specs.Beginnings.{AreOfFiles, IsOpened, beginning_of, offset_of};
 
 use crate::beginning::Beginning;
 use crate::fault::RecoveryFault;
 use bx_command::start_of_line;
 use bx_session::Session;
 use bx_ucd::{BidiData, Tables};
+
+/// The offset to send the cursor to, if a line is asked for.
+fn offset_of(text: &[u8], line: Option<u64>) -> Option<usize>
+    ensures { result ≡ offset_of text.now line }
+{
+    let line = line?;
+    Some(start_of_line(text, line))
+}
 
 /// Reads Unicode's files, and opens a text with the cursor at its line. It does not replay the keys.
 ///
@@ -29,9 +37,7 @@ pub fn open(beginning: Beginning<'_>) -> Result<Session<Tables>, RecoveryFault>
         unicode.joining,
     )?;
     let text = beginning.text.unwrap_or(Vec::new(alloc));
-    let start = beginning
-        .line
-        .map(|line| start_of_line(text.as_slice(), line));
+    let start = offset_of(text.as_slice(), beginning.line);
     let mut session = Session::open(text, tables, rows, cols, direction)?;
     prepare(&mut session, start, unsaved)?;
     Ok(session)

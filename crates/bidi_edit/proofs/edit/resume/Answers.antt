@@ -1,15 +1,10 @@
 use Rattle.bx_ucd.specs.Data.{Data}
-use Rattle.bidi_edit.proofs.Edited.{painted_again, runs_again}
+use Rattle.bidi_edit.proofs.Edited.{resumes_of}
 use Rattle.bidi_edit.proofs.edit.resume.Goals as goal
 
-pub returns-clause-paints : goal.returns-clause-paints
-returns-clause-paints g c =
+pub returns : goal.returns
+returns g c =
     let says : g.row.D.Denot → Data = g.D.BidiData.data in
-    painted_again says c.args.session.now c.replay.new.session c.paint.new.self c.args.keys.now _ c.replay.ensures.tables c.in_ok-replay.ensures.replays
-    c.in_ok-paint.ensures.ok c.in_ok-paint.ensures.paints
-
-pub returns-clause-runs : goal.returns-clause-runs
-returns-clause-runs g c =
-    let says : g.row.D.Denot → Data = g.D.BidiData.data in
-    runs_again says g.J.Journal.contents g.J.Journal.failure_count c.args.session.now c.replay.new.session c.paint.new.self c.args.keys.now _ _ _ _ _ _ _ _ _ _
-    c.replay.ensures.tables c.in_ok-replay.ensures.replays c.paint.ensures.tables c.in_ok-paint.ensures.ok c.run_recorded.ensures.runs
+    resumes_of _ says g.J.Journal.contents g.J.Journal.failure_count c.args.session.now c.begin.new.session c.run_recorded-end.new.session.session
+    c.args.keys.now _ _ c.run_recorded-end.result c.changed.result c.told.result c.begin.ensures.tables c.in_ok-begin.ensures.session
+    c.in_ok-begin.ensures.paints c.run_recorded-end.ensures.runs c.run_recorded-end.ensures.ends c.told.ensures c.changed.ensures

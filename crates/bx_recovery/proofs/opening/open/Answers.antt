@@ -1,12 +1,30 @@
-use Rattle.bx_ucd.specs.Data.{Data}
-use Rattle.bx_ucd.specs.ClassTable.{class_in_table}
-use Rattle.bx_ucd.specs.CodeMap.{value_in}
-use Rattle.bx_ucd.specs.Forms.{form_in_map}
-use Rattle.bx_ucd.specs.JoinedLetters.{type_in}
+use Rattle.std.proofs.Common.{ap, subst, sym, ◌∙◌}
 use Rattle.bx_ucd.specs.declared.tables.Tables.{Tables}
+use Rattle.bx_session.specs.Session.{SessionState}
+use Rattle.bx_recovery.proofs.TablesData.{says}
 use Rattle.bx_recovery.proofs.Opened.{bytes_or_none, opened_is}
-use Rattle.bx_recovery.specs.Beginnings.{AreOfFiles, bytes_of}
+use Rattle.bx_recovery.specs.Beginnings.{AreOfFiles, beginning_of, offset_of}
 use Rattle.bx_recovery.proofs.opening.open.Goals as goal
 
-pub returns : goal.returns
-returns c = ?
+pub returns-clause-tables : goal.returns-clause-tables
+returns-clause-tables c =
+    let b = c.args.beginning in
+    let are : AreOfFiles (says c.in_ok-tables.tables) b.unicode = record {
+      accepted = c.in_ok-tables.ensures.accepted;
+      classes_are = c.in_ok-tables.ensures.classes;
+      brackets_are = c.in_ok-tables.ensures.brackets;
+      mirrors_are = c.in_ok-tables.ensures.mirrors;
+      joining_is = c.in_ok-tables.ensures.joining;
+      forms_are = c.in_ok-tables.ensures.forms;
+    } in
+    let stays = ap (λ (s : SessionState Tables). s.tables) c.in_ok-session.ensures.ok in
+    let kept = ap (λ (s : SessionState Tables). s.tables) c.in_ok-prepare.ensures ∙ stays in
+    subst (λ (t : Tables). AreOfFiles (says t) b.unicode) (sym kept) are
+
+pub returns-clause-opens : goal.returns-clause-opens
+returns-clause-opens c =
+    let b = c.args.beginning in
+    let text_is = bytes_or_none b.text c.new.result c.unwrap_or-text.result c.new.ensures.items c.unwrap_or-text.ensures in
+    opened_is says c.in_ok-tables.tables c.in_ok-session.session c.prepare.new.session _ (beginning_of b) c.offset_of-start.result
+    c.in_ok-session.ensures.ok c.in_ok-session.ensures.paints text_is (c.offset_of-start.ensures ∙ ap (λ text. offset_of text b.line) (c.as_slice.ensures.value ∙ text_is))
+    c.in_ok-prepare.ensures

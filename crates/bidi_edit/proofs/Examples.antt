@@ -1,0 +1,83 @@
+-- Worked examples: how a run's end is told, and what follows from the clause of a run alone.
+use Rattle.std.proofs.Common.{◌≡◌, ◌≢◌, ◌++◌, ℕ, Bool, true, false, List, [], ◌∷◌, Option, Some, None, Result, Ok, Err, IsOk, refl, sym, ap, subst, ◌∙◌, if◌then◌else◌}
+use Rattle.std.specs.Prelude.{codes}
+use Rattle.bx_ucd.specs.Data.{Data}
+use Rattle.bx_keys.specs.Keys.{key_after}
+use Rattle.bx_words.specs.declared.unicode.UnicodeFiles.{UnicodeFiles}
+use Rattle.bx_session.specs.declared.end.End.{End}
+use Rattle.bx_session.specs.declared.end.End.TheVariants.{Quit, InputEnded}
+use Rattle.bx_session.specs.declared.end.RunFault.{RunFault}
+use Rattle.bx_session.specs.declared.end.RunFault.TheVariants.{WriteFault}
+use Rattle.bx_session.specs.declared.error.Refused.{Refused}
+use Rattle.bx_session.specs.declared.status.Status.{Status}
+use Rattle.bx_session.specs.Session.{Session, after_journal, with_painting}
+use Rattle.bx_session.specs.Saving.{StoreAfter, StoreState, is_save_byte, is_save_key}
+use Rattle.bx_session.specs.Running.{FeedsAll}
+use Rattle.bx_session.specs.Beginning.{Beginning, at_offset, begun}
+use Rattle.bx_recovery.proofs.Opened.{reads_all}
+use Rattle.bidi_edit.specs.declared.edit.Changes.TheVariants.{Saved, Dropped}
+use Rattle.bidi_edit.specs.declared.fault.ProgramFault.TheVariants as fault
+use Rattle.bidi_edit.specs.Run.{Edits, Outside, RunsUnless, told}
+
+-- ---- how an end is told
+
+-- told as saved, nothing is unsaved
+pub saved_leaves_nothing : (end : Result End RunFault) (changed : Bool) → told end changed ≡ Ok Saved → changed ≡ false
+saved_leaves_nothing (Err cause) changed is = absurd (cc is)
+saved_leaves_nothing (Ok Quit) true is = absurd (cc is)
+saved_leaves_nothing (Ok (InputEnded unsaved)) true is = absurd (cc is)
+saved_leaves_nothing (Ok end) false is = refl
+
+-- with nothing unsaved, an end without a fault is told as saved
+pub nothing_left_is_saved : (end : End) → told (Ok end) false ≡ Ok Saved
+nothing_left_is_saved Quit = refl
+nothing_left_is_saved (InputEnded unsaved) = refl
+
+-- told as dropped, a Quit ended the session with changes
+pub only_a_quit_drops : (end : Result End RunFault) (changed : Bool) → told end changed ≡ Ok Dropped → (end ≡ Ok Quit) × (changed ≡ true)
+only_a_quit_drops (Err cause) changed is = absurd (cc is)
+only_a_quit_drops (Ok Quit) true is = (refl, refl)
+only_a_quit_drops (Ok Quit) false is = absurd (cc is)
+only_a_quit_drops (Ok (InputEnded unsaved)) true is = absurd (cc is)
+only_a_quit_drops (Ok (InputEnded unsaved)) false is = absurd (cc is)
+
+pub a_quit_with_changes_drops_them : told (Ok Quit) true ≡ Ok Dropped
+a_quit_with_changes_drops_them = refl
+
+pub a_hangup_with_changes : told (Ok (InputEnded true)) true ≡ Err fault.Unsaved
+a_hangup_with_changes = refl
+
+-- a write fault is told, whatever is unsaved
+pub a_write_fault : (changed : Bool) → told (Err WriteFault) changed ≡ Err (fault.Run WriteFault)
+a_write_fault changed = refl
+
+-- ---- what follows from the clause of a run
+
+-- a run that is said to have ended saved left no change
+pub a_saved_run : {J : Type 0} (contents : J → Option (List ℕ)) (failures : J → ℕ) (b : Beginning) (files : UnicodeFiles) (out out' : Outside J)
+    → (e : Edits contents failures b files out out' (Ok Saved)) → e.session.editor.changed ≡ false
+a_saved_run contents failures b files out out' e = saved_leaves_nothing e.end e.session.editor.changed (sym e.tells)
+
+-- one that ran out of memory before it began stored nothing
+pub a_run_that_did_not_begin : (Runs : Type 0) (store store' : ℕ) → RunsUnless (Err fault.OutOfMemory) Runs (store' ≡ store) → store' ≡ store
+a_run_that_did_not_begin Runs store store' stays = stays
+
+-- ---- a letter, and a hangup
+
+begun_fresh : (d : Data) (b : Beginning) → b.journal ≡ [] → ((begun d b).rest ≡ []) × ((begun d b).editor.ended ≡ false)
+begun_fresh d b none =
+    subst (λ journal. let s = with_painting d (after_journal d (at_offset d b) journal) in (s.rest ≡ []) × (s.editor.ended ≡ false)) (sym none)
+    (reads_all d b)
+
+no_save : (s : Session) → s.rest ≡ [] → s.editor.ended ≡ false → is_save_byte s 0x78 ≡ false
+no_save s fresh goes =
+    ap (λ ended. is_save_key (if ended then None else key_after s.rest 0x78)) goes ∙ ap (λ rest. is_save_key (key_after rest 0x78)) fresh
+
+-- a session that was fed the letter x alone stored nothing
+pub a_letter_stores_nothing : (d : Data) (b : Beginning) (store store' : StoreState) (answer : Result Status Refused) (new : Session)
+    → b.journal ≡ [] → FeedsAll d (begun d b) store ((0x78, answer) ∷ []) new store' → store' ≡ store
+a_letter_stores_nothing d b store store' answer new none feeds =
+    let fresh = begun_fresh d b none in
+    let is_none = no_save (begun d b) fresh.0 fresh.1 in
+    feeds.5.1
+    ∙ subst (λ save. StoreAfter save feeds.3.0 (begun d b).editor.content.text store feeds.1) is_none feeds.3.1
