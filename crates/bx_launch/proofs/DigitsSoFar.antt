@@ -16,6 +16,6 @@ pub are_after_digit : (digits : List ℕ) (n number : ℕ) → AreSoFar digits n
     digit_value (get_or digits n 0) < 10 →
     AreSoFar digits (n + 1) (min 100000000 (number * 10 + digit_value (get_or digits n 0)))
 are_after_digit digits n number so inside small = record {
-    all = digits_more 10 digits n inside so.all small;
-    number_is = rw so.number_is (capped 100000000 (digits_value 10 (take n digits)) (digit_value (get_or digits n 0)) _ (digits_value_more 10 digits n inside));
+  all = digits_more 10 digits n inside so.all small;
+  number_is = rw so.number_is (capped 100000000 (digits_value 10 (take n digits)) (digit_value (get_or digits n 0)) _ (digits_value_more 10 digits n inside));
 }

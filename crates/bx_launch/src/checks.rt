@@ -18,7 +18,9 @@ const USUAL_NAME: u64 = 255;
 fn is_handed_over(file: &str) -> bool {
     file.starts_with("/dev/std")
         || file.starts_with("/dev/fd/")
-        || file.strip_prefix("/proc/").is_some_and(|rest| rest.contains("/fd/"))
+        || file
+            .strip_prefix("/proc/")
+            .is_some_and(|rest| rest.contains("/fd/"))
 }
 
 /// Refuses what is no plain file. What is not there is one that the first save makes.
@@ -106,7 +108,8 @@ impl Place {
         if names.is_empty() {
             return Ok(None);
         }
-        format!(in alloc; "perhaps left by a save that was killed; look at it, and remove what is not wanted:{names}")
-            .map(Some)
+        format!(in alloc;
+            "perhaps left by a save that was killed; look at it, and remove what is not wanted:{names}"
+        ).map(Some)
     }
 }

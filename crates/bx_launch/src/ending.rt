@@ -8,9 +8,9 @@ use std::alloc::{AllocError, Global};
 
 /// The names of the signals from 1 on.
 static SIGNALS: [&str; 31] = [
-    "HUP", "INT", "QUIT", "ILL", "TRAP", "ABRT", "BUS", "FPE", "KILL", "USR1", "SEGV", "USR2", "PIPE", "ALRM", "TERM",
-    "STKFLT", "CHLD", "CONT", "STOP", "TSTP", "TTIN", "TTOU", "URG", "XCPU", "XFSZ", "VTALRM", "PROF", "WINCH", "POLL",
-    "PWR", "SYS",
+    "HUP", "INT", "QUIT", "ILL", "TRAP", "ABRT", "BUS", "FPE", "KILL", "USR1", "SEGV", "USR2",
+    "PIPE", "ALRM", "TERM", "STKFLT", "CHLD", "CONT", "STOP", "TSTP", "TTIN", "TTOU", "URG",
+    "XCPU", "XFSZ", "VTALRM", "PROF", "WINCH", "POLL", "PWR", "SYS",
 ];
 
 /// Whether a text has lines, and all of them end with CR LF. A last line without an end does not count.
@@ -42,8 +42,9 @@ pub fn mixed_line(
         return Ok(None);
     }
     let name = Shown(file);
-    format!(in alloc; "{name} has lines that end with LF among those with CR LF: perl -pi -e 's/\\r?\\n/\\r\\n/' makes them alike")
-        .map(Some)
+    format!(in alloc;
+        "{name} has lines that end with LF among those with CR LF: perl -pi -e 's/\\r?\\n/\\r\\n/' makes them alike"
+    ).map(Some)
 }
 
 /// The line about the signal that ended the program, by its exit status; None where none did.

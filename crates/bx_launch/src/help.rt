@@ -55,7 +55,11 @@ pub fn unicode_version(classes: &[u8]) -> Option<&str> {
 }
 
 /// The text of `--version`, of the toolchain noted at the build, if any, and the bytes of DerivedBidiClass.txt.
-pub fn version_text(alloc: Global, toolchain: Option<&str>, classes: &[u8]) -> Result<String, AllocError> {
+pub fn version_text(
+    alloc: Global,
+    toolchain: Option<&str>,
+    classes: &[u8],
+) -> Result<String, AllocError> {
     let toolchain = toolchain.unwrap_or("unknown");
     let unicode = unicode_version(classes).unwrap_or("unknown");
     format!(in alloc; "bidi-edit {VERSION}\ntoolchain {toolchain}\nUnicode {unicode}\n")

@@ -52,7 +52,12 @@ pub fn print_words(
     let columns = format!(in alloc; "{columns}")?;
     let mut words = Vec::new(alloc);
     add_option(alloc, &mut words, "--cols", columns.as_str())?;
-    add_option(alloc, &mut words, "--direction", direction_word(call.direction))?;
+    add_option(
+        alloc,
+        &mut words,
+        "--direction",
+        direction_word(call.direction),
+    )?;
     if call.has_marks {
         add_word(alloc, &mut words, "--marks")?;
     }

@@ -83,7 +83,8 @@ fn joining_in(
         joining: format!(in alloc; "{folder}/ArabicShaping.txt")?,
         characters: format!(in alloc; "{folder}/UnicodeData.txt")?,
     };
-    let has_both = is_readable(rt, paths.joining.as_str()) && is_readable(rt, paths.characters.as_str());
+    let has_both = is_readable(rt, paths.joining.as_str())
+        && is_readable(rt, paths.characters.as_str());
     Ok(has_both.then_some(paths))
 }
 

@@ -33,7 +33,11 @@ pub fn line_of_digits(digits: &[u8]) -> Option<u64>
         let value = char::from(*digit).to_digit(10)?;
         number = TOO_LARGE.min(number * 10 + u64::from(value));
     }
-    Some(if number < TOO_LARGE { number } else { LAST_LINE })
+    Some(if number < TOO_LARGE {
+        number
+    } else {
+        LAST_LINE
+    })
 }
 
 /// A line's number as an option: None for the first, which 0 names too.

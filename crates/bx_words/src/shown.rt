@@ -93,11 +93,7 @@ fn write_numbers<W: fmt::Write>(c: char, f: &mut fmt::Formatter<W>) -> fmt::Resu
 }
 
 /// Writes a character of a name.
-fn write_character<W: fmt::Write>(
-    style: Style,
-    c: char,
-    f: &mut fmt::Formatter<W>,
-) -> fmt::Result {
+fn write_character<W: fmt::Write>(style: Style, c: char, f: &mut fmt::Formatter<W>) -> fmt::Result {
     match (style, c) {
         (Style::Quoted, '\'') => f.write_str("'\\''"),
         (Style::Escaped, '\'' | '\\') => write_numbers(c, f),
