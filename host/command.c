@@ -7,7 +7,7 @@
 #include "sequences.h"
 
 bool add_word(struct command *command, const char *word) {
-    if (command->count >= MOST_COMMAND) return false;
+    if (!word || command->count >= MOST_COMMAND) return false;
     command->words[command->count] = strdup(word);
     if (!command->words[command->count]) return false;
     command->count++;

@@ -1,6 +1,6 @@
 """Each system call of the host failed in turn, by strace: the terminal is restored, no process is left, and a session that does not
 go on says why."""
-import os, re, shutil
+import os, re, shutil, signal
 from cases import QUIT
 from ends import restored
 from terminals import Run
@@ -12,7 +12,15 @@ MOST = 12
 
 
 def session(tree, strace):
-    """A session with a size and keys. Returns the run after its end."""
+    """A session with a size and keys. Returns the run after its end. On a busy machine strace may give up by SIGALRM at first."""
+    run = try_session(tree, strace)
+    if run.status == signal.SIGALRM and not run.output:
+        run.close()
+        run = try_session(tree, strace)
+    return run
+
+
+def try_session(tree, strace):
     run = Run(['strace', '-D', *strace, *tree.words('edit', 'titles', tree.file('faults'))], HOME=f'{tree.top}/home')
     if run.pump(4, b'hello'):
         run.resize(30, 90)
@@ -22,7 +30,7 @@ def session(tree, strace):
         run.type(QUIT)
     run.pump(3)
     if run.status is None:  # a call that failed may have lost the keys; a signal ends all the same
-        os.kill(run.job, 15)
+        os.kill(run.job, signal.SIGTERM)
         run.pump(6)
     run.drain()
     return run
@@ -52,7 +60,7 @@ def fail_once(tree, call, number):
     wrong += restored(run.output)
     if b'hello' not in run.output and run.status == 0:
         wrong.append('no screen, and status 0')
-    if run.status not in (None, 0) and not re.search(rb'bidi-edit: .|error while loading|Cannot open', run.output) and run.status != 15:
+    if run.status not in (None, 0) and not re.search(rb'bidi-edit: .|error while loading|Cannot open', run.output) and run.status != signal.SIGTERM:
         wrong.append(f'status {run.status} and nothing said: {run.output[-200:]!r}')
     run.close()
     return wrong
