@@ -48,7 +48,9 @@ impl From<FileFault<'_>> for Fault {
 impl From<RecoveryFault> for Fault {
     fn from(fault: RecoveryFault) -> Self {
         match fault {
-            RecoveryFault::OutOfMemory | RecoveryFault::Unwritten => Fault(ReplayFault::OutOfMemory),
+            RecoveryFault::OutOfMemory | RecoveryFault::Unwritten => Fault(
+                ReplayFault::OutOfMemory,
+            ),
             RecoveryFault::Tables(_) | RecoveryFault::Open(_) => Fault(ReplayFault::Unreadable),
         }
     }
@@ -74,9 +76,7 @@ fn side_of(side: u32) -> Option<u16>
 
 /// All bytes of a session's file.
 fn bytes_in(around: Around<'_>, session: &Session, part: Part) -> Result<Vec<u8>, Fault> {
-    session
-        .read(around.rt, part)?
-        .ok_or(UNREADABLE)
+    session.read(around.rt, part)?.ok_or(UNREADABLE)
 }
 
 /// FILE's bytes; none where it is not there or cannot be read.
@@ -116,7 +116,11 @@ fn replay_keys(around: Around<'_>, session: &Session, file: &str) -> Result<Repl
         keys: keys.as_slice(),
     };
     let mut store = MemoryStore::new(around.alloc(), None);
-    let replayed = recover(&mut store, beginning, bytes_of_file(around, file).as_slice())?;
+    let replayed = recover(
+        &mut store,
+        beginning,
+        bytes_of_file(around, file).as_slice(),
+    )?;
     Ok(Replay {
         held: held_of(replayed.held),
         keys: replayed.keys,

@@ -1,4 +1,4 @@
--- Defines the columns that show a row of text, and a grid with some of its rows replaced.
+-- Rows of text are drawn as columns, and written into the rows of a grid.
 use Rattle.std.specs.Prelude.{ℕ, ◌+◌, ◌*◌, ◌≤◌, ◌<◌, List, flat_map}
 use Rattle.bx_grid.specs.Columns.{Col, glyph_columns, paste}
 use Rattle.bx_grid.specs.Picture.{GridState}

@@ -1,4 +1,4 @@
--- A row of a text, with a query after it: as many glyphs as have room.
+-- A status row shows a text, or a text and a query behind it. Glyphs that do not fit are left out.
 use Rattle.std.specs.Prelude.{ℕ, ◌-◌, nat_le, true, false, List, [], ◌∷◌, ◌++◌, take, replicate}
 use Rattle.bx_terms.specs.declared.base.Base.TheVariants.{Auto}
 use Rattle.bx_ucd.specs.Data.{Data}
@@ -9,15 +9,15 @@ use Rattle.bx_paragraph.specs.BodyRows.{body_rows, row_at}
 use Rattle.bx_paragraph.specs.OwnGlyphs.{row_own_glyphs}
 use Rattle.bx_document.specs.Drawing.{side_by_side}
 
--- the glyphs of the query's first row, from left to right, laid out alone in 500 columns
+-- A query is laid out alone, in 500 columns. These are the glyphs of its first row, from left to right.
 abbrev pub query_glyphs : Data → List ℕ → List Glyph
 query_glyphs d query = row_own_glyphs d 500 (row_at (body_rows d Auto 500 query) 0)
 
--- as many glyphs from the left as have room in `w` columns
+-- the leftmost glyphs that fit into `w` columns; none follows one that does not fit
 abbrev pub fitting : ℕ → List Glyph → List Glyph
 fitting w [] = []
 fitting w (g ∷ gs) = elim (nat_le g.columns w) [ true ↦ g ∷ fitting (w - g.columns) gs | false ↦ [] ]
 
--- the row's columns: its glyphs, cut at the width or padded with blanks
+-- a row of `w` columns: the glyphs that fit, and blanks on their right
 abbrev pub glyph_row : ℕ → List Glyph → List Col
 glyph_row w glyphs = take w (side_by_side (fitting w glyphs) ++ replicate w blank)

@@ -1,4 +1,5 @@
--- Rows with a region: the columns of its units change rendition.
+-- A region is a part of the text, from one offset to another. Its columns in drawn rows are turned: shown negative, or plain if
+-- they were negative.
 use Rattle.std.specs.Prelude.{ℕ, ◌+◌, ◌-◌, ◌*◌, Bool, List, [], ◌∷◌, ◌++◌, flat_map, length, replicate, if◌then◌else◌}
 use Rattle.bx_grid.specs.Columns.{Col, blank}
 use Rattle.bx_grid.specs.Turned.{turned}
@@ -7,15 +8,15 @@ use Rattle.bx_view.specs.TextParts.{is_covered}
 use Rattle.bx_view.specs.TextRows.{TextRow}
 use Rattle.bx_document.specs.Drawing.{row_columns}
 
--- columns, numbered from `k`: those whose number passes change rendition
+-- columns of which those are turned whose numbers pass; the first column has the number `k`
 abbrev pub turned_where : (ℕ → Bool) → ℕ → List Col → List Col
 turned_where passes k [] = []
 turned_where passes k (c ∷ cs) = (if passes k then turned c else c) ∷ turned_where passes (k + 1) cs
 
--- a row of text with a region: the columns of each unit that begins in the region change rendition
+-- the columns of a row of text; each unit that begins in the region has its columns turned
 abbrev pub region_columns : Data → ℕ → ℕ × ℕ → TextRow → List Col
 region_columns d w region r = turned_where (is_covered w region r) 1 (row_columns d w r)
 
--- the columns of `count` rows with a region: the shown rows of text, then blank rows
+-- the columns of `count` rows: the shown rows of text with the region, then blank rows
 abbrev pub region_rows : Data → ℕ → ℕ × ℕ → ℕ → List TextRow → List Col
 region_rows d w region count shown = flat_map (region_columns d w region) shown ++ replicate ((count - length shown) * w) blank

@@ -1,4 +1,4 @@
--- A row while the slots of a region's units change rendition, one after another.
+-- A region's units are turned one after another, each in the columns of its slot.
 use Rattle.std.specs.Prelude.{ℕ, ◌+◌, ◌-◌, ◌*◌, ◌≤◌, List, [], ◌∷◌, length, take, drop}
 use Rattle.bx_grid.specs.Columns.{Col}
 use Rattle.bx_grid.specs.Picture.{GridState}
@@ -9,14 +9,14 @@ use Rattle.bx_paragraph.specs.declared.slot.Slot.{Slot}
 abbrev pub row_in : GridState → ℕ → List Col
 row_in g row = take g.width (drop (row * g.width) g.columns)
 
--- a slot covers whole glyphs of the row
+-- the slot lies in the row, and no glyph of the row crosses its edges
 pub record IsSpan (columns : List Col) (s : Slot) : Type 0 where
   pub low : 1 ≤ s.column
   pub fits : s.column - 1 + s.columns ≤ length columns
   pub begins : IsBorder columns (s.column - 1)
   pub ends : IsBorder columns (s.column - 1 + s.columns)
 
--- a row after each slot's columns change rendition
+-- a row once the columns of these slots are turned
 abbrev pub turned_slots : List Slot → List Col → List Col
 turned_slots [] columns = columns
 turned_slots (s ∷ ss) columns = turned_slots ss (turned_in columns (s.column - 1) s.columns)

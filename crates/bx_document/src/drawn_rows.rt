@@ -1,4 +1,4 @@
-//! Drawing consecutive rows of a text into a grid, with a region.
+//! Draws rows of a text, one below another, into a grid, and shows a region in them.
 ghost use Rattle.std.specs.Prelude.{◌≡◌, ℕ, ◌<◌, ◌≤◌, ◌++◌, ◌*◌, OnOk, drop, take};
 ghost use Rattle.bx_view.specs.Source.{Keeps, Stands, StandsOn, rows};
 ghost use Rattle.bx_document.specs.Cache.{AreDrawnBy};

@@ -1,4 +1,4 @@
-//! A row of one text, and a query after it.
+//! Draws status rows: a text, or a text and a query behind it.
 ghost use Rattle.std.specs.Prelude.{◌≡◌, ◌≤◌, ◌++◌, All, IfOk, length, map, string_bytes, sum_by, take, true};
 ghost use Rattle.std.specs.Cow.{cow_str_bytes};
 ghost use Rattle.bx_terms.specs.Characters.{are_ascii_printable};
@@ -21,7 +21,7 @@ use std::alloc::Global;
 /// The columns in which a query is laid out.
 const QUERY_WIDTH: u16 = 500;
 
-/// The number of glyphs from the left that have room in `width` columns.
+/// The number of leftmost glyphs that fit into `width` columns.
 fn fit_count(glyphs: &[Drawn<'_>], width: u16) -> usize
     ensures within { result ≤ length glyphs.now }
     ensures fitting { map glyph_of (take result glyphs.now) ≡ fitting width (map glyph_of glyphs.now) }
@@ -37,7 +37,7 @@ fn fit_count(glyphs: &[Drawn<'_>], width: u16) -> usize
     glyphs.len()
 }
 
-/// Draws a row of `width` columns: as many glyphs from the left as have room, and blanks.
+/// Draws the leftmost glyphs that fit into a row of `width` columns, and blanks on their right.
 fn glyph_row(alloc: Global, picture: &RowPicture<'_>, width: u16) -> Result<OwnedRow, OutOfMemory>
     requires side { is_side width ≡ true }
     requires glyphs { All (λ g. is_one_glyph (cow_str_bytes g.text) ≡ true) picture.now.glyphs.items }
@@ -66,7 +66,7 @@ fn lay_out<D: BidiData>(
     Ok(layout)
 }
 
-/// The glyphs of a text of characters from SPACE to TILDE, and of a query after it.
+/// The glyphs of a text, and of a query behind it. The text has only characters from SPACE to TILDE.
 fn text_and_query<'a, D: BidiData>(
     alloc: Global,
     text: &str,
@@ -95,7 +95,7 @@ fn text_and_query<'a, D: BidiData>(
 }
 
 impl<D: BidiData + Drop> Document<D> {
-    /// Draws a text of characters from SPACE to TILDE into a row of the window's width: as much of it as has room.
+    /// Draws a text into a row of the window's width, as far as it fits. It has only characters from SPACE to TILDE.
     ///
     /// Errors: `OutOfMemory`.
     pub fn draw_text(&self, text: &str) -> Result<OwnedRow, OutOfMemory>
@@ -108,8 +108,8 @@ impl<D: BidiData + Drop> Document<D> {
         Ok(row)
     }
 
-    /// Draws a text of characters from SPACE to TILDE, and after it a query in its visual order, into a row of the window's
-    /// width: as many of their glyphs from the left as have room.
+    /// Draws a text, and behind it a query in its visual order, into a row of the window's width, as far as their glyphs fit.
+    /// The text has only characters from SPACE to TILDE.
     ///
     /// Errors: `OutOfMemory`.
     pub fn draw_query(&self, text: &str, query: &str) -> Result<OwnedRow, OutOfMemory>

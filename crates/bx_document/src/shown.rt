@@ -25,9 +25,9 @@ pub struct Shown {
 }
 
 impl<D: BidiData + Drop> Document<D> {
-    /// Draws `count` rows into the first rows of a grid: those from the row of the offset `top` on, scrolled by the fewest
-    /// rows that make the row of `place` visible. The columns of units that begin in the region, from the offset `region.0` up
-    /// to `region.1`, are in the other rendition.
+    /// Draws the first `count` rows of a grid. They show the rows of the text from the row of the offset `top` on, scrolled by
+    /// the fewest rows that make the row of `place` visible. The region goes from the offset `region.0` up to `region.1`; the
+    /// columns of units that begin in it are turned to the other rendition.
     ///
     /// Errors: `OutOfMemory`; some of the rows may be drawn.
     pub fn show(

@@ -1,13 +1,13 @@
 -- Worked examples, each from a law alone.
 use Rattle.std.proofs.Common.{◌≡◌, ℕ, ◌≤◌, ◌<◌, true, [], ◌∷◌, refl, ap, subst, ◌∙◌, arith, ⊎_elim}
-use Rattle.std.specs.Prelude.{codes, IsCharBoundary}
+use Rattle.std.specs.Prelude.{codes, IsCharBoundary, Some, None}
 use Rattle.std.proofs.lemmas.Bool.{cases_lt}
 use Rattle.std.specs.Fmt.{digits}
 use Rattle.unicode_segmentation.proofs.Computing.{unicode_segmentation}
 use Rattle.unicode_width.proofs.Computing.{unicode_width}
 use Rattle.bx_terms.specs.declared.base.Base.TheVariants.{Auto}
-use Rattle.bx_keys.specs.declared.key.Key.TheVariants.{Insert, Delete, Down, Find, FindBack, Save, Undo, Redo}
-use Rattle.bx_text.specs.Edits.{Edited}
+use Rattle.bx_keys.specs.declared.key.Key.TheVariants.{Insert, Erase, Delete, Down, Forward, Find, FindBack, Mark, Save, TextEnd, Undo, Redo}
+use Rattle.bx_text.specs.Edits.{Edited, edit_of}
 use Rattle.bx_find.specs.Laws.{MatchesAt}
 use Rattle.bx_view.specs.Moves.{place_at}
 use Rattle.bx_editor.specs.Editor.{Editor, rows}
@@ -30,6 +30,21 @@ pub two_undos_give_the_text : UndoGivesBack
 unfolding unicode_segmentation unicode_width digits
 two_undos_give_the_text law = (law tables (codes "xy") 2 10 Auto ((Insert 0x61, true) ∷ (Save, true) ∷ (Delete, true) ∷ [])).text_is
 
+-- the cursor is where it was before the insertion, at 1, and no mark is set
+pub two_undos_give_the_place : UndoGivesBack
+    → let e = after (start (codes "xy") 2 10) (Forward ∷ Insert 0x61 ∷ TextEnd ∷ Mark ∷ Erase ∷ Undo ∷ Undo ∷ []) in (e.place ≡ 1) × (e.mark ≡ None)
+unfolding unicode_segmentation unicode_width digits
+two_undos_give_the_place law =
+    let back = law tables (codes "xy") 2 10 Auto ((Forward, true) ∷ (Insert 0x61, true) ∷ (TextEnd, true) ∷ (Mark, true) ∷ (Erase, true) ∷ []) in
+    (back.place_is, back.mark_is)
+
+-- with nothing to undo, place and mark stay
+pub no_undo_keeps_the_place : UndoGivesBack
+    → let e = after (start (codes "xy") 2 10) (Forward ∷ Mark ∷ []) in (e.place ≡ 1) × (e.mark ≡ Some 1)
+unfolding unicode_segmentation unicode_width digits
+no_undo_keeps_the_place law =
+    let back = law tables (codes "xy") 2 10 Auto ((Forward, true) ∷ (Mark, true) ∷ []) in (back.place_is, back.mark_is)
+
 pub redo_gives_the_letter : RedoMirrorsUndo → (after (start (codes "x") 2 10) (Insert 0x61 ∷ Undo ∷ Redo ∷ [])).content.text ≡ codes "ax"
 unfolding unicode_segmentation unicode_width digits
 redo_gives_the_letter law =
@@ -39,6 +54,28 @@ pub undo_takes_it_again : RedoMirrorsUndo → (after (start (codes "x") 2 10) (I
 unfolding unicode_segmentation unicode_width digits
 undo_takes_it_again law =
     ap (λ (t : Edited). t.text) ((law tables (codes "x") 2 10 Auto ((Insert 0x61, true) ∷ (Undo, true) ∷ [])).undo (λ none. cc none))
+
+-- Undo and Redo lead behind the letter, from the text's end and with a mark
+abbrev letter_then_end : Editor
+letter_then_end = after (start (codes "xy") 2 10) (Insert 0x61 ∷ TextEnd ∷ Mark ∷ [])
+
+pub redo_leads_behind_the_letter : RedoMirrorsUndo
+    → let e = after letter_then_end (Undo ∷ Redo ∷ []) in (e.place ≡ 1) × (e.mark ≡ None)
+unfolding unicode_segmentation unicode_width digits
+redo_leads_behind_the_letter law =
+    let mirrored = law tables (codes "xy") 2 10 Auto ((Insert 0x61, true) ∷ (TextEnd, true) ∷ (Mark, true) ∷ []) in
+    let there = mirrored.redo_place (edit_of (codes "xy") 0 0 (codes "a") 0 1) [] refl in
+    (there.place_is, there.mark_is)
+
+-- Redo and Undo lead before it
+pub undo_leads_before_the_letter : RedoMirrorsUndo
+    → let e = after letter_then_end (Undo ∷ TextEnd ∷ Mark ∷ Redo ∷ Undo ∷ []) in (e.place ≡ 0) × (e.mark ≡ None)
+unfolding unicode_segmentation unicode_width digits
+undo_leads_before_the_letter law =
+    let mirrored = law tables (codes "xy") 2 10 Auto
+    ((Insert 0x61, true) ∷ (TextEnd, true) ∷ (Mark, true) ∷ (Undo, true) ∷ (TextEnd, true) ∷ (Mark, true) ∷ []) in
+    let there = mirrored.undo_place (edit_of (codes "xy") 0 0 (codes "a") 0 1) [] refl in
+    (there.place_is, there.mark_is)
 
 -- ---- a search
 

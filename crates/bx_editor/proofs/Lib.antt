@@ -18,4 +18,7 @@ pub mod InSearch
 pub mod Nearest
 pub mod TakenBack
 pub mod PutBack
+pub mod MarkTwice
+pub mod GivenUp
 pub mod LawExamples
+pub mod RegionLawExamples

@@ -1,5 +1,5 @@
 -- Putting back what was copied or cut.
-use Rattle.std.proofs.Common.{◌≡◌, ℕ, ◌+◌, ◌-◌, ◌<◌, ◌≤◌, Bool, true, false, nat_le, List, [], ◌++◌, length, take, drop, slice_range, Some, None}
+use Rattle.std.proofs.Common.{◌≡◌, ℕ, ◌+◌, ◌-◌, ◌<◌, ◌≤◌, Bool, true, false, nat_le, List, [], ◌∷◌, ◌++◌, length, take, drop, slice_range, Some, None}
 use Rattle.std.proofs.Common.{refl, sym, ap, ap₂, subst, ◌∙◌, arith, append_assoc, length-append, length-drop, ⊎_elim}
 use Rattle.std.specs.Prelude.{◌==◌, if◌then◌else◌, unwrap_or}
 use Rattle.std.proofs.lemmas.Bool.{cases_lt, le-leb}
@@ -13,10 +13,10 @@ use Rattle.bx_ucd.specs.Data.{Data}
 use Rattle.bx_editor.specs.declared.seek.Seek.{Seek}
 use Rattle.bx_editor.specs.declared.seek.Seek.TheVariants.{Off, Begun, Typed}
 use Rattle.bx_editor.specs.Editor.{Editor, after_insertion, place_after, without_message}
-use Rattle.bx_editor.specs.Keys.{after_any, after_key}
+use Rattle.bx_editor.specs.Keys.{after_any, after_key, after_keys}
 use Rattle.bx_editor.specs.Region.{after_copy, after_cut, after_put, bytes_in, is_empty, line, region, taken}
 use Rattle.bx_editor.specs.Search.{without_search}
-use Rattle.bx_editor.specs.Laws.{CopyPutsTwice, IsPart, PutRestoresCut, twice}
+use Rattle.bx_editor.specs.Laws.{CopyPutsTwice, HasPut, IsPart, PutRestoresCut, twice}
 
 -- ---- a part of a list
 
@@ -66,15 +66,17 @@ module _ (text : List ℕ) (a b : ℕ) (order : a ≤ b) (inside : b ≤ length 
 is-some : (held : List ℕ) → 0 < length held → (length held == 0) ≡ false
 is-some held more = grind (arith, nat_tests)
 
-put-text : (d : Data) (e : Editor) → 0 < length e.held → fits e.content.text e.place e.place e.held ≡ true
-    → (after_put d e).content.text ≡ splice e.content.text e.place e.place e.held
-put-text d e some room =
+-- Put inserts held bytes that have room
+put-has : (d : Data) (e : Editor) (text : List ℕ) (offset : ℕ) → 0 < length e.held → fits e.content.text e.place e.place e.held ≡ true
+    → splice e.content.text e.place e.place e.held ≡ text → e.place + length e.held ≡ offset → HasPut d e text offset (after_put d e)
+put-has d e text offset some room same at =
     let after = place_after d e (splice e.content.text e.place e.place e.held) (e.place + length e.held) in
     let none : Editor = record e { message = Some NothingToPut } in
     let full : Editor = record e { message = Some TextFull } in
     let done : Editor = record e { content = inserted e.content e.place e.held e.place after; place = after; mark = None; seek = Off; changed = true } in
-    ap (λ b. (if b then none else after_insertion d e e.held).content.text) (is-some e.held some)
-    ∙ ap (λ b. (if b then done else full).content.text) room
+    let is : after_put d e ≡ done =
+    ap (λ b. if b then none else after_insertion d e e.held) (is-some e.held some) ∙ ap (λ b. if b then done else full) room in
+    subst (HasPut d e text offset) (sym is) (record { text_is = same; place_is = ap₂ (place_after d e) same at; mark_is = refl })
 
 has-room : (text : List ℕ) (place : ℕ) (new : List ℕ) → length text + length new ≤ largest_text → fits text place place new ≡ true
 has-room text place new h =
@@ -120,9 +122,12 @@ copy-puts-twice d e off is fit =
     let copied : after_key d false e Copy ≡ held =
     ap (λ s. after_any d false e.quit_before s was Copy) off
     ∙ ap (λ x. if x then (if is_empty (line d e) then none else one) else held) (is-there e (region e) is) in
-    ap (λ new. (after_key d false new Put).content.text) copied
-    ∙ ap (λ s. (after_any d false held.quit_before s (without_message held) Put).content.text) off
-    ∙ put-text d (without_message held) (omega (arith, long, is.some)) (has-room text e.place r (omega (arith, size, fit))) ∙ put
+    let pressed : after_keys d false e (Copy ∷ Put ∷ []) ≡ after_put d (without_message held) =
+    ap (λ new. after_key d false new Put) copied ∙ ap (λ s. after_any d false held.quit_before s (without_message held) Put) off in
+    let room = has-room text e.place r (omega (arith, size, fit)) in
+    let done = put-has d (without_message held) (twice e (region e)) (e.place + length r) (omega (arith, long, is.some)) room put refl in
+    subst (HasPut d e (twice e (region e)) (e.place + length r)) (sym pressed)
+    (record { text_is = done.text_is; place_is = done.place_is; mark_is = done.mark_is })
 
 -- ---- Cut and Put
 
@@ -160,6 +165,9 @@ put-restores-cut d e is short there =
       length-append (take a text) (drop b text),
       length-drop b text,
     ) in
-    ap (λ c. (after_key d false c Put).content.text) same
-    ∙ put-text d (without_message cut) (omega (arith, long, is.some)) (has-room (splice text a b []) after r (omega (arith, size, short)))
-    ∙ ap (λ k. splice (splice text a b []) k k r) at ∙ back text a b order is.inside
+    let pressed : after_keys d false e (Cut ∷ Put ∷ []) ≡ after_put d (without_message cut) = ap (λ c. after_key d false c Put) same in
+    let put : splice (splice text a b []) after after r ≡ text =
+    ap (λ k. splice (splice text a b []) k k r) at ∙ back text a b order is.inside in
+    let room = has-room (splice text a b []) after r (omega (arith, size, short)) in
+    let done = put-has d (without_message cut) text b (omega (arith, long, is.some)) room put (omega (arith, at, long, order)) in
+    subst (HasPut d e text b) (sym pressed) (record { text_is = done.text_is; place_is = done.place_is; mark_is = done.mark_is })

@@ -18,7 +18,7 @@ use Rattle.bx_editor.specs.Editor.{after_undo, after_redo, after_save, after_qui
 use Rattle.bx_editor.specs.Keys.{after_any, after_key, after_keys, after_pressing, after_seeking}
 use Rattle.bx_editor.specs.Region.{after_copy, after_cut, after_mark, after_put, bytes_in, is_at_mark, is_empty, line, region, taken}
 use Rattle.bx_editor.specs.Search.{after_letter, is_no_letter, kept, lengthened, search_from, with_query, without_search}
-use Rattle.bx_editor.specs.Laws.{after_typing, IsBackAt, UndoGivesBack, RedoMirrorsUndo}
+use Rattle.bx_editor.specs.Laws.{after_typing, IsBackAt, IsUnmarkedAt, mark_behind, UndoGivesBack, RedoMirrorsUndo}
 use Rattle.bx_editor.proofs.InSearch.{each-key}
 
 -- ---- chains of versions
@@ -217,14 +217,20 @@ redone_is d again Off e text edit past future = refl
 redone_is d again Begun e text edit past future = refl
 redone_is d again Typed e text edit past future = refl
 
+none_behind : (past : List Edit) → mark_behind None past ≡ None
+none_behind [] = refl
+none_behind (edit ∷ past) = refl
+
 all_back : (d : Data) (first : List ℕ) (e : Editor) (text : List ℕ) (past future : List Edit) → IsPastOf first text past
-    → IsBackAt first (after_keys d false (record e { content = version text past future }) (replicate (length past) Undo))
-all_back d first e text [] future h = record { text_is = h; past_is = refl }
+    → let now : Editor = record e { content = version text past future } in IsBackAt first now (after_keys d false now (replicate (length past) Undo))
+all_back d first e text [] future h = record { text_is = h; past_is = refl; place_is = refl; mark_is = refl }
 all_back d first e text (edit ∷ past) future h =
-    subst (λ new. IsBackAt first (after_keys d false new (replicate (length past) Undo)))
+    let now : Editor = record e { content = version text (edit ∷ past) future } in
+    let undone : Editor = record (without_message e) { place = edit.before.place; mark = None; seek = Off; changed = true } in
+    let back = all_back d first undone edit.before.text past (edit ∷ future) h.1 in
+    subst (λ new. IsBackAt first now (after_keys d false new (replicate (length past) Undo)))
     (sym (undone_is d e.quit_before e.seek (without_message e) text edit past future))
-    (all_back d first (record (without_message e) { place = edit.before.place; mark = None; seek = Off; changed = true }) edit.before.text past
-    (edit ∷ future) h.1)
+    (record { text_is = back.text_is; past_is = back.past_is; place_is = back.place_is; mark_is = back.mark_is ∙ none_behind past })
 
 redo_back : (d : Data) (first : List ℕ) (e : Editor) (text : List ℕ) (past future : List Edit) → IsPastOf first text past → past ≢ []
     → (after_keys d false (record e { content = version text past future }) (Undo ∷ Redo ∷ [])).content ≡ version text past future
@@ -240,6 +246,30 @@ undo_back d e text past (edit ∷ future) h some =
     ap (λ new. (after_key d false new Undo).content) (redone_is d e.quit_before e.seek (without_message e) text edit past future)
     ∙ ap (λ t. version t past (edit ∷ future)) h.0
 
+-- ---- place and mark behind both
+
+redo_place : (d : Data) (e : Editor) (text : List ℕ) (past future : List Edit) (edit : Edit) (rest : List Edit) → past ≡ edit ∷ rest
+    → IsUnmarkedAt edit.after.place (after_keys d false (record e { content = version text past future }) (Undo ∷ Redo ∷ []))
+redo_place d e text [] future edit rest is = absurd (cc)
+redo_place d e text (latest ∷ past) future edit rest is =
+    let same : latest ≡ edit = cc in
+    let undone = undone_is d e.quit_before e.seek (without_message e) text latest past future in
+    let there : IsUnmarkedAt latest.after.place (after_keys d false (record e { content = version text (latest ∷ past) future }) (Undo ∷ Redo ∷ [])) =
+    subst (λ new. IsUnmarkedAt latest.after.place (after_key d false new Redo)) (sym undone) (record { place_is = refl; mark_is = refl }) in
+    subst (λ (x : Edit). IsUnmarkedAt x.after.place (after_keys d false (record e { content = version text (latest ∷ past) future }) (Undo ∷ Redo ∷ [])))
+    same there
+
+undo_place : (d : Data) (e : Editor) (text : List ℕ) (past future : List Edit) (edit : Edit) (rest : List Edit) → future ≡ edit ∷ rest
+    → IsUnmarkedAt edit.before.place (after_keys d false (record e { content = version text past future }) (Redo ∷ Undo ∷ []))
+undo_place d e text past [] edit rest is = absurd (cc)
+undo_place d e text past (next ∷ future) edit rest is =
+    let same : next ≡ edit = cc in
+    let redone = redone_is d e.quit_before e.seek (without_message e) text next past future in
+    let there : IsUnmarkedAt next.before.place (after_keys d false (record e { content = version text past (next ∷ future) }) (Redo ∷ Undo ∷ [])) =
+    subst (λ new. IsUnmarkedAt next.before.place (after_key d false new Undo)) (sym redone) (record { place_is = refl; mark_is = refl }) in
+    subst (λ (x : Edit). IsUnmarkedAt x.before.place (after_keys d false (record e { content = version text past (next ∷ future) }) (Redo ∷ Undo ∷ [])))
+    same there
+
 pub undo_gives_back : UndoGivesBack
 undo_gives_back d text height width base typed =
     let e = after_typing d (at_start text height width base) typed in
@@ -252,5 +282,7 @@ redo_mirrors_undo d text height width base typed =
     let has = typed_has d text height width base typed in
     record {
       redo = redo_back d text e e.content.text e.content.past e.content.future has.past;
+      redo_place = redo_place d e e.content.text e.content.past e.content.future;
+      undo_place = undo_place d e e.content.text e.content.past e.content.future;
       undo = undo_back d e e.content.text e.content.past e.content.future has.future;
     }

@@ -1,16 +1,17 @@
 -- Laws of the editor.
-use Rattle.std.specs.Prelude.{◌≡◌, ◌≢◌, ◌⊎◌, ℕ, ◌<◌, ◌≤◌, Bool, true, false, List, [], ◌∷◌, ◌++◌, length, take, drop, replicate, Option, Some, None, IsUtf8}
+use Rattle.std.specs.Prelude.{◌≡◌, ◌≢◌, ◌⊎◌, ℕ, ◌+◌, ◌<◌, ◌≤◌, Bool, true, false, List, [], ◌∷◌, ◌++◌, length, take, drop, replicate, Option, Some, None, IsUtf8}
 use Rattle.bx_terms.specs.Sizes.{is_side, largest_text}
 use Rattle.bx_terms.specs.declared.base.Base.{Base}
 use Rattle.bx_keys.specs.declared.key.Key.{Key}
-use Rattle.bx_keys.specs.declared.key.Key.TheVariants.{Undo, Redo, Copy, Cut, Put, Find, FindBack}
+use Rattle.bx_keys.specs.declared.key.Key.TheVariants.{Quit, Undo, Redo, Mark, Copy, Cut, Put, Find, FindBack, TextStart, TextEnd}
+use Rattle.bx_text.specs.Edits.{Edit}
 use Rattle.bx_ucd.specs.Data.{Data}
 use Rattle.bx_find.specs.Laws.{IsFirst, IsLast, MatchesAt}
 use Rattle.bx_view.specs.Moves.{place_at}
 use Rattle.bx_editor.specs.declared.message.Message.{Message}
 use Rattle.bx_editor.specs.declared.message.Message.TheVariants.{FromStart, FromEnd, NotFound}
 use Rattle.bx_editor.specs.declared.seek.Seek.TheVariants.{Off}
-use Rattle.bx_editor.specs.Editor.{Editor, at_start, rows}
+use Rattle.bx_editor.specs.Editor.{Editor, at_start, place_after, rows}
 use Rattle.bx_editor.specs.Keys.{after_key, after_keys}
 use Rattle.bx_editor.specs.Region.{bytes_in, region, taken}
 use Rattle.bx_editor.specs.Search.{next_or_start, sought}
@@ -38,22 +39,44 @@ after_typing d e (key ∷ typed) = after_typing d (after_key d key.1 e key.0) ty
 abbrev pub after_all_undone : Data → Editor → Editor
 after_all_undone d e = after_keys d false e (replicate (length e.content.past) Undo)
 
--- the editor has this text, and nothing to undo
-pub record IsBackAt (text : List ℕ) (e : Editor) : Type 0 where
-  pub text_is : e.content.text ≡ text
-  pub past_is : e.content.past ≡ []
+-- the place before the oldest of some edits, the latest first; the given place, if there is no edit
+abbrev pub oldest_place : ℕ → List Edit → ℕ
+oldest_place place [] = place
+oldest_place place (edit ∷ past) = oldest_place edit.before.place past
+
+-- the mark, once there was an edit
+abbrev pub mark_behind : Option ℕ → List Edit → Option ℕ
+mark_behind mark [] = mark
+mark_behind mark (edit ∷ past) = None
+
+-- The new editor has this text, and nothing to undo. The cursor is where it was before the oldest edit of `e`, and no mark
+-- is set; if `e` has no edit, place and mark are as in `e`.
+pub record IsBackAt (text : List ℕ) (e new : Editor) : Type 0 where
+  pub text_is : new.content.text ≡ text
+  pub past_is : new.content.past ≡ []
+  pub place_is : new.place ≡ oldest_place e.place e.content.past
+  pub mark_is : new.mark ≡ mark_behind e.mark e.content.past
 
 -- undoing everything restores the opened text, whatever was typed
 abbrev pub UndoGivesBack : Type 0
 UndoGivesBack =
     (d : Data) (text : List ℕ) (height width : ℕ) (base : Base) (typed : List (Key × Bool))
-    → IsBackAt text (after_all_undone d (after_typing d (at_start text height width base) typed))
+    → let e = after_typing d (at_start text height width base) typed in IsBackAt text e (after_all_undone d e)
 
--- Undo then Redo leaves text, past and future unchanged, if there is an edit to undo; so does Redo then Undo, if there is
--- an edit to redo.
+-- the cursor is at this place, and no mark is set
+pub record IsUnmarkedAt (place : ℕ) (e : Editor) : Type 0 where
+  pub place_is : e.place ≡ place
+  pub mark_is : e.mark ≡ None
+
+-- Undo then Redo leaves text, past and future unchanged, if there is an edit to undo, and the cursor at its place after that
+-- edit. Redo then Undo leaves them unchanged, if there is an edit to redo, and the cursor at its place before that edit.
 pub record AreMirrored (d : Data) (e : Editor) : Type 0 where
   pub redo : e.content.past ≢ [] → (after_keys d false e (Undo ∷ Redo ∷ [])).content ≡ e.content
+  pub redo_place : (edit : Edit) (past : List Edit) → e.content.past ≡ edit ∷ past
+      → IsUnmarkedAt edit.after.place (after_keys d false e (Undo ∷ Redo ∷ []))
   pub undo : e.content.future ≢ [] → (after_keys d false e (Redo ∷ Undo ∷ [])).content ≡ e.content
+  pub undo_place : (edit : Edit) (future : List Edit) → e.content.future ≡ edit ∷ future
+      → IsUnmarkedAt edit.before.place (after_keys d false e (Redo ∷ Undo ∷ []))
 
 -- undo and redo mirror each other after anything that was typed over an opened text
 abbrev pub RedoMirrorsUndo : Type 0
@@ -72,18 +95,48 @@ pub record IsPart (e : Editor) (part : ℕ × ℕ) : Type 0 where
 abbrev pub twice : Editor → ℕ × ℕ → List ℕ
 twice e part = take part.0 e.content.text ++ bytes_in e part ++ bytes_in e part ++ drop part.1 e.content.text
 
--- outside a search, copying the region and putting it back at once leaves the text with the region twice, if there is room
+-- the new editor has this text, and no mark; the cursor is at the first place at or after the offset
+pub record HasPut (d : Data) (e : Editor) (text : List ℕ) (offset : ℕ) (new : Editor) : Type 0 where
+  pub text_is : new.content.text ≡ text
+  pub place_is : new.place ≡ place_after d e text offset
+  pub mark_is : new.mark ≡ None
+
+-- outside a search, copying the region and putting it back at once leaves the text with the region twice, if there is room,
+-- and the cursor behind what was put
 abbrev pub CopyPutsTwice : Type 0
 CopyPutsTwice =
     (d : Data) (e : Editor) → e.seek ≡ Off → IsPart e (region e) → length (twice e (region e)) ≤ largest_text
-    → (after_keys d false e (Copy ∷ Put ∷ [])).content.text ≡ twice e (region e)
+    → HasPut d e (twice e (region e)) (e.place + length (bytes_in e (region e))) (after_keys d false e (Copy ∷ Put ∷ []))
 
--- cutting and putting back at once leaves the text unchanged, if the cut leaves the cursor where the cut text began
+-- cutting and putting back at once leaves the text unchanged, if the cut leaves the cursor where the cut text began, and the
+-- cursor at the end of that text
 abbrev pub PutRestoresCut : Type 0
 PutRestoresCut =
     (d : Data) (e : Editor) → IsPart e (taken d e) → length e.content.text ≤ largest_text
     → (after_key d false e Cut).place ≡ (taken d e).0
-    → (after_keys d false e (Cut ∷ Put ∷ [])).content.text ≡ e.content.text
+    → HasPut d e e.content.text ((taken d e).1) (after_keys d false e (Cut ∷ Put ∷ []))
+
+-- Mark twice at one place changes nothing but the message, if the mark was there or nowhere; a mark elsewhere is gone. A
+-- search ends, and an earlier Quit is forgotten.
+pub record AreTwoMarks (e new : Editor) : Type 0 where
+  pub here : (e.mark ≡ None) ⊎ (e.mark ≡ Some e.place) → new ≡ record e { seek = Off; message = new.message; quit_before = false }
+  pub elsewhere : (mark : ℕ) → e.mark ≡ Some mark → mark ≢ e.place
+      → new ≡ record e { mark = None; seek = Off; message = new.message; quit_before = false }
+
+abbrev pub MarkTwiceIsNothing : Type 0
+MarkTwiceIsNothing = (d : Data) (e : Editor) → AreTwoMarks e (after_keys d false e (Mark ∷ Mark ∷ []))
+
+-- ---- the text's ends
+
+-- TextEnd then TextStart leads to the text's start, TextStart then TextEnd to its end; all else stays, but a search ends, and
+-- the message and an earlier Quit are gone
+pub record ReachesBothEnds (d : Data) (e : Editor) : Type 0 where
+  pub start : after_keys d false e (TextEnd ∷ TextStart ∷ []) ≡ record e { place = 0; seek = Off; message = None; quit_before = false }
+  pub end : after_keys d false e (TextStart ∷ TextEnd ∷ [])
+      ≡ record e { place = length e.content.text; seek = Off; message = None; quit_before = false }
+
+abbrev pub GoesToBothEnds : Type 0
+GoesToBothEnds = (d : Data) (e : Editor) → ReachesBothEnds d e
 
 -- ---- a search
 
@@ -123,3 +176,28 @@ FindBackGoesToPrevious =
     ((at : ℕ) × IsLast d (sought d e) e.content.text e.place at × WentTo d e new None at)
     ⊎ ((NoneBefore d e e.place × ((at : ℕ) × IsLast d (sought d e) e.content.text end at × WentTo d e new (Some FromEnd) at))
     ⊎ (NoneBefore d e end × Stayed e new))
+
+-- the key begins a search outside one; it gives up a search that is on
+abbrev pub BeginsSearch : Key → Type 0
+BeginsSearch key = (key ≡ Find) ⊎ (key ≡ FindBack)
+
+abbrev pub GivesUp : Key → Type 0
+GivesUp key = (key ≡ Quit) ⊎ (key ≡ Copy)
+
+-- a search is on, and stays on while these keys are typed
+abbrev pub StaysOn : Data → Editor → List (Key × Bool) → Type 0
+StaysOn d e [] = e.seek ≢ Off
+StaysOn d e (key ∷ typed) = (e.seek ≢ Off) × StaysOn d (after_key d key.1 e key.0) typed
+
+-- no search is on; place, mark and text with its past and future are as in `e`
+pub record IsGivenUp (e new : Editor) : Type 0 where
+  pub seek_is : new.seek ≡ Off
+  pub place_is : new.place ≡ e.place
+  pub mark_is : new.mark ≡ e.mark
+  pub content_is : new.content ≡ e.content
+
+-- giving a search up puts place and mark back as they were when it began, whatever was typed in it
+abbrev pub GivingUpGoesBack : Type 0
+GivingUpGoesBack =
+    (d : Data) (e : Editor) (begin give : Key) (typed : List (Key × Bool)) → e.seek ≡ Off → BeginsSearch begin → GivesUp give
+    → let begun = after_key d false e begin in StaysOn d begun typed → IsGivenUp e (after_key d false (after_typing d begun typed) give)

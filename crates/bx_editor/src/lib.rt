@@ -20,8 +20,9 @@ mod status;
 pub use editor::Editor;
 pub use error::OpenError;
 pub use laws::{
-    copy_puts_twice, find_back_goes_to_previous, find_goes_to_next, put_restores_cut,
-    redo_mirrors_undo, top_stays, undo_gives_back,
+    copy_puts_twice, find_back_goes_to_previous, find_goes_to_next, giving_up_goes_back,
+    goes_to_both_ends, mark_twice_is_nothing, put_restores_cut, redo_mirrors_undo, top_stays,
+    undo_gives_back,
 };
 pub use message::Message;
 pub use seek::Seek;

@@ -3,3 +3,5 @@ pub mod Fallen
 pub mod ReadOn
 pub mod Offsets
 pub mod Nearest
+mod Examples
+mod LawExamples

@@ -1,13 +1,14 @@
 -- Worked examples, each from a clause of a run alone.
-use Rattle.std.proofs.Common.{◌≡◌, ◌≢◌, ◌≤◌, ℕ, zero, suc, Bool, true, false, List, [], ◌∷◌, ◌++◌, Option, Some, inl, inr, refl, sym, ap, subst, ◌∙◌, arith}
+use Rattle.std.proofs.Common.{◌≡◌, ◌≢◌, ◌≤◌, ◌<◌, ◌+◌, ℕ, zero, suc, Bool, true, false, List, [], ◌∷◌, ◌++◌, length, take, Option, Some, inl, inr, refl, sym, ap, subst}
+use Rattle.std.proofs.Common.{◌∙◌, append_assoc, arith}
 use Rattle.std.specs.Global.{Vec}
-use Rattle.std.specs.Prelude.{codes, vec_items}
+use Rattle.std.specs.Prelude.{codes, vec_items, vec_capacity}
 use Rattle.std.specs.Io.KnownBytes.{Appends}
 use Rattle.std.proofs.lemmas.Bool.Decides.{nat_tests}
-use Rattle.std.proofs.lemmas.List.{append-nil}
+use Rattle.std.proofs.lemmas.List.{append-nil, length-append}
 use Rattle.bx_store.specs.Stores.{one_more}
-use Rattle.bx_session.specs.declared.journal.Backlog.TheVariants.{Empty, Waiting, Lost}
-use Rattle.bx_session.specs.Journal.{RecorderState, HasKept, HasTried, IfWaiting, waiting, after_faults}
+use Rattle.bx_session.specs.declared.journal.Backlog.TheVariants.{Empty, Waiting}
+use Rattle.bx_session.specs.Journal.{RecorderState, HasKept, HasTried, is_lost, room, waiting, after_faults}
 use Rattle.bx_session.specs.Running.{ByteAnswer, HasRun, bytes_of}
 use Rattle.bx_session.specs.Saving.{StoreState}
 use Rattle.bx_session.specs.Session.{Session}
@@ -37,7 +38,7 @@ a_byte_is_fed new all store store' writer writer' (a ∷ answered) dropped writt
 kept_in_all : {J : Type 0} (contents : J → Option (List ℕ)) (failures : J → ℕ) (old new : RecorderState J) (bytes : List ℕ)
     (kept : HasKept contents failures old new bytes) (held : List ℕ) → waiting old.backlog ≡ held → new.backlog ≡ Empty → kept.appended ≡ held ++ bytes
 kept_in_all contents failures old new bytes kept held was is =
-    let none : kept.lost ≡ [] = kept.all (λ h. let g : Empty ≡ Lost = sym is ∙ h in cc g) in
+    let none : kept.lost ≡ [] = kept.all (ap is_lost is) in
     sym (append-nil kept.appended)
     ∙ ap (λ xs. kept.appended ++ xs) (sym none)
     ∙ ap (λ k. kept.appended ++ (waiting k ++ kept.lost)) (sym is)
@@ -68,19 +69,64 @@ pub what_waits_comes_first : {J : Type 0} (contents : J → Option (List ℕ)) (
 what_waits_comes_first contents failures old new held there kept was has is before after =
     grown (kept_in_all contents failures old new (codes "y") kept (codes "x") (ap waiting was ∙ has) is) before after kept.grows
 
+-- the journal lacks only what waits
+pub only_what_waits_is_missing : {J : Type 0} (contents : J → Option (List ℕ)) (failures : J → ℕ) (old new : RecorderState J) (held : Vec ℕ) (there : List ℕ)
+    (kept : HasKept contents failures old new (codes "xy")) → old.backlog ≡ Empty → new.backlog ≡ Waiting held → vec_items held ≡ codes "y"
+    → contents old.journal ≡ Some (codes "ab") → contents new.journal ≡ Some there → there ++ codes "y" ≡ codes "abxy"
+only_what_waits_is_missing contents failures old new held there kept was waits has before after =
+    let none : kept.lost ≡ [] = kept.all (ap is_lost waits) in
+    let all : codes "xy" ≡ kept.appended ++ codes "y" =
+    ap (λ k. waiting k ++ codes "xy") (sym was)
+    ∙ kept.order
+    ∙ ap (λ xs. kept.appended ++ (waiting new.backlog ++ xs)) none
+    ∙ ap (λ k. kept.appended ++ (waiting k ++ [])) waits
+    ∙ ap (λ xs. kept.appended ++ (xs ++ [])) has in
+    let journal : there ≡ codes "ab" ++ kept.appended = grown refl before after kept.grows in
+    ap (λ xs. xs ++ codes "y") journal ∙ append_assoc (codes "ab") kept.appended (codes "y") ∙ ap (λ xs. codes "ab" ++ xs) (sym all)
+
 -- an empty backlog grows only if a call of the journal fails
 pub no_failure_is_no_fault : {J : Type 0} (contents : J → Option (List ℕ)) (failures : J → ℕ) (old new : RecorderState J)
-    → HasKept contents failures old new (codes "x") → old.backlog ≡ Empty → failures old.journal ≡ 0 → failures new.journal ≡ 0 → new.backlog ≢ Lost
-    → new.backlog ≡ Empty
-no_failure_is_no_fault contents failures old new kept works none still there = elim (has_none new.backlog) [
+    → HasKept contents failures old new (codes "x") → old.backlog ≡ Empty → failures old.journal ≡ 0 → failures new.journal ≡ 0 → new.backlog ≡ Empty
+no_failure_is_no_fault contents failures old new kept works none still = elim (has_none new.backlog) [
   | inl none_left ↦ none_left
   | inr some_left ↦ absurd (some_faults kept.faults (failures old.journal) (kept.fault works some_left) (sym kept.counted ∙ still))
 ]
 
--- bytes do not wait on after a call in which the journal did not fail
-pub no_failure_ends_waiting : {J : Type 0} (failures : J → ℕ) (old new : RecorderState J) (held : Vec ℕ) → HasTried failures old new
-    → failures old.journal ≡ 0 → failures new.journal ≡ 0 → new.backlog ≢ Waiting held
-no_failure_ends_waiting failures old new held tried none still waits =
-    let failed : failures new.journal ≡ one_more (failures old.journal) =
-    subst (λ k. IfWaiting k (failures new.journal ≡ one_more (failures old.journal))) waits tried in
-    some_faults 1 (failures old.journal) (omega arith) (sym failed ∙ still)
+-- bytes that wait are appended in a call in which the journal does not fail
+pub no_failure_ends_waiting : {J : Type 0} (failures : J → ℕ) (old new : RecorderState J) (held : Vec ℕ) → HasTried failures old new (codes "x")
+    → old.backlog ≡ Waiting held → failures old.journal ≡ 0 → failures new.journal ≡ 0 → new.backlog ≡ Empty
+no_failure_ends_waiting failures old new held tried was none still = elim (has_none new.backlog) [
+  | inl none_left ↦ none_left
+  | inr some_left ↦ absurd (some_faults 1 (failures old.journal) (omega arith) (sym (tried.fails (ap is_lost was) some_left) ∙ still))
+]
+
+if_lost : (lost : Bool) → (lost ≡ true → ⊥) → lost ≡ false
+if_lost true h = absurd (h refl)
+if_lost false h = refl
+
+-- no byte is lost first in such a call, nor while the waiting bytes' memory has room for the new ones
+pub no_failure_loses_nothing : {J : Type 0} (failures : J → ℕ) (old new : RecorderState J) → HasTried failures old new (codes "x")
+    → is_lost old.backlog ≡ false → failures old.journal ≡ 0 → failures new.journal ≡ 0 → is_lost new.backlog ≡ false
+no_failure_loses_nothing failures old new tried there none still = if_lost (is_lost new.backlog) (λ h.
+    some_faults 1 (failures old.journal) (omega arith)
+    (sym (tried.fails there (λ e. let g : false ≡ true = sym (ap is_lost e) ∙ h in cc g)) ∙ still))
+
+pub room_loses_nothing : {J : Type 0} (failures : J → ℕ) (old new : RecorderState J) (held : Vec ℕ) → HasTried failures old new (codes "x")
+    → old.backlog ≡ Waiting held → length (vec_items held) ≡ 3 → vec_capacity held ≡ 4 → is_lost new.backlog ≡ false
+room_loses_nothing failures old new held tried was count space = if_lost (is_lost new.backlog) (λ h.
+    let full : room old.backlog < length (waiting old.backlog ++ codes "x") = tried.full (ap is_lost was) h in
+    let all : length (waiting old.backlog ++ codes "x") ≡ length (waiting old.backlog) + 1 = length-append (waiting old.backlog) (codes "x") in
+    let waits : length (waiting old.backlog) ≡ 3 = ap (λ k. length (waiting k)) was ∙ count in
+    let is : room old.backlog ≡ 4 = ap room was ∙ space in omega (arith, full, all, waits, is))
+
+first_is : (xs lost : List ℕ) → codes "xy" ≡ xs ++ lost → length lost ≤ 1 → take 1 xs ≡ codes "x"
+first_is [] lost is few = absurd (omega (arith, few, ap (λ (ys : List ℕ). length ys) is))
+first_is (c ∷ xs) lost is few = ap (take 1) (sym is)
+
+-- bytes that wait are not lost when new ones are
+pub what_waits_is_not_lost : {J : Type 0} (contents : J → Option (List ℕ)) (failures : J → ℕ) (old new : RecorderState J) (held : Vec ℕ)
+    (kept : HasKept contents failures old new (codes "y")) → old.backlog ≡ Waiting held → vec_items held ≡ codes "x"
+    → take 1 (kept.appended ++ waiting new.backlog) ≡ codes "x"
+what_waits_is_not_lost contents failures old new held kept was has =
+    first_is (kept.appended ++ waiting new.backlog) kept.lost
+    (ap (λ xs. xs ++ codes "y") (sym (ap waiting was ∙ has)) ∙ kept.order ∙ sym (append_assoc kept.appended (waiting new.backlog) kept.lost)) kept.few

@@ -1,26 +1,33 @@
 -- Worked examples, each from a law alone.
-use Rattle.std.proofs.Common.{◌≡◌, ℕ, true, List, [], ◌∷◌, ◌++◌, Some, Result, Err, refl, sym, ap, ◌∙◌}
+use Rattle.std.proofs.Common.{◌≡◌, ℕ, true, false, List, [], ◌∷◌, ◌++◌, Option, Some, None, Result, Err, refl, sym, ap, ◌∙◌}
+use Rattle.std.specs.Global.{Vec}
 use Rattle.std.specs.Prelude.{◌≢◌, codes}
 use Rattle.std.specs.Fmt.{digits}
+use Rattle.std.proofs.lemmas.List.{append-nil, append_cancel_right}
 use Rattle.std.proofs.lemmas.List.Elements.{All-cons, All-nil}
 use Rattle.unicode_segmentation.proofs.Computing.{unicode_segmentation}
 use Rattle.unicode_width.proofs.Computing.{unicode_width}
 use Rattle.bx_terms.specs.declared.base.Base.TheVariants.{Auto}
 use Rattle.bx_keys.specs.declared.key.Key.TheVariants.{Insert, Up}
 use Rattle.bx_text.specs.Edits.{Edited}
+use Rattle.bx_text.specs.Edits.{opened as opened_text}
 use Rattle.bx_editor.specs.Editor.{Editor}
 use Rattle.bx_editor.specs.Laws.{HasRows}
 use Rattle.bx_editor.proofs.Computed.{tables, columns_of}
 use Rattle.bx_session.specs.declared.error.Refused.{Refused}
 use Rattle.bx_session.specs.declared.error.Refused.TheVariants.{Edit, Paint}
 use Rattle.bx_session.specs.declared.status.Status.{Status}
+use Rattle.bx_session.specs.declared.journal.Backlog.TheVariants.{Empty, Waiting}
 use Rattle.bx_session.specs.Anew.{AlwaysStaysPainted}
+use Rattle.bx_session.specs.Beginning.{Beginning, begun, unpainted_at}
+use Rattle.bx_session.specs.Journal.{RecorderState, RunsRecorded}
 use Rattle.bx_session.specs.Laws.{AlwaysShowsState, HasKeysOfInput, ReplaysKeys, after_journal, after_replaying, keys_from}
-use Rattle.bx_session.specs.Recovery.{HasBack, HasBackMidway, RefusesNoKey, RecoveryGivesBack}
+use Rattle.bx_session.specs.Recovery.{HasAll, HasBack, HasBackMidway, JournalsGiveBack, RefusesNoKey, RecoveryGivesBack}
 use Rattle.bx_session.specs.Running.{ByteAnswer, FeedsAll, bytes_of}
 use Rattle.bx_session.specs.Saving.{StoreState}
 use Rattle.bx_session.specs.Session.{Session, after_byte, after_sending, after_spending, owing_after_byte, with_painting}
 use Rattle.bx_session.proofs.Computed.{start, csi}
+use Rattle.bx_session.proofs.GivenBack.{journal_is}
 
 abbrev opened : Session
 opened = start (codes "ab") 1 5
@@ -163,3 +170,52 @@ a_recovered_session_goes_on law store store' b new feeds none =
     let same : HasBackMidway (with_painting tables replayed) replayed = record { parts = parts; seek = refl; origin = refl } in
     ap (λ (t : Edited). t.text)
     (sym (law.keeps_up tables (with_painting tables replayed) replayed store store' ((0x62, b) ∷ []) new same feeds none).parts.content)
+
+-- ---- from a journal
+
+-- a row of five columns over ab
+abbrev over_ab : Beginning
+over_ab = record { text = codes "ab"; height = 1; width = 5; base = Auto; offset = None; unsaved = false; journal = [] }
+
+abbrev replay_of : List ℕ → Session
+replay_of bytes = unpainted_at tables (record over_ab { journal = bytes })
+
+module _ {J : Type 0} (contents : J → Option (List ℕ)) (failures : J → ℕ) (law : JournalsGiveBack contents failures) (new : Session)
+    (store store' : StoreState) (writer writer' : Option (List ℕ)) (journal journal' : RecorderState J) where
+  abbrev Ran : Option (List ℕ) → Option (List ℕ) → Type 0
+  Ran reader reader' = RunsRecorded contents failures tables (begun tables over_ab) new store store' reader reader' writer writer' journal journal'
+
+  -- x, Save, y; then the session was killed
+  pub a_killed_session_comes_back : (reader reader' : Option (List ℕ)) (run : Ran reader reader') → HasAll contents journal []
+      → HasAll contents journal' (0x78 ∷ 0x13 ∷ 0x79 ∷ []) → RefusesNoKey run.0 → new.editor.content.text ≡ codes "xyab"
+  unfolding unicode_segmentation unicode_width digits
+  a_killed_session_comes_back reader reader' run had has none =
+      let given = law tables over_ab new store store' reader reader' writer writer' journal journal' (0x78 ∷ 0x13 ∷ 0x79 ∷ []) run had refl has none in
+      ap (λ (t : Edited). t.text) (sym given.0.content)
+
+  -- Forward: no key edited
+  pub an_unedited_text_is_the_opened_one : (reader reader' : Option (List ℕ)) (run : Ran reader reader') → HasAll contents journal []
+      → HasAll contents journal' (0x06 ∷ []) → RefusesNoKey run.0 → (new.editor.content ≡ opened_text (codes "ab")) × (new.editor.changed ≢ true)
+  unfolding unicode_segmentation unicode_width digits
+  an_unedited_text_is_the_opened_one reader reader' run had has none =
+      let given = law tables over_ab new store store' reader reader' writer writer' journal journal' (0x06 ∷ []) run had refl has none in
+      (sym given.0.content ∙ given.1.unchanged refl, λ h. absurd (let both : false ≡ true = given.1.changed h in cc both))
+
+  -- of x, Quit, Quit and z, all read at once, z was dropped
+  pub what_follows_the_end_does_not_come_back : (run : Ran (Some (0x78 ∷ 0x11 ∷ 0x11 ∷ 0x7a ∷ [])) (Some [])) → run.1 ≡ 0x7a ∷ [] → (bytes : List ℕ)
+      → HasAll contents journal [] → HasAll contents journal' bytes → RefusesNoKey run.0
+      → (new.editor.content.text ≡ codes "xab") × ((replay_of bytes).editor.content.text ≡ codes "xab")
+  unfolding unicode_segmentation unicode_width digits
+  what_follows_the_end_does_not_come_back run dropped bytes had has none =
+      let fed : bytes_of run.0 ≡ 0x78 ∷ 0x11 ∷ 0x11 ∷ [] =
+      append_cancel_right (bytes_of run.0) (0x78 ∷ 0x11 ∷ 0x11 ∷ []) (0x7a ∷ [])
+      (ap (λ xs. bytes_of run.0 ++ xs) (sym dropped) ∙ sym (append-nil (bytes_of run.0 ++ run.1)) ∙ sym run.4.reads) in
+      let is : bytes ≡ 0x78 ∷ 0x11 ∷ 0x11 ∷ [] = journal_is contents failures journal journal' [] (bytes_of run.0) bytes run.5 had has ∙ fed in
+      let text : (replay_of bytes).editor.content.text ≡ codes "xab" = ap (λ xs. (replay_of xs).editor.content.text) is in
+      let given = law tables over_ab new store store' (Some (0x78 ∷ 0x11 ∷ 0x11 ∷ 0x7a ∷ [])) (Some []) writer writer' journal journal' bytes run had refl has none in
+      (ap (λ (t : Edited). t.text) (sym given.0.content) ∙ text, text)
+
+-- while bytes wait, the law says nothing
+pub a_waiting_backlog_claims_nothing : {J : Type 0} (contents : J → Option (List ℕ)) (recorder : RecorderState J) (held : Vec ℕ) (bytes : List ℕ)
+    → recorder.backlog ≡ Waiting held → HasAll contents recorder bytes → ⊥
+a_waiting_backlog_claims_nothing contents recorder held bytes waits has = absurd (let both : Waiting held ≡ Empty = sym waits ∙ has.none_missing in cc both)

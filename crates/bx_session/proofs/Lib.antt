@@ -9,7 +9,14 @@ pub mod Replayed
 pub mod Examples
 pub mod Shown
 pub mod Turns
+pub mod Logged
+pub mod Moved
+pub mod Wiring
+pub mod WholeLog
 pub mod Recovered
+pub mod QuitParts
+pub mod GivenBack
 pub mod LawExamples
 pub mod ReplayExamples
 mod ClauseExamples
+mod LogExamples

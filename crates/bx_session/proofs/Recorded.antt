@@ -1,33 +1,32 @@
 -- The bytes that a recorder appends, holds and loses.
-use Rattle.std.proofs.Common.{◌≡◌, ◌≢◌, ◌≤◌, ◌+◌, ℕ, zero, suc, Bool, false, Result, Ok, Err, List, [], ◌++◌, Option, drop, take}
+use Rattle.std.proofs.Common.{◌≡◌, ◌≢◌, ◌≤◌, ◌<◌, ◌+◌, ℕ, zero, suc, Bool, true, false, List, [], ◌++◌, Option, drop, take, length}
 use Rattle.std.proofs.Common.{refl, sym, ap, subst, ◌∙◌, append_assoc, ◌⊎◌, inl, inr, arith}
-use Rattle.std.specs.Prelude.{is_err, is_ok, vec_items, if◌then◌else◌}
+use Rattle.std.specs.Prelude.{vec_items, vec_capacity}
 use Rattle.std.specs.Io.KnownBytes.{Appends}
 use Rattle.std.proofs.KnownBytes.{Appends-nil, Appends-trans}
-use Rattle.std.proofs.lemmas.List.{append-nil, take-append-drop}
+use Rattle.std.proofs.lemmas.List.{append-nil, append_cancel_right, length-append, length-drop, take-append-drop}
 use Rattle.bx_store.specs.Stores.{one_more}
 use Rattle.bx_session.specs.declared.journal.Backlog.{Backlog}
 use Rattle.bx_session.specs.declared.journal.Backlog.TheVariants.{Empty, Waiting, Lost}
-use Rattle.bx_session.specs.Journal.{RecorderState, HasKept, Holds, IfWaiting, waiting, after_faults}
-
--- bytes that fit in memory
-pub extended : {A E : Type 0} (r : Result A E) (failed : Bool) (items all some : List ℕ) → failed ≡ is_err r → failed ≡ false
-    → items ≡ (if is_ok r then all else some) → items ≡ all
-extended (Ok done) failed items all some is works e = e
-extended (Err error) failed items all some is works e = absurd (let g = sym is ∙ works in cc g)
+use Rattle.bx_session.specs.Journal.{RecorderState, AppendsNew, HasKept, HasTried, Holds, is_lost, room, waiting, after_faults}
 
 -- ---- one call
 
--- a fact, whatever the backlog
-pub if_waiting : (P : Type 0) (k : Backlog) → P → IfWaiting k P
-if_waiting P Empty h = tt
-if_waiting P (Waiting held) h = h
-if_waiting P Lost h = tt
+unlike : (b : Bool) → b ≡ false → b ≡ true → ⊥
+unlike b off on = let both : false ≡ true = sym off ∙ on in cc both
+
+empty_is_whole : (k : Backlog) → k ≡ Empty → is_lost k ≡ true → ⊥
+empty_is_whole k is lost = unlike (is_lost k) (ap is_lost is) lost
+
+lost_full : (held : Backlog) (space : ℕ) (waited fresh : List ℕ) → Holds space waited fresh held → is_lost held ≡ true → space < length (waited ++ fresh)
+lost_full Empty space waited fresh holds is = absurd holds
+lost_full (Waiting held) space waited fresh holds is = absurd (cc is)
+lost_full (Lost held) space waited fresh holds is = holds.1
 
 module _ {J : Type 0} (contents : J → Option (List ℕ)) (failures : J → ℕ) (old new : RecorderState J) (bytes : List ℕ) where
   -- all is appended
   pub kept_all : new.backlog ≡ Empty → Appends (contents old.journal) (contents new.journal) (waiting old.backlog ++ bytes)
-      → failures new.journal ≡ failures old.journal → old.backlog ≢ Lost → HasKept contents failures old new bytes
+      → failures new.journal ≡ failures old.journal → is_lost old.backlog ≡ false → HasKept contents failures old new bytes
   kept_all is grows well there = record {
     appended = waiting old.backlog ++ bytes;
     lost = [];
@@ -35,79 +34,136 @@ module _ {J : Type 0} (contents : J → Option (List ℕ)) (failures : J → ℕ
     order = sym (ap (λ k. (waiting old.backlog ++ bytes) ++ (waiting k ++ [])) is ∙ append-nil (waiting old.backlog ++ bytes));
     grows = grows;
     all = λ h. refl;
-    stays = λ h. absurd (there h);
+    few = omega arith;
+    stays = λ h. absurd (unlike (is_lost old.backlog) there h);
     counted = well;
     fault = λ h k. absurd (k is);
+    first = λ h k. absurd (empty_is_whole new.backlog is k);
+  }
+
+  pub tried_all : new.backlog ≡ Empty → is_lost old.backlog ≡ false → HasTried failures old new bytes
+  tried_all is there = record {
+    fails = λ h k. absurd (k is);
+    waits_on = λ h k. absurd (unlike (is_lost old.backlog) there h);
+    full = λ h k. absurd (empty_is_whole new.backlog is k);
   }
 
   -- the first ones are appended, and the others held, if there is memory for them
-  pub kept_part : (n : ℕ) → Holds new.backlog (drop n (waiting old.backlog ++ bytes))
-      → Appends (contents old.journal) (contents new.journal) (take n (waiting old.backlog ++ bytes))
-      → failures new.journal ≡ one_more (failures old.journal) → old.backlog ≢ Lost → HasKept contents failures old new bytes
-  kept_part n holds grows fault there = by_kept new.backlog refl where
-    all : List ℕ
-    all = waiting old.backlog ++ bytes
-
-    split : all ≡ take n all ++ drop n all
-    split = sym (take-append-drop n all)
-
-    by_kept : (k : Backlog) → new.backlog ≡ k → HasKept contents failures old new bytes
-    by_kept Empty e = absurd (subst (λ x. Holds x (drop n all)) e holds)
-    by_kept (Waiting held) e =
-        let is : vec_items held ≡ drop n all = subst (λ x. Holds x (drop n all)) e holds in record {
-          appended = take n all;
+  pub kept_part : (space : ℕ) (appended waited fresh : List ℕ) → waiting old.backlog ++ bytes ≡ appended ++ (waited ++ fresh)
+      → length fresh ≤ length bytes → Holds space waited fresh new.backlog → Appends (contents old.journal) (contents new.journal) appended
+      → failures new.journal ≡ one_more (failures old.journal) → is_lost old.backlog ≡ false → HasKept contents failures old new bytes
+  kept_part space appended waited fresh order few holds grows fault there = by_held new.backlog refl where
+    by_held : (k : Backlog) → new.backlog ≡ k → HasKept contents failures old new bytes
+    by_held Empty e = absurd (subst (Holds space waited fresh) e holds)
+    by_held (Waiting held) e =
+        let is : vec_items held ≡ waited ++ fresh = subst (Holds space waited fresh) e holds in record {
+          appended = appended;
           lost = [];
           faults = 1;
-          order = split
-              ∙ ap (λ xs. take n all ++ xs) (sym (append-nil (drop n all)))
-              ∙ ap (λ xs. take n all ++ (xs ++ [])) (sym is)
-              ∙ ap (λ x. take n all ++ (waiting x ++ [])) (sym e);
+          order = order
+              ∙ ap (λ xs. appended ++ xs) (sym (append-nil (waited ++ fresh)))
+              ∙ ap (λ xs. appended ++ (xs ++ [])) (sym is)
+              ∙ ap (λ x. appended ++ (waiting x ++ [])) (sym e);
           grows = grows;
           all = λ h. refl;
-          stays = λ h. absurd (there h);
+          few = omega arith;
+          stays = λ h. absurd (unlike (is_lost old.backlog) there h);
           counted = fault;
           fault = λ h k. omega arith;
+          first = λ h k. omega arith;
         }
-    by_kept Lost e = record {
-      appended = take n all;
-      lost = drop n all;
-      faults = 1;
-      order = split ∙ ap (λ x. take n all ++ (waiting x ++ drop n all)) (sym e);
-      grows = grows;
-      all = λ h. absurd (h e);
-      stays = λ h. absurd (there h);
-      counted = fault;
-      fault = λ h k. omega arith;
-    }
+    by_held (Lost held) e =
+        let is = subst (Holds space waited fresh) e holds in record {
+          appended = appended;
+          lost = fresh;
+          faults = 1;
+          order = order
+              ∙ ap (λ xs. appended ++ (xs ++ fresh)) (sym is.0)
+              ∙ ap (λ x. appended ++ (waiting x ++ fresh)) (sym e);
+          grows = grows;
+          all = λ h. absurd (unlike (is_lost new.backlog) h (ap is_lost e));
+          few = few;
+          stays = λ h. absurd (unlike (is_lost old.backlog) there h);
+          counted = fault;
+          fault = λ h k. omega arith;
+          first = λ h k. omega arith;
+        }
 
-  -- out of memory for bytes after those that wait
-  pub kept_lost : new.backlog ≡ Lost → new.journal ≡ old.journal → old.backlog ≢ Empty → old.backlog ≢ Lost → HasKept contents failures old new bytes
-  kept_lost is same waits there = record {
-    appended = [];
-    lost = waiting old.backlog ++ bytes;
-    faults = 0;
-    order = ap (λ x. waiting x ++ (waiting old.backlog ++ bytes)) (sym is);
-    grows = subst (λ (x : J). Appends (contents old.journal) (contents x) []) (sym same) (Appends-nil (contents old.journal));
-    all = λ h. absurd (h is);
-    stays = λ h. absurd (there h);
-    counted = ap failures same;
-    fault = λ h k. absurd (waits h);
+  pub tried_part : (space : ℕ) (waited fresh : List ℕ) → room old.backlog ≤ space → length (waited ++ fresh) ≤ length (waiting old.backlog ++ bytes)
+      → Holds space waited fresh new.backlog → failures new.journal ≡ one_more (failures old.journal) → is_lost old.backlog ≡ false
+      → HasTried failures old new bytes
+  tried_part space waited fresh more few holds fault there = record {
+    fails = λ h k. fault;
+    waits_on = λ h k. fault;
+    full = λ h k. let full = lost_full new.backlog space waited fresh holds k in omega (arith, more, few, full);
   }
 
--- after a loss nothing changes
-pub kept_alone : {J : Type 0} (contents : J → Option (List ℕ)) (failures : J → ℕ) (s : RecorderState J) (bytes : List ℕ) → s.backlog ≡ Lost
-    → HasKept contents failures s s bytes
-kept_alone contents failures s bytes cut = record {
-  appended = [];
-  lost = bytes;
-  faults = 0;
-  order = refl;
-  grows = Appends-nil (contents s.journal);
-  all = λ h. absurd (h cut);
-  stays = λ h. refl;
-  counted = refl;
-  fault = λ h k. absurd (k h);
-}
+  -- after a loss only bytes that wait are appended
+  pub kept_last : (faults : ℕ) (appended : List ℕ) → is_lost old.backlog ≡ true → is_lost new.backlog ≡ true
+      → waiting old.backlog ≡ appended ++ waiting new.backlog → Appends (contents old.journal) (contents new.journal) appended
+      → failures new.journal ≡ after_faults faults (failures old.journal) → HasKept contents failures old new bytes
+  kept_last faults appended was is order grows counted = record {
+    appended = appended;
+    lost = bytes;
+    faults = faults;
+    order = ap (λ xs. xs ++ bytes) order ∙ append_assoc appended (waiting new.backlog) bytes;
+    grows = grows;
+    all = λ h. absurd (unlike (is_lost new.backlog) h is);
+    few = omega arith;
+    stays = λ h. (is, refl);
+    counted = counted;
+    fault = λ h k. absurd (empty_is_whole old.backlog h was);
+    first = λ h k. absurd (unlike (is_lost old.backlog) h was);
+  }
+
+  pub tried_last : is_lost old.backlog ≡ true → (waiting new.backlog ≢ [] → failures new.journal ≡ one_more (failures old.journal))
+      → HasTried failures old new bytes
+  tried_last was fails = record {
+    fails = λ h k. absurd (unlike (is_lost old.backlog) h was);
+    waits_on = λ h k. fails k;
+    full = λ h k. absurd (unlike (is_lost old.backlog) h was);
+  }
+
+  -- the waiting bytes were appended, and then the new ones as far as the journal took them
+  pub kept_new : (space : ℕ) (mid : J) (k : Backlog) → new.backlog ≡ k → Appends (contents old.journal) (contents mid) (waiting old.backlog)
+      → failures mid ≡ failures old.journal → AppendsNew contents failures mid new.journal space k bytes → is_lost old.backlog ≡ false
+      → HasKept contents failures old new bytes
+  kept_new space mid Empty e before same more there =
+      kept_all e (Appends-trans (contents old.journal) (contents mid) (contents new.journal) (waiting old.backlog) bytes before more.0) (more.1 ∙ same) there
+  kept_new space mid (Waiting held) e before same more there =
+      let n = more.0 in
+      kept_part space (waiting old.backlog ++ take n bytes) [] (drop n bytes)
+      (ap (λ xs. waiting old.backlog ++ xs) (sym (take-append-drop n bytes)) ∙ sym (append_assoc (waiting old.backlog) (take n bytes) (drop n bytes)))
+      (omega (arith, length-drop n bytes)) (subst (Holds space [] (drop n bytes)) (sym e) more.2)
+      (Appends-trans (contents old.journal) (contents mid) (contents new.journal) (waiting old.backlog) (take n bytes) before more.1)
+      (more.3 ∙ ap one_more same) there
+  kept_new space mid (Lost held) e before same more there =
+      let n = more.0 in
+      kept_part space (waiting old.backlog ++ take n bytes) [] (drop n bytes)
+      (ap (λ xs. waiting old.backlog ++ xs) (sym (take-append-drop n bytes)) ∙ sym (append_assoc (waiting old.backlog) (take n bytes) (drop n bytes)))
+      (omega (arith, length-drop n bytes)) (subst (Holds space [] (drop n bytes)) (sym e) more.2)
+      (Appends-trans (contents old.journal) (contents mid) (contents new.journal) (waiting old.backlog) (take n bytes) before more.1)
+      (more.3 ∙ ap one_more same) there
+
+  pub tried_new : (space : ℕ) (mid : J) (k : Backlog) → new.backlog ≡ k → room old.backlog ≤ space → failures mid ≡ failures old.journal
+      → AppendsNew contents failures mid new.journal space k bytes → is_lost old.backlog ≡ false → HasTried failures old new bytes
+  tried_new space mid Empty e more same appends there = tried_all e there
+  tried_new space mid (Waiting held) e more same appends there =
+      let n = appends.0 in
+      tried_part space [] (drop n bytes) more (omega (arith, length-drop n bytes, length-append (waiting old.backlog) bytes))
+      (subst (Holds space [] (drop n bytes)) (sym e) appends.2) (appends.3 ∙ ap one_more same) there
+  tried_new space mid (Lost held) e more same appends there =
+      let n = appends.0 in
+      tried_part space [] (drop n bytes) more (omega (arith, length-drop n bytes, length-append (waiting old.backlog) bytes))
+      (subst (Holds space [] (drop n bytes)) (sym e) appends.2) (appends.3 ∙ ap one_more same) there
+
+-- the journal failed behind the first `count` bytes
+pub refused_new : {J : Type 0} (contents : J → Option (List ℕ)) (failures : J → ℕ) (old new : J) (space count : ℕ) (k : Backlog) (bytes : List ℕ)
+    → Appends (contents old) (contents new) (take count bytes) → Holds space [] (drop count bytes) k → failures new ≡ one_more (failures old)
+    → AppendsNew contents failures old new space k bytes
+refused_new contents failures old new space count Empty bytes grows holds fault = absurd holds
+refused_new contents failures old new space count (Waiting held) bytes grows holds fault = (count, grows, holds, fault)
+refused_new contents failures old new space count (Lost held) bytes grows holds fault = (count, grows, holds, fault)
 
 -- ---- calls in sequence
 
@@ -120,9 +176,11 @@ kept_nothing contents failures s = record {
   order = refl;
   grows = Appends-nil (contents s.journal);
   all = λ h. refl;
-  stays = λ h. refl;
+  few = omega arith;
+  stays = λ h. (h, refl);
   counted = refl;
   fault = λ h k. absurd (k h);
+  first = λ h k. absurd (unlike (is_lost s.backlog) h k);
 }
 
 faults_more : (n m count : ℕ) → after_faults n (after_faults m count) ≡ after_faults (n + m) count
@@ -130,74 +188,77 @@ faults_more zero m count = let same : m ≡ 0 + m = omega arith in ap (λ k. aft
 faults_more (suc n) m count =
     let same : suc (n + m) ≡ suc n + m = omega arith in ap one_more (faults_more n m count) ∙ ap (λ k. after_faults k count) same
 
-has_lost : (k : Backlog) → (k ≡ Lost) ⊎ (k ≢ Lost)
-has_lost Empty = inr (λ h. cc h)
-has_lost (Waiting held) = inr (λ h. cc h)
-has_lost Lost = inl refl
-
 pub has_none : (k : Backlog) → (k ≡ Empty) ⊎ (k ≢ Empty)
 has_none Empty = inl refl
 has_none (Waiting held) = inr (λ h. cc h)
-has_none Lost = inr (λ h. cc h)
+has_none (Lost held) = inr (λ h. cc h)
 
 -- bytes after others
 pub kept_more : {J : Type 0} (contents : J → Option (List ℕ)) (failures : J → ℕ) (old mid new : RecorderState J) (bytes more : List ℕ)
     → HasKept contents failures old mid bytes → HasKept contents failures mid new more → HasKept contents failures old new (bytes ++ more)
-kept_more {J} contents failures old mid new bytes more first next = elim (has_lost mid.backlog) [
-  | inl cut ↦ alone cut
-  | inr there ↦ joined there
-] where
-  counts : failures new.journal ≡ after_faults (next.faults + first.faults) (failures old.journal)
-  counts = next.counted ∙ ap (after_faults next.faults) first.counted ∙ faults_more next.faults first.faults (failures old.journal)
+kept_more {J} contents failures old mid new bytes more begun next = by_mid (is_lost mid.backlog) refl where
+  counts : failures new.journal ≡ after_faults (next.faults + begun.faults) (failures old.journal)
+  counts = next.counted ∙ ap (after_faults next.faults) begun.counted ∙ faults_more next.faults begun.faults (failures old.journal)
 
-  faulty : old.backlog ≡ Empty → new.backlog ≢ Empty → 1 ≤ next.faults + first.faults
+  faulty : old.backlog ≡ Empty → new.backlog ≢ Empty → 1 ≤ next.faults + begun.faults
   faulty h k = elim (has_none mid.backlog) [
     | inl whole ↦ let some = next.fault whole k in omega (arith, some)
-    | inr part ↦ let some = first.fault h part in omega (arith, some)
+    | inr part ↦ let some = begun.fault h part in omega (arith, some)
   ]
 
-  alone : mid.backlog ≡ Lost → HasKept contents failures old new (bytes ++ more)
-  alone cut =
-      let same : new ≡ mid = next.stays cut in record {
-        appended = first.appended;
-        lost = first.lost ++ more;
-        faults = next.faults + first.faults;
+  joined : Appends (contents old.journal) (contents new.journal) (begun.appended ++ next.appended)
+  joined = Appends-trans (contents old.journal) (contents mid.journal) (contents new.journal) begun.appended next.appended begun.grows next.grows
+
+  sizes : length (bytes ++ more) ≡ length bytes + length more
+  sizes = length-append bytes more
+
+  by_mid : (lost : Bool) → is_lost mid.backlog ≡ lost → HasKept contents failures old new (bytes ++ more)
+  by_mid true cut =
+      let stays = next.stays cut in
+      let rest : waiting mid.backlog ≡ next.appended ++ waiting new.backlog =
+      append_cancel_right (waiting mid.backlog) (next.appended ++ waiting new.backlog) more
+      (next.order ∙ ap (λ xs. next.appended ++ (waiting new.backlog ++ xs)) stays.1 ∙ sym (append_assoc next.appended (waiting new.backlog) more)) in record {
+        appended = begun.appended ++ next.appended;
+        lost = begun.lost ++ more;
+        faults = next.faults + begun.faults;
         order = sym (append_assoc (waiting old.backlog) bytes more)
-            ∙ ap (λ xs. xs ++ more) first.order
-            ∙ append_assoc first.appended (waiting mid.backlog ++ first.lost) more
-            ∙ ap (λ xs. first.appended ++ xs) (append_assoc (waiting mid.backlog) first.lost more)
-            ∙ ap (λ (x : RecorderState J). first.appended ++ (waiting x.backlog ++ (first.lost ++ more))) (sym same);
-        grows = subst (λ (x : RecorderState J). Appends (contents old.journal) (contents x.journal) first.appended) (sym same) first.grows;
-        all = λ h. absurd (h (ap (λ (x : RecorderState J). x.backlog) same ∙ cut));
-        stays = λ h. same ∙ first.stays h;
+            ∙ ap (λ xs. xs ++ more) begun.order
+            ∙ append_assoc begun.appended (waiting mid.backlog ++ begun.lost) more
+            ∙ ap (λ xs. begun.appended ++ xs) (append_assoc (waiting mid.backlog) begun.lost more)
+            ∙ ap (λ xs. begun.appended ++ (xs ++ (begun.lost ++ more))) rest
+            ∙ ap (λ xs. begun.appended ++ xs) (append_assoc next.appended (waiting new.backlog) (begun.lost ++ more))
+            ∙ sym (append_assoc begun.appended next.appended (waiting new.backlog ++ (begun.lost ++ more)));
+        grows = joined;
+        all = λ h. absurd (unlike (is_lost new.backlog) h stays.0);
+        few = omega (arith, begun.few, sizes, length-append begun.lost more);
+        stays = λ h. (stays.0, ap (λ xs. xs ++ more) (begun.stays h).1);
         counted = counts;
         fault = faulty;
+        first = λ h k. let some = begun.first h cut in omega (arith, some);
       }
-
-  joined : mid.backlog ≢ Lost → HasKept contents failures old new (bytes ++ more)
-  joined there =
-      let none : first.lost ≡ [] = first.all there in record {
-        appended = first.appended ++ next.appended;
+  by_mid false there =
+      let none : begun.lost ≡ [] = begun.all there in record {
+        appended = begun.appended ++ next.appended;
         lost = next.lost;
-        faults = next.faults + first.faults;
+        faults = next.faults + begun.faults;
         order = sym (append_assoc (waiting old.backlog) bytes more)
-            ∙ ap (λ xs. xs ++ more) first.order
-            ∙ ap (λ xs. (first.appended ++ (waiting mid.backlog ++ xs)) ++ more) none
-            ∙ ap (λ xs. (first.appended ++ xs) ++ more) (append-nil (waiting mid.backlog))
-            ∙ append_assoc first.appended (waiting mid.backlog) more
-            ∙ ap (λ xs. first.appended ++ xs) next.order
-            ∙ sym (append_assoc first.appended next.appended (waiting new.backlog ++ next.lost));
-        grows = Appends-trans (contents old.journal) (contents mid.journal) (contents new.journal) first.appended next.appended first.grows next.grows;
+            ∙ ap (λ xs. xs ++ more) begun.order
+            ∙ ap (λ xs. (begun.appended ++ (waiting mid.backlog ++ xs)) ++ more) none
+            ∙ ap (λ xs. (begun.appended ++ xs) ++ more) (append-nil (waiting mid.backlog))
+            ∙ append_assoc begun.appended (waiting mid.backlog) more
+            ∙ ap (λ xs. begun.appended ++ xs) next.order
+            ∙ sym (append_assoc begun.appended next.appended (waiting new.backlog ++ next.lost));
+        grows = joined;
         all = next.all;
-        stays = λ h. absurd (there (ap (λ (x : RecorderState J). x.backlog) (first.stays h) ∙ h));
+        few = omega (arith, next.few, sizes);
+        stays = λ h. absurd (unlike (is_lost mid.backlog) there (begun.stays h).0);
         counted = counts;
         fault = faulty;
+        first = λ h k. let some = next.first there k in omega (arith, some);
       }
 
--- a read that gave no byte
-pub kept_none : {J : Type 0} (contents : J → Option (List ℕ)) (failures : J → ℕ) (old mid new : RecorderState J) (bytes buffer : List ℕ) (count : ℕ)
-    → count ≡ 0 → HasKept contents failures old mid bytes → HasKept contents failures mid new (take count buffer)
-    → HasKept contents failures old new bytes
-kept_none contents failures old mid new bytes buffer count none first last =
-    subst (HasKept contents failures old new) (append-nil bytes)
-    (kept_more contents failures old mid new bytes [] first (subst (λ n. HasKept contents failures mid new (take n buffer)) none last))
+-- one more call, with no byte
+pub kept_again : {J : Type 0} (contents : J → Option (List ℕ)) (failures : J → ℕ) (old mid new : RecorderState J) (bytes : List ℕ)
+    → HasKept contents failures old mid bytes → HasKept contents failures mid new [] → HasKept contents failures old new bytes
+kept_again contents failures old mid new bytes begun last =
+    subst (HasKept contents failures old new) (append-nil bytes) (kept_more contents failures old mid new bytes [] begun last)

@@ -36,7 +36,7 @@ use Rattle.bx_session.proofs.Replayed.{applies, each-replayed, is_other, replays
 -- ---- lasting state
 
 -- the parts of an editor that a Save and a Quit change in a replay too
-record Lasting : Type 0 where
+pub record Lasting : Type 0 where
   pub content : Edited
   pub place : ℕ
   pub mark : Option ℕ
@@ -48,7 +48,7 @@ record Lasting : Type 0 where
   pub height : ℕ
   pub width : ℕ
 
-abbrev lasting : Editor → Lasting
+abbrev pub lasting : Editor → Lasting
 lasting e = record {
   content = e.content;
   place = e.place;
@@ -273,7 +273,7 @@ key_lasts d saved e f key =
     (ap lasting (save-ends d saved e) ∙ save_lasts (without_message e) saved) (quit_lasts d saved e.seek e f refl)
     (λ k other. other_lasts d saved e f k other) key
 
-abbrev editor_after : Data → Bool → Editor → Option Key → Editor
+abbrev pub editor_after : Data → Bool → Editor → Option Key → Editor
 editor_after d saved e None = e
 editor_after d saved e (Some key) = after_key d saved e key
 
@@ -285,7 +285,7 @@ any_lasts d saved e f (Some key) h =
 
 -- ---- the session after a byte
 
-record Leaves (d : Data) (saved : Bool) (old : Session) (key : Option Key) (rest : List ℕ) (new : Session) : Type 0 where
+pub record Leaves (d : Data) (saved : Bool) (old : Session) (key : Option Key) (rest : List ℕ) (new : Session) : Type 0 where
   pub editor : new.editor ≡ editor_after d saved old.editor key
   pub rest_is : new.rest ≡ rest
 
@@ -307,7 +307,7 @@ painted_at true owed None d saved old spent ends rest e h = h
 painted_at true owed (Some key) d saved old spent ends rest e h = absurd (cc e)
 painted_at false owed key d saved old spent ends rest e h = record { editor = h.editor; rest_is = h.rest_is }
 
-byte_leaves : (d : Data) (saved : Bool) (s : Session) (b : ℕ) (a : Result Status Refused) (new : Session) → s.editor.ended ≡ false
+pub byte_leaves : (d : Data) (saved : Bool) (s : Session) (b : ℕ) (a : Result Status Refused) (new : Session) → s.editor.ended ≡ false
     → a ≢ Err refused.Edit → AfterByte d saved s b a new
     → Leaves d saved s (key_after s.rest b) (head_of (rest_after s.rest b)) new
 byte_leaves d saved s b (Ok status) new runs some h =
@@ -323,12 +323,12 @@ byte_leaves d saved s b (Err refused.Size) new runs some h = absurd h
 
 -- ---- the replay follows the session
 
-record Follows (s r : Session) : Type 0 where
+pub record Follows (s r : Session) : Type 0 where
   pub lasts : lasting s.editor ≡ lasting r.editor
   pub rest_is : s.rest ≡ r.rest
   pub goes_on : r.editor.ended ≡ false
 
-byte_follows : (d : Data) (s r : Session) (store store' : StoreState) (b : ℕ) (a : Result Status Refused) (new : Session) → Follows s r
+pub byte_follows : (d : Data) (s r : Session) (store store' : StoreState) (b : ℕ) (a : Result Status Refused) (new : Session) → Follows s r
     → s.editor.ended ≡ false → a ≢ Err refused.Edit → Feeds d s store b a new store' → Follows new (after_replay d r b)
 byte_follows d s r store store' b a new before runs some feeds =
     let leaves = byte_leaves d feeds.0 s b a new runs some feeds.2 in
@@ -342,7 +342,7 @@ byte_follows d s r store store' b a new before runs some feeds =
       goes_on = each.goes_on;
     }
 
-all_follow : (d : Data) (s r : Session) (store store' : StoreState) (answered : List ByteAnswer) (new : Session) → Follows s r
+pub all_follow : (d : Data) (s r : Session) (store store' : StoreState) (answered : List ByteAnswer) (new : Session) → Follows s r
     → FeedsAll d s store answered new store' → RefusesNoKey answered → Follows new (after_replaying d r (bytes_of answered))
 all_follow d s r store store' [] new before feeds none = subst (λ (x : Session). Follows x r) (sym feeds.0) before
 all_follow d s r store store' (a ∷ answered) new before feeds none =
@@ -370,7 +370,7 @@ same_lasts e f content place mark held query seek origin base height width =
     ∙ ap (λ x. record sought { base = f.base; height = x }) (sym height)
     ∙ ap (λ x. record sought { base = f.base; height = f.height; width = x }) (sym width)
 
-follows : (s r : Session) → HasBackMidway s r → Follows s r
+pub follows : (s r : Session) → HasBackMidway s r → Follows s r
 follows s r h =
     let p = h.parts in record {
       lasts = same_lasts s.editor r.editor p.content p.place p.mark p.held p.query h.seek h.origin p.base p.height p.width;
@@ -378,7 +378,7 @@ follows s r h =
       goes_on = p.goes_on;
     }
 
-has_back : (s r : Session) → Follows s r → HasBackMidway s r
+pub has_back : (s r : Session) → Follows s r → HasBackMidway s r
 has_back s r h = record {
   parts = record {
     content = ap (λ (l : Lasting). l.content) (sym h.lasts);
@@ -396,7 +396,7 @@ has_back s r h = record {
   origin = ap (λ (l : Lasting). l.origin) (sym h.lasts);
 }
 
-ended_back : (s r : Session) → HasBackMidway s r → HasBack s (at_replay_end r)
+pub ended_back : (s r : Session) → HasBackMidway s r → HasBack s (at_replay_end r)
 ended_back s r h =
     let p = h.parts in record {
       content = p.content;

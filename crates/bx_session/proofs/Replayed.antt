@@ -1,58 +1,99 @@
 -- Replayed bytes apply their keys in order.
-use Rattle.std.proofs.Common.{◌≡◌, ℕ, Bool, true, false, List, [], ◌∷◌, ◌++◌, Option, Some, None, refl, sym, ap, ◌∙◌, append_assoc, if◌then◌else◌}
-use Rattle.std.specs.Prelude.{◌==◌, encode_utf8, option_to_list}
+use Rattle.std.proofs.Common.{◌≡◌, ◌≢◌, ℕ, Bool, true, false, not, ◌&&◌, List, [], ◌∷◌, ◌++◌, Option, Some, None, refl, sym, ap, subst, ◌∙◌, append_assoc, length, ◌⊎◌, inl, inr, if◌then◌else◌, arith}
+use Rattle.std.specs.Prelude.{◌==◌, ◌+◌, encode_utf8, option_to_list}
 use Rattle.bx_keys.specs.declared.key.Key.{Key}
 use Rattle.bx_keys.specs.declared.key.Key.TheVariants.{Insert, Erase, Delete, Back, Forward, Up, Down, Right, Left, RowHome, RowEnd, PageUp, PageDown, Save}
 use Rattle.bx_keys.specs.declared.key.Key.TheVariants.{Quit, Undo, Redo, Repaint, Direction, Size, Mark, Copy, Cut, Put}
 use Rattle.bx_keys.specs.declared.key.Key.TheVariants.{Find, FindBack, WordLeft, WordRight, TextStart, TextEnd, Help}
 use Rattle.bx_keys.specs.Keys.{key_after, rest_after}
 use Rattle.bx_keys.specs.Waiting.{head_of}
-use Rattle.bx_text.specs.Edits.{Edit}
+use Rattle.bx_text.specs.Edits.{Edit, Edited, edit_of, fits, inserted, redone_in, removed, replaced, splice, undone_in}
 use Rattle.bx_ucd.specs.Data.{Data}
-use Rattle.bx_editor.specs.Editor.{Editor, after_insertion, after_removal, after_undo, after_redo, without_message}
+use Rattle.bx_editor.specs.declared.message.Message.TheVariants.{TextFull}
+use Rattle.bx_editor.specs.Editor.{Editor, after_insertion, after_removal, after_undo, after_redo, place_after, with_size, without_message}
 use Rattle.bx_editor.specs.declared.seek.Seek.{Seek}
 use Rattle.bx_editor.specs.declared.seek.Seek.TheVariants.{Off, Begun, Typed}
-use Rattle.bx_editor.specs.Keys.{after_any, after_key, after_pressing, after_seeking}
+use Rattle.bx_editor.specs.Keys.{after_any, after_key, after_pressing, after_seeking, is_save}
 use Rattle.bx_editor.specs.Search.{after_letter, is_no_letter, without_search}
 use Rattle.bx_editor.proofs.InSearch.{each-key}
-use Rattle.bx_editor.specs.Region.{after_copy, after_cut, after_put, is_empty, line, region, taken}
+use Rattle.bx_editor.specs.Region.{after_copy, after_cut, after_put, is_at_mark, is_empty, line, region, taken}
+use Rattle.bx_session.specs.Parts.{is_quit}
 use Rattle.bx_session.specs.Laws.{keys_from, after_replaying, ReplaysKeys}
 use Rattle.bx_session.specs.Session.{Session, after_all_replayed, after_replay, after_replayed, after_replayed_key, session_after_replayed, with_painting_owed}
 
--- ---- a key that is replayed does not end the editor
+-- ---- a key that is neither Save nor Quit edits, or leaves the text and whether it counts as changed; the editor goes on
 
-either_goes_on : (b : Bool) (p q : Editor) → p.ended ≡ false → q.ended ≡ false → (if b then p else q).ended ≡ false
-either_goes_on true p q h k = h
-either_goes_on false p q h k = k
+-- the text counts as changed, and the past is longer or shorter; or text, past and future are as before, and so is what counts
+abbrev pub Edits : Editor → Editor → Type 0
+Edits e new =
+    ((new.content ≡ e.content) × (new.changed ≡ e.changed)) ⊎ ((new.changed ≡ true) × (length new.content.past ≢ length e.content.past))
 
-undo_goes_on : (e : Editor) (past : List Edit) → e.ended ≡ false → (after_undo e past).ended ≡ false
-undo_goes_on e [] h = h
-undo_goes_on e (x ∷ xs) h = h
+pub record Steps (e new : Editor) : Type 0 where
+  pub goes_on : new.ended ≡ e.ended
+  pub edits : Edits e new
 
-redo_goes_on : (e : Editor) (future : List Edit) → e.ended ≡ false → (after_redo e future).ended ≡ false
-redo_goes_on e [] h = h
-redo_goes_on e (x ∷ xs) h = h
+-- the same text
+idle : (e new : Editor) → new.ended ≡ e.ended → new.content ≡ e.content → new.changed ≡ e.changed → Steps e new
+idle e new ended content changed = record { goes_on = ended; edits = inl (content, changed) }
 
-insertion_goes_on : (d : Data) (e : Editor) (bytes : List ℕ) → e.ended ≡ false → (after_insertion d e bytes).ended ≡ false
-insertion_goes_on d e bytes h = either_goes_on _ _ _ h h
+either_steps : (b : Bool) (e p q : Editor) → Steps e p → Steps e q → Steps e (if b then p else q)
+either_steps true e p q h k = h
+either_steps false e p q h k = k
 
-removal_goes_on : (d : Data) (e : Editor) (start stop : ℕ) → e.ended ≡ false → (after_removal d e start stop).ended ≡ false
-removal_goes_on d e start stop h = either_goes_on _ _ _ h h
+longer : {A : Type 0} (x : A) (xs : List A) → length (x ∷ xs) ≢ length xs
+longer x xs h = absurd (omega (arith, h))
 
-copy_goes_on : (d : Data) (e : Editor) → e.ended ≡ false → (after_copy d e).ended ≡ false
-copy_goes_on d e h = either_goes_on (is_empty (region e)) _ _ (either_goes_on (is_empty (line d e)) _ _ h h) h
+shorter : {A : Type 0} (x : A) (xs : List A) → length xs ≢ length (x ∷ xs)
+shorter x xs h = absurd (omega (arith, h))
 
-cut_goes_on : (d : Data) (e : Editor) → e.ended ≡ false → (after_cut d e).ended ≡ false
-cut_goes_on d e h = either_goes_on (is_empty (taken d e)) _ _ (copy_goes_on d e h) (removal_goes_on d e ((taken d e).0) ((taken d e).1) h)
+undo_steps : (e : Editor) (past : List Edit) → e.content.past ≡ past → Steps e (after_undo e past)
+undo_steps e [] is = idle e (after_undo e []) refl refl refl
+undo_steps e (x ∷ xs) is = record {
+  goes_on = refl;
+  edits = inr (refl, λ h. shorter x xs (sym (ap (λ ys. length (undone_in e.content ys).past) is) ∙ h ∙ ap (λ (ys : List Edit). length ys) is));
+}
 
-put_goes_on : (d : Data) (e : Editor) → e.ended ≡ false → (after_put d e).ended ≡ false
-put_goes_on d e h = either_goes_on _ _ _ h (insertion_goes_on d e e.held h)
+redo_steps : (e : Editor) (future : List Edit) → e.content.future ≡ future → Steps e (after_redo e future)
+redo_steps e [] is = idle e (after_redo e []) refl refl refl
+redo_steps e (x ∷ xs) is = record {
+  goes_on = refl;
+  edits = inr (refl, λ h. longer x e.content.past (sym (ap (λ ys. length (redone_in e.content ys).past) is) ∙ h));
+}
+
+-- an edit is added to the past
+more_past : (t : Edited) (start stop : ℕ) (new : List ℕ) (before after : ℕ) → length (replaced t start stop new before after).past ≢ length t.past
+more_past t start stop new before after = longer (edit_of t.text start stop new before after) t.past
+
+insertion_steps : (d : Data) (e : Editor) (bytes : List ℕ) → Steps e (after_insertion d e bytes)
+insertion_steps d e bytes =
+    let after = place_after d e (splice e.content.text e.place e.place bytes) (e.place + length bytes) in
+    let put : Editor = record e { content = inserted e.content e.place bytes e.place after; place = after; mark = None; seek = Off; changed = true } in
+    let full : Editor = record e { message = Some TextFull } in
+    either_steps (fits e.content.text e.place e.place bytes) e put full
+    (record { goes_on = refl; edits = inr (refl, more_past e.content e.place e.place bytes e.place after) }) (idle e full refl refl refl)
+
+removal_steps : (d : Data) (e : Editor) (start stop : ℕ) → Steps e (after_removal d e start stop)
+removal_steps d e start stop =
+    let after = place_after d e (splice e.content.text start stop []) start in
+    let cut : Editor = record e { content = removed e.content start stop e.place after; place = after; mark = None; seek = Off; changed = true } in
+    either_steps (start == stop) e e cut (idle e e refl refl refl)
+    (record { goes_on = refl; edits = inr (refl, more_past e.content start stop [] e.place after) })
+
+copy_steps : (d : Data) (e : Editor) → Steps e (after_copy d e)
+copy_steps d e =
+    either_steps (is_empty (region e)) e _ _ (either_steps (is_empty (line d e)) e _ _ (idle e _ refl refl refl) (idle e _ refl refl refl)) (idle e _ refl refl refl)
+
+cut_steps : (d : Data) (e : Editor) → Steps e (after_cut d e)
+cut_steps d e =
+    let out = removal_steps d e ((taken d e).0) ((taken d e).1) in
+    either_steps (is_empty (taken d e)) e _ _ (copy_steps d e) (record { goes_on = out.goes_on; edits = out.edits })
+
+put_steps : (d : Data) (e : Editor) → Steps e (after_put d e)
+put_steps d e = either_steps (length e.held == 0) e _ _ (idle e _ refl refl refl) (insertion_steps d e e.held)
 
 -- a key that a replay applies as it is
 abbrev pub is_other : Key → Bool
-is_other Save = false
-is_other Quit = false
-is_other key = true
+is_other key = not (is_save key) && not (is_quit (Some key))
 
 -- any key of a replay
 pub each-replayed : (d : Data) (seek : Seek) (e : Editor) (P : Key → Editor → Type 0) → P Save (without_search e) → P Quit (after_replayed d seek e Quit)
@@ -89,98 +130,107 @@ each-replayed d seek e P save quit other TextEnd = other TextEnd refl
 each-replayed d seek e P save quit other Help = other Help refl
 each-replayed d seek e P save quit other (Size height width) = other (Size height width) refl
 
--- it does not end the editor
-pressed_goes_on : (d : Data) (again : Bool) (e : Editor) (key : Key) → is_other key ≡ true → e.ended ≡ false
-    → (after_pressing d false again e key).ended ≡ false
-pressed_goes_on d again e (Insert c) other h = insertion_goes_on d e (encode_utf8 c) h
-pressed_goes_on d again e Erase other h = either_goes_on _ _ _ h h
-pressed_goes_on d again e Delete other h = either_goes_on _ _ _ h h
-pressed_goes_on d again e Back other h = h
-pressed_goes_on d again e Forward other h = h
-pressed_goes_on d again e Up other h = h
-pressed_goes_on d again e Down other h = h
-pressed_goes_on d again e Right other h = h
-pressed_goes_on d again e Left other h = h
-pressed_goes_on d again e RowHome other h = h
-pressed_goes_on d again e RowEnd other h = h
-pressed_goes_on d again e PageUp other h = h
-pressed_goes_on d again e PageDown other h = h
-pressed_goes_on d again e Save other h = absurd (cc other)
-pressed_goes_on d again e Quit other h = absurd (cc other)
-pressed_goes_on d again e Undo other h = undo_goes_on e e.content.past h
-pressed_goes_on d again e Redo other h = redo_goes_on e e.content.future h
-pressed_goes_on d again e Repaint other h = h
-pressed_goes_on d again e Direction other h = h
-pressed_goes_on d again e Mark other h = either_goes_on _ _ _ h h
-pressed_goes_on d again e Copy other h = copy_goes_on d e h
-pressed_goes_on d again e Cut other h = cut_goes_on d e h
-pressed_goes_on d again e Put other h = put_goes_on d e h
-pressed_goes_on d again e Find other h = h
-pressed_goes_on d again e FindBack other h = h
-pressed_goes_on d again e WordLeft other h = h
-pressed_goes_on d again e WordRight other h = h
-pressed_goes_on d again e TextStart other h = h
-pressed_goes_on d again e TextEnd other h = h
-pressed_goes_on d again e Help other h = h
-pressed_goes_on d again e (Size height width) other h = h
+-- outside a search
+pressed_steps : (d : Data) (saved again : Bool) (e : Editor) (key : Key) → is_other key ≡ true → Steps e (after_pressing d saved again e key)
+pressed_steps d saved again e (Insert c) other = insertion_steps d e (encode_utf8 c)
+pressed_steps d saved again e Erase other = removal_steps d e _ e.place
+pressed_steps d saved again e Delete other = removal_steps d e e.place _
+pressed_steps d saved again e Back other = idle e _ refl refl refl
+pressed_steps d saved again e Forward other = idle e _ refl refl refl
+pressed_steps d saved again e Up other = idle e _ refl refl refl
+pressed_steps d saved again e Down other = idle e _ refl refl refl
+pressed_steps d saved again e Right other = idle e _ refl refl refl
+pressed_steps d saved again e Left other = idle e _ refl refl refl
+pressed_steps d saved again e RowHome other = idle e _ refl refl refl
+pressed_steps d saved again e RowEnd other = idle e _ refl refl refl
+pressed_steps d saved again e PageUp other = idle e _ refl refl refl
+pressed_steps d saved again e PageDown other = idle e _ refl refl refl
+pressed_steps d saved again e Save other = absurd (cc other)
+pressed_steps d saved again e Quit other = absurd (cc other)
+pressed_steps d saved again e Undo other = undo_steps e e.content.past refl
+pressed_steps d saved again e Redo other = redo_steps e e.content.future refl
+pressed_steps d saved again e Repaint other = idle e _ refl refl refl
+pressed_steps d saved again e Direction other = idle e _ refl refl refl
+pressed_steps d saved again e Mark other = either_steps (is_at_mark e.mark e.place) e _ _ (idle e _ refl refl refl) (idle e _ refl refl refl)
+pressed_steps d saved again e Copy other = copy_steps d e
+pressed_steps d saved again e Cut other = cut_steps d e
+pressed_steps d saved again e Put other = put_steps d e
+pressed_steps d saved again e Find other = idle e _ refl refl refl
+pressed_steps d saved again e FindBack other = idle e _ refl refl refl
+pressed_steps d saved again e WordLeft other = idle e _ refl refl refl
+pressed_steps d saved again e WordRight other = idle e _ refl refl refl
+pressed_steps d saved again e TextStart other = idle e _ refl refl refl
+pressed_steps d saved again e TextEnd other = idle e _ refl refl refl
+pressed_steps d saved again e Help other = idle e _ refl refl refl
+pressed_steps d saved again e (Size height width) other = idle e _ refl refl refl
 
-letter_goes_on : (d : Data) (e : Editor) (c : ℕ) → e.ended ≡ false → (after_letter d e c).ended ≡ false
-letter_goes_on d e c h = either_goes_on (c == 0xA) _ _ h (either_goes_on (is_no_letter d c) _ _ h h)
+letter_steps : (d : Data) (e : Editor) (c : ℕ) → Steps e (after_letter d e c)
+letter_steps d e c =
+    either_steps (c == 0xA) e _ _ (idle e _ refl refl refl) (either_steps (is_no_letter d c) e _ _ (idle e _ refl refl refl) (idle e _ refl refl refl))
 
-sought_goes_on : (d : Data) (again : Bool) (e : Editor) (key : Key) → is_other key ≡ true → e.ended ≡ false
-    → (after_seeking d false again e key).ended ≡ false
-sought_goes_on d again e (Insert c) other h = letter_goes_on d e c h
-sought_goes_on d again e Erase other h = h
-sought_goes_on d again e Delete other h = h
-sought_goes_on d again e Back other h = pressed_goes_on d again e Back refl h
-sought_goes_on d again e Forward other h = pressed_goes_on d again e Forward refl h
-sought_goes_on d again e Up other h = pressed_goes_on d again e Up refl h
-sought_goes_on d again e Down other h = pressed_goes_on d again e Down refl h
-sought_goes_on d again e Right other h = pressed_goes_on d again e Right refl h
-sought_goes_on d again e Left other h = pressed_goes_on d again e Left refl h
-sought_goes_on d again e RowHome other h = pressed_goes_on d again e RowHome refl h
-sought_goes_on d again e RowEnd other h = pressed_goes_on d again e RowEnd refl h
-sought_goes_on d again e PageUp other h = pressed_goes_on d again e PageUp refl h
-sought_goes_on d again e PageDown other h = pressed_goes_on d again e PageDown refl h
-sought_goes_on d again e Save other h = absurd (cc other)
-sought_goes_on d again e Quit other h = absurd (cc other)
-sought_goes_on d again e Undo other h = pressed_goes_on d again e Undo refl h
-sought_goes_on d again e Redo other h = pressed_goes_on d again e Redo refl h
-sought_goes_on d again e Repaint other h = h
-sought_goes_on d again e Direction other h = pressed_goes_on d again e Direction refl h
-sought_goes_on d again e Mark other h = pressed_goes_on d again e Mark refl h
-sought_goes_on d again e Copy other h = h
-sought_goes_on d again e Cut other h = pressed_goes_on d again e Cut refl h
-sought_goes_on d again e Put other h = pressed_goes_on d again e Put refl h
-sought_goes_on d again e Find other h = h
-sought_goes_on d again e FindBack other h = h
-sought_goes_on d again e WordLeft other h = pressed_goes_on d again e WordLeft refl h
-sought_goes_on d again e WordRight other h = pressed_goes_on d again e WordRight refl h
-sought_goes_on d again e TextStart other h = pressed_goes_on d again e TextStart refl h
-sought_goes_on d again e TextEnd other h = pressed_goes_on d again e TextEnd refl h
-sought_goes_on d again e Help other h = pressed_goes_on d again e Help refl h
-sought_goes_on d again e (Size height width) other h = pressed_goes_on d again e (Size height width) refl h
+over : (e new : Editor) → Steps e new → Steps e (without_search new)
+over e new h = record { goes_on = h.goes_on; edits = h.edits }
 
-any_goes_on : (d : Data) (again : Bool) (seek : Seek) (e : Editor) (key : Key) → is_other key ≡ true → e.ended ≡ false
-    → (after_any d false again seek e key).ended ≡ false
-any_goes_on d again Off e key other h = pressed_goes_on d again e key other h
-any_goes_on d again Begun e key other h = sought_goes_on d again e key other h
-any_goes_on d again Typed e key other h = sought_goes_on d again e key other h
+-- in a search
+sought_steps : (d : Data) (saved again : Bool) (e : Editor) (key : Key) → is_other key ≡ true → Steps e (after_seeking d saved again e key)
+sought_steps d saved again e (Insert c) other = letter_steps d e c
+sought_steps d saved again e Erase other = idle e _ refl refl refl
+sought_steps d saved again e Delete other = idle e _ refl refl refl
+sought_steps d saved again e Back other = over e _ (pressed_steps d saved again e Back refl)
+sought_steps d saved again e Forward other = over e _ (pressed_steps d saved again e Forward refl)
+sought_steps d saved again e Up other = over e _ (pressed_steps d saved again e Up refl)
+sought_steps d saved again e Down other = over e _ (pressed_steps d saved again e Down refl)
+sought_steps d saved again e Right other = over e _ (pressed_steps d saved again e Right refl)
+sought_steps d saved again e Left other = over e _ (pressed_steps d saved again e Left refl)
+sought_steps d saved again e RowHome other = over e _ (pressed_steps d saved again e RowHome refl)
+sought_steps d saved again e RowEnd other = over e _ (pressed_steps d saved again e RowEnd refl)
+sought_steps d saved again e PageUp other = over e _ (pressed_steps d saved again e PageUp refl)
+sought_steps d saved again e PageDown other = over e _ (pressed_steps d saved again e PageDown refl)
+sought_steps d saved again e Save other = absurd (cc other)
+sought_steps d saved again e Quit other = absurd (cc other)
+sought_steps d saved again e Undo other = over e _ (pressed_steps d saved again e Undo refl)
+sought_steps d saved again e Redo other = over e _ (pressed_steps d saved again e Redo refl)
+sought_steps d saved again e Repaint other = idle e _ refl refl refl
+sought_steps d saved again e Direction other = over e _ (pressed_steps d saved again e Direction refl)
+sought_steps d saved again e Mark other = over e _ (pressed_steps d saved again e Mark refl)
+sought_steps d saved again e Copy other = idle e _ refl refl refl
+sought_steps d saved again e Cut other = over e _ (pressed_steps d saved again e Cut refl)
+sought_steps d saved again e Put other = over e _ (pressed_steps d saved again e Put refl)
+sought_steps d saved again e Find other = idle e _ refl refl refl
+sought_steps d saved again e FindBack other = idle e _ refl refl refl
+sought_steps d saved again e WordLeft other = over e _ (pressed_steps d saved again e WordLeft refl)
+sought_steps d saved again e WordRight other = over e _ (pressed_steps d saved again e WordRight refl)
+sought_steps d saved again e TextStart other = over e _ (pressed_steps d saved again e TextStart refl)
+sought_steps d saved again e TextEnd other = over e _ (pressed_steps d saved again e TextEnd refl)
+sought_steps d saved again e Help other = over e _ (pressed_steps d saved again e Help refl)
+sought_steps d saved again e (Size height width) other = over e _ (pressed_steps d saved again e (Size height width) refl)
 
-key_goes_on : (d : Data) (e : Editor) (key : Key) → is_other key ≡ true → e.ended ≡ false → (after_key d false e key).ended ≡ false
-key_goes_on d e =
-    each-key d false e (λ key new. is_other key ≡ true → e.ended ≡ false → new.ended ≡ false) (λ height width other h. h)
-    (λ key small. any_goes_on d e.quit_before e.seek (without_message e) key)
+any_steps : (d : Data) (saved again : Bool) (seek : Seek) (e : Editor) (key : Key) → is_other key ≡ true → Steps e (after_any d saved again seek e key)
+any_steps d saved again Off e key other = pressed_steps d saved again e key other
+any_steps d saved again Begun e key other = sought_steps d saved again e key other
+any_steps d saved again Typed e key other = sought_steps d saved again e key other
+
+cleared : (e new : Editor) → Steps (without_message e) new → Steps e new
+cleared e new h = record { goes_on = h.goes_on; edits = h.edits }
+
+pub key_steps : (d : Data) (saved : Bool) (e : Editor) (key : Key) → is_other key ≡ true → Steps e (after_key d saved e key)
+key_steps d saved e =
+    each-key d saved e (λ key new. is_other key ≡ true → Steps e new) (λ height width other. idle e (with_size e height width) refl refl refl)
+    (λ key small other. cleared e _ (any_steps d saved e.quit_before e.seek (without_message e) key other))
 
 -- a Quit in a search gives it up
-quit_goes_on : (d : Data) (seek : Seek) (e : Editor) → e.seek ≡ seek → e.ended ≡ false → (after_replayed d seek e Quit).ended ≡ false
-quit_goes_on d Off e is h = h
-quit_goes_on d Begun e is h = ap (λ s. (after_any d false e.quit_before s (without_message e) Quit).ended) is ∙ h
-quit_goes_on d Typed e is h = ap (λ s. (after_any d false e.quit_before s (without_message e) Quit).ended) is ∙ h
+quit_steps : (d : Data) (seek : Seek) (e : Editor) → e.seek ≡ seek → Steps e (after_replayed d seek e Quit)
+quit_steps d Off e is = idle e e refl refl refl
+quit_steps d Begun e is = subst (λ seek. Steps e (after_any d false e.quit_before seek (without_message e) Quit)) (sym is) (idle e _ refl refl refl)
+quit_steps d Typed e is = subst (λ seek. Steps e (after_any d false e.quit_before seek (without_message e) Quit)) (sym is) (idle e _ refl refl refl)
+
+pub replayed_steps : (d : Data) (e : Editor) (key : Key) → Steps e (after_replayed d e.seek e key)
+replayed_steps d e key =
+    each-replayed d e.seek e (λ k new. Steps e new) (idle e (without_search e) refl refl refl) (quit_steps d e.seek e refl)
+    (λ k other. key_steps d false e k other) key
 
 goes_on : (d : Data) (e : Editor) (key : Key) → e.ended ≡ false → (after_replayed d e.seek e key).ended ≡ false
-goes_on d e key h =
-    each-replayed d e.seek e (λ k new. new.ended ≡ false) h (quit_goes_on d e.seek e refl h) (λ k other. key_goes_on d e k other h) key
+goes_on d e key h = (replayed_steps d e key).goes_on ∙ h
 
 -- ---- a byte
 

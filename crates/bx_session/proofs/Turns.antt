@@ -90,7 +90,7 @@ paints-prefixed : (d : Data) (p : List ℕ) (s : Session) (b : ℕ) (a : Result 
 paints-prefixed d p s b (Ok status) s' h = FeedPaints-prefixed d p s b s' h
 paints-prefixed d p s b (Err refused) s' h = h
 
-FeedsAll-prefixed : (d : Data) (p : List ℕ) (s : Session) (store : StoreState) (answered : List ByteAnswer) (s' : Session) (store' : StoreState)
+pub FeedsAll-prefixed : (d : Data) (p : List ℕ) (s : Session) (store : StoreState) (answered : List ByteAnswer) (s' : Session) (store' : StoreState)
     → FeedsAll d s store answered s' store' → FeedsAll d (prefixed p s) store answered (prefixed p s') store'
 FeedsAll-prefixed d p s store [] s' store' h = (ap (prefixed p) h.0, h.1)
 FeedsAll-prefixed d p s store (a ∷ answered) s' store' h = (
@@ -102,7 +102,7 @@ FeedsAll-prefixed d p s store (a ∷ answered) s' store' h = (
   FeedsAll-prefixed d p h.0 h.1 answered s' store' h.5,
 )
 
-FeedsAll-append : (d : Data) (s : Session) (store : StoreState) (first second : List ByteAnswer) (m : Session) (m_store : StoreState)
+pub FeedsAll-append : (d : Data) (s : Session) (store : StoreState) (first second : List ByteAnswer) (m : Session) (m_store : StoreState)
     (s' : Session) (store' : StoreState) → FeedsAll d s store first m m_store → FeedsAll d m m_store second s' store'
     → FeedsAll d s store (first ++ second) s' store'
 FeedsAll-append d s store [] second m m_store s' store' h k =
@@ -164,8 +164,14 @@ sent_all s s1 w w1 w2 count buffer is all written e kept =
     let whole : take count buffer ≡ buffer = take_all count buffer (omega (arith, all, ap length is)) in
     sent_kept s s1 w w1 w2 (take count buffer) (took s s1 w w1 count buffer is (subst (Appends w w1) (sym whole) written) e) kept
 
+-- all pending bytes went to a device
+pub sent_whole : (s s1 : Session) (count : ℕ) (buffer : List ℕ) → buffer ≡ s.pending → count ≡ length s.pending
+    → s1 ≡ record s { pending = drop count s.pending } → Sent s s1 None None buffer
+sent_whole s s1 count buffer is all e =
+    subst (Sent s s1 None None) (take_all count buffer (omega (arith, all, ap length is))) (sent_all s s1 None None None count buffer is all tt e tt)
+
 -- one turn more
-turns_more : (d : Data) (old mid new all : Session) (store mid_store store' : StoreState) (turns : List Turn) (turn : Turn)
+pub turns_more : (d : Data) (old mid new all : Session) (store mid_store store' : StoreState) (turns : List Turn) (turn : Turn)
     → TakesTurns d old store turns mid mid_store → IsRead mid turn all → TakesTurn d mid mid_store turn new store' all
     → TakesTurns d old store (turns ++ turn ∷ []) new store'
 turns_more d old mid new all store mid_store store' [] turn before read takes = (
@@ -180,22 +186,22 @@ turns_more d old mid new all store mid_store store' [] turn before read takes = 
 turns_more d old mid new all store mid_store store' (first ∷ turns) turn before read takes =
     (before.0, before.1, before.2, before.3, before.4, turns_more d before.0 mid new all before.1 mid_store store' turns turn before.5 read takes)
 
-fed_more_turns : (turns : List Turn) (turn : Turn) → fed_in (turns ++ turn ∷ []) ≡ fed_in turns ++ turn.fed
+pub fed_more_turns : (turns : List Turn) (turn : Turn) → fed_in (turns ++ turn ∷ []) ≡ fed_in turns ++ turn.fed
 fed_more_turns [] turn = append-nil turn.fed
 fed_more_turns (first ∷ turns) turn =
     ap (λ xs. first.fed ++ xs) (fed_more_turns turns turn) ∙ sym (append_assoc first.fed (fed_in turns) turn.fed)
 
-dropped_more_turns : (turns : List Turn) (turn : Turn) → dropped_in (turns ++ turn ∷ []) ≡ dropped_in turns ++ turn.dropped
+pub dropped_more_turns : (turns : List Turn) (turn : Turn) → dropped_in (turns ++ turn ∷ []) ≡ dropped_in turns ++ turn.dropped
 dropped_more_turns [] turn = append-nil turn.dropped
 dropped_more_turns (first ∷ turns) turn =
     ap (λ xs. first.dropped ++ xs) (dropped_more_turns turns turn) ∙ sym (append_assoc first.dropped (dropped_in turns) turn.dropped)
 
-wrote_more_turns : (turns : List Turn) (turn : Turn) → written_in (turns ++ turn ∷ []) ≡ written_in turns ++ turn.written
+pub wrote_more_turns : (turns : List Turn) (turn : Turn) → written_in (turns ++ turn ∷ []) ≡ written_in turns ++ turn.written
 wrote_more_turns [] turn = append-nil turn.written
 wrote_more_turns (first ∷ turns) turn =
     ap (λ xs. first.written ++ xs) (wrote_more_turns turns turn) ∙ sym (append_assoc first.written (written_in turns) turn.written)
 
-pub started : (d : Data) (s s1 : Session) (store : StoreState) (r w w1 : Option (List ℕ)) (written : List ℕ) → Sent s s1 w w1 written
+unfoldable pub started : (d : Data) (s s1 : Session) (store : StoreState) (r w w1 : Option (List ℕ)) (written : List ℕ) → Sent s s1 w w1 written
     → HasRun d s s1 store store r r w w1 [] [] written s
 started d s s1 store r w w1 written a = record {
   feeds = (refl, refl);
@@ -218,12 +224,12 @@ started d s s1 store r w w1 written a = record {
   };
 }
 
-none_dropped : (dropped : List ℕ) (ended : Bool) → (dropped ≢ [] → ended ≡ true) → ended ≡ false → dropped ≡ []
+pub none_dropped : (dropped : List ℕ) (ended : Bool) → (dropped ≢ [] → ended ≡ true) → ended ≡ false → dropped ≡ []
 none_dropped [] ended h running = refl
 none_dropped (x ∷ dropped) ended h running = absurd (let e : ended ≡ true = h (λ q. absurd (cc q)) in cc e)
 
 -- the first byte of a read is fed, so fewer are dropped than a read gives
-few_dropped : (d : Data) (s s2 : Session) (store store2 : StoreState) (answered : List ByteAnswer) (dropped : List ℕ)
+pub few_dropped : (d : Data) (s s2 : Session) (store store2 : StoreState) (answered : List ByteAnswer) (dropped : List ℕ)
     → FeedsAll d s store answered s2 store2 → s.editor.ended ≡ false → (dropped ≢ [] → s2.editor.ended ≡ true)
     → length (bytes_of answered ++ dropped) ≤ read_size → length dropped < read_size
 few_dropped d s s2 store store2 [] dropped feeds running drops most =
@@ -249,7 +255,7 @@ pub run_drops : (d : Data) (old s : Session) (store store1 : StoreState) (r r1 w
     → dropped ≢ [] → s.editor.ended ≡ true
 run_drops d old s store store1 r r1 w w1 answered dropped written all run some = ap (λ (x : Session). x.editor.ended) run.session ∙ run.drops some
 
-pub turned : {D : Type 0} (says : D → Data) (tables tables1 : D) (old s s2 s3 : Session) (store store1 store2 : StoreState) (r r1 r2 w w1 w2 : Option (List ℕ))
+unfoldable pub turned : {D : Type 0} (says : D → Data) (tables tables1 : D) (old s s2 s3 : Session) (store store1 store2 : StoreState) (r r1 r2 w w1 w2 : Option (List ℕ))
     (answered answered' : List ByteAnswer) (dropped dropped' written written' bytes : List ℕ) (all : Session)
     → HasRun (says tables) old s store store1 r r1 w w1 answered dropped written all → tables1 ≡ tables → s.pending ≡ []
     → s.editor.ended ≡ false → 1 ≤ length bytes → length bytes ≤ read_size → Consumes r1 r2 bytes

@@ -1,5 +1,5 @@
 -- A journal of the input.
-use Rattle.std.specs.Prelude.{◌≡◌, ◌≢◌, ◌≤◌, ℕ, zero, suc, List, [], ◌++◌, Option, vec_items}
+use Rattle.std.specs.Prelude.{◌≡◌, ◌≢◌, ◌≤◌, ◌<◌, ℕ, zero, suc, Bool, true, false, List, [], ◌++◌, length, take, drop, Option, vec_items, vec_capacity}
 use Rattle.std.specs.Io.KnownBytes.{Appends}
 use Rattle.bx_ucd.specs.Data.{Data}
 use Rattle.bx_store.specs.Stores.{one_more}
@@ -18,13 +18,32 @@ pub record RecorderState (J : Type 0) : Type 0 where
 abbrev pub waiting : Backlog → List ℕ
 waiting Empty = []
 waiting (Waiting bytes) = vec_items bytes
-waiting Lost = []
+waiting (Lost bytes) = vec_items bytes
 
--- these bytes wait in memory, or some bytes were lost
-abbrev pub Holds : Backlog → List ℕ → Type 0
-Holds Empty bytes = ⊥
-Holds (Waiting held) bytes = vec_items held ≡ bytes
-Holds Lost bytes = Unit {0}
+-- bytes were lost
+abbrev pub is_lost : Backlog → Bool
+is_lost Empty = false
+is_lost (Waiting bytes) = false
+is_lost (Lost bytes) = true
+
+-- the number of bytes that the memory of the waiting bytes has room for
+abbrev pub room : Backlog → ℕ
+room Empty = 0
+room (Waiting bytes) = vec_capacity bytes
+room (Lost bytes) = vec_capacity bytes
+
+-- bytes that waited, and new ones: all wait, or there was no room for all in `room`, and the new ones are lost
+abbrev pub Holds : ℕ → List ℕ → List ℕ → Backlog → Type 0
+Holds room waited bytes Empty = ⊥
+Holds room waited bytes (Waiting held) = vec_items held ≡ waited ++ bytes
+Holds room waited bytes (Lost held) = (vec_items held ≡ waited) × (room < length (waited ++ bytes))
+
+-- bytes where none wait: all are appended, or the journal fails and the others are held
+abbrev pub AppendsNew : {J : Type 0} → (J → Option (List ℕ)) → (J → ℕ) → J → J → ℕ → Backlog → List ℕ → Type 0
+AppendsNew contents failures old new room Empty bytes = Appends (contents old) (contents new) bytes × (failures new ≡ failures old)
+AppendsNew contents failures old new room held bytes =
+    (count : ℕ) × Appends (contents old) (contents new) (take count bytes) × Holds room [] (drop count bytes) held
+    × (failures new ≡ one_more (failures old))
 
 -- the count of failures after `n` more
 abbrev pub after_faults : ℕ → ℕ → ℕ
@@ -32,33 +51,33 @@ after_faults zero count = count
 after_faults (suc n) count = one_more (after_faults n count)
 
 -- A recorder takes bytes. The waiting bytes and then the new ones have three parts, in this order: the first is appended to the
--- journal, the second waits, the third is lost. After a loss the recorder never changes. So the journal always has a prefix of
--- the input, and all of it if the backlog is empty. An empty backlog grows only if a call of the journal fails.
+-- journal, the second waits, the third is lost. Only new bytes are lost, and after a loss all of them. So the journal always
+-- has a prefix of the input, and all of it if the backlog is empty. An empty backlog grows, and bytes are first lost, only if a
+-- call of the journal fails.
 pub record HasKept {J : Type 0} (contents : J → Option (List ℕ)) (failures : J → ℕ) (old new : RecorderState J) (bytes : List ℕ) : Type 0 where
   pub appended : List ℕ
   pub lost : List ℕ
   pub faults : ℕ
   pub order : waiting old.backlog ++ bytes ≡ appended ++ (waiting new.backlog ++ lost)
   pub grows : Appends (contents old.journal) (contents new.journal) appended
-  pub all : new.backlog ≢ Lost → lost ≡ []
-  pub stays : old.backlog ≡ Lost → new ≡ old
+  pub all : is_lost new.backlog ≡ false → lost ≡ []
+  pub few : length lost ≤ length bytes
+  pub stays : is_lost old.backlog ≡ true → (is_lost new.backlog ≡ true) × (lost ≡ bytes)
   pub counted : failures new.journal ≡ after_faults faults (failures old.journal)
   pub fault : old.backlog ≡ Empty → new.backlog ≢ Empty → 1 ≤ faults
+  pub first : is_lost old.backlog ≡ false → is_lost new.backlog ≡ true → 1 ≤ faults
 
--- a property that must hold while the backlog is Waiting, even with no bytes
-abbrev pub IfWaiting : Backlog → Type 0 → Type 0
-IfWaiting Empty P = Unit {0}
-IfWaiting (Waiting bytes) P = P
-IfWaiting Lost P = Unit {0}
+-- One call of a recorder. Bytes wait after it, or are lost first in it, only if the journal failed in it, so the recorder tried
+-- to append all waiting bytes. They are lost first only if memory for the waiting bytes had no room for these and the new ones.
+pub record HasTried {J : Type 0} (failures : J → ℕ) (old new : RecorderState J) (bytes : List ℕ) : Type 0 where
+  pub fails : is_lost old.backlog ≡ false → new.backlog ≢ Empty → failures new.journal ≡ one_more (failures old.journal)
+  pub waits_on : is_lost old.backlog ≡ true → waiting new.backlog ≢ [] → failures new.journal ≡ one_more (failures old.journal)
+  pub full : is_lost old.backlog ≡ false → is_lost new.backlog ≡ true → room old.backlog < length (waiting old.backlog ++ bytes)
 
--- one call of a recorder: bytes wait after it only if the journal failed in it, so it tried to append all waiting bytes
-abbrev pub HasTried : {J : Type 0} → (J → ℕ) → RecorderState J → RecorderState J → Type 0
-HasTried failures old new = IfWaiting new.backlog (failures new.journal ≡ one_more (failures old.journal))
-
--- a run whose input, the dropped bytes included, is handed to a recorder
+-- a run whose input up to the session's end is handed to a recorder; what follows the end is dropped
 abbrev pub RunsRecorded : {J : Type 0} → (J → Option (List ℕ)) → (J → ℕ) → Data → Session → Session → StoreState → StoreState
     → Option (List ℕ) → Option (List ℕ) → Option (List ℕ) → Option (List ℕ) → RecorderState J → RecorderState J → Type 0
 RunsRecorded contents failures d old new store store' reader reader' writer writer' journal journal' =
     (answered : List ByteAnswer) × (dropped : List ℕ) × (written : List ℕ) × (all : Session)
     × HasRun d old new store store' reader reader' writer writer' answered dropped written all
-    × HasKept contents failures journal journal' (bytes_of answered ++ dropped)
+    × HasKept contents failures journal journal' (bytes_of answered)

@@ -2,7 +2,11 @@ pub mod Session
 pub mod Saving
 pub mod Painting
 pub mod Running
+pub mod Log
+pub mod Wire
+pub mod InMemory
 pub mod Journal
+pub mod Parts
 pub mod Laws
 pub mod Beginning
 pub mod Anew

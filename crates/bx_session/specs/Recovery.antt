@@ -1,10 +1,15 @@
 -- Recovery: the replay of a session's bytes.
-use Rattle.std.specs.Prelude.{◌≡◌, ◌≢◌, ℕ, false, List, All, Err}
+use Rattle.std.specs.Prelude.{◌≡◌, ◌≢◌, ◌⊎◌, ℕ, true, false, List, All, Err, Option, Some, IfSome}
 use Rattle.bx_terms.specs.declared.base.Base.{Base}
 use Rattle.bx_keys.specs.Keys.{decoding}
+use Rattle.bx_text.specs.Edits.{opened}
 use Rattle.bx_ucd.specs.Data.{Data}
-use Rattle.bx_editor.specs.Editor.{at_start}
+use Rattle.bx_editor.specs.Editor.{Editor, at_start}
+use Rattle.bx_editor.specs.declared.seek.Seek.TheVariants.{Off}
 use Rattle.bx_session.specs.declared.error.Refused.TheVariants as refused
+use Rattle.bx_session.specs.declared.journal.Backlog.TheVariants.{Empty}
+use Rattle.bx_session.specs.Beginning.{Beginning, at_offset, begun, unpainted_at}
+use Rattle.bx_session.specs.Journal.{RecorderState, RunsRecorded}
 use Rattle.bx_session.specs.Laws.{after_journal, after_replaying}
 use Rattle.bx_session.specs.Running.{ByteAnswer, FeedsAll, bytes_of}
 use Rattle.bx_session.specs.Saving.{StoreState}
@@ -51,3 +56,32 @@ pub record RecoveryGivesBack : Type 0 where
   pub applies_all : (d : Data) (text : List ℕ) (height width : ℕ) (base : Base) (bytes : List ℕ)
       → (after_replaying d (at_opening d text height width base) bytes).editor
       ≡ after_all_replayed d (at_start text height width base) (decoding bytes).keys
+
+-- ---- from a journal
+
+-- the journal has these bytes, and none is missing
+pub record HasAll {J : Type 0} (contents : J → Option (List ℕ)) (recorder : RecorderState J) (bytes : List ℕ) : Type 0 where
+  pub bytes_are : contents recorder.journal ≡ Some bytes
+  pub none_missing : recorder.backlog ≡ Empty
+
+-- a text that counts as unchanged is the opened one, or what the store has
+abbrev pub IsKnown : List ℕ → StoreState → Editor → Type 0
+IsKnown text store e = e.changed ≡ false → (e.content.text ≡ text) ⊎ IfSome store.contents (λ stored. stored ≡ e.content.text)
+
+-- Whether a session counts as changed, and its replay over this text: the replay counts as changed wherever the session does. It
+-- counts as unchanged only if no key edited, and then has the opened text, with no past and no future.
+pub record TellsChanges (text : List ℕ) (store : StoreState) (had replayed : Session) : Type 0 where
+  pub changed : had.editor.changed ≡ true → replayed.editor.changed ≡ true
+  pub unchanged : replayed.editor.changed ≡ false → replayed.editor.content ≡ opened text
+  pub known : IsKnown text store had.editor
+
+-- A run from this start, whose journal had the bytes that were replayed, and then has `bytes`. If none is missing and no key was
+-- refused, their replay over the opened text restores the session, whatever was typed behind its end.
+abbrev pub JournalsGiveBack : {J : Type 0} → (J → Option (List ℕ)) → (J → ℕ) → Type 0
+JournalsGiveBack {J} contents failures =
+    (d : Data) (b : Beginning) (new : Session) (store store' : StoreState) (reader reader' writer writer' : Option (List ℕ))
+    (journal journal' : RecorderState J) (bytes : List ℕ)
+    (run : RunsRecorded contents failures d (begun d b) new store store' reader reader' writer writer' journal journal')
+    → HasAll contents journal b.journal → (after_replaying d (at_offset d b) b.journal).editor.seek ≡ Off → HasAll contents journal' bytes
+    → RefusesNoKey run.0
+    → HasBack new (unpainted_at d (record b { journal = bytes })) × TellsChanges b.text store' new (unpainted_at d (record b { journal = bytes }))

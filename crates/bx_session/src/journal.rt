@@ -1,8 +1,8 @@
 //! A journal of the input, for replay after a crash.
 
-ghost use Rattle.std.specs.Prelude.{◌≡◌, ◌≤◌, ◌++◌, ◌↔◌, ℕ, List, IsTrue, IfErr, OnErr, OnOk, length, take, drop};
+ghost use Rattle.std.specs.Prelude.{◌≡◌, ◌≤◌, ◌++◌, ◌↔◌, ℕ, List, [], IsTrue, IfErr, OnErr, OnOk, length, take, drop, vec_capacity};
 ghost use Rattle.std.specs.Io.KnownBytes.{Appends};
-ghost use Rattle.bx_session.specs.Journal.{HasKept, HasTried, Holds};
+ghost use Rattle.bx_session.specs.Journal.{AppendsNew, HasKept, HasTried, Holds};
 
 use bx_output::write_all;
 use std::alloc::Global;
@@ -121,13 +121,13 @@ pub enum Backlog {
     Empty,
     /// These bytes wait in memory to be appended.
     Waiting(Vec<u8>),
-    /// The bytes from some point on were lost when memory ran out. The journal gets no more.
-    Lost,
+    /// These bytes wait too, and all bytes behind them were lost when memory ran out. The journal gets no more than these.
+    Lost(Vec<u8>),
 }
 
 /// Appends the input to a journal. Bytes that the journal refuses wait in memory, and the next call appends them first, so the
-/// journal never has a gap. If memory runs out for them, they are lost, and the journal gets no more bytes. The session takes
-/// the same input in every case.
+/// journal never has a gap. If memory runs out for new bytes, they are lost, with all that come after; those that wait are
+/// kept. The session takes the same input in every case.
 #[derive(Drop)]
 pub struct Recorder<J: Journal + Drop> {
     alloc: Global,
@@ -165,12 +165,12 @@ impl<J: Journal + Drop> Recorder<J> {
         matches!(&self.backlog, Backlog::Empty)
     }
 
-    /// Appends the waiting bytes, then `bytes`, to the journal. Bytes wait afterwards only if the journal fails in this call.
+    /// Appends the waiting bytes, then `bytes`, to the journal. What the journal refuses waits, and what finds no memory is lost.
     pub(crate) fn keep(&mut self, bytes: &[u8])
         ensures keeps { HasKept J.contents J.failure_count self.old self.new bytes.now }
-        ensures tries { HasTried J.failure_count self.old self.new }
+        ensures tries { HasTried J.failure_count self.old self.new bytes.now }
     {
-        let backlog = mem::replace(&mut self.backlog, Backlog::Lost);
+        let backlog = mem::replace(&mut self.backlog, Backlog::Empty);
         self.backlog = append_to(&mut self.journal, self.alloc, backlog, bytes);
     }
 }
@@ -183,50 +183,79 @@ fn append_to<J: Journal + Drop>(
     bytes: &[u8],
 ) -> Backlog
     ensures keeps { HasKept J.contents J.failure_count (record { journal = journal.old; backlog = backlog }) (record { journal = journal.new; backlog = result }) bytes.now }
-    ensures tries { HasTried J.failure_count (record { journal = journal.old; backlog = backlog }) (record { journal = journal.new; backlog = result }) }
+    ensures tries { HasTried J.failure_count (record { journal = journal.old; backlog = backlog }) (record { journal = journal.new; backlog = result }) bytes.now }
 {
     match backlog {
-        Backlog::Empty => match journal.append(bytes) {
-            Ok(()) => Backlog::Empty,
-            Err(fault) => held(alloc, &bytes[fault.written..]),
-        },
+        Backlog::Empty => append_new(journal, Vec::new(alloc), bytes),
         Backlog::Waiting(waiting) => append_waiting(journal, waiting, bytes),
-        Backlog::Lost => Backlog::Lost,
+        Backlog::Lost(waiting) => append_last(journal, waiting, bytes),
     }
 }
 
-/// Appends the waiting bytes and `bytes` in one call. Refused bytes wait on. If memory runs out, all are lost.
+/// Appends bytes where none wait. Refused bytes wait in `room`.
+fn append_new<J: Journal + Drop>(journal: &mut J, room: Vec<u8>, bytes: &[u8]) -> Backlog
+    requires { room.items ≡ [] }
+    ensures appends { AppendsNew J.contents J.failure_count journal.old journal.new (vec_capacity room) result bytes.now }
+{
+    match journal.append(bytes) {
+        Ok(()) => Backlog::Empty,
+        Err(fault) => held(room, &bytes[fault.written..]),
+    }
+}
+
+/// Appends the waiting bytes, then `bytes`. Refused bytes wait on.
 fn append_waiting<J: Journal + Drop>(journal: &mut J, mut waiting: Vec<u8>, bytes: &[u8]) -> Backlog
     ensures keeps { HasKept J.contents J.failure_count (record { journal = journal.old; backlog = Backlog.Waiting waiting }) (record { journal = journal.new; backlog = result }) bytes.now }
-    ensures tries { HasTried J.failure_count (record { journal = journal.old; backlog = Backlog.Waiting waiting }) (record { journal = journal.new; backlog = result }) }
+    ensures tries { HasTried J.failure_count (record { journal = journal.old; backlog = Backlog.Waiting waiting }) (record { journal = journal.new; backlog = result }) bytes.now }
 {
-    if waiting.extend_from_slice(bytes).is_err() {
-        return Backlog::Lost;
-    }
     match journal.append(waiting.as_slice()) {
-        Ok(()) => Backlog::Empty,
+        Ok(()) => {
+            waiting.clear();
+            append_new(journal, waiting, bytes)
+        }
         Err(fault) => {
             drop_first(&mut waiting, fault.written);
-            Backlog::Waiting(waiting)
+            held(waiting, bytes)
         }
     }
 }
 
-/// Copies refused bytes to memory, where they wait. If memory runs out, they are lost.
-fn held(alloc: Global, bytes: &[u8]) -> Backlog
-    ensures { Holds result bytes.now }
+/// Appends the last bytes that the journal gets. `bytes` are lost.
+fn append_last<J: Journal + Drop>(journal: &mut J, mut waiting: Vec<u8>, bytes: &[u8]) -> Backlog
+    ensures keeps { HasKept J.contents J.failure_count (record { journal = journal.old; backlog = Backlog.Lost waiting }) (record { journal = journal.new; backlog = result }) bytes.now }
+    ensures tries { HasTried J.failure_count (record { journal = journal.old; backlog = Backlog.Lost waiting }) (record { journal = journal.new; backlog = result }) bytes.now }
 {
-    let mut waiting = Vec::new(alloc);
+    let _ = bytes;
+    if waiting.is_empty() {
+        return Backlog::Lost(waiting);
+    }
+    match journal.append(waiting.as_slice()) {
+        Ok(()) => {
+            waiting.clear();
+            Backlog::Lost(waiting)
+        }
+        Err(fault) => {
+            drop_first(&mut waiting, fault.written);
+            Backlog::Lost(waiting)
+        }
+    }
+}
+
+/// Has `bytes` wait behind those that wait. If memory runs out, `bytes` are lost.
+fn held(mut waiting: Vec<u8>, bytes: &[u8]) -> Backlog
+    ensures { Holds (vec_capacity waiting) waiting.items bytes.now result }
+{
     match waiting.extend_from_slice(bytes) {
         Ok(()) => Backlog::Waiting(waiting),
-        Err(_) => Backlog::Lost,
+        Err(_) => Backlog::Lost(waiting),
     }
 }
 
 /// Removes the first `count` waiting bytes.
 fn drop_first(waiting: &mut Vec<u8>, count: usize)
     requires { count ≤ length waiting.old.items }
-    ensures { waiting.new.items ≡ drop count waiting.old.items }
+    ensures items { waiting.new.items ≡ drop count waiting.old.items }
+    ensures capacity { vec_capacity waiting.new ≡ vec_capacity waiting.old }
 {
     waiting.drain(..count);
 }

@@ -1,8 +1,11 @@
 //! Laws of sessions, for any input. The functions are empty: their contracts are the laws.
 
 ghost use Rattle.bx_session.specs.Anew.{AlwaysStaysPainted};
+ghost use Rattle.bx_session.specs.InMemory.{HasWholeLog};
 ghost use Rattle.bx_session.specs.Laws.{AlwaysShowsState, HasKeysOfInput, ReplaysKeys};
-ghost use Rattle.bx_session.specs.Recovery.{RecoveryGivesBack};
+ghost use Rattle.bx_session.specs.Recovery.{JournalsGiveBack, RecoveryGivesBack};
+
+use crate::journal::Journal;
 
 /// If no painting is owed, the picture last painted is the picture of the session's state.
 pub fn paintings_keep_up()
@@ -29,4 +32,16 @@ pub fn replays_apply_keys()
 /// the replay.
 pub fn recovery_gives_back()
     ensures { RecoveryGivesBack }
+{}
+
+/// The bytes of a journal that lacks none, replayed over the opened text, restore the session that was run with it, as
+/// [`recovery_gives_back`] says. Keys typed behind the session's end do not come back. The session counts as changed wherever it
+/// did before.
+pub fn journals_give_back<J: Journal + Drop>()
+    ensures { JournalsGiveBack J.contents J.failure_count }
+{}
+
+/// The log of a device in memory has all that was done to the device, in order, unless memory ran out for it.
+pub fn devices_log_all()
+    ensures { HasWholeLog }
 {}

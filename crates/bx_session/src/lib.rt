@@ -1,28 +1,38 @@
 //! An editor session: takes input bytes, queues bytes for the terminal, saves to a store; and runs over a reader and a writer.
 #![tactic(auto)]
 
+mod action;
+mod device;
 mod end;
 mod error;
 mod feeding;
 mod going;
 mod journal;
+mod keeping;
 mod laws;
+mod memory_device;
 mod open;
+mod over_reader;
 mod painting;
 mod replaying;
 mod running;
 mod saving;
 mod session;
 mod status;
+mod wired;
 
+pub use action::{Action, ActionBytes};
 pub use bx_editor::{OpenError, Seek};
+pub use device::{Device, DeviceFault};
 pub use end::{End, RunFault};
 pub use error::Refused;
 pub use journal::{Journal, JournalFault, NoJournal, Recorder, WrittenJournal};
 pub use laws::{
-    keys_are_those_of_input, painting_anew_sends_nothing, paintings_keep_up, recovery_gives_back,
-    replays_apply_keys,
+    devices_log_all, journals_give_back, keys_are_those_of_input, painting_anew_sends_nothing,
+    paintings_keep_up, recovery_gives_back, replays_apply_keys,
 };
-pub use running::{run, run_recorded, run_within};
+pub use memory_device::MemoryDevice;
+pub use over_reader::{run, run_recorded, run_within};
+pub use running::run_device;
 pub use session::Session;
 pub use status::Status;

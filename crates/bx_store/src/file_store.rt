@@ -26,6 +26,8 @@ use std::rt::Files;
 /// of them. A file that does not exist is created in the default way.
 ///
 /// If another program changed the file since the store last saw it, the next save is a fault, and the save after that succeeds.
+/// So does a path that leads elsewhere than at first. The later saves go where it leads then if a file is there, else to the
+/// first place, where a link is replaced and not followed.
 #[derive(Drop)]
 pub struct FileStore<'a, R: Files>
 where
@@ -35,6 +37,10 @@ where
     path: String,
     /// The path of the mark; None if saves replace the file.
     mark: Option<String>,
+    /// The path without links that saves go to; None if it could not be resolved yet.
+    target: Option<String>,
+    /// The place without a file that the path led to when a save last failed for that.
+    elsewhere: Option<String>,
     /// The file's metadata when last seen; None if it never was.
     seen: Option<Metadata>,
     /// Whether a save that overwrites the file broke off, so that the file may lack bytes of the mark.
@@ -43,14 +49,35 @@ where
     failures: u64,
 }
 
-/// The current metadata of the file that a path leads to; None if no file is there or the metadata cannot be read.
+/// A value that the system gave; None after a fault of the system.
+///
+/// Errors: `StoreFault` if memory ran out.
+fn if_answered<T: Drop>(answer: io::Result<T>) -> Result<Option<T>, StoreFault> {
+    match answer {
+        Ok(value) => Ok(Some(value)),
+        Err(error) if error.kind() == ErrorKind::OutOfMemory => Err(StoreFault),
+        Err(_) => Ok(None),
+    }
+}
+
+/// The current metadata at a path without links; None if no file is there or the metadata cannot be read.
 ///
 /// Errors: `StoreFault` if memory for the path runs out.
-fn seen_at<R: Files>(files: &R, alloc: Global, path: &str) -> Result<Option<Metadata>, StoreFault> {
-    let found = target_of(files, alloc, path).and_then(|target| find(files, target.as_str()));
-    match found {
-        Err(error) if error.kind() == ErrorKind::OutOfMemory => Err(StoreFault),
-        answer => Ok(answer.unwrap_or(None)),
+fn seen_at<R: Files>(files: &R, target: &Option<String>) -> Result<Option<Metadata>, StoreFault> {
+    let Some(target) = target else {
+        return Ok(None);
+    };
+    Ok(if_answered(find(files, target.as_str()))?.unwrap_or(None))
+}
+
+/// The file at a path without links, if one is there. A link, which another program put there, is none.
+///
+/// Errors: `InvalidInput` if it is a folder, a device, a pipe or a socket.
+fn file_at<R: Files>(files: &R, target: &str) -> io::Result<Option<Metadata>> {
+    match find(files, target)? {
+        Some(found) if found.is_file() => Ok(Some(found)),
+        Some(found) if !found.is_symlink() => Err(ErrorKind::InvalidInput.into()),
+        _ => Ok(None),
     }
 }
 
@@ -62,11 +89,15 @@ where
     ///
     /// Errors: `StoreFault` if memory for the path runs out.
     pub fn new(files: &'a R, alloc: Global, path: &str) -> Result<Self, StoreFault> {
+        let target = if_answered(target_of(files, alloc, path))?;
+        let seen = seen_at(files, &target)?;
         Ok(FileStore {
             files,
             path: String::from_str(alloc, path)?,
             mark: None,
-            seen: seen_at(files, alloc, path)?,
+            target,
+            elsewhere: None,
+            seen,
             is_torn: false,
             draft: None,
             failures: 0,
@@ -94,19 +125,57 @@ where
         self.seen = None;
     }
 
-    /// Resolves the path and notes the metadata found. Returns the resolved path, and whether a file exists there.
+    /// Whether the path led to this place at first, or once before when a save failed for that.
+    fn is_known_place(&self, place: &str) -> bool {
+        let is_first = match &self.target {
+            Some(target) => target.as_str() == place,
+            None => true,
+        };
+        let is_told = match &self.elsewhere {
+            Some(elsewhere) => elsewhere.as_str() == place,
+            None => false,
+        };
+        is_first || is_told
+    }
+
+    /// Notes that the path leads to another place than before, for the next save.
+    fn note_place(&mut self, place: String) -> io::Result<()>
+        ensures { self.new.failures ≡ self.old.failures }
+    {
+        let found = file_at(self.files, place.as_str())?;
+        if found.is_some() {
+            self.seen = found;
+            self.target = Some(place);
+            self.elsewhere = None;
+        } else {
+            self.elsewhere = Some(place);
+        }
+        Ok(())
+    }
+
+    /// The place that saves go to, where the path leads to `place`.
+    fn place_of_saves(&self, place: String) -> io::Result<String> {
+        match &self.target {
+            Some(target) => Ok(String::from_str(*self.path.allocator(), target.as_str())?),
+            None => Ok(place),
+        }
+    }
+
+    /// Resolves the path and notes the metadata found. Returns the path that saves go to, and whether a file exists there.
     ///
-    /// Errors: `InvalidInput` if it is no plain file, `AlreadyExists` if it changed since last seen.
+    /// Errors: `InvalidInput` if it is no plain file, `AlreadyExists` if it changed since last seen or the path leads elsewhere.
     fn look(&mut self) -> io::Result<(String, bool)>
         ensures { self.new.failures ≡ self.old.failures }
     {
-        let target = target_of(self.files, *self.path.allocator(), self.path.as_str())?;
-        let Some(found) = find(self.files, target.as_str())? else {
+        let place = target_of(self.files, *self.path.allocator(), self.path.as_str())?;
+        if !self.is_known_place(place.as_str()) {
+            self.note_place(place)?;
+            return Err(ErrorKind::AlreadyExists.into());
+        }
+        let target = self.place_of_saves(place)?;
+        let Some(found) = file_at(self.files, target.as_str())? else {
             return Ok((target, false));
         };
-        if !found.is_file() {
-            return Err(ErrorKind::InvalidInput.into());
-        }
         let is_known = match &self.seen {
             Some(seen) => is_unchanged(seen, &found),
             None => false,

@@ -11,13 +11,16 @@ use Rattle.bx_terms.specs.Sizes.{is_side}
 use Rattle.bx_ucd.specs.declared.data.Side.{Side}
 use Rattle.bx_resolve.specs.TestTables.{small}
 use Rattle.bx_terms.specs.declared.base.Base.{Base}
+use Rattle.bx_view.specs.declared.moves.Logical.{Logical}
+use Rattle.bx_view.specs.declared.moves.Logical.TheVariants.{Back, Forward}
 use Rattle.bx_view.specs.declared.moves.Move.{Move}
 use Rattle.bx_view.specs.Cells.{HasCells, HasOneSlot, times}
-use Rattle.bx_view.specs.Laws.{InEachWindow, IsShownFrom, MovesKeep, MovesLeast, SpansText}
+use Rattle.bx_view.specs.Laws.{InEachWindow, IsGreatestBefore, IsLeastBehind, IsShownFrom, MovesKeep, MovesLeast, SpansText, WordsGoOn}
 use Rattle.bx_view.specs.Moves.{moved}
 use Rattle.bx_view.specs.Places.{IsTextPlace, text_places}
 use Rattle.bx_view.specs.TextRows.{TextRow, places, row_at, row_of, slots, text_rows}
 use Rattle.bx_view.specs.Top.{follow}
+use Rattle.bx_view.specs.Words.{text_stops}
 
 ab : IsUtf8 (codes "ab")
 unfolding unicode_segmentation unicode_width
@@ -92,6 +95,64 @@ unfolding unicode_segmentation unicode_width
 moves_in_a law bracket base w m side =
     let keep = law (with_brackets bracket) base w (codes "a") side one_letter in
     let place = keep.moved m 0 (0, omega arith, refl) in either_place place.0 (letter_moved bracket base w m) place.1 place.2
+
+-- ---- words
+
+abbrev two_words : List ℕ
+two_words = codes "ab cd"
+
+forward_stops : text_stops small Forward two_words ≡ 0 ∷ 3 ∷ 5 ∷ []
+unfolding unicode_segmentation unicode_width
+forward_stops = refl
+
+back_stops : text_stops small Back two_words ≡ 0 ∷ 0 ∷ 3 ∷ []
+unfolding unicode_segmentation unicode_width
+back_stops = refl
+
+least_is_3 : (stop k : ℕ) → k < 3 → get_or (0 ∷ 3 ∷ 5 ∷ []) k stop ≡ stop → 0 < stop → stop ≤ 3 → stop ≡ 3
+least_is_3 stop zero h e past upto = absurd (omega (arith, e, past))
+least_is_3 stop (suc zero) h e past upto = sym e
+least_is_3 stop (suc (suc zero)) h e past upto = absurd (omega (arith, e, upto))
+least_is_3 stop (suc (suc (suc k))) h e past upto = absurd (omega (arith, h))
+
+greatest_is_3 : (stop k : ℕ) → k < 3 → get_or (0 ∷ 0 ∷ 3 ∷ []) k stop ≡ stop → 3 ≤ stop → stop ≡ 3
+greatest_is_3 stop zero h e from = absurd (omega (arith, e, from))
+greatest_is_3 stop (suc zero) h e from = absurd (omega (arith, e, from))
+greatest_is_3 stop (suc (suc zero)) h e from = sym e
+greatest_is_3 stop (suc (suc (suc k))) h e from = absurd (omega (arith, h))
+
+-- whatever steps by the law of words goes forward from the start of `ab cd` to the second word
+forward_to_second_word : (step : Logical → ℕ → ℕ) → WordsGoOn small two_words step → step Forward 0 ≡ 3
+forward_to_second_word step law =
+    let next = subst (λ os. IsLeastBehind os 0 (step Forward 0)) forward_stops (law.forward 0 (omega arith)) in
+    let upto = next.least 3 (1, omega arith, refl) (omega arith) in
+    least_is_3 (step Forward 0) next.is_stop.0 next.is_stop.1 next.is_stop.2 next.behind upto
+
+-- and back from its end to the same word
+back_to_second_word : (step : Logical → ℕ → ℕ) → WordsGoOn small two_words step → step Back 5 ≡ 3
+back_to_second_word step law =
+    let previous = subst (λ os. IsGreatestBefore os 5 (step Back 5)) back_stops (law.back 5 (omega arith)) in
+    let from = previous.greatest 3 (2, omega arith, refl) (omega arith) in
+    greatest_is_3 (step Back 5) previous.is_stop.0 previous.is_stop.1 previous.is_stop.2 from
+
+-- a step of one byte
+abbrev one_byte : Logical → ℕ → ℕ
+one_byte Forward place = place + 1
+one_byte Back place = place - 1
+
+one_byte_is_no_word_step : ¬ (WordsGoOn small two_words one_byte)
+one_byte_is_no_word_step law = let e : 1 ≡ 3 = forward_to_second_word one_byte law in absurd (omega (arith, e))
+
+-- a step to the text's end or start
+abbrev to_the_end : Logical → ℕ → ℕ
+to_the_end Forward place = 5
+to_the_end Back place = 0
+
+the_end_is_a_stop_too_far : ¬ (WordsGoOn small two_words to_the_end)
+the_end_is_a_stop_too_far law = let e : 5 ≡ 3 = forward_to_second_word to_the_end law in absurd (omega (arith, e))
+
+the_start_is_a_stop_too_far : ¬ (WordsGoOn small two_words to_the_end)
+the_start_is_a_stop_too_far law = let e : 0 ≡ 3 = back_to_second_word to_the_end law in absurd (omega (arith, e))
 
 -- ---- cells
 

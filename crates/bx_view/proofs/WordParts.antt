@@ -36,7 +36,7 @@ fails-at : (p : ℕ → Bool) (o : ℕ) (os : List ℕ) (b : Bool) → p o ≡ b
 fails-at p o os true e none = cc
 fails-at p o os false e none = (e, none)
 
-all-fail : (p : ℕ → Bool) (os : List ℕ) → find p os ≡ None → Within (λ o. p o ≡ false) os
+pub all-fail : (p : ℕ → Bool) (os : List ℕ) → find p os ≡ None → Within (λ o. p o ≡ false) os
 all-fail p [] none = tt
 all-fail p (o ∷ os) none = let (here, rest) = fails-at p o os (p o) refl none in (here, all-fail p os rest)
 

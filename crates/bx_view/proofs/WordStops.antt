@@ -26,7 +26,7 @@ use Rattle.bx_view.proofs.WordParts.{none-found, size, within-weaker, words-upto
 
 -- ---- offsets moved
 
-moved-within : (P : ℕ → Type 0) (start : ℕ) (os : List ℕ) → Within (λ o. P (start + o)) os → Within P (map (λ o. start + o) os)
+pub moved-within : (P : ℕ → Type 0) (start : ℕ) (os : List ℕ) → Within (λ o. P (start + o)) os → Within P (map (λ o. start + o) os)
 moved-within P start [] a = tt
 moved-within P start (o ∷ os) a = (a.0, moved-within P start os a.1)
 
@@ -50,7 +50,7 @@ words-within says body utf8 =
     let all : 0 + size us ≡ length body = omega (arith, size-concat us, ap length (concat-segments (is_grapheme_break true) body utf8)) in
     subst (λ n. Within (λ o. o ≤ n) (body_words says body)) all (words-upto says false 0 us)
 
-stops-within : (says : Data) (way : Logical) (body : List ℕ) → IsUtf8 body → Within (λ o. o ≤ length body) (body_stops says way body)
+pub stops-within : (says : Data) (way : Logical) (body : List ℕ) → IsUtf8 body → Within (λ o. o ≤ length body) (body_stops says way body)
 stops-within says Forward body utf8 =
     within-append (λ o. o ≤ length body) (body_words says body) (length body ∷ []) (words-within says body utf8) (omega arith, tt)
 stops-within says Back body utf8 = (omega arith, words-within says body utf8)
@@ -77,20 +77,20 @@ module _ (says : Data) (way : Logical) where
   own-on start body =
       moved-within (λ o. start ≤ o) start (body_stops says way body) (any-within (λ o. start ≤ start + o) (λ o. omega arith) (body_stops says way body))
 
-  from-on : (start : ℕ) (ps : List Paragraph) → Within (λ o. start ≤ o) (from start ps)
+  pub from-on : (start : ℕ) (ps : List Paragraph) → Within (λ o. start ≤ o) (from start ps)
   from-on start [] = tt
   from-on start (p ∷ ps) =
       within-append (λ o. start ≤ o) (own start p.body) (from (start + bytes_of (lengths_of p)) ps) (own-on start p.body)
       (within-weaker (λ o. start + bytes_of (lengths_of p) ≤ o) (λ o. start ≤ o) (λ o h. omega (arith, h)) (from (start + bytes_of (lengths_of p)) ps)
       (from-on (start + bytes_of (lengths_of p)) ps))
 
-  own-upto : (start : ℕ) (body : List ℕ) → IsUtf8 body → Within (λ o. o ≤ start + length body) (own start body)
+  pub own-upto : (start : ℕ) (body : List ℕ) → IsUtf8 body → Within (λ o. o ≤ start + length body) (own start body)
   own-upto start body utf8 =
       moved-within (λ o. o ≤ start + length body) start (body_stops says way body)
       (within-weaker (λ o. o ≤ length body) (λ o. start + o ≤ start + length body) (λ o h. omega (arith, h)) (body_stops says way body)
       (stops-within says way body utf8))
 
-  from-upto : (start : ℕ) (ps : List Paragraph) → AreUtf8 ps → Within (λ o. o ≤ start + total (map lengths_of ps)) (from start ps)
+  pub from-upto : (start : ℕ) (ps : List Paragraph) → AreUtf8 ps → Within (λ o. o ≤ start + total (map lengths_of ps)) (from start ps)
   from-upto start [] u = tt
   from-upto start (p ∷ ps) u =
       let next = start + bytes_of (lengths_of p) in

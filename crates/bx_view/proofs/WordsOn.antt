@@ -1,20 +1,23 @@
--- A move by a word stays only at the text's end, or at its start.
-use Rattle.std.proofs.Common.{◌≡◌, ℕ, zero, suc, ◌+◌, ◌-◌, ◌<◌, ◌≤◌, nat_lt, cond, Some, Bool, true, false, List, [], ◌∷◌, ◌++◌, length, take, drop, reverse, find}
-use Rattle.std.proofs.Common.{unwrap_or, IsUtf8, refl, sym, ap, subst, ◌∙◌, arith, ⊎_elim, length-append, chars}
+-- A step by a word leads to the next stop, and stays only at the text's end, or at its start.
+use Rattle.std.proofs.Common.{◌≡◌, ℕ, zero, suc, ◌+◌, ◌-◌, ◌<◌, ◌≤◌, nat_lt, cond, Bool, true, false, List, [], ◌∷◌, ◌++◌, map, length, take, drop, reverse, find}
+use Rattle.std.proofs.Common.{Option, Some, None, unwrap_or, IsUtf8, refl, sym, ap, subst, ◌∙◌, arith, ⊎_elim, length-append, chars}
 use Rattle.std.proofs.lemmas.Bool.{cases_lt}
 use Rattle.std.proofs.lemmas.Bool.Decides.{nat_tests}
 use Rattle.std.proofs.lemmas.List.{drop_all}
 use Rattle.bx_ucd.specs.Data.{Data}
-use Rattle.bx_paras.specs.Paragraphs.{Paragraph, lengths, paragraphs}
-use Rattle.bx_paras.specs.Positions.{paragraph_of}
+use Rattle.bx_paras.specs.Paragraphs.{Paragraph, lengths, lengths_of, paragraphs}
+use Rattle.bx_paras.specs.Positions.{paragraph_of, total}
+use Rattle.bx_view.specs.declared.moves.Logical.{Logical}
 use Rattle.bx_view.specs.declared.moves.Logical.TheVariants.{Back, Forward}
-use Rattle.bx_view.specs.Laws.{WordsGoOn}
+use Rattle.bx_view.specs.Laws.{IsGreatestBefore, IsLeastBehind, WordsGoOn}
 use Rattle.bx_view.specs.Standing.{body_at, count, paragraph_at, start_at}
-use Rattle.bx_view.specs.Words.{body_words, step_word}
+use Rattle.bx_view.specs.Words.{body_words, step_word, text_stops}
 use Rattle.bx_view.proofs.Numbers.{bytes-append, bytes-length, falls-at, parts-at, start-is}
-use Rattle.bx_view.proofs.Parts.{bytes, text-bytes}
+use Rattle.bx_view.proofs.Parts.{bytes, text-bytes, text-parts}
 use Rattle.bx_view.proofs.TextPlaces.{LastIsBare, last-bare}
-use Rattle.bx_view.proofs.WordStops.{back-above, back-here, begins-before, forward-here, forward-next, next-past}
+use Rattle.bx_view.proofs.NextStops.{Ascends, first-is-least, last-is-greatest, stops-ascend}
+use Rattle.bx_view.proofs.WordParts.{none-found, within-weaker}
+use Rattle.bx_view.proofs.WordStops.{back-above, back-here, begins-before, forward-here, forward-next, from-upto, next-past}
 
 -- ---- what a search finds
 
@@ -35,6 +38,20 @@ before-at offset o os false e rest = rest
 found-before : (offset : ℕ) → 0 < offset → (os : List ℕ) → unwrap_or (find (λ o. nat_lt o offset) os) 0 < offset
 found-before offset h [] = h
 found-before offset h (o ∷ os) = before-at offset o os (nat_lt o offset) refl (found-before offset h os)
+
+found-if-past : (place : ℕ) (x : Option ℕ) → place < unwrap_or x place → (n : ℕ) × (x ≡ Some n)
+found-if-past place None h = absurd (omega (arith, h))
+found-if-past place (Some n) h = (n, refl)
+
+found-if-ahead : (place : ℕ) (x : Option ℕ) → unwrap_or x place < place → (n : ℕ) × (x ≡ Some n)
+found-if-ahead place None h = absurd (omega (arith, h))
+found-if-ahead place (Some n) h = (n, refl)
+
+none-below-0 : (os : List ℕ) → unwrap_or (find (λ p. nat_lt p 0) os) 0 ≡ 0
+none-below-0 [] = refl
+none-below-0 (o ∷ os) =
+    let no : nat_lt o 0 ≡ false = grind (arith, nat_tests) in
+    ap (λ b. unwrap_or (cond b (Some o) (find (λ p. nat_lt p 0) os)) 0) no ∙ none-below-0 os
 
 -- ---- the last paragraph ends with the text
 
@@ -110,5 +127,32 @@ module _ (says : Data) (text : List ℕ) (utf8 : IsUtf8 text) where
         omega (arith, near, order, back-here says text utf8 place n refl past))
         (λ first. back-at n refl h first) (cases_lt start place)
 
-  pub words-go-on : WordsGoOn says text
-  words-go-on = record { forward = forward; back = back }
+  stops : (way : Logical) → Ascends (text_stops says way text)
+  stops way = stops-ascend says way 0 (paragraphs says text) (text-parts says text utf8).utf8
+
+  next-stop : (place : ℕ) → place < length text → IsLeastBehind (text_stops says Forward text) place (step_word says text Forward place)
+  next-stop place h =
+      let os = text_stops says Forward text in
+      let (n, found) = found-if-past place (find (nat_lt place) os) (forward place h) in
+      subst (IsLeastBehind os place) (sym (ap (λ x. unwrap_or x place) found)) (first-is-least place os (stops Forward) n found)
+
+  previous-stop : (place : ℕ) → 0 < place → IsGreatestBefore (text_stops says Back text) place (step_word says text Back place)
+  previous-stop place h =
+      let os = text_stops says Back text in
+      let (n, found) = found-if-ahead place (find (λ p. nat_lt p place) (reverse os)) (back place h) in
+      subst (IsGreatestBefore os place) (sym (ap (λ x. unwrap_or x place) found)) (last-is-greatest place os (stops Back) n found)
+
+  stays-at-end : (place : ℕ) → length text ≤ place → step_word says text Forward place ≡ place
+  stays-at-end place h =
+      let ps = paragraphs says text in
+      let all : total (map lengths_of ps) ≡ length text = sym (bytes-length ps) ∙ ap length (text-bytes says text utf8) in
+      let upto = from-upto says Forward 0 ps (text-parts says text utf8).utf8 in
+      let none = within-weaker (λ o. o ≤ 0 + total (map lengths_of ps)) (λ o. nat_lt place o ≡ false)
+      (λ o below. let upper : o ≤ place = omega (arith, below, all, h) in grind (arith, nat_tests)) (text_stops says Forward text) upto in
+      ap (λ x. unwrap_or x place) (none-found (nat_lt place) (text_stops says Forward text) none)
+
+  stays-at-start : step_word says text Back 0 ≡ 0
+  stays-at-start = none-below-0 (reverse (text_stops says Back text))
+
+  pub words-go-on : WordsGoOn says text (step_word says text)
+  words-go-on = record { forward = next-stop; back = previous-stop; at_end = stays-at-end; at_start = stays-at-start }

@@ -1,5 +1,5 @@
 -- Laws of the places of every text, in every window.
-use Rattle.std.specs.Prelude.{◌≡◌, ℕ, ◌+◌, ◌-◌, ◌<◌, ◌≤◌, true, List, length, slice_get, Some, IfSome, All, IsUtf8, IsCharBoundary}
+use Rattle.std.specs.Prelude.{◌≡◌, ℕ, ◌+◌, ◌-◌, ◌<◌, ◌≤◌, true, List, length, slice_get, Some, IfSome, All, Contains, IsUtf8, IsCharBoundary}
 use Rattle.std.specs.Int.{abs_diff}
 use Rattle.std.specs.List.{concat}
 use Rattle.std.specs.List.Sorted.{IsStrictlyIncreasing}
@@ -15,7 +15,7 @@ use Rattle.bx_view.specs.Moves.{entry_in, moved, page, place_at, place_from, row
 use Rattle.bx_view.specs.Places.{pieces, text_places, IsTextPlace}
 use Rattle.bx_view.specs.TextRows.{TextRow, row_at, row_of, text_rows}
 use Rattle.bx_view.specs.Top.{follow}
-use Rattle.bx_view.specs.Words.{step_word}
+use Rattle.bx_view.specs.Words.{step_word, text_stops}
 
 -- a property of the rows of every text, in every window and direction
 abbrev pub InEachWindow : (Data → List ℕ → ℕ → List TextRow → Type 0) → Type 0
@@ -53,10 +53,25 @@ pub record MovesKeep (says : Data) (text : List ℕ) (w : ℕ) (rows : List Text
   pub end : (offset : ℕ) → P (row_end rows offset)
   pub top : (top place t : ℕ) → 0 < t → P (follow rows top place t)
 
--- a move by a word stays only at the text's end, or at its start
-pub record WordsGoOn (says : Data) (text : List ℕ) : Type 0 where
-  pub forward : (place : ℕ) → place < length text → place < step_word says text Forward place
-  pub back : (place : ℕ) → 0 < place → step_word says text Back place < place
+-- the least stop behind a place
+pub record IsLeastBehind (stops : List ℕ) (place stop : ℕ) : Type 0 where
+  pub is_stop : Contains stops stop
+  pub behind : place < stop
+  pub least : (o : ℕ) → Contains stops o → place < o → stop ≤ o
+
+-- the greatest stop before a place
+pub record IsGreatestBefore (stops : List ℕ) (place stop : ℕ) : Type 0 where
+  pub is_stop : Contains stops stop
+  pub before : stop < place
+  pub greatest : (o : ℕ) → Contains stops o → o < place → o ≤ stop
+
+-- A step by a word forward leads to the least start of a word or end of a body behind the place, and stays only at the
+-- text's end. A step back leads to the greatest start of a word or body before it, and stays only at the text's start.
+pub record WordsGoOn (says : Data) (text : List ℕ) (step : Logical → ℕ → ℕ) : Type 0 where
+  pub forward : (place : ℕ) → place < length text → IsLeastBehind (text_stops says Forward text) place (step Forward place)
+  pub back : (place : ℕ) → 0 < place → IsGreatestBefore (text_stops says Back text) place (step Back place)
+  pub at_end : (place : ℕ) → length text ≤ place → step Forward place ≡ place
+  pub at_start : step Back 0 ≡ 0
 
 -- the row of a place is one of the `t` rows from row `k` on
 abbrev pub IsShownFrom : List TextRow → ℕ → ℕ → ℕ → Type 0

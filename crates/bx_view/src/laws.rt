@@ -8,6 +8,7 @@ ghost use Rattle.bx_view.specs.Laws.{InEachWindow, IsGreatestPlace, MovesKeep, M
 ghost use Rattle.bx_view.specs.Moves.{place_at};
 ghost use Rattle.bx_view.specs.Places.{text_places, IsTextPlace};
 ghost use Rattle.bx_view.specs.TextRows.{places};
+ghost use Rattle.bx_view.specs.Words.{step_word};
 
 /// The places of a text's rows are the boundaries of its clusters and separators, from the text's start to its end, in
 /// every window and direction.
@@ -26,9 +27,10 @@ pub fn moves_keep_places()
     ensures { InEachWindow (λ says text w rows. MovesKeep says text w rows (IsTextPlace says text)) }
 {}
 
-/// A move by a word goes on, except at the text's end forward and at its start back.
+/// A step by a word forward leads to the next start of a word or end of a body, a step back to the previous start of a
+/// word or body. Only at the text's end, or at its start, it stays.
 pub fn words_go_on()
-    ensures { (says : Data) (text : List ℕ) → IsUtf8 text → WordsGoOn says text }
+    ensures { (says : Data) (text : List ℕ) → IsUtf8 text → WordsGoOn says text (step_word says text) }
 {}
 
 /// A row's slots are its places. Each place has exactly one slot, in the row that it falls in, and its cell is the column

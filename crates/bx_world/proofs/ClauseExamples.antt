@@ -1,23 +1,26 @@
 -- Worked rows, each of which follows from a clause of a schedule alone.
-use Rattle.std.proofs.Common.{◌≡◌, ℕ, true, List, [], ◌∷◌, ◌++◌, length, take, Option, Some, None, refl, sym, ap, subst, ◌∙◌}
-use Rattle.std.specs.Prelude.{IfSome, codes, option_to_list}
+use Rattle.std.proofs.Common.{◌≡◌, ℕ, ◌+◌, ◌<◌, Bool, true, false, List, [], ◌∷◌, ◌++◌, length, take, Option, Some, None, refl, sym, ap, subst, ◌∙◌, arith, lit<}
+use Rattle.std.specs.Prelude.{IfSome, IsSome, codes, option_to_list}
 use Rattle.std.specs.Fmt.{digits}
 use Rattle.std.proofs.lemmas.List.{append-nil}
 use Rattle.unicode_segmentation.proofs.Computing.{unicode_segmentation}
 use Rattle.unicode_width.proofs.Computing.{unicode_width}
 use Rattle.bx_terms.specs.declared.base.Base.TheVariants.{Auto}
 use Rattle.bx_keys.specs.declared.key.Key.{Key}
-use Rattle.bx_keys.specs.declared.key.Key.TheVariants.{Insert}
+use Rattle.bx_keys.specs.declared.key.Key.TheVariants.{Insert, Save}
 use Rattle.bx_keys.specs.Keys.{decoding, keys_from}
 use Rattle.bx_grid.specs.Picture.{Shows}
 use Rattle.bx_grid.specs.Terminal.{Terminal}
-use Rattle.bx_editor.specs.Editor.{Editor, at_start}
+use Rattle.bx_view.specs.TextRows.{cell_of}
+use Rattle.bx_store.specs.Stores.{greatest}
+use Rattle.bx_editor.specs.Editor.{Editor, at_start, rows}
+use Rattle.bx_editor.specs.Picture.{picture}
 use Rattle.bx_editor.proofs.Computed.{tables, columns_of}
 use Rattle.bx_session.specs.Saving.{StoreState}
 use Rattle.bx_session.specs.Session.{Session}
 use Rattle.bx_session.proofs.Computed.{start}
-use Rattle.bx_world.specs.declared.step.Step.TheVariants.{Byte, Read}
-use Rattle.bx_world.specs.Events.{Event, AreEvents, Input, after_events, input_of, keys_of}
+use Rattle.bx_world.specs.declared.step.Step.TheVariants.{Byte, Send, Read}
+use Rattle.bx_world.specs.Events.{Event, AreEvents, Input, after_events, after_save_of, failed_saves, input_of, keys_of, stored_after_all}
 use Rattle.bx_world.specs.Headline.{Follows, HeadlineFromOpening}
 use Rattle.bx_world.specs.Reading.{PlaysReading, SeesPromised}
 use Rattle.bx_world.specs.Runs.{begins_at}
@@ -25,27 +28,38 @@ use Rattle.bx_world.specs.Showing.{picture_of}
 use Rattle.bx_world.specs.World.{World, after_send, around, unknown_terminal, unread}
 use Rattle.bx_world.proofs.Woven.{ok}
 
+-- ---- the events of one byte
+
+key_only : (key : Option Key) (k : Key) → option_to_list key ++ [] ≡ k ∷ [] → key ≡ Some k
+key_only None k is = absurd (cc is)
+key_only (Some key) k is = cc is
+
+-- the event of a byte that completes a key, whose keys are those of its input
+one_key : (text : List ℕ) (b : ℕ) (key : Key) (events : List Event) (keys : List ℕ → List Key) → keys (b ∷ []) ≡ key ∷ []
+    → AreEvents tables (at_start text 1 5 Auto) ((Byte b, ok) ∷ []) events → keys_of events ≡ keys (input_of events)
+    → (saved : Bool) × (events ≡ Input b (Some key) true saved ∷ [])
+one_key text b key events keys typed are whole =
+    let one = are.3 in
+    let is : events ≡ Input b one.0 true one.1 ∷ [] = are.2 ∙ ap (λ (xs : List Event). xs ++ are.1) one.2
+    ∙ ap (λ (xs : List Event). Input b one.0 true one.1 ∷ xs) are.4 in
+    let key_is : one.0 ≡ Some key = key_only one.0 key (subst (λ (xs : List Event). keys_of xs ≡ keys (input_of xs)) is whole ∙ typed) in
+    (one.1, is ∙ ap (λ (k : Option Key). Input b k true one.1 ∷ []) key_is)
+
 -- ---- a letter is typed into an empty text
 
 abbrev empty : Editor
 empty = at_start [] 1 5 Auto
 
-insert_only : (key : Option Key) (c : ℕ) → option_to_list key ++ [] ≡ Insert c ∷ [] → key ≡ Some (Insert c)
-insert_only None c is = absurd (cc is)
-insert_only (Some key) c is = cc is
+typed_letter : (saved : Bool) → (after_events tables empty (Input 0x61 (Some (Insert 0x61)) true saved ∷ [])).content.text ≡ codes "a"
+unfolding unicode_segmentation unicode_width digits
+typed_letter saved = refl
 
--- what the events of the byte `a` make of it, whose keys are those of their input
+-- what the events of the byte `a` make of it
 one_letter : (events : List Event) (keys : List ℕ → List Key) → keys (codes "a") ≡ Insert 0x61 ∷ [] → AreEvents tables empty ((Byte 0x61, ok) ∷ []) events
     → keys_of events ≡ keys (input_of events) → (after_events tables empty events).content.text ≡ codes "a"
-unfolding unicode_segmentation unicode_width digits
 one_letter events keys typed are whole =
-    let one = are.3 in
-    let is : events ≡ Input 0x61 one.0 true one.1 ∷ [] = are.2 ∙ ap (λ (xs : List Event). xs ++ are.1) one.2
-    ∙ ap (λ (xs : List Event). Input 0x61 one.0 true one.1 ∷ xs) are.4 in
-    let key : one.0 ≡ Some (Insert 0x61) =
-    insert_only one.0 0x61 (subst (λ (xs : List Event). keys_of xs ≡ keys (input_of xs)) is whole ∙ typed) in
-    ap (λ (xs : List Event). (after_events tables empty xs).content.text) is
-    ∙ ap (λ (k : Option Key). (after_events tables empty (Input 0x61 k true one.1 ∷ [])).content.text) key
+    let one = one_key [] 0x61 (Insert 0x61) events keys typed are whole in
+    ap (λ (xs : List Event). (after_events tables empty xs).content.text) one.1 ∙ typed_letter one.0
 
 pub a_byte_is_its_letter : (store store' : StoreState) (new : World)
     → HeadlineFromOpening tables (around (start [] 1 5) 1 5) store ((Byte 0x61, ok) ∷ []) new store' → new.session.editor.content.text ≡ codes "a"
@@ -53,6 +67,61 @@ a_byte_is_its_letter store store' new clause =
     let found = clause [] 1 5 Auto refl in
     ap (λ (e : Editor). e.content.text) found.1.editor
     ∙ one_letter found.0 (λ bs. (decoding bs).keys) refl found.1.events_are (found.1.keys found.0 [] (sym (append-nil found.0)))
+
+abbrev cursor_cell : Editor → ℕ
+cursor_cell e = cell_of e.width (rows tables e) e.place
+
+cursor_behind_letter : (saved : Bool) → cursor_cell (after_events tables empty (Input 0x61 (Some (Insert 0x61)) true saved ∷ [])) ≡ 2
+unfolding unicode_segmentation unicode_width digits
+cursor_behind_letter saved = refl
+
+-- the cursor is behind it, in the second column
+pub the_cursor_is_behind_the_letter : (store store' : StoreState) (new : World) (column : ℕ)
+    → (clause : HeadlineFromOpening tables (around (start [] 1 5) 1 5) store ((Byte 0x61, ok) ∷ []) new store')
+    → new.session.painting_owed ≡ false → new.session.editor.ended ≡ false
+    → (picture tables (after_events tables empty (clause [] 1 5 Auto refl).0) new.session.top).column ≡ column → column ≡ 1
+the_cursor_is_behind_the_letter store store' new column clause paid on is =
+    let found = clause [] 1 5 Auto refl in
+    let one = one_key [] 0x61 (Insert 0x61) found.0 (λ bs. (decoding bs).keys) refl found.1.events_are (found.1.keys found.0 [] (sym (append-nil found.0))) in
+    let cell : column + 1 ≡ cursor_cell (after_events tables empty found.0) = ap (λ n. n + 1) (sym is) ∙ (found.1.cursor paid on).column in
+    let second : cursor_cell (after_events tables empty found.0) ≡ 2 =
+    ap (λ (xs : List Event). cursor_cell (after_events tables empty xs)) one.1 ∙ cursor_behind_letter one.0 in
+    omega (arith, cell, second)
+
+-- a terminal that has memory is there
+pub the_terminal_is_there : (store store' : StoreState) (new : World)
+    → HeadlineFromOpening tables (around (start [] 1 5) 1 5) store ((Byte 0x61, ok) ∷ (Send 3, ok) ∷ (Read 3, ok) ∷ []) new store' → IsSome new.screen
+the_terminal_is_there store store' new clause = (clause [] 1 5 Auto refl).1.live (refl, (refl, (refl, tt)))
+
+-- ---- a Save
+
+abbrev store_of : List ℕ → StoreState
+store_of contents = record { contents = Some contents; failures = 0 }
+
+not_counted : (saved : Bool) (contents : List ℕ) (store' : StoreState) → store' ≡ after_save_of (codes "ab") saved (store_of contents)
+    → store'.failures ≡ 0 → store'.contents ≡ Some (codes "ab")
+not_counted true contents store' is none = ap (λ (x : StoreState). x.contents) is
+not_counted false contents store' is none = absurd (let g : 1 ≡ 0 = sym (ap (λ (x : StoreState). x.failures) is) ∙ none in cc g)
+
+-- a Save that the store did not count as failed stored the text
+pub a_save_stores_the_text : (contents : List ℕ) (store' : StoreState) (new : World)
+    → HeadlineFromOpening tables (around (start (codes "ab") 1 5) 1 5) (store_of contents) ((Byte 0x13, ok) ∷ []) new store'
+    → store'.failures ≡ 0 → store'.contents ≡ Some (codes "ab")
+a_save_stores_the_text contents store' new clause none =
+    let found = clause (codes "ab") 1 5 Auto refl in
+    let one = one_key (codes "ab") 0x13 Save found.0 (λ bs. (decoding bs).keys) refl found.1.events_are
+    (found.1.keys found.0 [] (sym (append-nil found.0))) in
+    not_counted one.0 contents store'
+    (found.1.stored ∙ ap (stored_after_all tables (at_start (codes "ab") 1 5 Auto) (store_of contents)) one.1) none
+
+-- a count that is one higher is of one Save that failed
+pub a_failed_save_is_counted : (contents : Option (List ℕ)) (store' : StoreState) (new : World)
+    → (clause : HeadlineFromOpening tables (around (start (codes "ab") 1 5) 1 5) (record { contents = contents; failures = 4 }) ((Byte 0x13, ok) ∷ []) new store')
+    → store'.failures ≡ 5 → failed_saves (clause (codes "ab") 1 5 Auto refl).0 ≡ 1
+a_failed_save_is_counted contents store' new clause count =
+    let found = clause (codes "ab") 1 5 Auto refl in
+    let all : store'.failures ≡ 4 + failed_saves found.0 = found.1.failures (subst (λ n. n < greatest) (sym count) (lit< tt)) in
+    omega (arith, count, all)
 
 -- from any world that has such a session
 pub a_byte_follows : (w : World) (store store' : StoreState) (new : World) → w.session ≡ start [] 1 5

@@ -5,6 +5,7 @@ pub mod Calls
 pub mod Schedules
 pub mod Ended
 pub mod Brought
+pub mod Live
 pub mod Opened
 pub mod Sights
 pub mod Fits

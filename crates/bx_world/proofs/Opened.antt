@@ -1,6 +1,6 @@
 -- The headline, of a world as it was opened.
-use Rattle.std.proofs.Common.{◌≡◌, ℕ, Bool, true, false, List, [], Result, ap, subst, ◌∙◌}
-use Rattle.std.specs.Prelude.{IfSome, not}
+use Rattle.std.proofs.Common.{◌≡◌, ℕ, Bool, true, false, List, [], Result, refl, sym, ap, subst, ◌∙◌}
+use Rattle.std.specs.Prelude.{IfSome, IsSome, not}
 use Rattle.bx_grid.specs.Picture.{Shows}
 use Rattle.bx_ucd.specs.Data.{Data}
 use Rattle.bx_editor.specs.Editor.{Editor}
@@ -15,13 +15,14 @@ use Rattle.bx_world.specs.Showing.{IsInStep}
 use Rattle.bx_world.specs.Events.{Event}
 use Rattle.bx_world.specs.Headline.{Headline, HeadlineFromOpening}
 use Rattle.bx_world.proofs.Brought.{AreDecoded, decoded_behind, follows_decoded}
+use Rattle.bx_world.proofs.Live.{plays_live}
 use Rattle.bx_world.proofs.Schedules.{OwesNot, accepted_owes_nothing, shows_when_read}
 
 -- the headline of what follows from a world as a session begins in it, behind the bytes of a journal
 pub headline_behind : (d : Data) (journal : List ℕ) (old new : World) (store store' : StoreState) (all : List (Step × Result (Unit {0}) StepFault))
     → PlaysTo d old store all new store' → IsInStep d new → old.session.rest ≡ rest_from [] journal → old.session.painting_owed ≡ false
-    → (events : List Event) × Headline d old.session.editor journal store all new store' events
-headline_behind d journal old new store store' all played was rest paid =
+    → IsSome old.screen → (events : List Event) × Headline d old.session.editor journal store all new store' events
+headline_behind d journal old new store store' all played was rest paid live =
     let found = follows_decoded d old new store store' all played in
     let f = found.1 in
     let owes : OwesNot (is_last_accepted true all) new = accepted_owes_nothing d true old new store store' all played (λ on. paid) in
@@ -38,8 +39,9 @@ headline_behind d journal old new store store' all played was rest paid =
         shows = λ accepted told line pending.
             subst picture_is f.editor (shows_when_read d old new store store' all played was
             (ap (λ (owed : Bool). is_last_accepted (not owed) all) paid ∙ accepted) told line pending);
+        live = λ memory. plays_live d old new store store' all memory played live;
         owes = owes;
-        cursor = λ owed live. subst stands f.editor (was.cursor owed live);
+        cursor = λ owed on. subst stands f.editor (was.cursor owed on);
       },
     )
 
@@ -47,7 +49,7 @@ pub headline_of : (d : Data) (old new : World) (store store' : StoreState) (all 
     → PlaysTo d old store all new store' → IsInStep d new → HeadlineFromOpening d old store all new store'
 headline_of d old new store store' all played was text height width base is =
     let found = headline_behind d [] old new store store' all played was (ap (λ (w : World). w.session.rest) is)
-    (ap (λ (w : World). w.session.painting_owed) is) in
+    (ap (λ (w : World). w.session.painting_owed) is) (subst (λ (w : World). IsSome w.screen) (sym is) refl) in
     (found.0, subst (λ (e : Editor). Headline d e [] store all new store' found.0) (ap (λ (w : World). w.session.editor) is) found.1)
 
 pub headline : {D : Type 0} (says : D → Data) (tables tables' : D) (old new : World) (store store' : StoreState)

@@ -173,7 +173,7 @@ in_window : (d : Data) (b : Beginning) (s : Session) (store store' : StoreState)
     → PlaysTo d (begins_at (begun d b) t) store schedule new store' → IsInStep d new → new.session ≡ s → IsSome new.screen
     → RunsInWindow d b (begun d b) s store store' t schedule
 in_window d b s store store' t schedule new plays was is live =
-    let found = headline_behind d b.journal (begins_at (begun d b) t) new store store' schedule plays was (begun_rest d b) refl in
+    let found = headline_behind d b.journal (begins_at (begun d b) t) new store store' schedule plays was (begun_rest d b) refl refl in
     let shown = the_terminal new.screen live in
     let e = after_events d (unpainted_at d b).editor found.0 in record {
       new = new;

@@ -106,7 +106,7 @@ are_own d old new store store' answered dropped written run = (refl, are_own_tur
 
 -- ---- among others
 
-live_map : (screen : Option Terminal) (f : Terminal → Terminal) → IsSome screen → IsSome (option_map f screen)
+pub live_map : (screen : Option Terminal) (f : Terminal → Terminal) → IsSome screen → IsSome (option_map f screen)
 live_map None f live = live
 live_map (Some t) f live = refl
 

@@ -1,5 +1,5 @@
 -- The effect of a schedule on a file: the keys typed, the text, the store, and the picture seen.
-use Rattle.std.specs.Prelude.{◌≡◌, ℕ, ◌+◌, ◌<◌, true, false, List, [], Result, IfSome}
+use Rattle.std.specs.Prelude.{◌≡◌, ℕ, ◌+◌, ◌<◌, true, false, List, [], Result, IfSome, IsSome}
 use Rattle.bx_terms.specs.declared.base.Base.{Base}
 use Rattle.bx_keys.specs.Keys.{keys_from}
 use Rattle.bx_grid.specs.Picture.{Shows}
@@ -12,7 +12,7 @@ use Rattle.bx_session.specs.Saving.{StoreState}
 use Rattle.bx_world.specs.declared.step.Step.{Step}
 use Rattle.bx_world.specs.declared.step.StepFault.{StepFault}
 use Rattle.bx_world.specs.World.{World, around}
-use Rattle.bx_world.specs.Steps.{is_last_accepted}
+use Rattle.bx_world.specs.Steps.{HasMemory, is_last_accepted}
 use Rattle.bx_world.specs.Events.{Event, AreEvents, input_of, keys_of, HasBytesUntilEnd, HasKeysOfAll}
 use Rattle.bx_world.specs.Events.{after_events, stored_after_all, failed_saves}
 
@@ -45,6 +45,8 @@ pub record Headline {A : Type 0} (d : Data) (start : Editor) (journal : List ℕ
   pub failures : store'.failures < greatest → store'.failures ≡ store.failures + failed_saves events
   pub shows : is_last_accepted true schedule ≡ true → new.told ≡ true → new.line ≡ [] → new.session.pending ≡ []
       → IfSome new.screen (λ t. Shows t (picture d (after_events d start events) new.session.top))
+  -- the terminal is there unless it ran out of memory
+  pub live : HasMemory schedule → IsSome new.screen
   -- if the last call was accepted, no painting is owed
   pub owes : is_last_accepted true schedule ≡ true → new.session.painting_owed ≡ false
   -- this holds with bytes unread or pending, and whatever sizes were told

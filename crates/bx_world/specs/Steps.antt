@@ -1,5 +1,6 @@
 -- The world after a step, by its answer, and after a list of steps.
 use Rattle.std.specs.Prelude.{◌≡◌, ◌≢◌, ℕ, Bool, true, false, List, [], ◌∷◌, take, drop, Result, Ok, Err, IsSome}
+use Rattle.std.specs.List.{AllByRecursion}
 use Rattle.bx_grid.specs.Picture.{is_size}
 use Rattle.bx_grid.specs.declared.error.GridError.TheVariants as grid
 use Rattle.bx_ucd.specs.Data.{Data}
@@ -95,3 +96,12 @@ accepted_after before (Read count) answer = before
 abbrev pub is_last_accepted : {A : Type 0} → Bool → List (Step × Result A StepFault) → Bool
 is_last_accepted before [] = before
 is_last_accepted before (s ∷ more) = is_last_accepted (accepted_after before s.0 s.1) more
+
+-- the terminal did not run out of memory at a step
+abbrev pub has_memory : {A : Type 0} → Result A StepFault → Bool
+has_memory (Err (faults.Screen grid.OutOfMemory)) = false
+has_memory _ = true
+
+-- the terminal did not run out of memory in a schedule
+abbrev pub HasMemory : {A : Type 0} → List (Step × Result A StepFault) → Type 0
+HasMemory schedule = AllByRecursion (λ s. has_memory s.1 ≡ true) schedule

@@ -5,6 +5,8 @@
 #[cfg(test)]
 mod faulty;
 #[cfg(test)]
+mod logs;
+#[cfg(test)]
 mod running;
 #[cfg(test)]
 mod turns;

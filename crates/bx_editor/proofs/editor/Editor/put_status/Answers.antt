@@ -1,4 +1,4 @@
-use Rattle.std.proofs.Common.{◌≡◌, ◌+◌, ◌-◌, ◌*◌, ◌∙◌, ◌++◌, ap, ap₂, arith, length, refl, string_bytes, subst, sym, take}
+use Rattle.std.proofs.Common.{◌≡◌, ◌+◌, ◌-◌, ◌*◌, ◌∙◌, ◌++◌, ap, ap₂, arith, refl, string_bytes, subst, sym, take}
 use Rattle.bx_ucd.specs.Data.{Data}
 use Rattle.bx_editor.specs.Editor.{Editor, text_height}
 use Rattle.bx_editor.specs.Status.{glyph_row, letter_glyphs, paragraph_number, search_glyphs, status_columns, status_line, unit_number}

@@ -1,0 +1,112 @@
+-- What a run does to its device, in order.
+use Rattle.std.specs.Prelude.{◌≡◌, ◌⊎◌, ℕ, List, [], ◌∷◌, ◌++◌, length, map, None, Result, Ok, Err}
+use Rattle.std.specs.List.{concat}
+use Rattle.bx_ucd.specs.Data.{Data}
+use Rattle.bx_session.specs.declared.action.Action.{Action}
+use Rattle.bx_session.specs.declared.action.Action.TheVariants.{Read, ReadFailed, Append, Write, WriteFailed, Flush, FlushFailed}
+use Rattle.bx_session.specs.declared.end.End.{End}
+use Rattle.bx_session.specs.declared.end.End.TheVariants.{Quit, InputEnded}
+use Rattle.bx_session.specs.declared.end.RunFault.{RunFault}
+use Rattle.bx_session.specs.declared.end.RunFault.TheVariants.{ReadFault, WriteFault, ReadLimit}
+use Rattle.bx_session.specs.Session.{Session}
+use Rattle.bx_session.specs.Saving.{StoreState}
+use Rattle.bx_session.specs.Running.{ByteAnswer, Turn, HasRun, bytes_of, read_in}
+
+-- ---- actions
+
+-- these actions, in this order, lead from one state of a device to another
+abbrev pub DidAll : {V : Type 0} → (V → Action → V → Type 0) → V → List Action → V → Type 0
+DidAll did old [] new = new ≡ old
+DidAll {V} did old (action ∷ more) new = (mid : V) × did old action mid × DidAll did mid more new
+
+-- the last thing done was to hand these bytes to the journal
+abbrev pub WasAppended : {V : Type 0} → (V → Action → V → Type 0) → V → List ℕ → Type 0
+WasAppended {V} did now bytes = (before : V) × did before (Append bytes) now
+
+-- the bytes that an action read
+abbrev pub read_by : Action → List ℕ
+read_by (Read bytes) = bytes
+read_by _ = []
+
+-- the bytes that it handed to the journal
+abbrev pub kept_by : Action → List ℕ
+kept_by (Append bytes) = bytes
+kept_by _ = []
+
+-- the bytes that it wrote
+abbrev pub written_by : Action → List ℕ
+written_by (Write bytes) = bytes
+written_by (WriteFailed bytes) = bytes
+written_by _ = []
+
+abbrev pub bytes_by : (Action → List ℕ) → List Action → List ℕ
+bytes_by bytes [] = []
+bytes_by bytes (action ∷ more) = bytes action ++ bytes_by bytes more
+
+-- ---- the log of a run
+
+-- a turn, with the parts in which its bytes were handed to the journal
+pub record LoggedTurn : Type 0 where
+  pub turn : Turn
+  pub parts : List (List ℕ)
+  -- they are the bytes fed; those dropped behind the session's end are not among them
+  pub joined : concat parts ≡ bytes_of turn.fed
+
+abbrev pub appends : List (List ℕ) → List Action
+appends [] = []
+appends (part ∷ parts) = Append part ∷ appends parts
+
+-- A turn: one read, the appends of its parts to the journal, and the writing and flushing of the output. Each part is obeyed
+-- right after its append.
+abbrev pub turn_actions : LoggedTurn → List Action
+turn_actions logged = Read (read_in logged.turn) ∷ (appends logged.parts ++ Write logged.turn.written ∷ Flush ∷ [])
+
+abbrev pub turns_actions : List LoggedTurn → List Action
+turns_actions [] = []
+turns_actions (logged ∷ more) = turn_actions logged ++ turns_actions more
+
+-- what was pending is written and flushed, and then the turns follow
+abbrev pub run_actions : List ℕ → List LoggedTurn → List Action
+run_actions first turns = Write first ∷ Flush ∷ turns_actions turns
+
+-- the write of these bytes failed behind them, or the flush failed
+abbrev pub IsFailedSending : List ℕ → List Action → Type 0
+IsFailedSending written actions = (actions ≡ WriteFailed written ∷ []) ⊎ (actions ≡ Write written ∷ FlushFailed ∷ [])
+
+-- the writing and flushing of these bytes, by its answer
+abbrev pub IsSending : {A E : Type 0} → Result A E → List ℕ → List Action → Type 0
+IsSending (Ok _) written actions = actions ≡ Write written ∷ Flush ∷ []
+IsSending (Err _) written actions = IsFailedSending written actions
+
+-- a log that is as a run's but for its last sending, which failed
+abbrev pub FailsLast : List Action → List Action → Type 0
+FailsLast log whole =
+    (before : List Action) × (written : List ℕ) × (failed : List Action) × (whole ≡ before ++ Write written ∷ Flush ∷ [])
+    × (log ≡ before ++ failed) × IsFailedSending written failed
+
+-- The log of a run that ended with this answer. At the end of the input a last read gave nothing, and so did a read that failed;
+-- the limit of reads is the number of turns.
+abbrev pub IsLog : ℕ → Result End RunFault → List ℕ → List LoggedTurn → List Action → Type 0
+IsLog limit (Ok Quit) first turns log = log ≡ run_actions first turns
+IsLog limit (Ok (InputEnded changed)) first turns log = log ≡ run_actions first turns ++ Read [] ∷ Append [] ∷ []
+IsLog limit (Err ReadFault) first turns log = log ≡ run_actions first turns ++ ReadFailed ∷ []
+IsLog limit (Err ReadLimit) first turns log = (log ≡ run_actions first turns) × (length turns ≡ limit)
+IsLog limit (Err WriteFault) first turns log = FailsLast log (run_actions first turns)
+
+-- A run over a device, by its answer. The log has all that was done to the device, in order: it reads the bytes that were
+-- answered and dropped, hands those answered to the journal, and writes the output.
+pub record HasLogged {V : Type 0} (did : V → Action → V → Type 0) (d : Data) (limit : ℕ) (result : Result End RunFault) (old new : Session)
+    (store store' : StoreState) (device device' : V) : Type 0 where
+  pub answered : List ByteAnswer
+  pub dropped : List ℕ
+  pub written : List ℕ
+  pub all : Session
+  pub run : HasRun d old new store store' None None None None answered dropped written all
+  pub log : List Action
+  pub did_all : DidAll did device log device'
+  pub turns : List LoggedTurn
+  pub in_turns : map (λ logged. logged.turn) turns ≡ run.in_turns.turns
+  pub order : IsLog limit result run.in_turns.first turns log
+  pub reads : bytes_by read_by log ≡ bytes_of answered ++ dropped
+  pub keeps : bytes_by kept_by log ≡ bytes_of answered
+  pub writes : bytes_by written_by log ≡ written

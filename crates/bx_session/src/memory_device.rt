@@ -1,0 +1,105 @@
+//! A device in memory, which logs what is done to it.
+
+ghost use Rattle.std.specs.Prelude.{◌≡◌, [], Some, IfSome, option_map, vec_items};
+ghost use Rattle.bx_session.specs.InMemory.{DidLog};
+
+use crate::action::{Action, ActionBytes};
+use crate::device::{Device, DeviceFault};
+use bx_output::WriteFault;
+use std::alloc::{AllocError, Global};
+use std::marker::Model;
+use std::mem;
+
+/// A device whose input is in memory. It logs each call; once memory runs out for the log, there is none. Its calls never fail.
+#[derive(Drop)]
+pub struct MemoryDevice {
+    alloc: Global,
+    input: Vec<u8>,
+    log: Option<Vec<Action>>,
+}
+
+impl Model for MemoryDevice {
+    ghost use Rattle.std.specs.Prelude.{option_map, vec_items};
+    ghost use Rattle.bx_session.specs.InMemory.{DeviceState};
+
+    ghost Value = { DeviceState };
+
+    ghost view = { λ s. record { input = s.input.items; log = option_map vec_items s.log } };
+}
+
+impl MemoryDevice {
+    /// A device with this input and an empty log.
+    pub fn new(alloc: Global, input: Vec<u8>) -> Self
+        ensures { result ≡ record { input = input.items; log = Some [] } }
+    {
+        MemoryDevice {
+            alloc,
+            input,
+            log: Some(Vec::new(alloc)),
+        }
+    }
+
+    /// The log, unless memory ran out for it.
+    pub fn log(&self) -> Option<&[Action]>
+        ensures { IfSome result (λ actions. self.now.log ≡ Some actions.now) }
+    {
+        match &self.log {
+            Some(actions) => Some(actions.as_slice()),
+            None => None,
+        }
+    }
+
+    /// Logs an action, if there was memory for its bytes.
+    fn note(&mut self, action: Result<Action, AllocError>)
+        ensures input { self.new.input ≡ self.old.input }
+        ensures log { DidLog self.old.log action self.new.log }
+    {
+        let log = mem::replace(&mut self.log, None);
+        self.log = with_action(log, action);
+    }
+}
+
+/// The log with one action more; none if memory ran out, now or before.
+fn with_action(log: Option<Vec<Action>>, action: Result<Action, AllocError>) -> Option<Vec<Action>>
+    ensures { DidLog (option_map vec_items log) action (option_map vec_items result) }
+{
+    match (log, action) {
+        (Some(mut log), Ok(action)) => match log.push(action) {
+            Ok(()) => Some(log),
+            Err(_) => None,
+        },
+        _ => None,
+    }
+}
+
+impl Device for MemoryDevice {
+    ghost use Rattle.bx_session.specs.InMemory.{DidInMemory};
+
+    ghost did = { DidInMemory };
+
+    fn read(&mut self, buffer: &mut [u8; 256]) -> Result<usize, DeviceFault> {
+        let count = self.input.len().min(256);
+        let bytes = &self.input[..count];
+        buffer[..count].copy_from_slice(bytes);
+        let action = ActionBytes::copy(self.alloc, bytes).map(Action::Read);
+        self.input.drain(..count);
+        self.note(action);
+        Ok(count)
+    }
+
+    fn append(&mut self, bytes: &[u8]) {
+        let action = ActionBytes::copy(self.alloc, bytes).map(Action::Append);
+        self.note(action);
+    }
+
+    fn write(&mut self, bytes: &[u8]) -> Result<(), WriteFault> {
+        let action = ActionBytes::copy(self.alloc, bytes).map(Action::Write);
+        self.note(action);
+        Ok(())
+    }
+
+    fn flush(&mut self) -> Result<(), DeviceFault> {
+        self.note(Ok(Action::Flush));
+        Ok(())
+    }
+}

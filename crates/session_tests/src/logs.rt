@@ -1,0 +1,51 @@
+//! The log of a run over a device in memory.
+
+use bx_session::{Action, MemoryDevice, Session, run_device};
+use bx_store::MemoryStore;
+use bx_terms::Base;
+use bx_ucd::sample_tables;
+use std::alloc::{AllocError, Global};
+use std::fmt::Write;
+use std::test::Fail;
+
+/// A letter for each action, with the number of its bytes.
+fn write_actions(actions: &[Action], text: &mut String) {
+    for action in actions {
+        let _ = match action {
+            Action::Read(bytes) => write!(text, "r{} ", bytes.as_slice().len()),
+            Action::Append(bytes) => write!(text, "a{} ", bytes.as_slice().len()),
+            Action::Write(bytes) => write!(text, "w{} ", bytes.as_slice().len()),
+            Action::Flush => write!(text, "f "),
+            Action::ReadFailed | Action::WriteFailed(_) | Action::FlushFailed => {
+                write!(text, "! ")
+            }
+        };
+    }
+}
+
+/// The actions of a run over this input, in words.
+fn actions_of(alloc: Global, input: &[u8]) -> Result<String, AllocError> {
+    let mut text = String::new(alloc);
+    let bytes = Vec::from_slice(alloc, b"ab")?;
+    let Ok(tables) = sample_tables(alloc) else {
+        return Ok(text);
+    };
+    let Ok(mut session) = Session::open(bytes, tables, 1, 5, Base::Auto) else {
+        return Ok(text);
+    };
+    let mut store = MemoryStore::new(alloc, None);
+    let mut device = MemoryDevice::new(alloc, Vec::from_slice(alloc, input)?);
+    let _ = run_device(10, &mut device, &mut store, &mut session);
+    if let Some(actions) = device.log() {
+        write_actions(actions, &mut text);
+    }
+    Ok(text)
+}
+
+/// Painting `ab` whole in a row of five columns takes 22 bytes, and an `x` before it 15 more.
+#[test]
+fn a_read_is_appended_before_its_output_is_written(rt: HostRuntime) -> Result<(), Fail> {
+    let text = actions_of(rt.alloc(), b"x")?;
+    assert_eq!(rt; text.as_str(), "w22 f r1 a1 w15 f r0 a0 ");
+    Ok(())
+}
