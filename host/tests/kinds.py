@@ -86,7 +86,7 @@ def in_tmux(tree):
     settings[1] &= ~termios.OPOST
     termios.tcsetattr(slave, termios.TCSANOW, settings)
     os.makedirs(tree.file('bin'), exist_ok=True)
-    tmux = {'TERM': 'tmux-256color', 'TMUX': '/tmp/none,1,0', 'PATH': f"{tree.file('bin')}:{os.environ['PATH']}"}
+    tmux = {'TERM': 'tmux-256color', 'TMUX': '/no/such/socket,1,0', 'PATH': f"{tree.file('bin')}:{os.environ['PATH']}"}
 
     def outside(answer, **variables):
         write(f"{tree.file('bin')}/tmux", f'#!/bin/sh\n{answer}\n')
