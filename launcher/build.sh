@@ -1,17 +1,31 @@
-# shellcheck shell=sh
-# shellcheck disable=SC2154 # variables that other parts set
-# Proves and builds missing programs.
+#!/bin/sh
+# build.sh TOP PROGRAM..: builds the host of the checkout TOP if it is missing, and proves and builds these programs. Exit status
+# 1: something could not be built, as standard error tells; 128 and the signal's number where a signal stopped it.
+set -u
 
-# Runs proving/prove.sh, which reports progress and stops the toolchain on a signal.
-build() { # PROGRAM.., else those that edit
-    [ $# -gt 0 ] || set -- bidi_edit bidi_input
-    [ -d "$top/crates/$1" ] || fail "the program $1 is not there"
-    # the toolchain uses the same folder for temporary files
-    make_folder
-    rm -rf -- "$folder"
-    folder=''
-    # Ctrl-C reaches both scripts; prove.sh cleans up and reports before this one ends
-    trap : INT QUIT
-    sh "$parts/proving/prove.sh" "$top" "$@" || exit
-    trap - INT QUIT
+top=$1
+shift
+# shellcheck source=launcher/names.sh
+. "$top/launcher/names.sh"
+
+# Has the toolchain make its temporary files in /tmp where TMPDIR takes none.
+settle_folder() {
+    [ -n "${TMPDIR:-}" ] || return 0
+    if folder=$(mktemp -d 2>/dev/null); then
+        rmdir -- "$folder"
+        return
+    fi
+    printf 'bidi-edit: TMPDIR names %s, where nothing can be made: /tmp is taken\n' "$(shown "$TMPDIR")" >&2
+    export TMPDIR=/tmp
 }
+
+settle_folder
+# first, since it takes a second, and tells what is to be installed
+[ -x "$top/host/out/bidi-edit" ] || sh "$top/host/build.sh" || exit
+[ $# != 0 ] || exit 0
+# Ctrl-C reaches both scripts; prove.sh cleans up and reports before this one ends
+trap : INT QUIT
+sh "$top/launcher/proving/prove.sh" "$top" "$@" || exit
+# for --version
+kit=$top/crates/bidi_edit/out/kit
+[ ! -d "${kit%/*}" ] || { rt version >"$kit.new" && mv "$kit.new" "$kit"; } 2>/dev/null || :

@@ -64,12 +64,3 @@ shown() { # NAME
             exit
         }' "$1"
 }
-
-# Prints the program's lines with their names escaped. Of lines about the journal only the last is printed, and only if it is a
-# fault.
-shown_lines() {
-    LC_ALL=C awk "$telling"'
-        !/^bidi_edit: the journal (could not be written|is kept again$)/ { print told($0, ""); next }
-        { last = $0 }
-        END { if (last ~ /could not be written/) print last }'
-}

@@ -46,6 +46,7 @@ make_rt() {
     mkdir -p "$folder/bin"
     cat >"$folder/bin/rt" <<'END'
 #!/bin/sh
+if [ "$1" = version ]; then echo a toolchain && exit; fi
 name=$(basename "$PWD")
 mkdir -p out/incremental
 had=$(ls out/incremental | wc -l)
@@ -218,43 +219,106 @@ check_killed() {
     nothing_left killed
 }
 
-# Runs the launcher, with a program that ends at once.
-check_launcher() {
+# ---- the script of a checkout
+
+# Makes a checkout with programs that end at once, whose host is built by a script in place of host/build.sh. The host prints its
+# words.
+make_checkout() {
     make_tree
     cp -R "$top/bidi-edit" "$top/launcher" "$top/data" "$folder/tree/"
-    for name in bidi_edit bidi_input; do
+    mkdir -p "$folder/tree/host"
+    cat >"$folder/tree/host/build.sh" <<'END'
+here=$(dirname "$0")
+mkdir -p "$here/out"
+printf '#!/bin/sh\nprintf "%%s|" host "$@"\necho\n' >"$here/out/bidi-edit"
+chmod +x "$here/out/bidi-edit"
+END
+    for name in bidi_edit bidi_input bidi_keep bidi_print; do
         mkdir -p "$folder/tree/crates/$name/src"
         echo '// a line' >"$folder/tree/crates/$name/src/main.rt"
     done
-    printf 'bidi_edit: c b\nbidi_input: b\n' >>"$folder/tree/crates.txt"
+    printf 'bidi_edit: c b\nbidi_input: b\nbidi_keep: b\nbidi_print: b\n' >>"$folder/tree/crates.txt"
+}
+
+check_script() {
+    make_checkout
     : >"$folder/told/slow"
-    start_launcher
+    start_script "$folder/note"
     wait_for 150 has_line '[1-9] of 10 functions proved'
     tmux -L "$socket" send-keys -t person C-c
     wait_for 50 is_over
-    same 'launcher, Ctrl-C' "$(cat "$folder/status" 2>/dev/null)" 130
-    like 'launcher, Ctrl-C: the words' "$(screen | tail -n 1)" 'bidi-edit: stopped: .*'
+    same 'script, Ctrl-C' "$(cat "$folder/status" 2>/dev/null)" 130
+    like 'script, Ctrl-C: the words' "$(screen | tail -n 1)" 'bidi-edit: stopped: .*'
     tmux -L "$socket" kill-session -t person
     rm -f "$folder/told/slow"
-    start_launcher
+    start_script "$folder/note"
     wait_for 300 is_over
-    same 'launcher, built and started' "$(cat "$folder/status" 2>/dev/null)" 0
-    same 'launcher, what was built' "$(screen | grep -c 'bidi-edit: built, after')" 1
+    same 'script, built and started' "$(cat "$folder/status" 2>/dev/null)" 0
+    same 'script, what was built' "$(screen | grep -c 'bidi-edit: built, after')" 1
+    same 'script, not the printing program' "$(grep -c 'begin bidi_print' "$folder/told/log")" 0
+    same 'script, the toolchain is noted' "$(cat "$folder/tree/crates/bidi_edit/out/kit")" 'a toolchain'
+    same 'script, the host has the words' "$(screen | grep -c -x -F -e "host|$folder/note|")" 1
     tmux -L "$socket" kill-session -t person
     rm "$folder/tree/crates/bidi_edit/out/bidi_edit"
     printf '#!/bin/sh\nexit 1\n' >"$folder/bin/rt"
-    start_launcher
+    start_script "$folder/note"
     wait_for 100 is_over
-    same 'launcher, not built' "$(cat "$folder/status" 2>/dev/null)" 1
+    same 'script, not built' "$(cat "$folder/status" 2>/dev/null)" 1
     tmux -L "$socket" kill-session -t person
     make_rt
 }
 
-start_launcher() {
+# Runs the script of the checkout without a terminal, with standard output and errors in `said`.
+run_script() { # WORD..
+    PATH=$folder/bin:$PATH TOLD=$folder/told "$shell" "$folder/tree/bidi-edit" "$@" >"$folder/said" 2>&1 </dev/null
+    status=$?
+}
+
+# Checks what is told before the first build, and that nothing is built for it.
+check_early() {
+    make_checkout
+    run_script
+    same 'early, no FILE' "$status $(head -n 1 "$folder/said")" '2 bidi-edit: one FILE is wanted'
+    run_script one two
+    same 'early, two files' "$status $(head -n 1 "$folder/said")" '2 bidi-edit: one FILE is wanted'
+    run_script --line
+    same 'early, no value' "$status $(head -n 1 "$folder/said")" '2 bidi-edit: --line wants a value'
+    run_script ''
+    same 'early, no name' "$status $(head -n 1 "$folder/said")" '2 bidi-edit: FILE has no name'
+    run_script +7 --line 4 -- "$folder"
+    same 'early, a folder' "$status $(cat "$folder/said")" "1 bidi-edit: $folder is a folder: name a file in it"
+    run_script --help
+    same 'early, help' "$status $(tail -n 1 "$folder/said")" "0 man -l $folder/tree/docs/bidi_edit.1 has all"
+    same 'early, help: the usage' "$(head -c 6 "$folder/said")" 'usage:'
+    same 'early, nothing is built' "$(cat "$folder/told/log" 2>/dev/null)" ''
+}
+
+# Checks that printing builds what it needs and no more, and that a link to the script and a host that is missing are no fault.
+check_needed() {
+    make_checkout
+    run_script --print note
+    same 'needed, printing' "$status $(tail -n 1 "$folder/said")" '0 host|--print|note|'
+    same 'needed, what is told' "$(grep -c 'proving and building the printing program, this once' "$folder/said")" 1
+    same 'needed, what is built' "$(sed -n 's/^begin \(bidi_[a-z]*\) .*/\1/p' "$folder/told/log" | sort | paste -s -d ' ')" 'bidi_keep bidi_print'
+    run_script note
+    same 'needed, the others' "$(sed -n 's/^begin \(bidi_[a-z]*\) .*/\1/p' "$folder/told/log" | sort | paste -s -d ' ')" \
+        'bidi_edit bidi_input bidi_keep bidi_print'
+    rm "$folder/tree/host/out/bidi-edit"
+    ln -s tree/bidi-edit "$folder/linked"
+    "$shell" "$folder/linked" "it's" >"$folder/said" 2>&1 </dev/null
+    same 'needed, by a link, without a host' "$? $(cat "$folder/said")" "0 host|it's|"
+    rm "$folder/linked"
+    printf 'echo "bidi-edit: there is no C compiler cc" >&2\nexit 1\n' >"$folder/tree/host/build.sh"
+    rm "$folder/tree/host/out/bidi-edit"
+    run_script note
+    same 'needed, no host to be had' "$status $(cat "$folder/said")" '1 bidi-edit: there is no C compiler cc'
+}
+
+start_script() { # WORD
     rm -f "$folder/status"
     cat >"$folder/run" <<END
 trap : INT
-PATH='$folder/bin':\$PATH TOLD='$folder/told' XDG_STATE_HOME='$folder/state' $shell '$folder/tree/bidi-edit' '$folder/note'
+PATH='$folder/bin':\$PATH TOLD='$folder/told' XDG_STATE_HOME='$folder/state' $shell '$folder/tree/bidi-edit' '$1'
 echo \$? >'$folder/status'
 exec sleep 600
 END
@@ -327,7 +391,9 @@ for shell in dash bash; do
         check_terminal
         check_failure
         check_killed
-        check_launcher
+        check_script
+        check_early
+        check_needed
     fi
 done
 [ -n "$ran" ] || {

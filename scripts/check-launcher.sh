@@ -1,8 +1,8 @@
 #!/bin/sh
-# Runs the launcher in tmux, under dash and bash: the input of a program that only records it, refusals and messages, ends, the
-# terminal's state afterwards, and then the editor itself, also as an editor that other programs call. It is not part of `rt
-# ci`. It skips (77) if there is no tmux and none can be installed from Debian's packages. Names after it select the checks
-# whose names begin so. The last line has the totals. Exit status 1: a check failed. The checks are in scripts/launcher.
+# Runs the host and the keeper in tmux: the input of a program that only records it, refusals and messages, ends, the terminal's
+# state afterwards, and then the editor itself, also as an editor that other programs call. It is not part of `rt ci`. It skips
+# (77) if there is no tmux and none can be installed from Debian's packages, or if the programs are not built. Names after it
+# select the checks whose names begin so. The last line has the totals. Exit status 1: a check failed. The checks are in scripts/launcher.
 set -u
 
 if ! command -v tmux >/dev/null 2>&1; then
@@ -29,7 +29,7 @@ passed=0 failed=0 skipped=0
 # shellcheck disable=SC2034
 tables='' setup='' cleanup='' redirection='' is_flooded='' lines_told=1
 # shellcheck disable=SC2034
-key_reader='.*\(dd bs=512\|bidi_input\)'
+key_reader='.*bidi_input'
 trap 'tmux -L "$socket" kill-server 2>/dev/null; rm -rf "$folder"' EXIT
 trap 'exit 1' HUP INT TERM
 chmod 755 "$folder"
@@ -38,28 +38,28 @@ cd "$folder/files" || exit 1
 
 # shellcheck source=scripts/report.sh
 . "$top/scripts/report.sh"
+for program in host/out/bidi-edit crates/bidi_keep/out/bidi_keep crates/bidi_input/out/bidi_input; do
+    [ -x "$top/$program" ] || {
+        echo "skipped: ${program##*/} is not built (./bidi-edit FILE builds it)"
+        exit 77
+    }
+done
 for part in person recorder joining refusals printing ends modes editor input keys callers; do
     # shellcheck source=/dev/null
     . "$top/scripts/launcher/$part.sh"
 done
 
 terminal -f /dev/null new-session -d -s keep -x 80 -y 24 'sleep 3600'
-for shell in dash bash; do
-    if ! command -v "$shell" >/dev/null 2>&1; then
-        skip "$shell" 'it is not installed'
-        continue
-    fi
-    check_recorder
-    check_joining
-    check_refusals
-    check_printing
-    check_ends
-    check_terminal_modes
-    check_editor
-    check_input
-    check_keys
-    check_callers
-done
+check_recorder
+check_joining
+check_refusals
+check_printing
+check_ends
+check_terminal_modes
+check_editor
+check_input
+check_keys
+check_callers
 echo "$passed passed, $failed failed, $skipped skipped"
 [ "$failed" = 0 ] || exit 1
 [ "$passed" -gt 0 ] || exit 77

@@ -288,7 +288,7 @@ program_under() { # SHELL
 
 scene_recover_asks() {
     break_off '* 1:2' "$kept" x && say bidi-edit text && expect "$scene" 'an unfinished session of' && expect "$scene" 'keys typed: 1' && say what &&
-        say 'echo status $?' && expect "$scene" 'status 2' && say clear && say bidi-edit text && expect "$scene" 'discard it' && say discard &&
+        say 'echo status $?' && expect "$scene" 'status 2' && say clear && say bidi-edit text && expect "$scene" '[d]elete for good' && say delete &&
         wait_for 150 has_row shell '- 1:1' && end_by_keys C-q && say 'ls state/bidi_edit | wc -l' && expect "$scene" 0
 }
 
@@ -299,12 +299,12 @@ scene_all_is_saved() {
 }
 
 scene_all_was_saved() {
-    break_off '- 1:2 saved' '' x C-s && say bidi-edit text && expect "$scene" 'discard it' && say recover &&
+    break_off '- 1:2 saved' '' x C-s && say bidi-edit text && expect "$scene" '[d]elete for good' && say recover &&
         wait_for 150 has_row shell '- 1:1' && end_by_keys C-q && expect "$scene" 'text holds all that was typed in its last session'
 }
 
 scene_changed_by_another() {
-    break_off '* 1:2' "$kept" x && echo other >"$shell/text" && say bidi-edit text && expect "$scene" 'discard it' && say recover &&
+    break_off '* 1:2' "$kept" x && echo other >"$shell/text" && say bidi-edit text && expect "$scene" '[d]elete for good' && say recover &&
         wait_for 150 has_row shell '* 1:2' && end_by_keys C-s C-q && expect "$scene" 'recovered as text.recovered' &&
         say 'cat text text.recovered' && expect "$scene" xab && expect "$scene" other
 }

@@ -1,7 +1,7 @@
 #!/bin/sh
-# Runs the launcher on a shared system: with other users and their files, with a second start, in a second process namespace, on
-# a small disk, and with simultaneous signals. Each part of scripts/shared_system runs under dash and bash, as root and as a
-# plain user (setpriv), in tmux. As a plain user it checks only what needs no root. Names after it select parts and checks whose
+# Runs the editor on a shared system: with other users and their files, with a second start, in a second process namespace, on
+# a small disk, and with simultaneous signals. Each part of scripts/shared_system runs as root and as a plain user
+# (setpriv), in tmux. As a plain user it checks only what needs no root. Names after it select parts and checks whose
 # names begin so. The last line has the totals. Exit status 1: a check failed; 77: tmux, setpriv or the built programs are
 # missing.
 set -u
@@ -18,7 +18,7 @@ lacks() { # CAUSE
 
 command -v tmux >/dev/null || lacks 'there is no tmux'
 command -v setpriv >/dev/null || lacks 'there is no setpriv'
-for program in bidi_edit bidi_input; do
+for program in bidi_edit bidi_input bidi_keep; do
     [ -x "$top/crates/$program/out/$program" ] || lacks "$program is not built (./bidi-edit FILE builds it)"
 done
 
@@ -41,7 +41,7 @@ trap 'exit 1' HUP INT TERM
 # shellcheck disable=SC2034
 tables='' setup='' cleanup='' redirection='' is_flooded='' lines_told=1
 # shellcheck disable=SC2034
-key_reader='.*\(dd bs=512\|bidi_input\)'
+key_reader='.*bidi_input'
 # shellcheck source=scripts/launcher/person.sh
 . "$top/scripts/launcher/person.sh"
 # shellcheck source=scripts/launcher/recorder.sh
@@ -58,18 +58,12 @@ done
 
 install_copy
 terminal -f /dev/null new-session -d -s keep -x 80 -y 24 'sleep 36000'
-for shell in dash bash; do
-    if ! command -v "$shell" >/dev/null; then
-        skip "$shell" 'it is not installed'
-        continue
-    fi
-    if [ "$(id -u)" = 0 ]; then
-        run_round 0 61001
-        run_round 61001 61002
-    else
-        run_round "$(id -u)" ''
-    fi
-done
+if [ "$(id -u)" = 0 ]; then
+    run_round 0 61001
+    run_round 61001 61002
+else
+    run_round "$(id -u)" ''
+fi
 echo "$passed passed, $failed failed, $skipped skipped"
 [ "$failed" = 0 ] || exit 1
 [ "$passed" -gt 0 ] || exit 77

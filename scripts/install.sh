@@ -1,7 +1,7 @@
 #!/bin/sh
-# install.sh [--uninstall] [PREFIX]: installs the built programs, the launcher, the tables and the manual page under PREFIX, by
-# default $HOME/.local, or removes them. It builds nothing. Exit status 1: the editor or its filter is not built; the printing
-# program is installed if it is built. The installation is independent of this repository.
+# install.sh [--uninstall] [PREFIX]: installs the built host and programs, the tables and the manual page under PREFIX, by default
+# $HOME/.local, or removes them. It builds nothing. Exit status 1: the host, the keeper, the editor or its filter is not built;
+# the printing program is installed if it is built. The installation is independent of this repository.
 #
 # All files are first copied beside their places, so that a failed copy changes nothing; then each is renamed into place. A
 # record, lib/bidi_edit/installed, has the checksum of each file and the folders that were created: only these are removed.
@@ -38,9 +38,11 @@ refuse() { # CAUSE
 
 # ---- the installed files
 
-# Finds the built programs: the editor, and its helpers.
+# Finds the built host and programs.
 find_programs() {
-    programs="bidi_edit bidi_input"
+    host=$top/host/out/bidi-edit
+    [ -x "$host" ] || refuse "$(shown "$host") is not built: host/build.sh builds it"
+    programs="bidi_keep bidi_edit bidi_input"
     # built at the first printing
     [ ! -x "$top/crates/bidi_print/out/bidi_print" ] || programs="$programs bidi_print"
     for program in $programs; do
@@ -58,8 +60,7 @@ take() { # MODE SOURCE PATH
 
 copy_all() {
     for program in $programs; do take 755 "$top/crates/$program/out/$program" "lib/bidi_edit/$program"; done
-    for part in "$top"/launcher/*.sh; do take 644 "$part" "lib/bidi_edit/launcher/${part##*/}"; done
-    take 755 "$top/bidi-edit" bin/bidi-edit
+    take 755 "$host" bin/bidi-edit
     for table in DerivedBidiClass BidiBrackets BidiMirroring ArabicShaping UnicodeData; do take 644 "$top/data/$table.txt" "share/bidi_edit/$table.txt"; done
     take 644 "$top/docs/bidi_edit.1" share/man/man1/bidi_edit.1
     echo '.so man1/bidi_edit.1' >"$beside/tree/share/man/man1/bidi-edit.1"
@@ -135,7 +136,7 @@ clean_up() {
 put_there() {
     find_programs
     is_old='' is_new=''
-    [ -f "$record" ] || [ ! -f "$lib/launcher/words.sh" ] || is_old=1
+    [ -f "$record" ] || [ ! -f "$lib/bidi_edit" ] || is_old=1
     [ -d "$prefix" ] || is_new=1
     mkdir -p -- "$prefix"
     beside=$(mktemp -d "$prefix/bidi-edit.XXXXXX")

@@ -12,7 +12,7 @@ top=$(cd "$(dirname "$0")/.." && pwd)
 . "$top/scripts/report.sh"
 # shellcheck source=scripts/built.sh
 . "$top/scripts/built.sh"
-version=$(sed -n 's/^version=//p' "$top/launcher/words.sh")
+version=$(sed -n 's/^pub const VERSION: &str = "\(.*\)";$/\1/p' "$top/crates/bx_launch/src/help.rt")
 name=bidi-edit_${version}_amd64
 folder=$(mktemp -d)
 socket="bd$$"
@@ -66,7 +66,7 @@ Version: $version
 Architecture: amd64
 Maintainer: $2
 Installed-Size: $(du -s -k "$1/usr" | cut -f 1)
-Depends: libc6 (>= $(libc_version "$1"/usr/lib/bidi_edit/bidi_*))
+Depends: libc6 (>= $(libc_version "$1"/usr/bin/bidi-edit "$1"/usr/lib/bidi_edit/bidi_*))
 Suggests: unicode-data
 Section: editors
 Priority: optional
@@ -83,7 +83,7 @@ make_documents() { # FOLDER MAINTAINER
     documents=$1/usr/share/doc/bidi-edit
     mkdir -p "$documents"
     cat >"$documents/copyright" <<END
-bidi_edit, its launcher and its manual: Copyright $(date +%Y) the maintainers of bidi_edit, $2.
+bidi_edit, its host and its manual: Copyright $(date +%Y) the maintainers of bidi_edit, $2.
 They come from the repository bidi_edit, which states no terms of use.
 
 The five files in /usr/share/bidi_edit are facts of the Unicode Character Database:
@@ -94,11 +94,11 @@ END
         gzip -9n >"$documents/changelog.gz"
 }
 
-# Writes lintian's overrides: the program must stay byte for byte as the toolchain built it.
+# Writes lintian's overrides: the programs must stay byte for byte as the toolchain built them.
 make_overrides() { # FOLDER
     mkdir -p "$1/usr/share/lintian/overrides"
     cat >"$1/usr/share/lintian/overrides/bidi-edit" <<'END'
-# the program is byte for byte the one that was built from proved sources
+# each program is byte for byte the one that was built from proved sources
 bidi-edit: unstripped-binary-or-object
 END
 }

@@ -1,15 +1,15 @@
 # shellcheck shell=sh
 # shellcheck disable=SC2034 # words that the scripts give and take
-# Reports of a check, for scripts that count in `passed` and `failed`, and a wait with a limit. Scripts that run under several
-# shells or as several users name the current ones in `shell` and `who`.
+# Reports of a check, for scripts that count in `passed` and `failed`, and a wait with a limit. Scripts that run as several
+# users name the current one in `who`.
 
 report() { # NAME STATUS DETAIL
     if [ "$2" = 0 ]; then
         passed=$((passed + 1))
-        echo "ok ${shell:+$shell }${who:+$who }$1"
+        echo "ok ${who:+$who }$1"
     else
         failed=$((failed + 1))
-        printf '%s\n' "FAILS ${shell:+$shell }${who:+$who }$1: $3"
+        printf '%s\n' "FAILS ${who:+$who }$1: $3"
     fi
 }
 

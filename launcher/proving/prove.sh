@@ -135,9 +135,9 @@ make_plan() {
 
 # Lets one start at a time build here. Child processes do not inherit the lock, so it ends with this script.
 take_lock() {
-    command -v flock >/dev/null || fail 'the editor is not built, and there is no flock to keep other starts away meanwhile: util-linux has it'
+    command -v flock >/dev/null || fail "$thing is not built, and there is no flock to keep other starts away meanwhile: util-linux has it"
     { mkdir -p -- "$top/out" && true >>"$room.lock"; } 2>/dev/null ||
-        fail "the editor is not built, and nothing can be written in $(shown "$top") to build it: build it in a copy of your own"
+        fail "$thing is not built, and nothing can be written in $(shown "$top") to build it: build it in a copy of your own"
     exec 9<>"$room.lock"
     flock -n 9 || fail "process $(cat "$room.lock") is building the editor already: wait for it"
     echo $$ >"$room.lock"
@@ -284,8 +284,9 @@ stop_by() { # SIGNAL NUMBER
 top=$(CDPATH='' cd -- "$1" 2>/dev/null && pwd) || fail "$(shown "$1") is no folder that can be entered"
 shift
 programs=$*
+case " $programs " in *' bidi_print '*) thing='the printing program' ;; *) thing='the editor' ;; esac
 room=$top/out/proving
-command -v rt >/dev/null || fail "the editor is not built, and there is no rt to build it with (an installed package needs none)"
+command -v rt >/dev/null || fail "$thing is not built, and there is no rt to build it with (an installed package needs none)"
 is_terminal=''
 [ ! -t 2 ] || is_terminal=1
 take_lock
@@ -298,7 +299,7 @@ begun=$(date +%s) whole='' number=0
 find_lanes
 make_plan
 whole=$(progress asks=whole)
-say "proving and building the editor, this once: $(awk 'END { print NR }' "$room/plan") crates, up to $lanes at a time"
+say "proving and building $thing, this once: $(awk 'END { print NR }' "$room/plan") crates, up to $lanes at a time"
 say 'Ctrl-C stops it; what is proved is kept'
 while :; do
     start_ready

@@ -4,17 +4,14 @@
 
 # Makes a name for the editor without blanks, since some callers take no others.
 make_wrapper() {
-    printf '#!/bin/sh\nexec %s "%s/bidi-edit" "$@"\n' "$shell" "$top" >"$folder/edit"
+    printf '#!/bin/sh\nexec "%s/bidi-edit" "$@"\n' "$top" >"$folder/edit"
     chmod +x "$folder/edit"
     setup="export EDITOR='$folder/edit' VISUAL='$folder/edit' GIT_EDITOR='$folder/edit' HOME='$folder/home'"
 }
 
 # Runs a caller instead of the launcher.
 start_caller() { # COMMAND
-    caller_shell=$shell
-    shell='sh'
-    start 12 70 -c "$1"
-    shell=$caller_shell
+    start 12 70 sh -c "$1"
 }
 
 has_caller() { # NAME

@@ -120,7 +120,7 @@ check_editor_end() {
         start 8 60 "$top/bidi-edit" note
         type_keys x
         wait_for 30 shows 'xשלום'
-        send_signal "$signal" "$shell .*/bidi-edit note"
+        send_signal "$signal" ".*bidi-edit note"
         finish "end, the launcher by $signal" "$((128 + $(signal_number "$signal")))" 50
         has "end, the launcher by $signal: what is told" "$(cat "$folder/errors")" 'bidi_edit: input ended before saving'
         has "end, the launcher by $signal: what is kept" "$(cat "$folder/errors")" 'bidi-edit --recover note gets it back'
@@ -154,6 +154,7 @@ check_line() {
 # A stopped and continued job is repainted, and works on.
 check_editor_stop() {
     make_note
+    job_shell=sh
     start_shell 8 50 "$top/bidi-edit" note
     type_keys -l new
     wait_for 30 shows 'new'

@@ -9,7 +9,7 @@ check_input_end() {
         wait_for 50 test -e "$folder/record"
         type_keys -l typed
         wait_for 50 has_recorded typed
-        send_signal "$signal" "$shell .*bin/bidi-edit"
+        send_signal "$signal" ".*bin/bidi-edit"
         finish "kill, the launcher by $signal" "$((128 + $(signal_number "$signal")))" 50
         same "kill, the launcher by $signal: the program's input" "$(cat "$folder/record")" 'typed end'
     done
@@ -28,7 +28,7 @@ check_input_end() {
 check_hard_ends() {
     for signal in TERM HUP; do
         start 24 80 "$recorder" still
-        send_signal "$signal" "$shell .*bin/bidi-edit"
+        send_signal "$signal" ".*bin/bidi-edit"
         finish "kill, the launcher of a program that hangs by $signal" "$((128 + $(signal_number "$signal")))" 60
     done
     start 24 80 "$recorder" still
@@ -44,7 +44,7 @@ check_hard_ends() {
     terminal paste-buffer -r -b text -t person
     resize 20 70
     sleep 0.3
-    send_signal TERM "$shell .*bin/bidi-edit"
+    send_signal TERM ".*bin/bidi-edit"
     is_flooded=1
     finish 'kill, the launcher while the pipe is full' 143 60
     is_flooded=''
@@ -62,20 +62,20 @@ is_raw() {
     case $(stty -a -F "$tty") in *-icanon*) return 0 ;; *) return 1 ;; esac
 }
 
-# Starts an interactive shell, in which a job can be stopped and continued, and its first line.
+# Starts an interactive shell, `job_shell`, in which a job can be stopped and continued, and its first line.
 start_shell() { # ROWS COLS LAUNCHER WORD..
     for file in ended status before after record words output state; do rm -rf "${folder:?}/$file"; done
     command="env -u BASH_ENV ENV= PS1='ready> ' TMPDIR='$folder/private' BX_RECORD='$folder/record' BX_WORDS='$folder/words'"
-    case $shell in
+    case $job_shell in
     bash) command="$command bash --norc --noprofile -i" ;;
-    *) command="$command $shell -i" ;;
+    *) command="$command $job_shell -i" ;;
     esac
     rows=$1 cols=$2
     open_person "$1" "$2" "cd '$folder/files'; exec $command"
     shift 2
     wait_for 50 shows 'ready>'
     give_line "stty -g >$folder/before"
-    give_line "$shell $* 2>$folder/errors"
+    give_line "$* 2>$folder/errors"
     wait_for 50 is_editing
 }
 
@@ -85,12 +85,17 @@ give_line() { # LINE
     type_keys C-j
 }
 
-check_stop() {
+check_stop() { # SHELL
+    job_shell=$1
+    if ! command -v "$1" >/dev/null 2>&1; then
+        skip "stop, in $1" 'it is not installed'
+        return
+    fi
     start_shell 8 50 "$recorder" f
     wait_for 50 test -e "$folder/record"
-    stop_and_take_up stop
+    stop_and_take_up "stop, in $1"
     wait_for 50 has_told '[8;8;50t'
-    same 'stop, the size is told again' "$(tr -d '\033' <"$folder/record")" '[8;8;50t'
+    same "stop, in $1: the size is told again" "$(tr -d '\033' <"$folder/record")" '[8;8;50t'
     has 'stop, the modes are set again' "$(written)" '^[[?1047h^[[?1l^[(B^O^[[4l^[[?6l^[[r^[[?7h^[[?25h^[[8l^[[1 k'
     wait_for 20 is_raw
     report 'stop, the terminal is raw again' $? "$(stty -a -F "$tty")"
@@ -100,7 +105,7 @@ check_stop() {
 
 # Stops the job as its shell does, gives the shell a line, and continues the job.
 stop_and_take_up() { # NAME
-    launcher=$(process_of "$shell .*bidi-edit")
+    launcher=$(process_of ".*bidi-edit")
     kill -s STOP -- "-$(ps -o pgid= -p "$launcher" | tr -d ' ')"
     wait_for 50 is_stopped "$launcher"
     sleep 0.3
@@ -132,5 +137,8 @@ check_ends() {
         check_input_end
         check_hard_ends
     fi
-    ! asked stop || check_stop
+    if asked stop; then
+        check_stop dash
+        check_stop bash
+    fi
 }

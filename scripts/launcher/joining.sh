@@ -25,7 +25,7 @@ joined_by() { # NAME WANTED WORD..
 printed_by() { # NAME WANTED WORD..
     name=$1 wanted_files=$2
     shift 2
-    BIDI_EDIT_DATA=$tables alone_in_session "$shell" "$recorder" "$@"
+    BIDI_EDIT_DATA=$tables alone_in_session "$recorder" "$@"
     same "$name" "$? $(joining_words "$folder/output")" "0 $wanted_files"
 }
 
@@ -47,7 +47,7 @@ check_missing_joining() {
         cp "$top/data/"*.txt "$folder/fewer/"
         rm "$folder/fewer/$missing.txt"
         joined_by "joining, no $missing.txt" '' f
-        same "joining, no $missing.txt: the words" "$(cat "$folder/errors")" 'bidi_edit: a fault'
+        same "joining, no $missing.txt: the words" "$(cat "$folder/errors")" 'bidi_edit: output failed'
     done
     rm "$folder/fewer/ArabicShaping.txt"
     joined_by 'joining, neither file' '' f

@@ -17,7 +17,7 @@ has() { # NAME TEXT PART
 
 skip() { # NAME WHY
     skipped=$((skipped + 1))
-    echo "skipped ${shell:+$shell }${who:+$who }$1: $2"
+    echo "skipped ${who:+$who }$1: $2"
 }
 
 # Whether the checks with this name are selected.
@@ -69,7 +69,7 @@ has_ended() {
 
 # Starts a session in which a launcher runs with these words, after previous sessions are removed; it records the terminal's
 # settings before and after. `setup` and `cleanup` are shell lines before and after it, `redirection` follows its words, and
-# `as` precedes the shell, to run it as another user.
+# `as` precedes them, to run it as another user.
 start() { # ROWS COLS LAUNCHER WORD..
     rows=$1 cols=$2
     shift 2
@@ -82,8 +82,8 @@ start() { # ROWS COLS LAUNCHER WORD..
         echo "echo as before"
         echo "stty -g >'$folder/before'"
         echo "$setup"
-        printf '%s' "${as:+$as }$shell"
-        for word in "$@"; do printf " '%s'" "$word"; done
+        printf '%s' "${as:-}"
+        for word; do printf " '%s'" "$word"; done
         printf " 2>'%s' %s\n" "$folder/errors" "$redirection"
         echo "echo \$? >'$folder/status'"
         echo "$cleanup"
@@ -117,7 +117,7 @@ resize() { # ROWS COLS
 
 # Prints the processes of the session's terminal except the test's own.
 processes() {
-    ps -t "${tty#/dev/}" -o args= | grep -v -x -e "sh $folder/run" -e 'sleep 600' -e "$shell.* -i" | paste -s -d '|'
+    ps -t "${tty#/dev/}" -o args= | grep -v -x -e "sh $folder/run" -e 'sleep 600' -e '.*sh.* -i' | paste -s -d '|'
 }
 
 # Waits for the end, and checks that all is as before.

@@ -6,7 +6,7 @@
 printed() { # NAME WANTED WORD..
     name=$1 lines=$2
     shift 2
-    "$shell" "$top/bidi-edit" "$@" </dev/null >"$folder/output" 2>&1
+    "$top/bidi-edit" "$@" </dev/null >"$folder/output" 2>&1
     same "$name" "$? $(cat "$folder/output" && echo .)" "0 $lines."
 }
 

@@ -2,26 +2,36 @@
 # shellcheck disable=SC2034,SC2154 # variables shared with other parts
 # The words and the input that the launcher passes to its program, which only records them.
 
-# Installs the recorder where an installed launcher looks for its program.
+# Installs the recorder where an installed host looks for its program.
 make_recorder() {
     recorder=$folder/recorder/bin/bidi-edit
     mkdir -p "$folder/recorder/bin" "$folder/recorder/lib/bidi_edit" "$folder/recorder/share"
-    cp "$top/bidi-edit" "$recorder"
-    cp -R "$top/launcher" "$folder/recorder/lib/bidi_edit/launcher"
+    cp "$top/host/out/bidi-edit" "$recorder"
+    cp "$top/crates/bidi_keep/out/bidi_keep" "$folder/recorder/lib/bidi_edit/bidi_keep"
     cp -r "$top/data" "$folder/recorder/share/bidi_edit"
-    input=$top/crates/bidi_input/out/bidi_input
-    [ ! -x "$input" ] || cp "$input" "$folder/recorder/lib/bidi_edit/bidi_input"
+    cp "$top/crates/bidi_input/out/bidi_input" "$folder/recorder/lib/bidi_edit/bidi_input"
     echo 'a kit' >"$folder/recorder/lib/bidi_edit/kit"
     cat >"$folder/recorder/lib/bidi_edit/bidi_edit" <<'TEXT'
 #!/bin/sh
-# Records its words, and its input until a read ends with a byte 11. With a file `still` no key ends it, and `at-once` needs no
-# key; of `kept` a journal is left, and a replay has its one key. A check accepts each text.
-[ "$1" != --check ] || exit 0
-for file; do :; done
-case " $* " in *' --to '*) echo 'known 1' && exit 0 ;; esac
-printf '%s\n' "$@" >"$BX_WORDS"
+# Shows what it is to show before the first painting, and records its words, each on a line, and its input until a read ends with
+# a byte 11. With a file `still` no key ends it, and `at-once` needs no key; of `kept` a journal is left.
+words=''
+while [ $# -gt 0 ]; do
+    case $1 in
+    --before)
+        printf '%s' "$2"
+        shift
+        ;;
+    *) words="$words$1
+" ;;
+    esac
+    file=$1
+    shift
+done
+printf '%s' "$words" >"$BX_WORDS"
+printf 'o -\000' >&2
 [ "$file" != kept ] || printf x >"$(grep -A 1 -x -e --journal "$BX_WORDS" | tail -n 1)"
-echo 'bidi_edit: a fault' >&2
+printf 'f output\000' >&2
 [ "$file" != still ] || exec sleep 1000
 [ "$file" != at-once ] || exit 0
 : >"$BX_RECORD"
@@ -60,7 +70,7 @@ check_words() {
     same 'words, direction' "$(word_after --direction)" rtl
     same 'words, file' "$(tail -n 1 "$folder/words")" 'a file'
     same 'words, no line where none is asked for' "$(grep -c -x -e --line "$folder/words")" 0
-    same 'words, fault' "$(cat "$folder/errors")" 'bidi_edit: a fault'
+    same 'words, fault' "$(cat "$folder/errors")" 'bidi_edit: output failed'
 }
 
 # Checks the line that the launcher's words before FILE select.
@@ -163,22 +173,20 @@ check_whole_keys() {
         'א[Cא[Cא[Cא[Cא[Cא[Cא[Cא[Cא[Cא[Cא[Cא[Cא[Cא[Cא[C'
 }
 
-# Measures the launcher's own cost: the least of ten runs, since other load only adds time. On a machine with more work than
-# processors each run takes up to twice as long, so the figure is reported there but not judged.
+# Measures the cost of host, keeper and filter: the least of ten runs, since other load only adds time. On a machine with more
+# work than processors each run takes up to twice as long, so the figure is reported there but not judged.
 check_time() {
     printf 'a\nb\n' >at-once
     times_of_ten >"$folder/times"
     least=$(sort -n "$folder/times" | head -n 1)
-    # processes cost bash twice as much as dash, the sh of Debian
-    most=40
-    [ "$shell" != bash ] || most=60
+    most=20
     same 'time, ten runs' "$(wc -l <"$folder/times")" 10
     if is_busy; then
         skip "time, under $most ms" 'the machine is busy'
     else
         same "time, under $most ms of processor time to start and end" "$([ "$least" -gt 0 ] && [ "$least" -lt "$most" ] && echo under || echo "$least")" under
     fi
-    echo "   $shell: $least ms of processor time to start and end, the least of ten; the mean is $(awk '{ n += $1 } END { print int(n / NR) }' "$folder/times")"
+    echo "   $least ms of processor time to start and end, the least of ten; the mean is $(awk '{ n += $1 } END { print int(n / NR) }' "$folder/times")"
     rm -f at-once
 }
 
@@ -190,7 +198,7 @@ is_busy() {
 times_of_ten() {
     {
         echo "export BX_WORDS='$folder/words' TMPDIR='$folder/private'; cd '$folder/files'"
-        for _ in 1 2 3 4 5 6 7 8 9 10; do echo "$shell '$recorder' at-once 2>/dev/null; times >>'$folder/counted'"; done
+        for _ in 1 2 3 4 5 6 7 8 9 10; do echo "'$recorder' at-once 2>/dev/null; times >>'$folder/counted'"; done
         echo "touch '$folder/ended'; exec sleep 600"
     } >"$folder/run"
     rm -f "$folder/counted" "$folder/ended"

@@ -10,7 +10,7 @@ alone_in_session() { # WORD..
 refused() { # NAME WANTED WORD..
     name=$1 refusal=$2
     shift 2
-    alone_in_session "$shell" "$top/bidi-edit" "$@"
+    alone_in_session "$top/bidi-edit" "$@"
     same "$name" "$? $(head -n 1 "$folder/errors")" "$refusal"
     same "$name: nothing else" "$(wc -c <"$folder/output") $(grep -c . "$folder/errors")" "0 $lines_told"
 }
@@ -20,9 +20,9 @@ refused_to_user() { # NAME WANTED WORD..
     name=$1 refusal=$2
     shift 2
     if [ "$(id -u)" = 0 ]; then
-        alone_in_session setpriv --reuid 65534 --regid 65534 --clear-groups "$shell" "$top/bidi-edit" "$@"
+        alone_in_session setpriv --reuid 65534 --regid 65534 --clear-groups "$top/bidi-edit" "$@"
     else
-        alone_in_session "$shell" "$top/bidi-edit" "$@"
+        alone_in_session "$top/bidi-edit" "$@"
     fi
     same "$name" "$? $(head -n 1 "$folder/errors")" "$refusal"
 }
@@ -43,15 +43,20 @@ check_refused_words() {
     TERM=dumb refused 'refused, a dumb terminal' '2 bidi-edit: the terminal is dumb (TERM=dumb) and moves no cursor: start the editor in another, or with TERM=xterm if it is none' f
 }
 
+# The version that the sources name.
+version_of_sources() {
+    grep -rhoE '"[0-9]+\.[0-9]+\.[0-9]+"' "$top/crates/bx_launch/src" | head -n 1 | tr -d '"'
+}
+
 check_told_words() {
-    "$shell" "$top/bidi-edit" --help >"$folder/output" 2>&1
+    "$top/bidi-edit" --help >"$folder/output" 2>&1
     same 'refused, not help' "$? $(head -c 6 "$folder/output")" '0 usage:'
     same 'refused, not help: one screen' "$(awk 'length($0) > 80 || NR > 23 { n++ } END { print n + 0 }' "$folder/output")" 0
-    version=$(sed -n 's/^version=//p' "$top/launcher/words.sh")
-    same 'refused, not the version' "$(BIDI_EDIT_DATA=$top/data "$shell" "$recorder" --version | paste -s -d '|')" "bidi-edit $version|toolchain a kit|Unicode 15.0.0"
+    version=$(version_of_sources)
+    same 'refused, not the version' "$(BIDI_EDIT_DATA=$top/data "$recorder" --version | paste -s -d '|')" "bidi-edit $version|toolchain a kit|Unicode 15.0.0"
     mkdir "$folder/newer"
     for table in DerivedBidiClass BidiBrackets BidiMirroring; do echo "# $table-16.1.0.txt" >"$folder/newer/$table.txt"; done
-    same 'refused, not the version: of the tables' "$(BIDI_EDIT_DATA=$folder/newer "$shell" "$recorder" --version | tail -n 1)" 'Unicode 16.1.0'
+    same 'refused, not the version: of the tables' "$(BIDI_EDIT_DATA=$folder/newer "$recorder" --version | tail -n 1)" 'Unicode 16.1.0'
     rm -r "$folder/newer"
 }
 
@@ -92,46 +97,44 @@ check_refused_names() {
     refused 'checks, a name that is not UTF-8' "1 bidi-edit: \$'f\\377' has a name that is not UTF-8: mv gives it another" "f$(printf '\377')"
 }
 
-check_refused_texts() {
-    printf 'one\ntwo \377\n' >bytes
-    windows="iconv -f CP1255 -t UTF-8 may help if it is in Windows' Hebrew (CP1256: Arabic)"
-    refused 'checks, not UTF-8' "1 bidi-edit: bytes is not UTF-8 in line 2: $windows" bytes
-    printf 'one\ntwo\nthree \327' >bytes
-    refused 'checks, not UTF-8 at the end' "1 bidi-edit: bytes is not UTF-8 in line 3: $windows" bytes
-    printf '\377\376a\000' >bytes
-    refused 'checks, UTF-16' '1 bidi-edit: bytes is UTF-16 and not UTF-8: iconv -f UTF-16 -t UTF-8 may help' bytes
-    head -c 16777216 /dev/zero | tr '\000' a >bytes
-    refused 'checks, the longest' "$no_terminal" bytes
-    echo >>bytes
-    refused 'checks, too long' '1 bidi-edit: bytes has 16777217 bytes, and 16777216 are the most: split -C 16M cuts it at line ends' bytes
-    rm bytes
+# A text that cannot be opened is refused by the program, in a terminal, whose screen stays as it was.
+refused_at_opening() { # NAME WANTED WORD..
+    name=$1 refusal=$2
+    shift 2
+    start 8 50 "$top/bidi-edit" "$@"
+    finish "$name" "${refusal%% *}" 50
+    same "$name: the words" "$(cat "$folder/errors")" "${refusal#* }"
+    case $(written) in
+    *'^[[?1049h'*) report "$name: the screen stays" 1 "$(written)" ;;
+    *) report "$name: the screen stays" 0 '' ;;
+    esac
 }
 
-# FILE is checked by the program, without iconv, and by iconv where the program is not built.
-check_checkers() {
-    printf 'one\ntwo\nthree \340\n' >bytes
-    windows="iconv -f CP1255 -t UTF-8 may help if it is in Windows' Hebrew (CP1256: Arabic)"
-    unbuilt=$folder/unbuilt/bidi-edit
-    mkdir -p "$folder/unbuilt/crates/bidi_edit" "$folder/no-iconv"
-    cp -R "$top/bidi-edit" "$top/launcher" "$top/data" "$folder/unbuilt/"
-    alone_in_session "$shell" "$unbuilt" bytes
-    same 'opening, before the first build' "$? $(cat "$folder/errors")" "1 bidi-edit: bytes is not UTF-8 in line 3: $windows"
-    printf '#!/bin/sh\necho called >>"%s"\n' "$folder/iconv-called" >"$folder/no-iconv/iconv"
-    chmod +x "$folder/no-iconv/iconv"
-    if [ -x "$editor" ]; then
-        PATH=$folder/no-iconv:$PATH refused 'opening, by the program' "1 bidi-edit: bytes is not UTF-8 in line 3: $windows" bytes
-        printf '\377\376a\000' >bytes
-        PATH=$folder/no-iconv:$PATH refused 'opening, UTF-16 by the program' '1 bidi-edit: bytes is UTF-16 and not UTF-8: iconv -f UTF-16 -t UTF-8 may help' bytes
-        # accepted by iconv, but not by Unicode
-        printf 'a\n\364\220\200\200' >bytes
-        PATH=$folder/no-iconv:$PATH refused 'opening, beyond Unicode' "1 bidi-edit: bytes is not UTF-8 in line 2: $windows" bytes
-        awk 'BEGIN { for (n = 0; n < 16000000; n += 17) print "\327\251\327\234\327\225\327\235 \327\234\327\232 ab" }' | head -c 16000000 >bytes
-        PATH=$folder/no-iconv:$PATH refused 'opening, 16 MB of Hebrew' "$no_terminal" bytes
-        same 'opening, without iconv' "$(cat "$folder/iconv-called" 2>/dev/null)" ''
-    else
-        skip 'opening, by the program' 'it is not built (./bidi-edit FILE builds it)'
-    fi
-    rm -rf bytes "$folder/unbuilt" "$folder/no-iconv" "$folder/iconv-called"
+windows="iconv -f CP1255 -t UTF-8 may help if it is in Windows' Hebrew (CP1256: Arabic)"
+
+check_refused_texts() {
+    has_editor || return 0
+    printf 'one\ntwo \377\n' >bytes
+    refused_at_opening 'opening, not UTF-8' "1 bidi-edit: bytes is not UTF-8 in line 2: $windows" bytes
+    printf 'one\ntwo\nthree \327' >bytes
+    refused_at_opening 'opening, not UTF-8 at the end' "1 bidi-edit: bytes is not UTF-8 in line 3: $windows" bytes
+    # beyond Unicode
+    printf 'a\n\364\220\200\200' >bytes
+    refused_at_opening 'opening, beyond Unicode' "1 bidi-edit: bytes is not UTF-8 in line 2: $windows" bytes
+    printf '\377\376a\000' >bytes
+    refused_at_opening 'opening, UTF-16' '1 bidi-edit: bytes is UTF-16 and not UTF-8: iconv -f UTF-16 -t UTF-8 may help' bytes
+    printf '\177ELF\002\001\001\000\000\377\n' >bytes
+    start 8 50 "$top/bidi-edit" bytes
+    finish 'opening, a program' 1 50
+    same 'opening, a program: it is no text in another encoding' "$(grep -c iconv "$folder/errors")" 0
+    awk 'BEGIN { for (n = 0; n < 16777216; n += 17) print "\327\251\327\234\327\225\327\235 \327\234\327\232 ab" }' | head -c 16777211 >bytes
+    start 8 50 "$top/bidi-edit" bytes
+    has 'opening, 16 MB of Hebrew' "$(settled_screen person)" '- 1:1'
+    type_keys C-q
+    finish 'opening, 16 MB of Hebrew' 0 50
+    printf '123456' >>bytes
+    refused_at_opening 'opening, too long' '1 bidi-edit: bytes has 16777217 bytes, and 16777216 are the most: split -C 16M cuts it at line ends' bytes
+    rm bytes
 }
 
 check_refused_access() {
@@ -180,9 +183,8 @@ check_refusals() {
     if asked checks; then
         check_refused_places
         check_refused_names
-        check_refused_texts
     fi
-    ! asked opening || check_checkers
+    ! asked opening || check_refused_texts
     ! asked access || check_refused_access
     ! asked leftovers || check_leftovers
 }

@@ -46,7 +46,7 @@ check_changed_after_answer() {
     leave_session note
     change_behind rm
     open_editor first "PATH='$folder/tools':\$PATH" note
-    wait_for 60 shows_in first 'discard it'
+    wait_for 60 shows_in first '[d]elete for good'
     say_in first recover
     wait_for 60 shows_in first '* 1:2'
     save_twice 'after the answer' xab

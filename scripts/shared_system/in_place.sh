@@ -72,7 +72,7 @@ check_closed_folder() {
 # ---- interrupted saves
 
 program_of_check() {
-    pgrep -f "bidi_edit --rows.*$folder/state/" | head -n 1
+    pgrep -f "bidi_edit/bidi_edit .*$folder/state/" | head -n 1
 }
 
 # Has strace inject WHAT into the program of the editor `first` at its next CALLS on FILE.
@@ -201,10 +201,10 @@ is_empty() { # FILE
 # FILE is torn and the text cannot be put back: the text is kept, and the fault reported.
 check_recover_elsewhere() {
     cut_off_save write,pwrite64,writev
-    as_user "$shell" "$launcher" --recover >"$folder/output" 2>&1 </dev/null
+    as_user "$launcher" --recover >"$folder/output" 2>&1 </dev/null
     has 'in place, --recover alone' "$(cat "$folder/output")" '/note (a save was cut off)'
     chmod 444 note
-    as_user "$shell" "$launcher" --recover --to other note >"$folder/output" 2>&1 </dev/null
+    as_user "$launcher" --recover --to other note >"$folder/output" 2>&1 </dev/null
     same 'in place, --recover --to' "$? $(cat other)" '0 xab'
     [ "$who" = root ] || has 'in place, FILE that cannot be written: it is said' "$(cat "$folder/output")" 'its text cannot be put back: it is '
     [ "$who" = root ] || same 'in place, FILE that cannot be written: its text is kept' "$(cat "$(session_of_check)/mark")" xab

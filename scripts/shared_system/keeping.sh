@@ -4,17 +4,17 @@
 
 check_list() {
     leave_session note
-    as_user "$shell" "$launcher" --recover >"$folder/output" 2>&1 </dev/null
+    as_user "$launcher" --recover >"$folder/output" 2>&1 </dev/null
     same 'keeping, --recover alone: its status' $? 0
     has 'keeping, --recover alone: file and keys' "$(cat "$folder/output")" "keys: 1  KB: "
     has 'keeping, --recover alone: the file' "$(grep -c "$folder/files/note\$" "$folder/output") $(date +%Y)" "1 $(cut -c 1-4 "$folder/output" | head -n 1)"
     open_editor first '' --recover note
     wait_for 60 shows_in first '* 1:2'
-    as_user "$shell" "$launcher" --recover >"$folder/output" 2>&1 </dev/null
+    as_user "$launcher" --recover >"$folder/output" 2>&1 </dev/null
     has 'keeping, --recover alone: one that goes on' "$(grep "$folder/files/note" "$folder/output")" 'note (open now)'
     terminal send-keys -t first C-q C-q
     wait_for 60 shows_in first status
-    as_user "$shell" "$launcher" --recover >"$folder/output" 2>&1 </dev/null
+    as_user "$launcher" --recover >"$folder/output" 2>&1 </dev/null
     has 'keeping, --recover alone: one that was dropped' "$(grep "$folder/files/note" "$folder/output")" 'note (dropped)'
     close_editors first
     rm -rf "$folder/state" note
@@ -51,7 +51,7 @@ check_memory() {
     same 'keeping, of a FILE in memory: nothing in the state folder' "$(ls -A "$folder/state" 2>/dev/null)" ''
     same 'keeping, of a FILE in memory: its session is there' "$(cat "$folder/memory/bidi_edit.$user"/[0-9]*/journal)" x
     kill_editor first
-    as_user "$shell" "$launcher" --recover >"$folder/output" 2>&1 </dev/null
+    as_user "$launcher" --recover >"$folder/output" 2>&1 </dev/null
     has 'keeping, of a FILE in memory: it is listed' "$(cat "$folder/output")" "$folder/memory/note"
     open_editor first '' "$folder/memory/note"
     expect_in first 'keeping, of a FILE in memory: it is found' 'an unfinished session'

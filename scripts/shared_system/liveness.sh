@@ -46,8 +46,8 @@ check_two_answers() { # SECOND ANSWER
     leave_session note
     open_editor first '' note
     open_editor second '' note
-    wait_for 60 shows_in first 'discard it'
-    wait_for 60 shows_in second 'discard it'
+    wait_for 60 shows_in first '[d]elete for good'
+    wait_for 60 shows_in second '[d]elete for good'
     say_in first recover
     expect_in first "liveness, the first of two who ask ($1)" '* 1:2'
     say_in second "$1"
@@ -78,7 +78,7 @@ check_unreaped() {
 check_changed_meanwhile() {
     leave_session note
     open_editor second '' note
-    wait_for 60 shows_in second 'discard it'
+    wait_for 60 shows_in second '[d]elete for good'
     echo other | as_user tee note >/dev/null
     say_in second recover
     wait_for 60 shows_in second '* 1:2'

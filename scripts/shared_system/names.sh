@@ -48,7 +48,7 @@ is_harmless() { # FILE
 tells() { # CHECK TOLD WORD..
     checked=$1 told_as=$2
     shift 2
-    as_user timeout -s KILL 20 setsid -w "$shell" "$launcher" "$@" </dev/null >"$folder/told" 2>&1
+    as_user timeout -s KILL 20 setsid -w "$launcher" "$@" </dev/null >"$folder/told" 2>&1
     is_harmless "$folder/told"
     report "names, $checked: nothing hidden" $? "$(cat -v "$folder/told")"
     has "names, $checked: the name" "$(cat "$folder/told")" "$told_as"
@@ -129,7 +129,7 @@ check_building_names() { # TOLD
         : >"$folder/$name/crates.txt"
         mkdir -p "$folder/$name/crates/x"
         rest=${each#*:}
-        PATH=$folder/bin:$PATH "$shell" "$top/launcher/proving/prove.sh" "${rest#*:}" x >"$folder/told" 2>&1
+        PATH=$folder/bin:$PATH sh "$top/launcher/proving/prove.sh" "${rest#*:}" x >"$folder/told" 2>&1
         is_harmless "$folder/told"
         report "names, building, ${each%%:*}: nothing hidden" $? "$(cat -v "$folder/told")"
         has "names, building, ${each%%:*}: the name" "$(cat "$folder/told")" "${rest%%:*}"

@@ -3,12 +3,15 @@
 # Installation over existing files, under any umask and while others start the editor, and packaging without the tools of its
 # checks.
 
-# Makes a repository of the user's own, with stand-ins for the built programs.
+# Makes a repository of the user's own, with stand-ins for the built host and programs. The host tells a version.
 make_source() {
     source=$folder/source prefix=$folder/prefix
-    mkdir "$source"
+    mkdir -p "$source/host/out" "$source/crates/bx_launch/src"
     cp -R "$top/bidi-edit" "$top/launcher" "$top/data" "$top/scripts" "$top/docs" "$source/"
-    for name in bidi_edit bidi_input bidi_print; do
+    cp "$top/crates/bx_launch/src/help.rt" "$source/crates/bx_launch/src/"
+    printf '#!/bin/sh\n# GLIBC_2.34\necho bidi-edit %s\n' "$version" >"$source/host/out/bidi-edit"
+    chmod 755 "$source/host/out/bidi-edit"
+    for name in bidi_keep bidi_edit bidi_input bidi_print; do
         mkdir -p "$source/crates/$name/src" "$source/crates/$name/out"
         : >"$source/crates/$name/src/main.rt"
         built=$source/crates/$name/out/$name
@@ -21,7 +24,7 @@ make_source() {
 
 # Runs the script. Its messages go to `said`, its status to `status`.
 installs() { # WORD..
-    as_user "$shell" "$source/scripts/install.sh" "$@" >"$folder/said" 2>&1
+    as_user sh "$source/scripts/install.sh" "$@" >"$folder/said" 2>&1
     status=$?
 }
 
@@ -32,14 +35,14 @@ tree_of() { # FOLDER
 
 check_modes_there() {
     as_user chmod 600 "$source/data/BidiBrackets.txt" "$source/docs/bidi_edit.1"
-    as_user chmod 777 "$source/launcher/words.sh"
+    as_user chmod 777 "$source/data/BidiMirroring.txt"
     for mask in 077 000 022; do
         # shellcheck disable=SC2016
-        as_user sh -c 'umask "$1"; exec "$2" "$3" "$4"' sh "$mask" "$shell" "$source/scripts/install.sh" "$prefix" >/dev/null
+        as_user sh -c 'umask "$1"; exec "$2" "$3" "$4"' sh "$mask" sh "$source/scripts/install.sh" "$prefix" >/dev/null
         same "packages, umask $mask: folders" "$(find "$prefix" -type d ! -perm 755)" ''
         same "packages, umask $mask: files" "$(find "$prefix" -type f ! -perm 644 ! -perm 755)" ''
         same "packages, umask $mask: programs" "$(cd "$prefix" && find . -type f -perm 755 | sort | paste -s -d ' ')" \
-            './bin/bidi-edit ./lib/bidi_edit/bidi_edit ./lib/bidi_edit/bidi_input ./lib/bidi_edit/bidi_print'
+            './bin/bidi-edit ./lib/bidi_edit/bidi_edit ./lib/bidi_edit/bidi_input ./lib/bidi_edit/bidi_keep ./lib/bidi_edit/bidi_print'
         rm -rf "$prefix"
     done
 }
@@ -49,23 +52,23 @@ check_failed_copy() {
     installs "$prefix"
     same 'packages, installed' "$status" 0
     before=$(tree_of "$prefix")
-    as_user mkdir "$source/launcher/zz.sh"
-    as_user sh -c 'echo "# newer" >>"$1"' sh "$source/launcher/words.sh"
+    as_user mv "$source/docs/bidi_edit.1" "$source/docs/elsewhere"
+    as_user sh -c 'echo "# newer" >>"$1"' sh "$source/host/out/bidi-edit"
     installs "$prefix"
     same 'packages, a copy that fails: status' "$status" 1
     same 'packages, a copy that fails: what is there' "$(tree_of "$prefix")" "$before"
-    as_user rmdir "$source/launcher/zz.sh"
+    as_user mv "$source/docs/elsewhere" "$source/docs/bidi_edit.1"
     rm -rf "$prefix"
 }
 
 # Starts the editor during installations of the same version.
 check_starts_meanwhile() {
     installs "$prefix"
-    as_user sh -c 'for i in 1 2 3 4 5 6 7 8 9 10 11 12; do "$1" "$2" "$3"; done' sh "$shell" "$source/scripts/install.sh" "$prefix" >/dev/null &
+    as_user sh -c 'for i in 1 2 3 4 5 6 7 8 9 10 11 12; do "$1" "$2" "$3"; done' sh sh "$source/scripts/install.sh" "$prefix" >/dev/null &
     job=$!
     starts=0 refused=0
     while kill -s 0 "$job" 2>/dev/null; do
-        as_user "$shell" "$prefix/bin/bidi-edit" --version >"$folder/said" 2>&1 || refused=$((refused + 1))
+        as_user "$prefix/bin/bidi-edit" --version >"$folder/said" 2>&1 || refused=$((refused + 1))
         starts=$((starts + 1))
     done
     wait "$job"
@@ -102,11 +105,12 @@ check_removal() {
 }
 
 check_newer_version() {
-    as_user sh -c ': >"$1"' sh "$source/launcher/gone.sh"
     installs "$prefix"
-    as_user rm "$source/launcher/gone.sh"
+    same 'packages, the printing program' "$(ls "$prefix/lib/bidi_edit/bidi_print")" "$prefix/lib/bidi_edit/bidi_print"
+    as_user mv "$source/crates/bidi_print/out/bidi_print" "$source/crates/bidi_print/out/elsewhere"
     installs "$prefix"
-    same 'packages, a part that a version no longer has' "$(ls "$prefix/lib/bidi_edit/launcher/gone.sh" 2>/dev/null)" ''
+    as_user mv "$source/crates/bidi_print/out/elsewhere" "$source/crates/bidi_print/out/bidi_print"
+    same 'packages, a part that a version no longer has' "$(ls "$prefix/lib/bidi_edit/bidi_print" 2>/dev/null)" ''
     # as after an installation without a record
     rm -f "$prefix/lib/bidi_edit/installed"
     installs "$prefix"
@@ -130,7 +134,7 @@ check_deb() {
     }
     make_commands
     as_user mkdir "$folder/made" 2>/dev/null
-    as_user env PATH="$folder/commands" TMPDIR="$folder/private" "$shell" "$source/scripts/make-deb.sh" "$folder/made" >"$folder/said" 2>&1
+    as_user env PATH="$folder/commands" TMPDIR="$folder/private" sh "$source/scripts/make-deb.sh" "$folder/made" >"$folder/said" 2>&1
     same 'packages, deb: status' "$?" 0
     has 'packages, deb: its own checks' "$(tail -n 1 "$folder/said")" ' 0 failed, '
     same 'packages, deb: what is made' "$(cd "$folder/made" && echo *)" "bidi-edit_${version}_amd64.deb bidi-edit_${version}_amd64.tar.gz"
@@ -143,7 +147,7 @@ check_deb() {
 
 check_packages() {
     asked packages || return 0
-    version=$(sed -n 's/^version=//p' "$top/launcher/words.sh")
+    version=$(sed -n 's/^pub const VERSION: &str = "\(.*\)";$/\1/p' "$top/crates/bx_launch/src/help.rt")
     make_source
     check_modes_there
     check_failed_copy

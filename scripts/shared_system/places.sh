@@ -11,7 +11,7 @@ own_folders() {
 
 # Finds the private folder of the running launcher from its open pipes.
 private_folder() {
-    for each in /proc/"$(process_of "$shell .*bin/bidi-edit")"/fd/*; do
+    for each in /proc/"$(process_of ".*bin/bidi-edit")"/fd/*; do
         readlink "$each"
     done | sed -n 's|^\(.*/bidi-edit\.[A-Za-z0-9]*\)/.*|\1|p' | head -n 1
 }
@@ -25,7 +25,7 @@ passes_over() { # NAME TMPDIR
     same "places, $1: the folder taken" "${at%/*}" /tmp
     type_keys C-q
     finish "places, $1" 7 50
-    same "places, $1: what is told" "$(paste -s -d '|' "$folder/errors")" "bidi-edit: TMPDIR names $2, where nothing can be made: /tmp is taken|bidi_edit: a fault"
+    same "places, $1: what is told" "$(paste -s -d '|' "$folder/errors")" "bidi-edit: TMPDIR names $2, where nothing can be made: /tmp is taken|bidi_edit: output failed"
     same "places, $1: what stays" "$(ls -d "$at" 2>/dev/null)" ''
     setup=''
 }
@@ -75,7 +75,7 @@ check_state_home() {
     type_keys C-q
     finish 'places, a relative state folder' 7 50
     same 'places, a relative state folder: what is told' "$(paste -s -d '|' "$folder/errors")" \
-        'bidi-edit: XDG_STATE_HOME names relative, which is not absolute: ~/.local/state is taken|bidi_edit: a fault'
+        'bidi-edit: XDG_STATE_HOME names relative, which is not absolute: ~/.local/state is taken|bidi_edit: output failed'
     setup=''
     rm -rf "$folder/home/.local"
 }
@@ -112,7 +112,7 @@ END
 
 # Builds as the first start does. Messages go to `said`, the status to `status`. WORDs are a command to run it under.
 prove() { # WORD..
-    as_user "$@" env PATH="$kit:$PATH" TMPDIR="$folder/private" timeout 60 "$shell" "$clone/launcher/proving/prove.sh" "$clone" bidi_edit \
+    as_user "$@" env PATH="$kit:$PATH" TMPDIR="$folder/private" timeout 60 sh "$clone/launcher/proving/prove.sh" "$clone" bidi_edit \
         >"$folder/said" 2>&1
     status=$?
 }
@@ -147,7 +147,7 @@ has_begun() {
 check_lock() {
     make_clone
     as_user touch "$kit/slow"
-    as_user env PATH="$kit:$PATH" "$shell" "$clone/launcher/proving/prove.sh" "$clone" bidi_edit >"$folder/first" 2>&1 &
+    as_user env PATH="$kit:$PATH" sh "$clone/launcher/proving/prove.sh" "$clone" bidi_edit >"$folder/first" 2>&1 &
     first=$!
     wait_for 50 has_begun
     prove

@@ -8,7 +8,7 @@ spoil_session() {
     session=$(session_of_check)
     printf 'a\377\n' | as_user tee "$session/text" >/dev/null
     open_editor first '' note
-    wait_for 60 shows_in first 'discard it'
+    wait_for 60 shows_in first '[d]elete for good'
     say_in first recover
     expect_in first "recovered, a session that cannot be replayed ($1)" 'could not be replayed'
     expect_in first "recovered, what is offered ($1)" '(open, keep, drop)?'
@@ -80,7 +80,7 @@ check_mode() {
     terminal send-keys -t first x
     wait_for 60 shows_in first '* 1:2'
     kill_editor first
-    as_user "$shell" "$launcher" --recover --to other note >/dev/null
+    as_user "$launcher" --recover --to other note >/dev/null
     same 'recovered, --to: text and permissions' "$(cat other) $(stat -c %a other)" 'xab 600'
     rm -f note
     open_editor first '' --recover note
@@ -91,7 +91,7 @@ check_mode() {
     close_editors first
     rm -f note other
     as_user ln -s nowhere other
-    as_user "$shell" "$launcher" --recover --to other note >"$folder/output" 2>&1
+    as_user "$launcher" --recover --to other note >"$folder/output" 2>&1
     same 'recovered, --to through a link' "$? $(ls)" '1 other'
     rm -f other
 }

@@ -1,9 +1,9 @@
 # shellcheck shell=sh
 # shellcheck disable=SC2034,SC2154 # variables shared with other parts
-# A round is all parts under one shell, as one user. A part is a file of this folder, NAME.sh, with a function check_NAME; a
+# A round is all parts as one user. A part is a file of this folder, NAME.sh, with a function check_NAME; a
 # check in it runs only if `asked NAME` says that it is selected.
 #
-# Variables for parts: `shell`, dash or bash; `who`, root or plain; `user`, the number of the editing user, and `stranger`, the
+# Variables for parts: `who`, root or plain; `user`, the number of the editing user, and `stranger`, the
 # number of another plain user, empty if this script cannot become one; `folder`, new for the round and owned by the user, with
 # `files`, where a session of person.sh runs, and `private`, its TMPDIR; `launcher`, an installed copy that all may read, and
 # `recorder`, one whose program only records its input. `start LAUNCHER WORD..` of person.sh runs as the user. `round` counts
@@ -63,14 +63,14 @@ run_round() { # USER STRANGER
 
 # ---- several editors
 
-# Opens an editor in its own terminal with these words; PREFIX precedes the shell. Its messages stay visible.
+# Opens an editor in its own terminal with these words; PREFIX precedes it. Its messages stay visible.
 open_editor() { # NAME PREFIX WORD..
     name=$1 prefix=$2
     shift 2
     {
         echo "export HOME='$HOME' XDG_STATE_HOME='$XDG_STATE_HOME' TMPDIR='$folder/private'"
         echo "cd '$folder/files'"
-        printf '%s' "${prefix:+$prefix }${as:+$as }$shell '$launcher'"
+        printf '%s' "${prefix:+$prefix }${as:+$as }'$launcher'"
         for word in "$@"; do printf " '%s'" "$word"; done
         printf '\necho "status $?"; exec sleep 600\n'
     } >"$folder/run.$name"
@@ -86,13 +86,13 @@ close_editors() { # NAME..
 }
 
 editors() {
-    pgrep -f "$shell $launcher " | tr '\n' ' '
+    pgrep -f "$launcher " | tr '\n' ' '
 }
 
-# Finds the launcher of an editor, without its subshells.
+# Finds the host of an editor, without its watcher.
 # shellcheck disable=SC2009 # by their parents
 editor_process() {
-    ps -eo pid=,ppid=,args= | grep -F -e "$shell $launcher " | grep -v -e grep -e unshare -e setpriv | first_parent
+    ps -eo pid=,ppid=,args= | grep -F -e "$launcher " | grep -v -e grep -e unshare -e setpriv | first_parent
 }
 
 has_no_editor() {

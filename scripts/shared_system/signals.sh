@@ -3,7 +3,7 @@
 # Simultaneous signals, such as a resize and the end of the terminal, and a blocked terminal.
 
 launcher_of_person() {
-    process_of "$shell .*bin/bidi-edit"
+    process_of ".*bin/bidi-edit"
 }
 
 # Lists all processes of the launcher that a check started, none of which may remain.
@@ -95,7 +95,7 @@ end_young_program() { # RUNS
 }
 
 program_process() {
-    pgrep -f "$folder/recorder/.*bidi_edit --rows" | head -n 1
+    pgrep -f "$folder/recorder/.*/bidi_edit/bidi_edit " | head -n 1
 }
 
 has_program() {

@@ -102,7 +102,7 @@ check_question_first() {
     open_editor first '' note
     expect_in first 'trust, what is asked' 'an unfinished session of'
     same 'trust, nothing is obeyed before the answer' "$(cd "$session" && find . -exec stat -c '%n %Y %s' {} + | sort)" "$before"
-    say_in first leave
+    say_in first later
     wait_for 30 shows_in first '- 1:1'
     close_editors first
 }

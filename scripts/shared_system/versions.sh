@@ -19,7 +19,7 @@ leave_other_version() {
 
 check_snapshot() {
     leave_other_version
-    as_user "$shell" "$launcher" --recover --to other note >/dev/null
+    as_user "$launcher" --recover --to other note >/dev/null
     same 'versions, its text is stored elsewhere' "$(cat other)" xyab
     rm -f other
     open_editor first '' --recover note
@@ -32,7 +32,7 @@ check_snapshot() {
     wait_for 30 shows_in first 'zxyab'
     kill_editor first
     open_editor first '' note
-    wait_for 60 shows_in first 'discard it'
+    wait_for 60 shows_in first '[d]elete for good'
     say_in first recover
     expect_in first 'versions, and goes on after a second end' 'zxyab'
     same 'versions, FILE is as it was' "$(cat note)" ab
@@ -47,7 +47,7 @@ check_snapshot() {
 # A recovered text is kept even if no key is typed.
 check_untouched() {
     as_user truncate -s 0 "$(session_of_check)/journal"
-    as_user "$shell" "$launcher" --recover >"$folder/output" 2>&1 </dev/null
+    as_user "$launcher" --recover >"$folder/output" 2>&1 </dev/null
     has 'versions, without a key: it is listed' "$(cat "$folder/output")" 'keys: 0'
     open_editor first '' note
     expect_in first 'versions, without a key: it is asked about' 'note has an unfinished session'
@@ -63,7 +63,7 @@ check_no_snapshot() {
     leave_other_version
     rm -f "$session/snapshot"
     open_editor first '' note
-    wait_for 60 shows_in first 'discard it'
+    wait_for 60 shows_in first '[d]elete for good'
     say_in first recover
     expect_in first 'versions, nothing is sure' 'the keys may make another one now'
     say_in first yes

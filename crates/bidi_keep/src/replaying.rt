@@ -1,0 +1,147 @@
+//! Replays of a session's keys.
+
+ghost use Rattle.std.specs.Prelude.{◌≡◌, true, IfSome};
+ghost use Rattle.bx_terms.specs.Sizes.{is_side};
+
+use bx_keep::{Around, Held, Replay, ReplayFault, Replayer};
+use bx_launch::Tables;
+use bx_recovery::{Beginning, Held as Found, RecoveryFault, recover};
+use bx_sessions::{Part, Session};
+use bx_store::MemoryStore;
+use bx_terms::is_side;
+use bx_words::{FileFault, UnicodeBytes, UnicodePaths};
+use std::alloc::AllocError;
+use std::fs;
+use std::io::{self, ErrorKind};
+
+/// Why a session cannot be replayed.
+#[derive(Clone, Copy)]
+struct Fault(ReplayFault);
+
+/// A part of a session is missing, or is none of a session.
+const UNREADABLE: Fault = Fault(ReplayFault::Unreadable);
+
+impl From<io::Error> for Fault {
+    fn from(error: io::Error) -> Self {
+        match error.kind() {
+            ErrorKind::OutOfMemory => Fault(ReplayFault::OutOfMemory),
+            _ => Fault(ReplayFault::Unreadable),
+        }
+    }
+}
+
+impl From<AllocError> for Fault {
+    fn from(_error: AllocError) -> Self {
+        Fault(ReplayFault::OutOfMemory)
+    }
+}
+
+impl From<FileFault<'_>> for Fault {
+    fn from(fault: FileFault<'_>) -> Self {
+        match fault {
+            FileFault::OutOfMemory => Fault(ReplayFault::OutOfMemory),
+            FileFault::Unreadable(_) => Fault(ReplayFault::Unreadable),
+        }
+    }
+}
+
+impl From<RecoveryFault> for Fault {
+    fn from(fault: RecoveryFault) -> Self {
+        match fault {
+            RecoveryFault::OutOfMemory | RecoveryFault::Unwritten => Fault(
+                ReplayFault::OutOfMemory,
+            ),
+            RecoveryFault::Tables(_) | RecoveryFault::Open(_) => Fault(ReplayFault::Unreadable),
+        }
+    }
+}
+
+/// Unicode's files, without those of joined letters, which change no text and no place.
+fn unicode_of(rt: &HostRuntime, tables: &Tables) -> Result<UnicodeBytes, Fault> {
+    let paths = UnicodePaths {
+        classes: tables.classes.as_str(),
+        brackets: tables.brackets.as_str(),
+        mirroring: tables.mirroring.as_str(),
+        joining: None,
+    };
+    Ok(UnicodeBytes::read(rt, paths)?)
+}
+
+/// A side of a window, if it is one.
+fn side_of(side: u32) -> Option<u16>
+    ensures { IfSome result (λ n. is_side n ≡ true) }
+{
+    u16::try_from(side).ok().filter(|n| is_side(*n))
+}
+
+/// All bytes of a session's file.
+fn bytes_in(around: Around<'_>, session: &Session, part: Part) -> Result<Vec<u8>, Fault> {
+    session.read(around.rt, part)?.ok_or(UNREADABLE)
+}
+
+/// FILE's bytes; none where it is not there or cannot be read.
+fn bytes_of_file(around: Around<'_>, file: &str) -> Vec<u8> {
+    match fs::read(around.rt, file) {
+        Ok(bytes) => bytes,
+        Err(_) => Vec::new(around.alloc()),
+    }
+}
+
+/// What FILE has, in the keeper's words.
+fn held_of(found: Found) -> Held {
+    match found {
+        Found::Same => Held::Same,
+        Found::Known => Held::Known,
+        Found::Foreign => Held::Foreign,
+    }
+}
+
+/// Replays a session's keys over its text, and compares FILE with the text, with the opened one and with each saved one.
+fn replay_keys(around: Around<'_>, session: &Session, file: &str) -> Result<Replay, Fault> {
+    let begin = session.begin(around.rt)?.ok_or(UNREADABLE)?;
+    let rows = side_of(begin.rows).ok_or(UNREADABLE)?;
+    let cols = side_of(begin.cols).ok_or(UNREADABLE)?;
+    let unicode = unicode_of(around.rt, around.tables)?;
+    let text = bytes_in(around, session, Part::Text)?;
+    let keys = bytes_in(around, session, Part::Journal)?;
+    let beginning = Beginning {
+        alloc: around.alloc(),
+        unicode: unicode.lend(),
+        text: Some(text),
+        rows,
+        cols,
+        direction: begin.direction,
+        line: begin.line.map(u64::from),
+        unsaved: session.has(around.rt, Part::Unsaved),
+        keys: keys.as_slice(),
+    };
+    let mut store = MemoryStore::new(around.alloc(), None);
+    let replayed = recover(
+        &mut store,
+        beginning,
+        bytes_of_file(around, file).as_slice(),
+    )?;
+    Ok(Replay {
+        held: held_of(replayed.held),
+        keys: replayed.keys,
+        text: Vec::from_slice(around.alloc(), store.contents())?,
+    })
+}
+
+/// The editor, which replays keys in this process.
+#[derive(Clone, Copy)]
+pub struct Editor;
+
+impl Replayer for Editor {
+    fn replay(
+        &self,
+        around: Around<'_>,
+        session: &Session,
+        file: &str,
+    ) -> Result<Replay, ReplayFault> {
+        match replay_keys(around, session, file) {
+            Ok(replay) => Ok(replay),
+            Err(Fault(fault)) => Err(fault),
+        }
+    }
+}

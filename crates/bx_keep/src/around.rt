@@ -1,0 +1,54 @@
+//! What all steps of a start know.
+
+use crate::start::Start;
+use bx_launch::Tables;
+use bx_sessions::{Machine, Process, Target, Versions};
+use std::alloc::{AllocError, Global};
+use std::fs;
+use std::process;
+
+/// What all steps of a start know.
+#[derive(Clone, Copy)]
+pub struct Around<'a> {
+    pub rt: &'a HostRuntime,
+    pub start: &'a Start,
+    pub tables: &'a Tables,
+    pub versions: &'a Versions,
+    /// This machine.
+    pub here: &'a Machine,
+}
+
+/// The number of the process that started this one, by the kernel's line: number, name in parentheses, state, parent.
+fn parent_in(line: &str) -> Option<u32> {
+    let (_, behind) = line.rsplit_once(')')?;
+    behind.split_ascii_whitespace().nth(1)?.parse().ok()
+}
+
+/// The number of the host's process, where the kernel tells it; else that of this one.
+fn host_process(rt: &HostRuntime) -> u32 {
+    let parent = match fs::read_to_string(rt, "/proc/self/stat") {
+        Ok(line) => parent_in(line.as_str()),
+        Err(_) => None,
+    };
+    parent.unwrap_or(process::id(rt.process()))
+}
+
+impl<'a> Around<'a> {
+    /// The allocator.
+    pub fn alloc(&self) -> Global {
+        self.rt.alloc()
+    }
+
+    /// The process that a session notes: the host's, on this machine.
+    pub fn process(&self) -> Result<Process, AllocError> {
+        Ok(Process {
+            number: host_process(self.rt),
+            machine: self.here.copied()?,
+        })
+    }
+
+    /// The file that is at a path now, and the path.
+    pub fn target<'p>(&self, path: &'p str) -> Target<'p> {
+        Target::at(self.rt, path)
+    }
+}

@@ -1,0 +1,233 @@
+//! A session that begins or goes on, before the program starts.
+
+use crate::around::Around;
+use crate::checking::Edited;
+use crate::saying::warn;
+use crate::shelf::unwritable;
+use crate::stop::Stop;
+use bx_launch::Options;
+use bx_sessions::{Begin, Kept, Part, Reason, begin, has_room, sweep};
+use bx_wire::Host;
+use bx_words::Shown;
+use std::rt::Files;
+use std::thread;
+use std::time::Duration;
+
+/// The room that a session takes beside its text, in bytes.
+const BESIDE_TEXT: u64 = 65_536;
+
+/// How long a message stays before the screen hides it, in seconds.
+const PAUSE: u64 = 1;
+
+/// What is told where FILE could not be saved.
+const FORCE: &str = "--force opens it all the same";
+
+/// A session, as the program starts.
+#[derive(Drop)]
+pub struct Begun {
+    /// The session; None if none is kept.
+    pub kept: Option<Kept>,
+    /// It goes on with the keys that it has.
+    pub is_resumed: bool,
+    /// Its text waits for room on the disk.
+    pub is_waiting: bool,
+    /// Its first window, direction and line.
+    pub begin: Begin,
+    /// Letters are joined.
+    pub is_joined: bool,
+    /// Saves are written into FILE itself.
+    pub is_in_place: bool,
+    /// The user wants no session.
+    pub is_unwanted: bool,
+    /// Why unsaved text is not kept.
+    pub unkept: Option<String>,
+}
+
+impl Begun {
+    /// The beginning of a session that is not kept yet.
+    fn new(around: Around<'_>, options: &Options) -> Begun {
+        let window = around.start.window;
+        Begun {
+            kept: None,
+            is_resumed: false,
+            is_waiting: false,
+            begin: Begin {
+                rows: window.rows,
+                cols: window.cols,
+                direction: options.direction,
+                line: options.line.and_then(|line| u32::try_from(line).ok()),
+            },
+            is_joined: around.tables.joining.is_some(),
+            is_in_place: false,
+            is_unwanted: options.is_unkept,
+            unkept: None,
+        }
+    }
+
+    /// Makes the session's folder; where that cannot be, `unkept` tells why.
+    fn make<H: Host>(
+        &mut self,
+        around: Around<'_>,
+        host: &mut H,
+        edited: &mut Edited,
+    ) -> Result<(), Stop> {
+        let alloc = around.alloc();
+        edited.shelf.make(around)?;
+        let Some(sessions) = &edited.shelf.sessions else {
+            self.unkept = edited.shelf.unkept.take();
+            return Ok(());
+        };
+        // what cannot be removed stays
+        let _ = sweep(around.rt, sessions);
+        match begin(around.rt, sessions) {
+            Ok(kept) => self.kept = Some(kept),
+            Err(_) => {
+                self.unkept = Some(unwritable(alloc, sessions.path())?);
+                return Ok(());
+            }
+        }
+        let size = around.rt.metadata(edited.place.path.as_str()).map_or(0, |found| found.len());
+        let wanted = size.saturating_add(BESIDE_TEXT);
+        if !has_room(host, sessions.path(), wanted).unwrap_or(true) {
+            let folder = Shown(sessions.path());
+            self.is_waiting = true;
+            self.unkept = Some(format!(in alloc; "{folder} has no room for it")?);
+        }
+        Ok(())
+    }
+
+    /// Gives a session up that waits for room, which a save into FILE itself needs at once.
+    fn give_up(&mut self, around: Around<'_>) {
+        if !self.is_waiting {
+            return;
+        }
+        if let Some(kept) = self.kept.take() {
+            // an empty folder is swept later
+            let _ = kept.session.remove(around.rt);
+        }
+        self.is_waiting = false;
+    }
+
+    /// Notes in the session that its saves are written into FILE itself. Whether that can be.
+    fn note_place(&self, around: Around<'_>, edited: &Edited) -> bool {
+        let path = edited.path().as_bytes();
+        match &self.kept {
+            Some(kept) if !self.is_waiting => {
+                kept.session.put(around.rt, Part::Place, path).is_ok()
+            }
+            _ => false,
+        }
+    }
+
+    /// Settles whether saves are written into FILE itself. They need a session, whose folder holds the whole text meanwhile.
+    ///
+    /// Errors: the refusal of a FILE that needs them and has no session, unless it is forced.
+    fn settle_in_place<H: Host>(
+        &mut self,
+        around: Around<'_>,
+        host: &mut H,
+        edited: &Edited,
+        is_forced: bool,
+    ) -> Result<(), Stop> {
+        let Some(reason) = edited.in_place else {
+            return Ok(());
+        };
+        let alloc = around.alloc();
+        let (file, told) = (Shown(edited.file()), reason.told());
+        if self.note_place(around, edited) {
+            self.is_in_place = true;
+            let line = format!(in alloc; "{file} {told}: saves are written into the file itself")?;
+            return Ok(warn(host, alloc, line.as_str())?);
+        }
+        self.give_up(around);
+        let line = self.unsafe_line(around, edited, reason)?;
+        let line = line.as_str();
+        if is_forced {
+            return Ok(warn(host, alloc, line)?);
+        }
+        let cause = format!(in alloc; "{line}: {FORCE}")?;
+        Err(Stop::fault(alloc, cause.as_str()))
+    }
+
+    /// What is told of a FILE that should be saved in place and cannot be.
+    fn unsafe_line(
+        &self,
+        around: Around<'_>,
+        edited: &Edited,
+        reason: Reason,
+    ) -> Result<String, Stop> {
+        let (file, told, harm) = (Shown(edited.file()), reason.told(), reason.harm());
+        let unkept = match &self.unkept {
+            Some(unkept) => unkept.as_str(),
+            None => "there is no room",
+        };
+        Ok(format!(in around.alloc(); "{file} {told}, and {harm}, since unsaved text is not kept ({unkept})")?)
+    }
+
+    /// Tells that unsaved text is not kept, before the screen changes, and waits a second unless the user asked for that.
+    fn tell_unkept<H: Host>(
+        &self,
+        around: Around<'_>,
+        host: &mut H,
+        is_asked_for: bool,
+    ) -> Result<(), Stop> {
+        let Some(unkept) = &self.unkept else {
+            return Ok(());
+        };
+        let alloc = around.alloc();
+        let unkept = unkept.as_str();
+        let line = format!(in alloc; "unsaved text is not kept, since {unkept}")?;
+        warn(host, alloc, line.as_str())?;
+        if !is_asked_for {
+            host.warn("\u{7}");
+            thread::sleep(around.rt, Duration::from_secs(PAUSE));
+        }
+        Ok(())
+    }
+
+    /// Begins a session of FILE, unless none is wanted or none can be kept.
+    ///
+    /// Errors: the refusal of a FILE that needs a session and has none, unless it is forced; `OutOfMemory`.
+    pub fn fresh<H: Host>(
+        around: Around<'_>,
+        host: &mut H,
+        edited: &mut Edited,
+        options: &Options,
+    ) -> Result<Begun, Stop> {
+        let mut begun = Begun::new(around, options);
+        if options.is_unkept {
+            begun.unkept = Some(String::from_str(around.alloc(), "-n asks for that")?);
+        } else {
+            begun.make(around, host, edited)?;
+        }
+        begun.settle_in_place(around, host, edited, options.is_forced)?;
+        begun.tell_unkept(around, host, options.is_unkept)?;
+        Ok(begun)
+    }
+
+    /// Goes on with a session.
+    ///
+    /// Errors: as `fresh`.
+    pub fn resumed<H: Host>(
+        around: Around<'_>,
+        host: &mut H,
+        edited: &Edited,
+        options: &Options,
+        kept: Kept,
+    ) -> Result<Begun, Stop> {
+        let mut begun = Begun::new(around, options);
+        if let Ok(Some(begin)) = kept.session.begin(around.rt) {
+            begun.begin = begin;
+        }
+        begun.is_resumed = true;
+        begun.is_joined = begun.is_joined && !kept.session.has(around.rt, Part::Unjoined);
+        let window = around.start.window;
+        // without room the host tells the program the window, which journals it like keys
+        let _ = kept.session.resume(around.rt, window.rows, window.cols);
+        // joined letters change no text and no place
+        let _ = kept.session.put_joining(around.rt, begun.is_joined);
+        begun.kept = Some(kept);
+        begun.settle_in_place(around, host, edited, options.is_forced)?;
+        Ok(begun)
+    }
+}

@@ -1,0 +1,175 @@
+//! The checks of FILE before its session.
+
+use crate::around::Around;
+use crate::saying::warn;
+use crate::shelf::Shelf;
+use crate::stop::Stop;
+use bx_launch::{FileFault, Place, check_kind};
+use bx_sessions::{Mended, Reason, find_in_place, mend_all};
+use bx_wire::Host;
+use bx_words::Shown;
+use std::alloc::{AllocError, Global};
+use std::rt::Files;
+
+/// The exit status of a refusal that is told already.
+const REFUSED: u8 = 1;
+
+/// FILE, and where its sessions are.
+#[derive(Drop)]
+pub struct Edited {
+    pub place: Place,
+    pub shelf: Shelf,
+    /// Why saves are written into FILE itself.
+    pub in_place: Option<Reason>,
+}
+
+/// What is told of a save that was cut off; None where there is nothing to tell.
+pub fn mended_line(
+    alloc: Global,
+    file: &str,
+    mended: Mended,
+    mark: &str,
+) -> Result<Option<String>, AllocError> {
+    let (file, mark) = (Shown(file), Shown(mark));
+    match mended {
+        Mended::Whole => Ok(None),
+        Mended::PutBack => {
+            format!(in alloc; "a save of {file} was cut off; its whole text is put back").map(Some)
+        }
+        Mended::StillTorn => format!(in alloc;
+            "a save of {file} was cut off, and its text cannot be put back: it is {mark}"
+        )
+        .map(Some),
+    }
+}
+
+/// The place of a FILE whose folder is gone, as the system resolves its path.
+fn lost_place<H: Host>(around: Around<'_>, host: &mut H, file: &str) -> Result<Place, Stop> {
+    let alloc = around.alloc();
+    let facts = host.facts(file)?;
+    let (folder, name) = match facts.real_path.as_str().rsplit_once('/') {
+        Some((folder, name)) => (folder, name),
+        None => ("", facts.real_path.as_str()),
+    };
+    let folder_facts = host.facts(folder)?;
+    Ok(Place {
+        file: String::from_str(alloc, file)?,
+        target: String::from_str(alloc, facts.real_path.as_str())?,
+        folder: String::from_str(alloc, folder)?,
+        name: String::from_str(alloc, name)?,
+        path: String::from_str(alloc, facts.real_path.as_str())?,
+        facts,
+        folder_facts,
+    })
+}
+
+impl Edited {
+    /// Finds FILE and its sessions.
+    ///
+    /// Errors: the refusal of what is no plain file, or has no place; `Gone`; `OutOfMemory`.
+    pub fn find<H: Host>(around: Around<'_>, host: &mut H, file: &str) -> Result<Edited, Stop> {
+        let alloc = around.alloc();
+        check_kind(around.rt, alloc, file).map_err(|fault| Stop::of_file(alloc, fault))?;
+        let place = Place::find(around.rt, host, alloc, file)
+            .map_err(|fault| Stop::of_file(alloc, fault))?;
+        Edited::at(around, host, place)
+    }
+
+    /// Finds FILE and its sessions, also where FILE's folder is gone.
+    ///
+    /// Errors: as `find`.
+    pub fn find_lost<H: Host>(
+        around: Around<'_>,
+        host: &mut H,
+        file: &str,
+    ) -> Result<Edited, Stop> {
+        let alloc = around.alloc();
+        check_kind(around.rt, alloc, file).map_err(|fault| Stop::of_file(alloc, fault))?;
+        let place = match Place::find(around.rt, host, alloc, file) {
+            Ok(place) => place,
+            Err(FileFault::NoFolder(_)) => lost_place(around, host, file)?,
+            Err(fault) => return Err(Stop::of_file(alloc, fault)),
+        };
+        Edited::at(around, host, place)
+    }
+
+    /// Finds the sessions of FILE at a place.
+    fn at<H: Host>(around: Around<'_>, host: &mut H, place: Place) -> Result<Edited, Stop> {
+        let shelf = Shelf::find(around, host, &place)?;
+        let in_place = match around.rt.metadata(place.path.as_str()) {
+            Ok(found) => find_in_place(&place.facts, &found, &place.folder_facts),
+            Err(_) => None,
+        };
+        Ok(Edited {
+            place,
+            shelf,
+            in_place,
+        })
+    }
+
+    /// FILE as it is named.
+    pub fn file(&self) -> &str {
+        self.place.file.as_str()
+    }
+
+    /// The absolute path, without links, that saves go to.
+    pub fn path(&self) -> &str {
+        self.place.path.as_str()
+    }
+
+    /// Repairs FILE after saves of ended sessions that were cut off. Returns whether FILE is whole.
+    pub fn mend<H: Host>(&self, around: Around<'_>, host: &mut H) -> Result<bool, Stop> {
+        let Some(sessions) = &self.shelf.sessions else {
+            return Ok(true);
+        };
+        let target = around.target(self.path());
+        // a session that cannot be read is told where it is recovered
+        let Ok(outcomes) = mend_all(around.rt, sessions, &target, around.here) else {
+            return Ok(true);
+        };
+        for outcome in outcomes.iter() {
+            let (mended, mark) = (outcome.mended, outcome.mark.as_str());
+            if let Some(line) = mended_line(around.alloc(), self.file(), mended, mark)? {
+                warn(host, around.alloc(), line.as_str())?;
+            }
+            if mended == Mended::StillTorn {
+                return Ok(false);
+            }
+        }
+        Ok(true)
+    }
+
+    /// Refuses a FILE that cannot be read, and one that cannot be saved, unless that is forced.
+    fn check_access(&self, around: Around<'_>, is_forced: bool) -> Result<(), Stop> {
+        let alloc = around.alloc();
+        let readable = self.place.check_readable(around.rt, alloc);
+        readable.map_err(|fault| Stop::of_file(alloc, fault))?;
+        if is_forced {
+            return Ok(());
+        }
+        let is_in_place = self.in_place.is_some();
+        let saving = self.place.check_saving(around.rt, alloc, is_in_place);
+        saving.map_err(|fault| Stop::of_file(alloc, fault))
+    }
+
+    /// Finds FILE, and refuses one that cannot be edited, and, unless that is forced, one that cannot be saved. Repairs it, and
+    /// tells what killed saves left.
+    ///
+    /// Errors: the refusal; `Gone`; `OutOfMemory`.
+    pub fn check<H: Host>(
+        around: Around<'_>,
+        host: &mut H,
+        file: &str,
+        is_forced: bool,
+    ) -> Result<Edited, Stop> {
+        let edited = Edited::find(around, host, file)?;
+        edited.check_access(around, is_forced)?;
+        if !edited.mend(around, host)? && !is_forced {
+            return Err(Stop::Told(REFUSED));
+        }
+        if let Some(line) = edited.place.leftovers(around.rt, around.alloc())? {
+            warn(host, around.alloc(), line.as_str())?;
+        }
+        Ok(edited)
+    }
+}

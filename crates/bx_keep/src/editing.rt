@@ -1,0 +1,118 @@
+//! Editing FILE, from its checks to the end of its session.
+
+use crate::around::Around;
+use crate::beginning::Begun;
+use crate::checking::Edited;
+use crate::meeting::meet;
+use crate::recovering::{recover, recover_elsewhere};
+use crate::replaying::Replayer;
+use crate::running::Running;
+use crate::starting::program_words;
+use crate::stop::Stop;
+use crate::taking::Taken;
+use bx_launch::{EditCall, Options, RecoverCall, TerminalFault};
+use bx_wire::{Said, Wire};
+use std::io::{Read, Write};
+
+/// Refuses to go on without a terminal to edit in.
+fn check_terminal(around: Around<'_>) -> Result<(), Stop> {
+    match TerminalFault::of(around.start.terminal.as_str()) {
+        None => Ok(()),
+        Some(fault) => Err(Stop::of_terminal(around.alloc(), fault)),
+    }
+}
+
+/// Has the host start the program.
+fn start<R: Read + Drop, W: Write + Drop>(
+    wire: &mut Wire<R, W>,
+    running: &Running<'_>,
+) -> Result<(), Stop> {
+    let words = program_words(running.around, running.edited, &running.begun);
+    for word in words.map_err(|_| Stop::OutOfMemory)?.iter() {
+        wire.say(Said::EditWord, word.as_str())?;
+    }
+    wire.say(Said::Title, running.title()?.as_str())?;
+    Ok(wire.say(Said::Go, "")?)
+}
+
+/// Starts the program, minds its session, and ends it. Returns the program's exit status; None if the host is gone.
+fn run<R: Read + Drop, W: Write + Drop, P: Replayer>(
+    around: Around<'_>,
+    wire: &mut Wire<R, W>,
+    edited: &Edited,
+    begun: Begun,
+    replayer: &P,
+) -> Result<Option<u64>, Stop> {
+    let mut running = Running::new(around, edited, begun);
+    start(wire, &running)?;
+    match running.run(wire)? {
+        Some(status) => {
+            running.end(wire, status, replayer)?;
+            Ok(Some(status))
+        }
+        None => {
+            // the session is to be recovered, and needs its text
+            running.fill_at_end();
+            Ok(None)
+        }
+    }
+}
+
+/// Edits FILE with a session that goes on, or a new one.
+fn edit_with<R: Read + Drop, W: Write + Drop, P: Replayer>(
+    around: Around<'_>,
+    wire: &mut Wire<R, W>,
+    mut edited: Edited,
+    options: &Options,
+    taken: Option<Taken>,
+    replayer: &P,
+) -> Result<Option<u64>, Stop> {
+    let begun = match taken {
+        Some(taken) => {
+            let Taken { kept, file } = taken;
+            edited = Edited::check(around, wire, file.as_str(), options.is_forced)?;
+            Begun::resumed(around, wire, &edited, options, kept)?
+        }
+        None => Begun::fresh(around, wire, &mut edited, options)?,
+    };
+    run(around, wire, &edited, begun, replayer)
+}
+
+/// Edits FILE. Returns the program's exit status; None if the host is gone.
+pub fn edit<R: Read + Drop, W: Write + Drop, P: Replayer>(
+    around: Around<'_>,
+    wire: &mut Wire<R, W>,
+    call: &EditCall,
+    replayer: &P,
+) -> Result<Option<u64>, Stop> {
+    let (file, options) = (call.file.as_str(), &call.options);
+    let mut edited = Edited::check(around, wire, file, options.is_forced)?;
+    check_terminal(around)?;
+    let met = meet(around, wire, &edited, replayer)?;
+    // an answer takes time
+    if met.was_asked && met.taken.is_none() {
+        edited = Edited::check(around, wire, file, options.is_forced)?;
+    }
+    edit_with(around, wire, edited, options, met.taken, replayer)
+}
+
+/// Recovers FILE's session. Returns the exit status; None if the host is gone.
+pub fn edit_recovered<R: Read + Drop, W: Write + Drop, P: Replayer>(
+    around: Around<'_>,
+    wire: &mut Wire<R, W>,
+    call: &RecoverCall,
+    replayer: &P,
+) -> Result<Option<u64>, Stop> {
+    let (file, options) = (call.file.as_str(), &call.options);
+    if let Some(other) = &call.to {
+        recover_elsewhere(around, wire, file, other.as_str(), replayer)?;
+        return Ok(Some(0));
+    }
+    check_terminal(around)?;
+    let taken = recover(around, wire, file, replayer)?;
+    let edited = match &taken {
+        Some(taken) => Edited::find(around, wire, taken.file.as_str())?,
+        None => Edited::check(around, wire, file, options.is_forced)?,
+    };
+    edit_with(around, wire, edited, options, taken, replayer)
+}

@@ -1,0 +1,38 @@
+//! The keeper of sessions: it decides about words, text, files and sessions for the host, which has the terminal.
+#![tactic(auto)]
+
+mod around;
+mod asking;
+mod beginning;
+mod checking;
+mod editing;
+mod ending;
+mod fate;
+mod fault;
+mod free_name;
+mod keeping;
+mod listing;
+mod meeting;
+mod parts;
+mod printing;
+mod program_word;
+mod recovering;
+mod replaying;
+mod running;
+mod saying;
+mod serving;
+mod shelf;
+mod start;
+mod starting;
+mod stop;
+mod taking;
+mod telling;
+mod versions;
+
+pub use around::Around;
+pub use replaying::{Held, Replay, ReplayFault, Replayer};
+pub use serving::serve;
+pub use start::Start;
+
+#[cfg(test)]
+mod tests;

@@ -1,0 +1,261 @@
+//! `--recover FILE`.
+
+use crate::around::Around;
+use crate::asking::ask_to_go_on;
+use crate::checking::Edited;
+use crate::free_name::is_free;
+use crate::meeting::{ask_beside_live, tell_missed};
+use crate::parts::write_new_file;
+use crate::replaying::{ReplayFault, Replayer};
+use crate::saying::tell;
+use crate::shelf::unwritable;
+use crate::stop::Stop;
+use crate::taking::{Outcome, Taken, Taking, tell_cut, tell_unsure};
+use crate::telling::{number_of_keys, told_machine, told_process};
+use bx_sessions::{Found, LockFault, Part, Session, Sessions, find};
+use bx_wire::Host;
+use bx_words::Shown;
+use std::fs::Permissions;
+use std::os::unix::fs::PermissionsExt;
+use std::rt::Files;
+
+/// The exit status of a refusal that is told already.
+const REFUSED: u8 = 1;
+
+/// The sessions of FILE, for a recovery.
+fn find_all(around: Around<'_>, sessions: &Sessions, path: &str) -> Result<Found, Stop> {
+    let target = around.target(path);
+    match find(around.rt, sessions, &target, around.here) {
+        Ok(found) => Ok(found),
+        Err(_) => {
+            let path = unwritable(around.alloc(), sessions.path())?;
+            Err(Stop::fault(around.alloc(), path.as_str()))
+        }
+    }
+}
+
+/// The fault of a FILE without a session to recover.
+fn no_session(around: Around<'_>, edited: &Edited, is_live: bool) -> Result<Stop, Stop> {
+    let alloc = around.alloc();
+    let file = Shown(edited.file());
+    let cause = match &edited.shelf.unkept {
+        _ if is_live => format!(in alloc; "the session of {file} goes on")?,
+        None => format!(in alloc; "there is no session of {file} to recover")?,
+        Some(unkept) => {
+            let unkept = unkept.as_str();
+            format!(in alloc; "there is no session of {file} to recover ({unkept})")?
+        }
+    };
+    Ok(Stop::fault(alloc, cause.as_str()))
+}
+
+/// Tells of a session on another machine, and asks whether it has ended.
+fn ask_of_elsewhere<H: Host>(
+    around: Around<'_>,
+    host: &mut H,
+    file: &str,
+    session: &Session,
+) -> Result<(), Stop> {
+    let alloc = around.alloc();
+    let process = session.process(around.rt).unwrap_or(None);
+    let number = told_process(around, process.as_ref())?;
+    let machine = told_machine(around, process.as_ref())?;
+    let machine = machine.as_ref().map_or("this machine", |name| name.as_str());
+    let file = Shown(file);
+    let line = format!(in alloc;
+        "the session of {file} began on {machine}, as process {number}, and cannot be seen from here. It can be recovered where that has ended."
+    )?;
+    tell(host, alloc, line.as_str())?;
+    ask_to_go_on(host, alloc, "Has it ended")
+}
+
+/// Picks the session to recover: an unfinished one, else one whose changes were dropped, else one of another machine that ended.
+fn pick<H: Host>(
+    around: Around<'_>,
+    host: &mut H,
+    edited: &Edited,
+    found: Found,
+) -> Result<Session, Stop> {
+    let is_elsewhere = found.unfinished.is_none() && found.dropped.is_none();
+    if !is_elsewhere {
+        ask_beside_live(around, host, edited.file(), &found)?;
+    }
+    let Found {
+        live,
+        elsewhere,
+        unfinished,
+        dropped,
+    } = found;
+    if let Some(session) = unfinished.or(dropped) {
+        return Ok(session);
+    }
+    match elsewhere {
+        Some(session) => {
+            ask_of_elsewhere(around, host, edited.file(), &session)?;
+            Ok(session)
+        }
+        None => Err(no_session(around, edited, live.is_some())?),
+    }
+}
+
+/// Recovers FILE's session without asking which. None if FILE has all of it, or the session is left.
+///
+/// Errors: what ends the start.
+pub fn recover<H: Host, P: Replayer>(
+    around: Around<'_>,
+    host: &mut H,
+    file: &str,
+    replayer: &P,
+) -> Result<Option<Taken>, Stop> {
+    let edited = Edited::find_lost(around, host, file)?;
+    if !edited.mend(around, host)? {
+        return Err(Stop::Told(REFUSED));
+    }
+    let Some(sessions) = &edited.shelf.sessions else {
+        return Err(no_session(around, &edited, false)?);
+    };
+    let taking = Taking {
+        around,
+        edited: &edited,
+        sessions,
+        replayer,
+    };
+    for _ in 0..u64::MAX {
+        let found = find_all(around, sessions, edited.path())?;
+        let session = pick(around, host, &edited, found)?;
+        match taking.take(host, session)? {
+            Outcome::Taken(taken) => return Ok(Some(taken)),
+            Outcome::Opened => return Ok(None),
+            Outcome::Missed => tell_missed(around, host)?,
+        }
+    }
+    Ok(None)
+}
+
+/// The fault of a text that cannot be stored.
+fn cannot_be_written(around: Around<'_>, path: &str) -> Result<Stop, Stop> {
+    let path = Shown(path);
+    let cause = format!(in around.alloc(); "{path} cannot be written")?;
+    Ok(Stop::fault(around.alloc(), cause.as_str()))
+}
+
+/// Stores a text as a new file with these permissions.
+fn store(around: Around<'_>, path: &str, text: &[u8], mode: u32) -> Result<(), Stop> {
+    let stored = write_new_file(around.rt, path, text).is_ok()
+        && around
+            .rt
+            .set_permissions(path, Permissions::from_mode(mode))
+            .is_ok();
+    if stored {
+        Ok(())
+    } else {
+        Err(cannot_be_written(around, path)?)
+    }
+}
+
+/// The text of a session, and its number of keys: by its keys, or as it was left if another version kept it.
+fn text_of<H: Host, P: Replayer>(
+    around: Around<'_>,
+    host: &mut H,
+    edited: &Edited,
+    session: &Session,
+    replayer: &P,
+) -> Result<(Vec<u8>, u64), Stop> {
+    let is_of_this_version = around.versions.kept(around.rt, session);
+    if !is_of_this_version {
+        if let Ok(Some(text)) = session.read(around.rt, Part::Snapshot) {
+            return Ok((text, number_of_keys(around, session) as u64));
+        }
+        tell_unsure(around, host)?;
+    }
+    match replayer.replay(around, session, edited.path()) {
+        Ok(replayed) => {
+            tell_cut(around, host, session, replayed.keys)?;
+            Ok((replayed.text, replayed.keys))
+        }
+        Err(ReplayFault::OutOfMemory) => Err(Stop::OutOfMemory),
+        Err(ReplayFault::Unreadable) => {
+            let (file, folder) = (Shown(edited.file()), Shown(session.path()));
+            let cause = format!(in around.alloc();
+                "the session of {file} in {folder} could not be replayed, and is left as it is"
+            )?;
+            Err(Stop::fault(around.alloc(), cause.as_str()))
+        }
+    }
+}
+
+/// The session whose text is stored elsewhere, which is locked.
+fn session_to_store(around: Around<'_>, edited: &Edited, found: Found) -> Result<Session, Stop> {
+    let alloc = around.alloc();
+    let file = Shown(edited.file());
+    let Found {
+        live,
+        elsewhere,
+        unfinished,
+        dropped,
+    } = found;
+    if let Some(session) = unfinished.or(dropped) {
+        return Ok(session);
+    }
+    if elsewhere.is_some() {
+        let cause = format!(in alloc;
+            "the session of {file} began on another machine: bidi-edit --recover {file} asks of it"
+        )?;
+        return Err(Stop::fault(alloc, cause.as_str()));
+    }
+    Err(no_session(around, edited, live.is_some())?)
+}
+
+/// Stores the text of FILE's session as a new file. The session stays.
+///
+/// Errors: what cannot be done.
+pub fn recover_elsewhere<H: Host, P: Replayer>(
+    around: Around<'_>,
+    host: &mut H,
+    file: &str,
+    other: &str,
+    replayer: &P,
+) -> Result<(), Stop> {
+    let alloc = around.alloc();
+    let edited = Edited::find_lost(around, host, file)?;
+    // the text can be stored elsewhere even if FILE cannot be repaired
+    edited.mend(around, host)?;
+    let Some(sessions) = &edited.shelf.sessions else {
+        return Err(no_session(around, &edited, false)?);
+    };
+    let found = find_all(around, sessions, edited.path())?;
+    let session = session_to_store(around, &edited, found)?;
+    let shown = Shown(other);
+    if !is_free(around.rt, other) {
+        let cause = format!(in alloc; "{shown} is there already: name a new file")?;
+        return Err(Stop::fault(alloc, cause.as_str()));
+    }
+    store_session(around, host, &edited, &session, other, replayer)
+}
+
+/// Stores the text of a session as a new file.
+fn store_session<H: Host, P: Replayer>(
+    around: Around<'_>,
+    host: &mut H,
+    edited: &Edited,
+    session: &Session,
+    other: &str,
+    replayer: &P,
+) -> Result<(), Stop> {
+    let alloc = around.alloc();
+    let _lock = match session.lock(around.rt, Part::Path) {
+        Ok(lock) => Some(lock),
+        // a lock cannot be taken on a disk that is read-only, where no editor can run either
+        Err(LockFault::Io(_)) => None,
+        Err(LockFault::Held | LockFault::Gone) => {
+            let cause = "another start of the editor has that session by now";
+            return Err(Stop::fault(alloc, cause));
+        }
+    };
+    let (text, keys) = text_of(around, host, edited, session, replayer)?;
+    let mode = session.mode(around.rt).unwrap_or(0o600);
+    store(around, other, text.as_slice(), mode)?;
+    let (file, other) = (Shown(edited.file()), Shown(other));
+    let line = format!(in alloc; "the text of {file} with what was typed (keys: {keys}) is in {other}")?;
+    Ok(tell(host, alloc, line.as_str())?)
+}

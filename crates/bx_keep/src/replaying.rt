@@ -1,0 +1,46 @@
+//! Replays of a session's keys.
+
+use crate::around::Around;
+use bx_sessions::Session;
+
+/// What FILE has, beside a session.
+#[derive(Clone, Copy, PartialEq, Eq, Debug)]
+pub enum Held {
+    /// The session's text.
+    Same,
+    /// The text as it was opened, or one that the session saved.
+    Known,
+    /// Another text.
+    Foreign,
+}
+
+/// A session's text after its keys, and what FILE has beside it.
+#[derive(Drop)]
+pub struct Replay {
+    pub held: Held,
+    /// The number of keys.
+    pub keys: u64,
+    pub text: Vec<u8>,
+}
+
+/// Why a session's keys cannot be replayed.
+#[derive(Clone, Copy, PartialEq, Eq, Debug)]
+pub enum ReplayFault {
+    /// A part of it is missing, or is none of a session.
+    Unreadable,
+    OutOfMemory,
+}
+
+/// The editor, as far as it replays keys.
+pub trait Replayer {
+    /// Replays a session's keys over its text, and compares the file at a path with the text, with the opened one and with each
+    /// saved one.
+    ///
+    /// Errors: `Unreadable`; `OutOfMemory`.
+    fn replay(
+        &self,
+        around: Around<'_>,
+        session: &Session,
+        file: &str,
+    ) -> Result<Replay, ReplayFault>;
+}

@@ -1,0 +1,258 @@
+//! The session while the program runs.
+
+use crate::around::Around;
+use crate::beginning::Begun;
+use crate::checking::Edited;
+use crate::fault::Ended;
+use crate::keeping::{Text, fill, keep_text};
+use crate::program_word::{ProgramWord, read_program_word};
+use crate::starting::{LOST, UNKEPT, title_of};
+use crate::stop::Stop;
+use bx_sessions::{Kept, Look, Part, Source, has_room};
+use bx_wire::{Heard, Message, Said, Wire};
+use std::io::{Read, Write};
+
+/// The room at which the program tries its journal again, in bytes.
+const ROOM_FOR_KEYS: u64 = 8192;
+
+/// A session while the program runs.
+#[derive(Drop)]
+pub struct Running<'a> {
+    pub around: Around<'a>,
+    pub edited: &'a Edited,
+    pub begun: Begun,
+    /// The text as it was opened.
+    pub text: Text,
+    /// FILE as the program read it; None if it was not there.
+    pub look: Option<Look>,
+    /// Why the program ended, as it told.
+    pub ended: Option<Ended>,
+    /// The journal could not be written, and is not whole again.
+    pub is_journal_lost: bool,
+    /// The signal that ended the host.
+    pub signal: Option<u64>,
+    /// The title's note.
+    note: &'static str,
+    /// There was room for keys a second ago.
+    had_room: bool,
+    /// The size of the journal on the disk.
+    synced: u64,
+}
+
+/// The text as it was opened, at first: a session that goes on has it.
+fn first_text(begun: &Begun) -> Text {
+    if begun.is_resumed {
+        Text::Kept
+    } else {
+        Text::Unread
+    }
+}
+
+/// The title's note at first.
+fn first_note(begun: &Begun) -> &'static str {
+    match &begun.unkept {
+        Some(_) => UNKEPT,
+        None => "",
+    }
+}
+
+impl<'a> Running<'a> {
+    /// A session whose program starts.
+    pub fn new(around: Around<'a>, edited: &'a Edited, begun: Begun) -> Self {
+        let note = first_note(&begun);
+        let text = first_text(&begun);
+        Running {
+            around,
+            edited,
+            begun,
+            text,
+            look: None,
+            ended: None,
+            is_journal_lost: false,
+            signal: None,
+            note,
+            had_room: false,
+            synced: 0,
+        }
+    }
+
+    /// The title's text.
+    pub fn title(&self) -> Result<String, Stop> {
+        Ok(title_of(self.around.alloc(), self.edited.file(), self.note)?)
+    }
+
+    /// Keeps the text that the program read, unless the session has its own.
+    fn take_look(&mut self, look: Option<Look>) {
+        self.look = look;
+        if !self.begun.is_resumed {
+            self.text = keep_text(self.around, self.edited, &self.begun, look);
+        }
+    }
+
+    /// Notes that FILE was changed while the program read it, so that it cannot be copied.
+    fn lose_text(&mut self) {
+        if !self.begun.is_resumed {
+            self.text = Text::Lost;
+        }
+    }
+
+    /// Takes a word of the program in. One that is none is passed over.
+    fn take_word(&mut self, word: &[u8]) -> Result<(), Stop> {
+        match read_program_word(word) {
+            Some(ProgramWord::Opened(look)) => self.take_look(look),
+            Some(ProgramWord::Changed) => self.lose_text(),
+            Some(ProgramWord::Fault(fault)) => {
+                self.ended = Some(Ended::of(self.around.alloc(), fault)?);
+            }
+            Some(ProgramWord::JournalLost) => self.is_journal_lost = true,
+            Some(ProgramWord::JournalKept) => self.is_journal_lost = false,
+            None => {}
+        }
+        Ok(())
+    }
+
+    /// Whether the session's folder is there, and is its own.
+    pub fn is_there(&self, kept: &Kept) -> bool {
+        kept.session.is_there(self.around.rt)
+    }
+
+    /// Tries to fill the session whose text waits for room. Returns whether it is filled now.
+    fn fill_waiting(&self, kept: &Kept, bytes: &[u8]) -> bool {
+        fill(self.around, self.edited, &self.begun, kept, Source::Bytes(bytes)).is_ok()
+    }
+
+    /// Tries to fill the session, if its text waits and there is room for it, as far as the host can tell.
+    fn try_to_fill<R: Read + Drop, W: Write + Drop>(&mut self, wire: &mut Wire<R, W>) {
+        let (Text::Waiting(bytes), Some(kept)) = (&self.text, &self.begun.kept) else {
+            return;
+        };
+        let size = bytes.len() as u64;
+        let is_roomy = has_room(wire, kept.session.path(), size.saturating_add(ROOM_FOR_KEYS));
+        if is_roomy.unwrap_or(true) && self.fill_waiting(kept, bytes.as_slice()) {
+            self.text = Text::Kept;
+        }
+    }
+
+    /// Tries to fill the session at the end, if its text waits. Returns whether the session has its text.
+    pub fn fill_at_end(&mut self) -> bool {
+        if let (Text::Waiting(bytes), Some(kept)) = (&self.text, &self.begun.kept) {
+            if self.fill_waiting(kept, bytes.as_slice()) {
+                self.text = Text::Kept;
+            }
+        }
+        matches!(&self.text, Text::Kept)
+    }
+
+    /// Syncs the journal, if it has grown.
+    fn sync(&mut self, kept_size: Option<u64>) {
+        let (Some(size), Some(kept)) = (kept_size, &self.begun.kept) else {
+            return;
+        };
+        if size == self.synced {
+            return;
+        }
+        if self.synced == 0 {
+            // the journal's name is there, even if its folder is not synced
+            let _ = kept.session.sync(self.around.rt);
+        }
+        // what cannot be synced is tried again
+        if kept.session.sync_journal(self.around.rt).is_ok() {
+            self.synced = size;
+        }
+    }
+
+    /// The journal's size; None if there is none.
+    pub fn journal_size(&self) -> Option<u64> {
+        let kept = self.begun.kept.as_ref()?;
+        match kept.session.look(self.around.rt, Part::Journal) {
+            Ok(Some(found)) => Some(found.len()),
+            _ => None,
+        }
+    }
+
+    /// The note that the title should have.
+    fn wanted_note(&self) -> &'static str {
+        let Some(kept) = &self.begun.kept else {
+            return self.note;
+        };
+        match &self.text {
+            Text::Waiting(_) | Text::Lost | Text::Unkept(_) => UNKEPT,
+            Text::Unread | Text::Kept if self.is_journal_lost || !self.is_there(kept) => LOST,
+            Text::Unread | Text::Kept => "",
+        }
+    }
+
+    /// Has the program try its journal again, once there is room for it again.
+    fn ask_again<R: Read + Drop, W: Write + Drop>(&mut self, wire: &mut Wire<R, W>) -> Result<(), Stop> {
+        let Some(kept) = &self.begun.kept else {
+            return Ok(());
+        };
+        if !self.is_journal_lost {
+            self.had_room = false;
+            return Ok(());
+        }
+        let has_room = has_room(wire, kept.session.path(), ROOM_FOR_KEYS).unwrap_or(true);
+        if has_room && !self.had_room {
+            wire.say(Said::Retry, "")?;
+        }
+        self.had_room = has_room;
+        Ok(())
+    }
+
+    /// Shows the note in the title, and rings the bell with a new one.
+    fn show_note<R: Read + Drop, W: Write + Drop>(&mut self, wire: &mut Wire<R, W>) -> Result<(), Stop> {
+        let note = self.wanted_note();
+        if note == self.note {
+            return Ok(());
+        }
+        self.note = note;
+        wire.say(Said::Title, self.title()?.as_str())?;
+        if !note.is_empty() {
+            wire.say(Said::Bell, "")?;
+        }
+        Ok(())
+    }
+
+    /// Does what is done each second.
+    fn tick<R: Read + Drop, W: Write + Drop>(&mut self, wire: &mut Wire<R, W>) -> Result<(), Stop> {
+        self.try_to_fill(wire);
+        self.sync(self.journal_size());
+        self.ask_again(wire)?;
+        self.show_note(wire)?;
+        Ok(wire.say(Said::Done, "")?)
+    }
+
+    /// Takes a message in. Returns the program's exit status, if it has ended.
+    fn take<R: Read + Drop, W: Write + Drop>(
+        &mut self,
+        wire: &mut Wire<R, W>,
+        message: &Message,
+    ) -> Result<Option<u64>, Stop> {
+        match message.heard {
+            Heard::Second => self.tick(wire)?,
+            Heard::ProgramWord => self.take_word(message.text.as_slice())?,
+            Heard::Signal => self.signal = message.number(),
+            Heard::Status => return Ok(Some(message.number().unwrap_or(1))),
+            _ => return Err(Stop::Gone),
+        }
+        Ok(None)
+    }
+
+    /// Minds the session until the program ends. Returns its exit status; None if the host is gone.
+    ///
+    /// Errors: `Gone`; `OutOfMemory`. The session is to be recovered then.
+    pub fn run<R: Read + Drop, W: Write + Drop>(
+        &mut self,
+        wire: &mut Wire<R, W>,
+    ) -> Result<Option<u64>, Stop> {
+        for _ in 0..u64::MAX {
+            let Some(message) = wire.hear()? else {
+                return Ok(None);
+            };
+            if let Some(status) = self.take(wire, &message)? {
+                return Ok(Some(status));
+            }
+        }
+        Ok(None)
+    }
+}

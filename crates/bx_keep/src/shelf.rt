@@ -1,0 +1,108 @@
+//! The folder of sessions for a file.
+
+use crate::around::Around;
+use crate::stop::Stop;
+use bx_launch::Place;
+use bx_sessions::{FolderFault, PlaceFault, Sessions, sessions_folder};
+use bx_wire::Host;
+use bx_words::Shown;
+use std::alloc::{AllocError, Global};
+
+/// The folder of sessions for a file.
+#[derive(Drop)]
+pub struct Shelf {
+    /// Its path; None if there is no place for it.
+    pub path: Option<String>,
+    /// The folder, if it is there and nobody else can change it.
+    pub sessions: Option<Sessions>,
+    /// Why no session can be kept.
+    pub unkept: Option<String>,
+}
+
+/// Why no session can be kept in a folder.
+pub fn unkept_by(alloc: Global, path: &str, fault: &FolderFault) -> Result<String, AllocError> {
+    match fault {
+        FolderFault::Distrusted(folder) => {
+            let folder = Shown(folder.as_str());
+            format!(in alloc; "{folder} belongs to another user, or others may write there")
+        }
+        FolderFault::Gone | FolderFault::Io(_) => unwritable(alloc, path),
+    }
+}
+
+/// Why no session can be kept in a folder in which nothing can be made.
+pub fn unwritable(alloc: Global, path: &str) -> Result<String, AllocError> {
+    let path = Shown(path);
+    format!(in alloc; "nothing can be written in {path}")
+}
+
+impl Shelf {
+    /// Finds and judges the folder of sessions for a file. It is not made.
+    ///
+    /// Errors: `Gone`; `OutOfMemory`.
+    pub fn find<H: Host>(
+        around: Around<'_>,
+        host: &mut H,
+        place: &Place,
+    ) -> Result<Shelf, Stop> {
+        let surroundings = around.start.surroundings();
+        let folder = &place.folder_facts;
+        let path = sessions_folder(
+            around.rt,
+            host,
+            &surroundings,
+            folder.real_path.as_str(),
+            folder.in_memory,
+        );
+        match path {
+            Ok(Some(path)) => Shelf::at(around, path),
+            Ok(None) | Err(PlaceFault::Host(_)) => Ok(Shelf {
+                path: None,
+                sessions: None,
+                unkept: Some(String::from_str(around.alloc(), "there is no folder for it")?),
+            }),
+            Err(PlaceFault::OutOfMemory) => Err(Stop::OutOfMemory),
+        }
+    }
+
+    /// Judges the folder of sessions at a path.
+    fn at(around: Around<'_>, path: String) -> Result<Shelf, Stop> {
+        let user = around.start.surroundings().user;
+        let (sessions, unkept) = match Sessions::open(around.rt, path.as_str(), user) {
+            Ok(sessions) => (sessions, None),
+            Err(fault) => (
+                None,
+                Some(unkept_by(around.alloc(), path.as_str(), &fault)?),
+            ),
+        };
+        Ok(Shelf {
+            path: Some(path),
+            sessions,
+            unkept,
+        })
+    }
+
+    /// Makes the folder, unless it is there. Returns whether sessions can be kept in it; else `unkept` tells why.
+    pub fn make(&mut self, around: Around<'_>) -> Result<bool, Stop> {
+        if self.unkept.is_some() {
+            return Ok(false);
+        }
+        if self.sessions.is_some() {
+            return Ok(true);
+        }
+        let Some(path) = &self.path else {
+            return Ok(false);
+        };
+        let user = around.start.surroundings().user;
+        match Sessions::make(around.rt, path.as_str(), user) {
+            Ok(sessions) => {
+                self.sessions = Some(sessions);
+                Ok(true)
+            }
+            Err(fault) => {
+                self.unkept = Some(unkept_by(around.alloc(), path.as_str(), &fault)?);
+                Ok(false)
+            }
+        }
+    }
+}

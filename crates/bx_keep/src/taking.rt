@@ -1,0 +1,294 @@
+//! A session of FILE that goes on.
+
+use crate::around::Around;
+use crate::asking::{Rest, ask_rest, ask_to_go_on};
+use crate::checking::{Edited, mended_line};
+use crate::free_name::free_name;
+use crate::parts::keep_parts;
+use crate::replaying::{Held, Replay, ReplayFault, Replayer};
+use crate::saying::tell;
+use crate::shelf::unwritable;
+use crate::stop::Stop;
+use bx_sessions::{Kept, LockFault, Mended, Part, Session, Sessions, mend, renew};
+use bx_wire::Host;
+use bx_words::Shown;
+use std::fs;
+use std::io;
+use std::rt::Files;
+
+/// The exit status where a torn FILE stays torn.
+const TORN: u8 = 1;
+
+/// What is told of keys that may be replayed otherwise.
+const UNSURE: &str = "an editor of another version, or with other tables, kept that session, and not its text: the keys may make another one now";
+
+/// A session that goes on, and the file that it saves.
+#[derive(Drop)]
+pub struct Taken {
+    pub kept: Kept,
+    /// FILE, or a new file beside it.
+    pub file: String,
+}
+
+/// What became of a session that should go on.
+#[derive(Drop)]
+pub enum Outcome {
+    /// It goes on.
+    Taken(Taken),
+    /// FILE is opened without it.
+    Opened,
+    /// Another start of the editor has it by now.
+    Missed,
+}
+
+/// FILE, and the folder whose sessions may go on.
+#[derive(Drop)]
+pub struct Taking<'a, P: Replayer> {
+    pub around: Around<'a>,
+    pub edited: &'a Edited,
+    pub sessions: &'a Sessions,
+    pub replayer: &'a P,
+}
+
+impl<P: Replayer> Taking<'_, P> {
+    /// The fault of a folder in which nothing can be written.
+    fn unwritten(&self) -> Result<Stop, Stop> {
+        let path = unwritable(self.around.alloc(), self.sessions.path())?;
+        Ok(Stop::fault(self.around.alloc(), path.as_str()))
+    }
+
+    /// What a fault of a write in the session's folder is told as.
+    fn written(&self, answer: io::Result<()>) -> Result<(), Stop> {
+        match answer {
+            Ok(()) => Ok(()),
+            Err(_) => Err(self.unwritten()?),
+        }
+    }
+
+    /// Repairs FILE after a save of the session that was cut off.
+    fn mend<H: Host>(&self, host: &mut H, session: &Session) -> Result<(), Stop> {
+        let around = self.around;
+        let target = around.target(self.edited.path());
+        let mark = session.path_of(Part::Mark).map_err(|_| Stop::OutOfMemory)?;
+        let Ok(mended) = mend(around.rt, self.sessions, session, &target, around.here) else {
+            return Ok(());
+        };
+        let line = mended_line(around.alloc(), self.edited.file(), mended, mark.as_str())?;
+        if let Some(line) = line {
+            tell(host, around.alloc(), line.as_str())?;
+        }
+        if mended == Mended::StillTorn {
+            return Err(Stop::Told(TORN));
+        }
+        Ok(())
+    }
+
+    /// Takes over a session, unless another start of the editor holds it by now.
+    ///
+    /// Errors: what ends the start; the session stays as it is.
+    pub fn take<H: Host>(&self, host: &mut H, session: Session) -> Result<Outcome, Stop> {
+        let around = self.around;
+        let lock = match session.lock(around.rt, Part::Path) {
+            Ok(lock) => lock,
+            Err(LockFault::Held | LockFault::Gone) => return Ok(Outcome::Missed),
+            Err(LockFault::Io(_)) => return Err(self.unwritten()?),
+        };
+        self.mend(host, &session)?;
+        let kept = Kept { session, lock };
+        if around.versions.kept(around.rt, &kept.session) {
+            self.take_by_keys(host, kept)
+        } else {
+            self.take_from_other_version(host, kept)
+        }
+    }
+
+    /// Goes on with a session by its keys.
+    fn take_by_keys<H: Host>(&self, host: &mut H, kept: Kept) -> Result<Outcome, Stop> {
+        let replayed = self.replayer.replay(self.around, &kept.session, self.edited.path());
+        match replayed {
+            Ok(replayed) => self.go_on_after(host, kept, &replayed),
+            Err(ReplayFault::Unreadable) => self.ask_what_to_keep(host, &kept.session),
+            Err(ReplayFault::OutOfMemory) => Err(Stop::OutOfMemory),
+        }
+    }
+
+    /// Goes on with a session whose keys were replayed.
+    fn go_on_after<H: Host>(
+        &self,
+        host: &mut H,
+        kept: Kept,
+        replayed: &Replay,
+    ) -> Result<Outcome, Stop> {
+        tell_cut(self.around, host, &kept.session, replayed.keys)?;
+        if replayed.held == Held::Same {
+            self.end_where_same(host, &kept.session)
+        } else {
+            self.go_on(host, kept, replayed.held)
+        }
+    }
+
+    /// Ends a session whose text FILE has.
+    fn end_where_same<H: Host>(&self, host: &mut H, session: &Session) -> Result<Outcome, Stop> {
+        let alloc = self.around.alloc();
+        let file = Shown(self.edited.file());
+        let line = format!(in alloc; "{file} holds all that was typed in its last session")?;
+        tell(host, alloc, line.as_str())?;
+        // what stays is removed at another start
+        let _ = session.remove(self.around.rt);
+        Ok(Outcome::Opened)
+    }
+
+    /// The file that a session goes on with: FILE, or a new one beside it, if FILE has a foreign content.
+    fn file_of<H: Host>(&self, host: &mut H, held: Held) -> Result<Option<String>, Stop> {
+        let around = self.around;
+        let (alloc, file) = (around.alloc(), self.edited.file());
+        if held != Held::Foreign || around.rt.metadata(file).is_err() {
+            return Ok(None);
+        }
+        let beside = free_name(around.rt, alloc, file, "recovered")?;
+        let (file, free) = (Shown(file), Shown(beside.as_str()));
+        let line = format!(in alloc; "another program or window has changed {file} since; what was typed is recovered as {free}")?;
+        tell(host, alloc, line.as_str())?;
+        Ok(Some(beside))
+    }
+
+    /// Notes in the session that it goes on, with FILE or with a new file beside it.
+    fn note<H: Host>(
+        &self,
+        host: &mut H,
+        session: &Session,
+        beside: Option<&str>,
+    ) -> Result<(), Stop> {
+        let around = self.around;
+        match beside {
+            Some(file) => {
+                let found = Edited::find(around, host, file)?;
+                let path = found.path().as_bytes();
+                self.written(session.put(around.rt, Part::Beside, path))?;
+            }
+            None if is_of_path(around, session, self.edited.path()) => {
+                self.written(session.erase(around.rt, Part::Beside))?;
+            }
+            None => {}
+        }
+        for part in [Part::Dropped, Part::Snapshot, Part::Cut, Part::Place] {
+            self.written(session.erase(around.rt, part))?;
+        }
+        let process = around.process()?;
+        self.written(session.put_process(around.rt, &process))
+    }
+
+    /// Goes on with a session on FILE, or on a new file beside it.
+    fn go_on<H: Host>(&self, host: &mut H, kept: Kept, held: Held) -> Result<Outcome, Stop> {
+        let beside = self.file_of(host, held)?;
+        self.note(host, &kept.session, beside.as_ref().map(|path| path.as_str()))?;
+        let file = match beside {
+            Some(beside) => beside,
+            None => String::from_str(self.around.alloc(), self.edited.file())?,
+        };
+        Ok(Outcome::Taken(Taken { kept, file }))
+    }
+
+    /// Goes on with a session that another version kept: by its text, or by its keys if the user wants that.
+    fn take_from_other_version<H: Host>(&self, host: &mut H, kept: Kept) -> Result<Outcome, Stop> {
+        let alloc = self.around.alloc();
+        if kept.session.has(self.around.rt, Part::Snapshot) {
+            return self.take_by_text(host, kept);
+        }
+        tell(host, alloc, UNSURE)?;
+        ask_to_go_on(host, alloc, "Recover it all the same")?;
+        self.take_by_keys(host, kept)
+    }
+
+    /// Starts a new session from the text that a session left. All of it counts as unsaved.
+    fn take_by_text<H: Host>(&self, host: &mut H, kept: Kept) -> Result<Outcome, Stop> {
+        let around = self.around;
+        let held = held_beside_text(around, &kept.session, self.edited.path());
+        if held == Held::Same {
+            return self.end_where_same(host, &kept.session);
+        }
+        tell(
+            host,
+            around.alloc(),
+            "an editor of another version, or with other tables, kept that session: its text is had back, and its undo history is not",
+        )?;
+        let process = around.process()?;
+        let renewed = renew(around.rt, self.sessions, &kept.session, &process, around.versions);
+        let Ok(renewed) = renewed else {
+            return Err(self.unwritten()?);
+        };
+        // what stays of the old one is asked about at another start
+        let _ = kept.session.remove(around.rt);
+        self.go_on(host, renewed, held)
+    }
+
+    /// Asks about a session whose keys cannot be replayed. It never keeps FILE from being opened.
+    fn ask_what_to_keep<H: Host>(&self, host: &mut H, session: &Session) -> Result<Outcome, Stop> {
+        let alloc = self.around.alloc();
+        let (file, folder) = (Shown(self.edited.file()), Shown(session.path()));
+        let line = format!(in alloc; "the session of {file} in {folder} could not be replayed")?;
+        tell(host, alloc, line.as_str())?;
+        match ask_rest(host, alloc)? {
+            Rest::Open => {}
+            Rest::Keep => keep_parts(self.around, host, session, self.edited.file())?,
+        }
+        Ok(Outcome::Opened)
+    }
+}
+
+/// Whether a session's path is this one.
+fn is_of_path(around: Around<'_>, session: &Session, path: &str) -> bool {
+    match session.note(around.rt, Part::Path) {
+        Ok(Some(noted)) => noted.as_slice() == path.as_bytes(),
+        _ => false,
+    }
+}
+
+/// Tells of a session whose journal lacks its end.
+pub fn tell_cut<H: Host>(
+    around: Around<'_>,
+    host: &mut H,
+    session: &Session,
+    keys: u64,
+) -> Result<(), Stop> {
+    if !session.has(around.rt, Part::Cut) {
+        return Ok(());
+    }
+    let alloc = around.alloc();
+    let line = format!(in alloc; "the session is cut behind its key {keys}, where its journal could not be written")?;
+    Ok(tell(host, alloc, line.as_str())?)
+}
+
+/// Tells of keys that may be replayed otherwise.
+pub fn tell_unsure<H: Host>(around: Around<'_>, host: &mut H) -> Result<(), Stop> {
+    Ok(tell(host, around.alloc(), UNSURE)?)
+}
+
+/// Whether a session's file has these bytes.
+fn has_bytes(around: Around<'_>, session: &Session, part: Part, bytes: &[u8]) -> bool {
+    match session.read(around.rt, part) {
+        Ok(Some(text)) => text.as_slice() == bytes,
+        _ => false,
+    }
+}
+
+/// What FILE has, beside the text that a session left.
+fn held_beside_text(around: Around<'_>, session: &Session, file: &str) -> Held {
+    let Ok(bytes) = fs::read(around.rt, file) else {
+        return if around.rt.metadata(file).is_err() {
+            Held::Known
+        } else {
+            Held::Foreign
+        };
+    };
+    let bytes = bytes.as_slice();
+    if has_bytes(around, session, Part::Snapshot, bytes) {
+        Held::Same
+    } else if has_bytes(around, session, Part::Text, bytes)
+        || has_bytes(around, session, Part::Save, bytes)
+    {
+        Held::Known
+    } else {
+        Held::Foreign
+    }
+}

@@ -1,0 +1,66 @@
+//! The texts of `--help` and `--version`.
+
+use std::alloc::{AllocError, Global};
+use std::str;
+
+/// The editor's version.
+pub const VERSION: &str = "0.1.0";
+
+/// The usage of the command line, without a line end.
+pub const USAGE: &str = "usage: bidi-edit [--direction auto|ltr|rtl] [--line N | +N] [--force] FILE
+       bidi-edit --recover [[--to OTHER] FILE] | --forget [FILE]";
+
+/// The usage behind `--print`, without a line end.
+pub const PRINT_USAGE: &str = "usage: bidi-edit --print FILE [--cols N] [--marks] [--no-joining]
+       [--direction auto|ltr|rtl]";
+
+/// What `--help` says behind the usage: at most 23 lines with it, of at most 80 columns.
+const KEYS: &str = "       bidi-edit --print FILE [--cols N] [--marks]: its rows to standard output
+Edits text of any scripts, each paragraph in its direction, from line N. --force
+opens what cannot be saved, -n keeps no session, --no-joining joins no letters.
+--recover has back or lists what was typed, --to stores it, --forget deletes it.
+
+  Left Right Up Down    move as the screen shows; Left, Right with Ctrl by words
+  Ctrl-B Ctrl-F         move back, forward as the text is stored
+  Home End              to the row's start, end; with Ctrl to the text's
+  Page Up, Page Down    a window up, down (Backspace, Delete erase before, at)
+  Ctrl-S Ctrl-Q         save; quit, twice where not all is saved
+  Ctrl-Z Ctrl-Y Ctrl-L  undo, redo; paint the screen anew
+  Ctrl-Space or Ctrl-@  mark where the region begins; it ends at the cursor
+  Ctrl-X Ctrl-C Ctrl-V  cut, copy the region, or else the line; put it in
+  Ctrl-W or F3, Ctrl-R  find forward, backward; Enter ends it, Ctrl-Q goes back
+  F1, F2 or Esc [ 9 ~   show keys; direction: auto, ltr, rtl and auto again
+
+The last row: * where changes are not saved, else -; paragraph:place; a message.
+Marks, in negative image, stand for what has no look of its own:
+  e LRE  E RLE  o LRO  O RLO  p PDF  i LRI  I RLI  f FSI  P PDI
+  ? another control   ~ a character with no columns   # wider than the window
+BIDI_EDIT_DATA: a folder of other Unicode files. More: --version, man bidi_edit.
+";
+
+/// The text of `--help`.
+pub fn help_text(alloc: Global) -> Result<String, AllocError> {
+    format!(in alloc; "{USAGE}\n{KEYS}")
+}
+
+/// The version of Unicode that the first line of DerivedBidiClass.txt names; None if it names none.
+pub fn unicode_version(classes: &[u8]) -> Option<&str> {
+    let named = classes.strip_prefix(b"# DerivedBidiClass-")?;
+    let end = named
+        .iter()
+        .position(|b| !b.is_ascii_digit() && *b != b'.')
+        .unwrap_or(named.len());
+    let last = named[..end].iter().rposition(|b| b.is_ascii_digit())?;
+    str::from_utf8(&named[..=last]).ok()
+}
+
+/// The text of `--version`, of the toolchain noted at the build, if any, and the bytes of DerivedBidiClass.txt.
+pub fn version_text(
+    alloc: Global,
+    toolchain: Option<&str>,
+    classes: &[u8],
+) -> Result<String, AllocError> {
+    let toolchain = toolchain.unwrap_or("unknown");
+    let unicode = unicode_version(classes).unwrap_or("unknown");
+    format!(in alloc; "bidi-edit {VERSION}\ntoolchain {toolchain}\nUnicode {unicode}\n")
+}

@@ -1,0 +1,4 @@
+pub mod Keys
+pub mod Marks
+pub mod Reasons
+pub mod Trust

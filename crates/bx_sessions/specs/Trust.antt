@@ -1,0 +1,10 @@
+-- Folders that other users cannot change, by their owners and modes.
+use Rattle.std.specs.Prelude.{◌≡◌, ◌≢◌, ◌⊎◌, ℕ, bit_and}
+
+-- the user's own, and neither the group nor others may write it
+abbrev pub IsPrivate : ℕ → ℕ → ℕ → Type 0
+IsPrivate owner mode user = (owner ≡ user) × (bit_and mode 0x12 ≡ 0)
+
+-- root's or the user's, and others may not write it, or it is sticky, so that they cannot exchange what is the user's
+abbrev pub IsSafeAbove : ℕ → ℕ → ℕ → Type 0
+IsSafeAbove owner mode user = ((owner ≡ 0) ⊎ (owner ≡ user)) × ((bit_and mode 0x2 ≡ 0) ⊎ (bit_and mode 0x200 ≢ 0))

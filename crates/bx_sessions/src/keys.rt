@@ -1,0 +1,115 @@
+//! The number of keys in a journal, without replaying them.
+
+ghost use Rattle.std.specs.Prelude.{◌≡◌, ◌+◌, ◌<◌, ◌≤◌, ◌^◌};
+ghost use Rattle.bx_sessions.specs.Keys.{behind_first, counted, is_final, is_parameter, keys_in, next, with_first, without_size};
+
+/// The byte of the key Save.
+const SAVE: u8 = 0x13;
+
+/// The byte that begins a control sequence, before a bracket.
+const ESCAPE: u8 = 0x1b;
+
+/// What the last bytes of a journal are, as far as the next byte may belong to the same key.
+#[derive(Clone, Copy, PartialEq, Eq, Debug)]
+pub enum After {
+    /// A whole key.
+    Key,
+    /// A Save. It is no key where a size follows.
+    Save,
+    /// An Escape, and whether a Save is right before it.
+    Escape(bool),
+    /// The beginning of a control sequence, and whether a Save is right before it.
+    Sequence(bool),
+}
+
+/// Whether a control sequence goes on with a byte.
+fn is_parameter(byte: u8) -> bool
+    ensures { result ≡ is_parameter byte }
+{
+    (b'0' <= byte && byte <= b'9') || byte == b';'
+}
+
+/// Whether a control sequence ends with a byte.
+fn is_final(byte: u8) -> bool
+    ensures { result ≡ is_final byte }
+{
+    (b'A' <= byte && byte <= b'Z') || (b'a' <= byte && byte <= b'z') || byte == b'~'
+}
+
+/// What a byte is that begins a key.
+fn behind_first(byte: u8) -> After
+    ensures { result ≡ behind_first byte }
+{
+    match byte {
+        SAVE => After::Save,
+        ESCAPE => After::Escape(false),
+        _ => After::Key,
+    }
+}
+
+/// What the last bytes are after one more.
+fn next(after: After, byte: u8) -> After
+    ensures { result ≡ next after byte }
+{
+    match after {
+        After::Save if byte == ESCAPE => After::Escape(true),
+        After::Escape(saved) if byte == b'[' => After::Sequence(saved),
+        After::Sequence(saved) if is_parameter(byte) => After::Sequence(saved),
+        After::Sequence(_) if is_final(byte) => After::Key,
+        _ => behind_first(byte),
+    }
+}
+
+/// The number of keys with a byte that begins a character, or goes on with one.
+fn with_first(count: usize, byte: u8) -> usize
+    requires { count + 1 < 2 ^ 64 }
+    ensures value { result ≡ with_first count byte }
+    ensures most { result ≤ count + 1 }
+{
+    if 0x80 <= byte && byte <= 0xbf {
+        count
+    } else {
+        count + 1
+    }
+}
+
+/// The number of keys without a size that was counted as one, and without the Save before it.
+fn without_size(saved: bool, count: usize) -> usize
+    ensures value { result ≡ without_size saved count }
+    ensures most { result ≤ count }
+{
+    if saved {
+        count.saturating_sub(2)
+    } else {
+        count.saturating_sub(1)
+    }
+}
+
+/// The number of keys with one more byte.
+fn counted(after: After, count: usize, byte: u8) -> usize
+    requires { count + 1 < 2 ^ 64 }
+    ensures value { result ≡ counted after count byte }
+    ensures most { result ≤ count + 1 }
+{
+    match after {
+        After::Escape(_) if byte == b'[' => count,
+        After::Sequence(_) if is_parameter(byte) => count,
+        After::Sequence(saved) if byte == b't' => without_size(saved, count),
+        After::Sequence(_) if is_final(byte) => count,
+        _ => with_first(count, byte),
+    }
+}
+
+/// The number of keys in a journal. A control sequence is one key; a size that the terminal reports is none, nor is the Save
+/// right before one, with which a resumed session begins.
+pub fn count_keys(journal: &[u8]) -> usize
+    ensures { result ≡ keys_in journal.now }
+{
+    let mut after = After::Key;
+    let mut count = 0;
+    for byte in journal {
+        count = counted(after, count, *byte);
+        after = next(after, *byte);
+    }
+    count
+}

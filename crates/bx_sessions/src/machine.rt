@@ -1,0 +1,121 @@
+//! The machine on which a session runs.
+
+use crate::part::Part;
+use crate::session::Session;
+use std::alloc::{AllocError, Global};
+use std::fs;
+
+/// The files by which the kernel tells its name and its boot.
+const HOST_NAME: &str = "/proc/sys/kernel/hostname";
+
+const BOOT: &str = "/proc/sys/kernel/random/boot_id";
+
+/// What is written for a boot that is not known.
+const UNKNOWN: &str = "-";
+
+/// A machine: its name, since containers on one machine have names of their own, and its boot, if that is known.
+#[derive(Drop, PartialEq, Eq, Debug)]
+pub struct Machine {
+    pub host: String,
+    pub boot: Option<String>,
+}
+
+/// A process that began or resumed a session.
+#[derive(Drop, PartialEq, Eq, Debug)]
+pub struct Process {
+    pub number: u32,
+    pub machine: Machine,
+}
+
+/// The first line of a small file, without blanks around it; None if it cannot be read or is empty.
+fn line_of(rt: &HostRuntime, path: &str) -> Result<Option<String>, AllocError> {
+    match fs::read_to_string(rt, path) {
+        Ok(text) => {
+            let line = text.as_str().trim_ascii();
+            if line.is_empty() {
+                return Ok(None);
+            }
+            Ok(Some(String::from_str(rt.alloc(), line)?))
+        }
+        Err(_) => Ok(None),
+    }
+}
+
+impl Machine {
+    /// This machine.
+    ///
+    /// Errors: out of memory.
+    pub fn find(rt: &HostRuntime) -> Result<Machine, AllocError> {
+        let host = match line_of(rt, HOST_NAME)? {
+            Some(host) => host,
+            None => String::from_str(rt.alloc(), "localhost")?,
+        };
+        Ok(Machine {
+            host,
+            boot: line_of(rt, BOOT)?,
+        })
+    }
+
+    /// Another copy.
+    pub fn copied(&self) -> Result<Machine, AllocError> {
+        let boot = match &self.boot {
+            Some(boot) => Some(boot.clone()?),
+            None => None,
+        };
+        Ok(Machine {
+            host: self.host.clone()?,
+            boot,
+        })
+    }
+}
+
+impl Process {
+    /// The words of a session's file.
+    pub fn words(&self, alloc: Global) -> Result<String, AllocError> {
+        let number = self.number;
+        let host = self.machine.host.as_str();
+        let boot = match &self.machine.boot {
+            Some(boot) => boot.as_str(),
+            None => UNKNOWN,
+        };
+        format!(in alloc; "{number} {host} {boot}\n")
+    }
+
+    /// The process that such words name; None if they are others.
+    pub fn parse(alloc: Global, words: &str) -> Result<Option<Process>, AllocError> {
+        let mut words = words.split_ascii_whitespace();
+        let (number, host, boot) = (words.next(), words.next(), words.next());
+        let (Some(number), Some(host), Some(boot)) = (number, host, boot) else {
+            return Ok(None);
+        };
+        let Ok(number) = number.parse::<u32>() else {
+            return Ok(None);
+        };
+        let boot = if boot == UNKNOWN {
+            None
+        } else {
+            Some(String::from_str(alloc, boot)?)
+        };
+        let host = String::from_str(alloc, host)?;
+        Ok(Some(Process {
+            number,
+            machine: Machine { host, boot },
+        }))
+    }
+}
+
+/// Whether a session of this process may go on where no lock can be seen from here. It does not if the process ran on this
+/// machine, or in another container of this boot.
+pub fn may_go_on_elsewhere(process: Option<&Process>, here: &Machine) -> bool {
+    let Some(process) = process else {
+        return true;
+    };
+    let there = &process.machine;
+    if there.host == here.host {
+        return false;
+    }
+    match (&there.boot, &here.boot) {
+        (Some(there), Some(here)) => there != here,
+        _ => true,
+    }
+}

@@ -1,0 +1,220 @@
+//! A new session, and its files.
+
+use crate::begin_words::Begin;
+use crate::belongs::Target;
+use crate::fault::FolderFault;
+use crate::lock::{Lock, LockFault};
+use crate::look::Look;
+use crate::machine::Process;
+use crate::part::Part;
+use crate::session::{Session, create};
+use crate::sessions::Sessions;
+use crate::versions::Versions;
+use std::fs::{File, OpenFile};
+use std::io::{self, ErrorKind, Write};
+use std::rt::Files;
+use thiserror::Error;
+
+/// A session that this process has locked.
+#[derive(Drop)]
+pub struct Kept {
+    pub session: Session,
+    pub lock: Lock,
+}
+
+/// What a new session notes beside its text.
+#[derive(Clone, Copy)]
+pub struct Opening<'a> {
+    pub target: Target<'a>,
+    /// FILE's permissions, if FILE is there.
+    pub mode: Option<u32>,
+    pub begin: Begin,
+    /// Letters are joined.
+    pub is_joined: bool,
+    /// FILE can be read by root alone.
+    pub is_secret: bool,
+    pub process: &'a Process,
+    pub versions: &'a Versions,
+}
+
+/// Where the text as opened comes from.
+#[derive(Clone, Copy)]
+pub enum Source<'a> {
+    /// FILE is not there.
+    Empty,
+    /// A copy of the file at this path.
+    File(&'a str),
+    /// These bytes.
+    Bytes(&'a [u8]),
+}
+
+/// Why a session's files cannot be written. What was written of them is removed, except the lock.
+#[derive(Debug, Drop, Error)]
+pub enum FillFault {
+    /// FILE changed while it was copied.
+    #[error("the file changed while it was copied")]
+    Changed,
+    /// FILE cannot be read.
+    #[error("the file cannot be read: {0}")]
+    Unreadable(io::Error),
+    /// A file of the session cannot be written, mostly for want of room.
+    #[error("{0}")]
+    Unwritten(io::Error),
+}
+
+impl From<io::Error> for FillFault {
+    fn from(error: io::Error) -> Self {
+        FillFault::Unwritten(error)
+    }
+}
+
+/// All files that filling a session makes, the text last.
+const FILLED: [Part; 9] = [
+    Part::Path,
+    Part::Begin,
+    Part::Process,
+    Part::Versions,
+    Part::Mode,
+    Part::Unjoined,
+    Part::File,
+    Part::Secret,
+    Part::Text,
+];
+
+/// Makes a session's folder and locks it. Nobody else finds the session until it is filled.
+///
+/// Errors: `Gone` where the folder of sessions is no longer the one that was judged; `Io`. What was made is removed then.
+pub fn begin(rt: &HostRuntime, sessions: &Sessions) -> Result<Kept, FolderFault> {
+    let session = sessions.make_session(rt)?;
+    match session.lock_new(rt) {
+        Ok(lock) => Ok(Kept { session, lock }),
+        Err(fault) => {
+            // the first fault is the one to report
+            let _ = session.remove(rt);
+            Err(match fault {
+                LockFault::Io(error) => FolderFault::Io(error),
+                LockFault::Held | LockFault::Gone => FolderFault::Gone,
+            })
+        }
+    }
+}
+
+/// Opens a plain file for reading. A pipe is refused before it is opened, since that would wait for a writer.
+pub fn open_plain(rt: &HostRuntime, path: &str) -> io::Result<File> {
+    if !rt.metadata(path)?.is_file() {
+        return Err(ErrorKind::InvalidInput.into());
+    }
+    File::open(rt, path)
+}
+
+/// Copies an open file, and looks at it before and after.
+fn copy_open(source: &mut File, target: &mut File) -> Result<Look, FillFault> {
+    let before = Look::of(&source.metadata().map_err(FillFault::Unreadable)?);
+    let copied = io::copy(source, target)?;
+    let after = Look::of(&source.metadata().map_err(FillFault::Unreadable)?);
+    if before == after && copied == after.size {
+        Ok(after)
+    } else {
+        Err(FillFault::Changed)
+    }
+}
+
+impl Session {
+    /// Copies the file at a path into a new file of the session. Returns the copied file as it was before and after.
+    ///
+    /// Errors: `Changed`; `Unreadable`; `Unwritten`. The copy may be there in part.
+    pub fn copy_in(&self, rt: &HostRuntime, part: Part, path: &str) -> Result<Look, FillFault> {
+        let mut source = open_plain(rt, path).map_err(FillFault::Unreadable)?;
+        if !self.is_there(rt) {
+            return Err(FillFault::Unwritten(ErrorKind::NotFound.into()));
+        }
+        let mut target = create(rt, self.path_of(part)?.as_str())?;
+        let look = copy_open(&mut source, &mut target)?;
+        target.sync_all()?;
+        Ok(look)
+    }
+
+    /// Writes the text as opened.
+    fn write_text(&self, rt: &HostRuntime, source: Source<'_>) -> Result<Option<Look>, FillFault> {
+        match source {
+            Source::Empty => self.write_new(rt, Part::Text, b"")?,
+            Source::Bytes(bytes) => self.write_new(rt, Part::Text, bytes)?,
+            Source::File(path) => return Ok(Some(self.copy_in(rt, Part::Text, path)?)),
+        }
+        Ok(None)
+    }
+
+    /// Notes what is known of FILE.
+    fn write_facts(&self, rt: &HostRuntime, opening: &Opening<'_>) -> io::Result<()> {
+        if let Some(mode) = opening.mode {
+            let digits = format!(in rt.alloc(); "{mode:03o}\n")?;
+            self.write_new(rt, Part::Mode, digits.as_str().as_bytes())?;
+        }
+        if let Some(id) = &opening.target.id {
+            self.write_new(rt, Part::File, id.words(rt.alloc())?.as_str().as_bytes())?;
+        }
+        if opening.is_secret {
+            self.write_new(rt, Part::Secret, b"")?;
+        }
+        Ok(())
+    }
+
+    /// Writes all but the text and the path.
+    fn write_notes(&self, rt: &HostRuntime, opening: &Opening<'_>) -> io::Result<()> {
+        let begin = opening.begin.words(rt.alloc())?;
+        self.write_new(rt, Part::Begin, begin.as_str().as_bytes())?;
+        let process = opening.process.words(rt.alloc())?;
+        self.write_new(rt, Part::Process, process.as_str().as_bytes())?;
+        self.write_new(rt, Part::Versions, opening.versions.words().as_bytes())?;
+        if !opening.is_joined {
+            self.write_new(rt, Part::Unjoined, b"")?;
+        }
+        self.write_facts(rt, opening)
+    }
+
+    /// Writes all files of a new session, the path last.
+    fn write_all(
+        &self,
+        rt: &HostRuntime,
+        opening: &Opening<'_>,
+        source: Source<'_>,
+    ) -> Result<Option<Look>, FillFault> {
+        self.write_notes(rt, opening)?;
+        let look = self.write_text(rt, source)?;
+        self.write_new(rt, Part::Path, opening.target.path.as_bytes())?;
+        Ok(look)
+    }
+}
+
+impl Kept {
+    /// Writes the files of a new session, the path last, and syncs them. Where this fails, for instance for want of room, it
+    /// may be tried again. Returns the copied file as it was, if one was copied.
+    ///
+    /// Errors: `Changed` and `Unreadable` where FILE cannot be copied; `Unwritten` where the session cannot be written, with
+    /// the kind `NotFound` where its folder is gone.
+    pub fn fill(
+        &self,
+        rt: &HostRuntime,
+        sessions: &Sessions,
+        opening: &Opening<'_>,
+        source: Source<'_>,
+    ) -> Result<Option<Look>, FillFault> {
+        let written = self.session.write_all(rt, opening, source);
+        if written.is_err() {
+            self.unfill(rt);
+            return written;
+        }
+        // the names are there, even if their folders are not synced
+        let _ = self.session.sync(rt);
+        let _ = sessions.sync(rt);
+        written
+    }
+
+    /// Removes the files that filling the session makes, so that it can be filled again.
+    pub fn unfill(&self, rt: &HostRuntime) {
+        for part in FILLED {
+            // one that stays is a fault of the next try
+            let _ = self.session.erase(rt, part);
+        }
+    }
+}

@@ -1,0 +1,5 @@
+pub mod Facts
+pub mod Letters
+pub mod Messages
+pub mod Reading
+pub mod Laws

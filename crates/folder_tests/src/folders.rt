@@ -1,0 +1,60 @@
+//! Folders of sessions in a folder for temporary files.
+
+use bx_sessions::{
+    Begin, Kept, Machine, Opening, Process, ROOT, Sessions, Source, Target, Versions, begin,
+};
+use bx_terms::Base;
+use std::alloc::AllocError;
+use std::fs::{self, DirBuilder};
+use std::os::unix::fs::{DirBuilderExt, MetadataExt};
+use std::test::Fail;
+use std::{env, io, process};
+
+/// A new folder for a test, and its path without links.
+pub fn new_folder(rt: &HostRuntime, test: &str) -> io::Result<String> {
+    let number = process::id(rt.process());
+    let name = format!(in rt.alloc(); "bx_sessions-{number}-{test}")?;
+    let path = env::temp_dir(rt)?.join(rt.alloc(), name.as_str())?;
+    DirBuilder::new().mode(0o700).create(rt, path.as_path())?;
+    Ok(path.as_path().canonicalize(rt)?.into_string())
+}
+
+/// The user whose folder this is.
+pub fn user_of(rt: &HostRuntime, folder: &str) -> u32 {
+    fs::metadata(rt, folder).map_or(ROOT, |found| found.uid())
+}
+
+/// A process of this machine.
+pub fn this_process(rt: &HostRuntime) -> Result<Process, AllocError> {
+    Ok(Process {
+        number: 1,
+        machine: Machine::find(rt)?,
+    })
+}
+
+/// A new session of the file at a path, in a folder `sessions` beside it.
+pub fn new_session(
+    rt: &HostRuntime,
+    sessions: &Sessions,
+    path: &str,
+    process: &Process,
+) -> Result<Kept, Fail> {
+    let kept = begin(rt, sessions)?;
+    let versions = Versions::look(rt, "1", &[])?;
+    let opening = Opening {
+        target: Target::at(rt, path),
+        mode: Some(0o644),
+        begin: Begin {
+            rows: 24,
+            cols: 80,
+            direction: Base::Auto,
+            line: None,
+        },
+        is_joined: true,
+        is_secret: false,
+        process,
+        versions: &versions,
+    };
+    kept.fill(rt, sessions, &opening, Source::File(path))?;
+    Ok(kept)
+}

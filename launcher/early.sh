@@ -1,0 +1,49 @@
+# shellcheck shell=sh
+# shellcheck disable=SC2154 # top is set by the script that reads this file
+# Refusals before the first build, of words that no program needs to judge.
+
+# shellcheck source=launcher/names.sh
+. "$top/launcher/names.sh"
+
+usage='usage: bidi-edit [--direction auto|ltr|rtl] [--line N | +N] [--force] FILE
+       bidi-edit --recover [[--to OTHER] FILE] | --forget [FILE]
+       bidi-edit --print FILE [--cols N] [--marks]: its rows to standard output'
+
+refuse_words() { # CAUSE
+    printf 'bidi-edit: %s\n%s\n' "$1" "${usage%
+*}" >&2
+    exit 2
+}
+
+# The help of an editor that is not built yet.
+tell_usage() {
+    printf '%s\nman -l %s has all\n' "$usage" "$(shown "$top/docs/bidi_edit.1")"
+    exit 0
+}
+
+# Refuses words without a FILE or with several, and a FILE that is a folder. The keeper judges all else.
+check_words() { # WORD..
+    while [ $# -gt 0 ]; do
+        case $1 in
+        -h | --help) tell_usage ;;
+        --version | --print | --recover | --forget) return ;;
+        --direction | --line | --to)
+            [ $# -gt 1 ] || refuse_words "$1 wants a value"
+            shift
+            ;;
+        --)
+            shift
+            break
+            ;;
+        -?* | +*) ;;
+        *) break ;;
+        esac
+        shift
+    done
+    [ $# = 1 ] || refuse_words 'one FILE is wanted'
+    [ -n "$1" ] || refuse_words 'FILE has no name'
+    [ ! -d "$1" ] || {
+        printf 'bidi-edit: %s is a folder: name a file in it\n' "$(shown "$1")" >&2
+        exit 1
+    }
+}
