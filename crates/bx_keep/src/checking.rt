@@ -43,24 +43,38 @@ pub fn mended_line(
     }
 }
 
+/// The folder and the last name of an absolute path.
+fn split_path(path: &str) -> (&str, &str) {
+    match path.rsplit_once('/') {
+        Some((folder, name)) => (folder, name),
+        None => ("", path),
+    }
+}
+
 /// The place of a FILE whose folder is gone, as the system resolves its path.
 fn lost_place<H: Host>(around: Around<'_>, host: &mut H, file: &str) -> Result<Place, Stop> {
     let alloc = around.alloc();
     let facts = host.facts(file)?;
-    let (folder, name) = match facts.real_path.as_str().rsplit_once('/') {
-        Some((folder, name)) => (folder, name),
-        None => ("", facts.real_path.as_str()),
-    };
+    let path = String::from_str(alloc, facts.real_path.as_str())?;
+    let target = String::from_str(alloc, path.as_str())?;
+    let (folder, name) = split_path(target.as_str());
     let folder_facts = host.facts(folder)?;
+    let folder = String::from_str(alloc, folder)?;
+    let name = String::from_str(alloc, name)?;
     Ok(Place {
         file: String::from_str(alloc, file)?,
-        target: String::from_str(alloc, facts.real_path.as_str())?,
-        folder: String::from_str(alloc, folder)?,
-        name: String::from_str(alloc, name)?,
-        path: String::from_str(alloc, facts.real_path.as_str())?,
+        target,
+        folder,
+        name,
+        path,
         facts,
         folder_facts,
     })
+}
+
+/// Whether FILE's folder is not there.
+fn has_no_folder(found: &Result<Place, FileFault>) -> bool {
+    matches!(found, Err(FileFault::NoFolder(_)))
 }
 
 impl Edited {
@@ -85,10 +99,11 @@ impl Edited {
     ) -> Result<Edited, Stop> {
         let alloc = around.alloc();
         check_kind(around.rt, alloc, file).map_err(|fault| Stop::of_file(alloc, fault))?;
-        let place = match Place::find(around.rt, host, alloc, file) {
-            Ok(place) => place,
-            Err(FileFault::NoFolder(_)) => lost_place(around, host, file)?,
-            Err(fault) => return Err(Stop::of_file(alloc, fault)),
+        let found = Place::find(around.rt, host, alloc, file);
+        let place = if has_no_folder(&found) {
+            lost_place(around, host, file)?
+        } else {
+            found.map_err(|fault| Stop::of_file(alloc, fault))?
         };
         Edited::at(around, host, place)
     }

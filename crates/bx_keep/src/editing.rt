@@ -51,8 +51,7 @@ fn run<R: Read + Drop, W: Write + Drop, P: Replayer>(
             Ok(Some(status))
         }
         None => {
-            // the session is to be recovered, and needs its text
-            running.fill_at_end();
+            running.leave_text_at_least();
             Ok(None)
         }
     }

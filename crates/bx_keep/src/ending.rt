@@ -123,7 +123,12 @@ impl Running<'_> {
     /// Whether the session has unsaved text: keys, or a text that counts as changed. A program that ends without unsaved text
     /// empties the journal.
     fn has_unsaved(&self, kept: &Kept, status: u64) -> bool {
-        let has_keys = self.journal_size().unwrap_or(0) > 0;
+        let has_keys = match kept.session.look(self.around.rt, Part::Journal) {
+            Ok(Some(journal)) => journal.len() > 0,
+            Ok(None) => false,
+            // what cannot be looked at is not removed
+            Err(_) => true,
+        };
         has_keys || (status != 0 && kept.session.has(self.around.rt, Part::Unsaved))
     }
 
@@ -136,7 +141,7 @@ impl Running<'_> {
         replayer: &P,
     ) -> Left {
         let has_unsaved = self.has_unsaved(kept, status);
-        let is_filled = self.fill_at_end();
+        let is_filled = (has_unsaved || is_torn) && self.fill_at_end(kept);
         Left {
             status,
             has_unsaved,
@@ -213,7 +218,7 @@ impl Running<'_> {
 
     /// Replays the session, unless that takes too long.
     fn replayed<P: Replayer>(&self, kept: &Kept, replayer: &P) -> Option<Replay> {
-        if self.signal.is_some() && self.journal_size().unwrap_or(0) > QUICK {
+        if self.signal.is_some() && self.journal_size(kept) > QUICK {
             return None;
         }
         replayer

@@ -134,8 +134,8 @@ impl<'a> Running<'a> {
     }
 
     /// Tries to fill the session at the end, if its text waits. Returns whether the session has its text.
-    pub fn fill_at_end(&mut self) -> bool {
-        if let (Text::Waiting(bytes), Some(kept)) = (&self.text, &self.begun.kept) {
+    pub fn fill_at_end(&mut self, kept: &Kept) -> bool {
+        if let Text::Waiting(bytes) = &self.text {
             if self.fill_waiting(kept, bytes.as_slice()) {
                 self.text = Text::Kept;
             }
@@ -143,11 +143,20 @@ impl<'a> Running<'a> {
         matches!(&self.text, Text::Kept)
     }
 
+    /// Fills the session, if its text waits: the host is gone, and the session is to be recovered.
+    pub fn leave_text_at_least(&mut self) {
+        if let Some(kept) = self.begun.kept.take() {
+            self.fill_at_end(&kept);
+            self.begun.kept = Some(kept);
+        }
+    }
+
     /// Syncs the journal, if it has grown.
-    fn sync(&mut self, kept_size: Option<u64>) {
-        let (Some(size), Some(kept)) = (kept_size, &self.begun.kept) else {
+    fn sync(&mut self) {
+        let Some(kept) = &self.begun.kept else {
             return;
         };
+        let size = self.journal_size(kept);
         if size == self.synced {
             return;
         }
@@ -161,12 +170,11 @@ impl<'a> Running<'a> {
         }
     }
 
-    /// The journal's size; None if there is none.
-    pub fn journal_size(&self) -> Option<u64> {
-        let kept = self.begun.kept.as_ref()?;
+    /// The journal's size in bytes; 0 if there is none.
+    pub fn journal_size(&self, kept: &Kept) -> u64 {
         match kept.session.look(self.around.rt, Part::Journal) {
-            Ok(Some(found)) => Some(found.len()),
-            _ => None,
+            Ok(Some(found)) => found.len(),
+            _ => 0,
         }
     }
 
@@ -216,7 +224,7 @@ impl<'a> Running<'a> {
     /// Does what is done each second.
     fn tick<R: Read + Drop, W: Write + Drop>(&mut self, wire: &mut Wire<R, W>) -> Result<(), Stop> {
         self.try_to_fill(wire);
-        self.sync(self.journal_size());
+        self.sync();
         self.ask_again(wire)?;
         self.show_note(wire)?;
         Ok(wire.say(Said::Done, "")?)

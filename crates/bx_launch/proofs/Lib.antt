@@ -1,2 +1,3 @@
 pub mod DigitsSoFar
+pub mod LastWord
 pub mod LineEndsSoFar

@@ -1,6 +1,7 @@
 //! Reading the words behind `--print`.
 
 ghost use Rattle.std.specs.Prelude.{◌≤◌, IfOk, IfSome, length};
+ghost use Rattle.bx_launch.specs.Calls.{HasNoFile};
 
 use crate::call::{Call, CallFault, PrintCall, WordFault};
 use crate::values::{columns_of, direction_of, path_of};
@@ -155,7 +156,9 @@ fn before_of<'a>(words: &'a [Vec<u8>]) -> Result<Before<'a>, WordFault<'a>> {
 /// Reads the words behind `--print`.
 ///
 /// Errors: `PrintRefused` by the first word that is refused, else where FILE is missing; then `NotUtf8`; `OutOfMemory`.
-pub fn read_print_words<'a>(alloc: Global, words: &'a [Vec<u8>]) -> Result<Call, CallFault<'a>> {
+pub fn read_print_words<'a>(alloc: Global, words: &'a [Vec<u8>]) -> Result<Call, CallFault<'a>>
+    ensures { IfOk result HasNoFile }
+{
     let before = before_of(words).map_err(CallFault::PrintRefused)?;
     let Some(word) = before.file else {
         return Err(CallFault::PrintRefused(WordFault::NotOneFile));

@@ -1,6 +1,8 @@
 //! Reading a command line.
 
-ghost use Rattle.std.specs.Prelude.{◌≤◌, IfOk, length};
+ghost use Rattle.std.specs.Prelude.{◌≡◌, IfOk, drop};
+ghost use Rattle.bx_launch.specs.Calls.{HasNoFile, IsLastWord, OfFile};
+ghost use Rattle.bx_launch.specs.Values.{path_of};
 
 use crate::call::{Call, CallFault, EditCall, Options, RecoverCall, WordFault};
 use crate::print_reading::read_print_words;
@@ -150,7 +152,9 @@ impl<'a> Before<'a> {
     }
 
     /// The call of these options without a FILE.
-    fn without_file(&self) -> Result<Call, WordFault<'a>> {
+    fn without_file(&self) -> Result<Call, WordFault<'a>>
+        ensures { IfOk result HasNoFile }
+    {
         match (self.is_recovery, self.is_forgetting, self.other) {
             (true, false, None) => Ok(Call::List),
             (false, true, None) => Ok(Call::Forget(None)),
@@ -171,7 +175,9 @@ impl<'a> Before<'a> {
     }
 
     /// The call of these options with a FILE.
-    fn with_file(self, alloc: Global, word: &'a [u8]) -> Result<Call, CallFault<'a>> {
+    fn with_file(self, alloc: Global, word: &'a [u8]) -> Result<Call, CallFault<'a>>
+        ensures { IfOk result (λ call. OfFile call (λ path. path ≡ path_of word.entry.now)) }
+    {
         if word.is_empty() {
             return Err(WordFault::UnnamedFile.into());
         }
@@ -197,7 +203,9 @@ fn with_files<'a>(
     before: Before<'a>,
     alloc: Global,
     words: &'a [Vec<u8>],
-) -> Result<Call, CallFault<'a>> {
+) -> Result<Call, CallFault<'a>>
+    ensures { IfOk result (λ call. OfFile call (IsLastWord words.entry.now)) }
+{
     match words {
         [] => Ok(before.without_file()?),
         [file] => before.with_file(alloc, file.as_slice()),
@@ -210,7 +218,7 @@ fn split_value<'a>(
     option: Valued,
     words: &'a [Vec<u8>],
 ) -> Result<(&'a [u8], &'a [Vec<u8>]), WordFault<'a>>
-    ensures { IfOk result (λ r. length r.1.now ≤ length words.entry.now) }
+    ensures { IfOk result (λ r. r.1.now ≡ drop 1 words.entry.now) }
 {
     match words.split_first() {
         Some((value, rest)) => Ok((value.as_slice(), rest)),
@@ -221,7 +229,9 @@ fn split_value<'a>(
 /// Reads the words after the program's name.
 ///
 /// Errors: `Refused` or `PrintRefused` by the first word that is refused, else by what is missing; then `NotUtf8`; `OutOfMemory`.
-pub fn read_words<'a>(alloc: Global, words: &'a [Vec<u8>]) -> Result<Call, CallFault<'a>> {
+pub fn read_words<'a>(alloc: Global, words: &'a [Vec<u8>]) -> Result<Call, CallFault<'a>>
+    ensures { IfOk result (λ call. OfFile call (IsLastWord words.entry.now)) }
+{
     let mut before = Before::new();
     let mut left = words;
     'words: while let Some((word, rest)) = left.split_first() {

@@ -15,6 +15,7 @@ letter_of heard.Tables = 0x64  -- d
 letter_of heard.Toolchain = 0x6B  -- k
 letter_of heard.Terminal = 0x74  -- t
 letter_of heard.Columns = 0x63  -- c
+letter_of heard.Window = 0x43  -- C
 letter_of heard.End = 0x2E  -- .
 letter_of heard.Answer = 0x61  -- a
 letter_of heard.NoAnswer = 0x41  -- A

@@ -5,8 +5,8 @@ use bx_sessions::{Found, Part, Process, Sessions, Target, find, forget};
 use std::test::Fail;
 use std::{fs, io};
 
-/// What was found, a letter for each kind that is there.
-fn letters(found: &Found) -> (bool, bool, bool) {
+/// Which kinds of sessions were found: live, unfinished, dropped.
+fn kinds_found(found: &Found) -> (bool, bool, bool) {
     (
         found.live.is_some(),
         found.unfinished.is_some(),
@@ -22,7 +22,7 @@ fn kinds(
     process: &Process,
 ) -> io::Result<(bool, bool, bool)> {
     let found = find(rt, sessions, &Target::at(rt, path), &process.machine)?;
-    Ok(letters(&found))
+    Ok(kinds_found(&found))
 }
 
 #[test]
