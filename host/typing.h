@@ -25,7 +25,7 @@ void hand_on_typing(void);
 
 /* Gives the editor a notice, by its number. It goes between two keys, and not into a paste; a key that is not whole for a second
  * is given up for it. */
-void give_notice(const char *number);
+void give_notice(const char *text);
 
 /* Gives notices that have waited long enough. */
 void mind_notices(void);

@@ -26,7 +26,11 @@ impl Running<'_> {
             .open(self.around.rt, path.as_str())
         {
             Ok(_) => Notice::Unkept,
-            Err(error) => notice_of(error.kind()),
+            Err(error) => match notice_of(error.kind()) {
+                // the folder is there
+                Notice::FolderGone => Notice::Unkept,
+                notice => notice,
+            },
         }
     }
 
