@@ -25,7 +25,13 @@ sanitized) set -- "$@" -g -fno-omit-frame-pointer -fsanitize=address,undefined -
     exit 2
     ;;
 esac
-mkdir -p "$out"
+# names.sh quotes the name
+{ mkdir -p "$out" && true >"$program.$$"; } 2>/dev/null || {
+    # shellcheck source=launcher/names.sh
+    . "$here/../launcher/names.sh"
+    echo "bidi-edit: the host is not built, and nothing can be written in $(shown "$here") to build it: build it in a copy of your own" >&2
+    exit 1
+}
 # a start meanwhile finds the old program or the new one
 # shellcheck disable=SC2086 # the compiler's own options
 $compiler "$@" -o "$program.$$" "$here"/*.c || {

@@ -88,7 +88,9 @@ int end_session(int status) {
     bool is_told = hear_last(&status);
     bool is_late = !is_told && keeper.state == KEEPER_SPEAKS;
     end_facts();
-    end_keeper(is_told ? now() + (end_signal ? LEAST : LEAVING) : now());
+    /* one that has closed its pipe ends now, and its status is told */
+    int64_t leaving = is_told ? end_signal ? LEAST : LEAVING : keeper.state == KEEPER_ENDED ? LEAST : 0;
+    end_keeper(now() + leaving);
     if (is_told) return status;
     if (is_late) tell_fault("the session could not be ended in time", ": bidi-edit --recover lists what is kept");
     else tell_keeper(": bidi-edit --recover lists what is kept");

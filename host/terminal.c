@@ -66,6 +66,11 @@ bool set_raw(void) {
     return set(&raw);
 }
 
+bool is_raw(void) {
+    struct termios settings;
+    return tcgetattr(line, &settings) == 0 && !(settings.c_lflag & (tcflag_t)(ICANON | ISIG));
+}
+
 void restore_settings(void) {
     signal(SIGTTOU, SIG_IGN);
     set(&cooked);

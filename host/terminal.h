@@ -30,6 +30,9 @@ unsigned char erase_character(void);
 /* Sets raw mode. In the background the host is stopped here, until it has the terminal. */
 bool set_raw(void);
 
+/* Whether no other program, as a shell, has set its own settings since: all of them let signals through. */
+bool is_raw(void);
+
 /* Restores the settings at once, not after the output, which may never go out. A job in the background may do this. */
 void restore_settings(void);
 

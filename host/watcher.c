@@ -64,8 +64,8 @@ static _Noreturn void watch(int told, int words) {
     int64_t start = now();
     bool is_changed = processes[TERMINAL_CHANGES] != 0;
     if (processes[FILTER_BEGINS] > 0) kill(processes[FILTER_BEGINS], SIGKILL);
-    /* as soon as can be, since a shell sets its own now */
-    if (is_changed) restore_settings();
+    /* as soon as can be, since a shell sets its own now; where it has, they stay */
+    if (is_changed && is_raw()) restore_settings();
     if (!ends_before(words, start + GRACE) && processes[PROGRAM_BEGINS] > 0) kill(processes[PROGRAM_BEGINS], SIGKILL);
     if (is_changed) restore_screen(SCREEN);
     if (keeper.to >= 0) close(keeper.to);

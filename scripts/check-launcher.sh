@@ -25,7 +25,7 @@ folder=$(mktemp -d)
 export XDG_STATE_HOME="$folder/state"
 socket="bx$$"
 passed=0 failed=0 skipped=0
-# Settings of a check for its own sessions: the tables, lines before and after the launcher, redirections, a paste that goes on.
+# Settings of a check for its own sessions: the tables, lines before and after the host, redirections, a paste that goes on.
 # shellcheck disable=SC2034
 tables='' setup='' cleanup='' redirection='' is_flooded='' lines_told=1
 # shellcheck disable=SC2034

@@ -1,10 +1,11 @@
 #!/bin/sh
-# Kills sessions in tmux at a random key, by KILL, HUP and TERM to the launcher, to the program or to both, and recovers each:
-# all bytes that the program had read must be there. Most sessions end in a search, or just behind one, and what is typed after
-# the recovery goes into the text, also if the session is killed and recovered once more. recovery_sessions.py makes the keys,
-# and the text after each by a plain model. The script also checks the launcher's messages and questions, a full disk under the journal, a replay of 100,000 keys, and the journal's
-# cost for a key. It is not part of `rt ci`. Its words are the number of sessions (200) and the seed of the random keys (1). The
-# last line has the totals. Exit status 1: a check failed; 77: the program is not built, or there is no tmux or no python3.
+# Kills sessions in tmux at a random key, by KILL, HUP and TERM to the host, to the program or to both, and recovers each: all
+# bytes that the program had read must be there. Most sessions end in a search, or just behind one, and what is typed after the
+# recovery goes into the text, also if the session is killed and recovered once more. recovery_sessions.py makes the keys, and
+# the text after each by a plain model. The script also checks the messages and questions, a full disk under the journal, a
+# replay of 100,000 keys, and the journal's cost for a key. It is not part of `rt ci`. Its words are the number of sessions (200)
+# and the seed of the random keys (1). The last line has the totals. Exit status 1: a check failed; 77: the programs are not
+# built, or there is no tmux or no python3.
 set -u
 
 sessions=${1:-200}
@@ -100,16 +101,16 @@ has_ended() { # PROCESS..
     done
 }
 
-program_of() { # LAUNCHER
+program_of() { # HOST
     ps -o pid=,comm= --ppid "$1" | sed -n 's/^ *\([0-9]*\) bidi_edit$/\1/p'
 }
 
 # Sends the signal and waits for both processes to end.
-end_session() { # HOW LAUNCHER PROGRAM
+end_session() { # HOW HOST PROGRAM
     read -r signal target delay <"$1"
     sleep "$delay"
     case $target in
-    launcher) kill -s "$signal" "$2" ;;
+    host) kill -s "$signal" "$2" ;;
     program) kill -s "$signal" "$3" ;;
     # the end of one may end the other
     both) kill -s "$signal" "$2" "$3" 2>/dev/null ;;
@@ -125,12 +126,12 @@ run_session() { # NUMBER
     cp "$given/file" "$work/text"
     open_editor "s$1" "$work/state" "$work/text"
     wait_for 150 has_row "s$1" '- 1:1' || { fails "$1" 'no screen'; return; }
-    launcher=$(terminal display-message -p -t "s$1" '#{pane_pid}')
-    program=$(program_of "$launcher")
+    host=$(terminal display-message -p -t "s$1" '#{pane_pid}')
+    program=$(program_of "$host")
     type_keys "s$1" "$given/keys1"
     wait_for 150 has_row "s$1" "$(cat "$given/row")" || { fails "$1" "the last row is not $(cat "$given/row")"; return; }
     type_keys "s$1" "$given/keys2"
-    end_session "$given/how" "$launcher" "$program" || { fails "$1" "it did not end after $(cat "$given/how")"; return; }
+    end_session "$given/how" "$host" "$program" || { fails "$1" "it did not end after $(cat "$given/how")"; return; }
     terminal kill-session -t "s$1" 2>/dev/null
     recover_session "$1"
 }
@@ -167,7 +168,7 @@ resume() { # NUMBER NAME
     wait_for 150 asks "s$1" || { fails "$2" 'nothing was asked'; return 1; }
     terminal send-keys -t "s$1" recover Enter
     wait_for 150 has_row "s$1" "$(cat "$given/back")" || { fails "$2" "the last row is not $(cat "$given/back")"; return 1; }
-    launcher=$(terminal display-message -p -t "s$1" '#{pane_pid}')
+    host=$(terminal display-message -p -t "s$1" '#{pane_pid}')
 }
 
 # Recovers a session whose journal may end within a key, types letters, kills it again, and recovers its text.
@@ -176,9 +177,9 @@ end_again() { # NUMBER
     resume "$1" "$1 again" || return
     type_keys "s$1" "$given/typed"
     wait_for 150 has_row "s$1" "$(cat "$given/seen")" || { fails "$1 again" "the last row is not $(cat "$given/seen")"; return; }
-    program=$(program_of "$launcher")
+    program=$(program_of "$host")
     echo 'KILL both 0' >"$work/how"
-    end_session "$work/how" "$launcher" "$program" || { fails "$1 again" 'it did not end'; return; }
+    end_session "$work/how" "$host" "$program" || { fails "$1 again" 'it did not end'; return; }
     terminal kill-session -t "s$1" 2>/dev/null
     XDG_STATE_HOME=$work/state "$top/bidi-edit" --recover --to "$work/again" "$work/text" >"$work/said" 2>&1
     cmp -s "$work/again" "$given/kept" || { fails "$1 again" "'$(cat "$work/again")', and not '$(cat "$given/kept")': $(cat "$work/said")"; return; }
@@ -190,14 +191,14 @@ go_on() { # NUMBER
     resume "$1" "$1 goes on" || return
     type_keys "s$1" "$given/more"
     terminal send-keys -t "s$1" C-s C-q
-    wait_for 150 has_ended "$launcher" || { fails "$1 goes on" 'no end'; return; }
+    wait_for 150 has_ended "$host" || { fails "$1 goes on" 'no end'; return; }
     cmp -s "$work/text" "$given/made" || { fails "$1 goes on" "'$(cat "$work/text")' was saved, and not '$(cat "$given/made")'"; return; }
     [ -z "$(ls -A "$work/state/bidi_edit")" ] || { fails "$1 goes on" 'the session is kept, and all is saved'; return; }
     passes "$1 goes on"
 }
 
 asks() { # NAME
-    terminal capture-pane -p -t "$1" | grep -q 'recover it, discard it'
+    terminal capture-pane -p -t "$1" | grep -qF '[d]elete for good'
 }
 
 run_share() { # FIRST STEP
@@ -220,7 +221,7 @@ check_sessions() {
     wait "$share0" "$share1" "$share2" "$share3"
 }
 
-# ---- messages and questions of the launcher
+# ---- messages and questions
 
 # Types a line into a shell whose state folder is its own.
 say() { # WORD..
@@ -247,7 +248,7 @@ expect() { # NAME TEXT
     }
 }
 
-# Presses keys that end the editor, and waits for the shell, since the terminal may be raw until the launcher ends.
+# Presses keys that end the editor, and waits for the shell, since the terminal may be raw until the host ends.
 end_by_keys() { # KEY..
     terminal send-keys -t shell "$@"
     wait_for 150 shows_shell
@@ -257,8 +258,8 @@ shows_shell() {
     [ "$(terminal display-message -p -t shell '#{alternate_on}')" = 0 ] && [ -z "$(ps -o pid= --ppid "$(terminal display-message -p -t shell '#{pane_pid}')")" ]
 }
 
-# Opens the editor on the file text, types keys until the last row is ROW, and ends its program, or the launcher too. A
-# surviving launcher prints WORDS.
+# Opens the editor on the file text, types keys until the last row is ROW, and ends its program, or the host too. A
+# surviving host prints WORDS.
 break_off() { # ROW WORDS KEY..
     row=$1 words=$2
     shift 2
@@ -283,16 +284,20 @@ break_off() { # ROW WORDS KEY..
 }
 
 program_under() { # SHELL
-    for launcher in $(ps -o pid= --ppid "$1"); do program_of "$launcher"; done
+    for host in $(ps -o pid= --ppid "$1"); do program_of "$host"; done
 }
 
 scene_recover_asks() {
     break_off '* 1:2' "$kept" x && say bidi-edit text && expect "$scene" 'an unfinished session of' && expect "$scene" 'keys typed: 1' && say what &&
-        say 'echo status $?' && expect "$scene" 'status 2' && say clear && say bidi-edit text && expect "$scene" '[d]elete for good' && say delete &&
+        wait_for 150 is_asked_again && terminal send-keys -t shell C-d && say 'echo status $?' && expect "$scene" 'status 2' && say clear && say bidi-edit text && expect "$scene" '[d]elete for good' && say delete &&
         wait_for 150 has_row shell '- 1:1' && end_by_keys C-q && say 'ls state/bidi_edit | wc -l' && expect "$scene" 0
 }
 
-# A surviving launcher sees that all is saved.
+is_asked_again() {
+    [ "$(terminal capture-pane -p -J -t shell | grep -oF '[l]ater?' | wc -l)" = 2 ]
+}
+
+# A surviving keeper sees that all is saved.
 scene_all_is_saved() {
     break_off '- 1:2 saved' 'the editor was ended by the signal' x C-s && say bidi-edit text && wait_for 150 has_row shell '- 1:1' &&
         end_by_keys C-q && say 'ls state/bidi_edit | wc -l' && expect "$scene" 0

@@ -1,7 +1,8 @@
 #!/bin/sh
-# install.sh [--uninstall] [PREFIX]: installs the built host and programs, the tables and the manual page under PREFIX, by default
-# $HOME/.local, or removes them. It builds nothing. Exit status 1: the host, the keeper, the editor or its filter is not built;
-# the printing program is installed if it is built. The installation is independent of this repository.
+# install.sh [--uninstall] [PREFIX]: installs the host, the built programs, the tables and the manual page under PREFIX, by
+# default $HOME/.local, or removes them. It compiles the host where a source is newer, and proves nothing. Exit status 1: the
+# keeper, the editor or its filter is not built, or there is no C compiler for the host; the printing program is installed if it
+# is built. The installation is independent of this repository.
 #
 # All files are first copied beside their places, so that a failed copy changes nothing; then each is renamed into place. A
 # record, lib/bidi_edit/installed, has the checksum of each file and the folders that were created: only these are removed.
@@ -38,10 +39,10 @@ refuse() { # CAUSE
 
 # ---- the installed files
 
-# Finds the built host and programs.
+# Finds the built programs, and compiles the host.
 find_programs() {
     host=$top/host/out/bidi-edit
-    [ -x "$host" ] || refuse "$(shown "$host") is not built: host/build.sh builds it"
+    sh "$top/host/build.sh" || refuse "$(shown "$host") is not built"
     programs="bidi_keep bidi_edit bidi_input"
     # built at the first printing
     [ ! -x "$top/crates/bidi_print/out/bidi_print" ] || programs="$programs bidi_print"

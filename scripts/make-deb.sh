@@ -1,10 +1,10 @@
 #!/bin/sh
 # make-deb.sh [FOLDER]: makes bidi-edit_VERSION_amd64.deb and bidi-edit_VERSION_amd64.tar.gz, with the same tree, for users
 # without the toolchain, in FOLDER (by default out/ at the top of the repository). It refuses programs that are not built and
-# proved. The only tool it needs beyond a plain Debian is dpkg-deb; the status is 77 if that is missing. Then it checks both:
-# lintian and two readers of manuals find no fault, the package is installed in a clean root folder, where it offers itself as
-# `editor`, used there in tmux and removed, and the tree of the tar file is used too. Checks without their tool are skipped. The
-# last line has the totals. Exit status 1: a check failed.
+# proved, and compiles the host with cc. The only tools it needs beyond a plain Debian are these two; the status is 77 if dpkg-deb
+# is missing, and 1 without a compiler. Then it checks both: lintian and two readers of manuals find no fault, the package is
+# installed in a clean root folder, where it offers itself as `editor`, used there in tmux and removed, and the tree of the tar file
+# is used too. Checks without their tool are skipped. The last line has the totals. Exit status 1: a check failed.
 set -eu
 
 top=$(cd "$(dirname "$0")/.." && pwd)

@@ -24,8 +24,8 @@ NAMES = [*BYTES, "enter", "tab", "size", "quit"]
 ENDS = ["no search", "in a search", "a search given up", "a search that a save ended"]
 # the first bytes of a character or a sequence
 TORN = [b"", b"\xd7", b"\xe2\x80", b"\x1b", b"\x1b[", b"\x1b[7", b"\x1b[8;24;"]
-# the program ignores HUP under the launcher
-WAYS = [(s, t) for t in ("launcher", "program", "both") for s in ("KILL", "HUP", "TERM") if (s, t) != ("HUP", "program")]
+# the program ignores HUP under the host
+WAYS = [(s, t) for t in ("host", "program", "both") for s in ("KILL", "HUP", "TERM") if (s, t) != ("HUP", "program")]
 
 
 class Session:

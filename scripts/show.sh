@@ -43,7 +43,7 @@ export LC_ALL=C.UTF-8
 folder=$(mktemp -d)
 socket="show$$"
 process=''
-# Waits for the editor's end, since the launcher writes its session until then.
+# Waits for the editor's end, since the host writes its session until then.
 clean_up() {
     tmux -L "$socket" kill-server 2>/dev/null || :
     tries=50

@@ -9,7 +9,7 @@ make_wrapper() {
     setup="export EDITOR='$folder/edit' VISUAL='$folder/edit' GIT_EDITOR='$folder/edit' HOME='$folder/home'"
 }
 
-# Runs a caller instead of the launcher.
+# Runs a caller instead of the editor.
 start_caller() { # COMMAND
     start 12 70 sh -c "$1"
 }

@@ -1,6 +1,6 @@
 # shellcheck shell=sh
 # shellcheck disable=SC2034,SC2154 # variables shared with other parts
-# The editor in the launcher. Its screen must be the one that the program alone makes for that size and those keys.
+# The editor under the host. Its screen must be the one that the program alone makes for that size and those keys.
 
 has_editor() {
     [ -x "$editor" ] || {
@@ -121,9 +121,9 @@ check_editor_end() {
         type_keys x
         wait_for 30 shows 'xשלום'
         send_signal "$signal" ".*bidi-edit note"
-        finish "end, the launcher by $signal" "$((128 + $(signal_number "$signal")))" 50
-        has "end, the launcher by $signal: what is told" "$(cat "$folder/errors")" 'bidi_edit: input ended before saving'
-        has "end, the launcher by $signal: what is kept" "$(cat "$folder/errors")" 'bidi-edit --recover note gets it back'
+        finish "end, the host by $signal" "$((128 + $(signal_number "$signal")))" 50
+        has "end, the host by $signal: what is told" "$(cat "$folder/errors")" 'bidi_edit: input ended before saving'
+        has "end, the host by $signal: what is kept" "$(cat "$folder/errors")" 'bidi-edit --recover note gets it back'
     done
     cmp note "$folder/opened" >/dev/null
     report 'end, the file is as before' $? 'it is not'
@@ -154,7 +154,7 @@ check_line() {
 # A stopped and continued job is repainted, and works on.
 check_editor_stop() {
     make_note
-    job_shell=sh
+    job_shell='sh'
     start_shell 8 50 "$top/bidi-edit" note
     type_keys -l new
     wait_for 30 shows 'new'

@@ -1,6 +1,6 @@
 # shellcheck shell=sh
 # shellcheck disable=SC2034,SC2154 # variables shared with other parts
-# Ends and stops of a session: signals to the launcher, to its program and to the input filter.
+# Ends and stops of a session: signals to the host, to its program and to the input filter.
 
 # The program ends by its input's end, so typed text is kept.
 check_input_end() {
@@ -10,8 +10,8 @@ check_input_end() {
         type_keys -l typed
         wait_for 50 has_recorded typed
         send_signal "$signal" ".*bin/bidi-edit"
-        finish "kill, the launcher by $signal" "$((128 + $(signal_number "$signal")))" 50
-        same "kill, the launcher by $signal: the program's input" "$(cat "$folder/record")" 'typed end'
+        finish "kill, the host by $signal" "$((128 + $(signal_number "$signal")))" 50
+        same "kill, the host by $signal: the program's input" "$(cat "$folder/record")" 'typed end'
     done
     start 24 80 "$recorder" f
     wait_for 50 test -e "$folder/record"
@@ -29,7 +29,7 @@ check_hard_ends() {
     for signal in TERM HUP; do
         start 24 80 "$recorder" still
         send_signal "$signal" ".*bin/bidi-edit"
-        finish "kill, the launcher of a program that hangs by $signal" "$((128 + $(signal_number "$signal")))" 60
+        finish "kill, the host of a program that hangs by $signal" "$((128 + $(signal_number "$signal")))" 60
     done
     start 24 80 "$recorder" still
     wait_for 50 test -s "$folder/words"
@@ -46,7 +46,7 @@ check_hard_ends() {
     sleep 0.3
     send_signal TERM ".*bin/bidi-edit"
     is_flooded=1
-    finish 'kill, the launcher while the pipe is full' 143 60
+    finish 'kill, the host while the pipe is full' 143 60
     is_flooded=''
 }
 
@@ -63,7 +63,7 @@ is_raw() {
 }
 
 # Starts an interactive shell, `job_shell`, in which a job can be stopped and continued, and its first line.
-start_shell() { # ROWS COLS LAUNCHER WORD..
+start_shell() { # ROWS COLS EDITOR WORD..
     for file in ended status before after record words output state; do rm -rf "${folder:?}/$file"; done
     command="env -u BASH_ENV ENV= PS1='ready> ' TMPDIR='$folder/private' BX_RECORD='$folder/record' BX_WORDS='$folder/words'"
     case $job_shell in
@@ -105,9 +105,9 @@ check_stop() { # SHELL
 
 # Stops the job as its shell does, gives the shell a line, and continues the job.
 stop_and_take_up() { # NAME
-    launcher=$(process_of ".*bidi-edit")
-    kill -s STOP -- "-$(ps -o pgid= -p "$launcher" | tr -d ' ')"
-    wait_for 50 is_stopped "$launcher"
+    host=$(process_of ".*bidi-edit")
+    kill -s STOP -- "-$(ps -o pgid= -p "$host" | tr -d ' ')"
+    wait_for 50 is_stopped "$host"
     sleep 0.3
     give_line 'echo the shell has it >said'
     wait_for 30 test -s "$folder/files/said"
@@ -115,10 +115,6 @@ stop_and_take_up() { # NAME
     rm -f "$folder/files/said"
     give_line fg
     sleep 0.3
-}
-
-is_over() {
-    ! is_editing
 }
 
 finish_shell() { # NAME STATUS

@@ -130,7 +130,7 @@ has_all_of() { # FILE
     [ "$(wc -c <"$folder/record")" -ge "$(wc -c <"$1")" ]
 }
 
-# tmux marks a paste only if the launcher asked for that.
+# tmux marks a paste only if the host asked for that.
 check_marks() {
     start 8 50 "$recorder" f
     wait_for 50 test -e "$folder/record"

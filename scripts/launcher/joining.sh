@@ -1,6 +1,6 @@
 # shellcheck shell=sh
 # shellcheck disable=SC2034,SC2154 # variables shared with other parts
-# Joined letters: which of their tables the launcher passes to its programs, which only record them, and what a recovered session
+# Joined letters: which of their tables the host passes to its programs, which only record them, and what a recovered session
 # gets.
 
 # Prints the files of joined letters among the recorded words, without the folder; empty if there are none.

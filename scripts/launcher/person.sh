@@ -48,13 +48,17 @@ settled_screen() { # SESSION
     printf '%s\n' "$now"
 }
 
-# Prints the bytes that the launcher and its program have written so far, with escapes as ^[.
+# Prints the bytes that the host and its program have written so far, with escapes as ^[.
 written() {
     cat -v "$folder/output"
 }
 
 is_editing() {
     [ "$(terminal display-message -p -t person '#{alternate_on}')" = 1 ]
+}
+
+is_over() {
+    ! is_editing
 }
 
 is_editing_or_over() {
@@ -67,10 +71,10 @@ has_ended() {
 
 # ---- a session
 
-# Starts a session in which a launcher runs with these words, after previous sessions are removed; it records the terminal's
+# Starts a session in which an editor runs with these words, after previous sessions are removed; it records the terminal's
 # settings before and after. `setup` and `cleanup` are shell lines before and after it, `redirection` follows its words, and
 # `as` precedes them, to run it as another user.
-start() { # ROWS COLS LAUNCHER WORD..
+start() { # ROWS COLS EDITOR WORD..
     rows=$1 cols=$2
     shift 2
     for file in line ended status before after record words go output state; do rm -rf "${folder:?}/$file"; done

@@ -1,6 +1,6 @@
 # shellcheck shell=sh
 # shellcheck disable=SC2034,SC2154 # variables shared with other parts
-# The words and the input that the launcher passes to its program, which only records them.
+# The words and the input that the host passes to its program, which only records them.
 
 # Installs the recorder where an installed host looks for its program.
 make_recorder() {
@@ -73,7 +73,7 @@ check_words() {
     same 'words, fault' "$(cat "$folder/errors")" 'bidi_edit: output failed'
 }
 
-# Checks the line that the launcher's words before FILE select.
+# Checks the line that the host's words before FILE select.
 line_of() { # NAME WANTED WORD..
     name=$1 wanted_line=$2
     shift 2

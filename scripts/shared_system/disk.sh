@@ -84,7 +84,7 @@ has_title_without() { # NAME TEXT
 
 # Recovers the session of `note` on the small disk, and compares its text with `expected`.
 recover_from_small_disk() { # CHECK
-    as_user "$launcher" --recover --to other note >"$folder/output" 2>&1
+    as_user "$host" --recover --to other note >"$folder/output" 2>&1
     cmp "$folder/expected" other >"$folder/differs" 2>&1
     report "disk, $1: every key is had back" $? "$(cat "$folder/output" "$folder/differs")"
     same "disk, $1: nothing is said to be cut" "$(grep -c 'is cut' "$folder/output")" 0
@@ -151,7 +151,7 @@ check_filled_up() {
     kill -s TERM "$(editor_process)"
     expect_in first 'disk, filled up: what is said at the end' 'what was typed is kept up to where its journal could not be written'
     rm -f "$folder/small/other"
-    as_user "$launcher" --recover --to other note >"$folder/output" 2>&1
+    as_user "$host" --recover --to other note >"$folder/output" 2>&1
     same 'disk, filled up: what is had back' "$? $(head -c 1 other)" '0 a'
     has 'disk, filled up: where it is cut is said' "$(cat "$folder/output")" 'the session is cut behind its key'
     close_editors first

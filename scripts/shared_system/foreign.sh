@@ -1,19 +1,15 @@
 # shellcheck shell=sh
 # shellcheck disable=SC2034,SC2154 # variables shared with other parts
-# Another program changes FILE between two looks of the launcher: the first save reports a failure, and only the second replaces
+# Another program changes FILE between two looks of the editor: the first save reports a failure, and only the second replaces
 # the file.
 
-# Replaces a command that the launcher runs, so that FILE changes right after its first run.
-change_behind() { # COMMAND
-    as_user mkdir -p "$folder/tools"
-    as_user tee "$folder/tools/$1" >/dev/null <<END
-#!/bin/sh
-$(command -v "$1") "\$@"
-result=\$?
-[ -e '$folder/changed' ] || { echo of another >'$folder/files/note' && : >'$folder/changed'; }
-exit \$result
-END
-    as_user chmod 755 "$folder/tools/$1"
+# Prints what runs the editor so that each opening of `note` takes this long, in microseconds.
+slow_opening() { # TIME
+    echo "strace -f -qq -o '$folder/trace' -P note -P '$folder/files/note' -e trace=openat -e inject=openat:delay_enter=$1"
+}
+
+change_note() {
+    echo of another | as_user tee note >/dev/null
 }
 
 # Requires that the typed letter is on the screen and FILE still has the foreign text, and saves again.
@@ -26,37 +22,44 @@ save_twice() { # NAME
     expect_in first "foreign, $1: the second save" 'saved'
     same "foreign, $1: the second save replaces it" "$(cat note)" "$2"
     close_editors first
-    rm -rf "$folder/tools" "$folder/changed" "$folder/state" note*
+    rm -rf "$folder/trace" "$folder/state" note*
 }
 
-# Between the launcher's copy, by cat for a small FILE, and the program's look.
-check_changed_after_copy() {
+# Between the opening and the copy for recovery, which is made beside the painting: the copy would be another text's.
+check_changed_before_copy() {
     rm -rf "$folder/state"
     printf 'ab\n' | as_user tee note >/dev/null
-    change_behind cat
-    open_editor first "PATH='$folder/tools':\$PATH" note
+    open_editor first "$(slow_opening 2000000)" note
     wait_for 60 shows_in first '- 1:1'
+    change_note
     terminal send-keys -t first y
     wait_for 60 shows_in first '* 1:2'
-    save_twice 'after the copy' yab
+    wait_for 40 has_title_with first 'not kept'
+    report 'foreign, before the copy: the title tells that nothing is kept' $? "$(title_of first)"
+    save_twice 'before the copy' yab
 }
 
-# Between the answer to a question, whose replay looks at FILE, and the program's look.
+# Between the answer to a question, whose replay looks at FILE, and the program's opening.
 check_changed_after_answer() {
     leave_session note
-    change_behind rm
-    open_editor first "PATH='$folder/tools':\$PATH" note
+    open_editor first "$(slow_opening 1000000)" note
     wait_for 60 shows_in first '[d]elete for good'
     say_in first recover
+    wait_for 60 has_program_of_check
+    change_note
     wait_for 60 shows_in first '* 1:2'
     save_twice 'after the answer' xab
+}
+
+has_program_of_check() {
+    [ -n "$(program_of_check)" ]
 }
 
 check_changed_while_open() {
     leave_session note
     open_editor first '' --recover note
     wait_for 60 shows_in first '* 1:2'
-    echo of another | as_user tee note >/dev/null
+    change_note
     save_twice 'after the recovery' xab
 }
 
@@ -109,8 +112,12 @@ check_exchanged_folder() {
 
 check_foreign() {
     asked foreign || return 0
-    check_changed_after_copy
-    check_changed_after_answer
+    if can_trace; then
+        check_changed_before_copy
+        check_changed_after_answer
+    else
+        skip 'foreign, between two looks' 'there is no strace, or it may not trace'
+    fi
     check_changed_while_open
     check_unchanged
     check_exchanged_folder

@@ -107,7 +107,7 @@ has_no_program() {
     [ -z "$(program_of_check)" ]
 }
 
-# Stops the launcher while its program is killed in a save, and then kills it too.
+# Stops the host while its program is killed in a save, and then kills it too.
 cut_off_save() { # CALLS
     open_linked
     inject "$1" 'signal=KILL:when=1'
@@ -139,7 +139,7 @@ check_cut_off() { # CALLS WORDS TEXT
     close_editors first
 }
 
-# The launcher survives, and puts the text back at once.
+# The host survives, and puts the text back at once.
 check_killed_program() {
     open_linked
     inject write,pwrite64,writev signal=KILL:when=1
@@ -201,10 +201,10 @@ is_empty() { # FILE
 # FILE is torn and the text cannot be put back: the text is kept, and the fault reported.
 check_recover_elsewhere() {
     cut_off_save write,pwrite64,writev
-    as_user "$launcher" --recover >"$folder/output" 2>&1 </dev/null
+    as_user "$host" --recover >"$folder/output" 2>&1 </dev/null
     has 'in place, --recover alone' "$(cat "$folder/output")" '/note (a save was cut off)'
     chmod 444 note
-    as_user "$launcher" --recover --to other note >"$folder/output" 2>&1 </dev/null
+    as_user "$host" --recover --to other note >"$folder/output" 2>&1 </dev/null
     same 'in place, --recover --to' "$? $(cat other)" '0 xab'
     [ "$who" = root ] || has 'in place, FILE that cannot be written: it is said' "$(cat "$folder/output")" 'its text cannot be put back: it is '
     [ "$who" = root ] || same 'in place, FILE that cannot be written: its text is kept' "$(cat "$(session_of_check)/mark")" xab
@@ -232,7 +232,7 @@ check_failed_save() {
     close_editors first
 }
 
-# Saves fail until the end: the launcher puts the text back.
+# Saves fail until the end: the host puts the text back.
 check_failed_end() {
     open_linked
     inject write,pwrite64,writev error=EIO

@@ -4,17 +4,17 @@
 
 check_list() {
     leave_session note
-    as_user "$launcher" --recover >"$folder/output" 2>&1 </dev/null
+    as_user "$host" --recover >"$folder/output" 2>&1 </dev/null
     same 'keeping, --recover alone: its status' $? 0
     has 'keeping, --recover alone: file and keys' "$(cat "$folder/output")" "keys: 1  KB: "
     has 'keeping, --recover alone: the file' "$(grep -c "$folder/files/note\$" "$folder/output") $(date +%Y)" "1 $(cut -c 1-4 "$folder/output" | head -n 1)"
     open_editor first '' --recover note
     wait_for 60 shows_in first '* 1:2'
-    as_user "$launcher" --recover >"$folder/output" 2>&1 </dev/null
+    as_user "$host" --recover >"$folder/output" 2>&1 </dev/null
     has 'keeping, --recover alone: one that goes on' "$(grep "$folder/files/note" "$folder/output")" 'note (open now)'
     terminal send-keys -t first C-q C-q
     wait_for 60 shows_in first status
-    as_user "$launcher" --recover >"$folder/output" 2>&1 </dev/null
+    as_user "$host" --recover >"$folder/output" 2>&1 </dev/null
     has 'keeping, --recover alone: one that was dropped' "$(grep "$folder/files/note" "$folder/output")" 'note (dropped)'
     close_editors first
     rm -rf "$folder/state" note
@@ -51,7 +51,7 @@ check_memory() {
     same 'keeping, of a FILE in memory: nothing in the state folder' "$(ls -A "$folder/state" 2>/dev/null)" ''
     same 'keeping, of a FILE in memory: its session is there' "$(cat "$folder/memory/bidi_edit.$user"/[0-9]*/journal)" x
     kill_editor first
-    as_user "$launcher" --recover >"$folder/output" 2>&1 </dev/null
+    as_user "$host" --recover >"$folder/output" 2>&1 </dev/null
     has 'keeping, of a FILE in memory: it is listed' "$(cat "$folder/output")" "$folder/memory/note"
     open_editor first '' "$folder/memory/note"
     expect_in first 'keeping, of a FILE in memory: it is found' 'an unfinished session'
@@ -86,28 +86,29 @@ check_passing_file() {
     export XDG_STATE_HOME="$state"
 }
 
-# Replaces sync by a command that records its arguments.
+# Has strace record which files the editor puts on the disk.
 check_syncs() {
-    as_user mkdir "$folder/tools"
-    printf '#!/bin/sh\necho "$*" >>"%s"\nexec /bin/sync "$@"\n' "$folder/synced" | as_user tee "$folder/tools/sync" >/dev/null
-    as_user chmod +x "$folder/tools/sync"
+    if ! can_trace; then
+        skip 'keeping, on the disk' 'there is no strace, or it may not trace'
+        return
+    fi
     rm -rf "$folder/state"
-    as_user touch "$folder/synced"
-    open_editor first "PATH='$folder/tools':\$PATH" note
+    open_editor first "strace -f -qq -y -A -o '$folder/synced' -e trace=fsync,fdatasync" note
     wait_for 60 shows_in first '- 1:1'
     wait_for 30 grep -q bidi_edit "$folder/synced"
-    has 'keeping, on the disk before the first key' "$(head -n 1 "$folder/synced")" "/path "
+    wait_for 30 grep -q '/path>' "$folder/synced"
+    report 'keeping, on the disk before the first key' $? "$(cat "$folder/synced")"
     terminal send-keys -t first x
     wait_for 30 shows_in first '* 1:2'
     : >"$folder/synced"
     terminal send-keys -t first y
-    wait_for 20 grep -q 'journal$' "$folder/synced"
+    wait_for 20 grep -q '/journal>' "$folder/synced"
     report 'keeping, on the disk when typing pauses' $? 'the journal is not put there'
     : >"$folder/synced"
     sleep 2
     same 'keeping, nothing is put there twice' "$(cat "$folder/synced")" ''
     close_editors first
-    rm -rf "$folder/tools" "$folder/synced" note
+    rm -rf "$folder/synced" note
 }
 
 check_keeping() {

@@ -59,7 +59,7 @@ check_two_answers() { # SECOND ANSWER
     close_editors first second
 }
 
-# The launcher is a child of a process that never waits for it.
+# The host is a child of a process that never waits for it.
 check_unreaped() {
     rm -rf "$folder/state"
     printf 'ab\n' >note
@@ -71,7 +71,7 @@ check_unreaped() {
     kill -s KILL "$(editor_process)"
     sleep 1
     open_editor second '' note
-    expect_in second 'liveness, a dead launcher that nobody reaped' 'an unfinished session of'
+    expect_in second 'liveness, a dead host that nobody reaped' 'an unfinished session of'
     close_editors first second
 }
 
@@ -109,7 +109,7 @@ check_liveness() {
     check_other_namespace
     check_other_host
     check_two_answers recover
-    check_two_answers discard
+    check_two_answers delete
     check_unreaped
     check_changed_meanwhile
     check_new_session

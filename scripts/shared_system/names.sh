@@ -44,17 +44,17 @@ is_harmless() { # FILE
     ' "$folder/letters"
 }
 
-# Checks the launcher's message without a terminal, in `told`: it has the name quoted for a shell, and no other hidden byte.
+# Checks the message without a terminal, in `told`: it has the name quoted for a shell, and no other hidden byte.
 tells() { # CHECK TOLD WORD..
     checked=$1 told_as=$2
     shift 2
-    as_user timeout -s KILL 20 setsid -w "$launcher" "$@" </dev/null >"$folder/told" 2>&1
+    as_user timeout -s KILL 20 setsid -w "$host" "$@" </dev/null >"$folder/told" 2>&1
     is_harmless "$folder/told"
     report "names, $checked: nothing hidden" $? "$(cat -v "$folder/told")"
     has "names, $checked: the name" "$(cat "$folder/told")" "$told_as"
 }
 
-# Checks one name in the launcher's messages.
+# Checks one name in the editor's messages.
 check_messages() { # WORD TOLD
     word=$1 as_told="\$'$2'"
     name_of_told "$2"
@@ -104,7 +104,7 @@ check_printing_messages() { # WORD TOLD
     as_user rm -f "$name"
 }
 
-# Runs the launcher itself in a folder with that name, without its tables.
+# Runs the editor itself in a folder with that name, without its tables.
 check_own_tables() { # TOLD
     [ ! -r /usr/share/unicode/BidiBrackets.txt ] || {
         skip 'names, its own tables' "Debian's are there"
@@ -114,9 +114,9 @@ check_own_tables() { # TOLD
     mkdir "$folder/$name"
     cp -R "$installed/bin" "$installed/lib" "$folder/$name/"
     chmod -R go+rX "$folder/$name"
-    was=$launcher launcher=$folder/$name/bin/bidi-edit
+    was=$host host=$folder/$name/bin/bidi-edit
     tells 'its own tables' "\$'$folder/$1/bin/../share/bidi_edit' lacks" f
-    launcher=$was
+    host=$was
     rm -rf "${folder:?}/$name"
 }
 
@@ -137,12 +137,19 @@ check_building_names() { # TOLD
     rm -rf "${folder:?}/$name"
 }
 
-# Checks the title, and the program's fault lines about the name.
+# Checks the title, and what is told of a fault of the program's about the name.
 check_title_and_fault() { # TOLD
     name_of_told "$1"
     program=$folder/recorder/lib/bidi_edit/bidi_edit
     mv "$program" "$program.was"
-    printf '%s\n' '#!/bin/sh' '[ "$1" != --check ] || exit 0' 'for file; do :; done' 'printf "bidi_edit: cannot read %s\n" "$file" >&2' 'sleep 0.3' 'exit 1' >"$program"
+    cat >"$program" <<'END'
+#!/bin/sh
+while [ "$1" != --before ]; do shift; done
+printf '%s' "$2"
+printf 'f unreadable\000' >&2
+sleep 0.3
+exit 1
+END
     chmod 755 "$program"
     start 8 60 "$recorder" "$name"
     wait_for 50 has_ended
@@ -150,12 +157,12 @@ check_title_and_fault() { # TOLD
     same 'names, the title' "$(LC_ALL=C tr '\033\007' '\n\n' <"$folder/output" | LC_ALL=C grep -a '^]2;' | head -n 1)" "]2;\$'$1' - ^S save ^Q quit"
     is_harmless "$folder/errors"
     report 'names, what the program says: nothing hidden' $? "$(cat -v "$folder/errors")"
-    has 'names, what the program says' "$(cat "$folder/errors")" "bidi_edit: cannot read $(printf '%s' "$1" | sed 's/\\012/|/' | tr '|' '\n')"
+    has 'names, what the program says' "$(cat "$folder/errors")" "bidi-edit: \$'$1' cannot be read by you"
     terminal kill-session -t person
     mv "$program.was" "$program"
 }
 
-# Checks a program's own messages about a name in UTF-8 without the launcher; it refuses other names.
+# Checks a program's own messages about a name in UTF-8 without the host; it refuses other names.
 program_tells() { # CHECK WANTED PROGRAM WORD..
     checked=$1 wanted_words=$2 built=$top/crates/$3/out/$3
     shift 3

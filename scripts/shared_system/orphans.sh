@@ -1,19 +1,23 @@
 # shellcheck shell=sh
 # shellcheck disable=SC2034,SC2154 # variables shared with other parts
-# The remains of a killed launcher, and a launcher whose terminal is blocked.
+# The remains of a killed host, and a host whose terminal is blocked.
 
-# The shell after the launcher gets its whole line, and nothing of the editor remains.
-check_killed_launcher() {
+# The terminal is as before, the shell after the host gets its whole line, and nothing of the editor remains.
+check_killed_host() {
     open_recorder
     kill -s KILL "$process"
     wait_for 30 has_ended
     wait_for 30 has_no_process
-    same 'orphans, processes of a killed launcher' "$(processes_of_check)" ''
+    same 'orphans, processes of a killed host' "$(processes_of_check)" ''
+    same 'orphans, the settings of its terminal' "$(cat "$folder/after")" "$(cat "$folder/before")"
+    same 'orphans, the modes of its terminal' "$(modes_of person)" '0 0 0 23 1 1'
+    wait_for 20 is_over
+    report 'orphans, the screen before' $? 'the alternate screen stays'
     for letter in a l i n e; do type_keys "$letter"; done
     type_keys C-j
     wait_for 20 test -s "$folder/line"
     same 'orphans, the next line is the shell'"'"'s' "$(cat "$folder/line" 2>/dev/null)" aline
-    same 'orphans, folders of a killed launcher' "$(ls -A "$folder/private")" ''
+    same 'orphans, files of a killed host' "$(ls -A "$folder/private")" ''
     kill_what_stays
     terminal kill-session -t person
 }
@@ -28,14 +32,14 @@ check_full_terminal() { # SIGNAL
     timeout 1 dd if=/dev/zero bs=1 2>/dev/null >"$tty"
     kill -s "$1" "$process"
     wait_for 90 has_ended
-    report "orphans, a terminal that takes nothing, $1" $? 'the launcher does not end'
+    report "orphans, a terminal that takes nothing, $1" $? 'it does not end'
     kill -s CONT "$server"
     kill_what_stays
     terminal kill-session -t person
 }
 
-# Kills all processes of a launcher at once, so that none can clean up.
-kill_whole_launcher() {
+# Kills all processes of an editor at once, so that none can clean up.
+kill_whole_editor() {
     open_recorder
     # shellcheck disable=SC2046 # split into words
     kill -s KILL $(processes_of_check)
@@ -43,39 +47,41 @@ kill_whole_launcher() {
     terminal kill-session -t person
 }
 
-check_left_folders() {
-    rm -rf "$folder"/private/*
-    kill_whole_launcher
-    left=$(ls "$folder/private")
-    same 'orphans, one folder is left' "$(echo "$left" | wc -l)" 1
-    touch -d '5 minutes ago' "$folder/private/$left"
-    # a live one, by its lock, and one of another user
-    as_user mkdir "$folder/private/bidi-edit.locked"
-    as_user mkfifo "$folder/private/bidi-edit.locked/life"
-    flock "$folder/private/bidi-edit.locked" true
-    sh -c 'exec 8<>"$0" && flock 8 && exec sleep 60' "$folder/private/bidi-edit.locked/life" &
+# What is left of one then: no file in TMPDIR, and in the state folder a session that none asks about. A later start sweeps it if
+# it has no text yet, but not one that is locked, nor another user's.
+check_left_sessions() {
+    rm -rf "$folder/state"
+    kill_whole_editor
+    same 'orphans, files of an editor that was killed as a whole' "$(ls -A "$folder/private")" ''
+    left=$(session_of_check)
+    same 'orphans, one session is left' "$(find "$folder/state/bidi_edit" -mindepth 1 -maxdepth 1 | wc -l)" 1
+    as_user rm -f "$left/path"
+    locked=$folder/state/bidi_edit/20200101000000.locked others=$folder/state/bidi_edit/20200101000000.others
+    as_user mkdir "$locked" "$others"
+    as_user touch "$locked/lock" "$others/lock"
+    flock "$locked/lock" sleep 60 &
     holder=$!
-    wanted_left='bidi-edit.locked'
+    wanted_left=20200101000000.locked
     if [ -n "$stranger" ]; then
-        cp -R "$folder/private/$left" "$folder/private/bidi-edit.others"
-        chown -R "$stranger" "$folder/private/bidi-edit.others"
-        wanted_left='bidi-edit.locked bidi-edit.others'
+        chown -R "$stranger" "$others"
+        wanted_left='20200101000000.locked 20200101000000.others'
     fi
-    touch -d '5 minutes ago' "$folder"/private/*
-    sleep 0.2
+    touch -d '3 hours ago' "$locked" "$others" "$left"
     open_recorder
     type_keys C-q
     wait_for 30 has_ended
-    same 'orphans, the next start sweeps' "$(for left in "$folder"/private/*; do printf '%s ' "${left##*/}"; done)" "$wanted_left "
-    kill -s KILL "$holder"
+    same 'orphans, the next start sweeps' "$(for each in "$folder"/state/bidi_edit/2*; do echo "${each##*/}"; done | grep -v "^$(date +%Y)" | paste -s -d ' ')" "$wanted_left"
+    same 'orphans, the next start sweeps what was left' "$(ls -d "$left" 2>/dev/null)" ''
+    kill -s TERM "$holder"
+    wait "$holder" 2>/dev/null
     terminal kill-session -t person
-    rm -rf "$folder"/private/*
+    rm -rf "$folder/state"
 }
 
 check_orphans() {
     asked orphans || return 0
-    check_killed_launcher
+    check_killed_host
     check_full_terminal TERM
     check_full_terminal HUP
-    check_left_folders
+    check_left_sessions
 }

@@ -9,6 +9,7 @@ make_source() {
     mkdir -p "$source/host/out" "$source/crates/bx_launch/src"
     cp -R "$top/bidi-edit" "$top/launcher" "$top/data" "$top/scripts" "$top/docs" "$source/"
     cp "$top/crates/bx_launch/src/help.rt" "$source/crates/bx_launch/src/"
+    cp "$top/host/build.sh" "$source/host/"
     printf '#!/bin/sh\n# GLIBC_2.34\necho bidi-edit %s\n' "$version" >"$source/host/out/bidi-edit"
     chmod 755 "$source/host/out/bidi-edit"
     for name in bidi_keep bidi_edit bidi_input bidi_print; do
@@ -58,6 +59,20 @@ check_failed_copy() {
     same 'packages, a copy that fails: status' "$status" 1
     same 'packages, a copy that fails: what is there' "$(tree_of "$prefix")" "$before"
     as_user mv "$source/docs/elsewhere" "$source/docs/bidi_edit.1"
+    rm -rf "$prefix"
+}
+
+# A host that is older than its sources, and no compiler for a new one.
+check_no_compiler() {
+    installs "$prefix"
+    before=$(tree_of "$prefix")
+    as_user touch -d '1 hour ago' "$source/host/out/bidi-edit"
+    as_user env CC=no-compiler sh "$source/scripts/install.sh" "$prefix" >"$folder/said" 2>&1
+    same 'packages, no compiler: status' "$?" 1
+    has 'packages, no compiler: what is told' "$(cat "$folder/said")" \
+        'there is no C compiler no-compiler: on Debian, apt install gcc libc6-dev gives one'
+    same 'packages, no compiler: what is there' "$(tree_of "$prefix")" "$before"
+    as_user touch "$source/host/out/bidi-edit"
     rm -rf "$prefix"
 }
 
@@ -151,6 +166,7 @@ check_packages() {
     make_source
     check_modes_there
     check_failed_copy
+    check_no_compiler
     check_starts_meanwhile
     check_removal
     check_newer_version

@@ -9,25 +9,23 @@ own_folders() {
     echo "export HOME='$folder/home' XDG_STATE_HOME='$folder/state'"
 }
 
-# Finds the private folder of the running launcher from its open pipes.
-private_folder() {
-    for each in /proc/"$(process_of ".*bin/bidi-edit")"/fd/*; do
-        readlink "$each"
-    done | sed -n 's|^\(.*/bidi-edit\.[A-Za-z0-9]*\)/.*|\1|p' | head -n 1
-}
-
-# A session with this TMPDIR continues elsewhere, after one line.
+# A session with this TMPDIR goes on as others do: nothing is told, nothing is made there or in /tmp, and what is typed is kept.
 passes_over() { # NAME TMPDIR
     setup="$(own_folders) TMPDIR='$2'"
-    start 8 60 "$recorder" f
+    before=$(things_in /tmp "$2")
+    start 8 60 "$recorder" kept
     wait_for 50 test -e "$folder/record"
-    at=$(private_folder)
-    same "places, $1: the folder taken" "${at%/*}" /tmp
+    same "places, $1: what is typed is kept" "$(cat "$folder"/state/bidi_edit/[0-9]*/journal 2>/dev/null)" x
     type_keys C-q
     finish "places, $1" 7 50
-    same "places, $1: what is told" "$(paste -s -d '|' "$folder/errors")" "bidi-edit: TMPDIR names $2, where nothing can be made: /tmp is taken|bidi_edit: output failed"
-    same "places, $1: what stays" "$(ls -d "$at" 2>/dev/null)" ''
+    same "places, $1: nothing is told of it" "$(grep -c TMPDIR "$folder/errors")" 0
+    same "places, $1: what is made in folders for temporary files" "$(things_in /tmp "$2")" "$before"
     setup=''
+}
+
+# Lists what the editor has made in these folders.
+things_in() { # FOLDER..
+    find "$@" -maxdepth 1 -mindepth 1 -user "$user" -name 'bidi*' 2>/dev/null | sort
 }
 
 check_temporary() {
@@ -82,13 +80,16 @@ check_state_home() {
 
 # ---- the first start
 
-# Makes a repository of two programs of a few lines, and a command in place of rt: it runs until there is no file `slow`, and
-# fails if there is a file `bad`.
+# Makes a repository of three programs of a few lines, with a host that does nothing, and a command in place of rt: it runs until
+# there is no file `slow`, and fails if there is a file `bad`.
 make_clone() {
     clone=$folder/clone kit=$folder/kit
-    mkdir -p "$clone" "$kit"
+    mkdir -p "$clone/host/out" "$kit"
     cp -R "$top/bidi-edit" "$top/launcher" "$top/data" "$clone/"
-    for name in bidi_edit bidi_input; do
+    cp "$top/host/build.sh" "$clone/host/"
+    printf '#!/bin/sh\nexit 0\n' >"$clone/host/out/bidi-edit"
+    chmod 755 "$clone/host/out/bidi-edit"
+    for name in bidi_edit bidi_input bidi_keep; do
         mkdir -p "$clone/crates/$name/src"
         echo '// a line' >"$clone/crates/$name/src/main.rt"
         echo "$name:" >>"$clone/crates.txt"
@@ -200,7 +201,7 @@ check_stale_number() {
 
 # ---- a read-only repository
 
-# Starts the launcher there, in a terminal, with the command in place of rt first in PATH.
+# Starts the editor there, in a terminal, with the command in place of rt first in PATH.
 start_there() { # NAME STATUS VARIABLE..
     setup="$(own_folders) PATH='$kit':\$PATH ${3:-}"
     start 8 100 "$clone/bidi-edit" f
@@ -214,6 +215,13 @@ check_read_only() { # NAME
         "bidi-edit: the editor is not built, and nothing can be written in $clone to build it: build it in a copy of your own"
 }
 
+# A repository without a host either.
+check_no_host() { # NAME
+    start_there "$1, without a host" 1
+    same "places, $1, without a host: what is told" "$(cat "$folder/errors")" \
+        "bidi-edit: the host is not built, and nothing can be written in $clone/host to build it: build it in a copy of your own"
+}
+
 check_closed_clone() {
     make_clone
     chown -R "$(id -u)" "$clone"
@@ -222,12 +230,17 @@ check_closed_clone() {
         mounted="$mounted $clone"
         mount -o remount,bind,ro "$clone"
         check_read_only 'a read-only repository'
+        mount -o remount,bind,rw "$clone"
+        mv "$clone/host/out" "$clone/host/elsewhere"
+        mount -o remount,bind,ro "$clone"
+        check_no_host 'a read-only repository'
         umount "$clone"
+        mv "$clone/host/elsewhere" "$clone/host/out"
         mounted=${mounted% *}
     else
         skip 'places, a read-only repository' 'nothing can be mounted'
     fi
-    for name in bidi_edit bidi_input; do
+    for name in bidi_edit bidi_input bidi_keep; do
         mkdir -p "$clone/crates/$name/out"
         printf '#!/bin/sh\nexit 0\n' >"$clone/crates/$name/out/$name"
     done

@@ -11,7 +11,7 @@ spoil_session() {
     wait_for 60 shows_in first '[d]elete for good'
     say_in first recover
     expect_in first "recovered, a session that cannot be replayed ($1)" 'could not be replayed'
-    expect_in first "recovered, what is offered ($1)" '(open, keep, drop)?'
+    expect_in first "recovered, what is offered ($1)" '(open, keep)?'
     say_in first "$1"
 }
 
@@ -31,10 +31,14 @@ check_unreplayed() {
     close_editors first
     rm -f note.session-*
     spoil_session drop
-    expect_in first 'recovered, drop: FILE is opened' '- 1:1'
-    test ! -e "$session"
-    report 'recovered, drop: the session is gone' $? 'it is there'
+    wait_for 60 shows_twice '(open, keep)?'
+    report 'recovered, drop: it is no answer, and is asked again' $? "$(terminal capture-pane -p -J -t first | grep . | tr '\n' '|')"
+    same 'recovered, drop: the session stays' "$(cat "$session/journal")" x
     close_editors first
+}
+
+shows_twice() { # TEXT
+    [ "$(terminal capture-pane -p -J -t first | grep -cF -e "$1")" = 2 ]
 }
 
 # The text is recovered as note.recovered, which does not exist before the first save.
@@ -80,7 +84,7 @@ check_mode() {
     terminal send-keys -t first x
     wait_for 60 shows_in first '* 1:2'
     kill_editor first
-    as_user "$launcher" --recover --to other note >/dev/null
+    as_user "$host" --recover --to other note >/dev/null
     same 'recovered, --to: text and permissions' "$(cat other) $(stat -c %a other)" 'xab 600'
     rm -f note
     open_editor first '' --recover note
@@ -91,12 +95,12 @@ check_mode() {
     close_editors first
     rm -f note other
     as_user ln -s nowhere other
-    as_user "$launcher" --recover --to other note >"$folder/output" 2>&1
+    as_user "$host" --recover --to other note >"$folder/output" 2>&1
     same 'recovered, --to through a link' "$? $(ls)" '1 other'
     rm -f other
 }
 
-# A later start removes the unfinished sessions of killed launchers, and keeps recent ones.
+# A later start removes the unfinished sessions of killed starts, and keeps recent ones.
 check_swept() {
     rm -rf "$folder/state"
     as_user mkdir -p -m 700 "$folder/state/bidi_edit"

@@ -5,8 +5,8 @@
 #
 # Variables for parts: `who`, root or plain; `user`, the number of the editing user, and `stranger`, the
 # number of another plain user, empty if this script cannot become one; `folder`, new for the round and owned by the user, with
-# `files`, where a session of person.sh runs, and `private`, its TMPDIR; `launcher`, an installed copy that all may read, and
-# `recorder`, one whose program only records its input. `start LAUNCHER WORD..` of person.sh runs as the user. `round` counts
+# `files`, where a session of person.sh runs, and `private`, its TMPDIR; `host`, an installed copy that all may read, and
+# `recorder`, one whose program only records its input. `start EDITOR WORD..` of person.sh runs as the user. `round` counts
 # from 1, for checks that are the same in each. A part appends its mounts to `mounted`. open_editor opens several editors that
 # share a state folder.
 
@@ -15,7 +15,7 @@ install_copy() {
     installed=$room/installed
     sh "$top/scripts/install.sh" "$installed" >/dev/null || exit 1
     chmod -R go+rX "$installed"
-    launcher=$installed/bin/bidi-edit
+    host=$installed/bin/bidi-edit
     round=0
 }
 
@@ -70,7 +70,7 @@ open_editor() { # NAME PREFIX WORD..
     {
         echo "export HOME='$HOME' XDG_STATE_HOME='$XDG_STATE_HOME' TMPDIR='$folder/private'"
         echo "cd '$folder/files'"
-        printf '%s' "${prefix:+$prefix }${as:+$as }'$launcher'"
+        printf '%s' "${prefix:+$prefix }${as:+$as }'$host'"
         for word in "$@"; do printf " '%s'" "$word"; done
         printf '\necho "status $?"; exec sleep 600\n'
     } >"$folder/run.$name"
@@ -86,13 +86,13 @@ close_editors() { # NAME..
 }
 
 editors() {
-    pgrep -f "$launcher " | tr '\n' ' '
+    pgrep -f "$host " | tr '\n' ' '
 }
 
 # Finds the host of an editor, without its watcher.
 # shellcheck disable=SC2009 # by their parents
 editor_process() {
-    ps -eo pid=,ppid=,args= | grep -F -e "$launcher " | grep -v -e grep -e unshare -e setpriv | first_parent
+    ps -eo pid=,ppid=,args= | grep -F -e "$host " | grep -v -e grep -e unshare -e setpriv -e strace | first_parent
 }
 
 has_no_editor() {

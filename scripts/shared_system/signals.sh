@@ -2,11 +2,11 @@
 # shellcheck disable=SC2034,SC2154 # variables shared with other parts
 # Simultaneous signals, such as a resize and the end of the terminal, and a blocked terminal.
 
-launcher_of_person() {
+host_of_person() {
     process_of ".*bin/bidi-edit"
 }
 
-# Lists all processes of the launcher that a check started, none of which may remain.
+# Lists all processes of the host that a check started, none of which may remain.
 processes_of_check() {
     pgrep -f "$folder/recorder/" | tr '\n' ' '
 }
@@ -23,7 +23,7 @@ kill_what_stays() {
 open_recorder() {
     start 24 80 "$recorder" f
     wait_for 50 test -e "$folder/record"
-    process=$(launcher_of_person)
+    process=$(host_of_person)
     group=$(ps -o pgid= -p "$process" | tr -d ' ')
 }
 

@@ -2,7 +2,7 @@
 # shellcheck disable=SC2034,SC2154 # variables shared with other parts
 # Sessions of another version of the editor or its tables: recovered from the snapshot, or with a warning.
 
-# Kills the program, so that the launcher leaves the session, and replaces its versions.
+# Kills the program, so that the keeper leaves the session, and replaces its versions.
 leave_other_version() {
     rm -rf "$folder/state" note*
     printf 'ab\n' | as_user tee note >/dev/null
@@ -10,7 +10,7 @@ leave_other_version() {
     wait_for 60 shows_in first '- 1:1'
     terminal send-keys -t first x y
     wait_for 60 shows_in first '* 1:3'
-    kill -s KILL "$(pgrep -f "bidi_edit --rows.*$folder/state/")"
+    kill -s KILL "$(program_of_check)"
     wait_for 60 shows_in first status
     session=$(session_of_check)
     same 'versions, the text where a session was left' "$(cat "$session/snapshot")" xyab
@@ -19,7 +19,7 @@ leave_other_version() {
 
 check_snapshot() {
     leave_other_version
-    as_user "$launcher" --recover --to other note >/dev/null
+    as_user "$host" --recover --to other note >/dev/null
     same 'versions, its text is stored elsewhere' "$(cat other)" xyab
     rm -f other
     open_editor first '' --recover note
@@ -47,7 +47,7 @@ check_snapshot() {
 # A recovered text is kept even if no key is typed.
 check_untouched() {
     as_user truncate -s 0 "$(session_of_check)/journal"
-    as_user "$launcher" --recover >"$folder/output" 2>&1 </dev/null
+    as_user "$host" --recover >"$folder/output" 2>&1 </dev/null
     has 'versions, without a key: it is listed' "$(cat "$folder/output")" 'keys: 0'
     open_editor first '' note
     expect_in first 'versions, without a key: it is asked about' 'note has an unfinished session'

@@ -213,7 +213,7 @@ check_title() { # KIND
     report "$1, title at the end" $? "$(title)"
 }
 
-# A terminal mirrors words unless it is set not to, and the launcher tells the setting.
+# A terminal mirrors words unless it is set not to, and the host tells the setting.
 check_note() { # KIND LINE FILE
     open_editor text "$1-editor"
     leave_editor "$1"

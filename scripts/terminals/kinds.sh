@@ -57,7 +57,7 @@ reorders() { # KIND
 }
 
 # Prints what tells it to leave rows in the order that they come in, as a format of printf. konsole and mlterm do not obey the
-# first sequence, and are told as the launcher tells them; OSC 50 would ask xterm and urxvt for a font.
+# first sequence, and are told as the host tells them; OSC 50 would ask xterm and urxvt for a font.
 reordering_off() { # KIND
     case $1 in
     konsole*) printf %s '\033[8l\033]50;BidiRenderingEnabled=false\a' ;;

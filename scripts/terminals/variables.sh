@@ -1,8 +1,8 @@
 # shellcheck shell=sh
 # shellcheck disable=SC2154 # variables shared with other parts
-# What the launcher tells a terminal that it knows by its variables, and that it tells no other one, without a window.
+# What the host tells a terminal that it knows by its variables, and that it tells no other one, without a window.
 
-# Prints the sequences for the operating system (OSC) that the launcher writes under these variables, without the title.
+# Prints the sequences for the operating system (OSC) that the host writes under these variables, without the title.
 sequences() { # NAME=VALUE..
     while sleep 0.3; do printf '\021'; done |
         env SHELL=/bin/sh "$@" script -q -c "cd '$room/files' && '$top/bidi-edit' text" "$room/bytes" >/dev/null 2>&1
