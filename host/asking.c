@@ -8,6 +8,7 @@
 #include "keeper.h"
 #include "question.h"
 #include "signals.h"
+#include "typing.h"
 #include "waiting.h"
 #include "writing.h"
 
@@ -36,6 +37,8 @@ static bool carry_out_one(const struct message *message, struct request *request
     case 'f': add_facts(&keeper.said, message->text); return false;
     case 'q': ask(message->text); return false;
     case 'n': set_title(request, message->text); return false;
+    case 'm': give_notice(message->text); return false;
+    case 'u': request->mask = (unsigned)strtoul(message->text, NULL, 8) & 0777; return false;
     case 'g': *outcome = GO; return true;
     case 'P': *outcome = PRINT; return true;
     case 'x':

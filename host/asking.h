@@ -10,6 +10,7 @@ struct request {
     struct command program, printer;
     char *title;
     int status;
+    unsigned mask; /* permissions that no new file of the program gets */
 };
 
 /* Carries out what the keeper says until it says how to go on. */

@@ -6,12 +6,14 @@
 #include <stdio.h>
 #include <string.h>
 #include <sys/prctl.h>
+#include <sys/stat.h>
 #include <sys/wait.h>
 #include <unistd.h>
 
 #include "keeper.h"
 #include "signals.h"
 #include "terminal.h"
+#include "typing.h"
 #include "watcher.h"
 #include "writing.h"
 
@@ -51,10 +53,10 @@ static _Noreturn void copy_keys(void) {
 }
 
 /* Becomes the filter, which dies with the host and whose own messages nobody could read. */
-static _Noreturn void become_filter(char *file, pid_t host) {
+static _Noreturn void become_filter(char *file, int in, pid_t host) {
     int none = open("/dev/null", O_WRONLY);
     if (prctl(PR_SET_PDEATHSIG, SIGKILL) != 0 || getppid() != host) _exit(1);
-    if (dup2(screen, STDIN_FILENO) < 0 || dup2(keys, STDOUT_FILENO) < 0 || none < 0 || dup2(none, STDERR_FILENO) < 0) _exit(126);
+    if (dup2(in, STDIN_FILENO) < 0 || dup2(keys, STDOUT_FILENO) < 0 || none < 0 || dup2(none, STDERR_FILENO) < 0) _exit(126);
     tell_watcher(FILTER_BEGINS, getpid());
     give_back_signals();
     if (!file) copy_keys();
@@ -71,11 +73,12 @@ static _Noreturn void become_filter(char *file, pid_t host) {
 
 /* Becomes the program, which ends at its input's end, ignores a closed terminal's HUP, and fails at a write beyond the limit of
  * a file's size in place of being killed. It holds the keeper's input, so that the keeper outlives it. */
-static _Noreturn void become_program(char **program_words, int in, int words_end) {
+static _Noreturn void become_program(char **program_words, unsigned mask, int in, int words_end) {
     signal(SIGHUP, SIG_IGN);
     signal(SIGXFSZ, SIG_IGN);
     if (dup2(in, STDIN_FILENO) < 0 || dup2(screen, STDOUT_FILENO) < 0 || dup2(words_end, STDERR_FILENO) < 0) _exit(126);
     if (keeper.to >= 0) fcntl(keeper.to, F_SETFD, 0);
+    umask(umask(0) | (mode_t)mask);
     tell_watcher(PROGRAM_BEGINS, getpid());
     give_back_signals();
     execv(program_words[0], program_words);
@@ -83,17 +86,18 @@ static _Noreturn void become_program(char **program_words, int in, int words_end
     _exit(127);
 }
 
-bool start_children(char *filter_file, char **program_words, int words_end) {
-    int ends[2] = {-1, -1};
+bool start_children(char *filter_file, char **program_words, unsigned mask, int words_end) {
+    int ends[2] = {-1, -1}, in = open_typing();
     pid_t host = getpid();
-    if (pipe2(ends, O_CLOEXEC) == 0) {
+    if (in >= 0 && pipe2(ends, O_CLOEXEC) == 0) {
         keys = ends[1];
         filter = fork();
-        if (filter == 0) become_filter(filter_file, host);
+        if (filter == 0) become_filter(filter_file, in, host);
         program = filter > 0 ? fork() : -1;
-        if (program == 0) become_program(program_words, ends[0], words_end);
+        if (program == 0) become_program(program_words, mask, ends[0], words_end);
         close(ends[0]);
     }
+    if (in >= 0) close(in);
     close(words_end);
     bool is_started = program > 0;
     if (filter < 0) filter = 0;
@@ -112,6 +116,7 @@ void reap_children(void) {
 }
 
 void close_input(void) {
+    close_typing();
     if (filter > 0) kill(filter, SIGKILL);
     if (keys >= 0) close(keys);
     keys = -1;

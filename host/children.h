@@ -17,8 +17,8 @@ extern bool is_size_owed;
 /* Makes the pipe of the program's words; gives its writing end, or -1. */
 int open_words(void);
 
-/* Starts both. Without a filter's file the keys are copied as they are. */
-bool start_children(char *filter_file, char **program_words, int words_end);
+/* Starts both. Without a filter's file the keys are copied as they are. No new file of the program gets the permissions `mask`. */
+bool start_children(char *filter_file, char **program_words, unsigned mask, int words_end);
 
 /* Takes note of the children that have ended. */
 void reap_children(void);

@@ -57,6 +57,7 @@ static bool carry_out_last(const struct message *message, int *status, int64_t e
     case '.':
     case 'n':
     case '!':
+    case 'm':
     case 'r': return false;
     case 'x': *status = read_status(message->text); break;
     default: break;

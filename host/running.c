@@ -15,12 +15,13 @@
 #include "processes.h"
 #include "sequences.h"
 #include "signals.h"
+#include "typing.h"
 #include "waiting.h"
 #include "watcher.h"
 #include "writing.h"
 
 /* How long the program has to end, and the terminal to take what restores it, without and with a signal. */
-enum { GRACE = 3000, START = 3000, PATIENCE = 10000, SHORT_PATIENCE = 1000, SECOND = 1000 };
+enum { GRACE = 3000, START = 3000, PATIENCE = 10000, SHORT_PATIENCE = 1000, SECOND = 1000, FILTERING = 500 };
 
 static bool is_answered = true;
 
@@ -34,6 +35,7 @@ static void obey_keeper(void) {
         case '!': show("\a"); break;
         case 'r': is_size_owed = keys >= 0; break;
         case 'f': start_facts(message.text); break;
+        case 'm': give_notice(message.text); break;
         default: refuse_message(); return;
         }
     }
@@ -61,13 +63,15 @@ static void mind_terminal(void) {
     is_resized = is_continued = 0;
 }
 
-/* Ends the program's input where the session is to end, and kills a program that does not end in time. Returns false where it
- * does not even then. */
+/* Ends the program's input where the session is to end, once the filter has handed on what was typed, and kills a program that
+ * does not end in time. Returns false where it does not even then. */
 static bool mind_end(int64_t *end, bool *is_killed) {
-    if (keys >= 0 && (end_signal || filter == 0 || keeper.state != KEEPER_SPEAKS)) {
-        close_input();
+    bool is_over = end_signal || filter == 0 || keeper.state != KEEPER_SPEAKS;
+    if (is_over && *end == 0) {
+        end_typing();
         *end = now() + GRACE;
     }
+    if (is_over && keys >= 0 && (filter == 0 || now() >= *end - GRACE + FILTERING)) close_input();
     if (*end == 0 || now() < *end) return true;
     if (*is_killed) return false;
     kill(program, SIGKILL);
@@ -75,6 +79,12 @@ static bool mind_end(int64_t *end, bool *is_killed) {
     *is_killed = true;
     *end = now() + SHORT_PATIENCE;
     return true;
+}
+
+/* When the next thing is to be done without being woken. */
+static int64_t next_moment(int64_t end, int64_t second) {
+    if (end != 0 && keys >= 0 && end - GRACE + FILTERING < second) return end - GRACE + FILTERING;
+    return end != 0 && end < second ? end : second;
 }
 
 static void run(void) {
@@ -85,7 +95,8 @@ static void run(void) {
         if (!mind_end(&end, &is_killed)) return;
         mind_terminal();
         tell_second(&second);
-        wait_once(end != 0 && end < second ? end : second);
+        mind_notices();
+        wait_once(next_moment(end, second));
     }
 }
 
@@ -141,7 +152,7 @@ int run_program(const struct request *request, const char *editor, char *filter_
     if (change_terminal()) {
         *cause = "no process can be started";
         listen_once();
-        is_started = !end_signal && start_children(filter_file, command.words, words_end);
+        is_started = !end_signal && start_children(filter_file, command.words, request->mask, words_end);
         is_size_owed = is_started && is_other_window(&command);
     }
     if (is_started) run();

@@ -7,13 +7,14 @@
 #include "keeper.h"
 #include "signals.h"
 #include "terminal.h"
+#include "typing.h"
 
 static bool holds(const struct queue *queue) {
     return queue->end > queue->start;
 }
 
 void wait_once(int64_t end) {
-    enum { FROM, TO, WORDS, FACTS, KEYS, LINE, FILES };
+    enum { FROM, TO, WORDS, FACTS, KEYS, TYPED, LINE, FILES };
     /* poll passes over a file of -1; a size comes behind what the terminal is told before the repainting */
     struct pollfd files[FILES] = {
         [FROM] = {.fd = keeper.from, .events = POLLIN},
@@ -21,12 +22,18 @@ void wait_once(int64_t end) {
         [WORDS] = {.fd = words, .events = POLLIN},
         [FACTS] = {.fd = facts_answer, .events = POLLIN},
         [KEYS] = {.fd = is_size_owed && !holds(&shown) ? keys : -1, .events = POLLOUT},
-        [LINE] = {.fd = holds(&shown) ? line : -1, .events = POLLOUT},
+        [TYPED] = {.fd = holds(&typing) ? typed : -1, .events = POLLOUT},
+        [LINE] = {.fd = line, .events = 0},
     };
+    if (takes_typing()) files[LINE].events |= POLLIN;
+    if (holds(&shown)) files[LINE].events |= POLLOUT;
+    if (files[LINE].events == 0) files[LINE].fd = -1;
     if (wait_for(files, FILES, end) <= 0) return;
     mind_keeper(files[FROM].revents, files[TO].revents);
     if (files[WORDS].revents) hear_words();
     if (files[FACTS].revents) go_on_with_facts();
-    if (files[LINE].revents) go_on_showing();
+    if (files[LINE].revents && holds(&shown)) go_on_showing();
+    if (files[LINE].revents & ~POLLOUT && takes_typing()) read_typing();
+    if (files[TYPED].revents) hand_on_typing();
     if (files[KEYS].revents && is_size_owed) send_size();
 }

@@ -90,6 +90,36 @@ def resizes(tree):
     yield from finish(run, 'resizes', 0)
 
 
+def notices(tree):
+    """A notice goes between keys: the first before all keys, a later one not into a paste nor a key, unless that stays unfinished."""
+    first, later = b'\x1b[>9~', b'\x1b[>1~'
+    cases = (('at once', [b'ab'], b'ab' + later),
+             ('a paste', [b'\x1b[200~ab', 2.2, b'cd\x1b[201~e'], b'\x1b[200~abcd\x1b[201~' + later + b'e'),
+             ('the end of a paste', [b'\x1b[200~ab\x1b[201', 2.2, b'~'], b'\x1b[200~ab\x1b[201~' + later),
+             ('a character', [0.8, b'\xd7', 0.4, b'\x90'], b'\xd7\x90' + later),
+             ('a sequence', [0.8, b'\x1b[1;5', 0.4, b'C'], b'\x1b[1;5C' + later),
+             ('an Escape', [b'\x1b', 2.2, b'x'], b'\x1b' + later + b'x'))
+    if tree.has_filter:
+        os.rename(f'{tree.top}/lib/bidi_edit/bidi_input', f'{tree.top}/lib/bidi_edit/bidi_input.away')
+    for name, steps, wanted in cases:
+        made = tree.file('raw') + '.made'
+        run = start(tree, 'edit', 'noticed', tree.file('raw'))
+        run.pump(5, b'hello')
+        for step in steps:
+            run.rest(step) if isinstance(step, float) else run.type(step)
+        run.rest(1.3)
+        with open(made, 'rb') as raw:
+            yield same(f'notices, {name}: what the program reads', raw.read(), first + wanted)
+        yield same(f'notices, {name}: mask', os.stat(made).st_mode & 0o777, 0o600)
+        run.type(QUIT)
+        run.rest(0.1)
+        run.type(QUIT)
+        yield from finish(run, f'notices, {name}', 0)
+        os.unlink(made)
+    if tree.has_filter:
+        os.rename(f'{tree.top}/lib/bidi_edit/bidi_input.away', f'{tree.top}/lib/bidi_edit/bidi_input')
+
+
 def standard_files(tree):
     plain = f"'{tree.host}' edit plain '{tree.file('files')}'"
     for how in ('<&- >&- 2>&-', '</dev/null >/dev/null', '2>&-', '<&-', '| cat', '>/dev/full 2>/dev/full'):
@@ -332,5 +362,5 @@ def missing_programs(tree):
         os.rename(f'{lib}/bidi_input.away', f'{lib}/bidi_input')
 
 
-ALL = [edits, sizes, resizes, standard_files, questions, refusals, statuses, printing, without_terminal, keepers, told_words, facts_meanwhile, late_signals, deaf_programs, limits,
+ALL = [edits, sizes, resizes, notices, standard_files, questions, refusals, statuses, printing, without_terminal, keepers, told_words, facts_meanwhile, late_signals, deaf_programs, limits,
        missing_programs]

@@ -1,7 +1,8 @@
 /* A program for tests, in place of bidi_edit: paints, reads keys, and keeps them in FILE's journal.
  *
  * fake_editor [--words] [--before TEXT] [--rows N] [--cols N] [--replay PATH] FILE. FILE's name tells what it does: `refused` is refused; `flood`
- * writes without end and reads nothing; `deaf` reads nothing and does not end; `broken` ends by a fault; `chatty` says words. */
+ * writes without end and reads nothing; `deaf` reads nothing and does not end; `broken` ends by a fault; `chatty` says words;
+ * `raw` is written with all that is read, and FILE.made is made. */
 #define _GNU_SOURCE
 #include <errno.h>
 #include <signal.h>
@@ -15,7 +16,7 @@ static const char *before = "", *file = "", *rows = "24", *cols = "80";
 static char typed[65536], sequence[64];
 static size_t length, sequence_length;
 static bool has_words;
-static FILE *journal;
+static FILE *journal, *raw;
 
 static void put(const char *text) {
     size_t left = strlen(text);
@@ -93,12 +94,19 @@ int main(int count, char **words) {
     }
     act_by_name();
     journal = fopen(file, "a");
+    if (strstr(file, "raw")) {
+        static char made[4096];
+        snprintf(made, sizeof made, "%s.made", file);
+        raw = fopen(made, "w");
+    }
     char keys[256];
     ssize_t got = 0;
     do {
         for (ssize_t i = 0; i < got; i++) take(keys[i]);
         paint();
         got = read(STDIN_FILENO, keys, sizeof keys);
+        if (raw && got > 0) fwrite(keys, 1, (size_t)got, raw);
+        if (raw) fflush(raw);
     } while (got > 0 || (got < 0 && errno == EINTR));
     /* what is not saved ends with status 1 */
     return length > 0 ? 1 : 0;

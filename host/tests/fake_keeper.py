@@ -3,7 +3,7 @@
 
 edit KIND FILE: has the program edit FILE. KIND: plain; slow (answers no second, and the end after 2 s); mute (never answers the
     end); stuck (reads nothing any more); dies (at the first second); errs (says nonsense at the first second); titles (a title and a bell each second); told
-    (asks for the journal each second); sized (gives a size of its own); resumed (with a replay); curious (asks for facts each second and at the end)
+    (asks for the journal each second); noticed (a mask and a notice before the start, and a notice at the first second); sized (gives a size of its own); resumed (with a replay); curious (asks for facts each second and at the end)
 ask FILE: asks a question first, and tells the answer; facts PATH..: tells the facts; print WORD..: has the printer print;
 refuse: refuses; dies, errs, hangs: before the program. All that it hears is written to the file that FAKE_KEEPER_LOG names, which
 is read from the file `log` beside this program, since it has no words."""
@@ -51,6 +51,9 @@ def edit(kind, file, more=()):
         say(b'b', word)
     say(b'b', file)
     say(b'n', os.path.basename(file) + b' - ^S save ^Q quit')
+    if kind == b'noticed':
+        say(b'u', b'077')
+        say(b'm', b'9')
     say(b'g')
     if kind == b'stuck':
         time.sleep(60)
@@ -72,6 +75,8 @@ def edit(kind, file, more=()):
             if kind == b'titles':
                 say(b'n', b'title %d' % count)
                 say(b'!')
+            if kind == b'noticed' and count == 1:
+                say(b'm', b'1')
             if kind == b'told':
                 say(b'r')
             if kind == b'curious':

@@ -123,7 +123,6 @@ fn replay_keys(around: Around<'_>, session: &Session, file: &str) -> Result<Repl
     )?;
     Ok(Replay {
         held: held_of(replayed.held),
-        keys: replayed.keys,
         text: Vec::from_slice(around.alloc(), store.contents())?,
     })
 }

@@ -4,8 +4,7 @@ use crate::start::Start;
 use bx_launch::Tables;
 use bx_sessions::{Machine, Process, Target, Versions};
 use std::alloc::{AllocError, Global};
-use std::fs;
-use std::process;
+use std::{fs, process};
 
 /// What all steps of a start know.
 #[derive(Clone, Copy)]

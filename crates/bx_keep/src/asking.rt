@@ -97,7 +97,8 @@ pub fn ask_choice<H: Host>(host: &mut H, alloc: Global) -> Result<Choice, Stop> 
 ///
 /// Errors: `Told` with status 2 where the input ended; `OutOfMemory`.
 pub fn ask_rest<H: Host>(host: &mut H, alloc: Global) -> Result<Rest, Stop> {
-    let question = "open FILE and leave the session, or keep its parts as files beside FILE (open, keep)?";
+    let question =
+        "open FILE and leave the session, or keep its parts as files beside FILE (open, keep)?";
     for _ in 0..u64::MAX {
         let answer = ask(host, alloc, question)?;
         if is_word(answer.as_str(), "open") {

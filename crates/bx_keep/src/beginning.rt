@@ -1,13 +1,14 @@
 //! A session that begins or goes on, before the program starts.
 
 use crate::around::Around;
+use crate::causes::Unkept;
 use crate::checking::Edited;
 use crate::saying::warn;
-use crate::shelf::unwritable;
+use crate::shelf::unkept_by;
 use crate::stop::Stop;
 use bx_launch::Options;
 use bx_sessions::{Begin, Kept, Part, Reason, begin, has_room, sweep};
-use bx_wire::Host;
+use bx_wire::{Host, Notice};
 use bx_words::Shown;
 use std::rt::Files;
 use std::thread;
@@ -40,10 +41,34 @@ pub struct Begun {
     /// The user wants no session.
     pub is_unwanted: bool,
     /// Why unsaved text is not kept.
-    pub unkept: Option<String>,
+    pub unkept: Option<Unkept>,
+    /// FILE, where its session goes on with a new file beside it.
+    pub aside_of: Option<String>,
+    /// FILE's permissions in the session, where FILE is gone.
+    pub lost_mode: Option<u32>,
+}
+
+/// FILE's permissions in a session, where FILE is gone and the session tells them.
+fn lost_mode(around: Around<'_>, edited: &Edited, kept: &Kept) -> Option<u32> {
+    if edited.place.is_there(around.rt) || !kept.session.has(around.rt, Part::Mode) {
+        return None;
+    }
+    kept.session.mode(around.rt).ok()
 }
 
 impl Begun {
+    /// The first notice of the session, if there is one.
+    pub fn first_notice(&self) -> Option<Notice> {
+        match &self.unkept {
+            Some(_) if self.is_unwanted => None,
+            Some(unkept) => Some(unkept.notice),
+            None if self.aside_of.is_some() => Some(Notice::RecoveredAside),
+            None if self.is_resumed => Some(Notice::Recovered),
+            None if self.is_in_place => Some(Notice::InPlace),
+            None => None,
+        }
+    }
+
     /// The beginning of a session that is not kept yet.
     fn new(around: Around<'_>, options: &Options) -> Begun {
         let window = around.start.window;
@@ -61,6 +86,8 @@ impl Begun {
             is_in_place: false,
             is_unwanted: options.is_unkept,
             unkept: None,
+            aside_of: None,
+            lost_mode: None,
         }
     }
 
@@ -81,17 +108,21 @@ impl Begun {
         let _ = sweep(around.rt, sessions);
         match begin(around.rt, sessions) {
             Ok(kept) => self.kept = Some(kept),
-            Err(_) => {
-                self.unkept = Some(unwritable(alloc, sessions.path())?);
+            Err(fault) => {
+                self.unkept = Some(unkept_by(alloc, sessions.path(), &fault)?);
                 return Ok(());
             }
         }
-        let size = around.rt.metadata(edited.place.path.as_str()).map_or(0, |found| found.len());
+        let size = around
+            .rt
+            .metadata(edited.place.path.as_str())
+            .map_or(0, |found| found.len());
         let wanted = size.saturating_add(BESIDE_TEXT);
         if !has_room(host, sessions.path(), wanted).unwrap_or(true) {
             let folder = Shown(sessions.path());
             self.is_waiting = true;
-            self.unkept = Some(format!(in alloc; "{folder} has no room for it")?);
+            let why = format!(in alloc; "{folder} has no room for it")?;
+            self.unkept = Some(Unkept::new(alloc, why.as_str(), Notice::NoSpace)?);
         }
         Ok(())
     }
@@ -158,10 +189,12 @@ impl Begun {
     ) -> Result<String, Stop> {
         let (file, told, harm) = (Shown(edited.file()), reason.told(), reason.harm());
         let unkept = match &self.unkept {
-            Some(unkept) => unkept.as_str(),
+            Some(unkept) => unkept.why.as_str(),
             None => "there is no room",
         };
-        Ok(format!(in around.alloc(); "{file} {told}, and {harm}, since unsaved text is not kept ({unkept})")?)
+        Ok(format!(in around.alloc();
+            "{file} {told}, and {harm}, since unsaved text is not kept ({unkept})"
+        )?)
     }
 
     /// Tells that unsaved text is not kept, before the screen changes, and waits a second unless the user asked for that.
@@ -175,8 +208,8 @@ impl Begun {
             return Ok(());
         };
         let alloc = around.alloc();
-        let unkept = unkept.as_str();
-        let line = format!(in alloc; "unsaved text is not kept, since {unkept}")?;
+        let why = unkept.why.as_str();
+        let line = format!(in alloc; "unsaved text is not kept, since {why}")?;
         warn(host, alloc, line.as_str())?;
         if !is_asked_for {
             host.warn("\u{7}");
@@ -196,7 +229,8 @@ impl Begun {
     ) -> Result<Begun, Stop> {
         let mut begun = Begun::new(around, options);
         if options.is_unkept {
-            begun.unkept = Some(String::from_str(around.alloc(), "-n asks for that")?);
+            let unkept = Unkept::new(around.alloc(), "-n asks for that", Notice::Unkept)?;
+            begun.unkept = Some(unkept);
         } else {
             begun.make(around, host, edited)?;
         }
@@ -226,6 +260,7 @@ impl Begun {
         let _ = kept.session.resume(around.rt, window.rows, window.cols);
         // joined letters change no text and no place
         let _ = kept.session.put_joining(around.rt, begun.is_joined);
+        begun.lost_mode = lost_mode(around, edited, &kept);
         begun.kept = Some(kept);
         begun.settle_in_place(around, host, edited, options.is_forced)?;
         Ok(begun)

@@ -21,6 +21,8 @@ pub struct Edited {
     pub shelf: Shelf,
     /// Why saves are written into FILE itself.
     pub in_place: Option<Reason>,
+    /// FILE is there and cannot be read.
+    pub is_closed: bool,
 }
 
 /// What is told of a save that was cut off; None where there is nothing to tell.
@@ -38,8 +40,7 @@ pub fn mended_line(
         }
         Mended::StillTorn => format!(in alloc;
             "a save of {file} was cut off, and its text cannot be put back: it is {mark}"
-        )
-        .map(Some),
+        ).map(Some),
     }
 }
 
@@ -84,8 +85,9 @@ impl Edited {
     pub fn find<H: Host>(around: Around<'_>, host: &mut H, file: &str) -> Result<Edited, Stop> {
         let alloc = around.alloc();
         check_kind(around.rt, alloc, file).map_err(|fault| Stop::of_file(alloc, fault))?;
-        let place = Place::find(around.rt, host, alloc, file)
-            .map_err(|fault| Stop::of_file(alloc, fault))?;
+        let place = Place::find(around.rt, host, alloc, file).map_err(|fault| Stop::of_file(
+            alloc, fault,
+        ))?;
         Edited::at(around, host, place)
     }
 
@@ -115,10 +117,12 @@ impl Edited {
             Ok(found) => find_in_place(&place.facts, &found, &place.folder_facts),
             Err(_) => None,
         };
+        let is_closed = place.is_closed(around.rt);
         Ok(Edited {
             place,
             shelf,
             in_place,
+            is_closed,
         })
     }
 
@@ -154,21 +158,38 @@ impl Edited {
         Ok(true)
     }
 
-    /// Refuses a FILE that cannot be read, and one that cannot be saved, unless that is forced.
-    fn check_access(&self, around: Around<'_>, is_forced: bool) -> Result<(), Stop> {
-        let alloc = around.alloc();
-        let readable = self.place.check_readable(around.rt, alloc);
-        readable.map_err(|fault| Stop::of_file(alloc, fault))?;
-        if is_forced {
+    /// Tells of a FILE that is opened empty, since it cannot be read.
+    fn tell_closed<H: Host>(&self, around: Around<'_>, host: &mut H) -> Result<(), Stop> {
+        if !self.is_closed {
             return Ok(());
         }
+        let file = Shown(self.file());
+        let line = format!(in around.alloc();
+            "{file} cannot be read by you: an empty text is opened, and saves overwrite what is there"
+        )?;
+        Ok(warn(host, around.alloc(), line.as_str())?)
+    }
+
+    /// Refuses a FILE that cannot be read or saved, unless that is forced.
+    fn check_access<H: Host>(
+        &self,
+        around: Around<'_>,
+        host: &mut H,
+        is_forced: bool,
+    ) -> Result<(), Stop> {
+        let alloc = around.alloc();
+        if is_forced {
+            return self.tell_closed(around, host);
+        }
+        let readable = self.place.check_readable(around.rt, alloc);
+        readable.map_err(|fault| Stop::of_file(alloc, fault))?;
         let is_in_place = self.in_place.is_some();
         let saving = self.place.check_saving(around.rt, alloc, is_in_place);
         saving.map_err(|fault| Stop::of_file(alloc, fault))
     }
 
-    /// Finds FILE, and refuses one that cannot be edited, and, unless that is forced, one that cannot be saved. Repairs it, and
-    /// tells what killed saves left.
+    /// Finds FILE, and refuses one that is no plain file, and, unless that is forced, one that cannot be read or saved. Repairs it,
+    /// and tells what killed saves left.
     ///
     /// Errors: the refusal; `Gone`; `OutOfMemory`.
     pub fn check<H: Host>(
@@ -178,7 +199,7 @@ impl Edited {
         is_forced: bool,
     ) -> Result<Edited, Stop> {
         let edited = Edited::find(around, host, file)?;
-        edited.check_access(around, is_forced)?;
+        edited.check_access(around, host, is_forced)?;
         if !edited.mend(around, host)? && !is_forced {
             return Err(Stop::Told(REFUSED));
         }

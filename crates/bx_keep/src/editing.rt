@@ -4,9 +4,10 @@ use crate::around::Around;
 use crate::beginning::Begun;
 use crate::checking::Edited;
 use crate::meeting::meet;
+use crate::mode::mask_for;
 use crate::recovering::{recover, recover_elsewhere};
 use crate::replaying::Replayer;
-use crate::running::Running;
+use crate::running::{Running, say_notice};
 use crate::starting::program_words;
 use crate::stop::Stop;
 use crate::taking::Taken;
@@ -32,6 +33,15 @@ fn start<R: Read + Drop, W: Write + Drop>(
         wire.say(Said::EditWord, word.as_str())?;
     }
     wire.say(Said::Title, running.title()?.as_str())?;
+    let alloc = running.around.alloc();
+    if let Some(mode) = running.begun.lost_mode {
+        let mask = mask_for(mode);
+        let mask = format!(in alloc; "{mask:03o}")?;
+        wire.say(Said::Mask, mask.as_str())?;
+    }
+    if let Some(notice) = running.begun.first_notice() {
+        say_notice(alloc, wire, notice)?;
+    }
     Ok(wire.say(Said::Go, "")?)
 }
 
@@ -68,9 +78,15 @@ fn edit_with<R: Read + Drop, W: Write + Drop, P: Replayer>(
 ) -> Result<Option<u64>, Stop> {
     let begun = match taken {
         Some(taken) => {
-            let Taken { kept, file } = taken;
+            let Taken {
+                kept,
+                file,
+                aside_of,
+            } = taken;
             edited = Edited::check(around, wire, file.as_str(), options.is_forced)?;
-            Begun::resumed(around, wire, &edited, options, kept)?
+            let mut begun = Begun::resumed(around, wire, &edited, options, kept)?;
+            begun.aside_of = aside_of;
+            begun
         }
         None => Begun::fresh(around, wire, &mut edited, options)?,
     };

@@ -4,6 +4,7 @@ use crate::checking::mended_line;
 use crate::fate::{Fate, Left};
 use crate::fault::Ended;
 use crate::keeping::Text;
+use crate::mode::give_mode;
 use crate::replaying::{Held, Replay, Replayer};
 use crate::running::Running;
 use crate::saying::warn;
@@ -65,7 +66,12 @@ impl Running<'_> {
         let Ok(text) = fs::read(self.around.rt, self.edited.path()) else {
             return Ok(());
         };
-        let line = mixed_line(self.around.alloc(), self.edited.file(), true, text.as_slice())?;
+        let line = mixed_line(
+            self.around.alloc(),
+            self.edited.file(),
+            true,
+            text.as_slice(),
+        )?;
         match line {
             Some(line) => self.tell(host, line.as_str()),
             None => Ok(()),
@@ -82,7 +88,10 @@ impl Running<'_> {
         let Ok(mended) = mend(around.rt, sessions, &kept.session, &target, around.here) else {
             return Ok(kept.session.has(around.rt, Part::Mark));
         };
-        let mark = kept.session.path_of(Part::Mark).map_err(|_| Stop::OutOfMemory)?;
+        let mark = kept
+            .session
+            .path_of(Part::Mark)
+            .map_err(|_| Stop::OutOfMemory)?;
         let line = mended_line(around.alloc(), self.edited.file(), mended, mark.as_str())?;
         if let Some(line) = line {
             self.tell(host, line.as_str())?;
@@ -109,7 +118,7 @@ impl Running<'_> {
         let alloc = self.around.alloc();
         let file = Shown(self.edited.file());
         Ok(match &self.begun.unkept {
-            Some(unkept) => String::from_str(alloc, unkept.as_str())?,
+            Some(unkept) => String::from_str(alloc, unkept.why.as_str())?,
             None => format!(in alloc; "{file} was changed before it could be copied")?,
         })
     }
@@ -123,23 +132,12 @@ impl Running<'_> {
     /// Whether the session has unsaved text: keys, or a text that counts as changed. A program that ends without unsaved text
     /// empties the journal.
     fn has_unsaved(&self, kept: &Kept, status: u64) -> bool {
-        let has_keys = match kept.session.look(self.around.rt, Part::Journal) {
-            Ok(Some(journal)) => journal.len() > 0,
-            Ok(None) => false,
-            // what cannot be looked at is not removed
-            Err(_) => true,
-        };
-        has_keys || (status != 0 && kept.session.has(self.around.rt, Part::Unsaved))
+        kept.session.has_keys(self.around.rt)
+            || (status != 0 && kept.session.has(self.around.rt, Part::Unsaved))
     }
 
     /// What is known of the session. Fills it if its text waits for room, and leaves its text beside the keys.
-    fn left<P: Replayer>(
-        &mut self,
-        kept: &Kept,
-        status: u64,
-        is_torn: bool,
-        replayer: &P,
-    ) -> Left {
+    fn left<P: Replayer>(&mut self, kept: &Kept, status: u64, is_torn: bool, replayer: &P) -> Left {
         let has_unsaved = self.has_unsaved(kept, status);
         let is_filled = (has_unsaved || is_torn) && self.fill_at_end(kept);
         Left {
@@ -210,15 +208,32 @@ impl Running<'_> {
         if !self.is_journal_lost || kept.session.note_that(self.around.rt, Part::Cut).is_ok() {
             return;
         }
-        if let (Ok(from), Ok(to)) = (kept.session.path_of(Part::Begin), kept.session.path_of(Part::Cut)) {
+        if let (Ok(from), Ok(to)) = (
+            kept.session.path_of(Part::Begin),
+            kept.session.path_of(Part::Cut),
+        ) {
             // without it the recovery does not tell that the session is cut, and the end does
             let _ = self.around.rt.hard_link(from.as_str(), to.as_str());
         }
     }
 
-    /// Replays the session, unless that takes too long.
+    /// Whether the tables are those that the program read.
+    fn has_same_tables(&self) -> bool {
+        let tables = self.around.tables;
+        let files = [
+            tables.classes.as_str(),
+            tables.brackets.as_str(),
+            tables.mirroring.as_str(),
+        ];
+        self.around
+            .versions
+            .still_has(self.around.rt, files.as_slice())
+    }
+
+    /// Replays the session, unless that takes too long, or other tables may make another text.
     fn replayed<P: Replayer>(&self, kept: &Kept, replayer: &P) -> Option<Replay> {
-        if self.signal.is_some() && self.journal_size(kept) > QUICK {
+        let is_long = self.signal.is_some() && self.journal_size(kept) > QUICK;
+        if is_long || !self.has_same_tables() {
             return None;
         }
         replayer
@@ -232,7 +247,9 @@ impl Running<'_> {
             return false;
         };
         // without it another version recovers by the keys
-        let _ = kept.session.put(self.around.rt, Part::Snapshot, replayed.text.as_slice());
+        let _ = kept
+            .session
+            .put(self.around.rt, Part::Snapshot, replayed.text.as_slice());
         replayed.held == Held::Same
     }
 
@@ -258,7 +275,9 @@ impl Running<'_> {
     fn wipe_changes<H: Host>(&self, host: &mut H, kept: &Kept) -> Result<(), Stop> {
         self.forget(kept);
         let file = Shown(self.edited.file());
-        let line = format!(in self.around.alloc(); "what was dropped is not kept, since only root can read {file}")?;
+        let line = format!(in self.around.alloc();
+            "what was dropped is not kept, since only root can read {file}"
+        )?;
         self.tell(host, line.as_str())
     }
 
@@ -266,7 +285,9 @@ impl Running<'_> {
     fn tell_kept<H: Host>(&self, host: &mut H, what: &str, behind: &str) -> Result<(), Stop> {
         let file = Shown(self.edited.file());
         let part = if self.is_journal_lost { CUT } else { "" };
-        let line = format!(in self.around.alloc(); "{what}{part}: bidi-edit --recover {file}{behind}")?;
+        let line = format!(in self.around.alloc();
+            "{what}{part}: bidi-edit --recover {file}{behind}"
+        )?;
         self.tell(host, line.as_str())
     }
 
@@ -281,6 +302,29 @@ impl Running<'_> {
         }
     }
 
+    /// Gives a recovered FILE that was gone the permissions that it had.
+    fn give_mode(&self) {
+        if let Some(mode) = self.begun.lost_mode {
+            // what cannot be given leaves it to the user alone, at most
+            let _ = give_mode(self.around.rt, self.edited.path(), mode);
+        }
+    }
+
+    /// Tells of a text that was recovered as a new file beside FILE.
+    fn tell_aside<H: Host>(&self, host: &mut H) -> Result<(), Stop> {
+        let Some(file) = &self.begun.aside_of else {
+            return Ok(());
+        };
+        if !self.edited.place.is_there(self.around.rt) {
+            return Ok(());
+        }
+        let (file, beside) = (Shown(file.as_str()), Shown(self.edited.file()));
+        let line = format!(in self.around.alloc();
+            "{file} was changed since, so the recovered text is in {beside}"
+        )?;
+        self.tell(host, line.as_str())
+    }
+
     /// Ends the session, and tells what is kept and what is not.
     pub fn end<H: Host, P: Replayer>(
         &mut self,
@@ -289,6 +333,8 @@ impl Running<'_> {
         replayer: &P,
     ) -> Result<(), Stop> {
         self.tell_fault(host)?;
+        self.give_mode();
+        self.tell_aside(host)?;
         self.tell_line_ends(host)?;
         self.end_session(host, status, replayer)?;
         self.tell_signal(host, status)

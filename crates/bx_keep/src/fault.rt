@@ -37,7 +37,10 @@ impl Ended {
 
     /// Whether the program refused to start, so that nothing was typed.
     pub fn is_refusal(&self) -> bool {
-        matches!(self, Ended::NotUtf8(_) | Ended::TooLong | Ended::Unreadable | Ended::Tables(_))
+        matches!(
+            self,
+            Ended::NotUtf8(_) | Ended::TooLong | Ended::Unreadable | Ended::Tables(_)
+        )
     }
 
     /// The refusal of FILE; None if it was not refused.

@@ -106,7 +106,8 @@ pub fn fill(
         mode: found.as_ref().map(|found| found.mode() & PERMISSIONS),
         begin: begun.begin,
         is_joined: begun.is_joined,
-        is_secret: found.as_ref().is_some_and(|found| found.uid() == ROOT && found.mode() & READ_BY_OTHERS == 0),
+        is_secret: found.as_ref().is_some_and(|found| found.uid() == ROOT
+            && found.mode() & READ_BY_OTHERS == 0),
         process: &process,
         versions: around.versions,
     };
@@ -114,13 +115,7 @@ pub fn fill(
 }
 
 /// Copies FILE into the session, and compares the copy with what the program read.
-fn copy(
-    around: Around<'_>,
-    edited: &Edited,
-    begun: &Begun,
-    kept: &Kept,
-    look: Look,
-) -> Text {
+fn copy(around: Around<'_>, edited: &Edited, begun: &Begun, kept: &Kept, look: Look) -> Text {
     for _ in 0..TRIES {
         match fill(around, edited, begun, kept, Source::File(edited.path())) {
             Ok(copied) if copied == Some(look) => return Text::Kept,
@@ -138,15 +133,12 @@ fn copy(
 }
 
 /// Keeps the text that the program read, as it told.
-pub fn keep_text(
-    around: Around<'_>,
-    edited: &Edited,
-    begun: &Begun,
-    look: Option<Look>,
-) -> Text {
+pub fn keep_text(around: Around<'_>, edited: &Edited, begun: &Begun, look: Option<Look>) -> Text {
     let Some(kept) = &begun.kept else {
         return Text::Unkept(has_all_crlf(around, edited.path(), look));
     };
+    // what cannot be read is opened empty
+    let look = if edited.is_closed { None } else { look };
     if begun.is_waiting {
         return wait(around, edited.path(), look);
     }

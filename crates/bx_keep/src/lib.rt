@@ -4,6 +4,7 @@
 mod around;
 mod asking;
 mod beginning;
+mod causes;
 mod checking;
 mod editing;
 mod ending;
@@ -13,6 +14,7 @@ mod free_name;
 mod keeping;
 mod listing;
 mod meeting;
+mod mode;
 mod parts;
 mod printing;
 mod program_word;
@@ -27,6 +29,7 @@ mod starting;
 mod stop;
 mod taking;
 mod telling;
+mod trouble;
 mod versions;
 
 pub use around::Around;

@@ -8,7 +8,8 @@ use crate::stop::Stop;
 use crate::telling::{number_of_keys, told_machine, told_time};
 use bx_launch::Told;
 use bx_sessions::{
-    FolderFault, Forgotten, LocalClock, Part, Session, Sessions, State, all_folders, forget, state_of,
+    FolderFault, Forgotten, LocalClock, Part, Session, Sessions, State, all_folders, forget,
+    state_of,
 };
 use bx_wire::Host;
 use bx_words::Shown;
@@ -22,10 +23,15 @@ fn note_of(around: Around<'_>, session: &Session) -> Result<String, Stop> {
         State::Elsewhere => {
             let process = session.process(around.rt).unwrap_or(None);
             let machine = told_machine(around, process.as_ref())?;
-            let machine = machine.as_ref().map_or("this machine", |name| name.as_str());
+            let machine = machine
+                .as_ref()
+                .map_or("this machine", |name| name.as_str());
             format!(in alloc; " (on {machine})")?
         }
-        _ if session.has(around.rt, Part::Mark) => String::from_str(alloc, " (a save was cut off)")?,
+        _ if session.has(around.rt, Part::Mark) => String::from_str(
+            alloc,
+            " (a save was cut off)",
+        )?,
         State::Dropped => String::from_str(alloc, " (dropped)")?,
         State::Empty | State::Unfinished => String::new(alloc),
     })
@@ -59,8 +65,8 @@ fn open_folder<H: Host>(
     match Sessions::open(around.rt, path, user) {
         Ok(sessions) => Ok(sessions),
         Err(fault) => {
-            let cause = unkept_by(around.alloc(), path, &fault)?;
-            let cause = cause.as_str();
+            let unkept = unkept_by(around.alloc(), path, &fault)?;
+            let cause = unkept.why.as_str();
             if matches!(&fault, FolderFault::Distrusted(_)) {
                 let line = format!(in around.alloc(); "a folder of sessions is not used: {cause}")?;
                 warn(host, around.alloc(), line.as_str())?;
@@ -104,7 +110,11 @@ fn tell_forgotten<H: Host>(
     let alloc = around.alloc();
     let path = forgotten.path.as_ref().map_or("", |path| path.as_str());
     let path = Shown(path);
-    let note = if forgotten.was_dropped { " (dropped)" } else { "" };
+    let note = if forgotten.was_dropped {
+        " (dropped)"
+    } else {
+        ""
+    };
     let line = match forgotten.changed {
         Some(time) => {
             let time = LocalClock::read(around.rt).at(time).told(alloc)?;

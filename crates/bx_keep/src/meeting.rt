@@ -28,7 +28,7 @@ enum Try {
     Again,
 }
 
-/// Tells that another editor may have FILE open, and asks whether to go on.
+/// Tells that another window of the user's may have FILE open, and asks whether to go on. All sessions that are found are his own.
 pub fn ask_beside<H: Host>(
     around: Around<'_>,
     host: &mut H,
@@ -41,13 +41,21 @@ pub fn ask_beside<H: Host>(
     let number = told_process(around, process.as_ref())?;
     let file = Shown(file);
     let line = match (is_live, told_machine(around, process.as_ref())?) {
-        (true, None) => format!(in alloc; "{file} is open in another editor, of process {number}.")?,
+        (true, None) => format!(in alloc;
+            "{file} is open in another window of yours, process {number}."
+        )?,
         (true, Some(machine)) => {
-            format!(in alloc; "{file} is open in another editor, of process {number} on {machine}.")?
+            format!(in alloc;
+                "{file} is open in another window of yours, process {number} on {machine}."
+            )?
         }
         (false, machine) => {
-            let machine = machine.as_ref().map_or("this machine", |name| name.as_str());
-            format!(in alloc; "{file} may be open in another editor, of process {number} on {machine}, which cannot be seen from here.")?
+            let machine = machine
+                .as_ref()
+                .map_or("this machine", |name| name.as_str());
+            format!(in alloc;
+                "{file} may be open in another window of yours, process {number} on {machine}, which cannot be seen from here."
+            )?
         }
     };
     let line = line.as_str();
@@ -85,7 +93,9 @@ fn ask_what_to_do<H: Host, P: Replayer>(
     let file = Shown(taking.edited.file());
     let time = told_time(around, &session)?;
     let keys = number_of_keys(around, &session);
-    let line = format!(in alloc; "{file} has an unfinished session of {time} (keys typed: {keys})")?;
+    let line = format!(in alloc;
+        "{file} has an unfinished session of {time} (keys typed: {keys})"
+    )?;
     tell(host, alloc, line.as_str())?;
     let outcome = match ask_choice(host, alloc)? {
         Choice::Recover => taking.take(host, session)?,

@@ -1,16 +1,18 @@
 //! The parts of a session that cannot be replayed, as files beside FILE.
 
 use crate::around::Around;
+use crate::causes::cause_of;
 use crate::free_name::free_name;
 use crate::saying::tell;
 use crate::stop::Stop;
 use bx_sessions::{Part, Session};
 use bx_wire::Host;
 use bx_words::Shown;
-use std::fs::OpenOptions;
-use std::io::{self, Write};
+use std::alloc::{AllocError, Global};
+use std::fs::{OpenFile, OpenOptions};
+use std::io::{self, ErrorKind, Write};
 use std::os::unix::fs::OpenOptionsExt;
-use std::fs::OpenFile;
+use std::rt::Files;
 
 /// The permissions of a part: for the user alone.
 const FOR_USER_ALONE: u32 = 0o600;
@@ -19,28 +21,55 @@ const FOR_USER_ALONE: u32 = 0o600;
 const PARTS: [(Part, &str, &str); 4] = [
     (Part::Text, "session-text", "the text as it was opened"),
     (Part::Journal, "session-journal", "the keys"),
-    (Part::Snapshot, "session-snapshot", "the text where the session was left"),
-    (Part::Save, "session-save", "the text of a save that was cut off"),
+    (
+        Part::Snapshot,
+        "session-snapshot",
+        "the text where the session was left",
+    ),
+    (
+        Part::Save,
+        "session-save",
+        "the text of a save that was cut off",
+    ),
 ];
 
-/// Writes a new file, for the user alone until it is complete.
-pub fn write_new_file(
-    rt: &HostRuntime,
-    path: &str,
-    bytes: &[u8],
-) -> io::Result<()> {
+/// Writes a new file, for the user alone. One that cannot be written whole is removed.
+pub fn write_new_file(rt: &HostRuntime, path: &str, bytes: &[u8]) -> io::Result<()> {
     let mut file = OpenOptions::new()
         .write(true)
         .create_new(true)
         .mode(FOR_USER_ALONE)
         .open(rt, path)?;
-    file.write_all(bytes)?;
-    file.sync_all()
+    let written = match file.write_all(bytes) {
+        Ok(()) => file.sync_all(),
+        failed => failed,
+    };
+    if written.is_err() {
+        // the first fault is the one to report
+        let _ = rt.remove_file(path);
+    }
+    written
+}
+
+/// The fault of a file that cannot be written.
+pub fn unwritten(alloc: Global, path: &str, kind: ErrorKind) -> Result<Stop, AllocError> {
+    let (path, cause) = (Shown(path), cause_of(kind));
+    let line = format!(in alloc; "{path} cannot be written{cause}")?;
+    Ok(Stop::fault(alloc, line.as_str()))
+}
+
+/// The fault of a session's part that cannot be read.
+fn unread(alloc: Global, session: &Session, what: &str) -> Result<Stop, AllocError> {
+    let folder = Shown(session.path());
+    let line = format!(in alloc;
+        "the session in {folder} cannot be read: {what}. It is left as it is"
+    )?;
+    Ok(Stop::fault(alloc, line.as_str()))
 }
 
 /// Copies a session's parts to free names beside FILE, and removes the session.
 ///
-/// Errors: a part that cannot be written; the session stays.
+/// Errors: a part that cannot be read or written; the session stays.
 pub fn keep_parts<H: Host>(
     around: Around<'_>,
     host: &mut H,
@@ -49,14 +78,15 @@ pub fn keep_parts<H: Host>(
 ) -> Result<(), Stop> {
     let alloc = around.alloc();
     for (part, ending, what) in PARTS {
-        let Ok(Some(bytes)) = session.read(around.rt, part) else {
-            continue;
+        let bytes = match session.read(around.rt, part) {
+            Ok(Some(bytes)) => bytes,
+            Ok(None) => continue,
+            Err(_) => return Err(unread(alloc, session, what)?),
         };
         let free = free_name(around.rt, alloc, file, ending)?;
         let shown = Shown(free.as_str());
-        if write_new_file(around.rt, free.as_str(), bytes.as_slice()).is_err() {
-            let cause = format!(in alloc; "{shown} cannot be written")?;
-            return Err(Stop::fault(alloc, cause.as_str()));
+        if let Err(error) = write_new_file(around.rt, free.as_str(), bytes.as_slice()) {
+            return Err(unwritten(alloc, free.as_str(), error.kind())?);
         }
         let line = format!(in alloc; "{shown}: {what}")?;
         tell(host, alloc, line.as_str())?;

@@ -5,7 +5,8 @@ use crate::asking::ask_to_go_on;
 use crate::checking::Edited;
 use crate::free_name::is_free;
 use crate::meeting::{ask_beside_live, tell_missed};
-use crate::parts::write_new_file;
+use crate::mode::give_mode;
+use crate::parts::{unwritten, write_new_file};
 use crate::replaying::{ReplayFault, Replayer};
 use crate::saying::tell;
 use crate::shelf::unwritable;
@@ -15,9 +16,6 @@ use crate::telling::{number_of_keys, told_machine, told_process};
 use bx_sessions::{Found, LockFault, Part, Session, Sessions, find};
 use bx_wire::Host;
 use bx_words::Shown;
-use std::fs::Permissions;
-use std::os::unix::fs::PermissionsExt;
-use std::rt::Files;
 
 /// The exit status of a refusal that is told already.
 const REFUSED: u8 = 1;
@@ -42,7 +40,7 @@ fn no_session(around: Around<'_>, edited: &Edited, is_live: bool) -> Result<Stop
         _ if is_live => format!(in alloc; "the session of {file} goes on")?,
         None => format!(in alloc; "there is no session of {file} to recover")?,
         Some(unkept) => {
-            let unkept = unkept.as_str();
+            let unkept = unkept.why.as_str();
             format!(in alloc; "there is no session of {file} to recover ({unkept})")?
         }
     };
@@ -60,7 +58,9 @@ fn ask_of_elsewhere<H: Host>(
     let process = session.process(around.rt).unwrap_or(None);
     let number = told_process(around, process.as_ref())?;
     let machine = told_machine(around, process.as_ref())?;
-    let machine = machine.as_ref().map_or("this machine", |name| name.as_str());
+    let machine = machine
+        .as_ref()
+        .map_or("this machine", |name| name.as_str());
     let file = Shown(file);
     let line = format!(in alloc;
         "the session of {file} began on {machine}, as process {number}, and cannot be seen from here. It can be recovered where that has ended."
@@ -132,46 +132,37 @@ pub fn recover<H: Host, P: Replayer>(
     Ok(None)
 }
 
-/// The fault of a text that cannot be stored.
-fn cannot_be_written(around: Around<'_>, path: &str) -> Result<Stop, Stop> {
-    let path = Shown(path);
-    let cause = format!(in around.alloc(); "{path} cannot be written")?;
-    Ok(Stop::fault(around.alloc(), cause.as_str()))
-}
-
 /// Stores a text as a new file with these permissions.
 fn store(around: Around<'_>, path: &str, text: &[u8], mode: u32) -> Result<(), Stop> {
-    let stored = write_new_file(around.rt, path, text).is_ok()
-        && around
-            .rt
-            .set_permissions(path, Permissions::from_mode(mode))
-            .is_ok();
-    if stored {
-        Ok(())
-    } else {
-        Err(cannot_be_written(around, path)?)
+    let stored = match write_new_file(around.rt, path, text) {
+        Ok(()) => give_mode(around.rt, path, mode),
+        failed => failed,
+    };
+    match stored {
+        Ok(()) => Ok(()),
+        Err(error) => Err(unwritten(around.alloc(), path, error.kind())?),
     }
 }
 
-/// The text of a session, and its number of keys: by its keys, or as it was left if another version kept it.
+/// The text of a session: by its keys, or as it was left if another version kept it.
 fn text_of<H: Host, P: Replayer>(
     around: Around<'_>,
     host: &mut H,
     edited: &Edited,
     session: &Session,
     replayer: &P,
-) -> Result<(Vec<u8>, u64), Stop> {
+) -> Result<Vec<u8>, Stop> {
     let is_of_this_version = around.versions.kept(around.rt, session);
     if !is_of_this_version {
         if let Ok(Some(text)) = session.read(around.rt, Part::Snapshot) {
-            return Ok((text, number_of_keys(around, session) as u64));
+            return Ok(text);
         }
         tell_unsure(around, host)?;
     }
     match replayer.replay(around, session, edited.path()) {
         Ok(replayed) => {
-            tell_cut(around, host, session, replayed.keys)?;
-            Ok((replayed.text, replayed.keys))
+            tell_cut(around, host, session)?;
+            Ok(replayed.text)
         }
         Err(ReplayFault::OutOfMemory) => Err(Stop::OutOfMemory),
         Err(ReplayFault::Unreadable) => {
@@ -252,10 +243,13 @@ fn store_session<H: Host, P: Replayer>(
             return Err(Stop::fault(alloc, cause));
         }
     };
-    let (text, keys) = text_of(around, host, edited, session, replayer)?;
+    let text = text_of(around, host, edited, session, replayer)?;
+    let keys = number_of_keys(around, session);
     let mode = session.mode(around.rt).unwrap_or(0o600);
     store(around, other, text.as_slice(), mode)?;
     let (file, other) = (Shown(edited.file()), Shown(other));
-    let line = format!(in alloc; "the text of {file} with what was typed (keys: {keys}) is in {other}")?;
+    let line = format!(in alloc;
+        "the text of {file} with what was typed (keys: {keys}) is in {other}"
+    )?;
     Ok(tell(host, alloc, line.as_str())?)
 }

@@ -18,8 +18,6 @@ pub enum Held {
 #[derive(Drop)]
 pub struct Replay {
     pub held: Held,
-    /// The number of keys.
-    pub keys: u64,
     pub text: Vec<u8>,
 }
 

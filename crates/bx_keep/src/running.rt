@@ -9,7 +9,8 @@ use crate::program_word::{ProgramWord, read_program_word};
 use crate::starting::{LOST, UNKEPT, title_of};
 use crate::stop::Stop;
 use bx_sessions::{Kept, Look, Part, Source, has_room};
-use bx_wire::{Heard, Message, Said, Wire};
+use bx_wire::{Heard, Message, Notice, Said, Wire};
+use std::alloc::Global;
 use std::io::{Read, Write};
 
 /// The room at which the program tries its journal again, in bytes.
@@ -31,10 +32,10 @@ pub struct Running<'a> {
     pub is_journal_lost: bool,
     /// The signal that ended the host.
     pub signal: Option<u64>,
-    /// The title's note.
-    note: &'static str,
+    /// Why no copy of what is typed is kept, as the user was told.
+    pub trouble: Option<Notice>,
     /// There was room for keys a second ago.
-    had_room: bool,
+    pub had_room: bool,
     /// The size of the journal on the disk.
     synced: u64,
 }
@@ -48,18 +49,29 @@ fn first_text(begun: &Begun) -> Text {
     }
 }
 
-/// The title's note at first.
-fn first_note(begun: &Begun) -> &'static str {
+/// Why no copy is kept, at first; None where the user wants none.
+fn first_trouble(begun: &Begun) -> Option<Notice> {
     match &begun.unkept {
-        Some(_) => UNKEPT,
-        None => "",
+        Some(unkept) if !begun.is_unwanted => Some(unkept.notice),
+        _ => None,
     }
+}
+
+/// Has the host give the editor a notice.
+pub fn say_notice<R: Read + Drop, W: Write + Drop>(
+    alloc: Global,
+    wire: &mut Wire<R, W>,
+    notice: Notice,
+) -> Result<(), Stop> {
+    let number = notice.number();
+    let number = format!(in alloc; "{number}")?;
+    Ok(wire.say(Said::Notice, number.as_str())?)
 }
 
 impl<'a> Running<'a> {
     /// A session whose program starts.
     pub fn new(around: Around<'a>, edited: &'a Edited, begun: Begun) -> Self {
-        let note = first_note(&begun);
+        let trouble = first_trouble(&begun);
         let text = first_text(&begun);
         Running {
             around,
@@ -70,7 +82,7 @@ impl<'a> Running<'a> {
             ended: None,
             is_journal_lost: false,
             signal: None,
-            note,
+            trouble,
             had_room: false,
             synced: 0,
         }
@@ -78,7 +90,7 @@ impl<'a> Running<'a> {
 
     /// The title's text.
     pub fn title(&self) -> Result<String, Stop> {
-        Ok(title_of(self.around.alloc(), self.edited.file(), self.note)?)
+        Ok(title_of(self.around.alloc(), self.edited.file(), self.note())?)
     }
 
     /// Keeps the text that the program read, unless the session has its own.
@@ -118,7 +130,14 @@ impl<'a> Running<'a> {
 
     /// Tries to fill the session whose text waits for room. Returns whether it is filled now.
     fn fill_waiting(&self, kept: &Kept, bytes: &[u8]) -> bool {
-        fill(self.around, self.edited, &self.begun, kept, Source::Bytes(bytes)).is_ok()
+        fill(
+            self.around,
+            self.edited,
+            &self.begun,
+            kept,
+            Source::Bytes(bytes),
+        )
+        .is_ok()
     }
 
     /// Tries to fill the session, if its text waits and there is room for it, as far as the host can tell.
@@ -127,7 +146,11 @@ impl<'a> Running<'a> {
             return;
         };
         let size = bytes.len() as u64;
-        let is_roomy = has_room(wire, kept.session.path(), size.saturating_add(ROOM_FOR_KEYS));
+        let is_roomy = has_room(
+            wire,
+            kept.session.path(),
+            size.saturating_add(ROOM_FOR_KEYS),
+        );
         if is_roomy.unwrap_or(true) && self.fill_waiting(kept, bytes.as_slice()) {
             self.text = Text::Kept;
         }
@@ -178,20 +201,22 @@ impl<'a> Running<'a> {
         }
     }
 
-    /// The note that the title should have.
-    fn wanted_note(&self) -> &'static str {
-        let Some(kept) = &self.begun.kept else {
-            return self.note;
-        };
+    /// The title's note.
+    fn note(&self) -> &'static str {
         match &self.text {
-            Text::Waiting(_) | Text::Lost | Text::Unkept(_) => UNKEPT,
-            Text::Unread | Text::Kept if self.is_journal_lost || !self.is_there(kept) => LOST,
-            Text::Unread | Text::Kept => "",
+            _ if self.begun.is_unwanted => UNKEPT,
+            _ if self.trouble.is_none() => "",
+            Text::Unread if self.begun.is_waiting => UNKEPT,
+            Text::Unread | Text::Kept if self.begun.kept.is_some() => LOST,
+            _ => UNKEPT,
         }
     }
 
     /// Has the program try its journal again, once there is room for it again.
-    fn ask_again<R: Read + Drop, W: Write + Drop>(&mut self, wire: &mut Wire<R, W>) -> Result<(), Stop> {
+    fn ask_again<R: Read + Drop, W: Write + Drop>(
+        &mut self,
+        wire: &mut Wire<R, W>,
+    ) -> Result<(), Stop> {
         let Some(kept) = &self.begun.kept else {
             return Ok(());
         };
@@ -207,18 +232,22 @@ impl<'a> Running<'a> {
         Ok(())
     }
 
-    /// Shows the note in the title, and rings the bell with a new one.
-    fn show_note<R: Read + Drop, W: Write + Drop>(&mut self, wire: &mut Wire<R, W>) -> Result<(), Stop> {
-        let note = self.wanted_note();
-        if note == self.note {
+    /// Shows in the title and the last row why no copy is kept, or that one is kept again, and rings the bell with a new cause.
+    fn show_trouble<R: Read + Drop, W: Write + Drop>(
+        &mut self,
+        wire: &mut Wire<R, W>,
+    ) -> Result<(), Stop> {
+        let trouble = self.trouble_now();
+        if trouble == self.trouble {
             return Ok(());
         }
-        self.note = note;
+        self.trouble = trouble;
         wire.say(Said::Title, self.title()?.as_str())?;
-        if !note.is_empty() {
+        if trouble.is_some() {
             wire.say(Said::Bell, "")?;
         }
-        Ok(())
+        let notice = trouble.unwrap_or(Notice::KeptAgain);
+        say_notice(self.around.alloc(), wire, notice)
     }
 
     /// Does what is done each second.
@@ -226,7 +255,7 @@ impl<'a> Running<'a> {
         self.try_to_fill(wire);
         self.sync();
         self.ask_again(wire)?;
-        self.show_note(wire)?;
+        self.show_trouble(wire)?;
         Ok(wire.say(Said::Done, "")?)
     }
 

@@ -19,8 +19,9 @@ use std::io::{Read, Write};
 fn tables_of(rt: &HostRuntime, start: &Start, is_unjoined: bool) -> Result<Tables, Stop> {
     let alloc = rt.alloc();
     let given = start.tables.as_ref().map(|folder| folder.as_slice());
-    let mut tables = find_tables(rt, alloc, given, start.own_tables.as_slice())
-        .map_err(|fault| Stop::of_tables(alloc, fault))?;
+    let mut tables = find_tables(rt, alloc, given, start.own_tables.as_slice()).map_err(
+        |fault| Stop::of_tables(alloc, fault),
+    )?;
     if is_unjoined {
         tables.part_letters();
     }
@@ -64,7 +65,9 @@ fn settle_state<H: Host>(rt: &HostRuntime, host: &mut H, start: &Start) -> Resul
         return Ok(());
     };
     let path = Told(path.as_bytes());
-    let line = format!(in rt.alloc(); "XDG_STATE_HOME names {path}, which is not absolute: ~/.local/state is taken")?;
+    let line = format!(in rt.alloc();
+        "XDG_STATE_HOME names {path}, which is not absolute: ~/.local/state is taken"
+    )?;
     Ok(warn(host, rt.alloc(), line.as_str())?)
 }
 

@@ -1,10 +1,11 @@
 //! The folder of sessions for a file.
 
 use crate::around::Around;
+use crate::causes::{Unkept, notice_of};
 use crate::stop::Stop;
 use bx_launch::Place;
 use bx_sessions::{FolderFault, PlaceFault, Sessions, sessions_folder};
-use bx_wire::Host;
+use bx_wire::{Host, Notice};
 use bx_words::Shown;
 use std::alloc::{AllocError, Global};
 
@@ -16,18 +17,23 @@ pub struct Shelf {
     /// The folder, if it is there and nobody else can change it.
     pub sessions: Option<Sessions>,
     /// Why no session can be kept.
-    pub unkept: Option<String>,
+    pub unkept: Option<Unkept>,
 }
 
 /// Why no session can be kept in a folder.
-pub fn unkept_by(alloc: Global, path: &str, fault: &FolderFault) -> Result<String, AllocError> {
-    match fault {
+pub fn unkept_by(alloc: Global, path: &str, fault: &FolderFault) -> Result<Unkept, AllocError> {
+    let notice = match fault {
         FolderFault::Distrusted(folder) => {
             let folder = Shown(folder.as_str());
-            format!(in alloc; "{folder} belongs to another user, or others may write there")
+            let why = format!(in alloc;
+                "{folder} belongs to another user, or others may write there"
+            )?;
+            return Unkept::new(alloc, why.as_str(), Notice::Unkept);
         }
-        FolderFault::Gone | FolderFault::Io(_) => unwritable(alloc, path),
-    }
+        FolderFault::Gone => Notice::FolderGone,
+        FolderFault::Io(error) => notice_of(error.kind()),
+    };
+    Unkept::new(alloc, unwritable(alloc, path)?.as_str(), notice)
 }
 
 /// Why no session can be kept in a folder in which nothing can be made.
@@ -40,11 +46,7 @@ impl Shelf {
     /// Finds and judges the folder of sessions for a file. It is not made.
     ///
     /// Errors: `Gone`; `OutOfMemory`.
-    pub fn find<H: Host>(
-        around: Around<'_>,
-        host: &mut H,
-        place: &Place,
-    ) -> Result<Shelf, Stop> {
+    pub fn find<H: Host>(around: Around<'_>, host: &mut H, place: &Place) -> Result<Shelf, Stop> {
         let surroundings = around.start.surroundings();
         let folder = &place.folder_facts;
         let path = sessions_folder(
@@ -59,7 +61,11 @@ impl Shelf {
             Ok(None) | Err(PlaceFault::Host(_)) => Ok(Shelf {
                 path: None,
                 sessions: None,
-                unkept: Some(String::from_str(around.alloc(), "there is no folder for it")?),
+                unkept: Some(Unkept::new(
+                    around.alloc(),
+                    "there is no folder for it",
+                    Notice::Unkept,
+                )?),
             }),
             Err(PlaceFault::OutOfMemory) => Err(Stop::OutOfMemory),
         }

@@ -15,6 +15,9 @@ pub const UNKEPT: &str = " (unsaved text is not kept)";
 /// The title's note where the journal cannot be written.
 pub const LOST: &str = " (what is typed is not kept now: save it)";
 
+/// The text in place of a FILE that cannot be read.
+const EMPTY: &str = "/dev/null";
+
 /// The text of the title.
 pub fn title_of(alloc: Global, file: &str, note: &str) -> Result<String, AllocError> {
     let name = match file.rsplit_once('/') {
@@ -113,6 +116,9 @@ pub fn program_words(
     add_tables(around, &mut words, begun.is_joined)?;
     if let Some(kept) = &begun.kept {
         add_session(around, &mut words, begun, kept)?;
+    }
+    if edited.is_closed && !begun.is_resumed {
+        add_option(alloc, &mut words, "--text", EMPTY)?;
     }
     add_word(alloc, &mut words, edited.file())?;
     Ok(words)

@@ -2,6 +2,7 @@
 
 use crate::around::Around;
 use crate::asking::{Rest, ask_rest, ask_to_go_on};
+use crate::causes::cause_of;
 use crate::checking::{Edited, mended_line};
 use crate::free_name::free_name;
 use crate::parts::keep_parts;
@@ -9,18 +10,20 @@ use crate::replaying::{Held, Replay, ReplayFault, Replayer};
 use crate::saying::tell;
 use crate::shelf::unwritable;
 use crate::stop::Stop;
-use bx_sessions::{Kept, LockFault, Mended, Part, Session, Sessions, mend, renew};
+use crate::telling::number_of_keys;
+use bx_sessions::{FolderFault, Kept, LockFault, Mended, Part, Session, Sessions, mend, renew};
 use bx_wire::Host;
 use bx_words::Shown;
 use std::fs;
-use std::io;
+use std::io::{self, ErrorKind};
 use std::rt::Files;
 
 /// The exit status where a torn FILE stays torn.
 const TORN: u8 = 1;
 
 /// What is told of keys that may be replayed otherwise.
-const UNSURE: &str = "an editor of another version, or with other tables, kept that session, and not its text: the keys may make another one now";
+const UNSURE: &str =
+    "an editor of another version, or with other tables, kept that session, and not its text: the keys may make another one now";
 
 /// A session that goes on, and the file that it saves.
 #[derive(Drop)]
@@ -28,6 +31,8 @@ pub struct Taken {
     pub kept: Kept,
     /// FILE, or a new file beside it.
     pub file: String,
+    /// FILE, where it goes on with a new file.
+    pub aside_of: Option<String>,
 }
 
 /// What became of a session that should go on.
@@ -51,17 +56,20 @@ pub struct Taking<'a, P: Replayer> {
 }
 
 impl<P: Replayer> Taking<'_, P> {
-    /// The fault of a folder in which nothing can be written.
-    fn unwritten(&self) -> Result<Stop, Stop> {
-        let path = unwritable(self.around.alloc(), self.sessions.path())?;
-        Ok(Stop::fault(self.around.alloc(), path.as_str()))
+    /// The fault of a folder in which nothing can be written. The session stays as it is.
+    fn unwritten(&self, kind: ErrorKind) -> Result<Stop, Stop> {
+        let alloc = self.around.alloc();
+        let path = unwritable(alloc, self.sessions.path())?;
+        let (path, cause) = (path.as_str(), cause_of(kind));
+        let line = format!(in alloc; "{path}{cause}")?;
+        Ok(Stop::fault(alloc, line.as_str()))
     }
 
     /// What a fault of a write in the session's folder is told as.
     fn written(&self, answer: io::Result<()>) -> Result<(), Stop> {
         match answer {
             Ok(()) => Ok(()),
-            Err(_) => Err(self.unwritten()?),
+            Err(error) => Err(self.unwritten(error.kind())?),
         }
     }
 
@@ -91,7 +99,7 @@ impl<P: Replayer> Taking<'_, P> {
         let lock = match session.lock(around.rt, Part::Path) {
             Ok(lock) => lock,
             Err(LockFault::Held | LockFault::Gone) => return Ok(Outcome::Missed),
-            Err(LockFault::Io(_)) => return Err(self.unwritten()?),
+            Err(LockFault::Io(error)) => return Err(self.unwritten(error.kind())?),
         };
         self.mend(host, &session)?;
         let kept = Kept { session, lock };
@@ -104,7 +112,9 @@ impl<P: Replayer> Taking<'_, P> {
 
     /// Goes on with a session by its keys.
     fn take_by_keys<H: Host>(&self, host: &mut H, kept: Kept) -> Result<Outcome, Stop> {
-        let replayed = self.replayer.replay(self.around, &kept.session, self.edited.path());
+        let replayed = self
+            .replayer
+            .replay(self.around, &kept.session, self.edited.path());
         match replayed {
             Ok(replayed) => self.go_on_after(host, kept, &replayed),
             Err(ReplayFault::Unreadable) => self.ask_what_to_keep(host, &kept.session),
@@ -119,7 +129,7 @@ impl<P: Replayer> Taking<'_, P> {
         kept: Kept,
         replayed: &Replay,
     ) -> Result<Outcome, Stop> {
-        tell_cut(self.around, host, &kept.session, replayed.keys)?;
+        tell_cut(self.around, host, &kept.session)?;
         if replayed.held == Held::Same {
             self.end_where_same(host, &kept.session)
         } else {
@@ -147,7 +157,9 @@ impl<P: Replayer> Taking<'_, P> {
         }
         let beside = free_name(around.rt, alloc, file, "recovered")?;
         let (file, free) = (Shown(file), Shown(beside.as_str()));
-        let line = format!(in alloc; "another program or window has changed {file} since; what was typed is recovered as {free}")?;
+        let line = format!(in alloc;
+            "another program or window has changed {file} since; what was typed is recovered as {free}"
+        )?;
         tell(host, alloc, line.as_str())?;
         Ok(Some(beside))
     }
@@ -181,12 +193,24 @@ impl<P: Replayer> Taking<'_, P> {
     /// Goes on with a session on FILE, or on a new file beside it.
     fn go_on<H: Host>(&self, host: &mut H, kept: Kept, held: Held) -> Result<Outcome, Stop> {
         let beside = self.file_of(host, held)?;
-        self.note(host, &kept.session, beside.as_ref().map(|path| path.as_str()))?;
-        let file = match beside {
-            Some(beside) => beside,
-            None => String::from_str(self.around.alloc(), self.edited.file())?,
-        };
-        Ok(Outcome::Taken(Taken { kept, file }))
+        self.note(
+            host,
+            &kept.session,
+            beside.as_ref().map(|path| path.as_str()),
+        )?;
+        let file = String::from_str(self.around.alloc(), self.edited.file())?;
+        Ok(Outcome::Taken(match beside {
+            Some(beside) => Taken {
+                kept,
+                file: beside,
+                aside_of: Some(file),
+            },
+            None => Taken {
+                kept,
+                file,
+                aside_of: None,
+            },
+        }))
     }
 
     /// Goes on with a session that another version kept: by its text, or by its keys if the user wants that.
@@ -213,9 +237,16 @@ impl<P: Replayer> Taking<'_, P> {
             "an editor of another version, or with other tables, kept that session: its text is had back, and its undo history is not",
         )?;
         let process = around.process()?;
-        let renewed = renew(around.rt, self.sessions, &kept.session, &process, around.versions);
-        let Ok(renewed) = renewed else {
-            return Err(self.unwritten()?);
+        let renewed = renew(
+            around.rt,
+            self.sessions,
+            &kept.session,
+            &process,
+            around.versions,
+        );
+        let renewed = match renewed {
+            Ok(renewed) => renewed,
+            Err(fault) => return Err(self.unwritten(kind_of(&fault))?),
         };
         // what stays of the old one is asked about at another start
         let _ = kept.session.remove(around.rt);
@@ -236,6 +267,15 @@ impl<P: Replayer> Taking<'_, P> {
     }
 }
 
+/// The kind of the system's fault, of a folder that cannot be used.
+fn kind_of(fault: &FolderFault) -> ErrorKind {
+    match fault {
+        FolderFault::Io(error) => error.kind(),
+        FolderFault::Gone => ErrorKind::NotFound,
+        FolderFault::Distrusted(_) => ErrorKind::PermissionDenied,
+    }
+}
+
 /// Whether a session's path is this one.
 fn is_of_path(around: Around<'_>, session: &Session, path: &str) -> bool {
     match session.note(around.rt, Part::Path) {
@@ -245,17 +285,15 @@ fn is_of_path(around: Around<'_>, session: &Session, path: &str) -> bool {
 }
 
 /// Tells of a session whose journal lacks its end.
-pub fn tell_cut<H: Host>(
-    around: Around<'_>,
-    host: &mut H,
-    session: &Session,
-    keys: u64,
-) -> Result<(), Stop> {
+pub fn tell_cut<H: Host>(around: Around<'_>, host: &mut H, session: &Session) -> Result<(), Stop> {
     if !session.has(around.rt, Part::Cut) {
         return Ok(());
     }
     let alloc = around.alloc();
-    let line = format!(in alloc; "the session is cut behind its key {keys}, where its journal could not be written")?;
+    let keys = number_of_keys(around, session);
+    let line = format!(in alloc;
+        "the session is cut behind its key {keys}, where its journal could not be written"
+    )?;
     Ok(tell(host, alloc, line.as_str())?)
 }
 

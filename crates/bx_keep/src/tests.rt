@@ -15,7 +15,10 @@ fn asks_again(rt: HostRuntime) -> Result<(), Fail> {
     }
     let choice = ask_choice(&mut host, rt.alloc()).ok();
     assert_eq!(rt; choice, Some(Choice::Delete));
-    assert_eq!(rt; host.output.as_str(), "[r]ecover, [d]elete for good, [l]ater? [r]ecover, [d]elete for good, [l]ater? [r]ecover, [d]elete for good, [l]ater? ");
+    assert_eq!(rt;
+        host.output.as_str(),
+        "[r]ecover, [d]elete for good, [l]ater? [r]ecover, [d]elete for good, [l]ater? [r]ecover, [d]elete for good, [l]ater? "
+    );
     Ok(())
 }
 
@@ -54,6 +57,9 @@ fn reads_words_of_the_program(rt: HostRuntime) {
 #[test]
 fn titles_have_the_name_and_a_note(rt: HostRuntime) -> Result<(), Fail> {
     let title = title_of(rt.alloc(), "/a/b c", UNKEPT)?;
-    assert_eq!(rt; title.as_str(), "'b c' - ^S save ^Q quit (unsaved text is not kept)");
+    assert_eq!(rt;
+        title.as_str(),
+        "'b c' - ^S save ^Q quit (unsaved text is not kept)"
+    );
     Ok(())
 }

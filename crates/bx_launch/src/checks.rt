@@ -57,11 +57,16 @@ impl Place {
         kind_at(rt, self.target.as_str()) != Kind::Missing
     }
 
+    /// Whether something is there that the user cannot read.
+    pub fn is_closed(&self, rt: &impl Files) -> bool {
+        self.is_there(rt) && !self.facts.readable
+    }
+
     /// Refuses a FILE that is there and cannot be read.
     ///
     /// Errors: `Unreadable`; `OutOfMemory`.
     pub fn check_readable(&self, rt: &impl Files, alloc: Global) -> Result<(), FileFault> {
-        if !self.is_there(rt) || self.facts.readable {
+        if !self.is_closed(rt) {
             return Ok(());
         }
         let file = self.file.as_str();

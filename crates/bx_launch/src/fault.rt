@@ -30,8 +30,11 @@ pub enum FileCause {
     FolderUnwritable,
     #[error("is write-protected: chmod u+w lets its owner write it, and --force opens it all the same")]
     WriteProtected,
-    #[error("cannot be read by you: chmod u+r lets its owner read it")]
+    #[error("cannot be read by you: chmod u+r lets its owner read it, and --force opens an empty text in its place")]
     Unreadable,
+    /// Nothing opens it.
+    #[error("cannot be read by you: chmod u+r lets its owner read it")]
+    Closed,
     /// The name's bytes, and the most that can be saved.
     #[error("is a name of {bytes} bytes, too long to be saved: {most} are the most (the save needs 3 more), and --force opens it all the same")]
     LongName { bytes: usize, most: u64 },

@@ -24,7 +24,7 @@ pub fn columns_on(terminal: u64) -> u16 {
 
 /// Refuses what cannot be printed. A device or a pipe is read unchecked.
 ///
-/// Errors, in this order: `Folder`; `NotThere`; `Socket`; `Unreadable`; `Host`; `OutOfMemory`.
+/// Errors, in this order: `Folder`; `NotThere`; `Socket`; `Closed`; `Host`; `OutOfMemory`.
 pub fn check_print_file(
     rt: &impl Files,
     host: &mut impl Host,
@@ -36,7 +36,7 @@ pub fn check_print_file(
         Kind::Missing => FileCause::NotThere,
         Kind::Socket => FileCause::Socket,
         Kind::File(_) | Kind::Device if host.facts(file)?.readable => return Ok(()),
-        Kind::File(_) | Kind::Device => FileCause::Unreadable,
+        Kind::File(_) | Kind::Device => FileCause::Closed,
     };
     Err(FileFault::refused(alloc, file, cause))
 }

@@ -2,7 +2,7 @@
 use Rattle.std.specs.Prelude.{◌==◌, ◌+◌, ◌-◌, ◌||◌, ℕ, Bool, true, false, List, [], ◌∷◌, if◌then◌else◌}
 use Rattle.bx_terms.specs.Characters.{is_within}
 use Rattle.bx_sessions.specs.declared.keys.After.{After}
-use Rattle.bx_sessions.specs.declared.keys.After.TheVariants.{Key, Save, Escape, Sequence}
+use Rattle.bx_sessions.specs.declared.keys.After.TheVariants.{Key, Save, Escape, Sequence, Notice}
 
 -- digits and semicolons
 abbrev pub is_parameter : ℕ → Bool
@@ -21,13 +21,18 @@ abbrev pub next : After → ℕ → After
 next Key byte = behind_first byte
 next Save byte = if byte == 0x1b then Escape true else behind_first byte
 next (Escape saved) byte = if byte == 0x5b then Sequence saved else behind_first byte
-next (Sequence saved) byte = if is_parameter byte then Sequence saved else if is_final byte then Key else behind_first byte
+next (Sequence saved) byte =
+    if is_parameter byte then Sequence saved
+    else if byte == 0x3e then Notice
+    else if is_final byte then Key
+    else behind_first byte
+next Notice byte = if is_parameter byte then Notice else if is_final byte then Key else behind_first byte
 
 -- one more key, unless the byte goes on with a character
 abbrev pub with_first : ℕ → ℕ → ℕ
 with_first count byte = if is_within 0x80 0xbf byte then count else count + 1
 
--- a sequence that ends with t reports a size: it is no key, nor is the Save right before it
+-- a sequence that ends with t reports a size: it is no key, nor is the Save right before it; a notice is CSI, > and ends with a tilde
 abbrev pub without_size : Bool → ℕ → ℕ
 without_size saved count = if saved then count - 2 else count - 1
 
@@ -37,8 +42,13 @@ counted Key count byte = with_first count byte
 counted Save count byte = with_first count byte
 counted (Escape saved) count byte = if byte == 0x5b then count else with_first count byte
 counted (Sequence saved) count byte =
-    if is_parameter byte then count
+    if is_parameter byte || byte == 0x3e then count
     else if byte == 0x74 then without_size saved count
+    else if is_final byte then count
+    else with_first count byte
+counted Notice count byte =
+    if is_parameter byte then count
+    else if byte == 0x7e then count - 1
     else if is_final byte then count
     else with_first count byte
 

@@ -20,6 +20,8 @@ pub enum After {
     Escape(bool),
     /// The beginning of a control sequence, and whether a Save is right before it.
     Sequence(bool),
+    /// The beginning of a notice of the host.
+    Notice,
 }
 
 /// Whether a control sequence goes on with a byte.
@@ -55,7 +57,10 @@ fn next(after: After, byte: u8) -> After
         After::Save if byte == ESCAPE => After::Escape(true),
         After::Escape(saved) if byte == b'[' => After::Sequence(saved),
         After::Sequence(saved) if is_parameter(byte) => After::Sequence(saved),
+        After::Sequence(_) if byte == b'>' => After::Notice,
         After::Sequence(_) if is_final(byte) => After::Key,
+        After::Notice if is_parameter(byte) => After::Notice,
+        After::Notice if is_final(byte) => After::Key,
         _ => behind_first(byte),
     }
 }
@@ -94,14 +99,18 @@ fn counted(after: After, count: usize, byte: u8) -> usize
     match after {
         After::Escape(_) if byte == b'[' => count,
         After::Sequence(_) if is_parameter(byte) => count,
+        After::Sequence(_) if byte == b'>' => count,
         After::Sequence(saved) if byte == b't' => without_size(saved, count),
         After::Sequence(_) if is_final(byte) => count,
+        After::Notice if is_parameter(byte) => count,
+        After::Notice if byte == b'~' => count.saturating_sub(1),
+        After::Notice if is_final(byte) => count,
         _ => with_first(count, byte),
     }
 }
 
-/// The number of keys in a journal. A control sequence is one key; a size that the terminal reports is none, nor is the Save
-/// right before one, with which a resumed session begins.
+/// The number of keys in a journal. A control sequence is one key; a notice of the host is none, a size that the terminal reports
+/// is none, nor is the Save right before one, with which a resumed session begins.
 pub fn count_keys(journal: &[u8]) -> usize
     ensures { result ≡ keys_in journal.now }
 {

@@ -2,6 +2,7 @@
 
 use crate::begin_words::Begin;
 use crate::file_id::FileId;
+use crate::keys::count_keys;
 use crate::machine::Process;
 use crate::part::Part;
 use crate::session::Session;
@@ -10,6 +11,9 @@ use std::str;
 
 /// The permissions of a file made from a session that does not tell FILE's.
 const FOR_USER_ALONE: u32 = 0o600;
+
+/// The longest journal, in bytes, that is read to see whether it has sizes and notices alone.
+const LONGEST_WITHOUT_KEYS: u64 = 4096;
 
 /// The bits of a mode that a recovered file gets: no set-ID and sticky bits.
 const PERMISSIONS: u32 = 0o777;
@@ -79,14 +83,23 @@ impl Session {
         }
     }
 
+    /// Whether its journal has keys. A long one has, and what cannot be read may have.
+    pub fn has_keys(&self, rt: &HostRuntime) -> bool {
+        match &self.look(rt, Part::Journal) {
+            Ok(None) => false,
+            Ok(Some(journal)) if journal.len() <= LONGEST_WITHOUT_KEYS => {
+                match self.read(rt, Part::Journal) {
+                    Ok(Some(bytes)) => count_keys(bytes.as_slice()) > 0,
+                    Ok(None) => false,
+                    Err(_) => true,
+                }
+            }
+            _ => true,
+        }
+    }
+
     /// Whether it may hold unsaved text: keys, a text that counts as changed, or a mark that FILE may lack.
     pub fn has_something(&self, rt: &HostRuntime) -> bool {
-        let has_keys = match &self.look(rt, Part::Journal) {
-            Ok(Some(journal)) => journal.len() > 0,
-            Ok(None) => false,
-            // what cannot be looked at is not removed
-            Err(_) => true,
-        };
-        has_keys || self.has(rt, Part::Unsaved) || self.has(rt, Part::Mark)
+        self.has_keys(rt) || self.has(rt, Part::Unsaved) || self.has(rt, Part::Mark)
     }
 }

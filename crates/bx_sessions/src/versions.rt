@@ -13,24 +13,39 @@ pub struct Versions {
     words: String,
 }
 
+/// The lines of these files: sizes, and times of the last change.
+fn lines_of(rt: &HostRuntime, files: &[&str]) -> io::Result<String> {
+    let mut lines = String::new(rt.alloc());
+    for file in files {
+        let found = rt.metadata(file)?;
+        let (size, seconds, nanos) = (found.size(), found.mtime(), found.mtime_nsec());
+        let line = format!(in rt.alloc(); "{size} {seconds} {nanos}\n")?;
+        lines.push_str(line.as_str())?;
+    }
+    Ok(lines)
+}
+
 impl Versions {
     /// Looks at the files of this version of the editor, and reads none.
     ///
     /// Errors: `Io` if one of them cannot be looked at.
     pub fn look(rt: &HostRuntime, version: &str, files: &[&str]) -> io::Result<Versions> {
         let mut words = format!(in rt.alloc(); "bidi-edit {version}\n")?;
-        for file in files {
-            let found = rt.metadata(file)?;
-            let (size, seconds, nanos) = (found.size(), found.mtime(), found.mtime_nsec());
-            let line = format!(in rt.alloc(); "{size} {seconds} {nanos}\n")?;
-            words.push_str(line.as_str())?;
-        }
+        words.push_str(lines_of(rt, files)?.as_str())?;
         Ok(Versions { words })
     }
 
     /// The words of a session's file.
     pub fn words(&self) -> &str {
         self.words.as_str()
+    }
+
+    /// Whether the last of the files that were looked at, which are these, are as they were then. What cannot be looked at is not.
+    pub fn still_has(&self, rt: &HostRuntime, files: &[&str]) -> bool {
+        match lines_of(rt, files) {
+            Ok(lines) => self.words().ends_with(lines.as_str()),
+            Err(_) => false,
+        }
     }
 
     /// Whether the session was kept by this version, with these files. One that does not tell was kept by another.

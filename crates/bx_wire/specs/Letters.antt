@@ -42,6 +42,8 @@ letter_of_said said.Go = 0x67  -- g
 letter_of_said said.Done = 0x2E  -- .
 letter_of_said said.Bell = 0x21  -- !
 letter_of_said said.Retry = 0x72  -- r
+letter_of_said said.Notice = 0x6D  -- m
+letter_of_said said.Mask = 0x75  -- u
 
 -- all that the host may say
 abbrev pub all_heard : List Heard

@@ -41,6 +41,10 @@ pub enum Said {
     Bell,
     /// The program should try its journal again.
     Retry,
+    /// A notice for the editor's last row, by its number.
+    Notice,
+    /// The permissions that no new file of the program gets, in octal.
+    Mask,
 }
 
 impl Said {
@@ -62,6 +66,8 @@ impl Said {
             Said::Done => b'.',
             Said::Bell => b'!',
             Said::Retry => b'r',
+            Said::Notice => b'm',
+            Said::Mask => b'u',
         }
     }
 }

@@ -1,0 +1,49 @@
+//! Why nothing can be kept or stored.
+
+ghost use Rattle.std.specs.Prelude.{◌≡◌};
+ghost use Rattle.bx_keep.specs.Causes.{notice_of};
+
+use bx_wire::Notice;
+use std::alloc::{AllocError, Global};
+use std::io::ErrorKind;
+
+/// The notice of a session that is not kept, by the kind of the system's fault.
+pub fn notice_of(kind: ErrorKind) -> Notice
+    ensures { result ≡ notice_of kind }
+{
+    match kind {
+        ErrorKind::StorageFull | ErrorKind::QuotaExceeded => Notice::NoSpace,
+        ErrorKind::NotFound | ErrorKind::NotADirectory => Notice::FolderGone,
+        ErrorKind::PermissionDenied => Notice::NotPermitted,
+        ErrorKind::ReadOnlyFilesystem => Notice::ReadOnly,
+        _ => Notice::Unkept,
+    }
+}
+
+/// What is told behind a file that cannot be written; empty where there is nothing to tell.
+pub fn cause_of(kind: ErrorKind) -> &'static str {
+    match notice_of(kind) {
+        Notice::NoSpace => ": no space",
+        Notice::FolderGone => ": its folder is gone",
+        Notice::NotPermitted => ": not permitted",
+        Notice::ReadOnly => ": read-only disk",
+        _ => "",
+    }
+}
+
+/// Why unsaved text is not kept.
+#[derive(Drop)]
+pub struct Unkept {
+    pub why: String,
+    pub notice: Notice,
+}
+
+impl Unkept {
+    /// A cause, and its notice.
+    pub fn new(alloc: Global, why: &str, notice: Notice) -> Result<Unkept, AllocError> {
+        Ok(Unkept {
+            why: String::from_str(alloc, why)?,
+            notice,
+        })
+    }
+}
