@@ -232,6 +232,7 @@ def refused_by_the_program(top):
 
 def live(top):
     first = edit(top, 'a.txt')
+    first.second()
     second = Start(top, 'a.txt', answers=['maybe', 'no'])
     assert second.end == ('x', '2') and second.asked == ['Edit it all the same (yes, no)?'] * 2, second.asked
     assert f'bidi-edit: a.txt is open in another window of yours, process {os.getpid()}. What one' in second.out, second.out
@@ -243,6 +244,7 @@ def live(top):
 def a_folder_that_goes(top):
     start = edit(top, 'a.txt')
     start.type(b'abc')
+    start.second()
     shutil.rmtree(os.path.dirname(start.value('--journal')))
     assert start.second() == '!.' and start.titles[-1].endswith('(what is typed is not kept now: save it)'), start.titles
     assert start.notices == [2] and start.second() == '.' and start.notices == [2], start.notices
@@ -306,6 +308,7 @@ def changed_since(top):
 def mixed_line_ends(top):
     put(f'{top}/a.txt', b'a\r\nb\r\n')
     start = edit(top, 'a.txt')
+    start.second()
     put(f'{top}/a.txt', b'a\nb\r\n')
     assert start.leave(0) == 0 and 'has lines that end with LF among those with CR LF' in start.err, start.err
 
@@ -389,6 +392,7 @@ def by_other_names(top):
     os.link(f'{top}/a.txt', f'{top}/b.txt')
     os.symlink('a.txt', f'{top}/c.txt')
     first = edit(top, 'a.txt')
+    first.second()
     for name in ('b.txt', 'c.txt'):
         second = Start(top, name, answers=['no'])
         assert second.end == ('x', '2') and f'{name} is open in another window of yours' in second.out, second.out

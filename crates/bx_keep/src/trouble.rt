@@ -40,10 +40,10 @@ impl Running<'_> {
             return self.trouble;
         };
         match &self.text {
+            _ if !kept.session.is_there(self.around.rt) => Some(Notice::FolderGone),
             Text::Waiting(_) => Some(Notice::NoSpace),
             Text::Unread if self.begun.is_waiting => Some(Notice::NoSpace),
             Text::Lost | Text::Unkept(_) => Some(Notice::Unkept),
-            _ if !kept.session.is_there(self.around.rt) => Some(Notice::FolderGone),
             _ if self.is_journal_lost => match self.trouble {
                 Some(cause) if is_of_journal(cause) => Some(cause),
                 _ => Some(self.cause_of_loss(kept)),

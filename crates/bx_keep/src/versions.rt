@@ -53,6 +53,11 @@ pub fn no_versions(rt: &HostRuntime) -> Result<Versions, Stop> {
 pub fn look_at_versions(rt: &HostRuntime, tables: &Tables) -> Result<Versions, Stop> {
     match look(rt, tables) {
         Ok(versions) => Ok(versions),
-        Err(error) => Err(Stop::fault(rt.alloc(), error)),
+        Err(error) => {
+            let cause = format!(in rt.alloc();
+                "a program or table of the editor cannot be looked at: {error}"
+            )?;
+            Err(Stop::fault(rt.alloc(), cause.as_str()))
+        }
     }
 }

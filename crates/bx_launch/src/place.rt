@@ -55,7 +55,7 @@ fn is_link(rt: &impl Files, path: &str) -> bool {
 /// Why the words of a link cannot be read.
 fn cause_of(kind: ErrorKind) -> FileCause {
     match kind {
-        ErrorKind::InvalidData => FileCause::LinkNotUtf8,
+        ErrorKind::InvalidFilename | ErrorKind::InvalidData => FileCause::LinkNotUtf8,
         ErrorKind::FilesystemLoop => FileCause::LeadsInCircle,
         _ => FileCause::LeadsNowhere,
     }
