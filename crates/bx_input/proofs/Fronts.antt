@@ -1,10 +1,10 @@
 -- A run that broke off.
-use Rattle.std.proofs.Common.{◌≡◌, ℕ, ◌-◌, ◌≤◌, inl, inr, List, [], ◌++◌, length, take, drop, Option, Result, Ok, Err, refl, sym, ap, ◌∙◌, append_assoc, subst, arith}
-use Rattle.std.proofs.lemmas.List.{append-nil, take-append-drop, take_rest}
-use Rattle.std.proofs.KnownBytes.{Appends-nil, Appends-trans, Consumes-kept, Consumes-trans}
-use Rattle.std.specs.Prelude.{OnErr}
-use Rattle.std.specs.Io.KnownBytes.{Appends, Consumes, IsAtEnd, Keeps}
+use Rattle.std.proofs.Common.{◌≡◌, ℕ, ◌≤◌, inl, inr, List, [], ◌∷◌, ◌++◌, length, Option, refl, sym, ap, ◌∙◌, append_assoc, subst, arith}
+use Rattle.std.proofs.lemmas.List.{append-nil}
+use Rattle.std.proofs.KnownBytes.{Appends-nil, Appends-trans, Consumes-trans}
+use Rattle.std.specs.Io.KnownBytes.{Appends, Consumes, IsAtEnd}
 use Rattle.bx_input.specs.Filter.{State, Step, start, run, at_end}
+use Rattle.bx_input.specs.Log.{output_of}
 use Rattle.bx_output.specs.Writing.{WritesFront}
 use Rattle.bx_input.specs.Running.{HasPassed, IsBrokenOff, IsOneReadLate}
 use Rattle.bx_input.proofs.Runs.{in_pieces}
@@ -46,30 +46,30 @@ broken_in r r1 r2 w w1 w2 bytes more s h reads few writes =
     }
 
 -- at the reader's end
-pub broken_at_end : (r r1 r2 w w1 w2 : Option (List ℕ)) (bytes : List ℕ) (s : State) (count : ℕ) (buf rest : List ℕ) → HasPassed r r1 w w1 bytes s
-    → count ≡ 0 → Consumes r1 r2 (take count buf) → IsAtEnd r2 → rest ≡ at_end s → WritesFront rest w1 w2 → IsBrokenOff r r2 w w2 bytes
-broken_at_end r r1 r2 w w1 w2 bytes s count buf rest h none reads ends is writes =
-    let empty : Consumes r1 r2 [] = subst (λ n. Consumes r1 r2 (take n buf)) none reads in
-    let there : WritesFront (at_end (run start bytes).state) w1 w2 =
-    subst (λ x. WritesFront (at_end x) w1 w2) h.is_state (subst (λ xs. WritesFront xs w1 w2) is writes) in
+pub broken_at_end : (r r1 r2 w w1 w2 : Option (List ℕ)) (bytes : List ℕ) (s : State) → HasPassed r r1 w w1 bytes s → Consumes r1 r2 [] → IsAtEnd r2
+    → WritesFront (at_end s) w1 w2 → IsBrokenOff r r2 w w2 bytes
+broken_at_end r r1 r2 w w1 w2 bytes s h reads ends writes =
+    let there : WritesFront (at_end (run start bytes).state) w1 w2 = subst (λ x. WritesFront (at_end x) w1 w2) h.is_state writes in
     record {
-      reads = subst (Consumes r r2) (append-nil bytes) (Consumes-trans r r1 r2 bytes [] h.reads empty);
+      reads = subst (Consumes r r2) (append-nil bytes) (Consumes-trans r r1 r2 bytes [] h.reads reads);
       writes = inr (ends, front_behind (run start bytes).output (at_end (run start bytes).state) w w1 w2 h.writes there);
-      late = subst (IsOneReadLate w w2) (append-nil bytes) (late_by w w1 w2 bytes [] h.writes (omega arith) rest writes);
+      late = subst (IsOneReadLate w w2) (append-nil bytes) (late_by w w1 w2 bytes [] h.writes (omega arith) (at_end s) writes);
     }
+
+-- behind a read
+pub broken_behind : (r r1 r2 w w1 w2 : Option (List ℕ)) (bytes last : List ℕ) (s : State) → HasPassed r r1 w w1 bytes s → Consumes r1 r2 last
+    → (last ≡ [] → IsAtEnd r2) → length last ≤ 256 → WritesFront (output_of s last) w1 w2 → (all : List ℕ) × IsBrokenOff r r2 w w2 all
+broken_behind r r1 r2 w w1 w2 bytes [] s h reads ends few writes = (bytes, broken_at_end r r1 r2 w w1 w2 bytes s h reads (ends refl) writes)
+broken_behind r r1 r2 w w1 w2 bytes (b ∷ last) s h reads ends few writes =
+    (bytes ++ b ∷ last, broken_in r r1 r2 w w1 w2 bytes (b ∷ last) s h reads few writes)
 
 -- where no byte came
-pub broken_between : (r r1 r2 w w1 : Option (List ℕ)) (bytes : List ℕ) (s : State) → HasPassed r r1 w w1 bytes s → Keeps r1 r2 → IsBrokenOff r r2 w w1 bytes
-broken_between r r1 r2 w w1 bytes s h kept =
+pub broken_between : (r r1 w w1 : Option (List ℕ)) (bytes : List ℕ) (s : State) → HasPassed r r1 w w1 bytes s → IsBrokenOff r r1 w w1 bytes
+broken_between r r1 w w1 bytes s h =
     let out : List ℕ = (run start bytes).output in
-    let all : WritesFront out w w1 = (out, [], record { parts = sym (append-nil out); appends = h.writes }) in
     let none : WritesFront [] w1 w1 = ([], [], record { parts = refl; appends = Appends-nil w1 }) in
     record {
-      reads = Consumes-kept r r1 r2 bytes h.reads kept;
-      writes = inl all;
+      reads = h.reads;
+      writes = inl (out, [], record { parts = sym (append-nil out); appends = h.writes });
       late = subst (IsOneReadLate w w1) (append-nil bytes) (late_by w w1 w1 bytes [] h.writes (omega arith) [] none);
     }
-
-pub on_err : {T E : Type 0} (r : Result T E) (P : Type 0) → P → OnErr r P
-on_err (Ok x) P p = tt
-on_err (Err e) P p = p

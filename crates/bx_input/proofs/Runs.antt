@@ -1,9 +1,8 @@
 -- Input, byte by byte and in pieces.
-use Rattle.std.proofs.Common.{◌≡◌, ℕ, List, [], ◌∷◌, ◌++◌, take, Option, Result, Ok, Err, refl, ap, sym, ◌∙◌, append_assoc, subst}
-use Rattle.std.specs.Prelude.{OnOk}
+use Rattle.std.proofs.Common.{◌≡◌, ℕ, List, [], ◌∷◌, ◌++◌, Option, refl, ap, sym, ◌∙◌, append_assoc, subst}
 use Rattle.std.proofs.lemmas.List.{append-nil}
 use Rattle.std.specs.Io.KnownBytes.{Appends, Consumes, IsAtEnd}
-use Rattle.std.proofs.KnownBytes.{Appends-nil, Appends-trans, Consumes-nil, Consumes-trans}
+use Rattle.std.proofs.KnownBytes.{Appends-trans, Consumes-trans}
 use Rattle.bx_input.specs.Filter.{State, Step, step_to, with_front, step, start, run, at_end}
 use Rattle.bx_input.specs.Running.{HasPassed, IsFiltered}
 
@@ -28,20 +27,6 @@ one_more s bs b =
     ∙ ap (λ xs. step_to (step (run s bs).state b).state ((run s bs).output ++ xs)) (append-nil (step (run s bs).state b).output)
 
 -- ---- from a reader to a writer
-
-pub none_passed : (r w : Option (List ℕ)) → HasPassed r r w w [] start
-none_passed r w = record { reads = Consumes-nil r; writes = Appends-nil w; is_state = refl }
-
-pub more_passed : (r r1 r2 w w1 w2 : Option (List ℕ)) (bytes more : List ℕ) (s s2 : State) → HasPassed r r1 w w1 bytes s → Consumes r1 r2 more
-    → Appends w1 w2 (run s more).output → s2 ≡ (run s more).state → HasPassed r r2 w w2 (bytes ++ more) s2
-more_passed r r1 r2 w w1 w2 bytes more s s2 h reads writes is =
-    let cut = in_pieces start bytes more in
-    let there : Appends w1 w2 (run (run start bytes).state more).output = subst (λ x. Appends w1 w2 (run x more).output) h.is_state writes in
-    record {
-      reads = Consumes-trans r r1 r2 bytes more h.reads reads;
-      writes = subst (Appends w w2) (sym (ap (λ (x : Step). x.output) cut)) (Appends-trans w w1 w2 _ _ h.writes there);
-      is_state = is ∙ ap (λ x. (run x more).state) h.is_state ∙ sym (ap (λ (x : Step). x.state) cut);
-    }
 
 pub all_passed : (r r1 r2 w w1 w2 : Option (List ℕ)) (bytes : List ℕ) (s : State) → HasPassed r r1 w w1 bytes s → Consumes r1 r2 [] → IsAtEnd r2
     → Appends w1 w2 (at_end s) → IsFiltered r r2 w w2 bytes
@@ -75,12 +60,3 @@ one_more_fed old now next bytes before out out2 b o h is goes appended =
           ∙ ap (λ xs. before ++ ((run old bytes).output ++ xs)) (goes ∙ ap (λ x. (step x b).output) h.is_state)
           ∙ sym (ap (λ (x : Step). before ++ x.output) more);
     }
-
--- the last write, once the reader is at its end
-pub filtered_on_ok : {E : Type 0} (r r1 r2 w w1 w2 : Option (List ℕ)) (bytes : List ℕ) (s : State) (sent : Result Unit E) (count : ℕ) (buf rest : List ℕ)
-    → HasPassed r r1 w w1 bytes s → count ≡ 0 → Consumes r1 r2 (take count buf) → IsAtEnd r2 → rest ≡ at_end s → OnOk sent (Appends w1 w2 rest)
-    → OnOk sent ((all : List ℕ) × IsFiltered r r2 w w2 all)
-filtered_on_ok r r1 r2 w w1 w2 bytes s (Ok done) count buf rest h none reads ends is writes =
-    let empty : Consumes r1 r2 [] = subst (λ n. Consumes r1 r2 (take n buf)) none reads in
-    (bytes, all_passed r r1 r2 w w1 w2 bytes s h empty ends (subst (Appends w1 w2) is writes))
-filtered_on_ok r r1 r2 w w1 w2 bytes s (Err fault) count buf rest h none reads ends is writes = tt

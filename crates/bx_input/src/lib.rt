@@ -13,9 +13,12 @@ mod filter;
 mod held;
 mod laws;
 mod output;
+mod over_reader;
+mod pipe;
 mod place;
 mod running;
 mod step;
+mod wired;
 
 pub use fault::FilterFault;
 pub use filter::Filter;
@@ -25,4 +28,6 @@ pub use laws::{
     waits_for_five,
 };
 pub use output::Output;
-pub use running::run;
+pub use over_reader::run;
+pub use pipe::{Pipe, PipeFault};
+pub use running::run_pipe;

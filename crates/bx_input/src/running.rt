@@ -1,21 +1,15 @@
-//! Runs the filter from a reader to a writer.
+//! Runs the filter over a pipe.
 
-ghost use Rattle.std.specs.Prelude.{◌≡◌, ◌⊎◌, ◌++◌, List, ℕ, IsErrOf, OnOk, OnErr};
-ghost use Rattle.std.specs.Io.KnownBytes.{Appends};
+ghost use Rattle.std.specs.Prelude.{◌≡◌, ◌++◌, List, OnOk, OnErr};
 ghost use Rattle.bx_input.specs.Filter as spec;
 ghost use Rattle.bx_input.specs.Held.{bytes_of};
-ghost use Rattle.bx_input.specs.Running.{HasPassed, IsBrokenOff, IsFiltered};
-ghost use Rattle.bx_output.specs.Writing.{WritesFront};
+ghost use Rattle.bx_input.specs.Log.{Action, DidAll, HasLogged, IsSending};
 
 use crate::fault::FilterFault;
 use crate::filter::Filter;
 use crate::output::Output;
-use bx_output::write_all;
+use crate::pipe::Pipe;
 use std::alloc::{AllocError, Global};
-use std::io::{Read, Write};
-
-/// The largest number of reads of a run.
-const READS: u64 = 1_000_000_000_000;
 
 impl Filter {
     /// Reads the bytes and appends their output. Running out of memory is an error and leaves the filter as it was.
@@ -50,70 +44,57 @@ fn append(out: &mut Vec<u8>, output: Output) -> Result<(), AllocError>
 /// Writes the bytes, if there are any, and flushes.
 ///
 /// Errors: `WriteFault`; a prefix of them was written.
-fn send<W: Write>(writer: &mut W, bytes: &[u8]) -> Result<(), FilterFault>
-    ensures all { OnOk result (Appends (W.contents writer.old) (W.contents writer.new) bytes.now) }
-    ensures front { WritesFront bytes.now (W.contents writer.old) (W.contents writer.new) }
-    ensures fault { OnErr result (result ≡ Err FilterFault.WriteFault) }
+fn send<P: Pipe>(pipe: &mut P, bytes: &[u8]) -> Result<(), FilterFault>
+    ensures sent { (actions : List Action) × DidAll P.did pipe.old actions pipe.new × IsSending result bytes.now actions }
 {
     if bytes.is_empty() {
         return Ok(());
     }
-    write_all(writer, bytes)?;
-    match writer.flush() {
+    pipe.write(bytes)?;
+    match pipe.flush() {
         Ok(()) => Ok(()),
         Err(_) => Err(FilterFault::WriteFault),
     }
 }
 
-/// Filters all of the reader's input to its end: reads at most 256 bytes at a time, and writes their output in one write.
-///
-/// Errors: `ReadFault`, and `ReadLimit` after 1,000,000,000,000 reads: the output of all bytes read was written. `WriteFault`
-/// and `OutOfMemory`: a prefix of it was written, which lacks at most the output of the last read. The first fault ends the
-/// run.
-pub fn run<R: Read, W: Write>(
-    alloc: Global,
-    reader: &mut R,
-    writer: &mut W,
-) -> Result<(), FilterFault>
-    ensures filtered { OnOk result ((bytes : List ℕ)
-        × IsFiltered (R.remaining reader.old) (R.remaining reader.new) (W.contents writer.old) (W.contents writer.new) bytes) }
-    ensures front { OnErr result ((bytes : List ℕ)
-        × IsBrokenOff (R.remaining reader.old) (R.remaining reader.new) (W.contents writer.old) (W.contents writer.new) bytes) }
-    ensures whole { IsErrOf result FilterFault.ReadFault ⊎ IsErrOf result FilterFault.ReadLimit → (bytes : List ℕ)
-        × HasPassed (R.remaining reader.old) (R.remaining reader.new) (W.contents writer.old) (W.contents writer.new) bytes (spec.run spec.start bytes).state }
-{
-    let mut filter = Filter::new();
-    let mut buffer = [0; 256];
-    'reads: for read in 0..READS {
-        let count = match reader.read(&mut buffer) {
-            Ok(count) => count,
-            Err(_) => return Err(FilterFault::ReadFault),
-        };
-        if count == 0 {
-            return send(writer, filter.finish());
-        }
-        pass(alloc, &mut filter, &buffer[..count], writer)?;
-    }
-    Err(FilterFault::ReadLimit)
-}
-
 /// Filters bytes and writes their output.
 ///
 /// Errors: `WriteFault` and `OutOfMemory`; a prefix of it was written.
-fn pass<W: Write>(
+fn pass<P: Pipe>(
     alloc: Global,
     filter: &mut Filter,
     bytes: &[u8],
-    writer: &mut W,
+    pipe: &mut P,
 ) -> Result<(), FilterFault>
     ensures state { OnOk result (filter.new ≡ (spec.run filter.old bytes.now).state) }
-    ensures output { OnOk result (Appends (W.contents writer.old) (W.contents writer.new) (spec.run filter.old bytes.now).output) }
-    ensures front { WritesFront (spec.run filter.old bytes.now).output (W.contents writer.old) (W.contents writer.new) }
-    ensures fault { OnErr result ((result ≡ Err FilterFault.WriteFault) ⊎ (result ≡ Err FilterFault.OutOfMemory)) }
+    ensures sent { (actions : List Action) × DidAll P.did pipe.old actions pipe.new
+        × IsSending result (spec.run filter.old bytes.now).output actions }
 {
     let mut out = Vec::new(alloc);
     match filter.feed_all(bytes, &mut out) {
-        Ok(()) => send(writer, out.as_slice()),
+        Ok(()) => send(pipe, out.as_slice()),
         Err(_) => Err(FilterFault::OutOfMemory),
     }
+}
+
+/// Filters all of the input to its end: reads at most 256 bytes at a time, and writes all their output in one write before the
+/// next read. Only bytes that begin a sequence wait for it.
+///
+/// Errors: `ReadFault`, and `ReadLimit` after `limit` reads that each gave a byte: the output of all bytes read was written.
+/// `WriteFault`: a prefix of the output of the last read was written; `OutOfMemory`: nothing of it. The first fault ends the run.
+pub fn run_pipe<P: Pipe>(limit: u64, alloc: Global, pipe: &mut P) -> Result<(), FilterFault>
+    ensures logged { HasLogged P.did limit result pipe.old pipe.new }
+{
+    let mut filter = Filter::new();
+    let mut buffer = [0; 256];
+    'reads: for read in 0..limit {
+        let Ok(count) = pipe.read(&mut buffer) else {
+            return Err(FilterFault::ReadFault);
+        };
+        if count == 0 {
+            return send(pipe, filter.finish());
+        }
+        pass(alloc, &mut filter, &buffer[..count], pipe)?;
+    }
+    Err(FilterFault::ReadLimit)
 }

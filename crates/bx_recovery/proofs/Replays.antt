@@ -1,5 +1,6 @@
 -- Replay of a journal's keys in order, and what it meets.
-use Rattle.std.proofs.Common.{◌≡◌, ◌≢◌, ◌≤◌, ◌+◌, ℕ, Bool, true, false, List, [], ◌∷◌, ◌++◌, take, length, Option, Some, None, Contains, ◌⊎◌, ⊎_elim, inl, inr, ◌↔◌, IsTrue, IsFalse, refl, sym, ap, subst, ◌∙◌, zero-add, add_assoc, length-append, if◌then◌else◌, arith}
+use Rattle.std.proofs.Common.{◌≡◌, ◌≢◌, ◌≤◌, ◌+◌, ℕ, Bool, true, false, List, [], ◌∷◌, ◌++◌, take, length, Option, Some, None}
+use Rattle.std.proofs.Common.{Contains, ◌⊎◌, ⊎_elim, inl, inr, ◌↔◌, IsTrue, IsFalse, refl, sym, ap, subst, ◌∙◌, zero-add, add_assoc, length-append, if◌then◌else◌, arith}
 use Rattle.std.specs.Prelude.{option_to_list}
 use Rattle.bx_keys.specs.declared.key.Key.{Key}
 use Rattle.bx_keys.specs.Keys.{key_after, keys_from, rest_after}
