@@ -1,5 +1,5 @@
 -- Worked examples: stores in memory, and what the clause on a refused put leaves open.
-use Rattle.std.proofs.Common.{◌≡◌, ℕ, ◌⊎◌, inl, inr, true, List, [], Option, Some, None, Result, Ok, Err, IsOk, OnErr, refl, arith}
+use Rattle.std.proofs.Common.{◌≡◌, ℕ, ◌⊎◌, inl, inr, true, Option, Some, None, Result, Ok, Err, IsOk, OnErr, refl, arith}
 use Rattle.std.specs.Prelude.{codes, false}
 use Rattle.bx_store.specs.Stores.{LacksRoom, MemoryState, after_begin, after_commit, after_failure, after_put, fails_next, greatest, no_bytes, one_more, with_bytes, with_room}
 

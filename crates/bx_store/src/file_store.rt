@@ -1,7 +1,9 @@
 //! A store in a file.
 ghost use Rattle.std.specs.Prelude.{◌≡◌};
+ghost use Rattle.bx_store.specs.Causes.{fault};
 ghost use Rattle.bx_store.specs.Stores.{one_more};
 
+use crate::cause::SaveCause;
 use crate::draft::Draft;
 use crate::in_place::{InPlace, fill, remove_mark};
 use crate::saving::Saving;
@@ -55,7 +57,7 @@ where
 fn if_answered<T: Drop>(answer: io::Result<T>) -> Result<Option<T>, StoreFault> {
     match answer {
         Ok(value) => Ok(Some(value)),
-        Err(error) if error.kind() == ErrorKind::OutOfMemory => Err(StoreFault),
+        Err(error) if error.kind() == ErrorKind::OutOfMemory => Err(error.into()),
         Err(_) => Ok(None),
     }
 }
@@ -281,12 +283,13 @@ where
     }
 
     /// Counts a failed call and removes its draft.
-    fn fail(&mut self) -> StoreFault
-        ensures { self.new.failures ≡ one_more self.old.failures }
+    fn fail(&mut self, cause: Option<SaveCause>) -> StoreFault
+        ensures counted { self.new.failures ≡ one_more self.old.failures }
+        ensures told { result ≡ fault cause }
     {
         self.remove_draft();
         self.failures = self.failures.saturating_add(1);
-        StoreFault
+        StoreFault { cause }
     }
 }
 
@@ -311,7 +314,7 @@ where
                 self.draft = Some(saving);
                 Ok(())
             }
-            Err(_) => Err(self.fail()),
+            Err(error) => Err(self.fail(Some(SaveCause::of(error.kind())))),
         }
     }
 
@@ -319,9 +322,9 @@ where
         match &mut self.draft {
             Some(saving) => match saving.put(bytes) {
                 Ok(()) => Ok(()),
-                Err(_) => Err(self.fail()),
+                Err(error) => Err(self.fail(Some(SaveCause::of(error.kind())))),
             },
-            None => Err(self.fail()),
+            None => Err(self.fail(None)),
         }
     }
 
@@ -329,12 +332,12 @@ where
         match self.draft.take() {
             Some(mut saving) => match self.store(&mut saving) {
                 Ok(()) => Ok(()),
-                Err(_) => {
+                Err(error) => {
                     self.draft = Some(saving);
-                    Err(self.fail())
+                    Err(self.fail(Some(SaveCause::of(error.kind()))))
                 }
             },
-            None => Err(self.fail()),
+            None => Err(self.fail(None)),
         }
     }
 

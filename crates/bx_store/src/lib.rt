@@ -1,6 +1,7 @@
 //! Stores that a text is saved to: the trait, a store in memory, and a store in a file.
 #![tactic(auto)]
 
+mod cause;
 mod draft;
 mod file_store;
 mod in_place;
@@ -10,6 +11,7 @@ mod saving;
 mod store;
 mod target;
 
+pub use cause::SaveCause;
 pub use file_store::FileStore;
 pub use memory_store::MemoryStore;
 pub use store::{Store, StoreFault};

@@ -1,7 +1,9 @@
 //! A store in memory. A test can have one of its calls fail.
-ghost use Rattle.std.specs.Prelude.{◌≡◌, ◌≤◌, ◌↔◌, ◌⊎◌, true, false, [], OnOk, OnErr, IsErr};
+ghost use Rattle.std.specs.Prelude.{◌≡◌, ◌≤◌, ◌↔◌, ◌⊎◌, true, false, [], None, Err, OnOk, OnErr, IsErr};
+ghost use Rattle.bx_store.specs.Causes.{cause_of_put, fault};
 ghost use Rattle.bx_store.specs.Stores.{LacksRoom, after_begin, after_commit, after_failure, after_put, fails_next, with_room};
 
+use crate::cause::SaveCause;
 use crate::store::{Store, StoreFault};
 use std::alloc::Global;
 use std::marker::Model;
@@ -66,13 +68,14 @@ impl MemoryStore {
     }
 
     /// Counts a failed call and ends the save.
-    fn fail(&mut self) -> StoreFault
-        ensures { self.new ≡ after_failure self.old }
+    fn fail(&mut self, cause: Option<SaveCause>) -> StoreFault
+        ensures counted { self.new ≡ after_failure self.old }
+        ensures told { result ≡ fault cause }
     {
         self.has_draft = false;
         self.calls = self.calls.saturating_add(1);
         self.failures = self.failures.saturating_add(1);
-        StoreFault
+        StoreFault { cause }
     }
 }
 
@@ -91,9 +94,10 @@ impl Store for MemoryStore {
         ensures ok { OnOk result (self.new ≡ after_begin self.old) }
         ensures err { OnErr result (self.new ≡ after_failure self.old) }
         ensures fails { IsErr result ↔ (fails_next self.old ≡ true) }
+        ensures cause { OnErr result (result ≡ Err (fault None)) }
     {
         if self.fails_next() {
-            return Err(self.fail());
+            return Err(self.fail(None));
         }
         self.draft.clear();
         self.has_draft = true;
@@ -107,9 +111,13 @@ impl Store for MemoryStore {
         ensures room { self.old.room ≤ self.new.room }
         ensures fails { fails_next self.old ≡ true → IsErr result }
         ensures full { OnErr result ((fails_next self.old ≡ true) ⊎ LacksRoom bytes.now self.old) }
+        ensures cause { OnErr result (result ≡ Err (fault (cause_of_put self.old))) }
     {
-        if self.fails_next() || self.draft.extend_from_slice(bytes).is_err() {
-            return Err(self.fail());
+        if self.fails_next() {
+            return Err(self.fail(None));
+        }
+        if self.draft.extend_from_slice(bytes).is_err() {
+            return Err(self.fail(Some(SaveCause::OutOfMemory)));
         }
         self.calls = self.calls.saturating_add(1);
         Ok(())
@@ -119,9 +127,10 @@ impl Store for MemoryStore {
         ensures ok { OnOk result (self.new ≡ after_commit self.old) }
         ensures err { OnErr result (self.new ≡ after_failure self.old) }
         ensures fails { IsErr result ↔ (fails_next self.old ≡ true) }
+        ensures cause { OnErr result (result ≡ Err (fault None)) }
     {
         if self.fails_next() {
-            return Err(self.fail());
+            return Err(self.fail(None));
         }
         let empty = Vec::new(*self.draft.allocator());
         self.contents = mem::replace(&mut self.draft, empty);

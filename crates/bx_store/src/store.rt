@@ -1,23 +1,54 @@
 //! The trait of stores.
+ghost use Rattle.std.specs.Prelude.{◌≡◌};
 
+use crate::cause::SaveCause;
 use std::alloc::AllocError;
 use std::io;
 use thiserror::Error;
 
-/// A call of a store failed.
+/// A call of a store failed, with the cause if the store knows it.
 #[derive(Clone, Copy, PartialEq, Eq, Debug, Error)]
 #[error("the store failed")]
-pub struct StoreFault;
+pub struct StoreFault {
+    pub cause: Option<SaveCause>,
+}
+
+impl From<SaveCause> for StoreFault {
+    ghost use Rattle.std.specs.Prelude.{Some};
+    ghost use Rattle.bx_store.specs.Causes.{fault};
+
+    ghost from_gives = { λ cause new. new ≡ fault (Some cause) };
+
+    fn from(cause: SaveCause) -> Self {
+        StoreFault { cause: Some(cause) }
+    }
+}
 
 impl From<AllocError> for StoreFault {
+    ghost use Rattle.std.specs.Prelude.{Some};
+    ghost use Rattle.bx_store.specs.Causes.{fault};
+    ghost use Rattle.bx_store.specs.declared.cause.SaveCause.TheVariants.{OutOfMemory};
+
+    ghost from_gives = { λ _ new. new ≡ fault (Some OutOfMemory) };
+
     fn from(_error: AllocError) -> Self {
-        StoreFault
+        StoreFault {
+            cause: Some(SaveCause::OutOfMemory),
+        }
     }
 }
 
 impl From<io::Error> for StoreFault {
-    fn from(_error: io::Error) -> Self {
-        StoreFault
+    ghost use Rattle.std.specs.Prelude.{Some};
+    ghost use Rattle.std.specs.IoError.{error_kind};
+    ghost use Rattle.bx_store.specs.Causes.{cause_of_kind, fault};
+
+    ghost from_gives = { λ error new. new ≡ fault (Some (cause_of_kind (error_kind error))) };
+
+    fn from(error: io::Error) -> Self {
+        StoreFault {
+            cause: Some(SaveCause::of(error.kind())),
+        }
     }
 }
 
