@@ -1,10 +1,11 @@
 //! A store in a file.
 ghost use Rattle.std.specs.Prelude.{◌≡◌};
 ghost use Rattle.bx_store.specs.Causes.{fault};
-ghost use Rattle.bx_store.specs.Stores.{one_more};
+ghost use Rattle.bx_store.specs.Stores.{with_fault};
 
 use crate::cause::SaveCause;
 use crate::draft::Draft;
+use crate::faults::Faults;
 use crate::in_place::{InPlace, fill, remove_mark};
 use crate::saving::Saving;
 use crate::store::{Store, StoreFault};
@@ -48,7 +49,7 @@ where
     /// Whether a save that overwrites the file broke off, so that the file may lack bytes of the mark.
     is_torn: bool,
     draft: Option<Saving<R::File>>,
-    failures: u64,
+    failures: Faults,
 }
 
 /// A value that the system gave; None after a fault of the system.
@@ -102,7 +103,7 @@ where
             seen,
             is_torn: false,
             draft: None,
-            failures: 0,
+            failures: Faults::none(),
         })
     }
 
@@ -284,12 +285,13 @@ where
 
     /// Counts a failed call and removes its draft.
     fn fail(&mut self, cause: Option<SaveCause>) -> StoreFault
-        ensures counted { self.new.failures ≡ one_more self.old.failures }
+        ensures counted { self.new.failures ≡ with_fault (fault cause) self.old.failures }
         ensures told { result ≡ fault cause }
     {
         self.remove_draft();
-        self.failures = self.failures.saturating_add(1);
-        StoreFault { cause }
+        let fault = StoreFault { cause };
+        self.failures.add(fault);
+        fault
     }
 }
 
@@ -305,7 +307,7 @@ where
 
     ghost has_draft = { λ s. is_some s.draft };
 
-    ghost failure_count = { λ s. s.failures };
+    ghost faults = { λ s. s.failures };
 
     fn begin(&mut self) -> Result<(), StoreFault> {
         self.remove_draft();
@@ -342,6 +344,6 @@ where
     }
 
     fn failures(&self) -> u64 {
-        self.failures
+        self.failures.count
     }
 }

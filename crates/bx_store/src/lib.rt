@@ -3,6 +3,7 @@
 
 mod cause;
 mod draft;
+mod faults;
 mod file_store;
 mod in_place;
 mod memory_store;
@@ -12,6 +13,7 @@ mod store;
 mod target;
 
 pub use cause::SaveCause;
+pub use faults::Faults;
 pub use file_store::FileStore;
 pub use memory_store::MemoryStore;
 pub use store::{Store, StoreFault};
