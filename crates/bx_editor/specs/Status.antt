@@ -4,7 +4,7 @@ use Rattle.bx_terms.specs.declared.base.Base.TheVariants.{Auto, Ltr, Rtl}
 use Rattle.bx_keys.specs.declared.notice.Notice as told
 use Rattle.bx_keys.specs.declared.notice.Notice.TheVariants as notices
 use Rattle.bx_store.specs.declared.cause.SaveCause.{SaveCause}
-use Rattle.bx_store.specs.declared.cause.SaveCause.TheVariants as causes
+use Rattle.bx_store.specs.Causes.{cause_text}
 pub use Rattle.bx_view.specs.Numbers.{paragraph_number, unit_number}
 use Rattle.bx_grid.specs.Columns.{Col}
 use Rattle.bx_rows.specs.RowPicture.{Glyph}
@@ -20,14 +20,7 @@ use Rattle.bx_editor.specs.Editor.{Editor}
 -- the cause of a failed save, if the store tells one, stands behind a colon
 abbrev pub failed_text : Option SaveCause → List ℕ
 failed_text None = codes "save failed"
-failed_text (Some causes.NoSpace) = codes "save failed: no space"
-failed_text (Some causes.NotPermitted) = codes "save failed: not permitted"
-failed_text (Some causes.FolderGone) = codes "save failed: folder gone"
-failed_text (Some causes.ReadOnly) = codes "save failed: read-only disk"
-failed_text (Some causes.TooLarge) = codes "save failed: file too large"
-failed_text (Some causes.OutOfMemory) = codes "save failed: out of memory"
-failed_text (Some causes.Changed) = codes "save failed: changed by another program, ^S overwrites it"
-failed_text (Some causes.Other) = codes "save failed: disk error"
+failed_text (Some cause) = codes "save failed: " ++ cause_text cause
 
 abbrev pub notice_text : told.Notice → List ℕ
 notice_text notices.NoSpace = codes "no copy is kept: no space"

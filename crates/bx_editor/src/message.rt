@@ -52,6 +52,7 @@ fn failed_text(cause: Option<SaveCause>) -> &'static str
         Some(SaveCause::TooLarge) => "save failed: file too large",
         Some(SaveCause::OutOfMemory) => "save failed: out of memory",
         Some(SaveCause::Changed) => "save failed: changed by another program, ^S overwrites it",
+        Some(SaveCause::NotPlain) => "save failed: not a plain file",
         Some(SaveCause::Other) => "save failed: disk error",
     }
 }
