@@ -21,6 +21,7 @@ impl CountingStore {
 
 impl Store for CountingStore {
     ghost use Rattle.std.specs.Prelude.{None, true};
+    ghost use Rattle.bx_store.specs.Stores.{no_faults};
 
     ghost contents = { λ _. None };
 
@@ -28,7 +29,7 @@ impl Store for CountingStore {
 
     ghost has_draft = { λ _. true };
 
-    ghost failure_count = { λ _. 0 };
+    ghost faults = { λ _. no_faults };
 
     fn begin(&mut self) -> Result<(), StoreFault> {
         Ok(())

@@ -58,7 +58,7 @@ pub record Edits {J : Type 0} (contents : J → Option (List ℕ)) (failures : J
   pub runs : RunsTo contents failures tables (begun tables b) session out out' end
   pub tells : result ≡ told end session.editor.changed
 
--- the facts of a run that came to its end, or those of a fault before the run
+-- what holds where the run began, else what holds of a fault before it
 abbrev pub RunsUnless : Result Changes ProgramFault → Type 0 → Type 0 → Type 0
 RunsUnless (Ok changes) Runs Stays = Runs
 RunsUnless (Err fault.Unsaved) Runs Stays = Runs

@@ -69,8 +69,8 @@ fn resume<D: BidiData + Drop, R: Read, J: Journal + Drop, W: Write, S: Store>(
 ) -> Result<Changes, ProgramFault<'static>>
     ensures { RunsUnless result
         (Resumes J.contents J.failure_count (D.data session.old.tables) session.old.session keys.now
-        (record { store = store_state S.contents S.failure_count store.old; unread = R.remaining reader.old; written = W.contents writer.old; recorder = recorder.old })
-        (record { store = store_state S.contents S.failure_count store.new; unread = R.remaining reader.new; written = W.contents writer.new; recorder = recorder.new })
+        (record { store = store_state S.contents S.faults store.old; unread = R.remaining reader.old; written = W.contents writer.old; recorder = recorder.old })
+        (record { store = store_state S.contents S.faults store.new; unread = R.remaining reader.new; written = W.contents writer.new; recorder = recorder.new })
         result)
         ((store.new ≡ store.old) × (reader.new ≡ reader.old) × (writer.new ≡ writer.old) × (recorder.new ≡ recorder.old)) }
 {
@@ -93,8 +93,8 @@ pub fn edit<R: Read, J: Journal + Drop, W: Write, S: Store>(
 ) -> Result<Changes, ProgramFault<'static>>
     ensures { RunsUnless result
         (Edits J.contents J.failure_count (beginning_of beginning.entry) beginning.entry.unicode
-        (record { store = store_state S.contents S.failure_count store.old; unread = R.remaining reader.old; written = W.contents writer.old; recorder = recorder.old })
-        (record { store = store_state S.contents S.failure_count store.new; unread = R.remaining reader.new; written = W.contents writer.new; recorder = recorder.new })
+        (record { store = store_state S.contents S.faults store.old; unread = R.remaining reader.old; written = W.contents writer.old; recorder = recorder.old })
+        (record { store = store_state S.contents S.faults store.new; unread = R.remaining reader.new; written = W.contents writer.new; recorder = recorder.new })
         result)
         ((store.new ≡ store.old) × (reader.new ≡ reader.old) × (writer.new ≡ writer.old) × (recorder.new ≡ recorder.old)) }
 {

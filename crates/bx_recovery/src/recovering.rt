@@ -21,7 +21,7 @@ fn store_replayed<D: BidiData + Drop, S: Store>(
     file: &[u8],
 ) -> Result<Replayed, RecoveryFault>
     ensures recovers { IfOk result (λ r. RecoversFrom (D.data session.old.tables) session.old.session keys.now file.now r
-        (store_state S.contents S.failure_count store.old) (store_state S.contents S.failure_count store.new)) }
+        (store_state S.contents S.faults store.old) (store_state S.contents S.faults store.new)) }
     ensures stored { OnErr result (S.contents store.new ≡ S.contents store.old) }
 {
     let replayed = replay_beside(session, keys, file)?;
@@ -41,7 +41,7 @@ pub fn recover<S: Store>(
     file: &[u8],
 ) -> Result<Replayed, RecoveryFault>
     ensures recovers { IfOk result (λ r. Recovers (beginning_of beginning.entry) beginning.entry.unicode file.now r
-        (store_state S.contents S.failure_count store.old) (store_state S.contents S.failure_count store.new)) }
+        (store_state S.contents S.faults store.old) (store_state S.contents S.faults store.new)) }
     ensures stored { OnErr result (S.contents store.new ≡ S.contents store.old) }
 {
     let keys = beginning.keys;

@@ -6,6 +6,7 @@ use Rattle.bx_grid.specs.Picture.{PictureState, is_size}
 use Rattle.bx_keys.specs.declared.key.Key.{Key}
 use Rattle.bx_keys.specs.Keys.{rest_after}
 use Rattle.bx_keys.specs.Waiting.{head_of}
+use Rattle.bx_store.specs.declared.store.StoreFault.{StoreFault}
 use Rattle.bx_ucd.specs.Data.{Data}
 use Rattle.bx_editor.specs.Editor.{EditorState, at_start}
 use Rattle.bx_editor.specs.Keys.{asks_for_whole}
@@ -55,12 +56,12 @@ not_idle : (idle : Bool) (spent painted new : Session) → idle ≡ false → ne
 not_idle true spent painted new is h = absurd (cc is)
 not_idle false spent painted new is h = h
 
-pub after_byte_is : {D : Type 0} (says : D → Data) (saved : Bool) (old mid new : SessionState D) (b : ℕ) → is_idle old.session b ≡ false
-    → mid ≡ record old { session = unpainted_after_byte (says old.tables) saved old.session b }
-    → new.session ≡ with_painting (says mid.tables) mid.session → new.session ≡ after_byte (says old.tables) saved old.session b
-after_byte_is {D} says saved old mid new b asks e painted =
+pub after_byte_is : {D : Type 0} (says : D → Data) (fault : Option StoreFault) (old mid new : SessionState D) (b : ℕ) → is_idle old.session b ≡ false
+    → mid ≡ record old { session = unpainted_after_byte (says old.tables) fault old.session b }
+    → new.session ≡ with_painting (says mid.tables) mid.session → new.session ≡ after_byte (says old.tables) fault old.session b
+after_byte_is {D} says fault old mid new b asks e painted =
     not_idle (is_idle old.session b) (after_spending old.session b)
-    (with_painting (says old.tables) (unpainted_after_byte (says old.tables) saved old.session b)) new.session asks
+    (with_painting (says old.tables) (unpainted_after_byte (says old.tables) fault old.session b)) new.session asks
     (painted ∙ ap (λ (x : SessionState D). with_painting (says x.tables) x.session) e)
 
 asks_where_not_idle : (idle asks : Bool) → asks ≡ not idle → asks ≡ true → idle ≡ false
@@ -70,11 +71,11 @@ asks_where_not_idle false asks e h = refl
 pub is_not_idle : (s : Session) (b : ℕ) (asks : Bool) → asks ≡ not (is_idle s b) → asks ≡ true → is_idle s b ≡ false
 is_not_idle s b asks e h = asks_where_not_idle (is_idle s b) asks e h
 
-pub owing_is : {D : Type 0} (says : D → Data) (saved : Bool) (old mid new : SessionState D) (b : ℕ) (result : Result Status Refused)
-    → is_idle old.session b ≡ false → mid ≡ record old { session = unpainted_after_byte (says old.tables) saved old.session b }
-    → new.session ≡ with_painting_owed mid.session → result ≡ Err Paint → AfterByte (says old.tables) saved old.session b result new.session
-owing_is {D} says saved old mid new b result asks e owed is =
-    subst (λ r. AfterByte (says old.tables) saved old.session b r new.session) (sym is)
+pub owing_is : {D : Type 0} (says : D → Data) (fault : Option StoreFault) (old mid new : SessionState D) (b : ℕ) (result : Result Status Refused)
+    → is_idle old.session b ≡ false → mid ≡ record old { session = unpainted_after_byte (says old.tables) fault old.session b }
+    → new.session ≡ with_painting_owed mid.session → result ≡ Err Paint → AfterByte (says old.tables) fault old.session b result new.session
+owing_is {D} says fault old mid new b result asks e owed is =
+    subst (λ r. AfterByte (says old.tables) fault old.session b r new.session) (sym is)
     (owed ∙ ap (λ (x : SessionState D). with_painting_owed x.session) e, asks)
 
 -- ---- the knowledge of the screen before the painting
@@ -83,28 +84,27 @@ same_pending : (ended : Bool) (s : Session) (rest : List ℕ) → (if ended then
 same_pending true s rest = refl
 same_pending false s rest = refl
 
-pub same_pending_after : (d : Data) (saved : Bool) (s : Session) (key : Option Key) → (session_after_any d saved s key).pending ≡ s.pending
-same_pending_after d saved s None = refl
-same_pending_after d saved s (Some key) = refl
+pub same_pending_after : (d : Data) (fault : Option StoreFault) (s : Session) (key : Option Key) → (session_after_any d fault s key).pending ≡ s.pending
+same_pending_after d fault s None = refl
+same_pending_after d fault s (Some key) = refl
 
 -- it does not depend on a Save's success
-same_screen_after : (d : Data) (saved : Bool) (s : Session) (key : Option Key)
-    → (session_after_any d saved s key).known ≡ (session_after_any d true s key).known
-same_screen_after d true s key = refl
-same_screen_after d false s None = refl
-same_screen_after d false s (Some key) = ap (λ ended. if asks_for_whole key || ended then None else s.known) (same_ended d s.editor key)
+same_screen_after : (d : Data) (fault : Option StoreFault) (s : Session) (key : Option Key)
+    → (session_after_any d fault s key).known ≡ (session_after_any d None s key).known
+same_screen_after d fault s None = refl
+same_screen_after d fault s (Some key) = ap (λ ended. if asks_for_whole key || ended then None else s.known) (same_ended d fault s.editor key)
 
-pub byte_paints : {D : Type 0} (says : D → Data) (saved : Bool) (old mid : SessionState D) (new : Session) (b : ℕ)
-    → mid ≡ record old { session = unpainted_after_byte (says old.tables) saved old.session b }
+pub byte_paints : {D : Type 0} (says : D → Data) (fault : Option StoreFault) (old mid : SessionState D) (new : Session) (b : ℕ)
+    → mid ≡ record old { session = unpainted_after_byte (says old.tables) fault old.session b }
     → QueuesPicture (says mid.tables) mid.session.pending mid.session.known new → FeedPaints (says old.tables) old.session b new
-byte_paints {D} says saved old mid new b e h =
+byte_paints {D} says fault old mid new b e h =
     let d = says old.tables in
     let s = after_spending old.session b in
     let key = key_of_byte old.session b in
-    let pending : (session_after_any d saved s key).pending ≡ old.session.pending =
-    same_pending_after d saved s key ∙ same_pending old.session.editor.ended old.session (head_of (rest_after old.session.rest b)) in
-    subst (λ (q : List ℕ). QueuesPicture d q (session_after_any d true s key).known new) pending
-    (subst (λ (p : Option PictureState). QueuesPicture d (session_after_any d saved s key).pending p new) (same_screen_after d saved s key)
+    let pending : (session_after_any d fault s key).pending ≡ old.session.pending =
+    same_pending_after d fault s key ∙ same_pending old.session.editor.ended old.session (head_of (rest_after old.session.rest b)) in
+    subst (λ (q : List ℕ). QueuesPicture d q (session_after_any d None s key).known new) pending
+    (subst (λ (p : Option PictureState). QueuesPicture d (session_after_any d fault s key).pending p new) (same_screen_after d fault s key)
     (subst (λ (x : SessionState D). QueuesPicture (says x.tables) x.session.pending x.session.known new) e h))
 
 -- ---- a told size

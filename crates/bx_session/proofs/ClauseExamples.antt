@@ -1,17 +1,26 @@
 -- Worked examples, each from a clause of a run alone.
-use Rattle.std.proofs.Common.{◌≡◌, ◌≢◌, ◌≤◌, ◌<◌, ◌+◌, ℕ, zero, suc, Bool, true, false, List, [], ◌∷◌, ◌++◌, length, take, Option, Some, inl, inr, refl, sym, ap, subst}
+use Rattle.std.proofs.Common.{◌≡◌, ◌≢◌, ◌≤◌, ◌<◌, ◌+◌, ℕ, zero, suc, Bool, true, false, List, [], ◌∷◌, ◌++◌, length, take, Option, Some, None, Ok, inl, inr, refl, sym, ap, subst}
 use Rattle.std.proofs.Common.{◌∙◌, append_assoc, arith}
 use Rattle.std.specs.Global.{Vec}
-use Rattle.std.specs.Prelude.{codes, vec_items, vec_capacity}
+use Rattle.std.specs.Prelude.{codes, option_map, vec_items, vec_capacity}
+use Rattle.std.specs.Fmt.{digits}
 use Rattle.std.specs.Io.KnownBytes.{Appends}
 use Rattle.std.proofs.lemmas.Bool.Decides.{nat_tests}
 use Rattle.std.proofs.lemmas.List.{append-nil, length-append}
-use Rattle.bx_store.specs.Stores.{one_more}
+use Rattle.unicode_segmentation.proofs.Computing.{unicode_segmentation}
+use Rattle.unicode_width.proofs.Computing.{unicode_width}
+use Rattle.bx_store.specs.Causes.{fault}
+use Rattle.bx_store.specs.Stores.{no_faults, one_more}
+use Rattle.bx_store.specs.declared.cause.SaveCause.TheVariants.{NoSpace}
+use Rattle.bx_store.specs.declared.faults.Faults.{Faults}
+use Rattle.bx_store.specs.declared.store.StoreFault.{StoreFault}
+use Rattle.bx_editor.specs.declared.message.Message.TheVariants.{SaveFailed}
+use Rattle.bx_session.specs.declared.status.Status.{Status}
 use Rattle.bx_session.specs.declared.journal.Backlog.TheVariants.{Empty, Waiting}
 use Rattle.bx_session.specs.Journal.{RecorderState, HasKept, HasTried, is_lost, room, waiting, after_faults}
 use Rattle.bx_session.specs.Running.{ByteAnswer, HasRun, bytes_of}
-use Rattle.bx_session.specs.Saving.{StoreState}
-use Rattle.bx_session.specs.Session.{Session}
+use Rattle.bx_session.specs.Saving.{Feeds, SaveEnds, StoreState}
+use Rattle.bx_session.specs.Session.{Session, after_byte}
 use Rattle.bx_session.proofs.Computed.{start}
 use Rattle.bx_session.proofs.Recorded.{has_none}
 use Rattle.bx_editor.proofs.Computed.{tables}
@@ -130,3 +139,27 @@ pub what_waits_is_not_lost : {J : Type 0} (contents : J → Option (List ℕ)) (
 what_waits_is_not_lost contents failures old new held kept was has =
     first_is (kept.appended ++ waiting new.backlog) kept.lost
     (ap (λ xs. xs ++ codes "y") (sym (ap waiting was ∙ has)) ∙ kept.order ∙ sym (append_assoc kept.appended (waiting new.backlog) kept.lost)) kept.few
+
+-- ---- a Save
+
+abbrev unsaved : Session
+unsaved = start (codes "ab") 1 5
+
+abbrev no_space : StoreFault
+no_space = fault (Some NoSpace)
+
+-- the status row has the cause of the latest failed call, which is this Save's
+cause_told : (store store' : StoreState) (ended : Option StoreFault) (new : Session) → SaveEnds ended (codes "ab") store store'
+    → new ≡ after_byte tables ended unsaved 0x13 → store.faults ≡ no_faults → store'.faults.latest ≡ Some no_space
+    → new.editor.message ≡ Some (SaveFailed (Some NoSpace))
+unfolding unicode_segmentation unicode_width digits
+cause_told store store' None new ends is none latest =
+    absurd (let both : None ≡ Some no_space = sym (ap (λ (f : Faults). f.latest) (ap (λ (s : StoreState). s.faults) ends ∙ none)) ∙ latest in cc both)
+cause_told store store' (Some failed) new ends is none latest =
+    let same : Some failed ≡ Some no_space = sym (ap (λ (f : Faults). f.latest) ends.1) ∙ latest in
+    ap (λ (s : Session). s.editor.message) is ∙ ap (option_map (λ (f : StoreFault). SaveFailed f.cause)) same
+
+pub a_full_disk_is_told : (store store' : StoreState) (status : Status) (new : Session) → Feeds tables unsaved store 0x13 (Ok status) new store'
+    → store.faults ≡ no_faults → store'.faults.latest ≡ Some no_space → new.editor.message ≡ Some (SaveFailed (Some NoSpace))
+unfolding unicode_segmentation unicode_width digits
+a_full_disk_is_told store store' status new feeds = cause_told store store' feeds.0 new feeds.1 feeds.2.0

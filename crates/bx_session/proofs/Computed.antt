@@ -1,5 +1,5 @@
 -- A session computed with the small tables.
-use Rattle.std.proofs.Common.{ℕ, true, List, [], ◌∷◌}
+use Rattle.std.proofs.Common.{ℕ, List, [], ◌∷◌, None}
 use Rattle.bx_terms.specs.declared.base.Base.TheVariants.{Auto}
 use Rattle.bx_editor.proofs.Computed.{tables}
 use Rattle.bx_session.specs.Session.{Session, at_opening, after_byte}
@@ -15,7 +15,7 @@ with_all_sent s = record s { pending = [] }
 -- after these bytes; each is answered Ok, and each Save succeeds
 abbrev pub after : Session → List ℕ → Session
 after s [] = s
-after s (b ∷ bs) = after (after_byte tables true s b) bs
+after s (b ∷ bs) = after (after_byte tables None s b) bs
 
 -- the bytes that each of these inputs queues
 abbrev pub outputs : Session → List (List ℕ) → List (List ℕ)

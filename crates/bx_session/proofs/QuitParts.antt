@@ -7,6 +7,7 @@ use Rattle.std.proofs.lemmas.List.{append-nil, length-append, length-map, length
 use Rattle.bx_keys.specs.declared.key.Key.{Key}
 use Rattle.bx_keys.specs.Keys.{key_after, rest_after}
 use Rattle.bx_keys.specs.Waiting.{head_of}
+use Rattle.bx_store.specs.declared.store.StoreFault.{StoreFault}
 use Rattle.bx_ucd.specs.Data.{Data}
 use Rattle.bx_editor.specs.Editor.{Editor, after_save, without_message}
 use Rattle.bx_editor.specs.Keys.{after_key}
@@ -29,20 +30,20 @@ use Rattle.bx_session.proofs.Replayed.{each-replayed, key_steps}
 
 -- ---- only a Quit ends a session
 
-save_goes_on : (e : Editor) (saved : Bool) → e.ended ≡ false → (without_search (after_save (without_message e) saved)).ended ≡ false
-save_goes_on e true h = h
-save_goes_on e false h = h
+save_goes_on : (e : Editor) (fault : Option StoreFault) → e.ended ≡ false → (without_search (after_save (without_message e) fault)).ended ≡ false
+save_goes_on e None h = h
+save_goes_on e (Some fault) h = h
 
 -- any key but Quit
-other_goes_on : (d : Data) (saved : Bool) (e : Editor) (key : Key) → is_quit (Some key) ≡ false → e.ended ≡ false → (after_key d saved e key).ended ≡ false
-other_goes_on d saved e key =
-    each-replayed d e.seek e (λ k new. is_quit (Some k) ≡ false → e.ended ≡ false → (after_key d saved e k).ended ≡ false)
-    (λ other h. ap (λ (x : Editor). x.ended) (save-ends d saved e) ∙ save_goes_on e saved h) (λ other h. absurd (cc other))
-    (λ k other small h. (key_steps d saved e k other).goes_on ∙ h) key
+other_goes_on : (d : Data) (fault : Option StoreFault) (e : Editor) (key : Key) → is_quit (Some key) ≡ false → e.ended ≡ false → (after_key d fault e key).ended ≡ false
+other_goes_on d fault e key =
+    each-replayed d e.seek e (λ k new. is_quit (Some k) ≡ false → e.ended ≡ false → (after_key d fault e k).ended ≡ false)
+    (λ other h. ap (λ (x : Editor). x.ended) (save-ends d fault e) ∙ save_goes_on e fault h) (λ other h. absurd (cc other))
+    (λ k other small h. (key_steps d fault e k other).goes_on ∙ h) key
 
-any_goes_on : (d : Data) (saved : Bool) (e : Editor) (key : Option Key) → is_quit key ≡ false → e.ended ≡ false → (editor_after d saved e key).ended ≡ false
-any_goes_on d saved e None other h = h
-any_goes_on d saved e (Some key) other h = other_goes_on d saved e key other h
+any_goes_on : (d : Data) (fault : Option StoreFault) (e : Editor) (key : Option Key) → is_quit key ≡ false → e.ended ≡ false → (editor_after d fault e key).ended ≡ false
+any_goes_on d fault e None other h = h
+any_goes_on d fault e (Some key) other h = other_goes_on d fault e key other h
 
 -- a session after a byte that completes no Quit
 record GoesOn (rest : List ℕ) (new : Session) : Type 0 where
@@ -53,10 +54,10 @@ spent : (ended : Bool) (s : Session) (rest : List ℕ) → s.editor.ended ≡ en
 spent true s rest is h = absurd (cc h)
 spent false s rest is h = record { running = is; rest_is = refl }
 
-left : (d : Data) (saved : Bool) (s : Session) (key : Option Key) (rest : List ℕ) (new : Session) → is_quit key ≡ false → s.editor.ended ≡ false
-    → Leaves d saved s key rest new → GoesOn rest new
-left d saved s key rest new other runs h = record {
-  running = ap (λ (e : Editor). e.ended) h.editor ∙ any_goes_on d saved s.editor key other runs;
+left : (d : Data) (fault : Option StoreFault) (s : Session) (key : Option Key) (rest : List ℕ) (new : Session) → is_quit key ≡ false → s.editor.ended ≡ false
+    → Leaves d fault s key rest new → GoesOn rest new
+left d fault s key rest new other runs h = record {
+  running = ap (λ (e : Editor). e.ended) h.editor ∙ any_goes_on d fault s.editor key other runs;
   rest_is = h.rest_is;
 }
 

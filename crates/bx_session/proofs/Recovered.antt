@@ -6,12 +6,13 @@ use Rattle.bx_terms.specs.declared.base.Base.{Base}
 use Rattle.bx_keys.specs.declared.key.Key.{Key}
 use Rattle.bx_keys.specs.declared.key.Key.TheVariants.{Insert, Erase, Delete, Back, Forward, Up, Down, Right, Left, RowHome, RowEnd, PageUp, PageDown, Save}
 use Rattle.bx_keys.specs.declared.key.Key.TheVariants.{Quit, Undo, Redo, Repaint, Direction, Size, Mark, Copy, Cut, Put}
-use Rattle.bx_keys.specs.declared.key.Key.TheVariants.{Find, FindBack, WordLeft, WordRight, TextStart, TextEnd, Help}
+use Rattle.bx_keys.specs.declared.key.Key.TheVariants.{Find, FindBack, WordLeft, WordRight, TextStart, TextEnd, Help, Notice}
 use Rattle.bx_keys.specs.Keys.{key_after, rest_after}
 use Rattle.bx_keys.specs.Waiting.{head_of}
 use Rattle.bx_text.specs.Edits.{Edit, Edited, fits, inserted, removed, splice}
 use Rattle.bx_view.specs.Moves.{step_logical}
 use Rattle.bx_view.specs.declared.moves.Logical.TheVariants as logical
+use Rattle.bx_store.specs.declared.store.StoreFault.{StoreFault}
 use Rattle.bx_editor.specs.declared.message.Message.TheVariants.{TextFull, Unsaved, Copied, LineCopied, MarkOff, MarkSet, NothingToCopy, NothingToPut}
 use Rattle.bx_ucd.specs.Data.{Data}
 use Rattle.bx_editor.specs.Editor.{Editor, rows, place_after, after_insertion, after_removal, after_undo, after_redo, after_save, without_message}
@@ -155,39 +156,40 @@ put_lasts d e f =
     (after_insertion d g e.held) refl (insertion_lasts d e f e.held)
 
 -- outside a search
-pressed_lasts : (d : Data) (saved again again' : Bool) (e f : Editor) (key : Key) → is_other key ≡ true
-    → lasting (after_pressing d saved again e key) ≡ lasting (after_pressing d false again' (with (lasting e) f) key)
-pressed_lasts d saved again again' e f (Insert c) other = insertion_lasts d e f (encode_utf8 c)
-pressed_lasts d saved again again' e f Erase other = removal_lasts d e f (step_logical (rows d e) logical.Back e.place) e.place
-pressed_lasts d saved again again' e f Delete other = removal_lasts d e f e.place (step_logical (rows d e) logical.Forward e.place)
-pressed_lasts d saved again again' e f Back other = refl
-pressed_lasts d saved again again' e f Forward other = refl
-pressed_lasts d saved again again' e f Up other = refl
-pressed_lasts d saved again again' e f Down other = refl
-pressed_lasts d saved again again' e f Right other = refl
-pressed_lasts d saved again again' e f Left other = refl
-pressed_lasts d saved again again' e f RowHome other = refl
-pressed_lasts d saved again again' e f RowEnd other = refl
-pressed_lasts d saved again again' e f PageUp other = refl
-pressed_lasts d saved again again' e f PageDown other = refl
-pressed_lasts d saved again again' e f Save other = absurd (cc other)
-pressed_lasts d saved again again' e f Quit other = absurd (cc other)
-pressed_lasts d saved again again' e f Undo other = undo_lasts e f e.content.past
-pressed_lasts d saved again again' e f Redo other = redo_lasts e f e.content.future
-pressed_lasts d saved again again' e f Repaint other = refl
-pressed_lasts d saved again again' e f Direction other = refl
-pressed_lasts d saved again again' e f Mark other = mark_lasts e f
-pressed_lasts d saved again again' e f Copy other = copy_lasts d e f
-pressed_lasts d saved again again' e f Cut other = cut_lasts d e f
-pressed_lasts d saved again again' e f Put other = put_lasts d e f
-pressed_lasts d saved again again' e f Find other = refl
-pressed_lasts d saved again again' e f FindBack other = refl
-pressed_lasts d saved again again' e f WordLeft other = refl
-pressed_lasts d saved again again' e f WordRight other = refl
-pressed_lasts d saved again again' e f TextStart other = refl
-pressed_lasts d saved again again' e f TextEnd other = refl
-pressed_lasts d saved again again' e f Help other = refl
-pressed_lasts d saved again again' e f (Size height width) other = refl
+pressed_lasts : (d : Data) (fault : Option StoreFault) (again again' : Bool) (e f : Editor) (key : Key) → is_other key ≡ true
+    → lasting (after_pressing d fault again e key) ≡ lasting (after_pressing d None again' (with (lasting e) f) key)
+pressed_lasts d fault again again' e f (Insert c) other = insertion_lasts d e f (encode_utf8 c)
+pressed_lasts d fault again again' e f Erase other = removal_lasts d e f (step_logical (rows d e) logical.Back e.place) e.place
+pressed_lasts d fault again again' e f Delete other = removal_lasts d e f e.place (step_logical (rows d e) logical.Forward e.place)
+pressed_lasts d fault again again' e f Back other = refl
+pressed_lasts d fault again again' e f Forward other = refl
+pressed_lasts d fault again again' e f Up other = refl
+pressed_lasts d fault again again' e f Down other = refl
+pressed_lasts d fault again again' e f Right other = refl
+pressed_lasts d fault again again' e f Left other = refl
+pressed_lasts d fault again again' e f RowHome other = refl
+pressed_lasts d fault again again' e f RowEnd other = refl
+pressed_lasts d fault again again' e f PageUp other = refl
+pressed_lasts d fault again again' e f PageDown other = refl
+pressed_lasts d fault again again' e f Save other = absurd (cc other)
+pressed_lasts d fault again again' e f Quit other = absurd (cc other)
+pressed_lasts d fault again again' e f Undo other = undo_lasts e f e.content.past
+pressed_lasts d fault again again' e f Redo other = redo_lasts e f e.content.future
+pressed_lasts d fault again again' e f Repaint other = refl
+pressed_lasts d fault again again' e f Direction other = refl
+pressed_lasts d fault again again' e f Mark other = mark_lasts e f
+pressed_lasts d fault again again' e f Copy other = copy_lasts d e f
+pressed_lasts d fault again again' e f Cut other = cut_lasts d e f
+pressed_lasts d fault again again' e f Put other = put_lasts d e f
+pressed_lasts d fault again again' e f Find other = refl
+pressed_lasts d fault again again' e f FindBack other = refl
+pressed_lasts d fault again again' e f WordLeft other = refl
+pressed_lasts d fault again again' e f WordRight other = refl
+pressed_lasts d fault again again' e f TextStart other = refl
+pressed_lasts d fault again again' e f TextEnd other = refl
+pressed_lasts d fault again again' e f Help other = refl
+pressed_lasts d fault again again' e f (Size height width) other = refl
+pressed_lasts d fault again again' e f (Notice notice) other = refl
 
 -- in a search
 letter_lasts : (d : Data) (e f : Editor) (c : ℕ) → lasting (after_letter d e c) ≡ lasting (after_letter d (with (lasting e) f) c)
@@ -201,125 +203,127 @@ letter_lasts d e f c =
 abbrev over : Lasting → Lasting
 over l = record l { seek = Off }
 
-sought_lasts : (d : Data) (saved again again' : Bool) (e f : Editor) (key : Key) → is_other key ≡ true
-    → lasting (after_seeking d saved again e key) ≡ lasting (after_seeking d false again' (with (lasting e) f) key)
-sought_lasts d saved again again' e f (Insert c) other = letter_lasts d e f c
-sought_lasts d saved again again' e f Erase other = refl
-sought_lasts d saved again again' e f Delete other = refl
-sought_lasts d saved again again' e f Back other = ap over (pressed_lasts d saved again again' e f Back other)
-sought_lasts d saved again again' e f Forward other = ap over (pressed_lasts d saved again again' e f Forward other)
-sought_lasts d saved again again' e f Up other = ap over (pressed_lasts d saved again again' e f Up other)
-sought_lasts d saved again again' e f Down other = ap over (pressed_lasts d saved again again' e f Down other)
-sought_lasts d saved again again' e f Right other = ap over (pressed_lasts d saved again again' e f Right other)
-sought_lasts d saved again again' e f Left other = ap over (pressed_lasts d saved again again' e f Left other)
-sought_lasts d saved again again' e f RowHome other = ap over (pressed_lasts d saved again again' e f RowHome other)
-sought_lasts d saved again again' e f RowEnd other = ap over (pressed_lasts d saved again again' e f RowEnd other)
-sought_lasts d saved again again' e f PageUp other = ap over (pressed_lasts d saved again again' e f PageUp other)
-sought_lasts d saved again again' e f PageDown other = ap over (pressed_lasts d saved again again' e f PageDown other)
-sought_lasts d saved again again' e f Save other = absurd (cc other)
-sought_lasts d saved again again' e f Quit other = refl
-sought_lasts d saved again again' e f Undo other = ap over (pressed_lasts d saved again again' e f Undo other)
-sought_lasts d saved again again' e f Redo other = ap over (pressed_lasts d saved again again' e f Redo other)
-sought_lasts d saved again again' e f Repaint other = refl
-sought_lasts d saved again again' e f Direction other = ap over (pressed_lasts d saved again again' e f Direction other)
-sought_lasts d saved again again' e f Mark other = ap over (pressed_lasts d saved again again' e f Mark other)
-sought_lasts d saved again again' e f Copy other = refl
-sought_lasts d saved again again' e f Cut other = ap over (pressed_lasts d saved again again' e f Cut other)
-sought_lasts d saved again again' e f Put other = ap over (pressed_lasts d saved again again' e f Put other)
-sought_lasts d saved again again' e f Find other = refl
-sought_lasts d saved again again' e f FindBack other = refl
-sought_lasts d saved again again' e f WordLeft other = ap over (pressed_lasts d saved again again' e f WordLeft other)
-sought_lasts d saved again again' e f WordRight other = ap over (pressed_lasts d saved again again' e f WordRight other)
-sought_lasts d saved again again' e f TextStart other = ap over (pressed_lasts d saved again again' e f TextStart other)
-sought_lasts d saved again again' e f TextEnd other = ap over (pressed_lasts d saved again again' e f TextEnd other)
-sought_lasts d saved again again' e f Help other = ap over (pressed_lasts d saved again again' e f Help other)
-sought_lasts d saved again again' e f (Size height width) other = ap over (pressed_lasts d saved again again' e f (Size height width) other)
+sought_lasts : (d : Data) (fault : Option StoreFault) (again again' : Bool) (e f : Editor) (key : Key) → is_other key ≡ true
+    → lasting (after_seeking d fault again e key) ≡ lasting (after_seeking d None again' (with (lasting e) f) key)
+sought_lasts d fault again again' e f (Insert c) other = letter_lasts d e f c
+sought_lasts d fault again again' e f Erase other = refl
+sought_lasts d fault again again' e f Delete other = refl
+sought_lasts d fault again again' e f Back other = ap over (pressed_lasts d fault again again' e f Back other)
+sought_lasts d fault again again' e f Forward other = ap over (pressed_lasts d fault again again' e f Forward other)
+sought_lasts d fault again again' e f Up other = ap over (pressed_lasts d fault again again' e f Up other)
+sought_lasts d fault again again' e f Down other = ap over (pressed_lasts d fault again again' e f Down other)
+sought_lasts d fault again again' e f Right other = ap over (pressed_lasts d fault again again' e f Right other)
+sought_lasts d fault again again' e f Left other = ap over (pressed_lasts d fault again again' e f Left other)
+sought_lasts d fault again again' e f RowHome other = ap over (pressed_lasts d fault again again' e f RowHome other)
+sought_lasts d fault again again' e f RowEnd other = ap over (pressed_lasts d fault again again' e f RowEnd other)
+sought_lasts d fault again again' e f PageUp other = ap over (pressed_lasts d fault again again' e f PageUp other)
+sought_lasts d fault again again' e f PageDown other = ap over (pressed_lasts d fault again again' e f PageDown other)
+sought_lasts d fault again again' e f Save other = absurd (cc other)
+sought_lasts d fault again again' e f Quit other = refl
+sought_lasts d fault again again' e f Undo other = ap over (pressed_lasts d fault again again' e f Undo other)
+sought_lasts d fault again again' e f Redo other = ap over (pressed_lasts d fault again again' e f Redo other)
+sought_lasts d fault again again' e f Repaint other = refl
+sought_lasts d fault again again' e f Direction other = ap over (pressed_lasts d fault again again' e f Direction other)
+sought_lasts d fault again again' e f Mark other = ap over (pressed_lasts d fault again again' e f Mark other)
+sought_lasts d fault again again' e f Copy other = refl
+sought_lasts d fault again again' e f Cut other = ap over (pressed_lasts d fault again again' e f Cut other)
+sought_lasts d fault again again' e f Put other = ap over (pressed_lasts d fault again again' e f Put other)
+sought_lasts d fault again again' e f Find other = refl
+sought_lasts d fault again again' e f FindBack other = refl
+sought_lasts d fault again again' e f WordLeft other = ap over (pressed_lasts d fault again again' e f WordLeft other)
+sought_lasts d fault again again' e f WordRight other = ap over (pressed_lasts d fault again again' e f WordRight other)
+sought_lasts d fault again again' e f TextStart other = ap over (pressed_lasts d fault again again' e f TextStart other)
+sought_lasts d fault again again' e f TextEnd other = ap over (pressed_lasts d fault again again' e f TextEnd other)
+sought_lasts d fault again again' e f Help other = ap over (pressed_lasts d fault again again' e f Help other)
+sought_lasts d fault again again' e f (Size height width) other = ap over (pressed_lasts d fault again again' e f (Size height width) other)
+sought_lasts d fault again again' e f (Notice notice) other = ap over (pressed_lasts d fault again again' e f (Notice notice) other)
 
-seek_lasts : (d : Data) (saved again again' : Bool) (seek : Seek) (e f : Editor) (key : Key) → is_other key ≡ true
-    → lasting (after_any d saved again seek e key) ≡ lasting (after_any d false again' seek (with (lasting e) f) key)
-seek_lasts d saved again again' Off e f key other = pressed_lasts d saved again again' e f key other
-seek_lasts d saved again again' Begun e f key other = sought_lasts d saved again again' e f key other
-seek_lasts d saved again again' Typed e f key other = sought_lasts d saved again again' e f key other
+seek_lasts : (d : Data) (fault : Option StoreFault) (again again' : Bool) (seek : Seek) (e f : Editor) (key : Key) → is_other key ≡ true
+    → lasting (after_any d fault again seek e key) ≡ lasting (after_any d None again' seek (with (lasting e) f) key)
+seek_lasts d fault again again' Off e f key other = pressed_lasts d fault again again' e f key other
+seek_lasts d fault again again' Begun e f key other = sought_lasts d fault again again' e f key other
+seek_lasts d fault again again' Typed e f key other = sought_lasts d fault again again' e f key other
 
-other_lasts : (d : Data) (saved : Bool) (e f : Editor) (key : Key) → is_other key ≡ true
-    → lasting (after_key d saved e key) ≡ lasting (after_key d false (with (lasting e) f) key)
-other_lasts d saved e f =
-    each-key d saved e (λ key new. is_other key ≡ true → lasting new ≡ lasting (after_key d false (with (lasting e) f) key)) (λ height width other. refl)
+other_lasts : (d : Data) (fault : Option StoreFault) (e f : Editor) (key : Key) → is_other key ≡ true
+    → lasting (after_key d fault e key) ≡ lasting (after_key d None (with (lasting e) f) key)
+other_lasts d fault e f =
+    each-key d fault e (λ key new. is_other key ≡ true → lasting new ≡ lasting (after_key d None (with (lasting e) f) key)) (λ height width other. refl)
+    (λ notice other. refl)
     (λ key small other.
-    seek_lasts d saved e.quit_before f.quit_before e.seek (without_message e) (without_message f) key other
+    seek_lasts d fault e.quit_before f.quit_before e.seek (without_message e) (without_message f) key other
     ∙ ap lasting (sym (any-key d false (with (lasting e) f) key small)))
 
-save_lasts : (e : Editor) (saved : Bool) → lasting (without_search (after_save e saved)) ≡ lasting (without_search e)
-save_lasts e true = refl
-save_lasts e false = refl
+save_lasts : (e : Editor) (fault : Option StoreFault) → lasting (without_search (after_save e fault)) ≡ lasting (without_search e)
+save_lasts e None = refl
+save_lasts e (Some fault) = refl
 
 quit_by : (ends : Bool) (e : Editor)
     → lasting (if ends then record e { quit_before = true; ended = true } else record e { quit_before = true; message = Some Unsaved }) ≡ lasting e
 quit_by true e = refl
 quit_by false e = refl
 
-quit_lasts : (d : Data) (saved : Bool) (seek : Seek) (e f : Editor) → e.seek ≡ seek
-    → lasting (after_any d saved e.quit_before seek (without_message e) Quit) ≡ lasting (after_replayed d seek (with (lasting e) f) Quit)
-quit_lasts d saved Off e f is = quit_by (not e.changed || e.quit_before) (without_message e)
-quit_lasts d saved Begun e f is =
-    ap (λ s. lasting (after_any d false f.quit_before s (without_message (with (lasting e) f)) Quit)) (sym is)
-quit_lasts d saved Typed e f is =
-    ap (λ s. lasting (after_any d false f.quit_before s (without_message (with (lasting e) f)) Quit)) (sym is)
+quit_lasts : (d : Data) (fault : Option StoreFault) (seek : Seek) (e f : Editor) → e.seek ≡ seek
+    → lasting (after_any d fault e.quit_before seek (without_message e) Quit) ≡ lasting (after_replayed d seek (with (lasting e) f) Quit)
+quit_lasts d fault Off e f is = quit_by (not e.changed || e.quit_before) (without_message e)
+quit_lasts d fault Begun e f is =
+    ap (λ s. lasting (after_any d None f.quit_before s (without_message (with (lasting e) f)) Quit)) (sym is)
+quit_lasts d fault Typed e f is =
+    ap (λ s. lasting (after_any d None f.quit_before s (without_message (with (lasting e) f)) Quit)) (sym is)
 
-key_lasts : (d : Data) (saved : Bool) (e f : Editor) (key : Key)
-    → lasting (after_key d saved e key) ≡ lasting (after_replayed d e.seek (with (lasting e) f) key)
-key_lasts d saved e f key =
-    each-replayed d e.seek (with (lasting e) f) (λ k new. lasting (after_key d saved e k) ≡ lasting new)
-    (ap lasting (save-ends d saved e) ∙ save_lasts (without_message e) saved) (quit_lasts d saved e.seek e f refl)
-    (λ k other. other_lasts d saved e f k other) key
+key_lasts : (d : Data) (fault : Option StoreFault) (e f : Editor) (key : Key)
+    → lasting (after_key d fault e key) ≡ lasting (after_replayed d e.seek (with (lasting e) f) key)
+key_lasts d fault e f key =
+    each-replayed d e.seek (with (lasting e) f) (λ k new. lasting (after_key d fault e k) ≡ lasting new)
+    (ap lasting (save-ends d fault e) ∙ save_lasts (without_message e) fault) (quit_lasts d fault e.seek e f refl)
+    (λ k other. other_lasts d fault e f k other) key
 
-abbrev pub editor_after : Data → Bool → Editor → Option Key → Editor
-editor_after d saved e None = e
-editor_after d saved e (Some key) = after_key d saved e key
+abbrev pub editor_after : Data → Option StoreFault → Editor → Option Key → Editor
+editor_after d fault e None = e
+editor_after d fault e (Some key) = after_key d fault e key
 
-any_lasts : (d : Data) (saved : Bool) (e f : Editor) (key : Option Key) → lasting e ≡ lasting f
-    → lasting (editor_after d saved e key) ≡ lasting (after_all_replayed d f (option_to_list key))
-any_lasts d saved e f None h = h
-any_lasts d saved e f (Some key) h =
-    subst (λ (l : Lasting). lasting (after_key d saved e key) ≡ lasting (after_replayed d l.seek (with l f) key)) h (key_lasts d saved e f key)
+any_lasts : (d : Data) (fault : Option StoreFault) (e f : Editor) (key : Option Key) → lasting e ≡ lasting f
+    → lasting (editor_after d fault e key) ≡ lasting (after_all_replayed d f (option_to_list key))
+any_lasts d fault e f None h = h
+any_lasts d fault e f (Some key) h =
+    subst (λ (l : Lasting). lasting (after_key d fault e key) ≡ lasting (after_replayed d l.seek (with l f) key)) h (key_lasts d fault e f key)
 
 -- ---- the session after a byte
 
-pub record Leaves (d : Data) (saved : Bool) (old : Session) (key : Option Key) (rest : List ℕ) (new : Session) : Type 0 where
-  pub editor : new.editor ≡ editor_after d saved old.editor key
+pub record Leaves (d : Data) (fault : Option StoreFault) (old : Session) (key : Option Key) (rest : List ℕ) (new : Session) : Type 0 where
+  pub editor : new.editor ≡ editor_after d fault old.editor key
   pub rest_is : new.rest ≡ rest
 
-any_leaves : (d : Data) (saved : Bool) (s : Session) (key : Option Key) → Leaves d saved s key s.rest (session_after_any d saved s key)
-any_leaves d saved s None = record { editor = refl; rest_is = refl }
-any_leaves d saved s (Some key) = record { editor = refl; rest_is = refl }
+any_leaves : (d : Data) (fault : Option StoreFault) (s : Session) (key : Option Key) → Leaves d fault s key s.rest (session_after_any d fault s key)
+any_leaves d fault s None = record { editor = refl; rest_is = refl }
+any_leaves d fault s (Some key) = record { editor = refl; rest_is = refl }
 
-unpainted_at : (ended : Bool) (d : Data) (saved : Bool) (s : Session) (key : Option Key) (rest : List ℕ) → ended ≡ false
-    → Leaves d saved s key rest (session_after_any d saved (if ended then s else record s { rest = rest }) (if ended then None else key))
-unpainted_at true d saved s key rest e = absurd (cc e)
-unpainted_at false d saved s key rest e =
-    let each = any_leaves d saved (record s { rest = rest }) key in record { editor = each.editor; rest_is = each.rest_is }
+unpainted_at : (ended : Bool) (d : Data) (fault : Option StoreFault) (s : Session) (key : Option Key) (rest : List ℕ) → ended ≡ false
+    → Leaves d fault s key rest (session_after_any d fault (if ended then s else record s { rest = rest }) (if ended then None else key))
+unpainted_at true d fault s key rest e = absurd (cc e)
+unpainted_at false d fault s key rest e =
+    let each = any_leaves d fault (record s { rest = rest }) key in record { editor = each.editor; rest_is = each.rest_is }
 
 -- an idle byte completes no key, so a painting makes no difference
-painted_at : (idle owed : Bool) (key : Option Key) (d : Data) (saved : Bool) (old spent : Session) (ends : Option Key) (rest : List ℕ)
-    → (not (is_some key) && not owed) ≡ idle → Leaves d saved old ends rest (session_after_any d saved spent key)
-    → Leaves d saved old ends rest (if idle then spent else with_painting d (session_after_any d saved spent key))
-painted_at true owed None d saved old spent ends rest e h = h
-painted_at true owed (Some key) d saved old spent ends rest e h = absurd (cc e)
-painted_at false owed key d saved old spent ends rest e h = record { editor = h.editor; rest_is = h.rest_is }
+painted_at : (idle owed : Bool) (key : Option Key) (d : Data) (fault : Option StoreFault) (old spent : Session) (ends : Option Key) (rest : List ℕ)
+    → (not (is_some key) && not owed) ≡ idle → Leaves d fault old ends rest (session_after_any d fault spent key)
+    → Leaves d fault old ends rest (if idle then spent else with_painting d (session_after_any d fault spent key))
+painted_at true owed None d fault old spent ends rest e h = h
+painted_at true owed (Some key) d fault old spent ends rest e h = absurd (cc e)
+painted_at false owed key d fault old spent ends rest e h = record { editor = h.editor; rest_is = h.rest_is }
 
-pub byte_leaves : (d : Data) (saved : Bool) (s : Session) (b : ℕ) (a : Result Status Refused) (new : Session) → s.editor.ended ≡ false
-    → a ≢ Err refused.Edit → AfterByte d saved s b a new
-    → Leaves d saved s (key_after s.rest b) (head_of (rest_after s.rest b)) new
-byte_leaves d saved s b (Ok status) new runs some h =
-    subst (Leaves d saved s (key_after s.rest b) (head_of (rest_after s.rest b))) (sym h.0)
-    (painted_at (is_idle s b) s.painting_owed (key_of_byte s b) d saved s (after_spending s b) (key_after s.rest b) (head_of (rest_after s.rest b)) refl
-    (unpainted_at s.editor.ended d saved s (key_after s.rest b) (head_of (rest_after s.rest b)) runs))
-byte_leaves d saved s b (Err refused.Edit) new runs some h = absurd (some refl)
-byte_leaves d saved s b (Err refused.Paint) new runs some h =
-    subst (Leaves d saved s (key_after s.rest b) (head_of (rest_after s.rest b))) (sym h.0)
-    (let each = unpainted_at s.editor.ended d saved s (key_after s.rest b) (head_of (rest_after s.rest b)) runs in
+pub byte_leaves : (d : Data) (fault : Option StoreFault) (s : Session) (b : ℕ) (a : Result Status Refused) (new : Session) → s.editor.ended ≡ false
+    → a ≢ Err refused.Edit → AfterByte d fault s b a new
+    → Leaves d fault s (key_after s.rest b) (head_of (rest_after s.rest b)) new
+byte_leaves d fault s b (Ok status) new runs some h =
+    subst (Leaves d fault s (key_after s.rest b) (head_of (rest_after s.rest b))) (sym h.0)
+    (painted_at (is_idle s b) s.painting_owed (key_of_byte s b) d fault s (after_spending s b) (key_after s.rest b) (head_of (rest_after s.rest b)) refl
+    (unpainted_at s.editor.ended d fault s (key_after s.rest b) (head_of (rest_after s.rest b)) runs))
+byte_leaves d fault s b (Err refused.Edit) new runs some h = absurd (some refl)
+byte_leaves d fault s b (Err refused.Paint) new runs some h =
+    subst (Leaves d fault s (key_after s.rest b) (head_of (rest_after s.rest b))) (sym h.0)
+    (let each = unpainted_at s.editor.ended d fault s (key_after s.rest b) (head_of (rest_after s.rest b)) runs in
     record { editor = each.editor; rest_is = each.rest_is })
-byte_leaves d saved s b (Err refused.Size) new runs some h = absurd h
+byte_leaves d fault s b (Err refused.Size) new runs some h = absurd h
 
 -- ---- the replay follows the session
 

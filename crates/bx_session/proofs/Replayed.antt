@@ -4,13 +4,14 @@ use Rattle.std.specs.Prelude.{◌==◌, ◌+◌, encode_utf8, option_to_list}
 use Rattle.bx_keys.specs.declared.key.Key.{Key}
 use Rattle.bx_keys.specs.declared.key.Key.TheVariants.{Insert, Erase, Delete, Back, Forward, Up, Down, Right, Left, RowHome, RowEnd, PageUp, PageDown, Save}
 use Rattle.bx_keys.specs.declared.key.Key.TheVariants.{Quit, Undo, Redo, Repaint, Direction, Size, Mark, Copy, Cut, Put}
-use Rattle.bx_keys.specs.declared.key.Key.TheVariants.{Find, FindBack, WordLeft, WordRight, TextStart, TextEnd, Help}
+use Rattle.bx_keys.specs.declared.key.Key.TheVariants.{Find, FindBack, WordLeft, WordRight, TextStart, TextEnd, Help, Notice}
 use Rattle.bx_keys.specs.Keys.{key_after, rest_after}
 use Rattle.bx_keys.specs.Waiting.{head_of}
 use Rattle.bx_text.specs.Edits.{Edit, Edited, edit_of, fits, inserted, redone_in, removed, replaced, splice, undone_in}
+use Rattle.bx_store.specs.declared.store.StoreFault.{StoreFault}
 use Rattle.bx_ucd.specs.Data.{Data}
 use Rattle.bx_editor.specs.declared.message.Message.TheVariants.{TextFull}
-use Rattle.bx_editor.specs.Editor.{Editor, after_insertion, after_removal, after_undo, after_redo, place_after, with_size, without_message}
+use Rattle.bx_editor.specs.Editor.{Editor, after_insertion, after_removal, after_undo, after_redo, place_after, with_notice, with_size, without_message}
 use Rattle.bx_editor.specs.declared.seek.Seek.{Seek}
 use Rattle.bx_editor.specs.declared.seek.Seek.TheVariants.{Off, Begun, Typed}
 use Rattle.bx_editor.specs.Keys.{after_any, after_key, after_pressing, after_seeking, is_save}
@@ -97,7 +98,7 @@ is_other key = not (is_save key) && not (is_quit (Some key))
 
 -- any key of a replay
 pub each-replayed : (d : Data) (seek : Seek) (e : Editor) (P : Key → Editor → Type 0) → P Save (without_search e) → P Quit (after_replayed d seek e Quit)
-    → ((key : Key) → is_other key ≡ true → P key (after_key d false e key)) → (key : Key) → P key (after_replayed d seek e key)
+    → ((key : Key) → is_other key ≡ true → P key (after_key d None e key)) → (key : Key) → P key (after_replayed d seek e key)
 each-replayed d seek e P save quit other (Insert c) = other (Insert c) refl
 each-replayed d seek e P save quit other Erase = other Erase refl
 each-replayed d seek e P save quit other Delete = other Delete refl
@@ -129,40 +130,42 @@ each-replayed d seek e P save quit other TextStart = other TextStart refl
 each-replayed d seek e P save quit other TextEnd = other TextEnd refl
 each-replayed d seek e P save quit other Help = other Help refl
 each-replayed d seek e P save quit other (Size height width) = other (Size height width) refl
+each-replayed d seek e P save quit other (Notice notice) = other (Notice notice) refl
 
 -- outside a search
-pressed_steps : (d : Data) (saved again : Bool) (e : Editor) (key : Key) → is_other key ≡ true → Steps e (after_pressing d saved again e key)
-pressed_steps d saved again e (Insert c) other = insertion_steps d e (encode_utf8 c)
-pressed_steps d saved again e Erase other = removal_steps d e _ e.place
-pressed_steps d saved again e Delete other = removal_steps d e e.place _
-pressed_steps d saved again e Back other = idle e _ refl refl refl
-pressed_steps d saved again e Forward other = idle e _ refl refl refl
-pressed_steps d saved again e Up other = idle e _ refl refl refl
-pressed_steps d saved again e Down other = idle e _ refl refl refl
-pressed_steps d saved again e Right other = idle e _ refl refl refl
-pressed_steps d saved again e Left other = idle e _ refl refl refl
-pressed_steps d saved again e RowHome other = idle e _ refl refl refl
-pressed_steps d saved again e RowEnd other = idle e _ refl refl refl
-pressed_steps d saved again e PageUp other = idle e _ refl refl refl
-pressed_steps d saved again e PageDown other = idle e _ refl refl refl
-pressed_steps d saved again e Save other = absurd (cc other)
-pressed_steps d saved again e Quit other = absurd (cc other)
-pressed_steps d saved again e Undo other = undo_steps e e.content.past refl
-pressed_steps d saved again e Redo other = redo_steps e e.content.future refl
-pressed_steps d saved again e Repaint other = idle e _ refl refl refl
-pressed_steps d saved again e Direction other = idle e _ refl refl refl
-pressed_steps d saved again e Mark other = either_steps (is_at_mark e.mark e.place) e _ _ (idle e _ refl refl refl) (idle e _ refl refl refl)
-pressed_steps d saved again e Copy other = copy_steps d e
-pressed_steps d saved again e Cut other = cut_steps d e
-pressed_steps d saved again e Put other = put_steps d e
-pressed_steps d saved again e Find other = idle e _ refl refl refl
-pressed_steps d saved again e FindBack other = idle e _ refl refl refl
-pressed_steps d saved again e WordLeft other = idle e _ refl refl refl
-pressed_steps d saved again e WordRight other = idle e _ refl refl refl
-pressed_steps d saved again e TextStart other = idle e _ refl refl refl
-pressed_steps d saved again e TextEnd other = idle e _ refl refl refl
-pressed_steps d saved again e Help other = idle e _ refl refl refl
-pressed_steps d saved again e (Size height width) other = idle e _ refl refl refl
+pressed_steps : (d : Data) (fault : Option StoreFault) (again : Bool) (e : Editor) (key : Key) → is_other key ≡ true → Steps e (after_pressing d fault again e key)
+pressed_steps d fault again e (Insert c) other = insertion_steps d e (encode_utf8 c)
+pressed_steps d fault again e Erase other = removal_steps d e _ e.place
+pressed_steps d fault again e Delete other = removal_steps d e e.place _
+pressed_steps d fault again e Back other = idle e _ refl refl refl
+pressed_steps d fault again e Forward other = idle e _ refl refl refl
+pressed_steps d fault again e Up other = idle e _ refl refl refl
+pressed_steps d fault again e Down other = idle e _ refl refl refl
+pressed_steps d fault again e Right other = idle e _ refl refl refl
+pressed_steps d fault again e Left other = idle e _ refl refl refl
+pressed_steps d fault again e RowHome other = idle e _ refl refl refl
+pressed_steps d fault again e RowEnd other = idle e _ refl refl refl
+pressed_steps d fault again e PageUp other = idle e _ refl refl refl
+pressed_steps d fault again e PageDown other = idle e _ refl refl refl
+pressed_steps d fault again e Save other = absurd (cc other)
+pressed_steps d fault again e Quit other = absurd (cc other)
+pressed_steps d fault again e Undo other = undo_steps e e.content.past refl
+pressed_steps d fault again e Redo other = redo_steps e e.content.future refl
+pressed_steps d fault again e Repaint other = idle e _ refl refl refl
+pressed_steps d fault again e Direction other = idle e _ refl refl refl
+pressed_steps d fault again e Mark other = either_steps (is_at_mark e.mark e.place) e _ _ (idle e _ refl refl refl) (idle e _ refl refl refl)
+pressed_steps d fault again e Copy other = copy_steps d e
+pressed_steps d fault again e Cut other = cut_steps d e
+pressed_steps d fault again e Put other = put_steps d e
+pressed_steps d fault again e Find other = idle e _ refl refl refl
+pressed_steps d fault again e FindBack other = idle e _ refl refl refl
+pressed_steps d fault again e WordLeft other = idle e _ refl refl refl
+pressed_steps d fault again e WordRight other = idle e _ refl refl refl
+pressed_steps d fault again e TextStart other = idle e _ refl refl refl
+pressed_steps d fault again e TextEnd other = idle e _ refl refl refl
+pressed_steps d fault again e Help other = idle e _ refl refl refl
+pressed_steps d fault again e (Size height width) other = idle e _ refl refl refl
+pressed_steps d fault again e (Notice notice) other = idle e _ refl refl refl
 
 letter_steps : (d : Data) (e : Editor) (c : ℕ) → Steps e (after_letter d e c)
 letter_steps d e c =
@@ -172,57 +175,59 @@ over : (e new : Editor) → Steps e new → Steps e (without_search new)
 over e new h = record { goes_on = h.goes_on; edits = h.edits }
 
 -- in a search
-sought_steps : (d : Data) (saved again : Bool) (e : Editor) (key : Key) → is_other key ≡ true → Steps e (after_seeking d saved again e key)
-sought_steps d saved again e (Insert c) other = letter_steps d e c
-sought_steps d saved again e Erase other = idle e _ refl refl refl
-sought_steps d saved again e Delete other = idle e _ refl refl refl
-sought_steps d saved again e Back other = over e _ (pressed_steps d saved again e Back refl)
-sought_steps d saved again e Forward other = over e _ (pressed_steps d saved again e Forward refl)
-sought_steps d saved again e Up other = over e _ (pressed_steps d saved again e Up refl)
-sought_steps d saved again e Down other = over e _ (pressed_steps d saved again e Down refl)
-sought_steps d saved again e Right other = over e _ (pressed_steps d saved again e Right refl)
-sought_steps d saved again e Left other = over e _ (pressed_steps d saved again e Left refl)
-sought_steps d saved again e RowHome other = over e _ (pressed_steps d saved again e RowHome refl)
-sought_steps d saved again e RowEnd other = over e _ (pressed_steps d saved again e RowEnd refl)
-sought_steps d saved again e PageUp other = over e _ (pressed_steps d saved again e PageUp refl)
-sought_steps d saved again e PageDown other = over e _ (pressed_steps d saved again e PageDown refl)
-sought_steps d saved again e Save other = absurd (cc other)
-sought_steps d saved again e Quit other = absurd (cc other)
-sought_steps d saved again e Undo other = over e _ (pressed_steps d saved again e Undo refl)
-sought_steps d saved again e Redo other = over e _ (pressed_steps d saved again e Redo refl)
-sought_steps d saved again e Repaint other = idle e _ refl refl refl
-sought_steps d saved again e Direction other = over e _ (pressed_steps d saved again e Direction refl)
-sought_steps d saved again e Mark other = over e _ (pressed_steps d saved again e Mark refl)
-sought_steps d saved again e Copy other = idle e _ refl refl refl
-sought_steps d saved again e Cut other = over e _ (pressed_steps d saved again e Cut refl)
-sought_steps d saved again e Put other = over e _ (pressed_steps d saved again e Put refl)
-sought_steps d saved again e Find other = idle e _ refl refl refl
-sought_steps d saved again e FindBack other = idle e _ refl refl refl
-sought_steps d saved again e WordLeft other = over e _ (pressed_steps d saved again e WordLeft refl)
-sought_steps d saved again e WordRight other = over e _ (pressed_steps d saved again e WordRight refl)
-sought_steps d saved again e TextStart other = over e _ (pressed_steps d saved again e TextStart refl)
-sought_steps d saved again e TextEnd other = over e _ (pressed_steps d saved again e TextEnd refl)
-sought_steps d saved again e Help other = over e _ (pressed_steps d saved again e Help refl)
-sought_steps d saved again e (Size height width) other = over e _ (pressed_steps d saved again e (Size height width) refl)
+sought_steps : (d : Data) (fault : Option StoreFault) (again : Bool) (e : Editor) (key : Key) → is_other key ≡ true → Steps e (after_seeking d fault again e key)
+sought_steps d fault again e (Insert c) other = letter_steps d e c
+sought_steps d fault again e Erase other = idle e _ refl refl refl
+sought_steps d fault again e Delete other = idle e _ refl refl refl
+sought_steps d fault again e Back other = over e _ (pressed_steps d fault again e Back refl)
+sought_steps d fault again e Forward other = over e _ (pressed_steps d fault again e Forward refl)
+sought_steps d fault again e Up other = over e _ (pressed_steps d fault again e Up refl)
+sought_steps d fault again e Down other = over e _ (pressed_steps d fault again e Down refl)
+sought_steps d fault again e Right other = over e _ (pressed_steps d fault again e Right refl)
+sought_steps d fault again e Left other = over e _ (pressed_steps d fault again e Left refl)
+sought_steps d fault again e RowHome other = over e _ (pressed_steps d fault again e RowHome refl)
+sought_steps d fault again e RowEnd other = over e _ (pressed_steps d fault again e RowEnd refl)
+sought_steps d fault again e PageUp other = over e _ (pressed_steps d fault again e PageUp refl)
+sought_steps d fault again e PageDown other = over e _ (pressed_steps d fault again e PageDown refl)
+sought_steps d fault again e Save other = absurd (cc other)
+sought_steps d fault again e Quit other = absurd (cc other)
+sought_steps d fault again e Undo other = over e _ (pressed_steps d fault again e Undo refl)
+sought_steps d fault again e Redo other = over e _ (pressed_steps d fault again e Redo refl)
+sought_steps d fault again e Repaint other = idle e _ refl refl refl
+sought_steps d fault again e Direction other = over e _ (pressed_steps d fault again e Direction refl)
+sought_steps d fault again e Mark other = over e _ (pressed_steps d fault again e Mark refl)
+sought_steps d fault again e Copy other = idle e _ refl refl refl
+sought_steps d fault again e Cut other = over e _ (pressed_steps d fault again e Cut refl)
+sought_steps d fault again e Put other = over e _ (pressed_steps d fault again e Put refl)
+sought_steps d fault again e Find other = idle e _ refl refl refl
+sought_steps d fault again e FindBack other = idle e _ refl refl refl
+sought_steps d fault again e WordLeft other = over e _ (pressed_steps d fault again e WordLeft refl)
+sought_steps d fault again e WordRight other = over e _ (pressed_steps d fault again e WordRight refl)
+sought_steps d fault again e TextStart other = over e _ (pressed_steps d fault again e TextStart refl)
+sought_steps d fault again e TextEnd other = over e _ (pressed_steps d fault again e TextEnd refl)
+sought_steps d fault again e Help other = over e _ (pressed_steps d fault again e Help refl)
+sought_steps d fault again e (Size height width) other = over e _ (pressed_steps d fault again e (Size height width) refl)
+sought_steps d fault again e (Notice notice) other = over e _ (pressed_steps d fault again e (Notice notice) refl)
 
-any_steps : (d : Data) (saved again : Bool) (seek : Seek) (e : Editor) (key : Key) → is_other key ≡ true → Steps e (after_any d saved again seek e key)
-any_steps d saved again Off e key other = pressed_steps d saved again e key other
-any_steps d saved again Begun e key other = sought_steps d saved again e key other
-any_steps d saved again Typed e key other = sought_steps d saved again e key other
+any_steps : (d : Data) (fault : Option StoreFault) (again : Bool) (seek : Seek) (e : Editor) (key : Key) → is_other key ≡ true → Steps e (after_any d fault again seek e key)
+any_steps d fault again Off e key other = pressed_steps d fault again e key other
+any_steps d fault again Begun e key other = sought_steps d fault again e key other
+any_steps d fault again Typed e key other = sought_steps d fault again e key other
 
 cleared : (e new : Editor) → Steps (without_message e) new → Steps e new
 cleared e new h = record { goes_on = h.goes_on; edits = h.edits }
 
-pub key_steps : (d : Data) (saved : Bool) (e : Editor) (key : Key) → is_other key ≡ true → Steps e (after_key d saved e key)
-key_steps d saved e =
-    each-key d saved e (λ key new. is_other key ≡ true → Steps e new) (λ height width other. idle e (with_size e height width) refl refl refl)
-    (λ key small other. cleared e _ (any_steps d saved e.quit_before e.seek (without_message e) key other))
+pub key_steps : (d : Data) (fault : Option StoreFault) (e : Editor) (key : Key) → is_other key ≡ true → Steps e (after_key d fault e key)
+key_steps d fault e =
+    each-key d fault e (λ key new. is_other key ≡ true → Steps e new) (λ height width other. idle e (with_size e height width) refl refl refl)
+    (λ notice other. idle e (with_notice e notice) refl refl refl)
+    (λ key small other. cleared e _ (any_steps d fault e.quit_before e.seek (without_message e) key other))
 
 -- a Quit in a search gives it up
 quit_steps : (d : Data) (seek : Seek) (e : Editor) → e.seek ≡ seek → Steps e (after_replayed d seek e Quit)
 quit_steps d Off e is = idle e e refl refl refl
-quit_steps d Begun e is = subst (λ seek. Steps e (after_any d false e.quit_before seek (without_message e) Quit)) (sym is) (idle e _ refl refl refl)
-quit_steps d Typed e is = subst (λ seek. Steps e (after_any d false e.quit_before seek (without_message e) Quit)) (sym is) (idle e _ refl refl refl)
+quit_steps d Begun e is = subst (λ seek. Steps e (after_any d None e.quit_before seek (without_message e) Quit)) (sym is) (idle e _ refl refl refl)
+quit_steps d Typed e is = subst (λ seek. Steps e (after_any d None e.quit_before seek (without_message e) Quit)) (sym is) (idle e _ refl refl refl)
 
 pub replayed_steps : (d : Data) (e : Editor) (key : Key) → Steps e (after_replayed d e.seek e key)
 replayed_steps d e key =
@@ -274,6 +279,7 @@ editor_is d seek s TextStart = refl
 editor_is d seek s TextEnd = refl
 editor_is d seek s Help = refl
 editor_is d seek s (Size height width) = refl
+editor_is d seek s (Notice notice) = refl
 
 rest_stays : (d : Data) (seek : Seek) (s : Session) (key : Key) → (session_after_replayed d seek s key).rest ≡ s.rest
 rest_stays d seek s (Insert c) = refl
@@ -309,6 +315,7 @@ rest_stays d seek s TextStart = refl
 rest_stays d seek s TextEnd = refl
 rest_stays d seek s Help = refl
 rest_stays d seek s (Size height width) = refl
+rest_stays d seek s (Notice notice) = refl
 
 applies_any : (d : Data) (s : Session) (key : Option Key) → s.editor.ended ≡ false
     → Applies d s s.rest (option_to_list key) (after_replayed_key d s key)

@@ -23,9 +23,9 @@ either_shows false d s spent h = painting_shows d s
 pub always_shows : AlwaysShowsState
 always_shows = record {
   opening = λ d text height width base owed. (refl, refl);
-  byte = λ d saved s b h. either_shows (is_idle s b) d (unpainted_after_byte d saved s b) (after_spending s b) (spending_shows d s b h);
+  byte = λ d fault s b h. either_shows (is_idle s b) d (unpainted_after_byte d fault s b) (after_spending s b) (spending_shows d s b h);
   refused_key = spending_shows;
-  owing_byte = λ d saved s b owed. absurd (cc owed);
+  owing_byte = λ d fault s b owed. absurd (cc owed);
   told = λ d s height width owed. (refl, refl);
   owing_told = λ d s height width owed. absurd (cc owed);
   replay = λ d s b owed. absurd (cc owed);

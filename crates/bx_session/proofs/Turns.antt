@@ -8,6 +8,7 @@ use Rattle.bx_keys.specs.declared.key.Key.{Key}
 use Rattle.bx_keys.specs.Keys.{rest_after}
 use Rattle.bx_keys.specs.Waiting.{head_of}
 use Rattle.bx_grid.specs.Picture.{PictureState}
+use Rattle.bx_store.specs.declared.store.StoreFault.{StoreFault}
 use Rattle.bx_ucd.specs.Data.{Data}
 use Rattle.bx_editor.specs.Picture.{picture, next_top}
 use Rattle.bx_session.specs.declared.status.Status.{Status}
@@ -40,30 +41,30 @@ spending_at false p s rest = refl
 after_spending-prefixed : (p : List ℕ) (s : Session) (b : ℕ) → after_spending (prefixed p s) b ≡ prefixed p (after_spending s b)
 after_spending-prefixed p s b = spending_at s.editor.ended p s (head_of (rest_after s.rest b))
 
-session_after_any-prefixed : (d : Data) (saved : Bool) (p : List ℕ) (s : Session) (key : Option Key)
-    → session_after_any d saved (prefixed p s) key ≡ prefixed p (session_after_any d saved s key)
-session_after_any-prefixed d saved p s None = refl
-session_after_any-prefixed d saved p s (Some key) = refl
+session_after_any-prefixed : (d : Data) (fault : Option StoreFault) (p : List ℕ) (s : Session) (key : Option Key)
+    → session_after_any d fault (prefixed p s) key ≡ prefixed p (session_after_any d fault s key)
+session_after_any-prefixed d fault p s None = refl
+session_after_any-prefixed d fault p s (Some key) = refl
 
-unpainted-prefixed : (d : Data) (saved : Bool) (p : List ℕ) (s : Session) (b : ℕ)
-    → unpainted_after_byte d saved (prefixed p s) b ≡ prefixed p (unpainted_after_byte d saved s b)
-unpainted-prefixed d saved p s b =
-    ap (λ (x : Session). session_after_any d saved x (key_of_byte s b)) (after_spending-prefixed p s b)
-    ∙ session_after_any-prefixed d saved p (after_spending s b) (key_of_byte s b)
+unpainted-prefixed : (d : Data) (fault : Option StoreFault) (p : List ℕ) (s : Session) (b : ℕ)
+    → unpainted_after_byte d fault (prefixed p s) b ≡ prefixed p (unpainted_after_byte d fault s b)
+unpainted-prefixed d fault p s b =
+    ap (λ (x : Session). session_after_any d fault x (key_of_byte s b)) (after_spending-prefixed p s b)
+    ∙ session_after_any-prefixed d fault p (after_spending s b) (key_of_byte s b)
 
-either_prefixed : (idle : Bool) (d : Data) (saved : Bool) (p : List ℕ) (s : Session) (b : ℕ)
-    → (if idle then after_spending (prefixed p s) b else with_painting d (unpainted_after_byte d saved (prefixed p s) b))
-    ≡ prefixed p (if idle then after_spending s b else with_painting d (unpainted_after_byte d saved s b))
-either_prefixed true d saved p s b = after_spending-prefixed p s b
-either_prefixed false d saved p s b =
-    ap (with_painting d) (unpainted-prefixed d saved p s b) ∙ with_painting-prefixed d p (unpainted_after_byte d saved s b)
+either_prefixed : (idle : Bool) (d : Data) (fault : Option StoreFault) (p : List ℕ) (s : Session) (b : ℕ)
+    → (if idle then after_spending (prefixed p s) b else with_painting d (unpainted_after_byte d fault (prefixed p s) b))
+    ≡ prefixed p (if idle then after_spending s b else with_painting d (unpainted_after_byte d fault s b))
+either_prefixed true d fault p s b = after_spending-prefixed p s b
+either_prefixed false d fault p s b =
+    ap (with_painting d) (unpainted-prefixed d fault p s b) ∙ with_painting-prefixed d p (unpainted_after_byte d fault s b)
 
-AfterByte-prefixed : (d : Data) (saved : Bool) (p : List ℕ) (s : Session) (b : ℕ) (a : Result Status Refused) (s' : Session) → AfterByte d saved s b a s'
-    → AfterByte d saved (prefixed p s) b a (prefixed p s')
-AfterByte-prefixed d saved p s b (Ok status) s' h = (ap (prefixed p) h.0 ∙ sym (either_prefixed (is_idle s b) d saved p s b), h.1)
-AfterByte-prefixed d saved p s b (Err Edit) s' h = (ap (prefixed p) h.0 ∙ sym (after_spending-prefixed p s b), h.1)
-AfterByte-prefixed d saved p s b (Err Paint) s' h = (ap (prefixed p) h.0 ∙ ap with_painting_owed (sym (unpainted-prefixed d saved p s b)), h.1)
-AfterByte-prefixed d saved p s b (Err Size) s' h = h
+AfterByte-prefixed : (d : Data) (fault : Option StoreFault) (p : List ℕ) (s : Session) (b : ℕ) (a : Result Status Refused) (s' : Session) → AfterByte d fault s b a s'
+    → AfterByte d fault (prefixed p s) b a (prefixed p s')
+AfterByte-prefixed d fault p s b (Ok status) s' h = (ap (prefixed p) h.0 ∙ sym (either_prefixed (is_idle s b) d fault p s b), h.1)
+AfterByte-prefixed d fault p s b (Err Edit) s' h = (ap (prefixed p) h.0 ∙ sym (after_spending-prefixed p s b), h.1)
+AfterByte-prefixed d fault p s b (Err Paint) s' h = (ap (prefixed p) h.0 ∙ ap with_painting_owed (sym (unpainted-prefixed d fault p s b)), h.1)
+AfterByte-prefixed d fault p s b (Err Size) s' h = h
 
 Feeds-prefixed : (d : Data) (p : List ℕ) (s : Session) (store : StoreState) (b : ℕ) (a : Result Status Refused) (s' : Session) (store' : StoreState)
     → Feeds d s store b a s' store' → Feeds d (prefixed p s) store b a (prefixed p s') store'

@@ -1,6 +1,7 @@
 -- A second painting.
-use Rattle.std.specs.Prelude.{◌≡◌, ℕ, Bool, false, List}
+use Rattle.std.specs.Prelude.{◌≡◌, ℕ, false, List, Option}
 use Rattle.bx_terms.specs.declared.base.Base.{Base}
+use Rattle.bx_store.specs.declared.store.StoreFault.{StoreFault}
 use Rattle.bx_ucd.specs.Data.{Data}
 use Rattle.bx_editor.specs.Laws.{HasRows}
 use Rattle.bx_session.specs.Session.{Session, with_painting, at_opening, after_spending, after_byte, owing_after_byte, after_told, owing_after_told, after_sending}
@@ -14,10 +15,10 @@ StaysPainted d s = s.painting_owed ≡ false → with_painting d s ≡ s
 pub record AlwaysStaysPainted : Type 0 where
   pub opening : (d : Data) (text : List ℕ) (height width : ℕ) (base : Base) → HasRows (at_opening d text height width base).editor
       → StaysPainted d (at_opening d text height width base)
-  pub byte : (d : Data) (saved : Bool) (s : Session) (b : ℕ) → HasRows (after_byte d saved s b).editor → StaysPainted d s
-      → StaysPainted d (after_byte d saved s b)
+  pub byte : (d : Data) (fault : Option StoreFault) (s : Session) (b : ℕ) → HasRows (after_byte d fault s b).editor → StaysPainted d s
+      → StaysPainted d (after_byte d fault s b)
   pub refused_key : (d : Data) (s : Session) (b : ℕ) → StaysPainted d s → StaysPainted d (after_spending s b)
-  pub owing_byte : (d : Data) (saved : Bool) (s : Session) (b : ℕ) → StaysPainted d (owing_after_byte d saved s b)
+  pub owing_byte : (d : Data) (fault : Option StoreFault) (s : Session) (b : ℕ) → StaysPainted d (owing_after_byte d fault s b)
   pub told : (d : Data) (s : Session) (height width : ℕ) → HasRows (after_told d s height width).editor → StaysPainted d (after_told d s height width)
   pub owing_told : (d : Data) (s : Session) (height width : ℕ) → StaysPainted d (owing_after_told s height width)
   pub replay : (d : Data) (s : Session) (b : ℕ) → StaysPainted d (after_replay d s b)

@@ -1,8 +1,9 @@
 -- Laws of sessions, for any input.
-use Rattle.std.specs.Prelude.{◌≡◌, ℕ, Bool, false, List, []}
+use Rattle.std.specs.Prelude.{◌≡◌, ℕ, false, List, [], Option}
 use Rattle.bx_terms.specs.declared.base.Base.{Base}
 use Rattle.bx_keys.specs.Keys.{decoding}
 pub use Rattle.bx_keys.specs.Keys.{keys_from}
+use Rattle.bx_store.specs.declared.store.StoreFault.{StoreFault}
 use Rattle.bx_ucd.specs.Data.{Data}
 use Rattle.bx_session.specs.Session.{Session, at_opening, after_spending, after_byte, owing_after_byte, after_told, owing_after_told, after_sending}
 use Rattle.bx_session.specs.Session.{after_all_replayed, after_going, after_replay, at_replay_end}
@@ -12,9 +13,9 @@ pub use Rattle.bx_session.specs.Painting.{ShowsState}
 -- `ShowsState` holds at opening, and each of these calls preserves it, whether it succeeds or is refused
 pub record AlwaysShowsState : Type 0 where
   pub opening : (d : Data) (text : List ℕ) (height width : ℕ) (base : Base) → ShowsState d (at_opening d text height width base)
-  pub byte : (d : Data) (saved : Bool) (s : Session) (b : ℕ) → ShowsState d s → ShowsState d (after_byte d saved s b)
+  pub byte : (d : Data) (fault : Option StoreFault) (s : Session) (b : ℕ) → ShowsState d s → ShowsState d (after_byte d fault s b)
   pub refused_key : (d : Data) (s : Session) (b : ℕ) → ShowsState d s → ShowsState d (after_spending s b)
-  pub owing_byte : (d : Data) (saved : Bool) (s : Session) (b : ℕ) → ShowsState d (owing_after_byte d saved s b)
+  pub owing_byte : (d : Data) (fault : Option StoreFault) (s : Session) (b : ℕ) → ShowsState d (owing_after_byte d fault s b)
   pub told : (d : Data) (s : Session) (height width : ℕ) → ShowsState d (after_told d s height width)
   pub owing_told : (d : Data) (s : Session) (height width : ℕ) → ShowsState d (owing_after_told s height width)
   pub replay : (d : Data) (s : Session) (b : ℕ) → ShowsState d (after_replay d s b)

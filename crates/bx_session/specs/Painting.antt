@@ -35,7 +35,7 @@ QueuesPicture d before known new = (bytes : List ℕ) × Paints d before known n
 
 -- a byte that was not refused and is not idle; the end of a Save leaves the screen's content known or unknown as before
 abbrev pub FeedPaints : Data → Session → ℕ → Session → Type 0
-FeedPaints d old b new = QueuesPicture d old.pending (unpainted_after_byte d true old b).known new
+FeedPaints d old b new = QueuesPicture d old.pending (unpainted_after_byte d None old b).known new
 
 -- a told size that was not refused: the screen's content is unknown
 abbrev pub ToldPaints : Data → Session → Session → Type 0

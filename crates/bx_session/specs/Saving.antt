@@ -2,7 +2,9 @@
 use Rattle.std.specs.Prelude.{◌≡◌, ℕ, Bool, true, false, List, Option, Some, None, option_map, Result, Ok, Err}
 use Rattle.bx_keys.specs.declared.key.Key.{Key}
 use Rattle.bx_grid.specs.Picture.{is_size}
-use Rattle.bx_store.specs.Stores.{one_more}
+use Rattle.bx_store.specs.Stores.{with_fault}
+use Rattle.bx_store.specs.declared.faults.Faults.{Faults}
+use Rattle.bx_store.specs.declared.store.StoreFault.{StoreFault}
 use Rattle.bx_ucd.specs.Data.{Data}
 use Rattle.bx_editor.specs.Keys.{is_edit_or_move, is_save}
 use Rattle.bx_session.specs.declared.status.Status.{Status}
@@ -10,22 +12,22 @@ use Rattle.bx_session.specs.declared.error.Refused.{Refused}
 use Rattle.bx_session.specs.declared.error.Refused.TheVariants as refused
 use Rattle.bx_session.specs.Session.{Session, key_of_byte, after_spending, after_byte, owing_after_byte, status_of, is_idle, after_told, owing_after_told}
 
--- a store's content, if it is known, and the number of its failed calls
+-- a store's content, if it is known, and its failed calls
 pub record StoreState : Type 0 where
   pub contents : Option (List ℕ)
-  pub failures : ℕ
+  pub faults : Faults
 
-abbrev pub store_state : {S : Type 0} → (S → Option (List ℕ)) → (S → ℕ) → S → StoreState
-store_state contents failures store = record { contents = contents store; failures = failures store }
+abbrev pub store_state : {S : Type 0} → (S → Option (List ℕ)) → (S → Faults) → S → StoreState
+store_state contents faults store = record { contents = contents store; faults = faults store }
 
 -- the store with this text as its content
 abbrev pub with_text : List ℕ → StoreState → StoreState
 with_text text store = record store { contents = option_map (λ _. text) store.contents }
 
--- a save that succeeds stores the text; one that fails leaves the content as it was and counts one more failed call
-abbrev pub SaveEnds : Bool → List ℕ → StoreState → StoreState → Type 0
-SaveEnds true text old new = new ≡ with_text text old
-SaveEnds false text old new = (new.contents ≡ old.contents) × (new.failures ≡ one_more old.failures)
+-- a save that succeeds stores the text; one that fails leaves the content as it was and counts one more failed call, with its fault
+abbrev pub SaveEnds : Option StoreFault → List ℕ → StoreState → StoreState → Type 0
+SaveEnds None text old new = new ≡ with_text text old
+SaveEnds (Some fault) text old new = (new.contents ≡ old.contents) × (new.faults ≡ with_fault fault old.faults)
 
 abbrev pub is_save_key : Option Key → Bool
 is_save_key None = false
@@ -36,25 +38,25 @@ abbrev pub is_save_byte : Session → ℕ → Bool
 is_save_byte s b = is_save_key (key_of_byte s b)
 
 -- the store after a byte: only a Save changes it
-abbrev pub StoreAfter : Bool → Bool → List ℕ → StoreState → StoreState → Type 0
-StoreAfter true saved text old new = SaveEnds saved text old new
-StoreAfter false saved text old new = new ≡ old
+abbrev pub StoreAfter : Bool → Option StoreFault → List ℕ → StoreState → StoreState → Type 0
+StoreAfter true fault text old new = SaveEnds fault text old new
+StoreAfter false fault text old new = new ≡ old
 
 abbrev pub is_edit_or_move_key : Option Key → Bool
 is_edit_or_move_key None = false
 is_edit_or_move_key (Some key) = is_edit_or_move key
 
--- the session after a byte, by the answer; `saved`: a Save succeeded
-abbrev pub AfterByte : Data → Bool → Session → ℕ → Result Status Refused → Session → Type 0
-AfterByte d saved old b (Ok status) new = (new ≡ after_byte d saved old b) × (status ≡ status_of new)
-AfterByte d saved old b (Err refused.Edit) new = (new ≡ after_spending old b) × (is_edit_or_move_key (key_of_byte old b) ≡ true)
-AfterByte d saved old b (Err refused.Paint) new = (new ≡ owing_after_byte d saved old b) × (is_idle old b ≡ false)
-AfterByte d saved old b (Err refused.Size) new = ⊥
+-- the session after a byte, by the answer; `fault`: that of a Save, none if it succeeded
+abbrev pub AfterByte : Data → Option StoreFault → Session → ℕ → Result Status Refused → Session → Type 0
+AfterByte d fault old b (Ok status) new = (new ≡ after_byte d fault old b) × (status ≡ status_of new)
+AfterByte d fault old b (Err refused.Edit) new = (new ≡ after_spending old b) × (is_edit_or_move_key (key_of_byte old b) ≡ true)
+AfterByte d fault old b (Err refused.Paint) new = (new ≡ owing_after_byte d fault old b) × (is_idle old b ≡ false)
+AfterByte d fault old b (Err refused.Size) new = ⊥
 
 -- session and store after a byte
 abbrev pub Feeds : Data → Session → StoreState → ℕ → Result Status Refused → Session → StoreState → Type 0
 Feeds d old store b result new store' =
-    (saved : Bool) × StoreAfter (is_save_byte old b) saved old.editor.content.text store store' × AfterByte d saved old b result new
+    (fault : Option StoreFault) × StoreAfter (is_save_byte old b) fault old.editor.content.text store store' × AfterByte d fault old b result new
 
 -- the session after a told size, by the answer
 abbrev pub ToldBy : {A : Type 0} → Data → Session → ℕ → ℕ → Result A Refused → Session → Type 0

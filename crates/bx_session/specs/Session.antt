@@ -6,6 +6,7 @@ use Rattle.bx_keys.specs.declared.key.Key.TheVariants.{Quit, Save}
 use Rattle.bx_keys.specs.Keys.{head_of, key_after, rest_after}
 use Rattle.bx_grid.specs.Picture.{PictureState}
 use Rattle.bx_paint.specs.Painting.{whole_bytes, changes_bytes}
+use Rattle.bx_store.specs.declared.store.StoreFault.{StoreFault}
 use Rattle.bx_ucd.specs.Data.{Data}
 use Rattle.bx_view.specs.Moves.{place_from}
 use Rattle.bx_editor.specs.Editor.{Editor, at_start, rows, with_place, with_size, without_message}
@@ -95,31 +96,31 @@ after_spending s b = if s.editor.ended then s else record s { rest = head_of (re
 abbrev pub known_after : Option PictureState → Key → Editor → Option PictureState
 known_after known key e = if asks_for_whole key || e.ended then None else known
 
--- a key is applied, and not yet painted; `saved`: a Save succeeds
-abbrev pub session_after_key : Data → Bool → Session → Key → Session
-session_after_key d saved s key =
-    let e = after_key d saved s.editor key in
+-- a key is applied, and not yet painted; `fault`: that of a Save, none if it succeeds
+abbrev pub session_after_key : Data → Option StoreFault → Session → Key → Session
+session_after_key d fault s key =
+    let e = after_key d fault s.editor key in
     record s { editor = e; known = known_after s.known key e }
 
-abbrev pub session_after_any : Data → Bool → Session → Option Key → Session
-session_after_any d saved s None = s
-session_after_any d saved s (Some key) = session_after_key d saved s key
+abbrev pub session_after_any : Data → Option StoreFault → Session → Option Key → Session
+session_after_any d fault s None = s
+session_after_any d fault s (Some key) = session_after_key d fault s key
 
 -- the byte's key is applied, and not yet painted
-abbrev pub unpainted_after_byte : Data → Bool → Session → ℕ → Session
-unpainted_after_byte d saved s b = session_after_any d saved (after_spending s b) (key_of_byte s b)
+abbrev pub unpainted_after_byte : Data → Option StoreFault → Session → ℕ → Session
+unpainted_after_byte d fault s b = session_after_any d fault (after_spending s b) (key_of_byte s b)
 
 -- the byte completes no key, and no painting is owed
 abbrev pub is_idle : Session → ℕ → Bool
 is_idle s b = not (is_some (key_of_byte s b)) && not s.painting_owed
 
 -- after a byte that was not refused
-abbrev pub after_byte : Data → Bool → Session → ℕ → Session
-after_byte d saved s b = if is_idle s b then after_spending s b else with_painting d (unpainted_after_byte d saved s b)
+abbrev pub after_byte : Data → Option StoreFault → Session → ℕ → Session
+after_byte d fault s b = if is_idle s b then after_spending s b else with_painting d (unpainted_after_byte d fault s b)
 
 -- after a byte whose painting was refused
-abbrev pub owing_after_byte : Data → Bool → Session → ℕ → Session
-owing_after_byte d saved s b = with_painting_owed (unpainted_after_byte d saved s b)
+abbrev pub owing_after_byte : Data → Option StoreFault → Session → ℕ → Session
+owing_after_byte d fault s b = with_painting_owed (unpainted_after_byte d fault s b)
 
 abbrev pub status_of : Session → Status
 status_of s = if s.editor.ended then Ended else Running
@@ -130,7 +131,7 @@ status_of s = if s.editor.ended then Ended else Running
 abbrev pub after_replayed : Data → Seek → Editor → Key → Editor
 after_replayed d seek e Save = without_search e
 after_replayed d Off e Quit = e
-after_replayed d seek e key = after_key d false e key
+after_replayed d seek e key = after_key d None e key
 
 -- keys in sequence
 abbrev pub after_all_replayed : Data → Editor → List Key → Editor
@@ -141,7 +142,7 @@ after_all_replayed d e (key ∷ keys) = after_all_replayed d (after_replayed d e
 abbrev pub session_after_replayed : Data → Seek → Session → Key → Session
 session_after_replayed d seek s Save = record s { editor = without_search s.editor }
 session_after_replayed d Off s Quit = s
-session_after_replayed d seek s key = session_after_key d false s key
+session_after_replayed d seek s key = session_after_key d None s key
 
 abbrev pub after_replayed_key : Data → Session → Option Key → Session
 after_replayed_key d s None = s

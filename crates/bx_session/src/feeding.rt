@@ -1,9 +1,10 @@
 //! Feeding a session: input bytes, and the window's size.
 
-ghost use Rattle.std.specs.Prelude.{◌≡◌, Bool, true, false, not, IfOk, IfSome, IsOk, OnErr, OnOk};
+ghost use Rattle.std.specs.Prelude.{◌≡◌, Option, true, false, not, IfOk, IfSome, IsOk, OnErr, OnOk};
 ghost use Rattle.bx_grid.specs.Picture.{is_size};
 ghost use Rattle.bx_keys.specs.Keys.{HasSides};
 ghost use Rattle.bx_editor.specs.Keys as keys;
+ghost use Rattle.bx_store.specs.declared.store.StoreFault.{StoreFault};
 ghost use Rattle.bx_session.specs.Painting.{FeedPaints, ToldPaints};
 ghost use Rattle.bx_session.specs.Saving.{Feeds, StoreAfter, ToldBy, is_edit_or_move_key, is_save_byte, store_state};
 ghost use Rattle.bx_session.specs.Session.{after_spending, is_idle, key_of_byte, session_after_key, unpainted_after_byte, unpainted_after_told};
@@ -14,7 +15,7 @@ use crate::session::Session;
 use crate::status::Status;
 use bx_editor::Editor;
 use bx_keys::Key;
-use bx_store::Store;
+use bx_store::{Store, StoreFault};
 use bx_terms::is_side;
 use bx_ucd::BidiData;
 
@@ -32,19 +33,23 @@ fn is_size(height: u16, width: u16) -> bool
     is_side(height) && is_side(width)
 }
 
-/// Applies a key to the editor. After Save, `saved` says whether the store has the text.
+/// Applies a key to the editor. After Save, `fault` is that of the store; none if it has the text.
 ///
 /// Errors: `Edit` if memory runs out, only for a key that edits, moves, copies or finds; nothing has changed.
-fn apply<D: BidiData + Drop>(editor: &mut Editor<D>, key: Key, saved: bool) -> Result<(), Refused>
+fn apply<D: BidiData + Drop>(
+    editor: &mut Editor<D>,
+    key: Key,
+    fault: Option<StoreFault>,
+) -> Result<(), Refused>
     requires sides { HasSides key }
-    ensures after_key { OnOk result (editor.new ≡ record editor.old { editor = keys.after_key (D.data editor.old.tables) saved editor.old.editor key }) }
+    ensures after_key { OnOk result (editor.new ≡ record editor.old { editor = keys.after_key (D.data editor.old.tables) fault editor.old.editor key }) }
     ensures err { OnErr result (editor.new ≡ editor.old) }
     ensures edits { OnErr result (keys.is_edit_or_move key ≡ true) }
     ensures refused { OnErr result (result ≡ Err Refused.Edit) }
 {
     match key {
         Key::Save => {
-            editor.finish_save(saved);
+            editor.finish_save(fault);
             Ok(())
         }
         Key::Size(height, width) => {
@@ -71,29 +76,29 @@ impl<D: BidiData + Drop> Session<D> {
         self.decoder.feed(byte)
     }
 
-    /// Stores the text if the key is Save. Returns whether it was stored.
-    fn save_on<S: Store>(&self, key: Key, store: &mut S) -> bool
+    /// Stores the text if the key is Save. Returns the store's fault; none if the text was stored.
+    fn save_on<S: Store>(&self, key: Key, store: &mut S) -> Option<StoreFault>
         ensures after { StoreAfter (keys.is_save key) result self.now.session.editor.content.text
-            (store_state S.contents S.failure_count store.old) (store_state S.contents S.failure_count store.new) }
+            (store_state S.contents S.faults store.old) (store_state S.contents S.faults store.new) }
         ensures untouched { keys.is_save key ≡ false → store.new ≡ store.old }
     {
         match key {
-            Key::Save => save_pieces(self.editor.pieces(), store).is_ok(),
-            _ => false,
+            Key::Save => save_pieces(self.editor.pieces(), store).err(),
+            _ => None,
         }
     }
 
-    /// Applies a key without painting. After Save, `saved` says whether the store has the text.
+    /// Applies a key without painting. After Save, `fault` is that of the store; none if it has the text.
     ///
     /// Errors: `Edit` if memory runs out, only for a key that edits, moves, copies or finds; nothing has changed.
-    pub(crate) fn press(&mut self, key: Key, saved: bool) -> Result<(), Refused>
+    pub(crate) fn press(&mut self, key: Key, fault: Option<StoreFault>) -> Result<(), Refused>
         requires sides { HasSides key }
-        ensures after_key { OnOk result (self.new ≡ record self.old { session = session_after_key (D.data self.old.tables) saved self.old.session key }) }
+        ensures after_key { OnOk result (self.new ≡ record self.old { session = session_after_key (D.data self.old.tables) fault self.old.session key }) }
         ensures err { OnErr result (self.new ≡ self.old) }
         ensures edits { OnErr result (keys.is_edit_or_move key ≡ true) }
         ensures refused { OnErr result (result ≡ Err Refused.Edit) }
     {
-        apply(&mut self.editor, key, saved)?;
+        apply(&mut self.editor, key, fault)?;
         if asks_for_whole(key) || self.editor.ended() {
             self.is_known = false;
         }
@@ -105,10 +110,10 @@ impl<D: BidiData + Drop> Session<D> {
     /// Errors: `Edit` if memory runs out, only for a key that edits, moves, copies or finds; the byte is consumed, and nothing
     /// else has changed.
     fn enter<S: Store>(&mut self, byte: u8, store: &mut S) -> Result<bool, Refused>
-        ensures after_byte { (saved : Bool)
-            × StoreAfter (is_save_byte self.old.session byte) saved self.old.session.editor.content.text
-            (store_state S.contents S.failure_count store.old) (store_state S.contents S.failure_count store.new)
-            × OnOk result (self.new ≡ record self.old { session = unpainted_after_byte (D.data self.old.tables) saved self.old.session byte }) }
+        ensures after_byte { (fault : Option StoreFault)
+            × StoreAfter (is_save_byte self.old.session byte) fault self.old.session.editor.content.text
+            (store_state S.contents S.faults store.old) (store_state S.contents S.faults store.new)
+            × OnOk result (self.new ≡ record self.old { session = unpainted_after_byte (D.data self.old.tables) fault self.old.session byte }) }
         ensures asks { IfOk result (λ asks. asks ≡ not (is_idle self.old.session byte)) }
         ensures untouched { is_save_byte self.old.session byte ≡ false → store.new ≡ store.old }
         ensures err { OnErr result (self.new ≡ record self.old { session = after_spending self.old.session byte }) }
@@ -117,8 +122,8 @@ impl<D: BidiData + Drop> Session<D> {
     {
         match self.decode(byte) {
             Some(key) => {
-                let saved = self.save_on(key, store);
-                self.press(key, saved)?;
+                let fault = self.save_on(key, store);
+                self.press(key, fault)?;
                 Ok(true)
             }
             None => Ok(self.painting_owed),
@@ -130,8 +135,8 @@ impl<D: BidiData + Drop> Session<D> {
     /// Errors: `Edit` if memory runs out for the key: its bytes are consumed, and nothing else has changed. `Paint` if it runs
     /// out while painting: the key is applied, and the queue is unchanged.
     pub fn feed<S: Store>(&mut self, byte: u8, store: &mut S) -> Result<Status, Refused>
-        ensures after_byte { Feeds (D.data self.old.tables) self.old.session (store_state S.contents S.failure_count store.old) byte result
-            self.new.session (store_state S.contents S.failure_count store.new) }
+        ensures after_byte { Feeds (D.data self.old.tables) self.old.session (store_state S.contents S.faults store.old) byte result
+            self.new.session (store_state S.contents S.faults store.new) }
         ensures tables { self.new.tables ≡ self.old.tables }
         ensures paints { is_idle self.old.session byte ≡ false →
             OnOk result (FeedPaints (D.data self.old.tables) self.old.session byte self.new.session) }

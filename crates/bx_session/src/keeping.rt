@@ -41,8 +41,8 @@ fn feed_all<D: BidiData + Drop, V: Device, S: Store>(
 )
     requires appended { WasAppended V.did device.now bytes.now }
     ensures bytes { (answered : List ByteAnswer) × (dropped : List ℕ)
-        × FedUntilEnd (D.data session.old.tables) session.old.session (store_state S.contents S.failure_count store.old) bytes.now
-        session.new.session (store_state S.contents S.failure_count store.new) answered dropped }
+        × FedUntilEnd (D.data session.old.tables) session.old.session (store_state S.contents S.faults store.old) bytes.now
+        session.new.session (store_state S.contents S.faults store.new) answered dropped }
     ensures tables { session.new.tables ≡ session.old.tables }
 {
     let _ = device;
@@ -63,8 +63,8 @@ pub(crate) fn keep_and_feed<D: BidiData + Drop, V: Device, S: Store>(
     store: &mut S,
 )
     ensures bytes { (answered : List ByteAnswer) × (dropped : List ℕ) × (parts : List (List ℕ))
-        × FedUntilEnd (D.data session.old.tables) session.old.session (store_state S.contents S.failure_count store.old) bytes.now
-        session.new.session (store_state S.contents S.failure_count store.new) answered dropped
+        × FedUntilEnd (D.data session.old.tables) session.old.session (store_state S.contents S.faults store.old) bytes.now
+        session.new.session (store_state S.contents S.faults store.new) answered dropped
         × DidAll V.did device.old (appends parts) device.new × (concat parts ≡ bytes_of answered) }
     ensures tables { session.new.tables ≡ session.old.tables }
 {

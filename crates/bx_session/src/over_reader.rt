@@ -30,7 +30,7 @@ pub fn run<D: BidiData + Drop, R: Read, W: Write, S: Store>(
     session: &mut Session<D>,
 ) -> Result<End, RunFault>
     ensures runs { Runs (D.data session.old.tables) session.old.session session.new.session
-        (store_state S.contents S.failure_count store.old) (store_state S.contents S.failure_count store.new)
+        (store_state S.contents S.faults store.old) (store_state S.contents S.faults store.new)
         (R.remaining reader.old) (R.remaining reader.new) (W.contents writer.old) (W.contents writer.new) }
     ensures tables { session.new.tables ≡ session.old.tables }
     ensures ends { EndsWith result session.new.session (R.remaining reader.new) }
@@ -48,7 +48,7 @@ pub fn run_within<D: BidiData + Drop, R: Read, W: Write, S: Store>(
     session: &mut Session<D>,
 ) -> Result<End, RunFault>
     ensures runs { Runs (D.data session.old.tables) session.old.session session.new.session
-        (store_state S.contents S.failure_count store.old) (store_state S.contents S.failure_count store.new)
+        (store_state S.contents S.faults store.old) (store_state S.contents S.faults store.new)
         (R.remaining reader.old) (R.remaining reader.new) (W.contents writer.old) (W.contents writer.new) }
     ensures tables { session.new.tables ≡ session.old.tables }
     ensures ends { EndsWith result session.new.session (R.remaining reader.new) }
@@ -68,7 +68,7 @@ pub fn run_recorded<D: BidiData + Drop, R: Read, J: Journal + Drop, W: Write, S:
     session: &mut Session<D>,
 ) -> Result<End, RunFault>
     ensures runs { RunsRecorded J.contents J.failure_count (D.data session.old.tables) session.old.session session.new.session
-        (store_state S.contents S.failure_count store.old) (store_state S.contents S.failure_count store.new)
+        (store_state S.contents S.faults store.old) (store_state S.contents S.faults store.new)
         (R.remaining reader.old) (R.remaining reader.new) (W.contents writer.old) (W.contents writer.new) recorder.old recorder.new }
     ensures tables { session.new.tables ≡ session.old.tables }
     ensures ends { EndsWith result session.new.session (R.remaining reader.new) }
@@ -87,7 +87,7 @@ fn run_limited<D: BidiData + Drop, R: Read, J: Journal + Drop, W: Write, S: Stor
     session: &mut Session<D>,
 ) -> Result<End, RunFault>
     ensures runs { RunsRecorded J.contents J.failure_count (D.data session.old.tables) session.old.session session.new.session
-        (store_state S.contents S.failure_count store.old) (store_state S.contents S.failure_count store.new)
+        (store_state S.contents S.faults store.old) (store_state S.contents S.faults store.new)
         (R.remaining reader.old) (R.remaining reader.new) (W.contents writer.old) (W.contents writer.new) recorder.old recorder.new }
     ensures tables { session.new.tables ≡ session.old.tables }
     ensures ends { EndsWith result session.new.session (R.remaining reader.new) }
@@ -109,7 +109,7 @@ fn run_wired<D: BidiData + Drop, R: Read, J: Journal + Drop, W: Write, S: Store>
     session: &mut Session<D>,
 ) -> Result<End, RunFault>
     ensures runs { RunsRecorded J.contents J.failure_count (D.data session.old.tables) session.old.session session.new.session
-        (store_state S.contents S.failure_count store.old) (store_state S.contents S.failure_count store.new)
+        (store_state S.contents S.faults store.old) (store_state S.contents S.faults store.new)
         (R.remaining device.old.reader.now) (R.remaining device.new.reader.now)
         (W.contents device.old.writer.now) (W.contents device.new.writer.now) device.old.recorder.now device.new.recorder.now }
     ensures tables { session.new.tables ≡ session.old.tables }

@@ -1,11 +1,11 @@
 //! Replay of a journal's bytes: keys are applied again, and nothing is stored.
 
-ghost use Rattle.std.specs.Prelude.{◌≡◌, ◌↔◌, IsTrue, false, true, OnErr, OnOk};
+ghost use Rattle.std.specs.Prelude.{◌≡◌, ◌↔◌, IsTrue, true, IfErr, OnErr, OnOk};
 ghost use Rattle.bx_session.specs.Saving.{is_edit_or_move_key, store_state, with_text};
 ghost use Rattle.bx_keys.specs.Keys.{HasSides};
 ghost use Rattle.bx_editor.specs.Keys.{is_edit_or_move};
 ghost use Rattle.bx_session.specs.Session.{after_replay, after_spending, at_replay_end, key_of_byte, session_after_replayed};
-ghost use Rattle.bx_store.specs.Stores.{one_more};
+ghost use Rattle.bx_store.specs.Stores.{with_fault};
 
 use crate::error::Refused;
 use crate::saving::{is_text, save_pieces};
@@ -34,7 +34,7 @@ impl<D: BidiData + Drop> Session<D> {
                 Ok(())
             }
             (Key::Quit, Seek::Off) => Ok(()),
-            _ => self.press(key, false),
+            _ => self.press(key, None),
         }
     }
 
@@ -75,10 +75,10 @@ impl<D: BidiData + Drop> Session<D> {
     ///
     /// Errors: `StoreFault` if a call of the store fails; its content is unchanged.
     pub fn copy_to<S: Store>(&self, store: &mut S) -> Result<(), StoreFault>
-        ensures ok { OnOk result (store_state S.contents S.failure_count store.new
-            ≡ with_text self.now.session.editor.content.text (store_state S.contents S.failure_count store.old)) }
+        ensures ok { OnOk result (store_state S.contents S.faults store.new
+            ≡ with_text self.now.session.editor.content.text (store_state S.contents S.faults store.old)) }
         ensures stored { OnErr result (S.contents store.new ≡ S.contents store.old) }
-        ensures failure { OnErr result (S.failure_count store.new ≡ one_more (S.failure_count store.old)) }
+        ensures failure { IfErr result (λ fault. S.faults store.new ≡ with_fault fault (S.faults store.old)) }
     {
         save_pieces(self.editor.pieces(), store)
     }

@@ -49,7 +49,7 @@ pub fn run_device<D: BidiData + Drop, V: Device, S: Store>(
     session: &mut Session<D>,
 ) -> Result<End, RunFault>
     ensures logged { HasLogged V.did (D.data session.old.tables) limit result session.old.session session.new.session
-        (store_state S.contents S.failure_count store.old) (store_state S.contents S.failure_count store.new) device.old device.new }
+        (store_state S.contents S.faults store.old) (store_state S.contents S.faults store.new) device.old device.new }
     ensures tables { session.new.tables ≡ session.old.tables }
     ensures ends { EndsWith result session.new.session None }
 {

@@ -1,7 +1,7 @@
 //! Saving a text to a store.
 
-ghost use Rattle.std.specs.Prelude.{◌≡◌, ◌≢◌, ◌++◌, ◌↔◌, ℕ, List, IsTrue, MatchOption, true, OnErr, OnOk};
-ghost use Rattle.bx_store.specs.Stores.{one_more, with_bytes};
+ghost use Rattle.std.specs.Prelude.{◌≡◌, ◌≢◌, ◌++◌, ◌↔◌, ℕ, List, IsTrue, MatchOption, true, IfErr, OnErr, OnOk};
+ghost use Rattle.bx_store.specs.Stores.{with_bytes, with_fault};
 ghost use Rattle.bx_session.specs.Saving.{store_state, with_text};
 
 use bx_store::{Store, StoreFault};
@@ -14,8 +14,8 @@ fn put_pieces<S: Store>(pieces: Slices<'_>, store: &mut S) -> Result<(), StoreFa
     ensures has_draft { OnOk result (S.has_draft store.new ≡ true) }
     ensures draft { OnOk result (S.draft store.new ≡ with_bytes pieces.entry (S.draft store.old)) }
     ensures stored { S.contents store.new ≡ S.contents store.old }
-    ensures no_failure { OnOk result (S.failure_count store.new ≡ S.failure_count store.old) }
-    ensures failure { OnErr result (S.failure_count store.new ≡ one_more (S.failure_count store.old)) }
+    ensures no_failure { OnOk result (S.faults store.new ≡ S.faults store.old) }
+    ensures failure { IfErr result (λ fault. S.faults store.new ≡ with_fault fault (S.faults store.old)) }
 {
     for piece in pieces {
         store.put(piece.as_bytes())?;
@@ -27,9 +27,9 @@ fn put_pieces<S: Store>(pieces: Slices<'_>, store: &mut S) -> Result<(), StoreFa
 ///
 /// Errors: `StoreFault` if a call of the store fails; its content is unchanged.
 pub fn save_pieces<S: Store>(pieces: Slices<'_>, store: &mut S) -> Result<(), StoreFault>
-    ensures ok { OnOk result (store_state S.contents S.failure_count store.new ≡ with_text pieces.entry (store_state S.contents S.failure_count store.old)) }
+    ensures ok { OnOk result (store_state S.contents S.faults store.new ≡ with_text pieces.entry (store_state S.contents S.faults store.old)) }
     ensures stored { OnErr result (S.contents store.new ≡ S.contents store.old) }
-    ensures failure { OnErr result (S.failure_count store.new ≡ one_more (S.failure_count store.old)) }
+    ensures failure { IfErr result (λ fault. S.faults store.new ≡ with_fault fault (S.faults store.old)) }
 {
     store.begin()?;
     put_pieces(pieces, store)?;

@@ -1,8 +1,11 @@
 //! A store in a file.
 ghost use Rattle.std.specs.Prelude.{◌≡◌};
-ghost use Rattle.bx_store.specs.Stores.{one_more};
+ghost use Rattle.bx_store.specs.Causes.{fault};
+ghost use Rattle.bx_store.specs.Stores.{with_fault};
 
+use crate::cause::SaveCause;
 use crate::draft::Draft;
+use crate::faults::Faults;
 use crate::in_place::{InPlace, fill, remove_mark};
 use crate::saving::Saving;
 use crate::store::{Store, StoreFault};
@@ -46,7 +49,7 @@ where
     /// Whether a save that overwrites the file broke off, so that the file may lack bytes of the mark.
     is_torn: bool,
     draft: Option<Saving<R::File>>,
-    failures: u64,
+    failures: Faults,
 }
 
 /// A value that the system gave; None after a fault of the system.
@@ -55,7 +58,7 @@ where
 fn if_answered<T: Drop>(answer: io::Result<T>) -> Result<Option<T>, StoreFault> {
     match answer {
         Ok(value) => Ok(Some(value)),
-        Err(error) if error.kind() == ErrorKind::OutOfMemory => Err(StoreFault),
+        Err(error) if error.kind() == ErrorKind::OutOfMemory => Err(error.into()),
         Err(_) => Ok(None),
     }
 }
@@ -100,7 +103,7 @@ where
             seen,
             is_torn: false,
             draft: None,
-            failures: 0,
+            failures: Faults::none(),
         })
     }
 
@@ -281,12 +284,14 @@ where
     }
 
     /// Counts a failed call and removes its draft.
-    fn fail(&mut self) -> StoreFault
-        ensures { self.new.failures ≡ one_more self.old.failures }
+    fn fail(&mut self, cause: Option<SaveCause>) -> StoreFault
+        ensures counted { self.new.failures ≡ with_fault (fault cause) self.old.failures }
+        ensures told { result ≡ fault cause }
     {
         self.remove_draft();
-        self.failures = self.failures.saturating_add(1);
-        StoreFault
+        let fault = StoreFault { cause };
+        self.failures.add(fault);
+        fault
     }
 }
 
@@ -302,7 +307,7 @@ where
 
     ghost has_draft = { λ s. is_some s.draft };
 
-    ghost failure_count = { λ s. s.failures };
+    ghost faults = { λ s. s.failures };
 
     fn begin(&mut self) -> Result<(), StoreFault> {
         self.remove_draft();
@@ -311,7 +316,7 @@ where
                 self.draft = Some(saving);
                 Ok(())
             }
-            Err(_) => Err(self.fail()),
+            Err(error) => Err(self.fail(Some(SaveCause::of(error.kind())))),
         }
     }
 
@@ -319,9 +324,9 @@ where
         match &mut self.draft {
             Some(saving) => match saving.put(bytes) {
                 Ok(()) => Ok(()),
-                Err(_) => Err(self.fail()),
+                Err(error) => Err(self.fail(Some(SaveCause::of(error.kind())))),
             },
-            None => Err(self.fail()),
+            None => Err(self.fail(None)),
         }
     }
 
@@ -329,16 +334,16 @@ where
         match self.draft.take() {
             Some(mut saving) => match self.store(&mut saving) {
                 Ok(()) => Ok(()),
-                Err(_) => {
+                Err(error) => {
                     self.draft = Some(saving);
-                    Err(self.fail())
+                    Err(self.fail(Some(SaveCause::of(error.kind()))))
                 }
             },
-            None => Err(self.fail()),
+            None => Err(self.fail(None)),
         }
     }
 
     fn failures(&self) -> u64 {
-        self.failures
+        self.failures.count
     }
 }

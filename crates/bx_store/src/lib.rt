@@ -1,7 +1,9 @@
 //! Stores that a text is saved to: the trait, a store in memory, and a store in a file.
 #![tactic(auto)]
 
+mod cause;
 mod draft;
+mod faults;
 mod file_store;
 mod in_place;
 mod memory_store;
@@ -10,6 +12,8 @@ mod saving;
 mod store;
 mod target;
 
+pub use cause::SaveCause;
+pub use faults::Faults;
 pub use file_store::FileStore;
 pub use memory_store::MemoryStore;
 pub use store::{Store, StoreFault};

@@ -5,7 +5,7 @@ use Rattle.std.specs.Prelude.{IfSome, ◌==◌}
 use Rattle.bx_keys.specs.declared.key.Key.{Key}
 use Rattle.bx_keys.specs.declared.key.Key.TheVariants.{Insert, Erase, Delete, Back, Forward, Up, Down, Right, Left, RowHome, RowEnd, PageUp, PageDown}
 use Rattle.bx_keys.specs.declared.key.Key.TheVariants.{Save, Quit, Undo, Redo, Repaint, Direction, Size, Mark, Copy, Cut, Put}
-use Rattle.bx_keys.specs.declared.key.Key.TheVariants.{Find, FindBack, WordLeft, WordRight, TextStart, TextEnd, Help}
+use Rattle.bx_keys.specs.declared.key.Key.TheVariants.{Find, FindBack, WordLeft, WordRight, TextStart, TextEnd, Help, Notice}
 use Rattle.bx_keys.specs.Keys.{rest_after}
 use Rattle.bx_keys.specs.Waiting.{head_of}
 use Rattle.bx_grid.specs.Picture.{PictureState, IsIdle, Shows}
@@ -82,11 +82,11 @@ spent_stays : (ended : Bool) (t : Terminal) (s : Session) (rest : List ℕ) → 
 spent_stays true t s rest = stays_at t s
 spent_stays false t s rest = record { pending = refl; known = known_at (fits t.height t.width s.editor) s.known }
 
-key_stays : (d : Data) (t : Terminal) (s : Session) (key : Key) → StaysKnown t s (session_after_key d false s key)
+key_stays : (d : Data) (t : Terminal) (s : Session) (key : Key) → StaysKnown t s (session_after_key d None s key)
 key_stays d t s key = record {
   pending = refl;
-  known = λ on. (key_keeps d false (begins_at s t) s key).known
-      (key_fits d false t.height t.width (fits t.height t.width s.editor) s.editor key refl ∙ on);
+  known = λ on. (key_keeps d None (begins_at s t) s key).known
+      (key_fits d None t.height t.width (fits t.height t.width s.editor) s.editor key refl ∙ on);
 }
 
 search_stays : (t : Terminal) (s : Session) → StaysKnown t s (record s { editor = without_search s.editor })
@@ -126,6 +126,7 @@ replayed_stays d t seek s TextStart = key_stays d t s TextStart
 replayed_stays d t seek s TextEnd = key_stays d t s TextEnd
 replayed_stays d t seek s Help = key_stays d t s Help
 replayed_stays d t seek s (Size height width) = key_stays d t s (Size height width)
+replayed_stays d t seek s (Notice notice) = key_stays d t s (Notice notice)
 
 any_stays : (d : Data) (t : Terminal) (s : Session) (key : Option Key) → StaysKnown t s (after_replayed_key d s key)
 any_stays d t s None = stays_at t s

@@ -10,6 +10,8 @@ use Rattle.bx_keys.specs.declared.key.Key.{Key}
 use Rattle.bx_keys.specs.Keys.{key_after, rest_after}
 use Rattle.bx_keys.specs.Waiting.{head_of}
 use Rattle.bx_store.specs.Stores.{greatest}
+use Rattle.bx_store.specs.declared.faults.Faults.{Faults}
+use Rattle.bx_store.specs.declared.store.StoreFault.{StoreFault}
 use Rattle.bx_ucd.specs.Data.{Data}
 use Rattle.bx_editor.specs.Editor.{Editor}
 use Rattle.bx_session.specs.declared.error.Refused.TheVariants as refused
@@ -42,19 +44,19 @@ stored_both d e store (event ∷ first) others = stored_both d (after_event d e 
 -- each byte has the key that it ends behind what a session keeps of those before
 abbrev pub AreDecoded : List ℕ → List Event → Type 0
 AreDecoded rest [] = Unit {0}
-AreDecoded rest (Input byte key applied saved ∷ more) = (key ≡ key_after rest byte) × AreDecoded (head_of (rest_after rest byte)) more
+AreDecoded rest (Input byte key applied fault ∷ more) = (key ≡ key_after rest byte) × AreDecoded (head_of (rest_after rest byte)) more
 AreDecoded rest (Telling height width ∷ more) = AreDecoded rest more
 
 decoded_keys : (rest : List ℕ) (events : List Event) → AreDecoded rest events → keys_of events ≡ keys_from rest (input_of events)
 decoded_keys rest [] are = refl
-decoded_keys rest (Input byte key applied saved ∷ more) are =
+decoded_keys rest (Input byte key applied fault ∷ more) are =
     ap (λ k. option_to_list k ++ keys_of more) are.0
     ∙ ap (λ ks. option_to_list (key_after rest byte) ++ ks) (decoded_keys (head_of (rest_after rest byte)) more are.1)
 decoded_keys rest (Telling height width ∷ more) are = decoded_keys rest more are
 
 front_decoded : (rest : List ℕ) (front back : List Event) → AreDecoded rest (front ++ back) → AreDecoded rest front
 front_decoded rest [] back are = tt
-front_decoded rest (Input byte key applied saved ∷ front) back are =
+front_decoded rest (Input byte key applied fault ∷ front) back are =
     (are.0, front_decoded (head_of (rest_after rest byte)) front back are.1)
 front_decoded rest (Telling height width ∷ front) back are = front_decoded rest front back are
 
@@ -70,58 +72,58 @@ decoded_behind journal events are front back is =
 -- ---- a byte
 
 -- what a byte leaves of the editor and of what waits
-pub record IsFed (d : Data) (applied saved : Bool) (s : Session) (b : ℕ) (new : Session) : Type 0 where
-  pub editor : new.editor ≡ after_input d applied saved s.editor (key_of_byte s b)
+pub record IsFed (d : Data) (applied : Bool) (fault : Option StoreFault) (s : Session) (b : ℕ) (new : Session) : Type 0 where
+  pub editor : new.editor ≡ after_input d applied fault s.editor (key_of_byte s b)
   pub rest : new.rest ≡ (after_spending s b).rest
 
-any_editor : (d : Data) (saved : Bool) (s : Session) (key : Option Key) → (session_after_any d saved s key).editor ≡ after_input d true saved s.editor key
-any_editor d saved s None = refl
-any_editor d saved s (Some key) = refl
+any_editor : (d : Data) (fault : Option StoreFault) (s : Session) (key : Option Key) → (session_after_any d fault s key).editor ≡ after_input d true fault s.editor key
+any_editor d fault s None = refl
+any_editor d fault s (Some key) = refl
 
-any_rest : (d : Data) (saved : Bool) (s : Session) (key : Option Key) → (session_after_any d saved s key).rest ≡ s.rest
-any_rest d saved s None = refl
-any_rest d saved s (Some key) = refl
+any_rest : (d : Data) (fault : Option StoreFault) (s : Session) (key : Option Key) → (session_after_any d fault s key).rest ≡ s.rest
+any_rest d fault s None = refl
+any_rest d fault s (Some key) = refl
 
-unpainted_editor : (d : Data) (saved : Bool) (s : Session) (b : ℕ)
-    → (unpainted_after_byte d saved s b).editor ≡ after_input d true saved s.editor (key_of_byte s b)
-unpainted_editor d saved s b =
-    any_editor d saved (after_spending s b) (key_of_byte s b)
-    ∙ ap (λ (e : Editor). after_input d true saved e (key_of_byte s b)) (spent s b).editor
+unpainted_editor : (d : Data) (fault : Option StoreFault) (s : Session) (b : ℕ)
+    → (unpainted_after_byte d fault s b).editor ≡ after_input d true fault s.editor (key_of_byte s b)
+unpainted_editor d fault s b =
+    any_editor d fault (after_spending s b) (key_of_byte s b)
+    ∙ ap (λ (e : Editor). after_input d true fault e (key_of_byte s b)) (spent s b).editor
 
-unpainted_rest : (d : Data) (saved : Bool) (s : Session) (b : ℕ) → (unpainted_after_byte d saved s b).rest ≡ (after_spending s b).rest
-unpainted_rest d saved s b = any_rest d saved (after_spending s b) (key_of_byte s b)
+unpainted_rest : (d : Data) (fault : Option StoreFault) (s : Session) (b : ℕ) → (unpainted_after_byte d fault s b).rest ≡ (after_spending s b).rest
+unpainted_rest d fault s b = any_rest d fault (after_spending s b) (key_of_byte s b)
 
-idle_input : (d : Data) (saved owed : Bool) (e : Editor) (key : Option Key) → not (is_some key) && not owed ≡ true → e ≡ after_input d true saved e key
-idle_input d saved owed e None idle = refl
-idle_input d saved owed e (Some key) idle = absurd (cc idle)
+idle_input : (d : Data) (fault : Option StoreFault) (owed : Bool) (e : Editor) (key : Option Key) → not (is_some key) && not owed ≡ true → e ≡ after_input d true fault e key
+idle_input d fault owed e None idle = refl
+idle_input d fault owed e (Some key) idle = absurd (cc idle)
 
-refused_input : (d : Data) (saved : Bool) (e : Editor) (key : Option Key) → e ≡ after_input d false saved e key
-refused_input d saved e None = refl
-refused_input d saved e (Some key) = refl
+refused_input : (d : Data) (fault : Option StoreFault) (e : Editor) (key : Option Key) → e ≡ after_input d false fault e key
+refused_input d fault e None = refl
+refused_input d fault e (Some key) = refl
 
-painted_fed : (d : Data) (saved : Bool) (s : Session) (b : ℕ) → IsFed d true saved s b (after_byte d saved s b)
-painted_fed d saved s b = by_idle (is_idle s b) refl where
+painted_fed : (d : Data) (fault : Option StoreFault) (s : Session) (b : ℕ) → IsFed d true fault s b (after_byte d fault s b)
+painted_fed d fault s b = by_idle (is_idle s b) refl where
   by_idle : (idle : Bool) → is_idle s b ≡ idle
-      → IsFed d true saved s b (if idle then after_spending s b else with_painting d (unpainted_after_byte d saved s b))
+      → IsFed d true fault s b (if idle then after_spending s b else with_painting d (unpainted_after_byte d fault s b))
   by_idle true idle = record {
-    editor = (spent s b).editor ∙ idle_input d saved s.painting_owed s.editor (key_of_byte s b) idle;
+    editor = (spent s b).editor ∙ idle_input d fault s.painting_owed s.editor (key_of_byte s b) idle;
     rest = refl;
   }
-  by_idle false other = record { editor = unpainted_editor d saved s b; rest = unpainted_rest d saved s b }
+  by_idle false other = record { editor = unpainted_editor d fault s b; rest = unpainted_rest d fault s b }
 
-pub byte_fed : (d : Data) (saved : Bool) (old new : World) (b : ℕ) (answer : Result (Unit {0}) StepFault) → AfterByteStep d saved old b answer new
-    → IsFed d (is_applied answer) saved old.session b new.session
-byte_fed d saved old new b (Ok done) is =
-    subst (λ (w : World). IsFed d true saved old.session b w.session) (sym is) (painted_fed d saved old.session b)
-byte_fed d saved old new b (Err (faults.Session refused.Paint)) is =
-    subst (λ (w : World). IsFed d true saved old.session b w.session) (sym is.0)
-    (record { editor = unpainted_editor d saved old.session b; rest = unpainted_rest d saved old.session b })
-byte_fed d saved old new b (Err (faults.Session refused.Edit)) is =
-    subst (λ (w : World). IsFed d false saved old.session b w.session) (sym is.0)
-    (record { editor = (spent old.session b).editor ∙ refused_input d saved old.session.editor (key_of_byte old.session b); rest = refl })
-byte_fed d saved old new b (Err (faults.Session refused.Size)) is = absurd is
-byte_fed d saved old new b (Err (faults.Screen fault)) is = absurd is
-byte_fed d saved old new b (Err faults.Line) is = absurd is
+pub byte_fed : (d : Data) (fault : Option StoreFault) (old new : World) (b : ℕ) (answer : Result (Unit {0}) StepFault) → AfterByteStep d fault old b answer new
+    → IsFed d (is_applied answer) fault old.session b new.session
+byte_fed d fault old new b (Ok done) is =
+    subst (λ (w : World). IsFed d true fault old.session b w.session) (sym is) (painted_fed d fault old.session b)
+byte_fed d fault old new b (Err (faults.Session refused.Paint)) is =
+    subst (λ (w : World). IsFed d true fault old.session b w.session) (sym is.0)
+    (record { editor = unpainted_editor d fault old.session b; rest = unpainted_rest d fault old.session b })
+byte_fed d fault old new b (Err (faults.Session refused.Edit)) is =
+    subst (λ (w : World). IsFed d false fault old.session b w.session) (sym is.0)
+    (record { editor = (spent old.session b).editor ∙ refused_input d fault old.session.editor (key_of_byte old.session b); rest = refl })
+byte_fed d fault old new b (Err (faults.Session refused.Size)) is = absurd is
+byte_fed d fault old new b (Err (faults.Screen _)) is = absurd is
+byte_fed d fault old new b (Err faults.Line) is = absurd is
 
 -- the key of a byte, and what waits behind it, after the session's end and before
 key_if : (ended : Bool) (key : Option Key) → ended ≡ true → (if ended then None else key) ≡ None
@@ -150,36 +152,36 @@ record StepBrings (d : Data) (old new : World) (store store' : StoreState) (step
   pub stored : store' ≡ stored_after_all d old.session.editor store first
   pub decoded : (others : List Event) → AreDecoded new.session.rest others → AreDecoded old.session.rest (first ++ others)
 
-store_is : (saves saved : Bool) (text : List ℕ) (store store' : StoreState) → StoreAfter saves saved text store store'
-    → store' ≡ (if saves then after_save_of text saved store else store)
-store_is true true text store store' is = is
-store_is true false text store store' is =
-    ap (λ (c : Option (List ℕ)). record { contents = c; failures = store'.failures }) is.0
-    ∙ ap (λ (n : ℕ). record { contents = store.contents; failures = n }) is.1
-store_is false saved text store store' is = is
+store_is : (saves : Bool) (fault : Option StoreFault) (text : List ℕ) (store store' : StoreState) → StoreAfter saves fault text store store'
+    → store' ≡ (if saves then after_save_of text fault store else store)
+store_is true None text store store' is = is
+store_is true (Some fault) text store store' is =
+    ap (λ (c : Option (List ℕ)). record { contents = c; faults = store'.faults }) is.0
+    ∙ ap (λ (f : Faults). record { contents = store.contents; faults = f }) is.1
+store_is false fault text store store' is = is
 
-byte_brings : (ended : Bool) (d : Data) (saved : Bool) (old new : World) (store store' : StoreState) (b : ℕ) (answer : Result (Unit {0}) StepFault)
-    → old.session.editor.ended ≡ ended → StoreAfter (is_save_byte old.session b) saved old.session.editor.content.text store store'
-    → IsFed d (is_applied answer) saved old.session b new.session → StepBrings d old new store store' (Byte b) answer
-byte_brings true d saved old new store store' b answer on stores fed =
+byte_brings : (ended : Bool) (d : Data) (fault : Option StoreFault) (old new : World) (store store' : StoreState) (b : ℕ) (answer : Result (Unit {0}) StepFault)
+    → old.session.editor.ended ≡ ended → StoreAfter (is_save_byte old.session b) fault old.session.editor.content.text store store'
+    → IsFed d (is_applied answer) fault old.session b new.session → StepBrings d old new store store' (Byte b) answer
+byte_brings true d fault old new store store' b answer on stores fed =
     let s = old.session in
     let none : key_of_byte s b ≡ None = key_if s.editor.ended (key_after s.rest b) on in
     let same : new.session.rest ≡ s.rest = fed.rest ∙ rest_if s.editor.ended s (head_of (rest_after s.rest b)) on in record {
       first = [];
       brings = subst (λ ended. Brings ended (Byte b) answer []) (sym on) refl;
-      editor = fed.editor ∙ ap (λ key. after_input d (is_applied answer) saved s.editor key) none;
-      stored = subst (λ key. StoreAfter (is_save_key key) saved s.editor.content.text store store') none stores;
+      editor = fed.editor ∙ ap (λ key. after_input d (is_applied answer) fault s.editor key) none;
+      stored = subst (λ key. StoreAfter (is_save_key key) fault s.editor.content.text store store') none stores;
       decoded = λ others are. subst (λ rest. AreDecoded rest others) same are;
     }
-byte_brings false d saved old new store store' b answer off stores fed =
+byte_brings false d fault old new store store' b answer off stores fed =
     let s = old.session in
     let key = key_of_byte s b in
     let next : new.session.rest ≡ head_of (rest_after s.rest b) =
     fed.rest ∙ rest_if_not s.editor.ended s (head_of (rest_after s.rest b)) off in record {
-      first = Input b key (is_applied answer) saved ∷ [];
-      brings = subst (λ ended. Brings ended (Byte b) answer (Input b key (is_applied answer) saved ∷ [])) (sym off) (key, saved, refl);
+      first = Input b key (is_applied answer) fault ∷ [];
+      brings = subst (λ ended. Brings ended (Byte b) answer (Input b key (is_applied answer) fault ∷ [])) (sym off) (key, fault, refl);
       editor = fed.editor;
-      stored = store_is (is_save_key key) saved s.editor.content.text store store' stores;
+      stored = store_is (is_save_key key) fault s.editor.content.text store store' stores;
       decoded = λ others are. (
         key_if_not s.editor.ended (key_after s.rest b) off,
         subst (λ rest. AreDecoded rest others) next are,
@@ -325,34 +327,34 @@ below g n k now low is = by (cases_lt g (suc n)) where
   by (inl over) = let full : min g (suc n) ≡ g = min-eq_left (omega (arith, over)) in absurd (omega (arith, full, low))
   by (inr fits) = let one : min g (suc n) ≡ suc n = min-eq_right fits in omega (arith, one, is)
 
-failed_are : (d : Data) (e : Editor) (store : StoreState) (events : List Event) → (stored_after_all d e store events).failures < greatest
-    → (stored_after_all d e store events).failures ≡ store.failures + failed_saves events
+failed_are : (d : Data) (e : Editor) (store : StoreState) (events : List Event) → (stored_after_all d e store events).faults.count < greatest
+    → (stored_after_all d e store events).faults.count ≡ store.faults.count + failed_saves events
 failed_are d e store [] low = omega arith
 failed_are d e store (Telling height width ∷ more) low = failed_are d (after_event d e (Telling height width)) store more low
-failed_are d e store (Input byte key applied saved ∷ more) low =
-    by_save (is_save_key key) saved (λ (now : StoreState). failed_are d (after_input d applied saved e key) now more) low where
+failed_are d e store (Input byte key applied fault ∷ more) low =
+    by_save (is_save_key key) fault (λ (now : StoreState). failed_are d (after_input d applied fault e key) now more) low where
       next : Editor
-      next = after_input d applied saved e key
+      next = after_input d applied fault e key
 
-      by_save : (saves saved : Bool)
-          → ((now : StoreState) → (stored_after_all d next now more).failures < greatest
-          → (stored_after_all d next now more).failures ≡ now.failures + failed_saves more)
-          → (stored_after_all d next (if saves then after_save_of e.content.text saved store else store) more).failures < greatest
-          → (stored_after_all d next (if saves then after_save_of e.content.text saved store else store) more).failures
-          ≡ store.failures + (if saves && not saved then suc (failed_saves more) else failed_saves more)
-      by_save true true others low = others (after_save_of e.content.text true store) low
-      by_save true false others low =
-          let count = others (after_save_of e.content.text false store) low in
-          below greatest store.failures (failed_saves more) _ (subst (λ n. n < greatest) count low) count
-      by_save false saved others low = others store low
+      by_save : (saves : Bool) (fault : Option StoreFault)
+          → ((now : StoreState) → (stored_after_all d next now more).faults.count < greatest
+          → (stored_after_all d next now more).faults.count ≡ now.faults.count + failed_saves more)
+          → (stored_after_all d next (if saves then after_save_of e.content.text fault store else store) more).faults.count < greatest
+          → (stored_after_all d next (if saves then after_save_of e.content.text fault store else store) more).faults.count
+          ≡ store.faults.count + (if saves && is_some fault then suc (failed_saves more) else failed_saves more)
+      by_save true None others low = others (after_save_of e.content.text None store) low
+      by_save true (Some failed) others low =
+          let count = others (after_save_of e.content.text (Some failed) store) low in
+          below greatest store.faults.count (failed_saves more) _ (subst (λ n. n < greatest) count low) count
+      by_save false fault others low = others store low
 
 pub follows_decoded : (d : Data) (old new : World) (store store' : StoreState) (all : List (Step × Result (Unit {0}) StepFault))
     → PlaysTo d old store all new store' → (events : List Event) × Follows d old store all new store' events × AreDecoded old.session.rest events
 follows_decoded d old new store store' all played =
     let b = brought d old new store store' all played in
     let i = has_input d old.session.editor all b.events b.events_are in
-    let failures : store'.failures < greatest → store'.failures ≡ store.failures + failed_saves b.events =
-    subst (λ (x : StoreState). x.failures < greatest → x.failures ≡ store.failures + failed_saves b.events) (sym b.stored)
+    let failures : store'.faults.count < greatest → store'.faults.count ≡ store.faults.count + failed_saves b.events =
+    subst (λ (x : StoreState). x.faults.count < greatest → x.faults.count ≡ store.faults.count + failed_saves b.events) (sym b.stored)
     (failed_are d old.session.editor store b.events) in (
       b.events,
       record {

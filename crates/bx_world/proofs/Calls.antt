@@ -9,6 +9,7 @@ use Rattle.bx_keys.specs.Waiting.{head_of}
 use Rattle.bx_grid.specs.declared.error.GridError.TheVariants as grid
 use Rattle.bx_grid.specs.Picture.{PictureState}
 use Rattle.bx_grid.specs.Terminal.{Terminal, reads, after_resize}
+use Rattle.bx_store.specs.declared.store.StoreFault.{StoreFault}
 use Rattle.bx_ucd.specs.Data.{Data}
 use Rattle.bx_session.specs.declared.error.Refused.{Refused}
 use Rattle.bx_session.specs.declared.error.Refused.TheVariants as refused
@@ -65,33 +66,33 @@ spent_in_step d w b told was stays =
       known old (Some p) is on = (on, is)
 
 -- its key was applied, and its painting is owed
-pub owing_in_step : (d : Data) (saved : Bool) (w : World) (b : ℕ) → IsInStep d w → IsInStep d (with_byte w b (owing_after_byte d saved w.session b))
-owing_in_step d saved w b was =
-    let keeps = byte_keeps d saved w b in
-    kept d w (owing_after_byte d saved w.session b) (told_after_key w (key_of_byte w.session b)) was (byte_pending d saved w.session b)
-    (always_shows.owing_byte d saved w.session b) (λ owed. absurd (cc owed)) keeps.known (λ on. keeps.size was.size on)
+pub owing_in_step : (d : Data) (fault : Option StoreFault) (w : World) (b : ℕ) → IsInStep d w → IsInStep d (with_byte w b (owing_after_byte d fault w.session b))
+owing_in_step d fault w b was =
+    let keeps = byte_keeps d fault w b in
+    kept d w (owing_after_byte d fault w.session b) (told_after_key w (key_of_byte w.session b)) was (byte_pending d fault w.session b)
+    (always_shows.owing_byte d fault w.session b) (λ owed. absurd (cc owed)) keeps.known (λ on. keeps.size was.size on)
 
 -- its key was applied and painted
-pub fed_in_step : (d : Data) (saved : Bool) (w : World) (b : ℕ) (new : Session) → IsInStep d w
-    → new ≡ with_painting d (unpainted_after_byte d saved w.session b) → FeedPaints d w.session b new → IsInStep d (with_byte w b new)
-fed_in_step d saved w b new was is queued =
-    painted d w new (told_after_key w (key_of_byte w.session b)) (unpainted_after_byte d true w.session b).known was queued
-    (byte_keeps d true w b).known
-    (λ on. rw is ((byte_keeps d saved w b).size was.size on))
+pub fed_in_step : (d : Data) (fault : Option StoreFault) (w : World) (b : ℕ) (new : Session) → IsInStep d w
+    → new ≡ with_painting d (unpainted_after_byte d fault w.session b) → FeedPaints d w.session b new → IsInStep d (with_byte w b new)
+fed_in_step d fault w b new was is queued =
+    painted d w new (told_after_key w (key_of_byte w.session b)) (unpainted_after_byte d None w.session b).known was queued
+    (byte_keeps d None w b).known
+    (λ on. rw is ((byte_keeps d fault w b).size was.size on))
 
 idle_told : (height width : ℕ) (told owed : Bool) (key : Option Key) → not (is_some key) && not owed ≡ true → told_after height width told key ≡ told
 idle_told height width told owed None idle = refl
 idle_told height width told owed (Some key) idle = absurd (cc idle)
 
-fed : (d : Data) (saved : Bool) (w : World) (b : ℕ) (new : Session) → IsInStep d w → new ≡ after_byte d saved w.session b
+fed : (d : Data) (fault : Option StoreFault) (w : World) (b : ℕ) (new : Session) → IsInStep d w → new ≡ after_byte d fault w.session b
     → (is_idle w.session b ≡ false → FeedPaints d w.session b new) → IsInStep d (with_byte w b new)
-fed d saved w b new was is paints = by_idle (is_idle w.session b) refl is where
+fed d fault w b new was is paints = by_idle (is_idle w.session b) refl is where
   by_idle : (idle : Bool) → is_idle w.session b ≡ idle
-      → new ≡ (if idle then after_spending w.session b else with_painting d (unpainted_after_byte d saved w.session b)) → IsInStep d (with_byte w b new)
+      → new ≡ (if idle then after_spending w.session b else with_painting d (unpainted_after_byte d fault w.session b)) → IsInStep d (with_byte w b new)
   by_idle true idle same =
       rw same (spent_in_step d w b (told_after_key w (key_of_byte w.session b)) was
       (λ on. sym (idle_told w.height w.width w.told w.session.painting_owed (key_of_byte w.session b) idle) ∙ on))
-  by_idle false other same = fed_in_step d saved w b new was same (paints other)
+  by_idle false other same = fed_in_step d fault w b new was same (paints other)
 
 pub byte_in_step : (d : Data) (w : World) (new : Session) (store store' : StoreState) (b : ℕ) (answer : Result Status Refused) → IsInStep d w
     → Feeds d w.session store b answer new store' → (is_idle w.session b ≡ false → OnOk answer (FeedPaints d w.session b new))
@@ -111,8 +112,8 @@ byte_call says tables tables' w new store store' b answer told same is was feeds
 
 byte_answer : (d : Data) (w : World) (new : Session) (store store' : StoreState) (b : ℕ) (answer : Result Status Refused)
     → Feeds d w.session store b answer new store'
-    → (saved : Bool) × StoreAfter (is_save_byte w.session b) saved w.session.editor.content.text store store'
-    × AfterByteStep d saved w b (answer_of answer) (record w { session = new; told = mark_after w.told (told_after_key w (key_of_byte w.session b)) answer })
+    → (fault : Option StoreFault) × StoreAfter (is_save_byte w.session b) fault w.session.editor.content.text store store'
+    × AfterByteStep d fault w b (answer_of answer) (record w { session = new; told = mark_after w.told (told_after_key w (key_of_byte w.session b)) answer })
 byte_answer d w new store store' b (Ok status) feeds = (feeds.0, feeds.1, ap (λ (s : Session). with_byte w b s) feeds.2.0)
 byte_answer d w new store store' b (Err refused.Edit) feeds = (feeds.0, feeds.1, (ap (λ (s : Session). record w { session = s }) feeds.2.0, feeds.2.1))
 byte_answer d w new store store' b (Err refused.Paint) feeds = (feeds.0, feeds.1, (ap (λ (s : Session). with_byte w b s) feeds.2.0, feeds.2.1))
@@ -121,8 +122,8 @@ byte_answer d w new store store' b (Err refused.Size) feeds = absurd feeds.2
 pub byte_steps : (d : Data) (w : World) (new : Session) (store store' : StoreState) (b : ℕ) (answer : Result Status Refused)
     (result : Result (Unit {0}) StepFault) (told : Bool) → result ≡ answer_of answer
     → told ≡ mark_after w.told (told_after_key w (key_of_byte w.session b)) answer → Feeds d w.session store b answer new store'
-    → (saved : Bool) × StoreAfter (is_save_byte w.session b) saved w.session.editor.content.text store store'
-    × AfterByteStep d saved w b result (record w { session = new; told = told })
+    → (fault : Option StoreFault) × StoreAfter (is_save_byte w.session b) fault w.session.editor.content.text store store'
+    × AfterByteStep d fault w b result (record w { session = new; told = told })
 byte_steps d w new store store' b answer result told same is feeds = rw (same, is) (byte_answer d w new store store' b answer feeds)
 
 -- ---- a told size

@@ -12,7 +12,8 @@ use Rattle.bx_keys.specs.Keys.{decoding, keys_from}
 use Rattle.bx_grid.specs.Picture.{Shows}
 use Rattle.bx_grid.specs.Terminal.{Terminal}
 use Rattle.bx_view.specs.TextRows.{cell_of}
-use Rattle.bx_store.specs.Stores.{greatest}
+use Rattle.bx_store.specs.Stores.{greatest, no_faults}
+use Rattle.bx_store.specs.declared.store.StoreFault.{StoreFault}
 use Rattle.bx_editor.specs.Editor.{Editor, at_start, rows}
 use Rattle.bx_editor.specs.Picture.{picture}
 use Rattle.bx_editor.proofs.Computed.{tables, columns_of}
@@ -34,10 +35,10 @@ key_only : (key : Option Key) (k : Key) → option_to_list key ++ [] ≡ k ∷ [
 key_only None k is = absurd (cc is)
 key_only (Some key) k is = cc is
 
--- the event of a byte that completes a key, whose keys are those of its input
+-- the event of a byte that completes a key
 one_key : (text : List ℕ) (b : ℕ) (key : Key) (events : List Event) (keys : List ℕ → List Key) → keys (b ∷ []) ≡ key ∷ []
     → AreEvents tables (at_start text 1 5 Auto) ((Byte b, ok) ∷ []) events → keys_of events ≡ keys (input_of events)
-    → (saved : Bool) × (events ≡ Input b (Some key) true saved ∷ [])
+    → (fault : Option StoreFault) × (events ≡ Input b (Some key) true fault ∷ [])
 one_key text b key events keys typed are whole =
     let one = are.3 in
     let is : events ≡ Input b one.0 true one.1 ∷ [] = are.2 ∙ ap (λ (xs : List Event). xs ++ are.1) one.2
@@ -50,9 +51,9 @@ one_key text b key events keys typed are whole =
 abbrev empty : Editor
 empty = at_start [] 1 5 Auto
 
-typed_letter : (saved : Bool) → (after_events tables empty (Input 0x61 (Some (Insert 0x61)) true saved ∷ [])).content.text ≡ codes "a"
+typed_letter : (fault : Option StoreFault) → (after_events tables empty (Input 0x61 (Some (Insert 0x61)) true fault ∷ [])).content.text ≡ codes "a"
 unfolding unicode_segmentation unicode_width digits
-typed_letter saved = refl
+typed_letter fault = refl
 
 -- what the events of the byte `a` make of it
 one_letter : (events : List Event) (keys : List ℕ → List Key) → keys (codes "a") ≡ Insert 0x61 ∷ [] → AreEvents tables empty ((Byte 0x61, ok) ∷ []) events
@@ -71,9 +72,9 @@ a_byte_is_its_letter store store' new clause =
 abbrev cursor_cell : Editor → ℕ
 cursor_cell e = cell_of e.width (rows tables e) e.place
 
-cursor_behind_letter : (saved : Bool) → cursor_cell (after_events tables empty (Input 0x61 (Some (Insert 0x61)) true saved ∷ [])) ≡ 2
+cursor_behind_letter : (fault : Option StoreFault) → cursor_cell (after_events tables empty (Input 0x61 (Some (Insert 0x61)) true fault ∷ [])) ≡ 2
 unfolding unicode_segmentation unicode_width digits
-cursor_behind_letter saved = refl
+cursor_behind_letter fault = refl
 
 -- the cursor is behind it, in the second column
 pub the_cursor_is_behind_the_letter : (store store' : StoreState) (new : World) (column : ℕ)
@@ -96,17 +97,17 @@ the_terminal_is_there store store' new clause = (clause [] 1 5 Auto refl).1.live
 -- ---- a Save
 
 abbrev store_of : List ℕ → StoreState
-store_of contents = record { contents = Some contents; failures = 0 }
+store_of contents = record { contents = Some contents; faults = no_faults }
 
-not_counted : (saved : Bool) (contents : List ℕ) (store' : StoreState) → store' ≡ after_save_of (codes "ab") saved (store_of contents)
-    → store'.failures ≡ 0 → store'.contents ≡ Some (codes "ab")
-not_counted true contents store' is none = ap (λ (x : StoreState). x.contents) is
-not_counted false contents store' is none = absurd (let g : 1 ≡ 0 = sym (ap (λ (x : StoreState). x.failures) is) ∙ none in cc g)
+not_counted : (fault : Option StoreFault) (contents : List ℕ) (store' : StoreState) → store' ≡ after_save_of (codes "ab") fault (store_of contents)
+    → store'.faults.count ≡ 0 → store'.contents ≡ Some (codes "ab")
+not_counted None contents store' is none = ap (λ (x : StoreState). x.contents) is
+not_counted (Some fault) contents store' is none = absurd (let g : 1 ≡ 0 = sym (ap (λ (x : StoreState). x.faults.count) is) ∙ none in cc g)
 
 -- a Save that the store did not count as failed stored the text
 pub a_save_stores_the_text : (contents : List ℕ) (store' : StoreState) (new : World)
     → HeadlineFromOpening tables (around (start (codes "ab") 1 5) 1 5) (store_of contents) ((Byte 0x13, ok) ∷ []) new store'
-    → store'.failures ≡ 0 → store'.contents ≡ Some (codes "ab")
+    → store'.faults.count ≡ 0 → store'.contents ≡ Some (codes "ab")
 a_save_stores_the_text contents store' new clause none =
     let found = clause (codes "ab") 1 5 Auto refl in
     let one = one_key (codes "ab") 0x13 Save found.0 (λ bs. (decoding bs).keys) refl found.1.events_are
@@ -116,11 +117,11 @@ a_save_stores_the_text contents store' new clause none =
 
 -- a count that is one higher is of one Save that failed
 pub a_failed_save_is_counted : (contents : Option (List ℕ)) (store' : StoreState) (new : World)
-    → (clause : HeadlineFromOpening tables (around (start (codes "ab") 1 5) 1 5) (record { contents = contents; failures = 4 }) ((Byte 0x13, ok) ∷ []) new store')
-    → store'.failures ≡ 5 → failed_saves (clause (codes "ab") 1 5 Auto refl).0 ≡ 1
+    → (clause : HeadlineFromOpening tables (around (start (codes "ab") 1 5) 1 5) (record { contents = contents; faults = record { count = 4; latest = None } }) ((Byte 0x13, ok) ∷ []) new store')
+    → store'.faults.count ≡ 5 → failed_saves (clause (codes "ab") 1 5 Auto refl).0 ≡ 1
 a_failed_save_is_counted contents store' new clause count =
     let found = clause (codes "ab") 1 5 Auto refl in
-    let all : store'.failures ≡ 4 + failed_saves found.0 = found.1.failures (subst (λ n. n < greatest) (sym count) (lit< tt)) in
+    let all : store'.faults.count ≡ 4 + failed_saves found.0 = found.1.failures (subst (λ n. n < greatest) (sym count) (lit< tt)) in
     omega (arith, count, all)
 
 -- from any world that has such a session

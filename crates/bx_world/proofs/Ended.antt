@@ -16,7 +16,7 @@ after_both d e (event ∷ first) others = after_both d (after_event d e event) f
 
 input_both : (first others : List Event) → input_of (first ++ others) ≡ input_of first ++ input_of others
 input_both [] others = refl
-input_both (Input byte key applied saved ∷ first) others = ap (λ xs. byte ∷ xs) (input_both first others)
+input_both (Input byte key applied fault ∷ first) others = ap (λ xs. byte ∷ xs) (input_both first others)
 input_both (Telling height width ∷ first) others = input_both first others
 
 -- ---- after the end

@@ -3,6 +3,7 @@ use Rattle.std.proofs.Common.{◌≡◌, ℕ, Bool, true, false, [], ◌∷◌, 
 use Rattle.std.specs.Prelude.{◌&&◌, ◌==◌}
 use Rattle.std.specs.List.{AllByRecursion}
 use Rattle.bx_keys.specs.declared.key.Key.{Key}
+use Rattle.bx_store.specs.declared.store.StoreFault.{StoreFault}
 use Rattle.bx_ucd.specs.Data.{Data}
 use Rattle.bx_editor.specs.Editor.{Editor}
 use Rattle.bx_editor.specs.Keys.{after_key}
@@ -28,51 +29,51 @@ fits height width e = (height == e.height) && (width == e.width)
 same_fits : (height width : ℕ) (e f : Editor) → SameSize e f → fits height width e ≡ fits height width f
 same_fits height width e f same = ap (λ h. (height == h) && (width == e.width)) (sym same.0) ∙ ap (λ w. (height == f.height) && (width == w)) (sym same.1)
 
-pub key_fits : (d : Data) (saved : Bool) (height width : ℕ) (told : Bool) (e : Editor) (key : Key) → told ≡ fits height width e
-    → told_after height width told (Some key) ≡ fits height width (after_key d saved e key)
-key_fits d saved height width told e key was = by (kind_of_key d saved e key) where
-  by : IsOther d saved e key ⊎ IsTelling key → told_after height width told (Some key) ≡ fits height width (after_key d saved e key)
-  by (inl other) = other.1 height width told ∙ was ∙ same_fits height width e (after_key d saved e key) other.0
+pub key_fits : (d : Data) (fault : Option StoreFault) (height width : ℕ) (told : Bool) (e : Editor) (key : Key) → told ≡ fits height width e
+    → told_after height width told (Some key) ≡ fits height width (after_key d fault e key)
+key_fits d fault height width told e key was = by (kind_of_key d fault e key) where
+  by : IsOther d fault e key ⊎ IsTelling key → told_after height width told (Some key) ≡ fits height width (after_key d fault e key)
+  by (inl other) = other.1 height width told ∙ was ∙ same_fits height width e (after_key d fault e key) other.0
   by (inr size) =
-      subst (λ (k : Key). told_after height width told (Some k) ≡ fits height width (after_key d saved e k)) (sym size.2) refl
+      subst (λ (k : Key). told_after height width told (Some k) ≡ fits height width (after_key d fault e k)) (sym size.2) refl
 
-input_fits : (d : Data) (saved : Bool) (height width : ℕ) (told : Bool) (e : Editor) (key : Option Key) → told ≡ fits height width e
-    → told_after height width told key ≡ fits height width (after_input d true saved e key)
-input_fits d saved height width told e None was = was
-input_fits d saved height width told e (Some key) was = key_fits d saved height width told e key was
+input_fits : (d : Data) (fault : Option StoreFault) (height width : ℕ) (told : Bool) (e : Editor) (key : Option Key) → told ≡ fits height width e
+    → told_after height width told key ≡ fits height width (after_input d true fault e key)
+input_fits d fault height width told e None was = was
+input_fits d fault height width told e (Some key) was = key_fits d fault height width told e key was
 
-refused_fits : (d : Data) (saved : Bool) (e : Editor) (key : Option Key) → e ≡ after_input d false saved e key
-refused_fits d saved e None = refl
-refused_fits d saved e (Some key) = refl
+refused_fits : (d : Data) (fault : Option StoreFault) (e : Editor) (key : Option Key) → e ≡ after_input d false fault e key
+refused_fits d fault e None = refl
+refused_fits d fault e (Some key) = refl
 
 -- ---- steps that change no window and tell nothing
 
 abbrev pub Fits : World → Type 0
 Fits w = w.told ≡ fits w.height w.width w.session.editor
 
-fed_fits : (d : Data) (saved : Bool) (old : World) (b : ℕ) (s : Session) → Fits old
-    → s.editor ≡ after_input d true saved old.session.editor (key_of_byte old.session b) → Fits (with_byte old b s)
-fed_fits d saved old b s was is =
-    input_fits d saved old.height old.width old.told old.session.editor (key_of_byte old.session b) was
+fed_fits : (d : Data) (fault : Option StoreFault) (old : World) (b : ℕ) (s : Session) → Fits old
+    → s.editor ≡ after_input d true fault old.session.editor (key_of_byte old.session b) → Fits (with_byte old b s)
+fed_fits d fault old b s was is =
+    input_fits d fault old.height old.width old.told old.session.editor (key_of_byte old.session b) was
     ∙ ap (λ (e : Editor). fits old.height old.width e) (sym is)
 
-byte_fits : (d : Data) (saved : Bool) (old new : World) (b : ℕ) (answer : Result (Unit {0}) StepFault) → AfterByteStep d saved old b answer new
+byte_fits : (d : Data) (fault : Option StoreFault) (old new : World) (b : ℕ) (answer : Result (Unit {0}) StepFault) → AfterByteStep d fault old b answer new
     → Fits old → Fits new
-byte_fits d saved old new b (Ok done) is was =
-    let fed = byte_fed d saved old new b (Ok done) is in
-    subst Fits (sym is) (fed_fits d saved old b (after_byte d saved old.session b) was (ap (λ (w : World). w.session.editor) (sym is) ∙ fed.editor))
-byte_fits d saved old new b (Err (faults.Session refused.Paint)) is was =
-    let fed = byte_fed d saved old new b (Err (faults.Session refused.Paint)) is in
-    subst Fits (sym is.0) (fed_fits d saved old b (owing_after_byte d saved old.session b) was (ap (λ (w : World). w.session.editor) (sym is.0) ∙ fed.editor))
-byte_fits d saved old new b (Err (faults.Session refused.Edit)) is was =
-    let fed = byte_fed d saved old new b (Err (faults.Session refused.Edit)) is in
-    let same : new.session.editor ≡ old.session.editor = fed.editor ∙ sym (refused_fits d saved old.session.editor (key_of_byte old.session b)) in
+byte_fits d fault old new b (Ok done) is was =
+    let fed = byte_fed d fault old new b (Ok done) is in
+    subst Fits (sym is) (fed_fits d fault old b (after_byte d fault old.session b) was (ap (λ (w : World). w.session.editor) (sym is) ∙ fed.editor))
+byte_fits d fault old new b (Err (faults.Session refused.Paint)) is was =
+    let fed = byte_fed d fault old new b (Err (faults.Session refused.Paint)) is in
+    subst Fits (sym is.0) (fed_fits d fault old b (owing_after_byte d fault old.session b) was (ap (λ (w : World). w.session.editor) (sym is.0) ∙ fed.editor))
+byte_fits d fault old new b (Err (faults.Session refused.Edit)) is was =
+    let fed = byte_fed d fault old new b (Err (faults.Session refused.Edit)) is in
+    let same : new.session.editor ≡ old.session.editor = fed.editor ∙ sym (refused_fits d fault old.session.editor (key_of_byte old.session b)) in
     ap (λ (w : World). w.told) is.0 ∙ was
     ∙ ap (λ (e : Editor). fits old.height old.width e) (sym same)
     ∙ ap (λ (w : World). fits w.height w.width new.session.editor) (sym is.0)
-byte_fits d saved old new b (Err (faults.Session refused.Size)) is was = absurd is
-byte_fits d saved old new b (Err (faults.Screen fault)) is was = absurd is
-byte_fits d saved old new b (Err faults.Line) is was = absurd is
+byte_fits d fault old new b (Err (faults.Session refused.Size)) is was = absurd is
+byte_fits d fault old new b (Err (faults.Screen _)) is was = absurd is
+byte_fits d fault old new b (Err faults.Line) is was = absurd is
 
 send_fits : (old new : World) (count : ℕ) (answer : Result (Unit {0}) StepFault) → AfterSendStep old count answer new → Fits old → Fits new
 send_fits old new count (Ok done) is was = subst Fits (sym is) was

@@ -6,12 +6,13 @@ use Rattle.bx_text.specs.Edits.{Edit, fits}
 use Rattle.bx_keys.specs.declared.key.Key.{Key}
 use Rattle.bx_keys.specs.declared.key.Key.TheVariants.{Insert, Erase, Delete, Back, Forward, Up, Down, Right, Left, RowHome, RowEnd, PageUp, PageDown}
 use Rattle.bx_keys.specs.declared.key.Key.TheVariants.{Save, Quit, Undo, Redo, Repaint, Direction, Size, Mark, Copy, Cut, Put}
-use Rattle.bx_keys.specs.declared.key.Key.TheVariants.{Find, FindBack, WordLeft, WordRight, TextStart, TextEnd, Help}
+use Rattle.bx_keys.specs.declared.key.Key.TheVariants.{Find, FindBack, WordLeft, WordRight, TextStart, TextEnd, Help, Notice}
 use Rattle.bx_keys.specs.Keys.{rest_after}
 use Rattle.bx_keys.specs.Waiting.{head_of}
 use Rattle.bx_view.specs.declared.moves.Logical.TheVariants as logical
 use Rattle.bx_view.specs.Moves.{step_logical}
 use Rattle.bx_grid.specs.Picture.{PictureState}
+use Rattle.bx_store.specs.declared.store.StoreFault.{StoreFault}
 use Rattle.bx_ucd.specs.Data.{Data}
 use Rattle.bx_editor.specs.Editor.{Editor, rows, after_insertion, after_removal, after_undo, after_redo, after_save, after_quit, without_message}
 use Rattle.bx_editor.specs.declared.seek.Seek.{Seek}
@@ -46,9 +47,9 @@ redo_size : (e : Editor) (future : List Edit) → SameSize e (after_redo e futur
 redo_size e [] = (refl, refl)
 redo_size e (edit ∷ future) = (refl, refl)
 
-save_size : (e : Editor) (saved : Bool) → SameSize e (after_save e saved)
-save_size e true = (refl, refl)
-save_size e false = (refl, refl)
+save_size : (e : Editor) (fault : Option StoreFault) → SameSize e (after_save e fault)
+save_size e None = (refl, refl)
+save_size e (Some fault) = (refl, refl)
 
 quit_size : (e : Editor) (again : Bool) → SameSize e (after_quit e again)
 quit_size e again = size_if (not e.changed || again) e _ _ (refl, refl) (refl, refl)
@@ -65,121 +66,124 @@ cut_size d e = size_if (is_empty (taken d e)) e _ _ (copy_size d e) (removal_siz
 put_size : (d : Data) (e : Editor) → SameSize e (after_put d e)
 put_size d e = size_if (length e.held == 0) e _ _ (refl, refl) (insertion_size d e e.held)
 
-pressing_size : (d : Data) (saved again : Bool) (e : Editor) (key : Key) → SameSize e (after_pressing d saved again e key)
-pressing_size d saved again e (Insert ch) = insertion_size d e (encode_utf8 ch)
-pressing_size d saved again e Erase = removal_size d e (step_logical (rows d e) logical.Back e.place) e.place
-pressing_size d saved again e Delete = removal_size d e e.place (step_logical (rows d e) logical.Forward e.place)
-pressing_size d saved again e Back = (refl, refl)
-pressing_size d saved again e Forward = (refl, refl)
-pressing_size d saved again e Up = (refl, refl)
-pressing_size d saved again e Down = (refl, refl)
-pressing_size d saved again e Right = (refl, refl)
-pressing_size d saved again e Left = (refl, refl)
-pressing_size d saved again e RowHome = (refl, refl)
-pressing_size d saved again e RowEnd = (refl, refl)
-pressing_size d saved again e PageUp = (refl, refl)
-pressing_size d saved again e PageDown = (refl, refl)
-pressing_size d saved again e Save = save_size e saved
-pressing_size d saved again e Quit = quit_size e again
-pressing_size d saved again e Undo = undo_size e e.content.past
-pressing_size d saved again e Redo = redo_size e e.content.future
-pressing_size d saved again e Repaint = (refl, refl)
-pressing_size d saved again e Direction = (refl, refl)
-pressing_size d saved again e Mark = mark_size e
-pressing_size d saved again e Copy = copy_size d e
-pressing_size d saved again e Cut = cut_size d e
-pressing_size d saved again e Put = put_size d e
-pressing_size d saved again e Find = (refl, refl)
-pressing_size d saved again e FindBack = (refl, refl)
-pressing_size d saved again e WordLeft = (refl, refl)
-pressing_size d saved again e WordRight = (refl, refl)
-pressing_size d saved again e TextStart = (refl, refl)
-pressing_size d saved again e TextEnd = (refl, refl)
-pressing_size d saved again e Help = (refl, refl)
-pressing_size d saved again e (Size height width) = (refl, refl)
+pressing_size : (d : Data) (fault : Option StoreFault) (again : Bool) (e : Editor) (key : Key) → SameSize e (after_pressing d fault again e key)
+pressing_size d fault again e (Insert ch) = insertion_size d e (encode_utf8 ch)
+pressing_size d fault again e Erase = removal_size d e (step_logical (rows d e) logical.Back e.place) e.place
+pressing_size d fault again e Delete = removal_size d e e.place (step_logical (rows d e) logical.Forward e.place)
+pressing_size d fault again e Back = (refl, refl)
+pressing_size d fault again e Forward = (refl, refl)
+pressing_size d fault again e Up = (refl, refl)
+pressing_size d fault again e Down = (refl, refl)
+pressing_size d fault again e Right = (refl, refl)
+pressing_size d fault again e Left = (refl, refl)
+pressing_size d fault again e RowHome = (refl, refl)
+pressing_size d fault again e RowEnd = (refl, refl)
+pressing_size d fault again e PageUp = (refl, refl)
+pressing_size d fault again e PageDown = (refl, refl)
+pressing_size d fault again e Save = save_size e fault
+pressing_size d fault again e Quit = quit_size e again
+pressing_size d fault again e Undo = undo_size e e.content.past
+pressing_size d fault again e Redo = redo_size e e.content.future
+pressing_size d fault again e Repaint = (refl, refl)
+pressing_size d fault again e Direction = (refl, refl)
+pressing_size d fault again e Mark = mark_size e
+pressing_size d fault again e Copy = copy_size d e
+pressing_size d fault again e Cut = cut_size d e
+pressing_size d fault again e Put = put_size d e
+pressing_size d fault again e Find = (refl, refl)
+pressing_size d fault again e FindBack = (refl, refl)
+pressing_size d fault again e WordLeft = (refl, refl)
+pressing_size d fault again e WordRight = (refl, refl)
+pressing_size d fault again e TextStart = (refl, refl)
+pressing_size d fault again e TextEnd = (refl, refl)
+pressing_size d fault again e Help = (refl, refl)
+pressing_size d fault again e (Size height width) = (refl, refl)
+pressing_size d fault again e (Notice notice) = (refl, refl)
 
 letter_size : (d : Data) (e : Editor) (c : ℕ) → SameSize e (after_letter d e c)
 letter_size d e c = size_if (c == 0xA) e _ _ (refl, refl) (size_if (is_no_letter d c) e _ _ (refl, refl) (refl, refl))
 
-seeking_size : (d : Data) (saved again : Bool) (e : Editor) (key : Key) → SameSize e (after_seeking d saved again e key)
-seeking_size d saved again e (Insert c) = letter_size d e c
-seeking_size d saved again e Erase = (refl, refl)
-seeking_size d saved again e Delete = (refl, refl)
-seeking_size d saved again e Back = pressing_size d saved again e Back
-seeking_size d saved again e Forward = pressing_size d saved again e Forward
-seeking_size d saved again e Up = pressing_size d saved again e Up
-seeking_size d saved again e Down = pressing_size d saved again e Down
-seeking_size d saved again e Right = pressing_size d saved again e Right
-seeking_size d saved again e Left = pressing_size d saved again e Left
-seeking_size d saved again e RowHome = pressing_size d saved again e RowHome
-seeking_size d saved again e RowEnd = pressing_size d saved again e RowEnd
-seeking_size d saved again e PageUp = pressing_size d saved again e PageUp
-seeking_size d saved again e PageDown = pressing_size d saved again e PageDown
-seeking_size d saved again e Save = pressing_size d saved again e Save
-seeking_size d saved again e Quit = (refl, refl)
-seeking_size d saved again e Undo = pressing_size d saved again e Undo
-seeking_size d saved again e Redo = pressing_size d saved again e Redo
-seeking_size d saved again e Repaint = (refl, refl)
-seeking_size d saved again e Direction = pressing_size d saved again e Direction
-seeking_size d saved again e Mark = pressing_size d saved again e Mark
-seeking_size d saved again e Copy = (refl, refl)
-seeking_size d saved again e Cut = pressing_size d saved again e Cut
-seeking_size d saved again e Put = pressing_size d saved again e Put
-seeking_size d saved again e Find = (refl, refl)
-seeking_size d saved again e FindBack = (refl, refl)
-seeking_size d saved again e WordLeft = pressing_size d saved again e WordLeft
-seeking_size d saved again e WordRight = pressing_size d saved again e WordRight
-seeking_size d saved again e TextStart = pressing_size d saved again e TextStart
-seeking_size d saved again e TextEnd = pressing_size d saved again e TextEnd
-seeking_size d saved again e Help = pressing_size d saved again e Help
-seeking_size d saved again e (Size height width) = pressing_size d saved again e (Size height width)
+seeking_size : (d : Data) (fault : Option StoreFault) (again : Bool) (e : Editor) (key : Key) → SameSize e (after_seeking d fault again e key)
+seeking_size d fault again e (Insert c) = letter_size d e c
+seeking_size d fault again e Erase = (refl, refl)
+seeking_size d fault again e Delete = (refl, refl)
+seeking_size d fault again e Back = pressing_size d fault again e Back
+seeking_size d fault again e Forward = pressing_size d fault again e Forward
+seeking_size d fault again e Up = pressing_size d fault again e Up
+seeking_size d fault again e Down = pressing_size d fault again e Down
+seeking_size d fault again e Right = pressing_size d fault again e Right
+seeking_size d fault again e Left = pressing_size d fault again e Left
+seeking_size d fault again e RowHome = pressing_size d fault again e RowHome
+seeking_size d fault again e RowEnd = pressing_size d fault again e RowEnd
+seeking_size d fault again e PageUp = pressing_size d fault again e PageUp
+seeking_size d fault again e PageDown = pressing_size d fault again e PageDown
+seeking_size d fault again e Save = pressing_size d fault again e Save
+seeking_size d fault again e Quit = (refl, refl)
+seeking_size d fault again e Undo = pressing_size d fault again e Undo
+seeking_size d fault again e Redo = pressing_size d fault again e Redo
+seeking_size d fault again e Repaint = (refl, refl)
+seeking_size d fault again e Direction = pressing_size d fault again e Direction
+seeking_size d fault again e Mark = pressing_size d fault again e Mark
+seeking_size d fault again e Copy = (refl, refl)
+seeking_size d fault again e Cut = pressing_size d fault again e Cut
+seeking_size d fault again e Put = pressing_size d fault again e Put
+seeking_size d fault again e Find = (refl, refl)
+seeking_size d fault again e FindBack = (refl, refl)
+seeking_size d fault again e WordLeft = pressing_size d fault again e WordLeft
+seeking_size d fault again e WordRight = pressing_size d fault again e WordRight
+seeking_size d fault again e TextStart = pressing_size d fault again e TextStart
+seeking_size d fault again e TextEnd = pressing_size d fault again e TextEnd
+seeking_size d fault again e Help = pressing_size d fault again e Help
+seeking_size d fault again e (Size height width) = pressing_size d fault again e (Size height width)
+seeking_size d fault again e (Notice notice) = pressing_size d fault again e (Notice notice)
 
-any_size : (d : Data) (saved again : Bool) (seek : Seek) (e : Editor) (key : Key) → SameSize e (after_any d saved again seek e key)
-any_size d saved again Off e key = pressing_size d saved again e key
-any_size d saved again Begun e key = seeking_size d saved again e key
-any_size d saved again Typed e key = seeking_size d saved again e key
+any_size : (d : Data) (fault : Option StoreFault) (again : Bool) (seek : Seek) (e : Editor) (key : Key) → SameSize e (after_any d fault again seek e key)
+any_size d fault again Off e key = pressing_size d fault again e key
+any_size d fault again Begun e key = seeking_size d fault again e key
+any_size d fault again Typed e key = seeking_size d fault again e key
 
 -- ---- kinds of keys
 
 -- a key that is no telling keeps the editor's size
-abbrev pub IsOther : Data → Bool → Editor → Key → Type 0
-IsOther d saved e key = SameSize e (after_key d saved e key) × ((height width : ℕ) (told : Bool) → told_after height width told (Some key) ≡ told)
+abbrev pub IsOther : Data → Option StoreFault → Editor → Key → Type 0
+IsOther d fault e key = SameSize e (after_key d fault e key) × ((height width : ℕ) (told : Bool) → told_after height width told (Some key) ≡ told)
 
 abbrev pub IsTelling : Key → Type 0
 IsTelling key = (height : ℕ) × (width : ℕ) × (key ≡ Size height width)
 
-pub kind_of_key : (d : Data) (saved : Bool) (e : Editor) (key : Key) → IsOther d saved e key ⊎ IsTelling key
-kind_of_key d saved e (Insert ch) = inl (any_size d saved e.quit_before e.seek (without_message e) (Insert ch), λ h w t. refl)
-kind_of_key d saved e Erase = inl (any_size d saved e.quit_before e.seek (without_message e) Erase, λ h w t. refl)
-kind_of_key d saved e Delete = inl (any_size d saved e.quit_before e.seek (without_message e) Delete, λ h w t. refl)
-kind_of_key d saved e Back = inl (any_size d saved e.quit_before e.seek (without_message e) Back, λ h w t. refl)
-kind_of_key d saved e Forward = inl (any_size d saved e.quit_before e.seek (without_message e) Forward, λ h w t. refl)
-kind_of_key d saved e Up = inl (any_size d saved e.quit_before e.seek (without_message e) Up, λ h w t. refl)
-kind_of_key d saved e Down = inl (any_size d saved e.quit_before e.seek (without_message e) Down, λ h w t. refl)
-kind_of_key d saved e Right = inl (any_size d saved e.quit_before e.seek (without_message e) Right, λ h w t. refl)
-kind_of_key d saved e Left = inl (any_size d saved e.quit_before e.seek (without_message e) Left, λ h w t. refl)
-kind_of_key d saved e RowHome = inl (any_size d saved e.quit_before e.seek (without_message e) RowHome, λ h w t. refl)
-kind_of_key d saved e RowEnd = inl (any_size d saved e.quit_before e.seek (without_message e) RowEnd, λ h w t. refl)
-kind_of_key d saved e PageUp = inl (any_size d saved e.quit_before e.seek (without_message e) PageUp, λ h w t. refl)
-kind_of_key d saved e PageDown = inl (any_size d saved e.quit_before e.seek (without_message e) PageDown, λ h w t. refl)
-kind_of_key d saved e Save = inl (any_size d saved e.quit_before e.seek (without_message e) Save, λ h w t. refl)
-kind_of_key d saved e Quit = inl (any_size d saved e.quit_before e.seek (without_message e) Quit, λ h w t. refl)
-kind_of_key d saved e Undo = inl (any_size d saved e.quit_before e.seek (without_message e) Undo, λ h w t. refl)
-kind_of_key d saved e Redo = inl (any_size d saved e.quit_before e.seek (without_message e) Redo, λ h w t. refl)
-kind_of_key d saved e Repaint = inl (any_size d saved e.quit_before e.seek (without_message e) Repaint, λ h w t. refl)
-kind_of_key d saved e Direction = inl (any_size d saved e.quit_before e.seek (without_message e) Direction, λ h w t. refl)
-kind_of_key d saved e Mark = inl (any_size d saved e.quit_before e.seek (without_message e) Mark, λ h w t. refl)
-kind_of_key d saved e Copy = inl (any_size d saved e.quit_before e.seek (without_message e) Copy, λ h w t. refl)
-kind_of_key d saved e Cut = inl (any_size d saved e.quit_before e.seek (without_message e) Cut, λ h w t. refl)
-kind_of_key d saved e Put = inl (any_size d saved e.quit_before e.seek (without_message e) Put, λ h w t. refl)
-kind_of_key d saved e Find = inl (any_size d saved e.quit_before e.seek (without_message e) Find, λ h w t. refl)
-kind_of_key d saved e FindBack = inl (any_size d saved e.quit_before e.seek (without_message e) FindBack, λ h w t. refl)
-kind_of_key d saved e WordLeft = inl (any_size d saved e.quit_before e.seek (without_message e) WordLeft, λ h w t. refl)
-kind_of_key d saved e WordRight = inl (any_size d saved e.quit_before e.seek (without_message e) WordRight, λ h w t. refl)
-kind_of_key d saved e TextStart = inl (any_size d saved e.quit_before e.seek (without_message e) TextStart, λ h w t. refl)
-kind_of_key d saved e TextEnd = inl (any_size d saved e.quit_before e.seek (without_message e) TextEnd, λ h w t. refl)
-kind_of_key d saved e Help = inl (any_size d saved e.quit_before e.seek (without_message e) Help, λ h w t. refl)
-kind_of_key d saved e (Size height width) = inr (height, width, refl)
+pub kind_of_key : (d : Data) (fault : Option StoreFault) (e : Editor) (key : Key) → IsOther d fault e key ⊎ IsTelling key
+kind_of_key d fault e (Insert ch) = inl (any_size d fault e.quit_before e.seek (without_message e) (Insert ch), λ h w t. refl)
+kind_of_key d fault e Erase = inl (any_size d fault e.quit_before e.seek (without_message e) Erase, λ h w t. refl)
+kind_of_key d fault e Delete = inl (any_size d fault e.quit_before e.seek (without_message e) Delete, λ h w t. refl)
+kind_of_key d fault e Back = inl (any_size d fault e.quit_before e.seek (without_message e) Back, λ h w t. refl)
+kind_of_key d fault e Forward = inl (any_size d fault e.quit_before e.seek (without_message e) Forward, λ h w t. refl)
+kind_of_key d fault e Up = inl (any_size d fault e.quit_before e.seek (without_message e) Up, λ h w t. refl)
+kind_of_key d fault e Down = inl (any_size d fault e.quit_before e.seek (without_message e) Down, λ h w t. refl)
+kind_of_key d fault e Right = inl (any_size d fault e.quit_before e.seek (without_message e) Right, λ h w t. refl)
+kind_of_key d fault e Left = inl (any_size d fault e.quit_before e.seek (without_message e) Left, λ h w t. refl)
+kind_of_key d fault e RowHome = inl (any_size d fault e.quit_before e.seek (without_message e) RowHome, λ h w t. refl)
+kind_of_key d fault e RowEnd = inl (any_size d fault e.quit_before e.seek (without_message e) RowEnd, λ h w t. refl)
+kind_of_key d fault e PageUp = inl (any_size d fault e.quit_before e.seek (without_message e) PageUp, λ h w t. refl)
+kind_of_key d fault e PageDown = inl (any_size d fault e.quit_before e.seek (without_message e) PageDown, λ h w t. refl)
+kind_of_key d fault e Save = inl (any_size d fault e.quit_before e.seek (without_message e) Save, λ h w t. refl)
+kind_of_key d fault e Quit = inl (any_size d fault e.quit_before e.seek (without_message e) Quit, λ h w t. refl)
+kind_of_key d fault e Undo = inl (any_size d fault e.quit_before e.seek (without_message e) Undo, λ h w t. refl)
+kind_of_key d fault e Redo = inl (any_size d fault e.quit_before e.seek (without_message e) Redo, λ h w t. refl)
+kind_of_key d fault e Repaint = inl (any_size d fault e.quit_before e.seek (without_message e) Repaint, λ h w t. refl)
+kind_of_key d fault e Direction = inl (any_size d fault e.quit_before e.seek (without_message e) Direction, λ h w t. refl)
+kind_of_key d fault e Mark = inl (any_size d fault e.quit_before e.seek (without_message e) Mark, λ h w t. refl)
+kind_of_key d fault e Copy = inl (any_size d fault e.quit_before e.seek (without_message e) Copy, λ h w t. refl)
+kind_of_key d fault e Cut = inl (any_size d fault e.quit_before e.seek (without_message e) Cut, λ h w t. refl)
+kind_of_key d fault e Put = inl (any_size d fault e.quit_before e.seek (without_message e) Put, λ h w t. refl)
+kind_of_key d fault e Find = inl (any_size d fault e.quit_before e.seek (without_message e) Find, λ h w t. refl)
+kind_of_key d fault e FindBack = inl (any_size d fault e.quit_before e.seek (without_message e) FindBack, λ h w t. refl)
+kind_of_key d fault e WordLeft = inl (any_size d fault e.quit_before e.seek (without_message e) WordLeft, λ h w t. refl)
+kind_of_key d fault e WordRight = inl (any_size d fault e.quit_before e.seek (without_message e) WordRight, λ h w t. refl)
+kind_of_key d fault e TextStart = inl (any_size d fault e.quit_before e.seek (without_message e) TextStart, λ h w t. refl)
+kind_of_key d fault e TextEnd = inl (any_size d fault e.quit_before e.seek (without_message e) TextEnd, λ h w t. refl)
+kind_of_key d fault e Help = inl (any_size d fault e.quit_before e.seek (without_message e) Help, λ h w t. refl)
+kind_of_key d fault e (Size height width) = inr (height, width, refl)
+kind_of_key d fault e (Notice notice) = inl ((refl, refl), λ h w t. refl)
 
 -- ---- what a key leaves of a world's marks
 
@@ -196,11 +200,11 @@ known_if false told None on = tt
 known_if false told (Some p) on = (on, refl)
 
 -- a key that is no telling
-other_key : (d : Data) (saved : Bool) (w : World) (s : Session) (key : Key) → SameSize s.editor (after_key d saved s.editor key)
-    → told_after_key w (Some key) ≡ w.told → Keeps w s (session_after_key d saved s key) (told_after_key w (Some key))
-other_key d saved w s key size stays = record {
+other_key : (d : Data) (fault : Option StoreFault) (w : World) (s : Session) (key : Key) → SameSize s.editor (after_key d fault s.editor key)
+    → told_after_key w (Some key) ≡ w.told → Keeps w s (session_after_key d fault s key) (told_after_key w (Some key))
+other_key d fault w s key size stays = record {
   size = λ fits on. (let was = fits (sym stays ∙ on) in (size.0 ∙ was.0, size.1 ∙ was.1));
-  known = λ on. known_if (asks_for_whole key || (after_key d saved s.editor key).ended) w.told s.known (sym stays ∙ on);
+  known = λ on. known_if (asks_for_whole key || (after_key d fault s.editor key).ended) w.told s.known (sym stays ∙ on);
 }
 
 pub both : (a b : Bool) → a && b ≡ true → (a ≡ true) × (b ≡ true)
@@ -210,25 +214,25 @@ both false b on = absurd (cc on)
 pub same_number : (a b : ℕ) → a == b ≡ true → a ≡ b
 same_number a b on = grind (arith, nat_tests, on)
 
-size_key : (d : Data) (saved : Bool) (w : World) (s : Session) (height width : ℕ)
-    → Keeps w s (session_after_key d saved s (Size height width)) (is_window w height width)
-size_key d saved w s height width = record {
+size_key : (d : Data) (fault : Option StoreFault) (w : World) (s : Session) (height width : ℕ)
+    → Keeps w s (session_after_key d fault s (Size height width)) (is_window w height width)
+size_key d fault w s height width = record {
   size = λ fits on. (let each = both (w.height == height) (w.width == width) on in
       (sym (same_number w.height height each.0), sym (same_number w.width width each.1)));
   known = λ on. tt;
 }
 
-pub key_keeps : (d : Data) (saved : Bool) (w : World) (s : Session) (key : Key)
-    → Keeps w s (session_after_key d saved s key) (told_after_key w (Some key))
-key_keeps d saved w s key = by (kind_of_key d saved s.editor key) where
-  by : IsOther d saved s.editor key ⊎ IsTelling key → Keeps w s (session_after_key d saved s key) (told_after_key w (Some key))
-  by (inl other) = other_key d saved w s key other.0 (other.1 w.height w.width w.told)
+pub key_keeps : (d : Data) (fault : Option StoreFault) (w : World) (s : Session) (key : Key)
+    → Keeps w s (session_after_key d fault s key) (told_after_key w (Some key))
+key_keeps d fault w s key = by (kind_of_key d fault s.editor key) where
+  by : IsOther d fault s.editor key ⊎ IsTelling key → Keeps w s (session_after_key d fault s key) (told_after_key w (Some key))
+  by (inl other) = other_key d fault w s key other.0 (other.1 w.height w.width w.told)
   by (inr size) =
-      subst (λ (k : Key). Keeps w s (session_after_key d saved s k) (told_after_key w (Some k))) (sym size.2) (size_key d saved w s size.0 size.1)
+      subst (λ (k : Key). Keeps w s (session_after_key d fault s k) (told_after_key w (Some k))) (sym size.2) (size_key d fault w s size.0 size.1)
 
-any_keeps : (d : Data) (saved : Bool) (w : World) (s : Session) (key : Option Key) → Keeps w s (session_after_any d saved s key) (told_after_key w key)
-any_keeps d saved w s None = record { size = λ fits on. fits on; known = λ on. known_if false w.told s.known on }
-any_keeps d saved w s (Some key) = key_keeps d saved w s key
+any_keeps : (d : Data) (fault : Option StoreFault) (w : World) (s : Session) (key : Option Key) → Keeps w s (session_after_any d fault s key) (told_after_key w key)
+any_keeps d fault w s None = record { size = λ fits on. fits on; known = λ on. known_if false w.told s.known on }
+any_keeps d fault w s (Some key) = key_keeps d fault w s key
 
 -- ---- what a byte leaves
 
@@ -249,19 +253,19 @@ pub spent : (s : Session) (b : ℕ) → IsSpent s (after_spending s b)
 spent s b = spent_if s.editor.ended s (head_of (rest_after s.rest b))
 
 -- a byte that is applied, and not yet painted
-pub byte_keeps : (d : Data) (saved : Bool) (w : World) (b : ℕ)
-    → Keeps w w.session (unpainted_after_byte d saved w.session b) (told_after_key w (key_of_byte w.session b))
-byte_keeps d saved w b =
+pub byte_keeps : (d : Data) (fault : Option StoreFault) (w : World) (b : ℕ)
+    → Keeps w w.session (unpainted_after_byte d fault w.session b) (told_after_key w (key_of_byte w.session b))
+byte_keeps d fault w b =
     let first = spent w.session b in
-    let then_key = any_keeps d saved w (after_spending w.session b) (key_of_byte w.session b) in record {
+    let then_key = any_keeps d fault w (after_spending w.session b) (key_of_byte w.session b) in record {
       size = λ fits on. then_key.size (λ told. rw first.editor (fits told)) on;
-      known = λ on. subst (λ painted. IfSome (unpainted_after_byte d saved w.session b).known (λ p. (w.told ≡ true) × (painted ≡ Some p)))
+      known = λ on. subst (λ painted. IfSome (unpainted_after_byte d fault w.session b).known (λ p. (w.told ≡ true) × (painted ≡ Some p)))
           first.known (then_key.known on);
     }
 
-any_pending : (d : Data) (saved : Bool) (s : Session) (key : Option Key) → (session_after_any d saved s key).pending ≡ s.pending
-any_pending d saved s None = refl
-any_pending d saved s (Some key) = refl
+any_pending : (d : Data) (fault : Option StoreFault) (s : Session) (key : Option Key) → (session_after_any d fault s key).pending ≡ s.pending
+any_pending d fault s None = refl
+any_pending d fault s (Some key) = refl
 
-pub byte_pending : (d : Data) (saved : Bool) (s : Session) (b : ℕ) → (unpainted_after_byte d saved s b).pending ≡ s.pending
-byte_pending d saved s b = any_pending d saved (after_spending s b) (key_of_byte s b) ∙ (spent s b).pending
+pub byte_pending : (d : Data) (fault : Option StoreFault) (s : Session) (b : ℕ) → (unpainted_after_byte d fault s b).pending ≡ s.pending
+byte_pending d fault s b = any_pending d fault (after_spending s b) (key_of_byte s b) ∙ (spent s b).pending

@@ -6,6 +6,7 @@ use Rattle.unicode_segmentation.proofs.Computing.{unicode_segmentation}
 use Rattle.unicode_width.proofs.Computing.{unicode_width}
 use Rattle.bx_terms.specs.declared.base.Base.TheVariants.{Auto}
 use Rattle.bx_grid.specs.Terminal.{Terminal, reads}
+use Rattle.bx_store.specs.declared.store.StoreFault.{StoreFault}
 use Rattle.bx_editor.specs.Editor.{Editor}
 use Rattle.bx_editor.specs.Picture.{picture}
 use Rattle.bx_editor.proofs.Computed.{tables, columns_of}
@@ -57,11 +58,11 @@ abbrev window : Terminal
 window = unknown_terminal 1 5
 
 -- what they leave, however the terminal read meanwhile
-abbrev typed_in : World → Bool → World
-typed_in w saved = with_byte w 0x61 (after_byte tables saved w.session 0x61)
+abbrev typed_in : World → Option StoreFault → World
+typed_in w fault = with_byte w 0x61 (after_byte tables fault w.session 0x61)
 
-abbrev typed_on : World → Bool → World
-typed_on w saved = with_byte w 0x62 (after_byte tables saved w.session 0x62)
+abbrev typed_on : World → Option StoreFault → World
+typed_on w fault = with_byte w 0x62 (after_byte tables fault w.session 0x62)
 
 abbrev in_one_turn : ℕ → ℕ → ℕ → Schedule
 in_one_turn n m k = (Send n, ok) ∷ (Byte 0x61, ok) ∷ (Byte 0x62, ok) ∷ (Send m, ok) ∷ (Read k, ok) ∷ []
@@ -72,10 +73,10 @@ record ShowsBoth (s : Session) : Type 0 where
   pub width : s.editor.width ≡ 5
   pub columns : (picture tables s.editor s.top).columns ≡ columns_of (codes "ab   ")
 
-played_both : (n m k : ℕ) (saved saved' : Bool)
-    → ShowsBoth (after_read (after_send (typed_on (typed_in (after_send (begins_at (begun tables empty) window) n) saved) saved') m) k).session
+played_both : (n m k : ℕ) (fault fault' : Option StoreFault)
+    → ShowsBoth (after_read (after_send (typed_on (typed_in (after_send (begins_at (begun tables empty) window) n) fault) fault') m) k).session
 unfolding unicode_segmentation unicode_width digits
-played_both n m k saved saved' = record { height = refl; width = refl; columns = refl }
+played_both n m k fault fault' = record { height = refl; width = refl; columns = refl }
 
 both_shown : (n m k : ℕ) (store store' : StoreState) (new : World)
     → PlaysTo tables (begins_at (begun tables empty) window) store (in_one_turn n m k) new store' → ShowsBoth new.session
@@ -84,15 +85,15 @@ both_shown n m k store store' new p =
     let r = q.3 in
     let u = r.3 in
     let v = u.3 in
-    let saved = q.2.0 in
-    let saved' = r.2.0 in
-    let first : q.0 ≡ typed_in p.0 saved = q.2.2 in
-    let second : r.0 ≡ typed_on q.0 saved' = r.2.2 in
-    let is : new ≡ after_read (after_send (typed_on (typed_in (after_send (begins_at (begun tables empty) window) n) saved) saved') m) k =
+    let fault = q.2.0 in
+    let fault' = r.2.0 in
+    let first : q.0 ≡ typed_in p.0 fault = q.2.2 in
+    let second : r.0 ≡ typed_on q.0 fault' = r.2.2 in
+    let is : new ≡ after_read (after_send (typed_on (typed_in (after_send (begins_at (begun tables empty) window) n) fault) fault') m) k =
     v.3.0 ∙ v.2.0.1
     ∙ ap (λ (w : World). after_read w k) (u.2.0 ∙ ap (λ (w : World). after_send w m)
-    (second ∙ ap (λ (w : World). typed_on w saved') (first ∙ ap (λ (w : World). typed_in w saved) p.2.0))) in
-    subst (λ (w : World). ShowsBoth w.session) (sym is) (played_both n m k saved saved')
+    (second ∙ ap (λ (w : World). typed_on w fault') (first ∙ ap (λ (w : World). typed_in w fault) p.2.0))) in
+    subst (λ (w : World). ShowsBoth w.session) (sym is) (played_both n m k fault fault')
 
 pub typed_letters_are_shown : HeadlineOfRuns
     → (s : Session) (store store' : StoreState) (reader reader' writer writer' : Option (List ℕ)) (written last : List ℕ) (all : Session)
@@ -151,10 +152,10 @@ record ShowsTold (w : World) : Type 0 where
   pub both : ShowsBoth w.session
   pub told : w.told ≡ true
 
-played_between : (n m k : ℕ) (saved saved' : Bool)
-    → ShowsTold (after_read (after_send (typed_on (read_first (typed_in (after_send (begins_at (begun tables empty) window) n) saved)) saved') m) k)
+played_between : (n m k : ℕ) (fault fault' : Option StoreFault)
+    → ShowsTold (after_read (after_send (typed_on (read_first (typed_in (after_send (begins_at (begun tables empty) window) n) fault)) fault') m) k)
 unfolding unicode_segmentation unicode_width digits
-played_between n m k saved saved' = record { both = record { height = refl; width = refl; columns = refl }; told = refl }
+played_between n m k fault fault' = record { both = record { height = refl; width = refl; columns = refl }; told = refl }
 
 told_shown : (n m k : ℕ) (store store' : StoreState) (new : World)
     → PlaysTo tables (begins_at (begun tables empty) window) store (read_between n m k) new store' → ShowsTold new
@@ -164,15 +165,15 @@ told_shown n m k store store' new p =
     let r = a.3 in
     let u = r.3 in
     let v = u.3 in
-    let saved = q.2.0 in
-    let saved' = r.2.0 in
-    let first : q.0 ≡ typed_in p.0 saved = q.2.2 in
-    let second : r.0 ≡ typed_on a.0 saved' = r.2.2 in
-    let is : new ≡ after_read (after_send (typed_on (read_first (typed_in (after_send (begins_at (begun tables empty) window) n) saved)) saved') m) k =
+    let fault = q.2.0 in
+    let fault' = r.2.0 in
+    let first : q.0 ≡ typed_in p.0 fault = q.2.2 in
+    let second : r.0 ≡ typed_on a.0 fault' = r.2.2 in
+    let is : new ≡ after_read (after_send (typed_on (read_first (typed_in (after_send (begins_at (begun tables empty) window) n) fault)) fault') m) k =
     v.3.0 ∙ v.2.0.1
     ∙ ap (λ (w : World). after_read w k) (u.2.0 ∙ ap (λ (w : World). after_send w m)
-    (second ∙ ap (λ (w : World). typed_on w saved') (a.2.0.1 ∙ ap read_first (first ∙ ap (λ (w : World). typed_in w saved) p.2.0)))) in
-    subst ShowsTold (sym is) (played_between n m k saved saved')
+    (second ∙ ap (λ (w : World). typed_on w fault') (a.2.0.1 ∙ ap read_first (first ∙ ap (λ (w : World). typed_in w fault) p.2.0)))) in
+    subst ShowsTold (sym is) (played_between n m k fault fault')
 
 pub letters_are_shown_as_they_are_read : HeadlineInChangingWindows
     → (s : Session) (store store' : StoreState) (reader reader' writer writer' : Option (List ℕ)) (written last : List ℕ) (all : Session) (k : ℕ)

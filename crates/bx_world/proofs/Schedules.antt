@@ -8,6 +8,7 @@ use Rattle.std.proofs.lemmas.List.{length-append}
 use Rattle.bx_grid.specs.Picture.{Shows}
 use Rattle.bx_grid.specs.Terminal.{Terminal, reads}
 use Rattle.bx_grid.specs.declared.error.GridError.TheVariants as grid
+use Rattle.bx_store.specs.declared.store.StoreFault.{StoreFault}
 use Rattle.bx_ucd.specs.Data.{Data}
 use Rattle.bx_editor.specs.Picture.{picture}
 use Rattle.bx_session.specs.Session.{Session, after_byte, after_spending, with_painting, unpainted_after_byte, is_idle, key_of_byte}
@@ -57,17 +58,17 @@ idle_owes key false idle = refl
 idle_owes true true idle = absurd (cc idle)
 idle_owes false true idle = absurd (cc idle)
 
-byte_owes : (d : Data) (saved : Bool) (s : Session) (b : ℕ) → (after_byte d saved s b).painting_owed ≡ false
-byte_owes d saved s b = by_idle (is_idle s b) refl where
+byte_owes : (d : Data) (fault : Option StoreFault) (s : Session) (b : ℕ) → (after_byte d fault s b).painting_owed ≡ false
+byte_owes d fault s b = by_idle (is_idle s b) refl where
   by_idle : (idle : Bool) → is_idle s b ≡ idle
-      → (if idle then after_spending s b else with_painting d (unpainted_after_byte d saved s b)).painting_owed ≡ false
+      → (if idle then after_spending s b else with_painting d (unpainted_after_byte d fault s b)).painting_owed ≡ false
   by_idle true idle = (spent s b).owed ∙ idle_owes (is_some (key_of_byte s b)) s.painting_owed idle
   by_idle false other = refl
 
-byte_accepted : (d : Data) (saved : Bool) (old new : World) (b : ℕ) (answer : Result (Unit {0}) StepFault) → AfterByteStep d saved old b answer new
+byte_accepted : (d : Data) (fault : Option StoreFault) (old new : World) (b : ℕ) (answer : Result (Unit {0}) StepFault) → AfterByteStep d fault old b answer new
     → accepted_after true (Byte b) answer ≡ true → new.session.painting_owed ≡ false
-byte_accepted d saved old new b (Ok done) is on = ap (λ (w : World). w.session.painting_owed) is ∙ byte_owes d saved old.session b
-byte_accepted d saved old new b (Err fault) is on = absurd (cc on)
+byte_accepted d fault old new b (Ok done) is on = ap (λ (w : World). w.session.painting_owed) is ∙ byte_owes d fault old.session b
+byte_accepted d fault old new b (Err why) is on = absurd (cc on)
 
 told_accepted : (d : Data) (old new : World) (height width : ℕ) (answer : Result (Unit {0}) StepFault) → AfterToldStep d old height width answer new
     → accepted_after true (Told height width) answer ≡ true → new.session.painting_owed ≡ false

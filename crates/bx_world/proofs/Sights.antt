@@ -8,6 +8,7 @@ use Rattle.bx_grid.specs.declared.error.GridError.TheVariants as grid
 use Rattle.bx_grid.specs.Picture.{Shows}
 use Rattle.bx_grid.specs.Terminal.{Terminal, reads}
 use Rattle.bx_grid.proofs.Reading.{reads-append}
+use Rattle.bx_store.specs.declared.store.StoreFault.{StoreFault}
 use Rattle.bx_ucd.specs.Data.{Data}
 use Rattle.bx_editor.specs.Picture.{picture, next_top}
 use Rattle.bx_session.specs.declared.error.Refused.TheVariants as refused
@@ -41,31 +42,31 @@ no_bytes old new pending line screen = record {
   screen = screen;
 }
 
-queued_by_byte : (d : Data) (saved : Bool) (s : Session) (b : ℕ) → (bytes : List ℕ) × ((after_byte d saved s b).pending ≡ s.pending ++ bytes)
-queued_by_byte d saved s b = by_idle (is_idle s b) where
+queued_by_byte : (d : Data) (fault : Option StoreFault) (s : Session) (b : ℕ) → (bytes : List ℕ) × ((after_byte d fault s b).pending ≡ s.pending ++ bytes)
+queued_by_byte d fault s b = by_idle (is_idle s b) where
   u : Session
-  u = unpainted_after_byte d saved s b
+  u = unpainted_after_byte d fault s b
 
   by_idle : (idle : Bool) → (bytes : List ℕ) × ((if idle then after_spending s b else with_painting d u).pending ≡ s.pending ++ bytes)
   by_idle true = ([], (spent s b).pending ∙ sym (append-nil s.pending))
   by_idle false =
       let bytes : List ℕ = painting u.known (picture d u.editor (next_top d u.editor u.top)) in
-      (bytes, ap (λ xs. xs ++ bytes) (byte_pending d saved s b))
+      (bytes, ap (λ xs. xs ++ bytes) (byte_pending d fault s b))
 
-byte_queues : (d : Data) (saved : Bool) (old new : World) (b : ℕ) (answer : Result (Unit {0}) StepFault)
-    → AfterByteStep d saved old b answer new → Queues old new
-byte_queues d saved old new b (Ok done) is =
-    let queued = queued_by_byte d saved old.session b in
+byte_queues : (d : Data) (fault : Option StoreFault) (old new : World) (b : ℕ) (answer : Result (Unit {0}) StepFault)
+    → AfterByteStep d fault old b answer new → Queues old new
+byte_queues d fault old new b (Ok done) is =
+    let queued = queued_by_byte d fault old.session b in
     subst (Queues old) (sym is) (record { bytes = queued.0; pending = queued.1; line = refl; screen = refl })
-byte_queues d saved old new b (Err (faults.Session refused.Paint)) is =
-    no_bytes old new (ap (λ (w : World). w.session.pending) is.0 ∙ byte_pending d saved old.session b) (ap (λ (w : World). w.line) is.0)
+byte_queues d fault old new b (Err (faults.Session refused.Paint)) is =
+    no_bytes old new (ap (λ (w : World). w.session.pending) is.0 ∙ byte_pending d fault old.session b) (ap (λ (w : World). w.line) is.0)
     (ap (λ (w : World). w.screen) is.0)
-byte_queues d saved old new b (Err (faults.Session refused.Edit)) is =
+byte_queues d fault old new b (Err (faults.Session refused.Edit)) is =
     no_bytes old new (ap (λ (w : World). w.session.pending) is.0 ∙ (spent old.session b).pending) (ap (λ (w : World). w.line) is.0)
     (ap (λ (w : World). w.screen) is.0)
-byte_queues d saved old new b (Err (faults.Session refused.Size)) is = absurd is
-byte_queues d saved old new b (Err (faults.Screen fault)) is = absurd is
-byte_queues d saved old new b (Err faults.Line) is = absurd is
+byte_queues d fault old new b (Err (faults.Session refused.Size)) is = absurd is
+byte_queues d fault old new b (Err (faults.Screen _)) is = absurd is
+byte_queues d fault old new b (Err faults.Line) is = absurd is
 
 told_queues : (d : Data) (old new : World) (height width : ℕ) (answer : Result (Unit {0}) StepFault)
     → AfterToldStep d old height width answer new → Queues old new

@@ -1,10 +1,11 @@
 -- The events of a schedule: input bytes with the keys that they complete, and told sizes.
-use Rattle.std.specs.Prelude.{◌≡◌, ◌≢◌, ℕ, suc, Bool, true, false, not, ◌&&◌, List, [], ◌∷◌, ◌++◌, Option, Some, None}
+use Rattle.std.specs.Prelude.{◌≡◌, ◌≢◌, ℕ, suc, Bool, true, false, ◌&&◌, is_some, List, [], ◌∷◌, ◌++◌, Option, Some, None}
 use Rattle.std.specs.Prelude.{option_to_list, Result, Err, if◌then◌else◌}
 use Rattle.bx_keys.specs.declared.key.Key.{Key}
 use Rattle.bx_keys.specs.Keys.{decoding}
 use Rattle.bx_grid.specs.Picture.{is_size}
-use Rattle.bx_store.specs.Stores.{one_more}
+use Rattle.bx_store.specs.Stores.{with_fault}
+use Rattle.bx_store.specs.declared.store.StoreFault.{StoreFault}
 use Rattle.bx_ucd.specs.Data.{Data}
 use Rattle.bx_editor.specs.Editor.{Editor, with_size}
 use Rattle.bx_editor.specs.Keys.{after_key}
@@ -17,33 +18,33 @@ use Rattle.bx_world.specs.declared.step.StepFault.TheVariants as faults
 
 pub data Event : Type 0 where
   -- a byte of input before the session's end, with the key that it completes, if any; whether the key was applied, and
-  -- whether its Save succeeded
-  Input : (byte : ℕ) (key : Option Key) (applied saved : Bool) → Event
+  -- the fault of its Save, none if that succeeded
+  Input : (byte : ℕ) (key : Option Key) (applied : Bool) (fault : Option StoreFault) → Event
   -- the session was told a size, in rows and columns
   Telling : (height width : ℕ) → Event
 
 -- ---- the effect of events on an editor and a store
 
 -- a key that was refused changes nothing
-abbrev pub after_input : Data → Bool → Bool → Editor → Option Key → Editor
-after_input d applied saved e None = e
-after_input d applied saved e (Some key) = if applied then after_key d saved e key else e
+abbrev pub after_input : Data → Bool → Option StoreFault → Editor → Option Key → Editor
+after_input d applied fault e None = e
+after_input d applied fault e (Some key) = if applied then after_key d fault e key else e
 
 abbrev pub after_event : Data → Editor → Event → Editor
-after_event d e (Input byte key applied saved) = after_input d applied saved e key
+after_event d e (Input byte key applied fault) = after_input d applied fault e key
 after_event d e (Telling height width) = with_size e height width
 
 abbrev pub after_events : Data → Editor → List Event → Editor
 after_events d e [] = e
 after_events d e (event ∷ more) = after_events d (after_event d e event) more
 
--- a successful save stores the text; after a failed one the store counts one more failed call
-abbrev pub after_save_of : List ℕ → Bool → StoreState → StoreState
-after_save_of text true store = with_text text store
-after_save_of text false store = record store { failures = one_more store.failures }
+-- a successful save stores the text; after a failed one the store counts one more failed call, with its fault
+abbrev pub after_save_of : List ℕ → Option StoreFault → StoreState → StoreState
+after_save_of text None store = with_text text store
+after_save_of text (Some fault) store = record store { faults = with_fault fault store.faults }
 
 abbrev pub stored_after : Editor → StoreState → Event → StoreState
-stored_after e store (Input byte key applied saved) = if is_save_key key then after_save_of e.content.text saved store else store
+stored_after e store (Input byte key applied fault) = if is_save_key key then after_save_of e.content.text fault store else store
 stored_after e store (Telling height width) = store
 
 -- each save with the text at that moment
@@ -53,19 +54,19 @@ stored_after_all d e store (event ∷ more) = stored_after_all d (after_event d 
 
 abbrev pub failed_saves : List Event → ℕ
 failed_saves [] = 0
-failed_saves (Input byte key applied saved ∷ more) = if is_save_key key && not saved then suc (failed_saves more) else failed_saves more
+failed_saves (Input byte key applied fault ∷ more) = if is_save_key key && is_some fault then suc (failed_saves more) else failed_saves more
 failed_saves (Telling height width ∷ more) = failed_saves more
 
 -- ---- the input of events, and its keys
 
 abbrev pub input_of : List Event → List ℕ
 input_of [] = []
-input_of (Input byte key applied saved ∷ more) = byte ∷ input_of more
+input_of (Input byte key applied fault ∷ more) = byte ∷ input_of more
 input_of (Telling height width ∷ more) = input_of more
 
 abbrev pub keys_of : List Event → List Key
 keys_of [] = []
-keys_of (Input byte key applied saved ∷ more) = option_to_list key ++ keys_of more
+keys_of (Input byte key applied fault ∷ more) = option_to_list key ++ keys_of more
 keys_of (Telling height width ∷ more) = keys_of more
 
 -- the bytes of input of a schedule
@@ -101,7 +102,7 @@ is_applied _ = true
 -- the events of a byte, given whether the session has ended: none after the end
 abbrev pub BringsByte : {A : Type 0} → Bool → ℕ → Result A StepFault → List Event → Type 0
 BringsByte true b answer events = events ≡ []
-BringsByte false b answer events = (key : Option Key) × (saved : Bool) × (events ≡ Input b key (is_applied answer) saved ∷ [])
+BringsByte false b answer events = (key : Option Key) × (fault : Option StoreFault) × (events ≡ Input b key (is_applied answer) fault ∷ [])
 
 -- the events of a step; a told size outside the limits gives none
 abbrev pub Brings : {A : Type 0} → Bool → Step → Result A StepFault → List Event → Type 0

@@ -27,7 +27,7 @@ pub record Follows {A : Type 0} (d : Data) (old : World) (store : StoreState) (s
   pub editor : new.session.editor ≡ after_events d old.session.editor events
   pub stored : store' ≡ stored_after_all d old.session.editor store events
   -- the store counts each failed save, up to the largest u64
-  pub failures : store'.failures < greatest → store'.failures ≡ store.failures + failed_saves events
+  pub failures : store'.faults.count < greatest → store'.faults.count ≡ store.faults.count + failed_saves events
 
 -- The headline, for a session's first editor state and the bytes of a journal, if any. The events are the bytes up to the
 -- session's end and the told sizes, each with its answer. The journal's keys and then theirs are the keys that the input
@@ -42,7 +42,7 @@ pub record Headline {A : Type 0} (d : Data) (start : Editor) (journal : List ℕ
   pub keys : HasKeysOfAll journal events
   pub editor : new.session.editor ≡ after_events d start events
   pub stored : store' ≡ stored_after_all d start store events
-  pub failures : store'.failures < greatest → store'.failures ≡ store.failures + failed_saves events
+  pub failures : store'.faults.count < greatest → store'.faults.count ≡ store.faults.count + failed_saves events
   pub shows : is_last_accepted true schedule ≡ true → new.told ≡ true → new.line ≡ [] → new.session.pending ≡ []
       → IfSome new.screen (λ t. Shows t (picture d (after_events d start events) new.session.top))
   -- the terminal is there unless it ran out of memory

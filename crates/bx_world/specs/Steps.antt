@@ -1,8 +1,9 @@
 -- The world after a step, by its answer, and after a list of steps.
-use Rattle.std.specs.Prelude.{◌≡◌, ◌≢◌, ℕ, Bool, true, false, List, [], ◌∷◌, take, drop, Result, Ok, Err, IsSome}
+use Rattle.std.specs.Prelude.{◌≡◌, ◌≢◌, ℕ, Bool, true, false, List, [], ◌∷◌, take, drop, Option, Result, Ok, Err, IsSome}
 use Rattle.std.specs.List.{AllByRecursion}
 use Rattle.bx_grid.specs.Picture.{is_size}
 use Rattle.bx_grid.specs.declared.error.GridError.TheVariants as grid
+use Rattle.bx_store.specs.declared.store.StoreFault.{StoreFault}
 use Rattle.bx_ucd.specs.Data.{Data}
 use Rattle.bx_session.specs.declared.error.Refused.TheVariants as refused
 use Rattle.bx_session.specs.Session.{key_of_byte, after_spending, after_byte, owing_after_byte, is_idle, after_told, owing_after_told}
@@ -15,16 +16,16 @@ use Rattle.bx_world.specs.World.{World, with_byte, with_told_size, after_window,
 
 -- ---- one step
 
--- a byte; `saved`: a Save succeeded
-abbrev pub AfterByteStep : {A : Type 0} → Data → Bool → World → ℕ → Result A StepFault → World → Type 0
-AfterByteStep d saved old b (Ok _) new = new ≡ with_byte old b (after_byte d saved old.session b)
-AfterByteStep d saved old b (Err (faults.Session refused.Paint)) new =
-    (new ≡ with_byte old b (owing_after_byte d saved old.session b)) × (is_idle old.session b ≡ false)
-AfterByteStep d saved old b (Err (faults.Session refused.Edit)) new =
+-- a byte; `fault`: that of a Save, none if it succeeded
+abbrev pub AfterByteStep : {A : Type 0} → Data → Option StoreFault → World → ℕ → Result A StepFault → World → Type 0
+AfterByteStep d fault old b (Ok _) new = new ≡ with_byte old b (after_byte d fault old.session b)
+AfterByteStep d fault old b (Err (faults.Session refused.Paint)) new =
+    (new ≡ with_byte old b (owing_after_byte d fault old.session b)) × (is_idle old.session b ≡ false)
+AfterByteStep d fault old b (Err (faults.Session refused.Edit)) new =
     (new ≡ record old { session = after_spending old.session b }) × (is_edit_or_move_key (key_of_byte old.session b) ≡ true)
-AfterByteStep d saved old b (Err (faults.Session refused.Size)) new = ⊥
-AfterByteStep d saved old b (Err (faults.Screen fault)) new = ⊥
-AfterByteStep d saved old b (Err faults.Line) new = ⊥
+AfterByteStep d fault old b (Err (faults.Session refused.Size)) new = ⊥
+AfterByteStep d fault old b (Err (faults.Screen _)) new = ⊥
+AfterByteStep d fault old b (Err faults.Line) new = ⊥
 
 abbrev pub AfterToldStep : {A : Type 0} → Data → World → ℕ → ℕ → Result A StepFault → World → Type 0
 AfterToldStep d old height width (Ok _) new =
@@ -66,7 +67,7 @@ AfterReadStep old count (Err faults.Line) new = ⊥
 -- a step with its answer, world and store; only a byte changes the store
 abbrev pub StepsTo : {A : Type 0} → Data → World → StoreState → Step → Result A StepFault → World → StoreState → Type 0
 StepsTo d old store (Byte b) answer new store' =
-    (saved : Bool) × StoreAfter (is_save_byte old.session b) saved old.session.editor.content.text store store' × AfterByteStep d saved old b answer new
+    (fault : Option StoreFault) × StoreAfter (is_save_byte old.session b) fault old.session.editor.content.text store store' × AfterByteStep d fault old b answer new
 StepsTo d old store (Told height width) answer new store' = AfterToldStep d old height width answer new × (store' ≡ store)
 StepsTo d old store (Window height width) answer new store' = AfterWindowStep old height width answer new × (store' ≡ store)
 StepsTo d old store (Send count) answer new store' = AfterSendStep old count answer new × (store' ≡ store)

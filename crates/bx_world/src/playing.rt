@@ -24,8 +24,8 @@ impl<D: BidiData + Drop> World<D> {
     )
         requires empty { answers.old.items ≡ [] }
         requires room { length steps.now ≤ vec_capacity answers.old }
-        ensures plays { PlaysTo (D.data self.old.tables) self.old.world (store_state S.contents S.failure_count store.old)
-            (zip steps.now answers.new.items) self.new.world (store_state S.contents S.failure_count store.new) }
+        ensures plays { PlaysTo (D.data self.old.tables) self.old.world (store_state S.contents S.faults store.old)
+            (zip steps.now answers.new.items) self.new.world (store_state S.contents S.faults store.new) }
         ensures count { length answers.new.items ≡ length steps.now }
         ensures tables { self.new.tables ≡ self.old.tables }
     {
@@ -47,23 +47,23 @@ impl<D: BidiData + Drop> World<D> {
         store: &mut S,
     ) -> Result<Vec<Result<(), StepFault>>, StepFault>
         ensures plays { IfOk result (λ answers. PlaysTo (D.data self.old.tables) self.old.world
-            (store_state S.contents S.failure_count store.old) (zip steps.now answers.items) self.new.world
-            (store_state S.contents S.failure_count store.new)) }
+            (store_state S.contents S.faults store.old) (zip steps.now answers.items) self.new.world
+            (store_state S.contents S.faults store.new)) }
         ensures count { IfOk result (λ answers. length answers.items ≡ length steps.now) }
         ensures tables { self.new.tables ≡ self.old.tables }
 
         // The user's input and its effects.
         ensures headline { IfOk result (λ answers. HeadlineFromOpening (D.data self.old.tables) self.old.world
-            (store_state S.contents S.failure_count store.old) (zip steps.now answers.items) self.new.world
-            (store_state S.contents S.failure_count store.new)) }
+            (store_state S.contents S.faults store.old) (zip steps.now answers.items) self.new.world
+            (store_state S.contents S.faults store.new)) }
         ensures follows { IfOk result (λ answers. (events : List Event) × Follows (D.data self.old.tables) self.old.world
-            (store_state S.contents S.failure_count store.old) (zip steps.now answers.items) self.new.world
-            (store_state S.contents S.failure_count store.new) events) }
+            (store_state S.contents S.faults store.old) (zip steps.now answers.items) self.new.world
+            (store_state S.contents S.faults store.new) events) }
 
         // The picture seen, also in the middle of a schedule.
         ensures seen { IfOk result (λ answers. (read : List ℕ) × PlaysReading (D.data self.old.tables) self.old.world
-            (store_state S.contents S.failure_count store.old) (zip steps.now answers.items) self.new.world
-            (store_state S.contents S.failure_count store.new) read
+            (store_state S.contents S.faults store.old) (zip steps.now answers.items) self.new.world
+            (store_state S.contents S.faults store.new) read
             × SeesPromised (D.data self.old.tables) self.old.world (zip steps.now answers.items) read self.new.world) }
         ensures shows { IfOk result (λ answers. ShowsWhenRead (is_last_accepted (not self.old.world.session.painting_owed) (zip steps.now answers.items))
             (D.data self.new.tables) self.new.world) }

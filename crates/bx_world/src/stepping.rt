@@ -1,9 +1,10 @@
 //! One step of the world.
 
-ghost use Rattle.std.specs.Prelude.{◌≡◌, ◌≢◌, ◌≤◌, ◌++◌, ◌==◌, ◌&&◌, [], true, false, Bool, IsSome, OnErr, OnOk, drop, length, option_map, take};
+ghost use Rattle.std.specs.Prelude.{◌≡◌, ◌≢◌, ◌≤◌, ◌++◌, ◌==◌, ◌&&◌, [], true, false, Option, IsSome, OnErr, OnOk, drop, length, option_map, take};
 ghost use Rattle.bx_grid.specs.Terminal.{reads};
 ghost use Rattle.bx_session.specs.Saving.{StoreAfter, is_save_byte, store_state};
 ghost use Rattle.bx_session.specs.Session.{key_of_byte};
+ghost use Rattle.bx_store.specs.declared.store.StoreFault.{StoreFault};
 ghost use Rattle.bx_world.specs.Answers as answers;
 ghost use Rattle.bx_world.specs.Showing.{StaysWhole, WillShow};
 ghost use Rattle.bx_world.specs.Steps.{AfterByteStep, AfterReadStep, AfterSendStep, AfterToldStep, AfterWindowStep, StepsTo};
@@ -121,10 +122,10 @@ fn read_some(screen: &mut Screen, line: &mut Vec<u8>, count: usize) -> Result<()
 impl<D: BidiData + Drop> World<D> {
     /// Feeds a byte of input to the session.
     fn type_byte<S: Store>(&mut self, byte: u8, store: &mut S) -> Result<(), StepFault>
-        ensures step { (saved : Bool)
-            × StoreAfter (is_save_byte self.old.world.session byte) saved self.old.world.session.editor.content.text
-            (store_state S.contents S.failure_count store.old) (store_state S.contents S.failure_count store.new)
-            × AfterByteStep (D.data self.old.tables) saved self.old.world byte result self.new.world }
+        ensures step { (fault : Option StoreFault)
+            × StoreAfter (is_save_byte self.old.world.session byte) fault self.old.world.session.editor.content.text
+            (store_state S.contents S.faults store.old) (store_state S.contents S.faults store.new)
+            × AfterByteStep (D.data self.old.tables) fault self.old.world byte result self.new.world }
         ensures tables { self.new.tables ≡ self.old.tables }
     {
         let told = is_told_after(&self.session, self.height, self.width, self.told, byte);
@@ -181,8 +182,8 @@ impl<D: BidiData + Drop> World<D> {
     }
     /// Takes a step.
     fn answer<S: Store>(&mut self, step: Step, store: &mut S) -> Result<(), StepFault>
-        ensures steps { StepsTo (D.data self.old.tables) self.old.world (store_state S.contents S.failure_count store.old) step result
-            self.new.world (store_state S.contents S.failure_count store.new) }
+        ensures steps { StepsTo (D.data self.old.tables) self.old.world (store_state S.contents S.faults store.old) step result
+            self.new.world (store_state S.contents S.faults store.new) }
         ensures tables { self.new.tables ≡ self.old.tables }
     {
         match step {
@@ -200,8 +201,8 @@ impl<D: BidiData + Drop> World<D> {
     /// 500, or memory ran out in the terminal, now or earlier; `Line` if there is no memory for the line, and no byte was
     /// moved.
     pub fn step<S: Store>(&mut self, step: Step, store: &mut S) -> Result<(), StepFault>
-        ensures steps { StepsTo (D.data self.old.tables) self.old.world (store_state S.contents S.failure_count store.old) step result
-            self.new.world (store_state S.contents S.failure_count store.new) }
+        ensures steps { StepsTo (D.data self.old.tables) self.old.world (store_state S.contents S.faults store.old) step result
+            self.new.world (store_state S.contents S.faults store.new) }
         ensures tables { self.new.tables ≡ self.old.tables }
         ensures shows { WillShow (D.data self.new.tables) self.new.world }
         ensures whole { StaysWhole self.new.world }

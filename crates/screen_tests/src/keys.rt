@@ -11,7 +11,7 @@ use std::process::Abort;
 use std::test::Fail;
 use vectors::VECTORS;
 
-/// A key's name; an insert and a size have numbers after it.
+/// A key's name; an insert and a size have numbers after it, a notice its kind.
 fn name_of(key: Key) -> &'static str {
     match key {
         Key::Insert(_) => "insert",
@@ -45,14 +45,16 @@ fn name_of(key: Key) -> &'static str {
         Key::TextStart => "text_start",
         Key::TextEnd => "text_end",
         Key::Help => "help",
+        Key::Notice(_) => "notice",
     }
 }
 
-/// Appends a key's numbers.
+/// Appends a key's numbers, or its kind.
 fn write_numbers(words: &mut String, alloc: Global, key: Key) -> Result<(), AllocError> {
     let numbers = match key {
         Key::Insert(c) => format!(in alloc; "/{:04X}", c as u32)?,
         Key::Size(rows, columns) => format!(in alloc; "/{rows}/{columns}")?,
+        Key::Notice(notice) => format!(in alloc; "/{notice:?}")?,
         _ => String::new(alloc),
     };
     words.push_str(numbers.as_str())
@@ -195,6 +197,24 @@ fn numbers_from_70_to_80_have_keys(rt: HostRuntime) -> Result<(), Fail> {
             (b"\x1B[78~\x1B[79~\x1B[80~", "text_start text_end help"),
             (b"\x1B[69~\x1B[81~\x1B[7~\x1B[070~", ""),
             (b"\x1B[72;1~\x1B[72 ~\x1B[72^", ""),
+        ],
+    )
+}
+
+#[test]
+fn numbers_behind_a_greater_sign_are_notices(rt: HostRuntime) -> Result<(), Fail> {
+    keys_are(
+        &rt,
+        rt.alloc(),
+        &[
+            (b"\x1B[>1~\x1B[>2~", "notice/NoSpace notice/FolderGone"),
+            (b"\x1B[>3~\x1B[>4~", "notice/NotPermitted notice/ReadOnly"),
+            (b"\x1B[>5~\x1B[>6~", "notice/Unkept notice/KeptAgain"),
+            (
+                b"\x1B[>7~\x1B[>8~",
+                "notice/Recovered notice/RecoveredAside",
+            ),
+            (b"\x1B[>9~\x1B[>0~\x1B[>1a", "notice/InPlace"),
         ],
     )
 }

@@ -24,7 +24,7 @@ fn faults_by_their_lines(rt: HostRuntime) -> Result<(), Fail> {
         ProgramFault::Run(RunFault::WriteFault),
         ProgramFault::Run(RunFault::ReadLimit),
         ProgramFault::from(Refused::Paint),
-        ProgramFault::from(StoreFault),
+        ProgramFault::from(StoreFault { cause: None }),
         ProgramFault::Unsaved,
         ProgramFault::Unwritten,
         ProgramFault::Untold,

@@ -7,7 +7,7 @@ use Rattle.bx_session.proofs.keeping.keep_and_feed.Given as goal
 
 abbrev pub invariant-parts : goal.invariant-parts
 invariant-parts g l =
-    let store = store_state g.S.Store.contents g.S.Store.failure_count in
+    let store = store_state g.S.Store.contents g.S.Store.faults in
     ((answered : List ByteAnswer) × (parts : List (List ℕ))
     × FeedsAll (g.D.BidiData.data l.fn.session.tables) l.fn.session.session (store l.fn.store) answered l.session.session (store l.store)
     × (l.fn.bytes ≡ bytes_of answered ++ l.rest)

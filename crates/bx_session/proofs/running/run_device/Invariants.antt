@@ -6,7 +6,7 @@ use Rattle.bx_session.proofs.running.run_device.Given as goal
 
 abbrev pub invariant-reads : goal.invariant-reads
 invariant-reads g l =
-    let store = store_state g.S.Store.contents g.S.Store.failure_count in
+    let store = store_state g.S.Store.contents g.S.Store.faults in
     (logged : HasLogged g.V.Device.did (g.D.BidiData.data l.fn.session.tables) l.fn.limit (Ok Quit) l.fn.session.session l.session.session
     (store l.fn.store) (store l.store) l.fn.device l.device)
     × (length logged.turns ≡ l.read)

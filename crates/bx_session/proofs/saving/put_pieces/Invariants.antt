@@ -9,4 +9,4 @@ invariant-loop-piece g l =
     × (g.S.Store.has_draft l.store ≡ true)
     × (with_bytes l.piece-iterator (g.S.Store.draft l.store) ≡ with_bytes l.fn.pieces (g.S.Store.draft l.fn.store))
     × (g.S.Store.contents l.store ≡ g.S.Store.contents l.fn.store)
-    × (g.S.Store.failure_count l.store ≡ g.S.Store.failure_count l.fn.store)
+    × (g.S.Store.faults l.store ≡ g.S.Store.faults l.fn.store)

@@ -1,5 +1,6 @@
+use Rattle.std.proofs.Common.{Option, subst, ap, ◌∙◌}
+use Rattle.bx_store.specs.declared.store.StoreFault.{StoreFault}
 use Rattle.bx_ucd.specs.Data.{Data}
-use Rattle.std.proofs.Common.{Bool, subst, ap, ◌∙◌}
 use Rattle.bx_session.specs.Saving.{StoreAfter, is_save_byte, store_state}
 use Rattle.bx_world.specs.Answers.{mark_after}
 use Rattle.bx_world.specs.Steps.{AfterByteStep}
@@ -19,7 +20,7 @@ invariant_of-self g c =
       told = c.self.inside.told;
     } in
     byte_call says c.self.inside.session.tables c.feed-answer.new.self.tables w c.feed-answer.new.self.session
-    (store_state g.S.Store.contents g.S.Store.failure_count c.args.store.now) (store_state g.S.Store.contents g.S.Store.failure_count c.feed-answer.new.store)
+    (store_state g.S.Store.contents g.S.Store.faults c.args.store.now) (store_state g.S.Store.contents g.S.Store.faults c.feed-answer.new.store)
     c.args.byte c.feed-answer.result c.mark_after.new.told c.feed-answer.ensures.tables
     (c.mark_after.ensures ∙ ap (λ after. mark_after c.self.inside.told after c.feed-answer.result) c.is_told_after-told.ensures)
     c.self.invariant c.feed-answer.ensures.after_byte c.feed-answer.ensures.paints
@@ -35,13 +36,13 @@ returns-clause-step g c =
       screen = c.self.inside.screen;
       told = c.self.inside.told;
     } in
-    subst (λ (x : WorldState g.row.D.Denot). (saved : Bool)
-    × StoreAfter (is_save_byte x.world.session c.args.byte) saved x.world.session.editor.content.text
-    (store_state g.S.Store.contents g.S.Store.failure_count c.args.store.now) (store_state g.S.Store.contents g.S.Store.failure_count c.feed-answer.new.store)
-    × AfterByteStep (says x.tables) saved x.world c.args.byte c.answer_of.result
+    subst (λ (x : WorldState g.row.D.Denot). (fault : Option StoreFault)
+    × StoreAfter (is_save_byte x.world.session c.args.byte) fault x.world.session.editor.content.text
+    (store_state g.S.Store.contents g.S.Store.faults c.args.store.now) (store_state g.S.Store.contents g.S.Store.faults c.feed-answer.new.store)
+    × AfterByteStep (says x.tables) fault x.world c.args.byte c.answer_of.result
     (record w { session = c.feed-answer.new.self.session; told = c.mark_after.new.told })) c.self.view_is
     (byte_steps (says c.self.inside.session.tables) w c.feed-answer.new.self.session
-    (store_state g.S.Store.contents g.S.Store.failure_count c.args.store.now) (store_state g.S.Store.contents g.S.Store.failure_count c.feed-answer.new.store)
+    (store_state g.S.Store.contents g.S.Store.faults c.args.store.now) (store_state g.S.Store.contents g.S.Store.faults c.feed-answer.new.store)
     c.args.byte c.feed-answer.result c.answer_of.result c.mark_after.new.told c.answer_of.ensures
     (c.mark_after.ensures ∙ ap (λ after. mark_after c.self.inside.told after c.feed-answer.result) c.is_told_after-told.ensures)
     c.feed-answer.ensures.after_byte)

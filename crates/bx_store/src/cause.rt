@@ -1,0 +1,61 @@
+//! Why a save failed.
+ghost use Rattle.std.specs.Prelude.{◌≡◌};
+ghost use Rattle.bx_store.specs.Causes.{cause_of_kind, cause_text};
+
+use std::io::ErrorKind;
+
+/// Why a save failed, as far as the system tells.
+#[derive(Clone, Copy, PartialEq, Eq, Debug)]
+pub enum SaveCause {
+    /// The disk is full, or the user's share of it.
+    NoSpace,
+    /// The system permits the user no such call.
+    NotPermitted,
+    /// The folder on the path is gone, or is no folder now.
+    FolderGone,
+    /// The disk takes no change.
+    ReadOnly,
+    /// The file would be larger than the system or a limit allows.
+    TooLarge,
+    OutOfMemory,
+    /// Another program changed the file; the next save overwrites it.
+    Changed,
+    /// A folder, a device, a pipe or a socket took the file's place.
+    NotPlain,
+    /// Any other fault.
+    Other,
+}
+
+impl SaveCause {
+    /// The cause of a fault of this kind. The system has no kind for `Changed` and `NotPlain`.
+    pub fn of(kind: ErrorKind) -> Self
+        ensures { result ≡ cause_of_kind kind }
+    {
+        match kind {
+            ErrorKind::StorageFull | ErrorKind::QuotaExceeded => SaveCause::NoSpace,
+            ErrorKind::PermissionDenied => SaveCause::NotPermitted,
+            ErrorKind::NotFound | ErrorKind::NotADirectory => SaveCause::FolderGone,
+            ErrorKind::ReadOnlyFilesystem => SaveCause::ReadOnly,
+            ErrorKind::FileTooLarge => SaveCause::TooLarge,
+            ErrorKind::OutOfMemory => SaveCause::OutOfMemory,
+            _ => SaveCause::Other,
+        }
+    }
+
+    /// The words for the status row.
+    pub fn text(self) -> &'static str
+        ensures { result.now ≡ cause_text self }
+    {
+        match self {
+            SaveCause::NoSpace => "no space",
+            SaveCause::NotPermitted => "not permitted",
+            SaveCause::FolderGone => "folder gone",
+            SaveCause::ReadOnly => "read-only disk",
+            SaveCause::TooLarge => "file too large",
+            SaveCause::OutOfMemory => "out of memory",
+            SaveCause::Changed => "changed by another program, ^S overwrites it",
+            SaveCause::NotPlain => "not a plain file",
+            SaveCause::Other => "disk error",
+        }
+    }
+}
