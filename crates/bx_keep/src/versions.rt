@@ -22,20 +22,22 @@ fn editor_beside(rt: &HostRuntime, keeper: Path<'_>) -> io::Result<String> {
     Ok(built.into_string())
 }
 
-/// Looks at the files that a replay depends on.
+/// Looks at the files that a replay depends on. Where the system does not tell where the programs are, as without /proc, the tables
+/// and the version tell alone.
 fn look(rt: &HostRuntime, tables: &Tables) -> io::Result<Versions> {
-    let keeper = env::current_exe(rt)?;
-    let editor = editor_beside(rt, keeper.as_path())?;
-    let Some(own) = keeper.as_path().to_str() else {
-        return Err(ErrorKind::InvalidFilename.into());
-    };
-    let files = [
-        own,
-        editor.as_str(),
+    let [classes, brackets, mirroring] = [
         tables.classes.as_str(),
         tables.brackets.as_str(),
         tables.mirroring.as_str(),
     ];
+    let Ok(keeper) = env::current_exe(rt) else {
+        return Versions::look(rt, VERSION, &[classes, brackets, mirroring]);
+    };
+    let editor = editor_beside(rt, keeper.as_path())?;
+    let Some(own) = keeper.as_path().to_str() else {
+        return Err(ErrorKind::InvalidFilename.into());
+    };
+    let files = [own, editor.as_str(), classes, brackets, mirroring];
     Versions::look(rt, VERSION, files.as_slice())
 }
 
