@@ -72,11 +72,14 @@ pub fn ask_to_go_on<H: Host>(host: &mut H, alloc: Global, question: &str) -> Res
 fn choice_of(answer: &[u8]) -> Option<Choice>
     ensures { result ≡ choice_of answer.now }
 {
-    match answer {
-        b"r" | b"recover" => Some(Choice::Recover),
-        b"d" | b"delete" => Some(Choice::Delete),
-        b"l" | b"later" => Some(Choice::Later),
-        _ => None,
+    if answer == b"r".as_slice() || answer == b"recover".as_slice() {
+        Some(Choice::Recover)
+    } else if answer == b"d".as_slice() || answer == b"delete".as_slice() {
+        Some(Choice::Delete)
+    } else if answer == b"l".as_slice() || answer == b"later".as_slice() {
+        Some(Choice::Later)
+    } else {
+        None
     }
 }
 

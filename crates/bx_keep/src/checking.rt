@@ -171,16 +171,11 @@ impl Edited {
     }
 
     /// Refuses a FILE that cannot be read or saved, unless that is forced.
-    fn check_access<H: Host>(
-        &self,
-        around: Around<'_>,
-        host: &mut H,
-        is_forced: bool,
-    ) -> Result<(), Stop> {
-        let alloc = around.alloc();
+    fn check_access(&self, around: Around<'_>, is_forced: bool) -> Result<(), Stop> {
         if is_forced {
-            return self.tell_closed(around, host);
+            return Ok(());
         }
+        let alloc = around.alloc();
         let readable = self.place.check_readable(around.rt, alloc);
         readable.map_err(|fault| Stop::of_file(alloc, fault))?;
         let is_in_place = self.in_place.is_some();
@@ -188,21 +183,34 @@ impl Edited {
         saving.map_err(|fault| Stop::of_file(alloc, fault))
     }
 
-    /// Finds FILE, and refuses one that is no plain file, and, unless that is forced, one that cannot be read or saved. Repairs it,
-    /// and tells what killed saves left.
+    /// Finds FILE, and refuses one that is no plain file, and, unless that is forced, one that cannot be read or saved. Repairs it.
     ///
     /// Errors: the refusal; `Gone`; `OutOfMemory`.
-    pub fn check<H: Host>(
+    pub fn check_again<H: Host>(
         around: Around<'_>,
         host: &mut H,
         file: &str,
         is_forced: bool,
     ) -> Result<Edited, Stop> {
         let edited = Edited::find(around, host, file)?;
-        edited.check_access(around, host, is_forced)?;
+        edited.check_access(around, is_forced)?;
         if !edited.mend(around, host)? && !is_forced {
             return Err(Stop::Told(REFUSED));
         }
+        Ok(edited)
+    }
+
+    /// Finds, checks and repairs FILE. Tells what is not as usual: an empty text in place of FILE's, and what killed saves left.
+    ///
+    /// Errors: as `check_again`.
+    pub fn check<H: Host>(
+        around: Around<'_>,
+        host: &mut H,
+        file: &str,
+        is_forced: bool,
+    ) -> Result<Edited, Stop> {
+        let edited = Edited::check_again(around, host, file, is_forced)?;
+        edited.tell_closed(around, host)?;
         if let Some(line) = edited.place.leftovers(around.rt, around.alloc())? {
             warn(host, around.alloc(), line.as_str())?;
         }

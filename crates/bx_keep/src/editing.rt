@@ -83,7 +83,8 @@ fn edit_with<R: Read + Drop, W: Write + Drop, P: Replayer>(
                 file,
                 aside_of,
             } = taken;
-            edited = Edited::check(around, wire, file.as_str(), options.is_forced)?;
+            let file = file.as_str();
+            edited = Edited::check_again(around, wire, file, options.is_forced)?;
             let mut begun = Begun::resumed(around, wire, &edited, options, kept)?;
             begun.aside_of = aside_of;
             begun
@@ -106,7 +107,7 @@ pub fn edit<R: Read + Drop, W: Write + Drop, P: Replayer>(
     let met = meet(around, wire, &edited, replayer)?;
     // an answer takes time
     if met.was_asked && met.taken.is_none() {
-        edited = Edited::check(around, wire, file, options.is_forced)?;
+        edited = Edited::check_again(around, wire, file, options.is_forced)?;
     }
     edit_with(around, wire, edited, options, met.taken, replayer)
 }
@@ -126,7 +127,7 @@ pub fn edit_recovered<R: Read + Drop, W: Write + Drop, P: Replayer>(
     check_terminal(around)?;
     let taken = recover(around, wire, file, replayer)?;
     let edited = match &taken {
-        Some(taken) => Edited::find(around, wire, taken.file.as_str())?,
+        Some(taken) => Edited::check(around, wire, taken.file.as_str(), options.is_forced)?,
         None => Edited::check(around, wire, file, options.is_forced)?,
     };
     edit_with(around, wire, edited, options, taken, replayer)

@@ -57,6 +57,15 @@ fn first_trouble(begun: &Begun) -> Option<Notice> {
     }
 }
 
+/// Syncs a journal, with its name at first. Returns whether it is on the disk; what is not is tried again.
+fn sync_journal(rt: &HostRuntime, kept: &Kept, is_first: bool) -> bool {
+    if is_first {
+        // the journal's name is there, even if its folder is not synced
+        let _ = kept.session.sync(rt);
+    }
+    kept.session.sync_journal(rt).is_ok()
+}
+
 /// Has the host give the editor a notice.
 pub fn say_notice<R: Read + Drop, W: Write + Drop>(
     alloc: Global,
@@ -174,22 +183,16 @@ impl<'a> Running<'a> {
         }
     }
 
-    /// Syncs the journal, if it has grown.
-    fn sync(&mut self) {
+    /// Syncs the journal, if it has grown. Returns the size on the disk.
+    fn synced_size(&self) -> u64 {
         let Some(kept) = &self.begun.kept else {
-            return;
+            return 0;
         };
         let size = self.journal_size(kept);
-        if size == self.synced {
-            return;
-        }
-        if self.synced == 0 {
-            // the journal's name is there, even if its folder is not synced
-            let _ = kept.session.sync(self.around.rt);
-        }
-        // what cannot be synced is tried again
-        if kept.session.sync_journal(self.around.rt).is_ok() {
-            self.synced = size;
+        if size != self.synced && sync_journal(self.around.rt, kept, self.synced == 0) {
+            size
+        } else {
+            self.synced
         }
     }
 
@@ -253,7 +256,7 @@ impl<'a> Running<'a> {
     /// Does what is done each second.
     fn tick<R: Read + Drop, W: Write + Drop>(&mut self, wire: &mut Wire<R, W>) -> Result<(), Stop> {
         self.try_to_fill(wire);
-        self.sync();
+        self.synced = self.synced_size();
         self.ask_again(wire)?;
         self.show_trouble(wire)?;
         Ok(wire.say(Said::Done, "")?)
