@@ -10,6 +10,7 @@ mod owner;
 mod saving;
 mod store;
 mod target;
+mod watch;
 
 pub use cause::SaveCause;
 pub use file_store::FileStore;

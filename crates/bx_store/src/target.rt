@@ -72,6 +72,11 @@ pub fn target_of<R: Files>(files: &R, alloc: Global, path: &str) -> io::Result<S
     }
 }
 
+/// Whether no folder of a path without links is a link by now.
+pub fn is_in_its_folder<R: Files>(files: &R, alloc: Global, path: &str) -> io::Result<bool> {
+    Ok(in_its_folder(files, alloc, path)?.as_str() == path)
+}
+
 /// Whether both metadata are of one file, changed or not.
 pub fn is_same_file(old: &Metadata, new: &Metadata) -> bool {
     old.dev() == new.dev() && old.ino() == new.ino()
