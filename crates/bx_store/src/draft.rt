@@ -15,7 +15,7 @@ const ENDINGS: [&str; 10] = [
 ];
 
 /// A draft's permissions until it is complete: only its owner can read the text.
-const OWNERS_ALONE: u32 = 0o600;
+pub const OWNERS_ALONE: u32 = 0o600;
 
 /// The permissions of a file that did not exist before; the system clears the bits in the user's umask.
 const NEW_FILE: u32 = 0o666;
@@ -28,8 +28,8 @@ const BUFFER_SIZE: usize = 65_536;
 pub struct Draft<F: Read + Write + Seek + OpenFile + AsFd + Drop> {
     file: BufWriter<F>,
     path: String,
-    /// The path of the file to replace; the draft's own path if it replaces none.
-    target: String,
+    /// The path of the file to replace; None if it replaces none.
+    target: Option<String>,
     /// Permissions to set once the draft is complete; 0 leaves them unchanged.
     mode: u32,
 }
@@ -90,12 +90,25 @@ impl<F: Read + Write + Seek + OpenFile + AsFd + Drop> Draft<F> {
         } else {
             NEW_FILE
         };
-        let (file, path) = make_beside(files, alloc, target.as_str(), mode)?;
+        let mut draft = Draft::only_beside(files, alloc, target.as_str(), mode, old)?;
+        draft.target = Some(target);
+        Ok(draft)
+    }
+
+    /// Creates an empty draft beside `place` that replaces no file, with these permissions and then those of `old`, if any.
+    pub fn only_beside<R: Files<File = F>>(
+        files: &R,
+        alloc: Global,
+        place: &str,
+        mode: u32,
+        old: Option<Place<'_>>,
+    ) -> io::Result<Self> {
+        let (file, path) = make_beside(files, alloc, place, mode)?;
         match buffered(alloc, file, old) {
             Ok((file, mode)) => Ok(Draft {
                 file,
                 path,
-                target,
+                target: None,
                 mode,
             }),
             Err(error) => {
@@ -117,31 +130,17 @@ impl<F: Read + Write + Seek + OpenFile + AsFd + Drop> Draft<F> {
         Ok(Draft {
             file,
             path,
-            target,
+            target: Some(target),
             mode,
         })
     }
 
-    /// Creates an empty draft beside `target`, readable by its owner alone. It replaces no file.
-    pub fn only_beside<R: Files<File = F>>(
-        files: &R,
-        alloc: Global,
-        target: &str,
-    ) -> io::Result<Self> {
-        let (file, path) = make_beside(files, alloc, target, OWNERS_ALONE)?;
-        let target = String::from_str(alloc, path.as_str())?;
-        let (file, mode) = buffered(alloc, file, None)?;
-        Ok(Draft {
-            file,
-            path,
-            target,
-            mode,
-        })
-    }
-
-    /// The path of the file to replace.
+    /// The path of the file to replace; the draft's own path if it replaces none.
     pub fn target(&self) -> &str {
-        self.target.as_str()
+        match &self.target {
+            Some(target) => target.as_str(),
+            None => self.path.as_str(),
+        }
     }
 
     /// Appends bytes; the last ones may stay in the buffer.
@@ -162,12 +161,15 @@ impl<F: Read + Write + Seek + OpenFile + AsFd + Drop> Draft<F> {
         Ok(is_same_file(&found, &self.metadata()?))
     }
 
-    /// Renames the draft to the file that it replaces.
+    /// Renames the draft to the file that it replaces, if any.
     pub fn replace<R: Files<File = F>>(&self, files: &R) -> io::Result<()> {
         if !self.is_at_its_path(files)? {
             return Err(ErrorKind::NotFound.into());
         }
-        files.rename(self.path.as_str(), self.target.as_str())
+        match &self.target {
+            Some(target) => files.rename(self.path.as_str(), target.as_str()),
+            None => Ok(()),
+        }
     }
 
     /// The synced file, to be read from its first byte.
@@ -181,7 +183,7 @@ impl<F: Read + Write + Seek + OpenFile + AsFd + Drop> Draft<F> {
     pub fn sync_folder<R: Files<File = F>>(&self, files: &R) -> io::Result<()> {
         OpenOptions::new()
             .read(true)
-            .open(files, folder_of(self.target.as_str()))?
+            .open(files, folder_of(self.target()))?
             .sync_all()
     }
 

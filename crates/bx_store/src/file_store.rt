@@ -1,5 +1,7 @@
 //! A store in a file.
-ghost use Rattle.std.specs.Prelude.{◌≡◌};
+ghost use Rattle.std.specs.Prelude.{◌≡◌, Some, Err, OnErr};
+ghost use Rattle.bx_store.specs.Causes.{fault};
+ghost use Rattle.bx_store.specs.declared.cause.SaveCause.TheVariants.{OutOfMemory};
 ghost use Rattle.bx_store.specs.Stores.{one_more};
 
 use crate::cause::SaveCause;
@@ -52,7 +54,9 @@ where
     /// A store in the file at `path`, which saves replace. Changes by other programs are detected from now on.
     ///
     /// Errors: `StoreFault` if memory for the path runs out.
-    pub fn new(files: &'a R, alloc: Global, path: &str) -> Result<Self, StoreFault> {
+    pub fn new(files: &'a R, alloc: Global, path: &str) -> Result<Self, StoreFault>
+        ensures { OnErr result (result ≡ Err (fault (Some OutOfMemory))) }
+    {
         Ok(FileStore {
             watch: Watch::new(files, alloc, path)?,
             mark: None,
@@ -66,12 +70,9 @@ where
     /// off.
     ///
     /// Errors: `StoreFault` if memory for the paths runs out.
-    pub fn in_place(
-        files: &'a R,
-        alloc: Global,
-        path: &str,
-        mark: &str,
-    ) -> Result<Self, StoreFault> {
+    pub fn in_place(files: &'a R, alloc: Global, path: &str, mark: &str) -> Result<Self, StoreFault>
+        ensures { OnErr result (result ≡ Err (fault (Some OutOfMemory))) }
+    {
         let mut store = FileStore::new(files, alloc, path)?;
         if !matches!(&find(files, mark), Ok(None)) {
             store.torn = Some(String::from_str(alloc, mark)?);

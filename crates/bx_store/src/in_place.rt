@@ -1,7 +1,7 @@
 //! A save that overwrites a file.
 
 use crate::cause::SaveCause;
-use crate::draft::Draft;
+use crate::draft::{Draft, OWNERS_ALONE};
 use crate::store::StoreFault;
 use crate::target::is_unchanged;
 use std::alloc::Global;
@@ -31,7 +31,7 @@ impl<F: Read + Write + Seek + OpenFile + AsFd + Drop> InPlace<F> {
     ) -> io::Result<Self> {
         let draft = match mark {
             Some(mark) => Draft::of_own(files, alloc, mark)?,
-            None => Draft::only_beside(files, alloc, target.as_str())?,
+            None => Draft::only_beside(files, alloc, target.as_str(), OWNERS_ALONE, None)?,
         };
         Ok(InPlace {
             draft,

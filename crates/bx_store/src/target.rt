@@ -87,8 +87,14 @@ pub fn is_unchanged(old: &Metadata, new: &Metadata) -> bool {
     let is_as_written = old.size() == new.size()
         && old.mtime() == new.mtime()
         && old.mtime_nsec() == new.mtime_nsec();
+    // within a tick of the system's clock the times stay
+    let has_same_rights = old.mode() == new.mode()
+        && old.uid() == new.uid()
+        && old.gid() == new.gid();
     is_same_file(old, new)
         && is_as_written
+        && has_same_rights
+        && old.nlink() == new.nlink()
         && old.ctime() == new.ctime()
         && old.ctime_nsec() == new.ctime_nsec()
 }

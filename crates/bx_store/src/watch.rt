@@ -1,4 +1,7 @@
 //! The file of a store, as last seen.
+ghost use Rattle.std.specs.Prelude.{◌≡◌, Some, Err, OnErr};
+ghost use Rattle.bx_store.specs.Causes.{fault};
+ghost use Rattle.bx_store.specs.declared.cause.SaveCause.TheVariants.{OutOfMemory};
 
 use crate::cause::SaveCause;
 use crate::owner::Place;
@@ -31,7 +34,9 @@ pub struct Watch<'a, R: Files> {
 /// A value that the system gave; None after a fault of the system.
 ///
 /// Errors: `StoreFault` if memory ran out.
-fn if_answered<T: Drop>(answer: io::Result<T>) -> Result<Option<T>, StoreFault> {
+fn if_answered<T: Drop>(answer: io::Result<T>) -> Result<Option<T>, StoreFault>
+    ensures { OnErr result (result ≡ Err (fault (Some OutOfMemory))) }
+{
     match answer {
         Ok(value) => Ok(Some(value)),
         Err(error) if error.kind() == ErrorKind::OutOfMemory => Err(error.into()),
@@ -42,7 +47,9 @@ fn if_answered<T: Drop>(answer: io::Result<T>) -> Result<Option<T>, StoreFault> 
 /// The current metadata at a path without links; None if no file is there or the metadata cannot be read.
 ///
 /// Errors: `StoreFault` if memory for the path runs out.
-fn seen_at<R: Files>(files: &R, target: &Option<String>) -> Result<Option<Metadata>, StoreFault> {
+fn seen_at<R: Files>(files: &R, target: &Option<String>) -> Result<Option<Metadata>, StoreFault>
+    ensures { OnErr result (result ≡ Err (fault (Some OutOfMemory))) }
+{
     let Some(target) = target else {
         return Ok(None);
     };
@@ -64,7 +71,9 @@ impl<'a, R: Files> Watch<'a, R> {
     /// Watches the file at `path` from now on.
     ///
     /// Errors: `StoreFault` if memory for the path runs out.
-    pub fn new(files: &'a R, alloc: Global, path: &str) -> Result<Self, StoreFault> {
+    pub fn new(files: &'a R, alloc: Global, path: &str) -> Result<Self, StoreFault>
+        ensures { OnErr result (result ≡ Err (fault (Some OutOfMemory))) }
+    {
         let target = if_answered(target_of(files, alloc, path))?;
         let seen = seen_at(files, &target)?;
         let plain = seen.clone()?;
