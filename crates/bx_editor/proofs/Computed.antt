@@ -1,6 +1,6 @@
 -- An editor computed with the small tables.
-use Rattle.std.proofs.Common.{ℕ, true, false, List, [], ◌∷◌, map}
-use Rattle.std.specs.Prelude.{encode_utf8_all}
+use Rattle.std.proofs.Common.{ℕ, false, List, [], ◌∷◌, map}
+use Rattle.std.specs.Prelude.{None, encode_utf8_all}
 use Rattle.bx_resolve.specs.TestTables.{small}
 use Rattle.bx_terms.specs.declared.base.Base.TheVariants.{Auto}
 use Rattle.bx_keys.specs.declared.key.Key.{Key}
@@ -20,7 +20,7 @@ abbrev pub start : List ℕ → ℕ → ℕ → Editor
 start cs height width = at_start (encode_utf8_all cs) height width Auto
 
 abbrev pub after : Editor → List Key → Editor
-after e keys = after_keys tables true e keys
+after e keys = after_keys tables None e keys
 
 abbrev pub letters : List ℕ → List Key
 letters cs = map Insert cs

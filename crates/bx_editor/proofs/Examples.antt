@@ -1,10 +1,13 @@
 -- Worked examples: texts, places, status rows and pictures after keys.
 use Rattle.std.proofs.Common.{◌≡◌, ℕ, true, false, List, [], ◌∷◌, ◌++◌, Some, refl}
-use Rattle.std.specs.Prelude.{codes}
+use Rattle.std.specs.Prelude.{codes, Option, None}
 use Rattle.std.specs.Fmt.{digits}
 use Rattle.unicode_segmentation.proofs.Computing.{unicode_segmentation}
 use Rattle.unicode_width.proofs.Computing.{unicode_width}
-use Rattle.bx_keys.specs.declared.key.Key.TheVariants.{Insert, Erase, Delete, Forward, Down, RowEnd, Save, Quit, Undo, Redo, Direction, Size}
+use Rattle.bx_keys.specs.declared.key.Key.TheVariants.{Insert, Erase, Delete, Forward, Down, RowEnd, Save, Quit, Undo, Redo, Direction, Size, Find, Notice}
+use Rattle.bx_keys.specs.declared.notice.Notice.TheVariants as notices
+use Rattle.bx_store.specs.declared.cause.SaveCause.{SaveCause}
+use Rattle.bx_store.specs.declared.cause.SaveCause.TheVariants.{NoSpace}
 use Rattle.bx_editor.specs.declared.message.Message.TheVariants.{NothingToUndo, NothingToRedo, Unsaved}
 use Rattle.bx_editor.specs.Editor.{Editor}
 use Rattle.bx_editor.specs.Keys.{after_key}
@@ -105,6 +108,24 @@ pub a_direction_between_two_quits_counts : (after (start (codes "ab") 2 30) (Ins
 unfolding unicode_segmentation unicode_width digits
 a_direction_between_two_quits_counts = refl
 
+pub a_notice_between_two_quits_does_not_count :
+    (after (start (codes "ab") 2 30) (Insert 0x78 ∷ Quit ∷ Notice notices.NoSpace ∷ Quit ∷ [])).ended ≡ true
+unfolding unicode_segmentation unicode_width digits
+a_notice_between_two_quits_does_not_count = refl
+
+-- ---- notices
+
+pub a_notice_is_the_message : (shown (after (start (codes "ab") 2 32) (Insert 0x78 ∷ Notice notices.NoSpace ∷ [])) 0).columns
+    ≡ columns_of (codes "xab                             " ++ codes "* 1:2 no copy is kept: no space ")
+unfolding unicode_segmentation unicode_width digits
+a_notice_is_the_message = refl
+
+-- the search goes on, and its next letter is sought
+pub a_notice_in_a_search : after (start (codes "abc") 2 30) (Find ∷ Insert 0x62 ∷ Notice notices.KeptAgain ∷ Insert 0x63 ∷ [])
+    ≡ after (start (codes "abc") 2 30) (Find ∷ Insert 0x62 ∷ Insert 0x63 ∷ [])
+unfolding unicode_segmentation unicode_width digits
+a_notice_in_a_search = refl
+
 -- ---- pictures
 
 pub an_empty_file : (shown (start [] 2 10) 0).columns ≡ columns_of (codes "          - 1:1     ")
@@ -149,10 +170,20 @@ pub a_save_is_told : (shown (after (start (codes "ab") 2 20) (Insert 0x78 ∷ Sa
 unfolding unicode_segmentation unicode_width digits
 a_save_is_told = refl
 
-pub a_failed_save_is_told : (shown (after_key tables false (after (start (codes "ab") 2 20) (Insert 0x78 ∷ [])) Save) 0).columns
+-- a letter and a Save that fails
+abbrev after_failed_save : ℕ → Option SaveCause → Editor
+after_failed_save width cause =
+    after_key tables (Some (record { cause = cause })) (after (start (codes "ab") 2 width) (Insert 0x78 ∷ [])) Save
+
+pub a_failed_save_is_told : (shown (after_failed_save 20 None) 0).columns
     ≡ columns_of (codes "xab                 " ++ codes "* 1:2 save failed   ")
 unfolding unicode_segmentation unicode_width digits
 a_failed_save_is_told = refl
+
+pub its_cause_is_told : (shown (after_failed_save 30 (Some NoSpace)) 0).columns
+    ≡ columns_of (codes "xab                           " ++ codes "* 1:2 save failed: no space   ")
+unfolding unicode_segmentation unicode_width digits
+its_cause_is_told = refl
 
 pub directions_take_turns : (shown (after (start (codes "ab") 2 30) (Direction ∷ [])) 0).columns
     ≡ columns_of (codes "ab                            " ++ codes "- 1:1 direction ltr           ")

@@ -1,10 +1,11 @@
 -- A search that is given up.
 use Rattle.std.proofs.Common.{◌≡◌, Bool, true, false, List, [], ◌∷◌, refl, sym, ap, subst, ◌∙◌, inl, inr, if◌then◌else◌}
-use Rattle.std.specs.Prelude.{◌≢◌, ◌==◌}
+use Rattle.std.specs.Prelude.{◌≢◌, ◌==◌, Option, None}
 use Rattle.bx_keys.specs.declared.key.Key.{Key}
 use Rattle.bx_keys.specs.declared.key.Key.TheVariants.{Insert, Erase, Delete, Back, Forward, Up, Down, Right, Left, RowHome, RowEnd, PageUp, PageDown, Save}
 use Rattle.bx_keys.specs.declared.key.Key.TheVariants.{Quit, Undo, Redo, Repaint, Direction, Size, Mark, Copy, Cut, Put}
-use Rattle.bx_keys.specs.declared.key.Key.TheVariants.{Find, FindBack, WordLeft, WordRight, TextStart, TextEnd, Help}
+use Rattle.bx_keys.specs.declared.key.Key.TheVariants.{Find, FindBack, WordLeft, WordRight, TextStart, TextEnd, Help, Notice}
+use Rattle.bx_store.specs.declared.store.StoreFault.{StoreFault}
 use Rattle.bx_ucd.specs.Data.{Data}
 use Rattle.bx_editor.specs.declared.seek.Seek.{Seek}
 use Rattle.bx_editor.specs.declared.seek.Seek.TheVariants.{Off, Begun, Typed}
@@ -14,7 +15,7 @@ use Rattle.bx_editor.specs.Laws.{after_typing, BeginsSearch, GivesUp, GivingUpGo
 use Rattle.bx_editor.specs.Search.{after_beginning, after_giving_up, is_no_letter, kept, lengthened, search_from, with_query, without_search}
 use Rattle.bx_editor.proofs.InSearch.{each-key}
 
--- where the search began, the mark and the text are the same
+-- the new editor has the text and the mark of the old one, and the place where its search began
 record KeepsSearch (e new : Editor) : Type 0 where
   pub origin_is : new.origin ≡ e.origin
   pub mark_is : new.mark ≡ e.mark
@@ -29,68 +30,70 @@ letter-keeps e longer true plain keeps on = absurd (on refl)
 letter-keeps e longer false true keeps on = record { origin_is = refl; mark_is = refl; content_is = refl }
 letter-keeps e longer false false keeps on = keeps
 
-seeking-keeps : (d : Data) (saved again : Bool) (e : Editor) (key : Key) → (after_seeking d saved again e key).seek ≢ Off
-    → KeepsSearch e (after_seeking d saved again e key)
-seeking-keeps d saved again e (Insert c) on =
+seeking-keeps : (d : Data) (fault : Option StoreFault) (again : Bool) (e : Editor) (key : Key) → (after_seeking d fault again e key).seek ≢ Off
+    → KeepsSearch e (after_seeking d fault again e key)
+seeking-keeps d fault again e (Insert c) on =
     let longer : Editor = search_from d e.place (with_query e (lengthened (kept e.seek e.query) c)) in
     letter-keeps e longer (c == 0xA) (is_no_letter d c) (record { origin_is = refl; mark_is = refl; content_is = refl }) on
-seeking-keeps d saved again e Erase on = record { origin_is = refl; mark_is = refl; content_is = refl }
-seeking-keeps d saved again e Delete on = record { origin_is = refl; mark_is = refl; content_is = refl }
-seeking-keeps d saved again e Find on = record { origin_is = refl; mark_is = refl; content_is = refl }
-seeking-keeps d saved again e FindBack on = record { origin_is = refl; mark_is = refl; content_is = refl }
-seeking-keeps d saved again e Repaint on = record { origin_is = refl; mark_is = refl; content_is = refl }
-seeking-keeps d saved again e Quit on = absurd (on refl)
-seeking-keeps d saved again e Copy on = absurd (on refl)
-seeking-keeps d saved again e Back on = absurd (on refl)
-seeking-keeps d saved again e Forward on = absurd (on refl)
-seeking-keeps d saved again e Up on = absurd (on refl)
-seeking-keeps d saved again e Down on = absurd (on refl)
-seeking-keeps d saved again e Right on = absurd (on refl)
-seeking-keeps d saved again e Left on = absurd (on refl)
-seeking-keeps d saved again e RowHome on = absurd (on refl)
-seeking-keeps d saved again e RowEnd on = absurd (on refl)
-seeking-keeps d saved again e PageUp on = absurd (on refl)
-seeking-keeps d saved again e PageDown on = absurd (on refl)
-seeking-keeps d saved again e Save on = absurd (on refl)
-seeking-keeps d saved again e Undo on = absurd (on refl)
-seeking-keeps d saved again e Redo on = absurd (on refl)
-seeking-keeps d saved again e Direction on = absurd (on refl)
-seeking-keeps d saved again e Mark on = absurd (on refl)
-seeking-keeps d saved again e Cut on = absurd (on refl)
-seeking-keeps d saved again e Put on = absurd (on refl)
-seeking-keeps d saved again e WordLeft on = absurd (on refl)
-seeking-keeps d saved again e WordRight on = absurd (on refl)
-seeking-keeps d saved again e TextStart on = absurd (on refl)
-seeking-keeps d saved again e TextEnd on = absurd (on refl)
-seeking-keeps d saved again e Help on = absurd (on refl)
-seeking-keeps d saved again e (Size height width) on = absurd (on refl)
+seeking-keeps d fault again e Erase on = record { origin_is = refl; mark_is = refl; content_is = refl }
+seeking-keeps d fault again e Delete on = record { origin_is = refl; mark_is = refl; content_is = refl }
+seeking-keeps d fault again e Find on = record { origin_is = refl; mark_is = refl; content_is = refl }
+seeking-keeps d fault again e FindBack on = record { origin_is = refl; mark_is = refl; content_is = refl }
+seeking-keeps d fault again e Repaint on = record { origin_is = refl; mark_is = refl; content_is = refl }
+seeking-keeps d fault again e Quit on = absurd (on refl)
+seeking-keeps d fault again e Copy on = absurd (on refl)
+seeking-keeps d fault again e Back on = absurd (on refl)
+seeking-keeps d fault again e Forward on = absurd (on refl)
+seeking-keeps d fault again e Up on = absurd (on refl)
+seeking-keeps d fault again e Down on = absurd (on refl)
+seeking-keeps d fault again e Right on = absurd (on refl)
+seeking-keeps d fault again e Left on = absurd (on refl)
+seeking-keeps d fault again e RowHome on = absurd (on refl)
+seeking-keeps d fault again e RowEnd on = absurd (on refl)
+seeking-keeps d fault again e PageUp on = absurd (on refl)
+seeking-keeps d fault again e PageDown on = absurd (on refl)
+seeking-keeps d fault again e Save on = absurd (on refl)
+seeking-keeps d fault again e Undo on = absurd (on refl)
+seeking-keeps d fault again e Redo on = absurd (on refl)
+seeking-keeps d fault again e Direction on = absurd (on refl)
+seeking-keeps d fault again e Mark on = absurd (on refl)
+seeking-keeps d fault again e Cut on = absurd (on refl)
+seeking-keeps d fault again e Put on = absurd (on refl)
+seeking-keeps d fault again e WordLeft on = absurd (on refl)
+seeking-keeps d fault again e WordRight on = absurd (on refl)
+seeking-keeps d fault again e TextStart on = absurd (on refl)
+seeking-keeps d fault again e TextEnd on = absurd (on refl)
+seeking-keeps d fault again e Help on = absurd (on refl)
+seeking-keeps d fault again e (Size height width) on = absurd (on refl)
+seeking-keeps d fault again e (Notice notice) on = absurd (on refl)
 
-any-keeps : (d : Data) (saved again : Bool) (seek : Seek) (e : Editor) (key : Key) → seek ≢ Off → (after_any d saved again seek e key).seek ≢ Off
-    → KeepsSearch e (after_any d saved again seek e key)
-any-keeps d saved again Off e key was on = absurd (was refl)
-any-keeps d saved again Begun e key was on = seeking-keeps d saved again e key on
-any-keeps d saved again Typed e key was on = seeking-keeps d saved again e key on
+any-keeps : (d : Data) (fault : Option StoreFault) (again : Bool) (seek : Seek) (e : Editor) (key : Key) → seek ≢ Off → (after_any d fault again seek e key).seek ≢ Off
+    → KeepsSearch e (after_any d fault again seek e key)
+any-keeps d fault again Off e key was on = absurd (was refl)
+any-keeps d fault again Begun e key was on = seeking-keeps d fault again e key on
+any-keeps d fault again Typed e key was on = seeking-keeps d fault again e key on
 
-key-keeps : (d : Data) (saved : Bool) (e : Editor) (key : Key) → e.seek ≢ Off → (after_key d saved e key).seek ≢ Off
-    → KeepsSearch e (after_key d saved e key)
-key-keeps d saved e key was =
-    each-key d saved e (λ k new. new.seek ≢ Off → KeepsSearch e new) (λ height width on. record { origin_is = refl; mark_is = refl; content_is = refl })
+key-keeps : (d : Data) (fault : Option StoreFault) (e : Editor) (key : Key) → e.seek ≢ Off → (after_key d fault e key).seek ≢ Off
+    → KeepsSearch e (after_key d fault e key)
+key-keeps d fault e key was =
+    each-key d fault e (λ k new. new.seek ≢ Off → KeepsSearch e new) (λ height width on. record { origin_is = refl; mark_is = refl; content_is = refl })
+    (λ notice on. record { origin_is = refl; mark_is = refl; content_is = refl })
     (λ k other on.
-    let keeps = any-keeps d saved e.quit_before e.seek (without_message e) k was on in
+    let keeps = any-keeps d fault e.quit_before e.seek (without_message e) k was on in
     record { origin_is = keeps.origin_is; mark_is = keeps.mark_is; content_is = keeps.content_is })
     key
 
 -- ---- keys through which it stays on
 
-on-at-first : (d : Data) (e : Editor) (typed : List (Key × Bool)) → StaysOn d e typed → e.seek ≢ Off
+on-at-first : (d : Data) (e : Editor) (typed : List (Key × Option StoreFault)) → StaysOn d e typed → e.seek ≢ Off
 on-at-first d e [] on = on
 on-at-first d e (key ∷ typed) on = on.0
 
-on-at-last : (d : Data) (e : Editor) (typed : List (Key × Bool)) → StaysOn d e typed → (after_typing d e typed).seek ≢ Off
+on-at-last : (d : Data) (e : Editor) (typed : List (Key × Option StoreFault)) → StaysOn d e typed → (after_typing d e typed).seek ≢ Off
 on-at-last d e [] on = on
 on-at-last d e (key ∷ typed) on = on-at-last d (after_key d key.1 e key.0) typed on.1
 
-typing-keeps : (d : Data) (e : Editor) (typed : List (Key × Bool)) → StaysOn d e typed → KeepsSearch e (after_typing d e typed)
+typing-keeps : (d : Data) (e : Editor) (typed : List (Key × Option StoreFault)) → StaysOn d e typed → KeepsSearch e (after_typing d e typed)
 typing-keeps d e [] on = record { origin_is = refl; mark_is = refl; content_is = refl }
 typing-keeps d e (key ∷ typed) on =
     let next = after_key d key.1 e key.0 in
@@ -104,30 +107,30 @@ typing-keeps d e (key ∷ typed) on =
 
 -- ---- the first key and the last
 
-same-key : (d : Data) (e : Editor) (key other : Key) (new : Editor) → key ≡ other → after_key d false e other ≡ new → after_key d false e key ≡ new
-same-key d e key other new is done = subst (λ k. after_key d false e k ≡ new) (sym is) done
+same-key : (d : Data) (e : Editor) (key other : Key) (new : Editor) → key ≡ other → after_key d None e other ≡ new → after_key d None e key ≡ new
+same-key d e key other new is done = subst (λ k. after_key d None e k ≡ new) (sym is) done
 
-find-begins : (d : Data) (e : Editor) → e.seek ≡ Off → after_key d false e Find ≡ after_beginning (without_message e)
-find-begins d e off = ap (λ s. after_any d false e.quit_before s (without_message e) Find) off
+find-begins : (d : Data) (e : Editor) → e.seek ≡ Off → after_key d None e Find ≡ after_beginning (without_message e)
+find-begins d e off = ap (λ s. after_any d None e.quit_before s (without_message e) Find) off
 
-find-back-begins : (d : Data) (e : Editor) → e.seek ≡ Off → after_key d false e FindBack ≡ after_beginning (without_message e)
-find-back-begins d e off = ap (λ s. after_any d false e.quit_before s (without_message e) FindBack) off
+find-back-begins : (d : Data) (e : Editor) → e.seek ≡ Off → after_key d None e FindBack ≡ after_beginning (without_message e)
+find-back-begins d e off = ap (λ s. after_any d None e.quit_before s (without_message e) FindBack) off
 
-begin-is : (d : Data) (e : Editor) (begin : Key) → e.seek ≡ Off → BeginsSearch begin → after_key d false e begin ≡ after_beginning (without_message e)
+begin-is : (d : Data) (e : Editor) (begin : Key) → e.seek ≡ Off → BeginsSearch begin → after_key d None e begin ≡ after_beginning (without_message e)
 begin-is d e begin off (inl is) = same-key d e begin Find (after_beginning (without_message e)) is (find-begins d e off)
 begin-is d e begin off (inr is) = same-key d e begin FindBack (after_beginning (without_message e)) is (find-back-begins d e off)
 
-quit-any : (d : Data) (again : Bool) (seek : Seek) (e : Editor) → seek ≢ Off → after_any d false again seek e Quit ≡ after_giving_up e
+quit-any : (d : Data) (again : Bool) (seek : Seek) (e : Editor) → seek ≢ Off → after_any d None again seek e Quit ≡ after_giving_up e
 quit-any d again Off e on = absurd (on refl)
 quit-any d again Begun e on = refl
 quit-any d again Typed e on = refl
 
-copy-any : (d : Data) (again : Bool) (seek : Seek) (e : Editor) → seek ≢ Off → after_any d false again seek e Copy ≡ after_giving_up e
+copy-any : (d : Data) (again : Bool) (seek : Seek) (e : Editor) → seek ≢ Off → after_any d None again seek e Copy ≡ after_giving_up e
 copy-any d again Off e on = absurd (on refl)
 copy-any d again Begun e on = refl
 copy-any d again Typed e on = refl
 
-give-is : (d : Data) (e : Editor) (give : Key) → e.seek ≢ Off → GivesUp give → after_key d false e give ≡ after_giving_up (without_message e)
+give-is : (d : Data) (e : Editor) (give : Key) → e.seek ≢ Off → GivesUp give → after_key d None e give ≡ after_giving_up (without_message e)
 give-is d e give on (inl is) =
     same-key d e give Quit (after_giving_up (without_message e)) is (quit-any d e.quit_before e.seek (without_message e) on)
 give-is d e give on (inr is) =
@@ -135,7 +138,7 @@ give-is d e give on (inr is) =
 
 pub giving-up-goes-back : GivingUpGoesBack
 giving-up-goes-back d e begin give typed off begins gives on =
-    let begun = after_key d false e begin in
+    let begun = after_key d None e begin in
     let last = after_typing d begun typed in
     let keeps = typing-keeps d begun typed on in
     let start = begin-is d e begin off begins in

@@ -20,13 +20,13 @@ either-off : (b : Bool) (p q : Editor) → p.seek ≡ Off → q.seek ≡ Off →
 either-off true p q h k = ap (λ s. record p { seek = s }) h
 either-off false p q h k = ap (λ s. record q { seek = s }) k
 
-mark-any : (d : Data) (again : Bool) (seek : Seek) (e : Editor) → e.seek ≡ seek → after_any d false again seek e Mark ≡ without_search (after_mark e)
+mark-any : (d : Data) (again : Bool) (seek : Seek) (e : Editor) → e.seek ≡ seek → after_any d None again seek e Mark ≡ without_search (after_mark e)
 mark-any d again Off e is =
     either-off (is_at_mark e.mark e.place) (record e { mark = None; message = Some MarkOff }) (record e { mark = Some e.place; message = Some MarkSet }) is is
 mark-any d again Begun e is = refl
 mark-any d again Typed e is = refl
 
-mark-is : (d : Data) (e : Editor) → after_key d false e Mark ≡ without_search (after_mark (without_message e))
+mark-is : (d : Data) (e : Editor) → after_key d None e Mark ≡ without_search (after_mark (without_message e))
 mark-is d e = mark-any d e.quit_before e.seek (without_message e) refl
 
 -- once the message is cleared and the search is over, with a mark and a message
@@ -50,16 +50,16 @@ mark-not-there : (e : Editor) → is_at_mark e.mark e.place ≡ false
 mark-not-there e is = ap (left e) is
 
 twice-there : (d : Data) (e : Editor) → is_at_mark e.mark e.place ≡ true
-    → after_keys d false e (Mark ∷ Mark ∷ []) ≡ marked e (Some e.place) (Some MarkSet)
+    → after_keys d None e (Mark ∷ Mark ∷ []) ≡ marked e (Some e.place) (Some MarkSet)
 twice-there d e is =
     let once = marked e None (Some MarkOff) in
-    ap (λ new. after_key d false new Mark) (mark-is d e ∙ mark-there e is) ∙ mark-is d once ∙ mark-not-there once refl
+    ap (λ new. after_key d None new Mark) (mark-is d e ∙ mark-there e is) ∙ mark-is d once ∙ mark-not-there once refl
 
 twice-not-there : (d : Data) (e : Editor) → is_at_mark e.mark e.place ≡ false
-    → after_keys d false e (Mark ∷ Mark ∷ []) ≡ marked e None (Some MarkOff)
+    → after_keys d None e (Mark ∷ Mark ∷ []) ≡ marked e None (Some MarkOff)
 twice-not-there d e is =
     let once = marked e (Some e.place) (Some MarkSet) in
-    ap (λ new. after_key d false new Mark) (mark-is d e ∙ mark-not-there e is) ∙ mark-is d once ∙ mark-there once (at-itself e.place)
+    ap (λ new. after_key d None new Mark) (mark-is d e ∙ mark-not-there e is) ∙ mark-is d once ∙ mark-there once (at-itself e.place)
 
 -- but for the message
 but-message : (e new : Editor) (mark now : Option ℕ) (message : Option Message) → new ≡ marked e now message → mark ≡ now
@@ -68,7 +68,7 @@ but-message e new mark now message is same = is ∙ ap₂ (marked e) (sym same) 
 
 pub mark-twice-is-nothing : MarkTwiceIsNothing
 mark-twice-is-nothing d e =
-    let new = after_keys d false e (Mark ∷ Mark ∷ []) in
+    let new = after_keys d None e (Mark ∷ Mark ∷ []) in
     record {
       here =
           ⊎_elim
@@ -84,13 +84,13 @@ mark-twice-is-nothing d e =
 -- ---- the text's ends
 
 end-any : (d : Data) (again : Bool) (seek : Seek) (e : Editor) → e.seek ≡ seek
-    → after_any d false again seek e TextEnd ≡ without_search (with_place e (length e.content.text))
+    → after_any d None again seek e TextEnd ≡ without_search (with_place e (length e.content.text))
 end-any d again Off e is = ap (λ s. record (with_place e (length e.content.text)) { seek = s }) is
 end-any d again Begun e is = refl
 end-any d again Typed e is = refl
 
 start-any : (d : Data) (again : Bool) (seek : Seek) (e : Editor) → e.seek ≡ seek
-    → after_any d false again seek e TextStart ≡ without_search (with_place e 0)
+    → after_any d None again seek e TextStart ≡ without_search (with_place e 0)
 start-any d again Off e is = ap (λ s. record (with_place e 0) { seek = s }) is
 start-any d again Begun e is = refl
 start-any d again Typed e is = refl
@@ -99,6 +99,6 @@ pub goes-to-both-ends : GoesToBothEnds
 goes-to-both-ends d e =
     let was = without_message e in
     record {
-      start = ap (λ new. after_key d false new TextStart) (end-any d e.quit_before e.seek was refl);
-      end = ap (λ new. after_key d false new TextEnd) (start-any d e.quit_before e.seek was refl);
+      start = ap (λ new. after_key d None new TextStart) (end-any d e.quit_before e.seek was refl);
+      end = ap (λ new. after_key d None new TextEnd) (start-any d e.quit_before e.seek was refl);
     }

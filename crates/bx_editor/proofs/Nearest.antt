@@ -50,13 +50,13 @@ previous-of d e l None None none nowhere is = inr (inr (nowhere, (ap (λ m. unwr
 
 -- whichever state the search is in
 on-find : (d : Data) (e : Editor) (again : Bool) (seek : Seek) (P : Editor → Type 0) → (seek ≡ Off → ⊥) → P (after_find d (without_message e))
-    → P (after_any d false again seek (without_message e) Find)
+    → P (after_any d None again seek (without_message e) Find)
 on-find d e again Off P on h = absurd (on refl)
 on-find d e again Begun P on h = h
 on-find d e again Typed P on h = h
 
 on-find-back : (d : Data) (e : Editor) (again : Bool) (seek : Seek) (P : Editor → Type 0) → (seek ≡ Off → ⊥) → P (after_find_back d (without_message e))
-    → P (after_any d false again seek (without_message e) FindBack)
+    → P (after_any d None again seek (without_message e) FindBack)
 on-find-back d e again Off P on h = absurd (on refl)
 on-find-back d e again Begun P on h = h
 on-find-back d e again Typed P on h = h

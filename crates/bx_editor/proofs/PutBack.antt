@@ -119,11 +119,11 @@ copy-puts-twice d e off is fit =
       length-append (take a text) r,
       length-drop b text,
     ) in
-    let copied : after_key d false e Copy ≡ held =
-    ap (λ s. after_any d false e.quit_before s was Copy) off
+    let copied : after_key d None e Copy ≡ held =
+    ap (λ s. after_any d None e.quit_before s was Copy) off
     ∙ ap (λ x. if x then (if is_empty (line d e) then none else one) else held) (is-there e (region e) is) in
-    let pressed : after_keys d false e (Copy ∷ Put ∷ []) ≡ after_put d (without_message held) =
-    ap (λ new. after_key d false new Put) copied ∙ ap (λ s. after_any d false held.quit_before s (without_message held) Put) off in
+    let pressed : after_keys d None e (Copy ∷ Put ∷ []) ≡ after_put d (without_message held) =
+    ap (λ new. after_key d None new Put) copied ∙ ap (λ s. after_any d None held.quit_before s (without_message held) Put) off in
     let room = has-room text e.place r (omega (arith, size, fit)) in
     let done = put-has d (without_message held) (twice e (region e)) (e.place + length r) (omega (arith, long, is.some)) room put refl in
     subst (HasPut d e (twice e (region e)) (e.place + length r)) (sym pressed)
@@ -133,7 +133,7 @@ copy-puts-twice d e off is fit =
 
 -- a Cut that removes something ends a search
 cut-any : (d : Data) (again : Bool) (seek : Seek) (e cut : Editor) → after_cut d e ≡ cut → cut ≡ without_search cut
-    → after_any d false again seek e Cut ≡ cut
+    → after_any d None again seek e Cut ≡ cut
 cut-any d again Off e cut is over = is
 cut-any d again Begun e cut is over = ap without_search is ∙ sym over
 cut-any d again Typed e cut is over = ap without_search is ∙ sym over
@@ -150,7 +150,7 @@ put-restores-cut d e is short there =
     let cut : Editor = record without { held = r } in
     let order : a ≤ b = omega (arith, is.some) in
     let long : length r ≡ b - a = part-length text a b order is.inside in
-    let same : after_key d false e Cut ≡ cut =
+    let same : after_key d None e Cut ≡ cut =
     cut-any d e.quit_before e.seek was cut
     (ap (λ x. if x then after_copy d was else record (if x then was else without) { held = r }) (is-there e (taken d e) is)) refl in
     let at : after ≡ a = sym (ap (λ (c : Editor). c.place) same) ∙ there in
@@ -165,7 +165,7 @@ put-restores-cut d e is short there =
       length-append (take a text) (drop b text),
       length-drop b text,
     ) in
-    let pressed : after_keys d false e (Cut ∷ Put ∷ []) ≡ after_put d (without_message cut) = ap (λ c. after_key d false c Put) same in
+    let pressed : after_keys d None e (Cut ∷ Put ∷ []) ≡ after_put d (without_message cut) = ap (λ c. after_key d None c Put) same in
     let put : splice (splice text a b []) after after r ≡ text =
     ap (λ k. splice (splice text a b []) k k r) at ∙ back text a b order is.inside in
     let room = has-room (splice text a b []) after r (omega (arith, size, short)) in

@@ -8,6 +8,7 @@ use Rattle.bx_ucd.specs.Data.{Data}
 use Rattle.bx_terms.specs.Sizes.{largest_text}
 use Rattle.bx_keys.specs.declared.key.Key.{Key}
 use Rattle.bx_keys.specs.declared.key.Key.TheVariants.{Insert, Erase, Forward, Size, Quit, Mark, Copy, Cut, Put, Find, FindBack, TextStart, TextEnd}
+use Rattle.bx_store.specs.declared.store.StoreFault.{StoreFault}
 use Rattle.bx_text.specs.Edits.{Edited}
 use Rattle.bx_editor.specs.Editor.{Editor}
 use Rattle.bx_editor.specs.Keys.{after_key, after_keys}
@@ -82,13 +83,13 @@ put_restores_a_line law =
 
 module _ (law : MarkTwiceIsNothing) (d : Data) (e : Editor) where
   -- whatever the editor and the tables
-  no_mark_is_left : e.mark ≡ None → (after_keys d false e (Mark ∷ Mark ∷ [])).mark ≡ None
+  no_mark_is_left : e.mark ≡ None → (after_keys d None e (Mark ∷ Mark ∷ [])).mark ≡ None
   no_mark_is_left none = ap (λ (x : Editor). x.mark) ((law d e).here (inl none)) ∙ none
 
-  the_mark_is_there_again : e.mark ≡ Some e.place → (after_keys d false e (Mark ∷ Mark ∷ [])).mark ≡ Some e.place
+  the_mark_is_there_again : e.mark ≡ Some e.place → (after_keys d None e (Mark ∷ Mark ∷ [])).mark ≡ Some e.place
   the_mark_is_there_again there = ap (λ (x : Editor). x.mark) ((law d e).here (inr there)) ∙ there
 
-  the_place_is_the_same : e.mark ≡ None → (after_keys d false e (Mark ∷ Mark ∷ [])).place ≡ e.place
+  the_place_is_the_same : e.mark ≡ None → (after_keys d None e (Mark ∷ Mark ∷ [])).place ≡ e.place
   the_place_is_the_same none = ap (λ (x : Editor). x.place) ((law d e).here (inl none))
 
 -- a mark at 0 is gone after Mark twice at 2
@@ -100,13 +101,13 @@ a_mark_elsewhere_is_gone law = ap now ((law tables two_of_three).elsewhere 0 ref
 
 module _ (law : GoesToBothEnds) (d : Data) (e : Editor) where
   -- whatever the editor and the tables
-  back_at_0 : (after_keys d false e (TextEnd ∷ TextStart ∷ [])).place ≡ 0
+  back_at_0 : (after_keys d None e (TextEnd ∷ TextStart ∷ [])).place ≡ 0
   back_at_0 = ap (λ (x : Editor). x.place) (law d e).start
 
-  at_the_end : (after_keys d false e (TextStart ∷ TextEnd ∷ [])).place ≡ length e.content.text
+  at_the_end : (after_keys d None e (TextStart ∷ TextEnd ∷ [])).place ≡ length e.content.text
   at_the_end = ap (λ (x : Editor). x.place) (law d e).end
 
-  the_mark_stays : (after_keys d false e (TextEnd ∷ TextStart ∷ [])).mark ≡ e.mark
+  the_mark_stays : (after_keys d None e (TextEnd ∷ TextStart ∷ [])).mark ≡ e.mark
   the_mark_stays = ap (λ (x : Editor). x.mark) (law d e).start
 
 -- ---- a search that is given up
@@ -116,17 +117,17 @@ abbrev marked_at_1 : Editor
 marked_at_1 = after (start (codes "abcc") 2 30) (Forward ∷ Mark ∷ [])
 
 -- c is found at 2 and at 3, the window is resized, an Erase leads back to 1, and c is found at 2 again
-abbrev in_search : List (Key × Bool)
-in_search = (Insert 0x63, true) ∷ (Find, true) ∷ (Size 3 20, true) ∷ (Erase, true) ∷ (Insert 0x63, true) ∷ []
+abbrev in_search : List (Key × Option StoreFault)
+in_search = (Insert 0x63, None) ∷ (Find, None) ∷ (Size 3 20, None) ∷ (Erase, None) ∷ (Insert 0x63, None) ∷ []
 
 abbrev given_up_by : Key → Key → Editor
-given_up_by begin give = after_key tables false (after_typing tables (after_key tables false marked_at_1 begin) in_search) give
+given_up_by begin give = after_key tables None (after_typing tables (after_key tables None marked_at_1 begin) in_search) give
 
-stays_on_after_find : StaysOn tables (after_key tables false marked_at_1 Find) in_search
+stays_on_after_find : StaysOn tables (after_key tables None marked_at_1 Find) in_search
 unfolding unicode_segmentation unicode_width digits
 stays_on_after_find = ((λ e. cc e), ((λ e. cc e), ((λ e. cc e), ((λ e. cc e), ((λ e. cc e), λ e. cc e)))))
 
-stays_on_after_find_back : StaysOn tables (after_key tables false marked_at_1 FindBack) in_search
+stays_on_after_find_back : StaysOn tables (after_key tables None marked_at_1 FindBack) in_search
 unfolding unicode_segmentation unicode_width digits
 stays_on_after_find_back = ((λ e. cc e), ((λ e. cc e), ((λ e. cc e), ((λ e. cc e), ((λ e. cc e), λ e. cc e)))))
 

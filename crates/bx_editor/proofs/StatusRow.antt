@@ -8,14 +8,18 @@ use Rattle.std.proofs.lemmas.List.{append-nil, drop_all, map-append}
 use Rattle.std.proofs.lemmas.List.Folds.{list_all-append}
 use Rattle.bx_terms.specs.Characters.{are_ascii_printable, is_ascii_printable}
 use Rattle.bx_terms.specs.declared.base.Base.TheVariants.{Auto, Ltr, Rtl}
+use Rattle.bx_keys.specs.declared.notice.Notice as told
+use Rattle.bx_keys.specs.declared.notice.Notice.TheVariants as notices
+use Rattle.bx_store.specs.declared.cause.SaveCause.{SaveCause}
+use Rattle.bx_store.specs.declared.cause.SaveCause.TheVariants as causes
 use Rattle.bx_grid.specs.Columns.{Col}
 use Rattle.bx_grid.specs.Picture.{GridState}
 use Rattle.bx_rows.specs.RowPicture.{Glyph, glyph}
 use Rattle.bx_document.specs.Drawing.{with_rows}
 use Rattle.bx_editor.specs.declared.message.Message.{Message}
 use Rattle.bx_editor.specs.declared.message.Message.TheVariants.{Saved, SaveFailed, TextFull, NothingToUndo, NothingToRedo, Unsaved, Direction, MarkSet, MarkOff}
-use Rattle.bx_editor.specs.declared.message.Message.TheVariants.{Copied, LineCopied, NothingToCopy, NothingToPut, FromStart, FromEnd, NotFound, Help}
-use Rattle.bx_editor.specs.Status.{letter_glyphs, message_part, message_text, status_line}
+use Rattle.bx_editor.specs.declared.message.Message.TheVariants.{Copied, LineCopied, NothingToCopy, NothingToPut, FromStart, FromEnd, NotFound, Help, Notice}
+use Rattle.bx_editor.specs.Status.{failed_text, letter_glyphs, message_part, message_text, notice_text, status_line}
 
 -- ---- all its characters are from SPACE to TILDE
 
@@ -32,9 +36,31 @@ decimal-printable : (n : ℕ) → n < 2 ^ 64 → are_ascii_printable (decimal n)
 decimal-printable n h = decimal_by_steps (λ _ ds. are_ascii_printable ds ≡ true) (λ k low. digit k low)
     (λ k ds ten p. printable-append ds ((48 + k % 10) ∷ []) p (digit (k % 10) (omega arith))) n h
 
+failed-printable : (cause : Option SaveCause) → are_ascii_printable (failed_text cause) ≡ true
+failed-printable None = refl
+failed-printable (Some causes.NoSpace) = refl
+failed-printable (Some causes.NotPermitted) = refl
+failed-printable (Some causes.FolderGone) = refl
+failed-printable (Some causes.ReadOnly) = refl
+failed-printable (Some causes.TooLarge) = refl
+failed-printable (Some causes.OutOfMemory) = refl
+failed-printable (Some causes.Changed) = refl
+failed-printable (Some causes.Other) = refl
+
+notice-printable : (notice : told.Notice) → are_ascii_printable (notice_text notice) ≡ true
+notice-printable notices.NoSpace = refl
+notice-printable notices.FolderGone = refl
+notice-printable notices.NotPermitted = refl
+notice-printable notices.ReadOnly = refl
+notice-printable notices.Unkept = refl
+notice-printable notices.KeptAgain = refl
+notice-printable notices.Recovered = refl
+notice-printable notices.RecoveredAside = refl
+notice-printable notices.InPlace = refl
+
 message-printable : (m : Message) → are_ascii_printable (message_text m) ≡ true
 message-printable Saved = refl
-message-printable SaveFailed = refl
+message-printable (SaveFailed cause) = failed-printable cause
 message-printable TextFull = refl
 message-printable NothingToUndo = refl
 message-printable NothingToRedo = refl
@@ -52,6 +78,7 @@ message-printable FromStart = refl
 message-printable FromEnd = refl
 message-printable NotFound = refl
 message-printable Help = refl
+message-printable (Notice notice) = notice-printable notice
 
 part-printable : (message : Option Message) → are_ascii_printable (message_part message) ≡ true
 part-printable None = refl

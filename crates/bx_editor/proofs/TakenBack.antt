@@ -1,11 +1,12 @@
 -- Undo and redo restore earlier versions: past and future are chains of versions that begin with the opened text.
 use Rattle.std.proofs.Common.{◌≡◌, ℕ, Bool, true, false, List, [], ◌∷◌, length, replicate, refl, sym, ap, subst, ◌∙◌, if◌then◌else◌}
-use Rattle.std.specs.Prelude.{◌≢◌, ◌+◌, ◌==◌, ◌||◌, not, encode_utf8, Some, None}
+use Rattle.std.specs.Prelude.{◌≢◌, ◌+◌, ◌==◌, ◌||◌, not, encode_utf8, Option, Some, None}
 use Rattle.bx_terms.specs.declared.base.Base.{Base}
 use Rattle.bx_keys.specs.declared.key.Key.{Key}
 use Rattle.bx_keys.specs.declared.key.Key.TheVariants.{Insert, Erase, Delete, Back, Forward, Up, Down, Right, Left, RowHome, RowEnd, PageUp, PageDown, Save}
 use Rattle.bx_keys.specs.declared.key.Key.TheVariants.{Quit, Undo, Redo, Repaint, Direction, Size, Mark, Copy, Cut, Put}
-use Rattle.bx_keys.specs.declared.key.Key.TheVariants.{Find, FindBack, WordLeft, WordRight, TextStart, TextEnd, Help}
+use Rattle.bx_keys.specs.declared.key.Key.TheVariants.{Find, FindBack, WordLeft, WordRight, TextStart, TextEnd, Help, Notice}
+use Rattle.bx_store.specs.declared.store.StoreFault.{StoreFault}
 use Rattle.bx_text.specs.Edits.{Edit, Edited, fits, inserted, removed, splice}
 use Rattle.bx_view.specs.Moves.{step_logical}
 use Rattle.bx_view.specs.declared.moves.Logical.TheVariants as logical
@@ -78,9 +79,9 @@ redo_has first e text past (edit ∷ future) h = record {
   future = h.future.1;
 }
 
-save_has : (first : List ℕ) (e : Editor) (saved : Bool) → HasVersions first e.content → HasVersions first (after_save e saved).content
-save_has first e true h = h
-save_has first e false h = h
+save_has : (first : List ℕ) (e : Editor) (fault : Option StoreFault) → HasVersions first e.content → HasVersions first (after_save e fault).content
+save_has first e None h = h
+save_has first e (Some fault) h = h
 
 quit_has : (first : List ℕ) (e : Editor) (again : Bool) → HasVersions first e.content → HasVersions first (after_quit e again).content
 quit_has first e again h = either_has (not e.changed || again) first (record e { quit_before = true; ended = true })
@@ -107,111 +108,113 @@ put_has : (first : List ℕ) (d : Data) (e : Editor) → HasVersions first e.con
 put_has first d e h =
     either_has (length e.held == 0) first (record e { message = Some NothingToPut }) (after_insertion d e e.held) h (insertion_has first d e e.held h)
 
-press_has : (d : Data) (saved again : Bool) (first : List ℕ) (e : Editor) (key : Key) → HasVersions first e.content
-    → HasVersions first (after_pressing d saved again e key).content
-press_has d saved again first e (Insert c) h = insertion_has first d e (encode_utf8 c) h
-press_has d saved again first e Erase h = removal_has first d e (step_logical (rows d e) logical.Back e.place) e.place h
-press_has d saved again first e Delete h = removal_has first d e e.place (step_logical (rows d e) logical.Forward e.place) h
-press_has d saved again first e Back h = h
-press_has d saved again first e Forward h = h
-press_has d saved again first e Up h = h
-press_has d saved again first e Down h = h
-press_has d saved again first e Right h = h
-press_has d saved again first e Left h = h
-press_has d saved again first e RowHome h = h
-press_has d saved again first e RowEnd h = h
-press_has d saved again first e PageUp h = h
-press_has d saved again first e PageDown h = h
-press_has d saved again first e Save h = save_has first e saved h
-press_has d saved again first e Quit h = quit_has first e again h
-press_has d saved again first e Undo h = undo_has first e e.content.text e.content.past e.content.future h
-press_has d saved again first e Redo h = redo_has first e e.content.text e.content.past e.content.future h
-press_has d saved again first e Repaint h = h
-press_has d saved again first e Direction h = h
-press_has d saved again first e Mark h = mark_has first e h
-press_has d saved again first e Copy h = copy_has first d e h
-press_has d saved again first e Cut h = cut_has first d e h
-press_has d saved again first e Put h = put_has first d e h
-press_has d saved again first e Find h = h
-press_has d saved again first e FindBack h = h
-press_has d saved again first e WordLeft h = h
-press_has d saved again first e WordRight h = h
-press_has d saved again first e TextStart h = h
-press_has d saved again first e TextEnd h = h
-press_has d saved again first e Help h = h
-press_has d saved again first e (Size height width) h = h
+press_has : (d : Data) (fault : Option StoreFault) (again : Bool) (first : List ℕ) (e : Editor) (key : Key) → HasVersions first e.content
+    → HasVersions first (after_pressing d fault again e key).content
+press_has d fault again first e (Insert c) h = insertion_has first d e (encode_utf8 c) h
+press_has d fault again first e Erase h = removal_has first d e (step_logical (rows d e) logical.Back e.place) e.place h
+press_has d fault again first e Delete h = removal_has first d e e.place (step_logical (rows d e) logical.Forward e.place) h
+press_has d fault again first e Back h = h
+press_has d fault again first e Forward h = h
+press_has d fault again first e Up h = h
+press_has d fault again first e Down h = h
+press_has d fault again first e Right h = h
+press_has d fault again first e Left h = h
+press_has d fault again first e RowHome h = h
+press_has d fault again first e RowEnd h = h
+press_has d fault again first e PageUp h = h
+press_has d fault again first e PageDown h = h
+press_has d fault again first e Save h = save_has first e fault h
+press_has d fault again first e Quit h = quit_has first e again h
+press_has d fault again first e Undo h = undo_has first e e.content.text e.content.past e.content.future h
+press_has d fault again first e Redo h = redo_has first e e.content.text e.content.past e.content.future h
+press_has d fault again first e Repaint h = h
+press_has d fault again first e Direction h = h
+press_has d fault again first e Mark h = mark_has first e h
+press_has d fault again first e Copy h = copy_has first d e h
+press_has d fault again first e Cut h = cut_has first d e h
+press_has d fault again first e Put h = put_has first d e h
+press_has d fault again first e Find h = h
+press_has d fault again first e FindBack h = h
+press_has d fault again first e WordLeft h = h
+press_has d fault again first e WordRight h = h
+press_has d fault again first e TextStart h = h
+press_has d fault again first e TextEnd h = h
+press_has d fault again first e Help h = h
+press_has d fault again first e (Size height width) h = h
+press_has d fault again first e (Notice notice) h = h
 
 letter_has : (first : List ℕ) (d : Data) (e : Editor) (c : ℕ) → HasVersions first e.content → HasVersions first (after_letter d e c).content
 letter_has first d e c h =
     let longer : Editor = search_from d e.place (with_query e (lengthened (kept e.seek e.query) c)) in
     either_has (c == 0xA) first (without_search e) (if is_no_letter d c then e else longer) h (either_has (is_no_letter d c) first e longer h h)
 
-seek_has : (d : Data) (saved again : Bool) (first : List ℕ) (e : Editor) (key : Key) → HasVersions first e.content
-    → HasVersions first (after_seeking d saved again e key).content
-seek_has d saved again first e (Insert c) h = letter_has first d e c h
-seek_has d saved again first e Erase h = h
-seek_has d saved again first e Delete h = h
-seek_has d saved again first e Back h = press_has d saved again first e Back h
-seek_has d saved again first e Forward h = press_has d saved again first e Forward h
-seek_has d saved again first e Up h = press_has d saved again first e Up h
-seek_has d saved again first e Down h = press_has d saved again first e Down h
-seek_has d saved again first e Right h = press_has d saved again first e Right h
-seek_has d saved again first e Left h = press_has d saved again first e Left h
-seek_has d saved again first e RowHome h = press_has d saved again first e RowHome h
-seek_has d saved again first e RowEnd h = press_has d saved again first e RowEnd h
-seek_has d saved again first e PageUp h = press_has d saved again first e PageUp h
-seek_has d saved again first e PageDown h = press_has d saved again first e PageDown h
-seek_has d saved again first e Save h = press_has d saved again first e Save h
-seek_has d saved again first e Quit h = h
-seek_has d saved again first e Undo h = press_has d saved again first e Undo h
-seek_has d saved again first e Redo h = press_has d saved again first e Redo h
-seek_has d saved again first e Repaint h = h
-seek_has d saved again first e Direction h = press_has d saved again first e Direction h
-seek_has d saved again first e Mark h = press_has d saved again first e Mark h
-seek_has d saved again first e Copy h = h
-seek_has d saved again first e Cut h = press_has d saved again first e Cut h
-seek_has d saved again first e Put h = press_has d saved again first e Put h
-seek_has d saved again first e Find h = h
-seek_has d saved again first e FindBack h = h
-seek_has d saved again first e WordLeft h = press_has d saved again first e WordLeft h
-seek_has d saved again first e WordRight h = press_has d saved again first e WordRight h
-seek_has d saved again first e TextStart h = press_has d saved again first e TextStart h
-seek_has d saved again first e TextEnd h = press_has d saved again first e TextEnd h
-seek_has d saved again first e Help h = press_has d saved again first e Help h
-seek_has d saved again first e (Size height width) h = press_has d saved again first e (Size height width) h
+seek_has : (d : Data) (fault : Option StoreFault) (again : Bool) (first : List ℕ) (e : Editor) (key : Key) → HasVersions first e.content
+    → HasVersions first (after_seeking d fault again e key).content
+seek_has d fault again first e (Insert c) h = letter_has first d e c h
+seek_has d fault again first e Erase h = h
+seek_has d fault again first e Delete h = h
+seek_has d fault again first e Back h = press_has d fault again first e Back h
+seek_has d fault again first e Forward h = press_has d fault again first e Forward h
+seek_has d fault again first e Up h = press_has d fault again first e Up h
+seek_has d fault again first e Down h = press_has d fault again first e Down h
+seek_has d fault again first e Right h = press_has d fault again first e Right h
+seek_has d fault again first e Left h = press_has d fault again first e Left h
+seek_has d fault again first e RowHome h = press_has d fault again first e RowHome h
+seek_has d fault again first e RowEnd h = press_has d fault again first e RowEnd h
+seek_has d fault again first e PageUp h = press_has d fault again first e PageUp h
+seek_has d fault again first e PageDown h = press_has d fault again first e PageDown h
+seek_has d fault again first e Save h = press_has d fault again first e Save h
+seek_has d fault again first e Quit h = h
+seek_has d fault again first e Undo h = press_has d fault again first e Undo h
+seek_has d fault again first e Redo h = press_has d fault again first e Redo h
+seek_has d fault again first e Repaint h = h
+seek_has d fault again first e Direction h = press_has d fault again first e Direction h
+seek_has d fault again first e Mark h = press_has d fault again first e Mark h
+seek_has d fault again first e Copy h = h
+seek_has d fault again first e Cut h = press_has d fault again first e Cut h
+seek_has d fault again first e Put h = press_has d fault again first e Put h
+seek_has d fault again first e Find h = h
+seek_has d fault again first e FindBack h = h
+seek_has d fault again first e WordLeft h = press_has d fault again first e WordLeft h
+seek_has d fault again first e WordRight h = press_has d fault again first e WordRight h
+seek_has d fault again first e TextStart h = press_has d fault again first e TextStart h
+seek_has d fault again first e TextEnd h = press_has d fault again first e TextEnd h
+seek_has d fault again first e Help h = press_has d fault again first e Help h
+seek_has d fault again first e (Size height width) h = press_has d fault again first e (Size height width) h
+seek_has d fault again first e (Notice notice) h = press_has d fault again first e (Notice notice) h
 
-any_has : (d : Data) (saved again : Bool) (first : List ℕ) (seek : Seek) (e : Editor) (key : Key) → HasVersions first e.content
-    → HasVersions first (after_any d saved again seek e key).content
-any_has d saved again first Off e key h = press_has d saved again first e key h
-any_has d saved again first Begun e key h = seek_has d saved again first e key h
-any_has d saved again first Typed e key h = seek_has d saved again first e key h
+any_has : (d : Data) (fault : Option StoreFault) (again : Bool) (first : List ℕ) (seek : Seek) (e : Editor) (key : Key) → HasVersions first e.content
+    → HasVersions first (after_any d fault again seek e key).content
+any_has d fault again first Off e key h = press_has d fault again first e key h
+any_has d fault again first Begun e key h = seek_has d fault again first e key h
+any_has d fault again first Typed e key h = seek_has d fault again first e key h
 
-key_has : (d : Data) (saved : Bool) (first : List ℕ) (e : Editor) (key : Key) → HasVersions first e.content
-    → HasVersions first (after_key d saved e key).content
-key_has d saved first e key h =
-    each-key d saved e (λ k new. HasVersions first new.content) (λ height width. h)
-    (λ k other. any_has d saved e.quit_before first e.seek (without_message e) k h) key
+key_has : (d : Data) (fault : Option StoreFault) (first : List ℕ) (e : Editor) (key : Key) → HasVersions first e.content
+    → HasVersions first (after_key d fault e key).content
+key_has d fault first e key h =
+    each-key d fault e (λ k new. HasVersions first new.content) (λ height width. h) (λ notice. h)
+    (λ k other. any_has d fault e.quit_before first e.seek (without_message e) k h) key
 
-typing_has : (d : Data) (first : List ℕ) (e : Editor) (typed : List (Key × Bool)) → HasVersions first e.content
+typing_has : (d : Data) (first : List ℕ) (e : Editor) (typed : List (Key × Option StoreFault)) → HasVersions first e.content
     → HasVersions first (after_typing d e typed).content
 typing_has d first e [] h = h
 typing_has d first e (key ∷ typed) h = typing_has d first (after_key d key.1 e key.0) typed (key_has d key.1 first e key.0 h)
 
-typed_has : (d : Data) (text : List ℕ) (height width : ℕ) (base : Base) (typed : List (Key × Bool))
+typed_has : (d : Data) (text : List ℕ) (height width : ℕ) (base : Base) (typed : List (Key × Option StoreFault))
     → HasVersions text (after_typing d (at_start text height width base) typed).content
 typed_has d text height width base typed = typing_has d text (at_start text height width base) typed (record { past = refl; future = tt })
 
 -- ---- undo and redo, whether a search is on or not
 
 undone_is : (d : Data) (again : Bool) (seek : Seek) (e : Editor) (text : List ℕ) (edit : Edit) (past future : List Edit)
-    → after_any d false again seek (record e { content = version text (edit ∷ past) future }) Undo
+    → after_any d None again seek (record e { content = version text (edit ∷ past) future }) Undo
     ≡ record e { content = version edit.before.text past (edit ∷ future); place = edit.before.place; mark = None; seek = Off; changed = true }
 undone_is d again Off e text edit past future = refl
 undone_is d again Begun e text edit past future = refl
 undone_is d again Typed e text edit past future = refl
 
 redone_is : (d : Data) (again : Bool) (seek : Seek) (e : Editor) (text : List ℕ) (edit : Edit) (past future : List Edit)
-    → after_any d false again seek (record e { content = version text past (edit ∷ future) }) Redo
+    → after_any d None again seek (record e { content = version text past (edit ∷ future) }) Redo
     ≡ record e { content = version edit.after.text (edit ∷ past) future; place = edit.after.place; mark = None; seek = Off; changed = true }
 redone_is d again Off e text edit past future = refl
 redone_is d again Begun e text edit past future = refl
@@ -222,52 +225,52 @@ none_behind [] = refl
 none_behind (edit ∷ past) = refl
 
 all_back : (d : Data) (first : List ℕ) (e : Editor) (text : List ℕ) (past future : List Edit) → IsPastOf first text past
-    → let now : Editor = record e { content = version text past future } in IsBackAt first now (after_keys d false now (replicate (length past) Undo))
+    → let now : Editor = record e { content = version text past future } in IsBackAt first now (after_keys d None now (replicate (length past) Undo))
 all_back d first e text [] future h = record { text_is = h; past_is = refl; place_is = refl; mark_is = refl }
 all_back d first e text (edit ∷ past) future h =
     let now : Editor = record e { content = version text (edit ∷ past) future } in
     let undone : Editor = record (without_message e) { place = edit.before.place; mark = None; seek = Off; changed = true } in
     let back = all_back d first undone edit.before.text past (edit ∷ future) h.1 in
-    subst (λ new. IsBackAt first now (after_keys d false new (replicate (length past) Undo)))
+    subst (λ new. IsBackAt first now (after_keys d None new (replicate (length past) Undo)))
     (sym (undone_is d e.quit_before e.seek (without_message e) text edit past future))
     (record { text_is = back.text_is; past_is = back.past_is; place_is = back.place_is; mark_is = back.mark_is ∙ none_behind past })
 
 redo_back : (d : Data) (first : List ℕ) (e : Editor) (text : List ℕ) (past future : List Edit) → IsPastOf first text past → past ≢ []
-    → (after_keys d false (record e { content = version text past future }) (Undo ∷ Redo ∷ [])).content ≡ version text past future
+    → (after_keys d None (record e { content = version text past future }) (Undo ∷ Redo ∷ [])).content ≡ version text past future
 redo_back d first e text [] future h some = absurd (some refl)
 redo_back d first e text (edit ∷ past) future h some =
-    ap (λ new. (after_key d false new Redo).content) (undone_is d e.quit_before e.seek (without_message e) text edit past future)
+    ap (λ new. (after_key d None new Redo).content) (undone_is d e.quit_before e.seek (without_message e) text edit past future)
     ∙ ap (λ t. version t (edit ∷ past) future) h.0
 
 undo_back : (d : Data) (e : Editor) (text : List ℕ) (past future : List Edit) → IsFutureOf text future → future ≢ []
-    → (after_keys d false (record e { content = version text past future }) (Redo ∷ Undo ∷ [])).content ≡ version text past future
+    → (after_keys d None (record e { content = version text past future }) (Redo ∷ Undo ∷ [])).content ≡ version text past future
 undo_back d e text past [] h some = absurd (some refl)
 undo_back d e text past (edit ∷ future) h some =
-    ap (λ new. (after_key d false new Undo).content) (redone_is d e.quit_before e.seek (without_message e) text edit past future)
+    ap (λ new. (after_key d None new Undo).content) (redone_is d e.quit_before e.seek (without_message e) text edit past future)
     ∙ ap (λ t. version t past (edit ∷ future)) h.0
 
 -- ---- place and mark behind both
 
 redo_place : (d : Data) (e : Editor) (text : List ℕ) (past future : List Edit) (edit : Edit) (rest : List Edit) → past ≡ edit ∷ rest
-    → IsUnmarkedAt edit.after.place (after_keys d false (record e { content = version text past future }) (Undo ∷ Redo ∷ []))
+    → IsUnmarkedAt edit.after.place (after_keys d None (record e { content = version text past future }) (Undo ∷ Redo ∷ []))
 redo_place d e text [] future edit rest is = absurd (cc)
 redo_place d e text (latest ∷ past) future edit rest is =
     let same : latest ≡ edit = cc in
     let undone = undone_is d e.quit_before e.seek (without_message e) text latest past future in
-    let there : IsUnmarkedAt latest.after.place (after_keys d false (record e { content = version text (latest ∷ past) future }) (Undo ∷ Redo ∷ [])) =
-    subst (λ new. IsUnmarkedAt latest.after.place (after_key d false new Redo)) (sym undone) (record { place_is = refl; mark_is = refl }) in
-    subst (λ (x : Edit). IsUnmarkedAt x.after.place (after_keys d false (record e { content = version text (latest ∷ past) future }) (Undo ∷ Redo ∷ [])))
+    let there : IsUnmarkedAt latest.after.place (after_keys d None (record e { content = version text (latest ∷ past) future }) (Undo ∷ Redo ∷ [])) =
+    subst (λ new. IsUnmarkedAt latest.after.place (after_key d None new Redo)) (sym undone) (record { place_is = refl; mark_is = refl }) in
+    subst (λ (x : Edit). IsUnmarkedAt x.after.place (after_keys d None (record e { content = version text (latest ∷ past) future }) (Undo ∷ Redo ∷ [])))
     same there
 
 undo_place : (d : Data) (e : Editor) (text : List ℕ) (past future : List Edit) (edit : Edit) (rest : List Edit) → future ≡ edit ∷ rest
-    → IsUnmarkedAt edit.before.place (after_keys d false (record e { content = version text past future }) (Redo ∷ Undo ∷ []))
+    → IsUnmarkedAt edit.before.place (after_keys d None (record e { content = version text past future }) (Redo ∷ Undo ∷ []))
 undo_place d e text past [] edit rest is = absurd (cc)
 undo_place d e text past (next ∷ future) edit rest is =
     let same : next ≡ edit = cc in
     let redone = redone_is d e.quit_before e.seek (without_message e) text next past future in
-    let there : IsUnmarkedAt next.before.place (after_keys d false (record e { content = version text past (next ∷ future) }) (Redo ∷ Undo ∷ [])) =
-    subst (λ new. IsUnmarkedAt next.before.place (after_key d false new Undo)) (sym redone) (record { place_is = refl; mark_is = refl }) in
-    subst (λ (x : Edit). IsUnmarkedAt x.before.place (after_keys d false (record e { content = version text past (next ∷ future) }) (Redo ∷ Undo ∷ [])))
+    let there : IsUnmarkedAt next.before.place (after_keys d None (record e { content = version text past (next ∷ future) }) (Redo ∷ Undo ∷ [])) =
+    subst (λ new. IsUnmarkedAt next.before.place (after_key d None new Undo)) (sym redone) (record { place_is = refl; mark_is = refl }) in
+    subst (λ (x : Edit). IsUnmarkedAt x.before.place (after_keys d None (record e { content = version text past (next ∷ future) }) (Redo ∷ Undo ∷ [])))
     same there
 
 pub undo_gives_back : UndoGivesBack

@@ -1,7 +1,9 @@
 -- The editor's state, and its changes. Offsets and places count bytes of the text.
-use Rattle.std.specs.Prelude.{ℕ, ◌+◌, ◌-◌, Bool, true, false, not, ◌||◌, nat_le, ◌==◌, List, [], ◌∷◌, length, Option, Some, None, if◌then◌else◌}
+use Rattle.std.specs.Prelude.{ℕ, ◌+◌, ◌-◌, Bool, false, not, ◌||◌, nat_le, ◌==◌, List, [], ◌∷◌, length, Option, Some, None, if◌then◌else◌}
 use Rattle.bx_terms.specs.declared.base.Base.{Base}
 use Rattle.bx_terms.specs.declared.base.Base.TheVariants.{Auto, Ltr, Rtl}
+use Rattle.bx_keys.specs.declared.notice.Notice.{Notice}
+use Rattle.bx_store.specs.declared.store.StoreFault.{StoreFault}
 use Rattle.bx_text.specs.Edits.{Edited, Edit, opened, inserted, removed, splice, fits, undone, redone}
 use Rattle.bx_view.specs.TextRows.{TextRow, text_rows}
 use Rattle.bx_view.specs.Moves.{place_from}
@@ -30,7 +32,7 @@ pub record Editor : Type 0 where
   -- there was an edit since the opening or the last save
   pub changed : Bool
   pub message : Option Message
-  -- the last key other than Size was Quit
+  -- the last key of the user was Quit
   pub quit_before : Bool
   pub ended : Bool
   pub base : Base
@@ -118,10 +120,10 @@ nothing_left steps.Redo = messages.NothingToRedo
 
 -- ---- keys that do not edit
 
--- a save succeeded, or failed
-abbrev pub after_save : Editor → Bool → Editor
-after_save e true = record e { changed = false; message = Some messages.Saved }
-after_save e false = record e { message = Some messages.SaveFailed }
+-- a save succeeded, or failed with this fault, whose cause is told
+abbrev pub after_save : Editor → Option StoreFault → Editor
+after_save e None = record e { changed = false; message = Some messages.Saved }
+after_save e (Some fault) = record e { message = Some (messages.SaveFailed fault.cause) }
 
 -- the session ends if there are no unsaved changes or the key before was Quit too
 abbrev pub after_quit : Editor → Bool → Editor
@@ -147,6 +149,10 @@ with_size e height width = record e { height = height; width = width }
 
 abbrev pub with_place : Editor → ℕ → Editor
 with_place e place = record e { place = place }
+
+-- a notice is the message, and all else stays
+abbrev pub with_notice : Editor → Notice → Editor
+with_notice e notice = record e { message = Some (messages.Notice notice) }
 
 -- the message is cleared, and an earlier Quit is forgotten
 abbrev pub without_message : Editor → Editor

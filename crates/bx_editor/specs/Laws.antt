@@ -1,9 +1,10 @@
 -- Laws of the editor.
-use Rattle.std.specs.Prelude.{◌≡◌, ◌≢◌, ◌⊎◌, ℕ, ◌+◌, ◌<◌, ◌≤◌, Bool, true, false, List, [], ◌∷◌, ◌++◌, length, take, drop, replicate, Option, Some, None, IsUtf8}
+use Rattle.std.specs.Prelude.{◌≡◌, ◌≢◌, ◌⊎◌, ℕ, ◌+◌, ◌<◌, ◌≤◌, true, List, [], ◌∷◌, ◌++◌, length, take, drop, replicate, Option, Some, None, IsUtf8}
 use Rattle.bx_terms.specs.Sizes.{is_side, largest_text}
 use Rattle.bx_terms.specs.declared.base.Base.{Base}
 use Rattle.bx_keys.specs.declared.key.Key.{Key}
 use Rattle.bx_keys.specs.declared.key.Key.TheVariants.{Quit, Undo, Redo, Mark, Copy, Cut, Put, Find, FindBack, TextStart, TextEnd}
+use Rattle.bx_store.specs.declared.store.StoreFault.{StoreFault}
 use Rattle.bx_text.specs.Edits.{Edit}
 use Rattle.bx_ucd.specs.Data.{Data}
 use Rattle.bx_find.specs.Laws.{IsFirst, IsLast, MatchesAt}
@@ -30,14 +31,14 @@ TopStays = (d : Data) (e : Editor) (top : ℕ) → HasRows e → next_top d e (n
 
 -- ---- undo and redo
 
--- keys in sequence, each with whether it succeeds if it is a Save
-abbrev pub after_typing : Data → Editor → List (Key × Bool) → Editor
+-- keys in sequence, each with its fault if it is a Save that fails
+abbrev pub after_typing : Data → Editor → List (Key × Option StoreFault) → Editor
 after_typing d e [] = e
 after_typing d e (key ∷ typed) = after_typing d (after_key d key.1 e key.0) typed
 
 -- Undo, once for each edit of the past
 abbrev pub after_all_undone : Data → Editor → Editor
-after_all_undone d e = after_keys d false e (replicate (length e.content.past) Undo)
+after_all_undone d e = after_keys d None e (replicate (length e.content.past) Undo)
 
 -- the place before the oldest of some edits, the latest first; the given place, if there is no edit
 abbrev pub oldest_place : ℕ → List Edit → ℕ
@@ -60,7 +61,7 @@ pub record IsBackAt (text : List ℕ) (e new : Editor) : Type 0 where
 -- undoing everything restores the opened text, whatever was typed
 abbrev pub UndoGivesBack : Type 0
 UndoGivesBack =
-    (d : Data) (text : List ℕ) (height width : ℕ) (base : Base) (typed : List (Key × Bool))
+    (d : Data) (text : List ℕ) (height width : ℕ) (base : Base) (typed : List (Key × Option StoreFault))
     → let e = after_typing d (at_start text height width base) typed in IsBackAt text e (after_all_undone d e)
 
 -- the cursor is at this place, and no mark is set
@@ -71,17 +72,17 @@ pub record IsUnmarkedAt (place : ℕ) (e : Editor) : Type 0 where
 -- Undo then Redo leaves text, past and future unchanged, if there is an edit to undo, and the cursor at its place after that
 -- edit. Redo then Undo leaves them unchanged, if there is an edit to redo, and the cursor at its place before that edit.
 pub record AreMirrored (d : Data) (e : Editor) : Type 0 where
-  pub redo : e.content.past ≢ [] → (after_keys d false e (Undo ∷ Redo ∷ [])).content ≡ e.content
+  pub redo : e.content.past ≢ [] → (after_keys d None e (Undo ∷ Redo ∷ [])).content ≡ e.content
   pub redo_place : (edit : Edit) (past : List Edit) → e.content.past ≡ edit ∷ past
-      → IsUnmarkedAt edit.after.place (after_keys d false e (Undo ∷ Redo ∷ []))
-  pub undo : e.content.future ≢ [] → (after_keys d false e (Redo ∷ Undo ∷ [])).content ≡ e.content
+      → IsUnmarkedAt edit.after.place (after_keys d None e (Undo ∷ Redo ∷ []))
+  pub undo : e.content.future ≢ [] → (after_keys d None e (Redo ∷ Undo ∷ [])).content ≡ e.content
   pub undo_place : (edit : Edit) (future : List Edit) → e.content.future ≡ edit ∷ future
-      → IsUnmarkedAt edit.before.place (after_keys d false e (Redo ∷ Undo ∷ []))
+      → IsUnmarkedAt edit.before.place (after_keys d None e (Redo ∷ Undo ∷ []))
 
 -- undo and redo mirror each other after anything that was typed over an opened text
 abbrev pub RedoMirrorsUndo : Type 0
 RedoMirrorsUndo =
-    (d : Data) (text : List ℕ) (height width : ℕ) (base : Base) (typed : List (Key × Bool))
+    (d : Data) (text : List ℕ) (height width : ℕ) (base : Base) (typed : List (Key × Option StoreFault))
     → AreMirrored d (after_typing d (at_start text height width base) typed)
 
 -- ---- the region
@@ -106,15 +107,15 @@ pub record HasPut (d : Data) (e : Editor) (text : List ℕ) (offset : ℕ) (new 
 abbrev pub CopyPutsTwice : Type 0
 CopyPutsTwice =
     (d : Data) (e : Editor) → e.seek ≡ Off → IsPart e (region e) → length (twice e (region e)) ≤ largest_text
-    → HasPut d e (twice e (region e)) (e.place + length (bytes_in e (region e))) (after_keys d false e (Copy ∷ Put ∷ []))
+    → HasPut d e (twice e (region e)) (e.place + length (bytes_in e (region e))) (after_keys d None e (Copy ∷ Put ∷ []))
 
 -- cutting and putting back at once leaves the text unchanged, if the cut leaves the cursor where the cut text began, and the
 -- cursor at the end of that text
 abbrev pub PutRestoresCut : Type 0
 PutRestoresCut =
     (d : Data) (e : Editor) → IsPart e (taken d e) → length e.content.text ≤ largest_text
-    → (after_key d false e Cut).place ≡ (taken d e).0
-    → HasPut d e e.content.text ((taken d e).1) (after_keys d false e (Cut ∷ Put ∷ []))
+    → (after_key d None e Cut).place ≡ (taken d e).0
+    → HasPut d e e.content.text ((taken d e).1) (after_keys d None e (Cut ∷ Put ∷ []))
 
 -- Mark twice at one place changes nothing but the message, if the mark was there or nowhere; a mark elsewhere is gone. A
 -- search ends, and an earlier Quit is forgotten.
@@ -124,15 +125,15 @@ pub record AreTwoMarks (e new : Editor) : Type 0 where
       → new ≡ record e { mark = None; seek = Off; message = new.message; quit_before = false }
 
 abbrev pub MarkTwiceIsNothing : Type 0
-MarkTwiceIsNothing = (d : Data) (e : Editor) → AreTwoMarks e (after_keys d false e (Mark ∷ Mark ∷ []))
+MarkTwiceIsNothing = (d : Data) (e : Editor) → AreTwoMarks e (after_keys d None e (Mark ∷ Mark ∷ []))
 
 -- ---- the text's ends
 
 -- TextEnd then TextStart leads to the text's start, TextStart then TextEnd to its end; all else stays, but a search ends, and
 -- the message and an earlier Quit are gone
 pub record ReachesBothEnds (d : Data) (e : Editor) : Type 0 where
-  pub start : after_keys d false e (TextEnd ∷ TextStart ∷ []) ≡ record e { place = 0; seek = Off; message = None; quit_before = false }
-  pub end : after_keys d false e (TextStart ∷ TextEnd ∷ [])
+  pub start : after_keys d None e (TextEnd ∷ TextStart ∷ []) ≡ record e { place = 0; seek = Off; message = None; quit_before = false }
+  pub end : after_keys d None e (TextStart ∷ TextEnd ∷ [])
       ≡ record e { place = length e.content.text; seek = Off; message = None; quit_before = false }
 
 abbrev pub GoesToBothEnds : Type 0
@@ -164,7 +165,7 @@ Stayed e new = (new.place ≡ e.place) × (new.message ≡ Some NotFound)
 -- message; without any match the cursor stays
 abbrev pub FindGoesToNext : Type 0
 FindGoesToNext =
-    (d : Data) (e : Editor) → Seeks d e → let x = next_or_start d e in let new = after_key d false e Find in
+    (d : Data) (e : Editor) → Seeks d e → let x = next_or_start d e in let new = after_key d None e Find in
     ((at : ℕ) × IsFirst d (sought d e) e.content.text x at × WentTo d e new None at)
     ⊎ ((NoneFrom d e x × ((at : ℕ) × IsFirst d (sought d e) e.content.text 0 at × WentTo d e new (Some FromStart) at))
     ⊎ (NoneFrom d e 0 × Stayed e new))
@@ -172,7 +173,7 @@ FindGoesToNext =
 -- FindBack goes to the last match before the place; if there is none, to the last match of the text, with a message
 abbrev pub FindBackGoesToPrevious : Type 0
 FindBackGoesToPrevious =
-    (d : Data) (e : Editor) → Seeks d e → let end = length e.content.text in let new = after_key d false e FindBack in
+    (d : Data) (e : Editor) → Seeks d e → let end = length e.content.text in let new = after_key d None e FindBack in
     ((at : ℕ) × IsLast d (sought d e) e.content.text e.place at × WentTo d e new None at)
     ⊎ ((NoneBefore d e e.place × ((at : ℕ) × IsLast d (sought d e) e.content.text end at × WentTo d e new (Some FromEnd) at))
     ⊎ (NoneBefore d e end × Stayed e new))
@@ -185,7 +186,7 @@ abbrev pub GivesUp : Key → Type 0
 GivesUp key = (key ≡ Quit) ⊎ (key ≡ Copy)
 
 -- a search is on, and stays on while these keys are typed
-abbrev pub StaysOn : Data → Editor → List (Key × Bool) → Type 0
+abbrev pub StaysOn : Data → Editor → List (Key × Option StoreFault) → Type 0
 StaysOn d e [] = e.seek ≢ Off
 StaysOn d e (key ∷ typed) = (e.seek ≢ Off) × StaysOn d (after_key d key.1 e key.0) typed
 
@@ -199,5 +200,5 @@ pub record IsGivenUp (e new : Editor) : Type 0 where
 -- giving a search up puts place and mark back as they were when it began, whatever was typed in it
 abbrev pub GivingUpGoesBack : Type 0
 GivingUpGoesBack =
-    (d : Data) (e : Editor) (begin give : Key) (typed : List (Key × Bool)) → e.seek ≡ Off → BeginsSearch begin → GivesUp give
-    → let begun = after_key d false e begin in StaysOn d begun typed → IsGivenUp e (after_key d false (after_typing d begun typed) give)
+    (d : Data) (e : Editor) (begin give : Key) (typed : List (Key × Option StoreFault)) → e.seek ≡ Off → BeginsSearch begin → GivesUp give
+    → let begun = after_key d None e begin in StaysOn d begun typed → IsGivenUp e (after_key d None (after_typing d begun typed) give)

@@ -1,21 +1,48 @@
 -- The status row: whether there are unsaved changes, the cursor's position, a message, and the query of a search.
 use Rattle.std.specs.Prelude.{ℕ, ◌+◌, nat_le, Bool, List, [], ◌++◌, Option, Some, None, codes, decimal, if◌then◌else◌}
 use Rattle.bx_terms.specs.declared.base.Base.TheVariants.{Auto, Ltr, Rtl}
+use Rattle.bx_keys.specs.declared.notice.Notice as told
+use Rattle.bx_keys.specs.declared.notice.Notice.TheVariants as notices
+use Rattle.bx_store.specs.declared.cause.SaveCause.{SaveCause}
+use Rattle.bx_store.specs.declared.cause.SaveCause.TheVariants as causes
 pub use Rattle.bx_view.specs.Numbers.{paragraph_number, unit_number}
 use Rattle.bx_grid.specs.Columns.{Col}
 use Rattle.bx_rows.specs.RowPicture.{Glyph}
 pub use Rattle.bx_document.specs.QueryRow.{glyph_row, letter_glyphs, query_glyphs}
 use Rattle.bx_editor.specs.declared.message.Message.{Message}
 use Rattle.bx_editor.specs.declared.message.Message.TheVariants.{Saved, SaveFailed, TextFull, NothingToUndo, NothingToRedo, Unsaved, Direction, MarkSet, MarkOff}
-use Rattle.bx_editor.specs.declared.message.Message.TheVariants.{Copied, LineCopied, NothingToCopy, NothingToPut, FromStart, FromEnd, NotFound, Help}
+use Rattle.bx_editor.specs.declared.message.Message.TheVariants.{Copied, LineCopied, NothingToCopy, NothingToPut, FromStart, FromEnd, NotFound, Help, Notice}
 use Rattle.bx_editor.specs.declared.seek.Seek.{Seek}
 use Rattle.bx_editor.specs.declared.seek.Seek.TheVariants.{Off, Begun, Typed}
 use Rattle.bx_ucd.specs.Data.{Data}
 use Rattle.bx_editor.specs.Editor.{Editor}
 
+-- the cause of a failed save, if the store tells one, stands behind a colon
+abbrev pub failed_text : Option SaveCause → List ℕ
+failed_text None = codes "save failed"
+failed_text (Some causes.NoSpace) = codes "save failed: no space"
+failed_text (Some causes.NotPermitted) = codes "save failed: not permitted"
+failed_text (Some causes.FolderGone) = codes "save failed: folder gone"
+failed_text (Some causes.ReadOnly) = codes "save failed: read-only disk"
+failed_text (Some causes.TooLarge) = codes "save failed: file too large"
+failed_text (Some causes.OutOfMemory) = codes "save failed: out of memory"
+failed_text (Some causes.Changed) = codes "save failed: changed by another program, ^S overwrites it"
+failed_text (Some causes.Other) = codes "save failed: disk error"
+
+abbrev pub notice_text : told.Notice → List ℕ
+notice_text notices.NoSpace = codes "no copy is kept: no space"
+notice_text notices.FolderGone = codes "no copy is kept: folder gone"
+notice_text notices.NotPermitted = codes "no copy is kept: not permitted"
+notice_text notices.ReadOnly = codes "no copy is kept: read-only disk"
+notice_text notices.Unkept = codes "no copy is kept"
+notice_text notices.KeptAgain = codes "a copy is kept again"
+notice_text notices.Recovered = codes "recovered"
+notice_text notices.RecoveredAside = codes "recovered beside: see the end"
+notice_text notices.InPlace = codes "saves overwrite it in place"
+
 abbrev pub message_text : Message → List ℕ
 message_text Saved = codes "saved"
-message_text SaveFailed = codes "save failed"
+message_text (SaveFailed cause) = failed_text cause
 message_text TextFull = codes "text full"
 message_text NothingToUndo = codes "nothing to undo"
 message_text NothingToRedo = codes "nothing to redo"
@@ -33,6 +60,7 @@ message_text FromStart = codes "from the start"
 message_text FromEnd = codes "from the end"
 message_text NotFound = codes "not found"
 message_text Help = codes "^S save ^Q quit ^Z undo ^W find ^@ mark ^X cut ^C copy ^V put F2 turn"
+message_text (Notice notice) = notice_text notice
 
 abbrev pub message_part : Option Message → List ℕ
 message_part None = []

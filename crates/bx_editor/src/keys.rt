@@ -1,8 +1,8 @@
 //! The effect of each key.
-ghost use Rattle.std.specs.Prelude.{◌≡◌, Some, true, false, OnErr, OnOk};
+ghost use Rattle.std.specs.Prelude.{◌≡◌, None, Some, true, false, OnErr, OnOk};
 ghost use Rattle.bx_view.specs.Places.{IsTextPlace};
 ghost use Rattle.bx_editor.specs.Editor.{after_quit, next_base, with_base, without_message};
-ghost use Rattle.bx_editor.specs.Keys.{after_key, after_pressing, after_seeking, is_edit_or_move, is_save, is_size_key};
+ghost use Rattle.bx_editor.specs.Keys.{after_key, after_pressing, after_seeking, is_edit_or_move, is_save, is_size_key, is_told_key};
 ghost use Rattle.bx_editor.specs.Search.{without_search};
 
 use crate::editor::Editor;
@@ -10,6 +10,7 @@ use crate::message::Message;
 use crate::seek::Seek;
 use bx_document::HistoryStep;
 use bx_keys::Key;
+use bx_store::StoreFault;
 use bx_terms::{Base, OutOfMemory};
 use bx_ucd::BidiData;
 use bx_view::{Logical, Move, Vertical, Visual};
@@ -64,15 +65,16 @@ impl<D: BidiData + Drop> Editor<D> {
         self.tell(Message::Direction(base));
     }
 
-    /// Reports the end of a Save, successful or not, and ends a search. No memory.
-    pub fn finish_save(&mut self, saved: bool)
-        ensures { self.new ≡ record self.old { editor = after_key (D.data self.old.tables) saved self.old.editor Key.Save } }
+    /// Reports the end of a Save, with its fault if it failed, and ends a search. No memory.
+    pub fn finish_save(&mut self, fault: Option<StoreFault>)
+        ensures { self.new ≡ record self.old { editor = after_key (D.data self.old.tables) fault self.old.editor Key.Save } }
     {
-        if saved {
-            self.changed = false;
-            self.tell(Message::Saved);
-        } else {
-            self.tell(Message::SaveFailed);
+        match fault {
+            None => {
+                self.changed = false;
+                self.tell(Message::Saved);
+            }
+            Some(fault) => self.tell(Message::SaveFailed(fault.cause)),
         }
         self.leave_search();
     }
@@ -83,23 +85,27 @@ impl<D: BidiData + Drop> Editor<D> {
     pub fn apply(&mut self, key: Key) -> Result<(), OutOfMemory>
         requires no_save { is_save key ≡ false }
         requires no_size { is_size_key key ≡ false }
-        ensures ok { OnOk result (self.new.editor ≡ after_key (D.data self.old.tables) false self.old.editor key) }
+        ensures ok { OnOk result (self.new.editor ≡ after_key (D.data self.old.tables) None self.old.editor key) }
         ensures tables { self.new.tables ≡ self.old.tables }
         ensures err { OnErr result (self.new ≡ self.old) }
         ensures edits { OnErr result (is_edit_or_move key ≡ true) }
     {
-        match self.seek {
-            Seek::Off => self.press(key),
-            Seek::Begun | Seek::Typed => self.press_in_search(key),
+        match (key, self.seek) {
+            (Key::Notice(notice), _) => {
+                self.message = Some(Message::Notice(notice));
+                Ok(())
+            }
+            (_, Seek::Off) => self.press(key),
+            (_, Seek::Begun | Seek::Typed) => self.press_in_search(key),
         }
     }
 
     /// Applies a key outside a search.
     fn press(&mut self, key: Key) -> Result<(), OutOfMemory>
         requires no_save { is_save key ≡ false }
-        requires no_size { is_size_key key ≡ false }
+        requires typed { is_told_key key ≡ false }
         ensures ok { OnOk result (self.new.editor
-            ≡ after_pressing (D.data self.old.tables) false self.old.editor.quit_before (without_message self.old.editor) key) }
+            ≡ after_pressing (D.data self.old.tables) None self.old.editor.quit_before (without_message self.old.editor) key) }
         ensures tables { self.new.tables ≡ self.old.tables }
         ensures err { OnErr result (self.new ≡ self.old) }
         ensures edits { OnErr result (is_edit_or_move key ≡ true) }
@@ -152,17 +158,17 @@ impl<D: BidiData + Drop> Editor<D> {
                 self.forget();
                 Ok(())
             }
-            Key::Save | Key::Size(..) => unreachable!(),
+            Key::Save | Key::Size(..) | Key::Notice(_) => unreachable!(),
         }
     }
 
     /// Applies a key in a search.
     fn press_in_search(&mut self, key: Key) -> Result<(), OutOfMemory>
         requires no_save { is_save key ≡ false }
-        requires no_size { is_size_key key ≡ false }
+        requires typed { is_told_key key ≡ false }
         requires origin { IsTextPlace (D.data self.old.tables) self.old.editor.content.text self.old.editor.origin }
         ensures ok { OnOk result (self.new.editor
-            ≡ after_seeking (D.data self.old.tables) false self.old.editor.quit_before (without_message self.old.editor) key) }
+            ≡ after_seeking (D.data self.old.tables) None self.old.editor.quit_before (without_message self.old.editor) key) }
         ensures tables { self.new.tables ≡ self.old.tables }
         ensures err { OnErr result (self.new ≡ self.old) }
         ensures edits { OnErr result (is_edit_or_move key ≡ true) }
@@ -187,9 +193,9 @@ impl<D: BidiData + Drop> Editor<D> {
     /// Applies a key with its usual effect, and ends the search.
     fn press_last(&mut self, key: Key) -> Result<(), OutOfMemory>
         requires no_save { is_save key ≡ false }
-        requires no_size { is_size_key key ≡ false }
+        requires typed { is_told_key key ≡ false }
         ensures ok { OnOk result (self.new.editor
-            ≡ without_search (after_pressing (D.data self.old.tables) false self.old.editor.quit_before (without_message self.old.editor) key)) }
+            ≡ without_search (after_pressing (D.data self.old.tables) None self.old.editor.quit_before (without_message self.old.editor) key)) }
         ensures tables { self.new.tables ≡ self.old.tables }
         ensures err { OnErr result (self.new ≡ self.old) }
         ensures edits { OnErr result (is_edit_or_move key ≡ true) }

@@ -1,16 +1,18 @@
 //! Messages of the status row.
 ghost use Rattle.std.specs.Prelude.{◌≡◌};
-ghost use Rattle.bx_editor.specs.Status.{message_text};
+ghost use Rattle.bx_editor.specs.Status.{failed_text, message_text, notice_text};
 
+use bx_keys::Notice;
+use bx_store::SaveCause;
 use bx_terms::Base;
 
-/// The message of a key.
+/// The message of the status row.
 #[derive(Clone, Copy, PartialEq, Eq, Debug)]
 pub enum Message {
     /// The text was saved.
     Saved,
-    /// A call of the store failed; the store keeps its old content.
-    SaveFailed,
+    /// A call of the store failed, for this cause if the store tells one; the store keeps its old content.
+    SaveFailed(Option<SaveCause>),
     /// The text would exceed 16,777,216 bytes.
     TextFull,
     NothingToUndo,
@@ -34,6 +36,40 @@ pub enum Message {
     NotFound,
     /// The control keys.
     Help,
+    /// What the host tells.
+    Notice(Notice),
+}
+
+fn failed_text(cause: Option<SaveCause>) -> &'static str
+    ensures { result.now ≡ failed_text cause }
+{
+    match cause {
+        None => "save failed",
+        Some(SaveCause::NoSpace) => "save failed: no space",
+        Some(SaveCause::NotPermitted) => "save failed: not permitted",
+        Some(SaveCause::FolderGone) => "save failed: folder gone",
+        Some(SaveCause::ReadOnly) => "save failed: read-only disk",
+        Some(SaveCause::TooLarge) => "save failed: file too large",
+        Some(SaveCause::OutOfMemory) => "save failed: out of memory",
+        Some(SaveCause::Changed) => "save failed: changed by another program, ^S overwrites it",
+        Some(SaveCause::Other) => "save failed: disk error",
+    }
+}
+
+fn notice_text(notice: Notice) -> &'static str
+    ensures { result.now ≡ notice_text notice }
+{
+    match notice {
+        Notice::NoSpace => "no copy is kept: no space",
+        Notice::FolderGone => "no copy is kept: folder gone",
+        Notice::NotPermitted => "no copy is kept: not permitted",
+        Notice::ReadOnly => "no copy is kept: read-only disk",
+        Notice::Unkept => "no copy is kept",
+        Notice::KeptAgain => "a copy is kept again",
+        Notice::Recovered => "recovered",
+        Notice::RecoveredAside => "recovered beside: see the end",
+        Notice::InPlace => "saves overwrite it in place",
+    }
 }
 
 impl Message {
@@ -43,7 +79,7 @@ impl Message {
     {
         match self {
             Message::Saved => "saved",
-            Message::SaveFailed => "save failed",
+            Message::SaveFailed(cause) => failed_text(cause),
             Message::TextFull => "text full",
             Message::NothingToUndo => "nothing to undo",
             Message::NothingToRedo => "nothing to redo",
@@ -63,6 +99,7 @@ impl Message {
             Message::Help => {
                 "^S save ^Q quit ^Z undo ^W find ^@ mark ^X cut ^C copy ^V put F2 turn"
             }
+            Message::Notice(notice) => notice_text(notice),
         }
     }
 }

@@ -3,7 +3,8 @@ use Rattle.std.proofs.Common.{◌≡◌, ℕ, List, [], ◌∷◌, ◌++◌, ref
 use Rattle.std.specs.Prelude.{codes}
 use Rattle.bx_keys.specs.Keys.{decoding}
 use Rattle.bx_keys.specs.declared.key.Key.{Key}
-use Rattle.bx_keys.specs.declared.key.Key.TheVariants.{Insert, Mark, Copy, Cut, Put, Find, FindBack, WordLeft, WordRight, TextStart, TextEnd, Help}
+use Rattle.bx_keys.specs.declared.key.Key.TheVariants.{Insert, Mark, Copy, Cut, Put, Find, FindBack, WordLeft, WordRight, TextStart, TextEnd, Help, Notice}
+use Rattle.bx_keys.specs.declared.notice.Notice.TheVariants.{NoSpace, InPlace}
 use Rattle.bx_input.specs.Table.{paste_start, paste_end}
 use Rattle.bx_input.specs.Filter.{filtered}
 
@@ -26,6 +27,13 @@ arrows_with_control = refl
 
 pub ends_with_control : keys (codes "\u{1b}[1;5H\u{1b}[7^\u{1b}[1;5F\u{1b}[8^") ≡ TextStart ∷ TextStart ∷ TextEnd ∷ TextEnd ∷ []
 ends_with_control = refl
+
+-- the host's notices, before and behind a key and within a sequence that breaks off
+pub notices_go_through : filtered (codes "\u{1b}[>1~a\u{1b}[1;5\u{1b}[>9~") ≡ codes "\u{1b}[>1~a\u{1b}[1;5\u{1b}[>9~"
+notices_go_through = refl
+
+pub notices : keys (codes "\u{1b}[>1~a\u{1b}[1;5\u{1b}[>9~") ≡ Notice NoSpace ∷ Insert 0x61 ∷ Notice InPlace ∷ []
+notices = refl
 
 pub no_row : filtered (codes "\u{1b}[1;5A\u{1b}OS") ≡ codes "\u{1b}[1;5A\u{1b}OS"
 no_row = refl

@@ -12,8 +12,9 @@ use Rattle.bx_keys.specs.Laws.{RestsWait, ComesInPieces, HasParts, keys_of_items
 use Rattle.bx_keys.specs.Waiting.{fate}
 use Rattle.bx_keys.specs.declared.key.Key.{Key}
 use Rattle.bx_keys.specs.declared.key.Key.TheVariants.{Insert, Erase, Delete, Up, Down, Right, Left, RowHome, RowEnd, PageUp, PageDown, Quit, Undo, Redo}
-use Rattle.bx_keys.specs.declared.key.Key.TheVariants.{Direction, Size}
+use Rattle.bx_keys.specs.declared.key.Key.TheVariants.{Direction, Size, Notice}
 use Rattle.bx_keys.specs.declared.key.Key.TheVariants.{Mark, Copy, Cut, Put, Find, FindBack, WordLeft, WordRight, TextStart, TextEnd, Help}
+use Rattle.bx_keys.specs.declared.notice.Notice.TheVariants.{NoSpace, InPlace}
 
 abbrev keys : List ℕ → List Key
 keys bs = (decoding bs).keys
@@ -33,6 +34,9 @@ search_and_mark = refl
 
 pub words_and_ends : keys (codes "\u{1b}[76~\u{1b}[77~\u{1b}[78~\u{1b}[79~\u{1b}[80~") ≡ WordLeft ∷ WordRight ∷ TextStart ∷ TextEnd ∷ Help ∷ []
 words_and_ends = refl
+
+pub notices : keys (codes "\u{1b}[>1~\u{1b}[>9~\u{1b}[>0~\u{1b}[>10~\u{1b}[>1") ≡ Notice NoSpace ∷ Notice InPlace ∷ []
+notices = refl
 
 -- other numbers, other finals, and bytes between
 pub none_of_these : keys (codes "\u{1b}[69~\u{1b}[81~\u{1b}[070~\u{1b}[72;1~\u{1b}[72 ~\u{1b}[72^\u{1b}[7~") ≡ []

@@ -9,8 +9,9 @@ use Rattle.bx_bytes.specs.Utf8.{is_ascii_printable}
 use Rattle.bx_keys.specs.Items.{is_item, begins_item}
 use Rattle.bx_keys.specs.declared.key.Key.{Key}
 use Rattle.bx_keys.specs.declared.key.Key.TheVariants.{Insert, Erase, Delete, Back, Forward, Up, Down, Right, Left, RowHome, RowEnd, PageUp, PageDown, Save}
-use Rattle.bx_keys.specs.declared.key.Key.TheVariants.{Quit, Undo, Redo, Repaint, Direction, Size}
+use Rattle.bx_keys.specs.declared.key.Key.TheVariants.{Quit, Undo, Redo, Repaint, Direction, Size, Notice}
 use Rattle.bx_keys.specs.declared.key.Key.TheVariants.{Mark, Copy, Cut, Put, Find, FindBack, WordLeft, WordRight, TextStart, TextEnd, Help}
+use Rattle.bx_keys.specs.declared.notice.Notice.TheVariants as notices
 
 -- ---- the key of an item
 
@@ -39,6 +40,15 @@ sequence_keys =
     ∷ (codes "78~", TextStart)
     ∷ (codes "79~", TextEnd)
     ∷ (codes "80~", Help)
+    ∷ (codes ">1~", Notice notices.NoSpace)
+    ∷ (codes ">2~", Notice notices.FolderGone)
+    ∷ (codes ">3~", Notice notices.NotPermitted)
+    ∷ (codes ">4~", Notice notices.ReadOnly)
+    ∷ (codes ">5~", Notice notices.Unkept)
+    ∷ (codes ">6~", Notice notices.KeptAgain)
+    ∷ (codes ">7~", Notice notices.Recovered)
+    ∷ (codes ">8~", Notice notices.RecoveredAside)
+    ∷ (codes ">9~", Notice notices.InPlace)
     ∷ []
 
 -- a side of a window, in one to three digits

@@ -1,6 +1,8 @@
 //! The keys of the editor.
 
-/// A command of the user.
+use crate::notice::Notice;
+
+/// A command of the user, or what the host tells.
 #[derive(Clone, Copy, PartialEq, Eq, Debug)]
 pub enum Key {
     /// Inserts the character at the place.
@@ -59,4 +61,6 @@ pub enum Key {
     Help,
     /// The window's size in rows and columns, each from 1 to 500.
     Size(u16, u16),
+    /// Shows a notice of the host in the status row.
+    Notice(Notice),
 }

@@ -10,8 +10,10 @@ mod decoder;
 mod key;
 mod laws;
 mod meaning;
+mod notice;
 mod sequence;
 
 pub use decoder::Decoder;
 pub use key::Key;
 pub use laws::{in_any_pieces, input_has_parts, items_are_apart, rests_wait};
+pub use notice::Notice;

@@ -10,6 +10,7 @@ ghost use Rattle.bx_keys.specs.Waiting.{fate};
 ghost use Rattle.bx_terms.specs.Sizes.{largest_side};
 
 use crate::key::Key;
+use crate::notice::Notice;
 use crate::sequence::ESC;
 use bx_bytes::{Fate, character};
 use bx_terms::{is_ascii_printable, is_side};
@@ -67,7 +68,7 @@ fn control_sequence_key(between: &[u8], last: u8) -> Option<Key>
         _ if last == b't' => size_key(between),
         [] => plain_key(last),
         [number] if last == b'~' => numbered_key(*number),
-        [tens, ones] if last == b'~' => two_digit_key(*tens, *ones),
+        [first, second] if last == b'~' => two_byte_key(*first, *second),
         _ => None,
     }
 }
@@ -102,13 +103,33 @@ fn numbered_key(number: u8) -> Option<Key>
     }
 }
 
-fn two_digit_key(tens: u8, ones: u8) -> Option<Key>
-    ensures value { result ≡ spec.sequence_key (tens ∷ ones ∷ 0x7E ∷ []) }
+fn two_byte_key(first: u8, second: u8) -> Option<Key>
+    ensures value { result ≡ spec.sequence_key (first ∷ second ∷ 0x7E ∷ []) }
     ensures sides { IfSome result HasSides }
 {
-    match tens {
-        b'7' => seventies_key(ones),
-        b'8' if ones == b'0' => Some(Key::Help),
+    match first {
+        b'7' => seventies_key(second),
+        b'8' if second == b'0' => Some(Key::Help),
+        b'>' => notice_key(second),
+        _ => None,
+    }
+}
+
+/// The key of a notice, by its digit.
+fn notice_key(digit: u8) -> Option<Key>
+    ensures value { result ≡ spec.sequence_key (0x3E ∷ digit ∷ 0x7E ∷ []) }
+    ensures sides { IfSome result HasSides }
+{
+    match digit {
+        b'1' => Some(Key::Notice(Notice::NoSpace)),
+        b'2' => Some(Key::Notice(Notice::FolderGone)),
+        b'3' => Some(Key::Notice(Notice::NotPermitted)),
+        b'4' => Some(Key::Notice(Notice::ReadOnly)),
+        b'5' => Some(Key::Notice(Notice::Unkept)),
+        b'6' => Some(Key::Notice(Notice::KeptAgain)),
+        b'7' => Some(Key::Notice(Notice::Recovered)),
+        b'8' => Some(Key::Notice(Notice::RecoveredAside)),
+        b'9' => Some(Key::Notice(Notice::InPlace)),
         _ => None,
     }
 }

@@ -1,7 +1,10 @@
 -- Worked examples: stores in memory, and what the clause on a refused put leaves open.
 use Rattle.std.proofs.Common.{◌≡◌, ℕ, ◌⊎◌, inl, inr, true, Option, Some, None, Result, Ok, Err, IsOk, OnErr, refl, arith}
 use Rattle.std.specs.Prelude.{codes, false}
-use Rattle.bx_store.specs.Stores.{LacksRoom, MemoryState, after_begin, after_commit, after_failure, after_put, fails_next, greatest, no_bytes, one_more, with_bytes, with_room}
+use Rattle.bx_store.specs.Causes.{fault}
+use Rattle.bx_store.specs.declared.cause.SaveCause.TheVariants.{NoSpace}
+use Rattle.bx_store.specs.declared.store.StoreFault.{StoreFault}
+use Rattle.bx_store.specs.Stores.{LacksRoom, MemoryState, after_begin, after_commit, after_failure, after_put, fails_next, greatest, no_bytes, no_faults, one_more, with_bytes, with_room}
 
 -- a store that has `kept`, and where `draft` is being put, with room for three bytes
 abbrev store : Option ℕ → MemoryState
@@ -11,9 +14,12 @@ store fail_call = record {
   room = 3;
   has_draft = true;
   calls = 2;
-  failures = 0;
+  faults = no_faults;
   fail_call = fail_call;
 }
+
+abbrev no_space : StoreFault
+no_space = fault (Some NoSpace)
 
 pub counts_saturate : one_more greatest ≡ greatest
 counts_saturate = refl
@@ -33,10 +39,13 @@ a_save_joins_what_was_put = refl
 pub nothing_is_stored_before_the_commit : (after_put (codes "c") (store None)).contents ≡ codes "kept"
 nothing_is_stored_before_the_commit = refl
 
-pub a_failure_ends_the_save : (after_failure (store None)).has_draft ≡ false
+pub a_failure_ends_the_save : (after_failure no_space (store None)).has_draft ≡ false
 a_failure_ends_the_save = refl
 
-pub a_failure_keeps_what_is_stored : (after_failure (store None)).contents ≡ codes "kept"
+pub the_latest_fault_is_told : (after_failure no_space (store None)).faults.latest ≡ Some no_space
+the_latest_fault_is_told = refl
+
+pub a_failure_keeps_what_is_stored : (after_failure no_space (store None)).contents ≡ codes "kept"
 a_failure_keeps_what_is_stored = refl
 
 pub a_store_that_models_no_bytes_has_no_draft : with_bytes (codes "c") (no_bytes None) ≡ None

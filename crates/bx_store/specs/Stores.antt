@@ -1,5 +1,7 @@
--- A store's bytes, where it models them, and its count of failures.
+-- A store's bytes, where it models them, and its failed calls.
 use Rattle.std.specs.Prelude.{ℕ, suc, ◌+◌, ◌-◌, ◌<◌, ◌^◌, ◌==◌, Bool, true, false, List, [], ◌++◌, length, min, Option, Some, None, option_map}
+use Rattle.bx_store.specs.declared.faults.Faults.{Faults}
+use Rattle.bx_store.specs.declared.store.StoreFault.{StoreFault}
 
 -- counts of failures and calls saturate here
 abbrev pub greatest : ℕ
@@ -9,6 +11,13 @@ greatest = 2 ^ 64 - 1
 abbrev pub one_more : ℕ → ℕ
 one_more count = min greatest (suc count)
 
+-- no failed call, and one more
+abbrev pub no_faults : Faults
+no_faults = record { count = 0; latest = None }
+
+abbrev pub with_fault : StoreFault → Faults → Faults
+with_fault fault faults = record { count = one_more faults.count; latest = Some fault }
+
 -- an empty draft, and a draft after an append; None stays None
 abbrev pub no_bytes : Option (List ℕ) → Option (List ℕ)
 no_bytes told = option_map (λ _. []) told
@@ -17,14 +26,14 @@ abbrev pub with_bytes : List ℕ → Option (List ℕ) → Option (List ℕ)
 with_bytes bytes draft = option_map (λ before. before ++ bytes) draft
 
 -- A store in memory: its contents, the bytes put since the last begin, the number of bytes that fit into the draft's memory,
--- whether a save is in progress, the counts of calls and of failed calls, and the number of the call that fails, counted from 1.
+-- whether a save is in progress, the count of calls, the failed calls, and the number of the call that fails, counted from 1.
 pub record MemoryState : Type 0 where
   pub contents : List ℕ
   pub draft : List ℕ
   pub room : ℕ
   pub has_draft : Bool
   pub calls : ℕ
-  pub failures : ℕ
+  pub faults : Faults
   pub fail_call : Option ℕ
 
 -- whether a call has the failing call's number
@@ -37,8 +46,8 @@ abbrev pub fails_next : MemoryState → Bool
 fails_next s = is_call s.fail_call (one_more s.calls)
 
 -- after a failed call: the save has ended
-abbrev pub after_failure : MemoryState → MemoryState
-after_failure s = record s { has_draft = false; calls = one_more s.calls; failures = one_more s.failures }
+abbrev pub after_failure : StoreFault → MemoryState → MemoryState
+after_failure fault s = record s { has_draft = false; calls = one_more s.calls; faults = with_fault fault s.faults }
 
 abbrev pub after_begin : MemoryState → MemoryState
 after_begin s = record s { draft = []; has_draft = true; calls = one_more s.calls }

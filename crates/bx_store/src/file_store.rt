@@ -2,10 +2,11 @@
 ghost use Rattle.std.specs.Prelude.{◌≡◌, Some, Err, OnErr};
 ghost use Rattle.bx_store.specs.Causes.{fault};
 ghost use Rattle.bx_store.specs.declared.cause.SaveCause.TheVariants.{OutOfMemory};
-ghost use Rattle.bx_store.specs.Stores.{one_more};
+ghost use Rattle.bx_store.specs.Stores.{with_fault};
 
 use crate::cause::SaveCause;
 use crate::draft::Draft;
+use crate::faults::Faults;
 use crate::in_place::{InPlace, remove_mark};
 use crate::saving::Saving;
 use crate::store::{Store, StoreFault};
@@ -13,6 +14,7 @@ use crate::target::find;
 use crate::watch::Watch;
 use std::alloc::Global;
 use std::fs::OpenFile;
+use std::io::ErrorKind;
 use std::os::fd::AsFd;
 use std::rt::Files;
 
@@ -44,7 +46,7 @@ where
     /// The mark of a save that overwrote the file and broke off: the file may lack its bytes.
     torn: Option<String>,
     draft: Option<Saving<R::File>>,
-    failures: u64,
+    failures: Faults,
 }
 
 impl<'a, R: Files> FileStore<'a, R>
@@ -62,7 +64,7 @@ where
             mark: None,
             torn: None,
             draft: None,
-            failures: 0,
+            failures: Faults::none(),
         })
     }
 
@@ -114,7 +116,14 @@ where
     {
         draft.sync()?;
         self.watch.look_again(draft.target())?;
-        draft.replace(self.watch.files)?;
+        match draft.replace(self.watch.files) {
+            // a mount was put on the file, which can only be written itself then
+            Err(error) if error.kind() == ErrorKind::ResourceBusy => {
+                self.watch.hold();
+                return Err(SaveCause::Changed.into());
+            }
+            answer => answer?,
+        }
         self.watch.note_replaced(draft.metadata(), draft.metadata());
         // the file is replaced, even if its folder is not synced
         let _ = draft.sync_folder(self.watch.files);
@@ -191,11 +200,12 @@ where
 
     /// Counts a failed call and removes its draft.
     fn fail(&mut self, found: StoreFault) -> StoreFault
-        ensures { self.new.failures ≡ one_more self.old.failures }
+        ensures { self.new.failures ≡ with_fault result self.old.failures }
     {
         self.remove_draft();
-        self.failures = self.failures.saturating_add(1);
-        self.told(found)
+        let fault = self.told(found);
+        self.failures.add(fault);
+        fault
     }
 }
 
@@ -211,7 +221,7 @@ where
 
     ghost has_draft = { λ s. is_some s.draft };
 
-    ghost failure_count = { λ s. s.failures };
+    ghost faults = { λ s. s.failures };
 
     fn begin(&mut self) -> Result<(), StoreFault> {
         self.remove_draft();
@@ -248,6 +258,6 @@ where
     }
 
     fn failures(&self) -> u64 {
-        self.failures
+        self.failures.count
     }
 }

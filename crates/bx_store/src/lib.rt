@@ -3,6 +3,7 @@
 
 mod cause;
 mod draft;
+mod faults;
 mod file_store;
 mod in_place;
 mod memory_store;
@@ -13,6 +14,7 @@ mod target;
 mod watch;
 
 pub use cause::SaveCause;
+pub use faults::Faults;
 pub use file_store::FileStore;
 pub use memory_store::MemoryStore;
 pub use store::{Store, StoreFault};

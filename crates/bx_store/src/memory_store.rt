@@ -1,9 +1,10 @@
 //! A store in memory. A test can have one of its calls fail.
-ghost use Rattle.std.specs.Prelude.{◌≡◌, ◌≤◌, ◌↔◌, ◌⊎◌, true, false, [], None, Err, OnOk, OnErr, IsErr};
+ghost use Rattle.std.specs.Prelude.{◌≡◌, ◌≤◌, ◌↔◌, ◌⊎◌, true, false, [], None, Err, IfErr, OnOk, OnErr, IsErr};
 ghost use Rattle.bx_store.specs.Causes.{cause_of_put, fault};
-ghost use Rattle.bx_store.specs.Stores.{LacksRoom, after_begin, after_commit, after_failure, after_put, fails_next, with_room};
+ghost use Rattle.bx_store.specs.Stores.{LacksRoom, after_begin, after_commit, after_failure, after_put, fails_next, no_faults, with_room};
 
 use crate::cause::SaveCause;
+use crate::faults::Faults;
 use crate::store::{Store, StoreFault};
 use std::alloc::Global;
 use std::marker::Model;
@@ -17,7 +18,7 @@ pub struct MemoryStore {
     draft: Vec<u8>,
     has_draft: bool,
     calls: u64,
-    failures: u64,
+    failures: Faults,
     fail_call: Option<u64>,
 }
 
@@ -33,7 +34,7 @@ impl Model for MemoryStore {
       room = vec_capacity s.draft;
       has_draft = s.has_draft;
       calls = s.calls;
-      failures = s.failures;
+      faults = s.failures;
       fail_call = s.fail_call;
     } };
 }
@@ -41,14 +42,14 @@ impl Model for MemoryStore {
 impl MemoryStore {
     /// An empty store.
     pub fn new(alloc: Global, fail_call: Option<u64>) -> Self
-        ensures { result ≡ record { contents = []; draft = []; room = 0; has_draft = false; calls = 0; failures = 0; fail_call = fail_call } }
+        ensures { result ≡ record { contents = []; draft = []; room = 0; has_draft = false; calls = 0; faults = no_faults; fail_call = fail_call } }
     {
         MemoryStore {
             contents: Vec::new(alloc),
             draft: Vec::new(alloc),
             has_draft: false,
             calls: 0,
-            failures: 0,
+            failures: Faults::none(),
             fail_call,
         }
     }
@@ -69,13 +70,14 @@ impl MemoryStore {
 
     /// Counts a failed call and ends the save.
     fn fail(&mut self, cause: Option<SaveCause>) -> StoreFault
-        ensures counted { self.new ≡ after_failure self.old }
+        ensures counted { self.new ≡ after_failure (fault cause) self.old }
         ensures told { result ≡ fault cause }
     {
+        let fault = StoreFault { cause };
         self.has_draft = false;
         self.calls = self.calls.saturating_add(1);
-        self.failures = self.failures.saturating_add(1);
-        StoreFault { cause }
+        self.failures.add(fault);
+        fault
     }
 }
 
@@ -88,11 +90,11 @@ impl Store for MemoryStore {
 
     ghost has_draft = { λ s. s.has_draft };
 
-    ghost failure_count = { λ s. s.failures };
+    ghost faults = { λ s. s.faults };
 
     fn begin(&mut self) -> Result<(), StoreFault>
         ensures ok { OnOk result (self.new ≡ after_begin self.old) }
-        ensures err { OnErr result (self.new ≡ after_failure self.old) }
+        ensures err { IfErr result (λ fault. self.new ≡ after_failure fault self.old) }
         ensures fails { IsErr result ↔ (fails_next self.old ≡ true) }
         ensures cause { OnErr result (result ≡ Err (fault None)) }
     {
@@ -107,7 +109,7 @@ impl Store for MemoryStore {
 
     fn put(&mut self, bytes: &[u8]) -> Result<(), StoreFault>
         ensures ok { OnOk result (self.new ≡ with_room self.new.room (after_put bytes.now self.old)) }
-        ensures err { OnErr result (self.new ≡ with_room self.new.room (after_failure self.old)) }
+        ensures err { IfErr result (λ fault. self.new ≡ with_room self.new.room (after_failure fault self.old)) }
         ensures room { self.old.room ≤ self.new.room }
         ensures fails { fails_next self.old ≡ true → IsErr result }
         ensures full { OnErr result ((fails_next self.old ≡ true) ⊎ LacksRoom bytes.now self.old) }
@@ -125,7 +127,7 @@ impl Store for MemoryStore {
 
     fn commit(&mut self) -> Result<(), StoreFault>
         ensures ok { OnOk result (self.new ≡ after_commit self.old) }
-        ensures err { OnErr result (self.new ≡ after_failure self.old) }
+        ensures err { IfErr result (λ fault. self.new ≡ after_failure fault self.old) }
         ensures fails { IsErr result ↔ (fails_next self.old ≡ true) }
         ensures cause { OnErr result (result ≡ Err (fault None)) }
     {
@@ -140,6 +142,6 @@ impl Store for MemoryStore {
     }
 
     fn failures(&self) -> u64 {
-        self.failures
+        self.failures.count
     }
 }

@@ -54,10 +54,11 @@ impl From<io::Error> for StoreFault {
 
 /// A place to save a text. A save is `begin`, `put` for each piece of the text, and `commit`. The contents change only when
 /// `commit` returns Ok; they are then the pieces put since the last `begin`, joined. An Err ends the save and counts one
-/// failure; counts saturate at the greatest u64.
+/// failure, with its fault as the latest; counts saturate at the greatest u64.
 pub trait Store {
-    ghost use Rattle.std.specs.Prelude.{◌≡◌, ℕ, Bool, true, List, Option, OnOk, OnErr};
-    ghost use Rattle.bx_store.specs.Stores.{no_bytes, one_more, with_bytes};
+    ghost use Rattle.std.specs.Prelude.{◌≡◌, ℕ, Bool, true, List, Option, IfErr, OnOk, OnErr};
+    ghost use Rattle.bx_store.specs.Stores.{no_bytes, with_bytes, with_fault};
+    ghost use Rattle.bx_store.specs.declared.faults.Faults.{Faults};
 
     /// The stored bytes; None if the store does not model them.
     ghost contents: { Self → Option (List ℕ) };
@@ -68,16 +69,16 @@ pub trait Store {
     /// Whether a save is in progress: `begin` returned Ok, and since then no call failed and no `commit` came.
     ghost has_draft: { Self → Bool };
 
-    /// Number of failed calls.
-    ghost failure_count: { Self → ℕ };
+    /// The failed calls.
+    ghost faults: { Self → Faults };
 
     /// Begins a save and discards the draft of an unfinished one.
     fn begin(&mut self) -> Result<(), StoreFault>
         ensures has_draft { OnOk result (has_draft self.new ≡ true) }
         ensures draft { OnOk result (draft self.new ≡ no_bytes (contents self.old)) }
         ensures stored { contents self.new ≡ contents self.old }
-        ensures no_failure { OnOk result (failure_count self.new ≡ failure_count self.old) }
-        ensures failure { OnErr result (failure_count self.new ≡ one_more (failure_count self.old)) };
+        ensures no_failure { OnOk result (faults self.new ≡ faults self.old) }
+        ensures failure { IfErr result (λ fault. faults self.new ≡ with_fault fault (faults self.old)) };
 
     /// Appends bytes to the draft.
     fn put(&mut self, bytes: &[u8]) -> Result<(), StoreFault>
@@ -85,18 +86,18 @@ pub trait Store {
         ensures has_draft { OnOk result (has_draft self.new ≡ true) }
         ensures draft { OnOk result (draft self.new ≡ with_bytes bytes.now (draft self.old)) }
         ensures stored { contents self.new ≡ contents self.old }
-        ensures no_failure { OnOk result (failure_count self.new ≡ failure_count self.old) }
-        ensures failure { OnErr result (failure_count self.new ≡ one_more (failure_count self.old)) };
+        ensures no_failure { OnOk result (faults self.new ≡ faults self.old) }
+        ensures failure { IfErr result (λ fault. faults self.new ≡ with_fault fault (faults self.old)) };
 
     /// Replaces the contents by the draft, and ends the save.
     fn commit(&mut self) -> Result<(), StoreFault>
         requires { has_draft self.old ≡ true }
         ensures stored { OnOk result (contents self.new ≡ draft self.old) }
         ensures not_stored { OnErr result (contents self.new ≡ contents self.old) }
-        ensures no_failure { OnOk result (failure_count self.new ≡ failure_count self.old) }
-        ensures failure { OnErr result (failure_count self.new ≡ one_more (failure_count self.old)) };
+        ensures no_failure { OnOk result (faults self.new ≡ faults self.old) }
+        ensures failure { IfErr result (λ fault. faults self.new ≡ with_fault fault (faults self.old)) };
 
     /// Number of failed calls, at most the greatest u64.
     fn failures(&self) -> u64
-        ensures { result ≡ failure_count self.now };
+        ensures { result ≡ (faults self.now).count };
 }
