@@ -36,8 +36,10 @@ pub struct Begun {
     pub begin: Begin,
     /// Letters are joined.
     pub is_joined: bool,
-    /// Saves are written into FILE itself.
+    /// Saves are written into FILE itself, with the whole text in the session meanwhile.
     pub is_in_place: bool,
+    /// Saves are written into FILE itself, with the whole text beside FILE meanwhile.
+    pub is_itself: bool,
     /// The user wants no session.
     pub is_unwanted: bool,
     /// Why unsaved text is not kept.
@@ -84,6 +86,7 @@ impl Begun {
             },
             is_joined: around.tables.joining.is_some(),
             is_in_place: false,
+            is_itself: false,
             is_unwanted: options.is_unkept,
             unkept: None,
             aside_of: None,
@@ -150,9 +153,10 @@ impl Begun {
         }
     }
 
-    /// Settles whether saves are written into FILE itself. They need a session, whose folder holds the whole text meanwhile.
+    /// Settles whether saves are written into FILE itself. The session's folder holds the whole text meanwhile; where there is
+    /// none, and the user forces it, FILE's own folder.
     ///
-    /// Errors: the refusal of a FILE that needs them and has no session, unless it is forced.
+    /// Errors: the refusal of a FILE that needs a session and has none, unless it is forced.
     fn settle_in_place<H: Host>(
         &mut self,
         around: Around<'_>,
@@ -164,13 +168,17 @@ impl Begun {
             return Ok(());
         };
         let alloc = around.alloc();
-        let (file, told) = (Shown(edited.file()), reason.told());
         if self.note_place(around, edited) {
             self.is_in_place = true;
+        } else {
+            self.give_up(around);
+            self.is_itself = is_forced && reason != Reason::Held;
+        }
+        if self.is_in_place || self.is_itself {
+            let (file, told) = (Shown(edited.file()), reason.told());
             let line = format!(in alloc; "{file} {told}: saves are written into the file itself")?;
             return Ok(warn(host, alloc, line.as_str())?);
         }
-        self.give_up(around);
         let line = self.unsafe_line(around, edited, reason)?;
         let line = line.as_str();
         if is_forced {
