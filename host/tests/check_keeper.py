@@ -433,7 +433,8 @@ def forgets(top):
     assert forgotten.end == ('x', '0') and forgotten.out == 'bidi-edit: there is no session of c.txt to remove\n', forgotten.out
     forgotten = Start(top, '--forget')
     wanted = rf'bidi-edit: the session of {top}/a.txt of \S+ \S+ is removed\nbidi-edit: the session of {top}/b.txt of \S+ \S+ is removed \(dropped\)\n'
-    assert forgotten.end == ('x', '0') and re.fullmatch(wanted, forgotten.out), forgotten.out
+    told = ''.join(sorted(forgotten.out.splitlines(True)))
+    assert forgotten.end == ('x', '0') and re.fullmatch(wanted, told), forgotten.out
     assert len(sessions(top)) == 1
     live.close()
 
@@ -457,6 +458,8 @@ def closed_files(top):
     start = Start(top, 'a.txt', can_read=False)
     told = 'bidi-edit: a.txt cannot be read by you: chmod u+r lets its owner read it, and --force opens an empty text in its place\n'
     assert start.end == ('x', '1') and start.err == told, start.err
+    start = Start(top, '--force', 'a.txt', can_read=False, terminal='no')
+    assert start.end == ('x', '2') and start.err.startswith('bidi-edit: there is no terminal') and start.err.count('\n') == 1, start.err
     start = edit(top, '--force', 'a.txt', can_read=False)
     assert start.value('--text') == '/dev/null' and 'an empty text is opened, and saves overwrite what is there' in start.err, start.err
     start.type(b'abc')
