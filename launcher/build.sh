@@ -1,6 +1,6 @@
 #!/bin/sh
-# build.sh TOP PROGRAM..: builds the host of the checkout TOP if it is missing, and proves and builds these programs. Exit status
-# 1: something could not be built, as standard error tells; 128 and the signal's number where a signal stopped it.
+# build.sh TOP PROGRAM..: compiles the host of the checkout TOP where a source is newer, and proves and builds these programs.
+# Exit status 1: something could not be built, as standard error tells; 128 and the signal's number where a signal stopped it.
 set -u
 
 top=$1
@@ -21,7 +21,7 @@ settle_folder() {
 
 settle_folder
 # first, since it takes a second, and tells what is to be installed
-[ -x "$top/host/out/bidi-edit" ] || sh "$top/host/build.sh" || exit
+sh "$top/host/build.sh" || exit
 [ $# != 0 ] || exit 0
 # Ctrl-C reaches both scripts; prove.sh cleans up and reports before this one ends
 trap : INT QUIT

@@ -330,7 +330,7 @@ scene_two_editors() {
     terminal rename-session -t shell first
     open_shell
     say bidi-edit other
-    expect "$scene" 'other is open in another editor' && say no && say 'echo status $?' && expect "$scene" 'status 2'
+    expect "$scene" 'other is open in another window of yours' && say no && say 'echo status $?' && expect "$scene" 'status 2'
     ended=$?
     terminal send-keys -t first C-q
     return "$ended"

@@ -25,7 +25,7 @@ lacks() { # CAUSE
 for program in Xvfb xdotool import compare convert; do
     command -v "$program" >/dev/null || lacks "there is no $program"
 done
-for program in bidi_edit bidi_input; do
+for program in bidi_edit bidi_input bidi_keep; do
     [ -x "$top/crates/$program/out/$program" ] || lacks "$program is not built (./bidi-edit FILE builds it)"
 done
 

@@ -11,8 +11,9 @@ check_modes() {
     wait_for 50 test -e "$folder/record"
     type_keys C-q
     finish modes 7 50
-    has 'modes, told at the start' "$(written)" '^[[?1s^[[?1049h^[[?1l^[(B^O^[[4l^[[?6l^[[r^[[?7h^[[?25h^[[8l^[[1 k'
-    has 'modes, told at the end' "$(written)" '^[[0m^[[?1r^[[?25h^[[0 k^[[8h^[[23;0t^[[?1049l'
+    has 'modes, kept at the start' "$(written)" '^[7^[[?1s^[[?1036s^[[22;0t^[[?1049h'
+    has 'modes, told at the start' "$(written)" '^[[?1049h^[[?1l^[(B^O^[[4l^[[?6l^[[r^[[?7h^[[?25h^[[8l^[[1 k^[[?1036h'
+    has 'modes, told at the end' "$(written)" '^[[0m^[[?1r^[[?1036r^[[?25h^[[0 k^[[8h^[[23;0t^[[?1049l'
 }
 
 # Kills a program that writes without end, while it hides the cursor in negative image.

@@ -76,7 +76,7 @@ check_refused_places() {
     : >plain
     refused 'checks, a file as a folder' '1 bidi-edit: plain is no folder, so it has no files: name another' plain/f
     ln -s loop loop
-    refused 'checks, a link to itself' '1 bidi-edit: loop is a link that leads nowhere: ls -l shows where to' loop
+    refused 'checks, a link to itself' '1 bidi-edit: loop is a link that leads in a circle: ls -l shows where to' loop
     ln -s f.d/new dangling
     refused 'checks, a link to a new file' "$no_terminal" dangling
     rm -r f.d pipe plain loop dangling
@@ -126,7 +126,7 @@ check_refused_texts() {
     printf '\177ELF\002\001\001\000\000\377\n' >bytes
     start 8 50 "$top/bidi-edit" bytes
     finish 'opening, a program' 1 50
-    same 'opening, a program: it is no text in another encoding' "$(grep -c iconv "$folder/errors")" 0
+    same 'opening, a program: it is no text in another encoding' "$(cat "$folder/errors")" 'bidi-edit: bytes is a binary file and no text: od -c shows it'
     awk 'BEGIN { for (n = 0; n < 16777216; n += 17) print "\327\251\327\234\327\225\327\235 \327\234\327\232 ab" }' | head -c 16777211 >bytes
     start 8 50 "$top/bidi-edit" bytes
     has 'opening, 16 MB of Hebrew' "$(settled_screen person)" '- 1:1'
@@ -156,7 +156,9 @@ check_refused_access() {
     refused_to_user 'access, a file that is not either' "$folder_told" locked/g
     refused_to_user 'access, a write-protected file' '1 bidi-edit: open/f is write-protected: chmod u+w lets its owner write it, and --force opens it all the same' open/f
     refused_to_user 'access, that file, forced' "$no_terminal" --force open/f
-    refused_to_user 'access, a file that cannot be read' '1 bidi-edit: open/g cannot be read by you: chmod u+r lets its owner read it' --force open/g
+    unreadable='open/g cannot be read by you: chmod u+r lets its owner read it, and --force opens an empty text in its place'
+    refused_to_user 'access, a file that cannot be read' "1 bidi-edit: $unreadable" open/g
+    refused_to_user 'access, that file, forced' "$no_terminal" --force open/g
     ln -s ../locked/g open/link
     refused_to_user 'access, a link into that folder' "1 bidi-edit: $folder/files/${folder_told#*: }" open/link
     chmod 700 closed locked

@@ -14,7 +14,7 @@ check_other_namespace() {
     terminal send-keys -t first x
     wait_for 60 shows_in first '* 1:2'
     open_editor second '' note
-    expect_in second 'liveness, in another process namespace' 'note is open in another editor'
+    expect_in second 'liveness, in another process namespace' 'note is open in another window of yours'
     say_in second no
     expect_in second 'liveness, in another process namespace: no' 'status 2'
     same 'liveness, its session stays' "$(cat "$(session_of_check)/journal")" x
@@ -30,7 +30,7 @@ check_other_host() {
     session=$(session_of_check)
     echo '1 elsewhere 11111111-1111' | as_user tee "$session/process" >/dev/null
     open_editor second '' note
-    expect_in second 'liveness, on another host' 'may be open in another editor, of process 1 on elsewhere'
+    expect_in second 'liveness, on another host' 'may be open in another window of yours, process 1 on elsewhere'
     say_in second no
     expect_in second 'liveness, on another host: no' 'status 2'
     same 'liveness, on another host: the session stays' "$(cat "$session/journal")" x
@@ -52,7 +52,7 @@ check_two_answers() { # SECOND ANSWER
     expect_in first "liveness, the first of two who ask ($1)" '* 1:2'
     say_in second "$1"
     expect_in second "liveness, the second, whose answer is $1" 'another start of the editor has that session by now'
-    expect_in second "liveness, the second, whose answer is $1, sees it live" 'note is open in another editor'
+    expect_in second "liveness, the second, whose answer is $1, sees it live" 'note is open in another window of yours'
     terminal send-keys -t first y
     wait_for 30 shows_in first '* 1:3'
     same "liveness, both keys of the first are kept ($1)" "$(sed -e 's/.*t//' "$(session_of_check)/journal")" y
@@ -94,7 +94,7 @@ check_new_session() {
     open_editor first '' note
     wait_for 60 shows_in first '- 1:1'
     open_editor second '' note
-    expect_in second 'liveness, a session without a key' 'note is open in another editor'
+    expect_in second 'liveness, a session without a key' 'note is open in another window of yours'
     say_in second no
     wait_for 30 shows_in second 'status 2'
     terminal send-keys -t first x

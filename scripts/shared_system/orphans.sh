@@ -67,14 +67,14 @@ check_left_sessions() {
         wanted_left='20200101000000.locked 20200101000000.others'
     fi
     touch -d '3 hours ago' "$locked" "$others" "$left"
-    open_recorder
-    type_keys C-q
-    wait_for 30 has_ended
+    open_editor first '' note
+    wait_for 60 shows_in first '- 1:1'
+    terminal send-keys -t first C-q
+    wait_for 60 shows_in first status
+    close_editors first
     same 'orphans, the next start sweeps' "$(for each in "$folder"/state/bidi_edit/2*; do echo "${each##*/}"; done | grep -v "^$(date +%Y)" | paste -s -d ' ')" "$wanted_left"
     same 'orphans, the next start sweeps what was left' "$(ls -d "$left" 2>/dev/null)" ''
-    kill -s TERM "$holder"
-    wait "$holder" 2>/dev/null
-    terminal kill-session -t person
+    { kill -s TERM "$holder" && wait "$holder"; } 2>/dev/null
     rm -rf "$folder/state"
 }
 
