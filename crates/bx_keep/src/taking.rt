@@ -61,7 +61,10 @@ impl<P: Replayer> Taking<'_, P> {
         let alloc = self.around.alloc();
         let path = unwritable(alloc, self.sessions.path())?;
         let (path, cause) = (path.as_str(), cause_of(kind));
-        let line = format!(in alloc; "{path}{cause}")?;
+        let file = Shown(self.edited.file());
+        let line = format!(in alloc;
+            "{path}{cause}. bidi-edit --recover --to OTHER {file} stores the text elsewhere"
+        )?;
         Ok(Stop::fault(alloc, line.as_str()))
     }
 
