@@ -9,7 +9,11 @@ kind=${1:-}
 out=$here/out${kind:+/$kind}
 program=$out/bidi-edit
 
-if [ -x "$program" ] && [ -z "$(find "$here" -maxdepth 1 \( -name '*.c' -o -name '*.h' -o -name build.sh \) -newer "$program")" ]; then exit 0; fi
+if [ -x "$program" ] && [ -z "$(find "$here" -maxdepth 1 \( -name '*.c' -o -name '*.h' -o -name build.sh \) -newer "$program")" ]; then
+    # newer than the folder too, by which a start sees that nothing is to be done
+    touch -c "$program" 2>/dev/null || :
+    exit 0
+fi
 compiler=${CC:-cc}
 # the variable may have options behind the compiler's name
 command -v "${compiler%% *}" >/dev/null || {

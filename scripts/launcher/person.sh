@@ -119,9 +119,9 @@ resize() { # ROWS COLS
     terminal resize-window -t person -x "$2" -y "$1"
 }
 
-# Prints the processes of the session's terminal except the test's own.
+# Prints the processes of the session's terminal except the test's own. One that has ended and waits for init counts as gone.
 processes() {
-    ps -t "${tty#/dev/}" -o args= | grep -v -x -e "sh $folder/run" -e 'sleep 600' -e '.*sh.* -i' | paste -s -d '|'
+    ps -t "${tty#/dev/}" -o args= | grep -v -x -e "sh $folder/run" -e 'sleep 600' -e '.*sh.* -i' -e '.*<defunct>' | paste -s -d '|'
 }
 
 # Waits for the end, and checks that all is as before.

@@ -18,7 +18,7 @@ check_refused_prints() {
     refused 'printing, an option' '2 bidi-edit: there is no option --line with --print' --print f --line 3
     refused 'printing, no columns' '2 bidi-edit: --cols wants a value' --print f --cols
     for columns in 0 501 1000 x ''; do
-        wants="2 bidi-edit: --cols wants a number from 1 to 500, not $columns"
+        wants="2 bidi-edit: --cols wants a number from 1 to 500, not ${columns:-''}"
         refused "printing, $columns columns" "$wants" --print f "--cols=$columns"
     done
     lines_told=1
