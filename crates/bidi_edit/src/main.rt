@@ -1,7 +1,7 @@
 //! A full-screen editor: keys come from standard input, the screen goes to standard output.
 //!
 //! `bidi_edit [--rows N] [--cols N] [--direction auto|ltr|rtl] [--line N] [--text PATH] [--unsaved] [--journal PATH [--in-place
-//! MARK]] [--replay PATH [--to PATH]] [--before TEXT] [--words] --classes F --brackets F --mirroring F [--joining F --characters F]
+//! MARK]] [--itself] [--replay PATH [--to PATH]] [--before TEXT] [--words] --classes F --brackets F --mirroring F [--joining F --characters F]
 //! FILE`. With `--check` it only checks that FILE can be opened. Exit status 0: ended by Quit, or the input ended without unsaved
 //! changes, or FILE can be opened; 1: a fault, with a line on standard error; 2: the command line was refused, and standard error
 //! says why.
@@ -95,10 +95,14 @@ fn store_of<'a>(
     rt: &'a HostRuntime,
     options: &Options<'_>,
 ) -> Result<FileStore<'a, HostRuntime>, StoreFault> {
-    match options.in_place {
-        Some(mark) => FileStore::in_place(rt, rt.alloc(), options.file, mark),
-        None => FileStore::new(rt, rt.alloc(), options.to.unwrap_or(options.file)),
+    if let Some(mark) = options.in_place {
+        return FileStore::in_place(rt, rt.alloc(), options.file, mark);
     }
+    let mut store = FileStore::new(rt, rt.alloc(), options.to.unwrap_or(options.file))?;
+    if options.itself {
+        store.hold();
+    }
+    Ok(store)
 }
 
 /// Whether FILE may have changed since the opened text was copied from it. A text that counts as changed from the start is not

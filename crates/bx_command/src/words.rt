@@ -31,6 +31,8 @@ pub struct Options<'a> {
     pub journal: Option<&'a str>,
     /// The path of the mark, which has the whole text while a save overwrites FILE; None if saves replace FILE.
     pub in_place: Option<&'a str>,
+    /// Whether saves overwrite FILE also without a mark; a draft beside FILE then has the whole text.
+    pub itself: bool,
     /// The path of the journal to replay.
     pub replay: Option<&'a str>,
     /// The path to store the replayed text at, without a terminal.
@@ -89,6 +91,11 @@ fn in_place<'a>(alloc: Global) -> Result<Arg<'a>, AllocError> {
         .conflicts_with("to")
 }
 
+/// The flag for saves that overwrite FILE where there is no session, and so no mark.
+fn itself<'a>(alloc: Global) -> Result<Arg<'a>, AllocError> {
+    flag(alloc, "itself").conflicts_with("to")
+}
+
 /// The program's command line.
 fn command<'a>(alloc: Global) -> Result<Command<'a>, AllocError> {
     let window = Command::new(alloc, "bidi_edit")
@@ -107,6 +114,7 @@ fn command<'a>(alloc: Global) -> Result<Command<'a>, AllocError> {
         .arg(flag(alloc, "words"))?
         .arg(path(alloc, "journal"))?
         .arg(in_place(alloc)?)?
+        .arg(itself(alloc)?)?
         .arg(path(alloc, "replay"))?
         .arg(path(alloc, "to").requires_arg("replay")?)?
         .arg(Arg::new(alloc, "file").value_name("FILE").required(true))
@@ -124,6 +132,7 @@ fn options_of<'a>(matches: &ArgMatches<'a>) -> Option<Options<'a>> {
         unsaved: matches.get_flag("unsaved"),
         journal: matches.get_str("journal"),
         in_place: matches.get_str("in-place"),
+        itself: matches.get_flag("itself"),
         replay: matches.get_str("replay"),
         to: matches.get_str("to"),
         line: matches.get_one::<u64>("line"),

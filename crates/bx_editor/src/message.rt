@@ -53,6 +53,9 @@ fn failed_text(cause: Option<SaveCause>) -> &'static str
         Some(SaveCause::OutOfMemory) => "save failed: out of memory",
         Some(SaveCause::Changed) => "save failed: changed by another program, ^S overwrites it",
         Some(SaveCause::NotPlain) => "save failed: not a plain file",
+        Some(SaveCause::CutOff) => {
+            "save failed: file cut off, its whole text is in a .bx file beside it"
+        }
         Some(SaveCause::Other) => "save failed: disk error",
     }
 }

@@ -27,6 +27,7 @@ cause_text cause.TooLarge = codes "file too large"
 cause_text cause.OutOfMemory = codes "out of memory"
 cause_text cause.Changed = codes "changed by another program, ^S overwrites it"
 cause_text cause.NotPlain = codes "not a plain file"
+cause_text cause.CutOff = codes "file cut off, its whole text is in a .bx file beside it"
 cause_text cause.Other = codes "disk error"
 
 -- a fault with this cause

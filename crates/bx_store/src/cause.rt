@@ -22,12 +22,14 @@ pub enum SaveCause {
     Changed,
     /// A folder, a device, a pipe or a socket took the file's place.
     NotPlain,
+    /// The file has only a beginning of its new text, and a draft beside it has all.
+    CutOff,
     /// Any other fault.
     Other,
 }
 
 impl SaveCause {
-    /// The cause of a fault of this kind. The system has no kind for `Changed` and `NotPlain`.
+    /// The cause of a fault of this kind. None has the cause `Changed`, `NotPlain` or `CutOff`.
     pub fn of(kind: ErrorKind) -> Self
         ensures { result ≡ cause_of_kind kind }
     {
@@ -55,6 +57,7 @@ impl SaveCause {
             SaveCause::OutOfMemory => "out of memory",
             SaveCause::Changed => "changed by another program, ^S overwrites it",
             SaveCause::NotPlain => "not a plain file",
+            SaveCause::CutOff => "file cut off, its whole text is in a .bx file beside it",
             SaveCause::Other => "disk error",
         }
     }

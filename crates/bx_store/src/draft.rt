@@ -1,10 +1,10 @@
-//! The file that a save writes, before it is renamed to the file that it replaces.
+//! The file that a save writes before the file that it saves.
 
-use crate::owner::{set_ids, take_place};
+use crate::owner::{Place, set_ids, take_place};
 use crate::target::{folder_of, if_found, is_same_file};
 use std::alloc::Global;
 use std::fs::{Metadata, OpenFile, OpenOptions};
-use std::io::{self, BufWriter, ErrorKind, Write};
+use std::io::{self, BufWriter, ErrorKind, Read, Seek, Write};
 use std::os::fd::AsFd;
 use std::os::unix::fs::OpenOptionsExt;
 use std::rt::Files;
@@ -15,7 +15,7 @@ const ENDINGS: [&str; 10] = [
 ];
 
 /// A draft's permissions until it is complete: only its owner can read the text.
-const OWNERS_ALONE: u32 = 0o600;
+pub const OWNERS_ALONE: u32 = 0o600;
 
 /// The permissions of a file that did not exist before; the system clears the bits in the user's umask.
 const NEW_FILE: u32 = 0o666;
@@ -23,12 +23,13 @@ const NEW_FILE: u32 = 0o666;
 /// Buffer size of a draft, in bytes.
 const BUFFER_SIZE: usize = 65_536;
 
-/// A file in the folder of the file that it will replace.
+/// A file that gets the new text, in the folder of the file that it will replace.
 #[derive(Drop)]
-pub struct Draft<F: Write + OpenFile + AsFd + Drop> {
+pub struct Draft<F: Read + Write + Seek + OpenFile + AsFd + Drop> {
     file: BufWriter<F>,
     path: String,
-    target: String,
+    /// The path of the file to replace; None if it replaces none.
+    target: Option<String>,
     /// Permissions to set once the draft is complete; 0 leaves them unchanged.
     mode: u32,
 }
@@ -36,6 +37,7 @@ pub struct Draft<F: Write + OpenFile + AsFd + Drop> {
 /// Creates a file; an existing one is an error.
 fn make<R: Files>(files: &R, path: &str, mode: u32) -> io::Result<R::File> {
     OpenOptions::new()
+        .read(true)
         .write(true)
         .create_new(true)
         .mode(mode)
@@ -61,12 +63,12 @@ fn make_beside<R: Files>(
     Err(ErrorKind::AlreadyExists.into())
 }
 
-/// Wraps a new file in a buffer, and gives it the owner and permissions of `old`, the file last found there, if any. Also
-/// returns the permissions that the file gets once it is complete.
-fn buffered<F: Write + OpenFile + AsFd + Drop>(
+/// Wraps a new file in a buffer, and gives it the place of `old`, the file last found there, if any. Also returns the
+/// permissions that the file gets once it is complete.
+fn buffered<F: Read + Write + Seek + OpenFile + AsFd + Drop>(
     alloc: Global,
     file: F,
-    old: Option<&Metadata>,
+    old: Option<Place<'_>>,
 ) -> io::Result<(BufWriter<F>, u32)> {
     let mode = match old {
         Some(old) => take_place(&file, old)?,
@@ -75,25 +77,38 @@ fn buffered<F: Write + OpenFile + AsFd + Drop>(
     Ok((BufWriter::with_capacity(alloc, BUFFER_SIZE, file)?, mode))
 }
 
-impl<F: Write + OpenFile + AsFd + Drop> Draft<F> {
+impl<F: Read + Write + Seek + OpenFile + AsFd + Drop> Draft<F> {
     /// Creates an empty draft beside `target`, with the owner and permissions of `old`, the file last found there, if any.
     pub fn beside<R: Files<File = F>>(
         files: &R,
         alloc: Global,
         target: String,
-        old: Option<&Metadata>,
+        old: Option<Place<'_>>,
     ) -> io::Result<Self> {
         let mode = if old.is_some() {
             OWNERS_ALONE
         } else {
             NEW_FILE
         };
-        let (file, path) = make_beside(files, alloc, target.as_str(), mode)?;
+        let mut draft = Draft::only_beside(files, alloc, target.as_str(), mode, old)?;
+        draft.target = Some(target);
+        Ok(draft)
+    }
+
+    /// Creates an empty draft beside `place` that replaces no file, with these permissions and then those of `old`, if any.
+    pub fn only_beside<R: Files<File = F>>(
+        files: &R,
+        alloc: Global,
+        place: &str,
+        mode: u32,
+        old: Option<Place<'_>>,
+    ) -> io::Result<Self> {
+        let (file, path) = make_beside(files, alloc, place, mode)?;
         match buffered(alloc, file, old) {
             Ok((file, mode)) => Ok(Draft {
                 file,
                 path,
-                target,
+                target: None,
                 mode,
             }),
             Err(error) => {
@@ -115,14 +130,17 @@ impl<F: Write + OpenFile + AsFd + Drop> Draft<F> {
         Ok(Draft {
             file,
             path,
-            target,
+            target: Some(target),
             mode,
         })
     }
 
-    /// The path of the file to replace.
+    /// The path of the file to replace; the draft's own path if it replaces none.
     pub fn target(&self) -> &str {
-        self.target.as_str()
+        match &self.target {
+            Some(target) => target.as_str(),
+            None => self.path.as_str(),
+        }
     }
 
     /// Appends bytes; the last ones may stay in the buffer.
@@ -143,19 +161,29 @@ impl<F: Write + OpenFile + AsFd + Drop> Draft<F> {
         Ok(is_same_file(&found, &self.metadata()?))
     }
 
-    /// Renames the draft to the file that it replaces.
+    /// Renames the draft to the file that it replaces, if any.
     pub fn replace<R: Files<File = F>>(&self, files: &R) -> io::Result<()> {
         if !self.is_at_its_path(files)? {
             return Err(ErrorKind::NotFound.into());
         }
-        files.rename(self.path.as_str(), self.target.as_str())
+        match &self.target {
+            Some(target) => files.rename(self.path.as_str(), target.as_str()),
+            None => Ok(()),
+        }
+    }
+
+    /// The synced file, to be read from its first byte.
+    pub fn reader(&mut self) -> io::Result<&mut F> {
+        let file = self.file.get_mut();
+        file.rewind()?;
+        Ok(file)
     }
 
     /// Syncs the folder, so that the new name survives a crash of the machine.
     pub fn sync_folder<R: Files<File = F>>(&self, files: &R) -> io::Result<()> {
         OpenOptions::new()
             .read(true)
-            .open(files, folder_of(self.target.as_str()))?
+            .open(files, folder_of(self.target()))?
             .sync_all()
     }
 

@@ -11,6 +11,7 @@ mod owner;
 mod saving;
 mod store;
 mod target;
+mod watch;
 
 pub use cause::SaveCause;
 pub use faults::Faults;

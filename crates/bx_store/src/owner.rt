@@ -8,6 +8,15 @@ use std::os::unix::fs::{MetadataExt, PermissionsExt, fchown};
 /// The set-user-ID and set-group-ID bits.
 const SET_IDS: u32 = 0o6000;
 
+/// What a new file takes over.
+#[derive(Clone, Copy)]
+pub struct Place<'a> {
+    /// The file last found there.
+    pub old: &'a Metadata,
+    /// Whether its permissions say all; otherwise the group's may be those of an access list, which a new file has not.
+    pub is_plain: bool,
+}
+
 /// Whether a new file got the old file's owner and group.
 #[derive(Clone, Copy)]
 struct Preserved {
@@ -41,7 +50,7 @@ fn take_owner<F: OpenFile + AsFd>(file: &F, old: &Metadata) -> io::Result<Preser
     Ok(preserved)
 }
 
-/// Gives the group the same permissions as others, for a file that could not get the old group.
+/// Gives the group the same permissions as others, for a file whose group may have had fewer before.
 fn without_group(mode: u32) -> u32 {
     let others = mode & 0o007;
     (mode & !0o070) | (others << 3)
@@ -60,10 +69,12 @@ fn mode_of(preserved: Preserved, old: &Metadata) -> u32 {
     }
 }
 
-/// Gives a new file the owner, group and permissions of the file that it will replace. Returns the permissions. The set-ID bits
-/// are left out until the file is complete.
-pub fn take_place<F: OpenFile + AsFd>(file: &F, old: &Metadata) -> io::Result<u32> {
-    let preserved = take_owner(file, old)?;
+/// Gives a new file the owner, group and permissions of the file that was there. Returns the permissions. The set-ID bits are
+/// left out until the file is complete.
+pub fn take_place<F: OpenFile + AsFd>(file: &F, place: Place<'_>) -> io::Result<u32> {
+    let Place { old, is_plain } = place;
+    let mut preserved = take_owner(file, old)?;
+    preserved.group = preserved.group && is_plain;
     let mode = mode_of(preserved, old);
     file.set_permissions(Permissions::from_mode(mode & !SET_IDS))?;
     Ok(mode)

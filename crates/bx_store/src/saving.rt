@@ -3,20 +3,20 @@
 use crate::draft::Draft;
 use crate::in_place::InPlace;
 use std::fs::OpenFile;
-use std::io::{self, Write};
+use std::io::{self, Read, Seek, Write};
 use std::os::fd::AsFd;
 use std::rt::Files;
 
 /// A save in progress, in one of two ways.
 #[derive(Drop)]
-pub enum Saving<F: Write + OpenFile + AsFd + Drop> {
+pub enum Saving<F: Read + Write + Seek + OpenFile + AsFd + Drop> {
     /// A draft will replace the file.
     Beside(Draft<F>),
     /// The file itself is overwritten.
     InPlace(InPlace<F>),
 }
 
-impl<F: Write + OpenFile + AsFd + Drop> Saving<F> {
+impl<F: Read + Write + Seek + OpenFile + AsFd + Drop> Saving<F> {
     /// Appends bytes.
     pub fn put(&mut self, bytes: &[u8]) -> io::Result<()> {
         match self {
@@ -25,11 +25,11 @@ impl<F: Write + OpenFile + AsFd + Drop> Saving<F> {
         }
     }
 
-    /// Removes the files of a save that stored nothing.
-    pub fn remove<R: Files<File = F>>(self, files: &R, is_torn: bool) {
+    /// Removes the files of a save that stored nothing, but for the mark of a torn file.
+    pub fn remove<R: Files<File = F>>(self, files: &R, torn: Option<&str>) {
         match self {
             Saving::Beside(draft) => draft.remove(files),
-            Saving::InPlace(in_place) => in_place.remove(files, is_torn),
+            Saving::InPlace(in_place) => in_place.remove(files, torn),
         }
     }
 }

@@ -72,6 +72,11 @@ pub fn target_of<R: Files>(files: &R, alloc: Global, path: &str) -> io::Result<S
     }
 }
 
+/// Whether no folder of a path without links is a link by now.
+pub fn is_in_its_folder<R: Files>(files: &R, alloc: Global, path: &str) -> io::Result<bool> {
+    Ok(in_its_folder(files, alloc, path)?.as_str() == path)
+}
+
 /// Whether both metadata are of one file, changed or not.
 pub fn is_same_file(old: &Metadata, new: &Metadata) -> bool {
     old.dev() == new.dev() && old.ino() == new.ino()
@@ -82,8 +87,14 @@ pub fn is_unchanged(old: &Metadata, new: &Metadata) -> bool {
     let is_as_written = old.size() == new.size()
         && old.mtime() == new.mtime()
         && old.mtime_nsec() == new.mtime_nsec();
+    // within a tick of the system's clock the times stay
+    let has_same_rights = old.mode() == new.mode()
+        && old.uid() == new.uid()
+        && old.gid() == new.gid();
     is_same_file(old, new)
         && is_as_written
+        && has_same_rights
+        && old.nlink() == new.nlink()
         && old.ctime() == new.ctime()
         && old.ctime_nsec() == new.ctime_nsec()
 }

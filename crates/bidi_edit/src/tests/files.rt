@@ -48,6 +48,7 @@ fn options<'a>(unicode: UnicodePaths<'a>, file: &'a str) -> Options<'a> {
         unsaved: false,
         journal: None,
         in_place: None,
+        itself: false,
         replay: None,
         to: None,
         line: None,
