@@ -91,7 +91,7 @@ alike d fault again Typed e key other = sought_alike d fault again e key other
 
 unless_save : (d : Data) (fault : Option StoreFault) (e : Editor) (key : Key) → is_save key ≡ false → after_key d None e key ≡ after_key d fault e key
 unless_save d fault e =
-    each-key d false e (λ key new. is_save key ≡ false → new ≡ after_key d fault e key) (λ height width other. refl) (λ notice other. refl)
+    each-key d None e (λ key new. is_save key ≡ false → new ≡ after_key d fault e key) (λ height width other. refl) (λ notice other. refl)
     (λ key small other. alike d fault e.quit_before e.seek (without_message e) key other ∙ sym (any-key d fault e key small))
 
 -- nor whether the editor has ended
@@ -137,7 +137,7 @@ same_ended d fault e (Size height width) = ap (λ (x : Editor). x.ended) (sym (u
 same_ended d fault e (Notice notice) = ap (λ (x : Editor). x.ended) (sym (unless_save d fault e (Notice notice) refl))
 
 pub applied : {D : Type 0} (says : D → Data) (fault : Option StoreFault) (old new : EditorState D) (key : Key) → is_save key ≡ false
-    → new.editor ≡ after_key (says old.tables) false old.editor key → new.tables ≡ old.tables
+    → new.editor ≡ after_key (says old.tables) None old.editor key → new.tables ≡ old.tables
     → new ≡ record old { editor = after_key (says old.tables) fault old.editor key }
 applied {D} says fault old new key other e same =
     ap (λ (x : D). record { tables = x; editor = new.editor }) same

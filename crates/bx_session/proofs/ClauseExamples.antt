@@ -10,7 +10,7 @@ use Rattle.std.proofs.lemmas.List.{append-nil, length-append}
 use Rattle.unicode_segmentation.proofs.Computing.{unicode_segmentation}
 use Rattle.unicode_width.proofs.Computing.{unicode_width}
 use Rattle.bx_store.specs.Causes.{fault}
-use Rattle.bx_store.specs.Stores.{no_faults, one_more}
+use Rattle.bx_store.specs.Stores.{no_faults}
 use Rattle.bx_store.specs.declared.cause.SaveCause.TheVariants.{NoSpace}
 use Rattle.bx_store.specs.declared.faults.Faults.{Faults}
 use Rattle.bx_store.specs.declared.store.StoreFault.{StoreFault}

@@ -7,9 +7,8 @@ use Rattle.std.proofs.lemmas.List.{append-nil}
 use Rattle.std.proofs.lemmas.List.Elements.{All-tail}
 use Rattle.bx_terms.specs.declared.base.Base.{Base}
 use Rattle.bx_keys.specs.declared.key.Key.{Key}
-use Rattle.bx_keys.specs.declared.key.Key.TheVariants.{Save, Quit}
-use Rattle.bx_keys.specs.Keys.{key_after, rest_after}
-use Rattle.bx_keys.specs.Waiting.{head_of}
+use Rattle.bx_keys.specs.declared.key.Key.TheVariants.{Quit}
+use Rattle.bx_keys.specs.Keys.{key_after}
 use Rattle.bx_text.specs.Edits.{Edited, opened}
 use Rattle.bx_store.specs.declared.store.StoreFault.{StoreFault}
 use Rattle.bx_ucd.specs.Data.{Data}
@@ -25,16 +24,16 @@ use Rattle.bx_session.specs.declared.error.Refused.TheVariants as refused
 use Rattle.bx_session.specs.declared.status.Status.{Status}
 use Rattle.bx_session.specs.declared.journal.Backlog.{Backlog}
 use Rattle.bx_session.specs.declared.journal.Backlog.TheVariants.{Empty}
-use Rattle.bx_session.specs.Beginning.{Beginning, after_going_to, at_offset, begun, changed_if, unpainted_at}
-use Rattle.bx_session.specs.Journal.{HasKept, RecorderState, RunsRecorded, is_lost, waiting}
+use Rattle.bx_session.specs.Beginning.{Beginning, after_going_to, at_offset, begun, changed_if}
+use Rattle.bx_session.specs.Journal.{HasKept, RecorderState, is_lost, waiting}
 use Rattle.bx_session.specs.Laws.{after_replaying}
 use Rattle.bx_session.specs.Parts.{is_quit}
-use Rattle.bx_session.specs.Recovery.{HasAll, HasBack, HasBackMidway, IsKnown, JournalsGiveBack, RefusesNoKey, TellsChanges}
+use Rattle.bx_session.specs.Recovery.{HasAll, HasBack, HasBackMidway, IsKnown, JournalsGiveBack, RefusesNoKey}
 use Rattle.bx_session.specs.Running.{ByteAnswer, FeedsAll, bytes_of}
-use Rattle.bx_session.specs.Saving.{StoreAfter, StoreState, Feeds, is_save_key, with_text}
+use Rattle.bx_session.specs.Saving.{StoreAfter, StoreState, Feeds, is_save_key}
 use Rattle.bx_session.specs.Session.{Session, after_all_replayed, after_replay, after_replayed, at_opening, at_replay_end}
 use Rattle.bx_session.proofs.Recovered.{Follows, Lasting, all_follow, byte_follows, byte_leaves, editor_after, ended_back, follows, has_back}
-use Rattle.bx_session.proofs.Replayed.{Edits, Steps, applies, each-replayed, is_other, key_steps, replayed_steps}
+use Rattle.bx_session.proofs.Replayed.{Edits, Steps, applies, each-replayed, key_steps, replayed_steps}
 
 unlike : (b : Bool) → b ≡ false → b ≡ true → ⊥
 unlike b off on = let both : false ≡ true = sym off ∙ on in cc both

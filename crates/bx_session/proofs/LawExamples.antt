@@ -26,7 +26,7 @@ use Rattle.bx_session.specs.Laws.{AlwaysShowsState, HasKeysOfInput, ReplaysKeys,
 use Rattle.bx_session.specs.Recovery.{HasAll, HasBack, HasBackMidway, JournalsGiveBack, RefusesNoKey, RecoveryGivesBack}
 use Rattle.bx_session.specs.Running.{ByteAnswer, FeedsAll, bytes_of}
 use Rattle.bx_session.specs.Saving.{StoreState}
-use Rattle.bx_session.specs.Session.{Session, after_byte, after_sending, after_spending, owing_after_byte, with_painting}
+use Rattle.bx_session.specs.Session.{Session, after_byte, after_sending, owing_after_byte, with_painting}
 use Rattle.bx_session.proofs.Computed.{start, csi}
 use Rattle.bx_session.proofs.GivenBack.{journal_is}
 
@@ -36,7 +36,7 @@ opened = start (codes "ab") 1 5
 pub the_letter_is_painted : AlwaysShowsState
     → (after_byte tables None opened 0x78).painted ≡ Some (record { height = 1; width = 5; columns = columns_of (codes "xab  "); row = 0; column = 1 })
 unfolding unicode_segmentation unicode_width digits
-the_letter_is_painted law = (law.byte tables true opened 0x78 (law.opening tables (codes "ab") 1 5 Auto) refl).0
+the_letter_is_painted law = (law.byte tables None opened 0x78 (law.opening tables (codes "ab") 1 5 Auto) refl).0
 
 -- all 22 bytes of the opening's painting were sent
 pub nothing_is_sent_anew : AlwaysStaysPainted → (with_painting tables (after_sending opened 22)).pending ≡ []

@@ -2,6 +2,7 @@ pub mod Applied
 pub mod Bytes
 pub mod Computed
 pub mod Input
+pub mod KeySizes
 pub mod Recorded
 pub mod PaintedAnew
 pub mod Pictures

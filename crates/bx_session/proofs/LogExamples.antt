@@ -4,8 +4,8 @@ use Rattle.std.proofs.lemmas.List.{length-append}
 use Rattle.std.specs.Prelude.{codes}
 use Rattle.std.specs.List.{concat}
 use Rattle.bx_session.specs.declared.action.Action.{Action}
-use Rattle.bx_session.specs.declared.action.Action.TheVariants.{Read, ReadFailed, Append, Write, WriteFailed, Flush, FlushFailed}
-use Rattle.bx_session.specs.declared.end.End.TheVariants.{Quit, InputEnded}
+use Rattle.bx_session.specs.declared.action.Action.TheVariants.{Read, Append, Write, WriteFailed, Flush, FlushFailed}
+use Rattle.bx_session.specs.declared.end.End.TheVariants.{Quit}
 use Rattle.bx_session.specs.declared.end.RunFault.TheVariants.{ReadFault, WriteFault}
 use Rattle.bx_session.specs.Running.{Turn, bytes_of, read_in}
 use Rattle.bx_session.specs.Log.{IsLog, LoggedTurn, appends, turns_actions}

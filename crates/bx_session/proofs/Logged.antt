@@ -1,11 +1,11 @@
 -- The log of a run, turn by turn.
-use Rattle.std.proofs.Common.{◌≡◌, ℕ, ◌+◌, ◌≤◌, Bool, false, List, [], ◌∷◌, ◌++◌, length, map, None, Result, Ok, Err, ◌⊎◌, inl, inr}
+use Rattle.std.proofs.Common.{◌≡◌, ℕ, ◌+◌, ◌≤◌, Bool, false, List, [], ◌∷◌, ◌++◌, length, None, Result, Ok, Err, inl, inr}
 use Rattle.std.specs.List.{concat}
-use Rattle.std.proofs.Common.{refl, sym, ap, subst, ◌∙◌, append_assoc, arith}
+use Rattle.std.proofs.Common.{refl, sym, ap, subst, ◌∙◌, append_assoc}
 use Rattle.std.proofs.lemmas.List.{append-nil, length-append, map-append}
 use Rattle.bx_ucd.specs.Data.{Data}
 use Rattle.bx_session.specs.declared.action.Action.{Action}
-use Rattle.bx_session.specs.declared.action.Action.TheVariants.{Read, ReadFailed, Append, Write, WriteFailed, Flush, FlushFailed}
+use Rattle.bx_session.specs.declared.action.Action.TheVariants.{Read, ReadFailed, Append, Write, Flush}
 use Rattle.bx_session.specs.declared.end.End.{End}
 use Rattle.bx_session.specs.declared.end.End.TheVariants.{Quit, InputEnded}
 use Rattle.bx_session.specs.declared.end.RunFault.{RunFault}
@@ -13,7 +13,7 @@ use Rattle.bx_session.specs.declared.end.RunFault.TheVariants.{ReadFault, WriteF
 use Rattle.bx_session.specs.Session.{Session}
 use Rattle.bx_session.specs.Saving.{StoreState}
 use Rattle.bx_session.specs.Running.{ByteAnswer, FedUntilEnd, Sent, Turn, bytes_of, read_in, read_size}
-use Rattle.bx_session.specs.Log.{DidAll, HasLogged, IsLog, FailsLast, IsSending, IsFailedSending, LoggedTurn, appends}
+use Rattle.bx_session.specs.Log.{DidAll, HasLogged, IsLog, FailsLast, IsFailedSending, LoggedTurn, appends}
 use Rattle.bx_session.specs.Log.{bytes_by, read_by, kept_by, written_by, turn_actions, turns_actions, run_actions}
 use Rattle.bx_session.proofs.Turns.{started, turned, read_on, run_drops}
 

@@ -6,7 +6,7 @@ use Rattle.std.proofs.KnownBytes.{Consumes-nil, Consumes-trans, Appends-nil, App
 use Rattle.std.proofs.lemmas.List.{length-append}
 use Rattle.bx_ucd.specs.Data.{Data}
 use Rattle.bx_session.specs.declared.action.Action.{Action}
-use Rattle.bx_session.specs.declared.action.Action.TheVariants.{Read, ReadFailed, Append, Write, WriteFailed, Flush, FlushFailed}
+use Rattle.bx_session.specs.declared.action.Action.TheVariants.{Read, Append, Write, Flush}
 use Rattle.bx_session.specs.declared.end.End.{End}
 use Rattle.bx_session.specs.declared.end.End.TheVariants.{Quit, InputEnded}
 use Rattle.bx_session.specs.declared.end.RunFault.{RunFault}

@@ -1,5 +1,5 @@
 -- Only a Quit ends a session, so all bytes of a part are fed.
-use Rattle.std.proofs.Common.{◌≡◌, ◌≢◌, ◌≤◌, ◌<◌, ◌+◌, ℕ, suc, Bool, true, false, List, [], ◌∷◌, ◌++◌, Option, Some, None, Result, Ok, Err}
+use Rattle.std.proofs.Common.{◌≡◌, ◌≤◌, ◌<◌, ◌+◌, ℕ, suc, Bool, true, false, List, [], ◌∷◌, ◌++◌, Option, Some, None, Result, Ok, Err}
 use Rattle.std.proofs.Common.{refl, sym, ap, subst, ◌∙◌, append_assoc, take, drop, length, take-append-drop, if◌then◌else◌, arith}
 use Rattle.std.specs.List.{concat}
 use Rattle.std.proofs.lemmas.List.Folds.{concat-append}
@@ -22,7 +22,7 @@ use Rattle.bx_session.specs.Log.{DidAll, appends}
 use Rattle.bx_session.specs.Parts.{is_quit, part_length}
 use Rattle.bx_session.specs.Running.{ByteAnswer, FeedsAll, FedUntilEnd, bytes_of}
 use Rattle.bx_session.specs.Saving.{StoreState, Feeds}
-use Rattle.bx_session.specs.Session.{Session, after_spending}
+use Rattle.bx_session.specs.Session.{Session}
 use Rattle.bx_session.proofs.Logged.{appends_more, did_more}
 use Rattle.bx_session.proofs.Turns.{FeedsAll-append}
 use Rattle.bx_session.proofs.Recovered.{Leaves, byte_leaves, editor_after}

@@ -251,7 +251,7 @@ other_lasts d fault e f =
     (λ notice other. refl)
     (λ key small other.
     seek_lasts d fault e.quit_before f.quit_before e.seek (without_message e) (without_message f) key other
-    ∙ ap lasting (sym (any-key d false (with (lasting e) f) key small)))
+    ∙ ap lasting (sym (any-key d None (with (lasting e) f) key small)))
 
 save_lasts : (e : Editor) (fault : Option StoreFault) → lasting (without_search (after_save e fault)) ≡ lasting (without_search e)
 save_lasts e None = refl

@@ -232,7 +232,7 @@ quit_steps d Typed e is = subst (λ seek. Steps e (after_any d None e.quit_befor
 pub replayed_steps : (d : Data) (e : Editor) (key : Key) → Steps e (after_replayed d e.seek e key)
 replayed_steps d e key =
     each-replayed d e.seek e (λ k new. Steps e new) (idle e (without_search e) refl refl refl) (quit_steps d e.seek e refl)
-    (λ k other. key_steps d false e k other) key
+    (λ k other. key_steps d None e k other) key
 
 goes_on : (d : Data) (e : Editor) (key : Key) → e.ended ≡ false → (after_replayed d e.seek e key).ended ≡ false
 goes_on d e key h = (replayed_steps d e key).goes_on ∙ h

@@ -73,7 +73,7 @@ Feeds-prefixed d p s store b a s' store' h = (h.0, h.1, AfterByte-prefixed d h.0
 FeedPaints-prefixed : (d : Data) (p : List ℕ) (s : Session) (b : ℕ) (s' : Session) → FeedPaints d s b s' → FeedPaints d (prefixed p s) b (prefixed p s')
 FeedPaints-prefixed d p s b s' h =
     subst (λ (known : Option PictureState). QueuesPicture d (p ++ s.pending) known (prefixed p s'))
-    (sym (ap (λ (x : Session). x.known) (unpainted-prefixed d true p s b))) (
+    (sym (ap (λ (x : Session). x.known) (unpainted-prefixed d None p s b))) (
       h.0,
       record {
         appends = ap (λ xs. p ++ xs) h.1.appends ∙ sym (append_assoc p s.pending h.0);

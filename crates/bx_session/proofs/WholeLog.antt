@@ -1,9 +1,8 @@
 -- The log of a device in memory.
-use Rattle.std.proofs.Common.{◌≡◌, List, [], ◌∷◌, ◌++◌, Option, Some, None, refl, sym, ap, subst, ◌∙◌, append_assoc}
+use Rattle.std.proofs.Common.{List, [], ◌∷◌, ◌++◌, Option, Some, None, refl, sym, ap, subst, ◌∙◌, append_assoc}
 use Rattle.std.proofs.lemmas.List.{append-nil}
 use Rattle.bx_session.specs.declared.action.Action.{Action}
-use Rattle.bx_session.specs.Log.{DidAll}
-use Rattle.bx_session.specs.InMemory.{DeviceState, DidInMemory, HasWholeLog, Logs}
+use Rattle.bx_session.specs.InMemory.{DeviceState, HasWholeLog, Logs}
 
 logs_nothing : (log : Option (List Action)) → Logs log [] log
 logs_nothing None = tt

@@ -10,6 +10,7 @@ use Rattle.bx_editor.specs.Keys.{after_key}
 use Rattle.bx_session.specs.declared.error.Refused.TheVariants as refused
 use Rattle.bx_session.specs.Saving.{StoreState}
 use Rattle.bx_session.specs.Session.{Session, key_of_byte, after_byte, owing_after_byte}
+use Rattle.bx_session.proofs.KeySizes.{SameSize}
 use Rattle.bx_world.specs.declared.step.Step.{Step}
 use Rattle.bx_world.specs.declared.step.Step.TheVariants.{Byte, Window, Told, Send, Read}
 use Rattle.bx_world.specs.declared.step.StepFault.{StepFault}
@@ -20,7 +21,7 @@ use Rattle.bx_world.specs.Events.{after_input}
 use Rattle.bx_world.specs.Runs.{Schedule}
 use Rattle.bx_grid.specs.declared.error.GridError.TheVariants as grid
 use Rattle.bx_world.proofs.Brought.{byte_fed}
-use Rattle.bx_world.proofs.Keys.{IsOther, IsTelling, kind_of_key, SameSize}
+use Rattle.bx_world.proofs.Keys.{IsOther, IsTelling, kind_of_key}
 
 -- the window has the editor's size
 abbrev pub fits : ℕ → ℕ → Editor → Bool

@@ -1,4 +1,4 @@
-use Rattle.std.proofs.Common.{◌++◌, ap, drop, refl, subst, sym, take, take-append-drop, ◌∙◌}
+use Rattle.std.proofs.Common.{◌++◌, ap, refl, subst, sym, take, take-append-drop, ◌∙◌}
 use Rattle.std.specs.Io.KnownBytes.{Appends}
 use Rattle.bx_session.specs.declared.journal.Backlog.TheVariants.{Lost}
 use Rattle.bx_session.proofs.Recorded.{kept_last}

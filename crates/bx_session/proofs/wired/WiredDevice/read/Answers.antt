@@ -1,4 +1,4 @@
-use Rattle.std.proofs.Common.{refl, ap, arith}
+use Rattle.std.proofs.Common.{refl, arith}
 use Rattle.bx_session.proofs.Wiring.{did_read, did_read_failed}
 use Rattle.bx_session.proofs.wired.WiredDevice.read.Goals as goal
 
