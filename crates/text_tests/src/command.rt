@@ -54,7 +54,7 @@ fn three_tables_and_file(rt: HostRuntime) -> Result<(), Fail> {
     assert!(rt; !options.unsaved && !options.check);
     assert_eq!(rt; (options.journal, options.replay), (None, None));
     assert_eq!(rt; (options.in_place, options.before), (None, None));
-    assert!(rt; !options.words);
+    assert!(rt; !options.words && !options.itself);
     Ok(())
 }
 
@@ -157,20 +157,24 @@ fn saves_into_the_file_itself_want_a_journal(rt: HostRuntime) -> Result<(), Fail
         Some(ErrorKind::MissingRequiredArgument)
     );
     let to = "--to=o";
-    let words = [
-        tables[0],
-        tables[1],
-        tables[2],
-        journal,
-        mark,
-        "--replay=r",
-        to,
-        "f",
-    ];
-    assert_eq!(rt;
-        refusal(rt.alloc(), &words),
-        Some(ErrorKind::ArgumentConflict)
-    );
+    for itself in [mark, "--itself"] {
+        let words = [
+            tables[0],
+            tables[1],
+            tables[2],
+            journal,
+            itself,
+            "--replay=r",
+            to,
+            "f",
+        ];
+        assert_eq!(rt;
+            refusal(rt.alloc(), &words),
+            Some(ErrorKind::ArgumentConflict)
+        );
+    }
+    let words = [tables[0], tables[1], tables[2], "--itself", "f"];
+    assert!(rt; command_line(rt.alloc(), &words)?.itself);
     Ok(())
 }
 
