@@ -14,6 +14,7 @@ use crate::target::find;
 use crate::watch::Watch;
 use std::alloc::Global;
 use std::fs::OpenFile;
+use std::io::ErrorKind;
 use std::os::fd::AsFd;
 use std::rt::Files;
 
@@ -115,7 +116,14 @@ where
     {
         draft.sync()?;
         self.watch.look_again(draft.target())?;
-        draft.replace(self.watch.files)?;
+        match draft.replace(self.watch.files) {
+            // a mount was put on the file, which can only be written itself then
+            Err(error) if error.kind() == ErrorKind::ResourceBusy => {
+                self.watch.hold();
+                return Err(SaveCause::Changed.into());
+            }
+            answer => answer?,
+        }
         self.watch.note_replaced(draft.metadata(), draft.metadata());
         // the file is replaced, even if its folder is not synced
         let _ = draft.sync_folder(self.watch.files);
