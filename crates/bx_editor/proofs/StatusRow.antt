@@ -46,6 +46,7 @@ failed-printable (Some causes.TooLarge) = refl
 failed-printable (Some causes.OutOfMemory) = refl
 failed-printable (Some causes.Changed) = refl
 failed-printable (Some causes.NotPlain) = refl
+failed-printable (Some causes.CutOff) = refl
 failed-printable (Some causes.Other) = refl
 
 notice-printable : (notice : told.Notice) → are_ascii_printable (notice_text notice) ≡ true
