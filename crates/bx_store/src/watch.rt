@@ -118,6 +118,7 @@ impl<'a, R: Files> Watch<'a, R> {
     pub fn note_replaced(&mut self, first: io::Result<Metadata>, second: io::Result<Metadata>) {
         self.plain = first.ok();
         self.seen = second.ok();
+        self.is_distrusted = false;
     }
 
     /// Whether a rename loses nothing of the file that was last seen, but maybe its other names.
