@@ -241,6 +241,20 @@ def live(top):
     first.close()
 
 
+def a_pipe_in_its_place(top):
+    """A pipe that takes FILE's place is not opened, which would wait for a writer."""
+    put(f'{top}/a.txt', b'text\n')
+    for status, told in ((1, 'what was typed is kept'), (0, 'what was dropped can be had back')):
+        start = edit(top, 'a.txt', answers=['d'])
+        start.type(b'abc')
+        start.second()
+        os.unlink(f'{top}/a.txt')
+        os.mkfifo(f'{top}/a.txt')
+        assert start.leave(status) == status and told in start.err, start.err
+        os.unlink(f'{top}/a.txt')
+        put(f'{top}/a.txt', b'text\n')
+
+
 def a_folder_that_goes(top):
     start = edit(top, 'a.txt')
     start.type(b'abc')
@@ -250,6 +264,11 @@ def a_folder_that_goes(top):
     assert start.notices == [2] and start.second() == '.' and start.notices == [2], start.notices
     start.say('i', 'f unsaved')
     assert start.leave(1) == 1 and re.search('what was typed is not kept, since its folder .* is gone', start.err), start.err
+    start = edit(top, 'a.txt')
+    start.type(b'abc')
+    start.second()
+    shutil.rmtree(os.path.dirname(start.value('--journal')))
+    assert start.leave(0) == 0 and re.search('what was not saved cannot be had back, since its folder .* is gone', start.err), start.err
 
 
 def no_room(top):
@@ -322,6 +341,9 @@ def other_names(top):
     start.leave(0)
     start = Start(top, '-n', 'a.txt')
     assert start.end == ('x', '1') and start.err.endswith('since unsaved text is not kept (-n asks for that): --force opens it all the same\n'), start.err
+    start = edit(top, '-n', '--force', 'a.txt')
+    assert '--itself' in start.words and 'saves are written into the file itself' in start.err and start.notices == [9], (start.words, start.err)
+    start.leave(0)
 
 
 def cannot_be_replayed(top):
@@ -518,7 +540,7 @@ def printing(top):
     assert start.end[0] == 'P' and start.printer[:4] == ['--cols', '80', '--direction', 'auto'] and start.printer[-1] == 'a.txt', start.printer
 
 
-CASES = [help_and_version, refusals, a_session, keys_are_kept, questions, dropped, refused_by_the_program, live, a_folder_that_goes, no_room,
+CASES = [help_and_version, refusals, a_session, keys_are_kept, questions, dropped, refused_by_the_program, live, a_pipe_in_its_place, a_folder_that_goes, no_room,
          another_file_meanwhile, the_host_dies, changed_since, mixed_line_ends, other_names, cannot_be_replayed, a_file_that_is_gone,
          another_version, tables_that_change, by_other_names, torn_by_another_name, secrets, forgets, foreign_names, closed_files, nothing_typed, stores_elsewhere,
          printing]

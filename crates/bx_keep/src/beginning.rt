@@ -62,12 +62,11 @@ impl Begun {
     /// The first notice of the session, if there is one.
     pub fn first_notice(&self) -> Option<Notice> {
         match &self.unkept {
-            Some(_) if self.is_unwanted => None,
-            Some(unkept) => Some(unkept.notice),
-            None if self.aside_of.is_some() => Some(Notice::RecoveredAside),
-            None if self.is_resumed => Some(Notice::Recovered),
-            None if self.is_in_place => Some(Notice::InPlace),
-            None => None,
+            Some(unkept) if !self.is_unwanted => Some(unkept.notice),
+            _ if self.aside_of.is_some() => Some(Notice::RecoveredAside),
+            _ if self.is_resumed => Some(Notice::Recovered),
+            _ if self.is_in_place || self.is_itself => Some(Notice::InPlace),
+            _ => None,
         }
     }
 
