@@ -225,7 +225,8 @@ check_sessions() {
 
 # Types a line into a shell whose state folder is its own.
 say() { # WORD..
-    terminal send-keys -t shell "$*" Enter
+    terminal send-keys -t shell -l "$*"
+    terminal send-keys -t shell Enter
 }
 
 open_shell() {
@@ -322,11 +323,16 @@ scene_dropped() {
         say 'grep -c y text; ls state/bidi_edit | wc -l' && expect "$scene" 1 && expect "$scene" 0
 }
 
+# Whether the session has its text, which it gets beside the first painting.
+has_session() {
+    [ -n "$(find "$shell/state" -name path)" ]
+}
+
 scene_two_editors() {
     open_shell
     printf 'ab\n' >"$shell/other"
     say bidi-edit other
-    wait_for 150 has_row shell '- 1:1' || return 1
+    wait_for 150 has_row shell '- 1:1' && wait_for 150 has_session || return 1
     terminal rename-session -t shell first
     open_shell
     say bidi-edit other

@@ -111,7 +111,8 @@ shows_in() { # NAME TEXT
 }
 
 say_in() { # NAME WORD
-    terminal send-keys -t "$1" "$2" Enter
+    terminal send-keys -t "$1" -l "$2"
+    terminal send-keys -t "$1" Enter
 }
 
 expect_in() { # NAME CHECK TEXT
