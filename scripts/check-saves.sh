@@ -3,7 +3,7 @@
 # changes the file from another program meanwhile, and saves to files, links and owners of all kinds. FILE must have its old or
 # its new bytes, complete, with its owner and permissions; a link must stay a link; only the draft of a killed save may be left
 # beside it; and nobody else may read the draft. All this is checked for saves that replace FILE and for saves that overwrite
-# it, where FILE may be torn as long as the mark has the whole new text. It is not part of `rt ci`, and needs strace; some
+# it, where FILE may be torn as long as the mark, in a folder of its own or beside FILE, has the whole new text. It is not part of `rt ci`, and needs strace; some
 # checks need root. Its word is the program. It prints the number of checks of each kind. Exit status 1: a check failed; 77:
 # strace or the program is missing.
 set -u
@@ -103,8 +103,10 @@ printf 'x\033[B\033[Hy\033[B\033[Hz\023' >"$folder/keys"
 cp "$folder/keys" "$folder/keys_of_all"
 scenes='plain long secret linked made dangling beset'
 scenes_in_place='plain long linked made doubled'
+scenes_itself='plain doubled'
 ! is_root || scenes="$scenes owned" scenes_in_place="$scenes_in_place owned"
-# The kind of save, `beside` or `in_place`; the opened file, if it is not FILE; the replayed journal.
+# The kind of save, `beside`, `in_place` (with the mark in a folder of its own) or `itself` (with the mark beside FILE); the
+# opened file, if it is not FILE; the replayed journal.
 way=beside copy='' replay=''
 
 put_old() { # PATH MODE
@@ -162,6 +164,8 @@ prepare() { # SCENE
         ln "$kept" "$place/links/second"
         ;;
     esac
+    mark=$own/mark
+    [ "$way" != itself ] || mark=$kept.bx
 }
 
 # Prints the state of FILE: old, new, theirs, none, or torn.
@@ -197,7 +201,7 @@ check_place() {
 
 # Checks an interrupted save into FILE itself: FILE is old or new, or a beginning of the new text while the mark has all of it.
 check_torn() { # STATE
-    if [ "$way" != in_place ] || [ "$1" != torn ]; then
+    if [ "$way" = beside ] || [ "$1" != torn ]; then
         same "FILE" "$1" "$(had_before)"
         return
     fi
@@ -245,7 +249,10 @@ check_draft() {
 # Runs the program under the given command: strace, or a change of user.
 edit() { # COMMAND..
     set -- "$@" "$folder/editor"
-    [ "$way" = beside ] || set -- "$@" --in-place "$mark" --journal "$own/journal"
+    case $way in
+    in_place) set -- "$@" --in-place "$mark" --journal "$own/journal" ;;
+    itself) set -- "$@" --itself ;;
+    esac
     timeout 30 "$@" --rows 5 --cols 40 --classes "$folder/DerivedBidiClass.txt" --brackets "$folder/BidiBrackets.txt" \
         --mirroring "$folder/BidiMirroring.txt" ${copy:+--text "$copy"} ${replay:+--replay "$replay"} "$file"
 }
@@ -313,17 +320,23 @@ check_error() { # CALL NUMBER ERROR
     1)
         case $way,$now in
         # all is written, but may not be on disk
-        in_place,new) cmp -s "$mark" "$folder/new" || fails "the mark has not FILE's text" ;;
+        in_place,new | itself,new) cmp -s "$mark" "$folder/new" || fails "the mark has not FILE's text" ;;
         *,torn) check_torn "$now" ;;
         *)
             same "FILE, told not to be saved," "$now" "$(had_before)"
             check_no_mark
             ;;
         esac
-        grep -q 'failed' "$folder/out" || fails "no message tells that the save failed"
+        case $way,$now,$3 in
+        itself,new,* | itself,torn,*) says 'file cut off' ;;
+        *,EIO) says 'disk error' ;;
+        *) says 'no space' ;;
+        esac
         ;;
     *) fails "the status is $status" ;;
     esac
+    # checked above, where it may be there
+    [ "$way" != itself ] || rm -f "$mark"
     check_place
     check_nothing_left
 }
@@ -353,7 +366,8 @@ check_errors() { # KIND SCENE..
             for error in ENOSPC EIO EDQUOT; do
                 check_error "$call" "$number" "$error" </dev/null
             done
-            check_next_save "$call" "$number" EIO </dev/null
+            # a draft beside FILE that cannot be removed stays
+            [ "$way,$call" = itself,unlink ] || check_next_save "$call" "$number" EIO </dev/null
         done <"$folder/calls"
     done
 }
@@ -423,6 +437,7 @@ check_foreign() { # NAME SCENE CHANGE
     open_session env
     "$3"
     save_all
+    says 'changed by another'
     same "FILE after the first save" "$(state)" theirs
     press '\023'
     same "FILE after the second save" "$(state)" new
@@ -448,7 +463,8 @@ check_between_saves() {
 # Runs a command while the program waits half a second before it syncs the draft.
 save_and_meanwhile() { # COMMAND..
     open_session strace -o "$folder/log" -e trace=fsync -e inject=fsync:delay_enter=500000:when=1
-    if [ "$way" = in_place ]; then draft=$mark.bx; else draft=$kept.bx; fi
+    draft=$kept.bx
+    [ "$way" != in_place ] || draft=$mark.bx
     cat "$folder/keys" >&3
     for _ in $(seq 100); do
         [ ! -e "$draft" ] || break
@@ -553,6 +569,8 @@ check_gone_when_torn() {
     press '\023'
     same "FILE after the second save" "$(state)" new
     check_no_mark
+    # the group's permissions may have been those of an access list
+    mode=600
     check_place
     check_nothing_left
     close_session 0
@@ -581,6 +599,7 @@ check_no_file() { # NAME COMMAND..
     "$@" "$kept"
     kind_before=$(stat -c %F "$kept")
     save_all
+    says 'not a plain file'
     # the message does not change, so the screen is repainted
     press '\023\014'
     same "what FILE is" "$(stat -c %F "$kept")" "$kind_before"
@@ -651,6 +670,11 @@ check_changes() {
 
 # ---- files beside FILE, and kinds of places
 
+# Checks the cause that the last row told.
+says() { # CAUSE
+    grep -q "save failed: $1" "$folder/out" || fails "the cause is not told: $1"
+}
+
 # Saves once, and checks the state of FILE.
 check_save() { # NAME STATE COMMAND..
     begin_point "$1"
@@ -681,7 +705,8 @@ check_drafts() {
     prepare plain
     ln "$kept" "$place/links/second"
     check_save 'two names' new env
-    same "the other name's bytes" "$(cat "$place/links/second")" "$(cat "$folder/old")"
+    same "the other name's file" "$(stat -c %i "$place/links/second")" "$(stat -c %i "$kept")"
+    same "what is there" "$(names)" 'links text'
 }
 
 check_names() {
@@ -696,6 +721,150 @@ check_names() {
     put_old "$kept" 640
     check_save '253 bytes' old env
     same "what is there" "$(names | wc -w)" 2
+}
+
+# ---- what a rename would lose
+
+# Gives a file with one name a second one, during a session.
+check_second_name() {
+    begin_point 'a second name'
+    prepare plain
+    open_session env
+    ln "$kept" "$place/links/second"
+    save_all
+    same "FILE after the first save" "$(state)" old
+    press '\023'
+    same "FILE after the second save" "$(state)" new
+    same "the other name's file" "$(stat -c %i "$place/links/second")" "$(stat -c %i "$kept")"
+    check_place
+    check_nothing_left
+    rm "$place/links/second"
+    press 'x\023\177\023'
+    same "FILE with one name again" "$(state)" new
+    close_session 0
+}
+
+list_of() {
+    getfacl -c -p "$kept" 2>/dev/null
+}
+
+# Gives one user what FILE's group may not do. Its permissions then seem to be the group's.
+give_list() {
+    setfacl -m u:54322:rw "$kept" 2>/dev/null && list_of | grep -q '^group::---'
+}
+
+check_access_list() {
+    begin_point 'an access list, during a session'
+    prepare secret
+    if ! command -v getfacl >/dev/null || ! give_list; then
+        skip 'an access list: there is no setfacl, or the disk takes none'
+        return
+    fi
+    prepare secret
+    open_session env
+    give_list
+    list=$(list_of)
+    save_all
+    same "FILE after the first save" "$(state)" old
+    press '\023'
+    same "FILE after the second save" "$(state)" new
+    same "the access list" "$(list_of)" "$list"
+    # without the list, its permissions are nobody's
+    rm "$kept"
+    press 'x\023\177\023'
+    same "FILE that was made again" "$(state)" new
+    same "the mode of FILE that was made again" "$(stat -c %a "$kept")" 600
+    check_nothing_left
+    close_session 0
+
+    way=itself
+    begin_point 'an access list at the start'
+    prepare secret
+    give_list
+    list=$(list_of)
+    open_session env
+    save_all
+    same "FILE" "$(state)" new
+    same "the access list" "$(list_of)" "$list"
+    check_nothing_left
+    close_session 0
+    way=beside
+}
+
+# A file that is gone is made again with its mode, also where the text was copied from other bytes.
+check_modes_made_again() {
+    for mode_of_before in 755 600; do
+        for copied in '' other; do
+            begin_point "a file of mode $mode_of_before that is gone${copied:+, and was changed before the start}"
+            prepare plain
+            mode=$mode_of_before
+            chmod "$mode" "$kept"
+            if [ -n "$copied" ]; then
+                copy=$own/text
+                cp "$folder/old" "$copy"
+                cat "$folder/theirs" >"$kept"
+            fi
+            open_session env
+            rm "$kept"
+            save_all
+            same "FILE" "$(state)" new
+            check_place
+            check_nothing_left
+            close_session 0
+            copy=''
+        done
+    done
+}
+
+# Exchanges FILE, or its folder, for a link into a folder where no such file is. Nothing may be made there.
+check_made_elsewhere() {
+    begin_point 'a link to nowhere in place of FILE'
+    prepare plain
+    mkdir "$place/links/closed"
+    open_session env
+    rm "$kept"
+    ln -s links/closed/new "$kept"
+    save_all
+    same "FILE after the first save" "$(state)" none
+    press '\023'
+    same "FILE after the second save" "$(state)" new
+    same "whether FILE is a link" "$(stat -c %F "$kept")" 'regular file'
+    same "what is in the folder of the link" "$(ls -A "$place/links/closed")" ''
+    check_place
+    close_session 0
+
+    begin_point 'a link in place of the folder of FILE'
+    prepare plain
+    mkdir "$place/inner" "$place/links/closed"
+    mv "$kept" "$place/inner/text"
+    file=$place/inner/text kept=$place/inner/text
+    open_session env
+    mv "$place/inner" "$place/gone"
+    ln -s links/closed "$place/inner"
+    save_all
+    press '\023'
+    press '\023\014'
+    same "what is in the folder of the link" "$(ls -A "$place/links/closed")" ''
+    kept=$place/gone/text
+    same "FILE" "$(state)" old
+    close_session 1
+}
+
+# The limit of a file's size; the host has the program ignore the signal.
+check_limit() {
+    prepare long
+    check_save 'a limit of the size of files' old sh -c 'trap "" XFSZ; ulimit -f 60; exec "$@"' sh
+    says 'file too large'
+    check_nothing_left
+}
+
+check_losses() {
+    begin_kind 'what a rename would lose'
+    check_second_name
+    check_access_list
+    check_modes_made_again
+    check_made_elsewhere
+    check_limit
 }
 
 # ---- files of other users
@@ -771,6 +940,7 @@ check_owners() {
     prepare plain
     chmod 666 "$kept"
     check_save 'a folder that may not be written' old "$folder/as_other"
+    says 'not permitted'
     check_nothing_left
 
     prepare plain
@@ -813,6 +983,7 @@ check_disks() {
     put_old "$kept" 640
     mount -o remount,ro "$folder/disk"
     check_save 'read-only' old env
+    says 'read-only disk'
     mount -o remount,rw "$folder/disk"
     check_save 'no longer read-only' new env
 
@@ -820,12 +991,18 @@ check_disks() {
     cp "$folder/old" "$kept"
     check_save '40,000 bytes more on a disk of 64 KiB' old env
     same "what is there" "$(ls -A "$folder/disk")" text
+    says 'no space'
     umount "$folder/disk" && mounted=''
 
     prepare plain
     mount --bind "$kept" "$kept" && mounted=$kept
     check_save 'a file that is mounted by itself' old env
     check_nothing_left
+    cp "$folder/keys_twice" "$folder/keys"
+    check_save 'a file that is mounted by itself, and a save behind it' new env
+    cp "$folder/keys_of_all" "$folder/keys"
+    check_nothing_left
+    put_old "$kept" 640
     way=in_place
     check_save 'a file that is mounted by itself, in place' new env
     check_no_mark
@@ -841,12 +1018,16 @@ check_disks() {
     way=in_place
     check_kills 'killed at a call, in place' $scenes_in_place
     check_errors 'an error at a call, in place' plain long
+    way=itself
+    check_kills 'killed at a call, with the mark beside FILE' $scenes_itself
+    check_errors 'an error at a call, with the mark beside FILE' plain
     way=beside
 }
 check_changes
 check_changes_in_place
 check_before_starts
 check_drafts
+check_losses
 check_names
 check_owners
 check_disks

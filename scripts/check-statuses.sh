@@ -112,6 +112,8 @@ run
 ended no_file 2 'error: '
 run --in-place mark text
 ended in_place_without_journal 2 'error: '
+run --itself --replay keys --to text.out text
+ended itself_elsewhere 2 'error: '
 run --rows 501 text
 ended rows_past_500 2 'error: '
 run --direction up text
