@@ -241,6 +241,20 @@ def live(top):
     first.close()
 
 
+def a_pipe_in_its_place(top):
+    """A pipe that takes FILE's place is not opened, which would wait for a writer."""
+    put(f'{top}/a.txt', b'text\n')
+    for status, told in ((1, 'what was typed is kept'), (0, 'what was dropped can be had back')):
+        start = edit(top, 'a.txt', answers=['d'])
+        start.type(b'abc')
+        start.second()
+        os.unlink(f'{top}/a.txt')
+        os.mkfifo(f'{top}/a.txt')
+        assert start.leave(status) == status and told in start.err, start.err
+        os.unlink(f'{top}/a.txt')
+        put(f'{top}/a.txt', b'text\n')
+
+
 def a_folder_that_goes(top):
     start = edit(top, 'a.txt')
     start.type(b'abc')
@@ -250,6 +264,11 @@ def a_folder_that_goes(top):
     assert start.notices == [2] and start.second() == '.' and start.notices == [2], start.notices
     start.say('i', 'f unsaved')
     assert start.leave(1) == 1 and re.search('what was typed is not kept, since its folder .* is gone', start.err), start.err
+    start = edit(top, 'a.txt')
+    start.type(b'abc')
+    start.second()
+    shutil.rmtree(os.path.dirname(start.value('--journal')))
+    assert start.leave(0) == 0 and re.search('what was not saved cannot be had back, since its folder .* is gone', start.err), start.err
 
 
 def no_room(top):
@@ -322,6 +341,9 @@ def other_names(top):
     start.leave(0)
     start = Start(top, '-n', 'a.txt')
     assert start.end == ('x', '1') and start.err.endswith('since unsaved text is not kept (-n asks for that): --force opens it all the same\n'), start.err
+    start = edit(top, '-n', '--force', 'a.txt')
+    assert '--itself' in start.words and 'saves are written into the file itself' in start.err and start.notices == [9], (start.words, start.err)
+    start.leave(0)
 
 
 def cannot_be_replayed(top):
@@ -399,10 +421,29 @@ def by_other_names(top):
     os.unlink(f'{top}/b.txt')
     os.rename(f'{top}/a.txt', f'{top}/d.txt')
     second = Start(top, 'd.txt', answers=['no'])
-    if '/tmpfs' not in second.out and os.stat(f'{top}/d.txt'):  # a file system without times of birth tells no renamed file
-        birth = subprocess.run(['stat', '-c', '%W', f'{top}/d.txt'], capture_output=True, text=True).stdout.strip()
-        assert birth == '0' or second.asked == ['Edit it all the same (yes, no)?'], second.out
+    # a file system without times of birth tells no renamed file
+    birth = subprocess.run(['stat', '-c', '%W', f'{top}/d.txt'], capture_output=True, text=True).stdout.strip()
+    assert birth == '0' or second.asked == ['Edit it all the same (yes, no)?'], second.out
     first.close()
+
+
+def torn_by_another_name(top):
+    """A FILE that a save of it left torn is repaired by its other name too, where the first is gone."""
+    put(f'{top}/a.txt', b'text\n')
+    os.link(f'{top}/a.txt', f'{top}/b.txt')
+    if subprocess.run(['stat', '-c', '%W', f'{top}/a.txt'], capture_output=True, text=True).stdout.strip() == '0':
+        return  # a file system without times of birth
+    start = edit(top, 'a.txt')
+    start.second()
+    start.type(b'abc\x13')
+    put(start.value('--in-place'), b'abctext\n')
+    put(f'{top}/a.txt', b'abc')
+    start.close()
+    os.unlink(f'{top}/a.txt')
+    start = edit(top, 'b.txt')
+    assert start.err.startswith('bidi-edit: a save of b.txt was cut off; its whole text is put back\n'), start.err
+    assert open(f'{top}/b.txt').read() == 'abctext\n'
+    start.close()
 
 
 def secrets(top):
@@ -433,7 +474,8 @@ def forgets(top):
     assert forgotten.end == ('x', '0') and forgotten.out == 'bidi-edit: there is no session of c.txt to remove\n', forgotten.out
     forgotten = Start(top, '--forget')
     wanted = rf'bidi-edit: the session of {top}/a.txt of \S+ \S+ is removed\nbidi-edit: the session of {top}/b.txt of \S+ \S+ is removed \(dropped\)\n'
-    assert forgotten.end == ('x', '0') and re.fullmatch(wanted, forgotten.out), forgotten.out
+    told = ''.join(sorted(forgotten.out.splitlines(True)))
+    assert forgotten.end == ('x', '0') and re.fullmatch(wanted, told), forgotten.out
     assert len(sessions(top)) == 1
     live.close()
 
@@ -457,6 +499,8 @@ def closed_files(top):
     start = Start(top, 'a.txt', can_read=False)
     told = 'bidi-edit: a.txt cannot be read by you: chmod u+r lets its owner read it, and --force opens an empty text in its place\n'
     assert start.end == ('x', '1') and start.err == told, start.err
+    start = Start(top, '--force', 'a.txt', can_read=False, terminal='no')
+    assert start.end == ('x', '2') and start.err.startswith('bidi-edit: there is no terminal') and start.err.count('\n') == 1, start.err
     start = edit(top, '--force', 'a.txt', can_read=False)
     assert start.value('--text') == '/dev/null' and 'an empty text is opened, and saves overwrite what is there' in start.err, start.err
     start.type(b'abc')
@@ -496,9 +540,9 @@ def printing(top):
     assert start.end[0] == 'P' and start.printer[:4] == ['--cols', '80', '--direction', 'auto'] and start.printer[-1] == 'a.txt', start.printer
 
 
-CASES = [help_and_version, refusals, a_session, keys_are_kept, questions, dropped, refused_by_the_program, live, a_folder_that_goes, no_room,
+CASES = [help_and_version, refusals, a_session, keys_are_kept, questions, dropped, refused_by_the_program, live, a_pipe_in_its_place, a_folder_that_goes, no_room,
          another_file_meanwhile, the_host_dies, changed_since, mixed_line_ends, other_names, cannot_be_replayed, a_file_that_is_gone,
-         another_version, tables_that_change, by_other_names, secrets, forgets, foreign_names, closed_files, nothing_typed, stores_elsewhere,
+         another_version, tables_that_change, by_other_names, torn_by_another_name, secrets, forgets, foreign_names, closed_files, nothing_typed, stores_elsewhere,
          printing]
 
 

@@ -6,12 +6,11 @@ ghost use Rattle.bx_terms.specs.Sizes.{is_side};
 use bx_keep::{Around, Held, Replay, ReplayFault, Replayer};
 use bx_launch::Tables;
 use bx_recovery::{Beginning, Held as Found, RecoveryFault, recover};
-use bx_sessions::{Part, Session};
+use bx_sessions::{Part, Session, read_plain};
 use bx_store::MemoryStore;
 use bx_terms::is_side;
 use bx_words::{FileFault, UnicodeBytes, UnicodePaths};
 use std::alloc::AllocError;
-use std::fs;
 use std::io::{self, ErrorKind};
 
 /// Why a session cannot be replayed.
@@ -79,9 +78,9 @@ fn bytes_in(around: Around<'_>, session: &Session, part: Part) -> Result<Vec<u8>
     session.read(around.rt, part)?.ok_or(UNREADABLE)
 }
 
-/// FILE's bytes; none where it is not there or cannot be read.
+/// FILE's bytes; none where it is no plain file or cannot be read.
 fn bytes_of_file(around: Around<'_>, file: &str) -> Vec<u8> {
-    match fs::read(around.rt, file) {
+    match read_plain(around.rt, file) {
         Ok(bytes) => bytes,
         Err(_) => Vec::new(around.alloc()),
     }

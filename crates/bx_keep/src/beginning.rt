@@ -38,6 +38,8 @@ pub struct Begun {
     pub is_joined: bool,
     /// Saves are written into FILE itself.
     pub is_in_place: bool,
+    /// They are also without a session, since that was forced.
+    pub is_itself: bool,
     /// The user wants no session.
     pub is_unwanted: bool,
     /// Why unsaved text is not kept.
@@ -60,12 +62,11 @@ impl Begun {
     /// The first notice of the session, if there is one.
     pub fn first_notice(&self) -> Option<Notice> {
         match &self.unkept {
-            Some(_) if self.is_unwanted => None,
-            Some(unkept) => Some(unkept.notice),
-            None if self.aside_of.is_some() => Some(Notice::RecoveredAside),
-            None if self.is_resumed => Some(Notice::Recovered),
-            None if self.is_in_place => Some(Notice::InPlace),
-            None => None,
+            Some(unkept) if !self.is_unwanted => Some(unkept.notice),
+            _ if self.aside_of.is_some() => Some(Notice::RecoveredAside),
+            _ if self.is_resumed => Some(Notice::Recovered),
+            _ if self.is_in_place || self.is_itself => Some(Notice::InPlace),
+            _ => None,
         }
     }
 
@@ -84,6 +85,7 @@ impl Begun {
             },
             is_joined: around.tables.joining.is_some(),
             is_in_place: false,
+            is_itself: false,
             is_unwanted: options.is_unkept,
             unkept: None,
             aside_of: None,
@@ -150,7 +152,8 @@ impl Begun {
         }
     }
 
-    /// Settles whether saves are written into FILE itself. They need a session, whose folder holds the whole text meanwhile.
+    /// Settles whether saves are written into FILE itself. A session's folder holds the whole text meanwhile; without a session, which
+    /// must be forced, a file beside FILE does.
     ///
     /// Errors: the refusal of a FILE that needs them and has no session, unless it is forced.
     fn settle_in_place<H: Host>(
@@ -164,20 +167,20 @@ impl Begun {
             return Ok(());
         };
         let alloc = around.alloc();
+        self.is_in_place = self.note_place(around, edited);
+        if !self.is_in_place {
+            self.give_up(around);
+            self.is_itself = is_forced;
+        }
+        if !self.is_in_place && !is_forced {
+            let line = self.unsafe_line(around, edited, reason)?;
+            let line = line.as_str();
+            let cause = format!(in alloc; "{line}: {FORCE}")?;
+            return Err(Stop::fault(alloc, cause.as_str()));
+        }
         let (file, told) = (Shown(edited.file()), reason.told());
-        if self.note_place(around, edited) {
-            self.is_in_place = true;
-            let line = format!(in alloc; "{file} {told}: saves are written into the file itself")?;
-            return Ok(warn(host, alloc, line.as_str())?);
-        }
-        self.give_up(around);
-        let line = self.unsafe_line(around, edited, reason)?;
-        let line = line.as_str();
-        if is_forced {
-            return Ok(warn(host, alloc, line)?);
-        }
-        let cause = format!(in alloc; "{line}: {FORCE}")?;
-        Err(Stop::fault(alloc, cause.as_str()))
+        let line = format!(in alloc; "{file} {told}: saves are written into the file itself")?;
+        Ok(warn(host, alloc, line.as_str())?)
     }
 
     /// What is told of a FILE that should be saved in place and cannot be.

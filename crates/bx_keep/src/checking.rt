@@ -186,7 +186,7 @@ impl Edited {
     /// Finds FILE, and refuses one that is no plain file, and, unless that is forced, one that cannot be read or saved. Repairs it.
     ///
     /// Errors: the refusal; `Gone`; `OutOfMemory`.
-    pub fn check_again<H: Host>(
+    pub fn check<H: Host>(
         around: Around<'_>,
         host: &mut H,
         file: &str,
@@ -200,20 +200,12 @@ impl Edited {
         Ok(edited)
     }
 
-    /// Finds, checks and repairs FILE. Tells what is not as usual: an empty text in place of FILE's, and what killed saves left.
-    ///
-    /// Errors: as `check_again`.
-    pub fn check<H: Host>(
-        around: Around<'_>,
-        host: &mut H,
-        file: &str,
-        is_forced: bool,
-    ) -> Result<Edited, Stop> {
-        let edited = Edited::check_again(around, host, file, is_forced)?;
-        edited.tell_closed(around, host)?;
-        if let Some(line) = edited.place.leftovers(around.rt, around.alloc())? {
+    /// Tells what is not as usual: an empty text in place of FILE's, and what killed saves left.
+    pub fn tell_unusual<H: Host>(&self, around: Around<'_>, host: &mut H) -> Result<(), Stop> {
+        self.tell_closed(around, host)?;
+        if let Some(line) = self.place.leftovers(around.rt, around.alloc())? {
             warn(host, around.alloc(), line.as_str())?;
         }
-        Ok(edited)
+        Ok(())
     }
 }

@@ -84,7 +84,7 @@ fn edit_with<R: Read + Drop, W: Write + Drop, P: Replayer>(
                 aside_of,
             } = taken;
             let file = file.as_str();
-            edited = Edited::check_again(around, wire, file, options.is_forced)?;
+            edited = Edited::check(around, wire, file, options.is_forced)?;
             let mut begun = Begun::resumed(around, wire, &edited, options, kept)?;
             begun.aside_of = aside_of;
             begun
@@ -104,10 +104,11 @@ pub fn edit<R: Read + Drop, W: Write + Drop, P: Replayer>(
     let (file, options) = (call.file.as_str(), &call.options);
     let mut edited = Edited::check(around, wire, file, options.is_forced)?;
     check_terminal(around)?;
+    edited.tell_unusual(around, wire)?;
     let met = meet(around, wire, &edited, replayer)?;
     // an answer takes time
     if met.was_asked && met.taken.is_none() {
-        edited = Edited::check_again(around, wire, file, options.is_forced)?;
+        edited = Edited::check(around, wire, file, options.is_forced)?;
     }
     edit_with(around, wire, edited, options, met.taken, replayer)
 }
@@ -130,5 +131,6 @@ pub fn edit_recovered<R: Read + Drop, W: Write + Drop, P: Replayer>(
         Some(taken) => Edited::check(around, wire, taken.file.as_str(), options.is_forced)?,
         None => Edited::check(around, wire, file, options.is_forced)?,
     };
+    edited.tell_unusual(around, wire)?;
     edit_with(around, wire, edited, options, taken, replayer)
 }

@@ -10,10 +10,9 @@ use crate::running::Running;
 use crate::saying::warn;
 use crate::stop::Stop;
 use bx_launch::{are_all_crlf, mixed_line, signal_line};
-use bx_sessions::{Kept, Look, Mended, Part, forget_dropped, mend};
+use bx_sessions::{Kept, Look, Mended, Part, forget_dropped, mend, read_plain};
 use bx_wire::Host;
 use bx_words::Shown;
-use std::fs;
 use std::rt::Files;
 
 /// What is told of a journal without its end.
@@ -63,7 +62,7 @@ impl Running<'_> {
         if !self.was_saved() || !self.had_all_crlf() {
             return Ok(());
         }
-        let Ok(text) = fs::read(self.around.rt, self.edited.path()) else {
+        let Ok(text) = read_plain(self.around.rt, self.edited.path()) else {
             return Ok(());
         };
         let line = mixed_line(
@@ -110,6 +109,21 @@ impl Running<'_> {
             return Ok(());
         }
         let line = format!(in self.around.alloc(); "what was typed is not kept, since {cause}")?;
+        self.tell(host, line.as_str())
+    }
+
+    /// Tells that what was typed is not kept, since the session's folder is gone. Whether all of it was saved is not known after a
+    /// Quit.
+    fn tell_gone<H: Host>(&self, host: &mut H, kept: &Kept, status: u64) -> Result<(), Stop> {
+        let folder = Shown(kept.session.path());
+        let cause = format!(in self.around.alloc(); "its folder {folder} is gone")?;
+        let cause = cause.as_str();
+        if status != 0 || self.synced == 0 {
+            return self.tell_lost(host, status, cause);
+        }
+        let line = format!(in self.around.alloc();
+            "what was not saved cannot be had back, since {cause}"
+        )?;
         self.tell(host, line.as_str())
     }
 
@@ -178,9 +192,7 @@ impl Running<'_> {
         replayer: &P,
     ) -> Result<(), Stop> {
         if !self.is_there(kept) {
-            let folder = Shown(kept.session.path());
-            let cause = format!(in self.around.alloc(); "its folder {folder} is gone")?;
-            return self.tell_lost(host, status, cause.as_str());
+            return self.tell_gone(host, kept, status);
         }
         let is_torn = self.begun.is_in_place && self.mend(host, kept)?;
         let left = self.left(kept, status, is_torn, replayer);

@@ -4,9 +4,8 @@ use crate::around::Around;
 use crate::beginning::Begun;
 use crate::checking::Edited;
 use bx_launch::are_all_crlf;
-use bx_sessions::{FillFault, Kept, Look, Opening, Part, ROOT, Sessions, Source};
+use bx_sessions::{FillFault, Kept, Look, Opening, Part, ROOT, Source, open_plain};
 use bx_terms::LARGEST_TEXT;
-use std::fs::{File, OpenFile};
 use std::io::{self, Read};
 use std::os::unix::fs::MetadataExt;
 use std::rt::Files;
@@ -50,7 +49,7 @@ const FILLED: [Part; 9] = [
 
 /// The bytes of FILE, if FILE still is as it was read; None if it is not.
 fn bytes_as_read(rt: &HostRuntime, path: &str, look: Look) -> io::Result<Option<Vec<u8>>> {
-    let file = File::open(rt, path)?;
+    let file = open_plain(rt, path)?;
     if Look::of(&file.metadata()?) != look {
         return Ok(None);
     }

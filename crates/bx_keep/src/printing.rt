@@ -1,6 +1,5 @@
 //! `--print`: the host becomes the printing program.
 
-use crate::around::Around;
 use crate::stop::Stop;
 use bx_command::{TextFault, check_text};
 use bx_launch::{PrintCall, Tables, check_print_file, not_utf8, print_words, too_long};

@@ -37,7 +37,7 @@ pub struct Running<'a> {
     /// There was room for keys a second ago.
     pub had_room: bool,
     /// The size of the journal on the disk.
-    synced: u64,
+    pub synced: u64,
 }
 
 /// The text as it was opened, at first: a session that goes on has it.

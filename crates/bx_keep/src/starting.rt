@@ -117,6 +117,9 @@ pub fn program_words(
     if let Some(kept) = &begun.kept {
         add_session(around, &mut words, begun, kept)?;
     }
+    if begun.is_itself {
+        add_word(alloc, &mut words, "--itself")?;
+    }
     if edited.is_closed && !begun.is_resumed {
         add_option(alloc, &mut words, "--text", EMPTY)?;
     }

@@ -1,11 +1,9 @@
 //! Why the keeper ends before the program starts.
 
 use bx_launch::{FileFault, TablesFault, TerminalFault};
-use bx_sessions::FolderFault;
 use bx_wire::{HostFault, WireFault};
 use std::alloc::{AllocError, AllocFailed, Global};
 use std::fmt::Display;
-use std::io;
 
 /// Why the keeper ends before the program starts.
 #[derive(Debug, Drop)]

@@ -11,10 +11,11 @@ use crate::saying::tell;
 use crate::shelf::unwritable;
 use crate::stop::Stop;
 use crate::telling::number_of_keys;
-use bx_sessions::{FolderFault, Kept, LockFault, Mended, Part, Session, Sessions, mend, renew};
+use bx_sessions::{
+    FolderFault, Kept, LockFault, Mended, Part, Session, Sessions, mend, read_plain, renew,
+};
 use bx_wire::Host;
 use bx_words::Shown;
-use std::fs;
 use std::io::{self, ErrorKind};
 use std::rt::Files;
 
@@ -61,7 +62,10 @@ impl<P: Replayer> Taking<'_, P> {
         let alloc = self.around.alloc();
         let path = unwritable(alloc, self.sessions.path())?;
         let (path, cause) = (path.as_str(), cause_of(kind));
-        let line = format!(in alloc; "{path}{cause}")?;
+        let file = Shown(self.edited.file());
+        let line = format!(in alloc;
+            "{path}{cause}. bidi-edit --recover --to OTHER {file} stores the text elsewhere"
+        )?;
         Ok(Stop::fault(alloc, line.as_str()))
     }
 
@@ -312,7 +316,7 @@ fn has_bytes(around: Around<'_>, session: &Session, part: Part, bytes: &[u8]) ->
 
 /// What FILE has, beside the text that a session left.
 fn held_beside_text(around: Around<'_>, session: &Session, file: &str) -> Held {
-    let Ok(bytes) = fs::read(around.rt, file) else {
+    let Ok(bytes) = read_plain(around.rt, file) else {
         return if around.rt.metadata(file).is_err() {
             Held::Known
         } else {

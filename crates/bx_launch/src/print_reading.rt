@@ -3,7 +3,7 @@
 ghost use Rattle.std.specs.Prelude.{◌≤◌, IfOk, IfSome, length};
 ghost use Rattle.bx_launch.specs.Calls.{HasNoFile};
 
-use crate::call::{Call, CallFault, PrintCall, WordFault};
+use crate::call::{Call, CallFault, Options, PrintCall, WordFault};
 use crate::values::{columns_of, direction_of, path_of};
 use bx_terms::Base;
 use std::alloc::Global;
@@ -131,14 +131,14 @@ impl<'a> Before<'a> {
     }
 }
 
-/// What all the words say.
-fn before_of<'a>(words: &'a [Vec<u8>]) -> Result<Before<'a>, WordFault<'a>> {
+/// What all the words say, behind these options.
+fn before_of<'a>(words: &'a [Vec<u8>], options: Options) -> Result<Before<'a>, WordFault<'a>> {
     let mut before = Before {
         file: None,
-        direction: Base::Auto,
+        direction: options.direction,
         columns: None,
         has_marks: false,
-        is_unjoined: false,
+        is_unjoined: options.is_unjoined,
     };
     let mut left = words;
     'words: while let Some((word, rest)) = left.split_first() {
@@ -153,13 +153,17 @@ fn before_of<'a>(words: &'a [Vec<u8>]) -> Result<Before<'a>, WordFault<'a>> {
     Ok(before)
 }
 
-/// Reads the words behind `--print`.
+/// Reads the words behind `--print`. Of the options before it the direction and `--no-joining` hold.
 ///
 /// Errors: `PrintRefused` by the first word that is refused, else where FILE is missing; then `NotUtf8`; `OutOfMemory`.
-pub fn read_print_words<'a>(alloc: Global, words: &'a [Vec<u8>]) -> Result<Call, CallFault<'a>>
+pub fn read_print_words<'a>(
+    alloc: Global,
+    words: &'a [Vec<u8>],
+    options: Options,
+) -> Result<Call, CallFault<'a>>
     ensures { IfOk result HasNoFile }
 {
-    let before = before_of(words).map_err(CallFault::PrintRefused)?;
+    let before = before_of(words, options).map_err(CallFault::PrintRefused)?;
     let Some(word) = before.file else {
         return Err(CallFault::PrintRefused(WordFault::NotOneFile));
     };

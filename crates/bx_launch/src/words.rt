@@ -238,7 +238,7 @@ pub fn read_words<'a>(alloc: Global, words: &'a [Vec<u8>]) -> Result<Call, CallF
         match word_of(word.as_slice()) {
             Word::Help => return Ok(Call::Help),
             Word::Version => return Ok(Call::Version),
-            Word::Print => return read_print_words(alloc, rest),
+            Word::Print => return read_print_words(alloc, rest, before.options),
             Word::Wants(option) => {
                 let (value, after) = split_value(option, rest)?;
                 before.take_value(option, value)?;

@@ -1,7 +1,5 @@
 //! The machine on which a session runs.
 
-use crate::part::Part;
-use crate::session::Session;
 use std::alloc::{AllocError, Global};
 use std::fs;
 

@@ -11,7 +11,7 @@ use crate::session::{Session, create};
 use crate::sessions::Sessions;
 use crate::versions::Versions;
 use std::fs::{File, OpenFile};
-use std::io::{self, ErrorKind, Write};
+use std::io::{self, ErrorKind, Read, Write};
 use std::rt::Files;
 use thiserror::Error;
 
@@ -105,6 +105,15 @@ pub fn open_plain(rt: &HostRuntime, path: &str) -> io::Result<File> {
         return Err(ErrorKind::InvalidInput.into());
     }
     File::open(rt, path)
+}
+
+/// All bytes of a plain file.
+///
+/// Errors: `InvalidInput` if it is none; `Io`.
+pub fn read_plain(rt: &HostRuntime, path: &str) -> io::Result<Vec<u8>> {
+    let mut bytes = Vec::new(rt.alloc());
+    open_plain(rt, path)?.read_to_end(&mut bytes)?;
+    Ok(bytes)
 }
 
 /// Copies an open file, and looks at it before and after.

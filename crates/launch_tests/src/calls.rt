@@ -25,6 +25,7 @@ note | edit note auto
 --forget note | forget note
 --print note --cols 7 --marks | print note auto 7 marks
 --print --direction=ltr --no-joining -- -x | print ./-x ltr unjoined
+--direction rtl --no-joining --print note | print note rtl unjoined
 -n --help --bad | help
 --version | version
 --line 5 | 2 one FILE is wanted
