@@ -158,8 +158,7 @@ check_refused_access() {
     refused_to_user 'access, that file, forced' "$no_terminal" --force open/f
     unreadable='open/g cannot be read by you: chmod u+r lets its owner read it, and --force opens an empty text in its place'
     refused_to_user 'access, a file that cannot be read' "1 bidi-edit: $unreadable" open/g
-    refused_to_user 'access, that file, forced' '2 bidi-edit: open/g cannot be read by you: an empty text is opened, and saves overwrite what is there' --force open/g
-    same 'access, that file, forced: it is refused for something else' "$(tail -n 1 "$folder/errors")" "${no_terminal#* }"
+    refused_to_user 'access, that file, forced' "$no_terminal" --force open/g
     ln -s ../locked/g open/link
     refused_to_user 'access, a link into that folder' "1 bidi-edit: $folder/files/${folder_told#*: }" open/link
     chmod 700 closed locked

@@ -107,11 +107,15 @@ has_no_program() {
     [ -z "$(program_of_check)" ]
 }
 
-# Stops the host while its program is killed in a save, and then kills it too.
+keeper_of_check() {
+    pgrep -f "$installed/.*bidi_keep$" | head -n 1
+}
+
+# Stops the keeper, which would repair FILE, while the program is killed in a save, and then kills all.
 cut_off_save() { # CALLS
     open_linked
     inject "$1" 'signal=KILL:when=1'
-    kill -s STOP "$(editor_process)"
+    kill -s STOP "$(keeper_of_check)"
     terminal send-keys -t first C-s
     wait_for 60 has_no_program || report "in place, killed at $1: the program is killed" 1 'it goes on'
     wait "$tracer"
@@ -139,7 +143,7 @@ check_cut_off() { # CALLS WORDS TEXT
     close_editors first
 }
 
-# The host survives, and puts the text back at once.
+# The keeper survives, and puts the text back at once.
 check_killed_program() {
     open_linked
     inject write,pwrite64,writev signal=KILL:when=1
@@ -182,14 +186,14 @@ check_cut_off_elsewhere() {
 # While an editor saves, another start sees a part of FILE.
 check_save_that_goes_on() {
     open_linked
-    inject write,pwrite64,writev delay_enter=4000000:when=1
+    inject write,pwrite64,writev delay_enter=8000000:when=1
     terminal send-keys -t first C-s
     wait_for 30 is_empty note
     report 'in place, a save that goes on: FILE is torn' $? "$(cat note)"
     open_editor second '' note.link
     wait_for 30 shows_in second ' 1:1'
     same 'in place, a save that goes on: FILE and its text are left alone' "$(stat -c %s note) $(find "$folder/state" -name mark | wc -l)" '0 1'
-    wait_for 80 shows_in first saved
+    wait_for 150 shows_in first saved
     same 'in place, a save that goes on: FILE then' "$(cat note note.link | tr '\n' ' ')" 'xab xab '
     close_editors first second
 }
@@ -232,7 +236,7 @@ check_failed_save() {
     close_editors first
 }
 
-# Saves fail until the end: the host puts the text back.
+# Saves fail until the end: the keeper puts the text back.
 check_failed_end() {
     open_linked
     inject write,pwrite64,writev error=EIO

@@ -54,24 +54,32 @@ tells() { # CHECK TOLD WORD..
     has "names, $checked: the name" "$(cat "$folder/told")" "$told_as"
 }
 
+# Prints what is told of a FILE: the cause, but of a name that is not UTF-8 only that.
+cause_of() { # TOLD CAUSE
+    case $word in
+    lone-* | cut-* | long-* | surrogate | past-*) printf '%s' "$1 has a name that is not UTF-8: mv gives it another" ;;
+    *) printf '%s' "$2" ;;
+    esac
+}
+
 # Checks one name in the editor's messages.
 check_messages() { # WORD TOLD
-    word=$1 as_told="\$'$2'"
+    word=$1 as_told="\$'$2'" below_told="\$'$2/f'"
     name_of_told "$2"
-    tells "$word, not there" "$as_told is not there" --print "$name"
-    tells "$word, a missing folder" "$as_told is a folder that is not there: mkdir -p $as_told makes it" "$name/f"
-    tells "$word, a missing folder, recovered" "there is no session of \$'$2/f' to recover" --recover --to other "$name/f"
-    tells "$word, no session" "there is no session of $as_told to recover" --recover --to other "$name"
+    tells "$word, not there" "$(cause_of "$as_told" "$as_told is not there")" --print "$name"
+    tells "$word, a missing folder" "$(cause_of "$below_told" "$as_told is a folder that is not there: mkdir -p $as_told makes it")" "$name/f"
+    tells "$word, a missing folder, recovered" "$(cause_of "$below_told" "there is no session of $below_told to recover")" --recover --to other "$name/f"
+    tells "$word, no session" "$(cause_of "$as_told" "there is no session of $as_told to recover")" --recover --to other "$name"
     tells "$word, an option" "there is no option \$'-$2'" "-$name"
     tells "$word, a direction" "auto, ltr or rtl, not $as_told" --direction "$name" f
     tells "$word, a line" "a number, not $as_told" --line "$name" f
     tells "$word, columns" "from 1 to 500, not $as_told" --print f --cols "$name"
     as_user mkdir "$name"
-    tells "$word, a folder" "$as_told is a folder" "$name"
+    tells "$word, a folder" "$(cause_of "$as_told" "$as_told is a folder")" "$name"
     BIDI_EDIT_DATA=$name tells "$word, tables" "BIDI_EDIT_DATA names $as_told, which lacks" f
     as_user rmdir "$name"
     as_user mkfifo "$name"
-    tells "$word, a pipe" "$as_told is no plain file" "$name"
+    tells "$word, a pipe" "$(cause_of "$as_told" "$as_told is no plain file")" "$name"
     as_user rm "$name"
     as_user sh -c 'printf "\377" >"$1"; : >"$1.bx"' sh "$name"
     # a name that is not UTF-8 is refused first
@@ -92,15 +100,15 @@ check_messages() { # WORD TOLD
 
 # Checks files that cannot be printed.
 check_printing_messages() { # WORD TOLD
-    as_told="\$'$2'"
+    word=$1 as_told="\$'$2'"
     name_of_told "$2"
     as_user perl -MSocket -e 'socket(S, PF_UNIX, SOCK_STREAM, 0) && bind(S, sockaddr_un($ARGV[0]))' "$name"
-    tells "$1, a socket, printed" "$as_told is a socket, which has no text" --print "$name"
+    tells "$1, a socket, printed" "$(cause_of "$as_told" "$as_told is a socket, which has no text")" --print "$name"
     as_user rm -f "$name"
     [ "$who" = plain ] || return 0
     as_user mkfifo "$name"
     as_user chmod 000 "$name"
-    tells "$1, closed, printed" "$as_told cannot be read by you" --print "$name"
+    tells "$1, closed, printed" "$(cause_of "$as_told" "$as_told cannot be read by you")" --print "$name"
     as_user rm -f "$name"
 }
 
@@ -115,7 +123,7 @@ check_own_tables() { # TOLD
     cp -R "$installed/bin" "$installed/lib" "$folder/$name/"
     chmod -R go+rX "$folder/$name"
     was=$host host=$folder/$name/bin/bidi-edit
-    tells 'its own tables' "\$'$folder/$1/bin/../share/bidi_edit' lacks" f
+    tells 'its own tables' "\$'$folder/$1/share/bidi_edit' lacks" f
     host=$was
     rm -rf "${folder:?}/$name"
 }

@@ -62,7 +62,8 @@ check_left_sessions() {
     flock "$locked/lock" sleep 60 &
     holder=$!
     wanted_left=20200101000000.locked
-    if [ -n "$stranger" ]; then
+    # what stands in root's own folder root may take away
+    if [ -n "$stranger" ] && [ "$who" = plain ]; then
         chown -R "$stranger" "$others"
         wanted_left='20200101000000.locked 20200101000000.others'
     fi
