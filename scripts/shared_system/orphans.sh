@@ -2,6 +2,10 @@
 # shellcheck disable=SC2034,SC2154 # variables shared with other parts
 # The remains of a killed host, and a host whose terminal is blocked.
 
+has_settings_before() {
+    [ "$(stty -g -F "$tty")" = "$(cat "$folder/before")" ]
+}
+
 # The terminal is as before, the shell after the host gets its whole line, and nothing of the editor remains.
 check_killed_host() {
     open_recorder
@@ -9,7 +13,9 @@ check_killed_host() {
     wait_for 30 has_ended
     wait_for 30 has_no_process
     same 'orphans, processes of a killed host' "$(processes_of_check)" ''
-    same 'orphans, the settings of its terminal' "$(cat "$folder/after")" "$(cat "$folder/before")"
+    # the shell may go on before the watcher
+    wait_for 30 has_settings_before
+    report 'orphans, the settings of its terminal' $? "$(stty -g -F "$tty"), and not $(cat "$folder/before")"
     same 'orphans, the modes of its terminal' "$(modes_of person)" '0 0 0 23 1 1'
     wait_for 20 is_over
     report 'orphans, the screen before' $? 'the alternate screen stays'
