@@ -39,7 +39,8 @@ build_keeper() {
 
 add 'rt ci' rt ci
 build_keeper
-add 'check-host.sh' sh scripts/check-host.sh
-add 'check-keeper.sh' sh scripts/check-keeper.sh
+# one that hangs is a fault
+add 'check-host.sh' timeout -k 5 300 sh scripts/check-host.sh
+add 'check-keeper.sh' timeout -k 5 120 sh scripts/check-keeper.sh
 echo "$passed passed, $failed failed"
 [ "$failed" = 0 ]
