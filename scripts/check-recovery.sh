@@ -167,7 +167,7 @@ resume() { # NUMBER NAME
     open_editor "s$1" "$work/state" "$work/text"
     wait_for 150 asks "s$1" || { fails "$2" 'nothing was asked'; return 1; }
     terminal send-keys -t "s$1" recover Enter
-    wait_for 150 has_row "s$1" "$(cat "$given/back")" || { fails "$2" "the last row is not $(cat "$given/back")"; return 1; }
+    wait_for 150 has_row "s$1" "$(cat "$given/back") recovered" || { fails "$2" "the last row is not $(cat "$given/back") recovered"; return 1; }
     host=$(terminal display-message -p -t "s$1" '#{pane_pid}')
 }
 
@@ -311,7 +311,7 @@ scene_all_was_saved() {
 
 scene_changed_by_another() {
     break_off '* 1:2' "$kept" x && echo other >"$shell/text" && say bidi-edit text && expect "$scene" '[d]elete for good' && say recover &&
-        wait_for 150 has_row shell '* 1:2' && end_by_keys C-s C-q && expect "$scene" 'recovered as text.recovered' &&
+        wait_for 150 has_row shell '* 1:2 recovered beside: see the end' && end_by_keys C-s C-q && expect "$scene" 'recovered as text.recovered' &&
         say 'cat text text.recovered' && expect "$scene" xab && expect "$scene" other
 }
 
@@ -319,7 +319,7 @@ scene_dropped() {
     open_shell
     say bidi-edit text
     wait_for 150 has_row shell '- 1:1' && end_by_keys y C-q C-q && expect "$scene" 'what was dropped can be had back' &&
-        say clear && say bidi-edit --recover text && wait_for 150 has_row shell '* 1:2' && end_by_keys C-s C-q &&
+        say clear && say bidi-edit --recover text && wait_for 150 has_row shell '* 1:2 recovered' && end_by_keys C-s C-q &&
         say 'grep -c y text; ls state/bidi_edit | wc -l' && expect "$scene" 1 && expect "$scene" 0
 }
 
