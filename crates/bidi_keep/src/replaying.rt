@@ -55,7 +55,7 @@ impl From<RecoveryFault> for Fault {
     }
 }
 
-/// Unicode's files, without those of joined letters, which change no text and no place.
+/// Reads the class, bracket and mirroring files. Joined letters change no text and no place.
 fn unicode_of(rt: &HostRuntime, tables: &Tables) -> Result<UnicodeBytes, Fault> {
     let paths = UnicodePaths {
         classes: tables.classes.as_str(),

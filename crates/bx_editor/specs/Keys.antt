@@ -17,7 +17,7 @@ use Rattle.bx_editor.specs.declared.seek.Seek.TheVariants.{Off}
 use Rattle.bx_editor.specs.Search.{after_beginning, after_find, after_find_back, after_giving_up, after_letter, after_shortening, without_search}
 use Rattle.bx_editor.specs.Region.{after_copy, after_cut, after_mark, after_put}
 
--- a key of the user outside a search, once the message is cleared; `fault`: that of a Save, none if it succeeds; `again`: the key before was Quit
+-- The user presses a key outside a search, and the message is cleared. `fault`: why a Save failed, None if it succeeded; `again`: the key before was Quit.
 abbrev pub after_pressing : Data → Option StoreFault → Bool → Editor → Key → Editor
 after_pressing d fault again e (Insert c) = after_insertion d e (encode_utf8 c)
 after_pressing d fault again e Erase = after_removal d e (step_logical (rows d e) logical.Back e.place) e.place
@@ -69,7 +69,7 @@ abbrev pub after_any : Data → Option StoreFault → Bool → Seek → Editor �
 after_any d fault again Off e key = after_pressing d fault again e key
 after_any d fault again _ e key = after_seeking d fault again e key
 
--- any key; those of the user clear the message first
+-- any key; a key that the user pressed clears the message first
 abbrev pub after_key : Data → Option StoreFault → Editor → Key → Editor
 after_key d fault e (Size height width) = with_size e height width
 after_key d fault e (Notice notice) = with_notice e notice

@@ -17,7 +17,7 @@ use Rattle.bx_editor.specs.declared.seek.Seek.TheVariants.{Off, Begun, Typed}
 use Rattle.bx_ucd.specs.Data.{Data}
 use Rattle.bx_editor.specs.Editor.{Editor}
 
--- the cause of a failed save, if the store tells one, stands behind a colon
+-- a failed save: the message has a colon and the cause, if the store tells one
 abbrev pub failed_text : Option SaveCause → List ℕ
 failed_text None = codes "save failed"
 failed_text (Some cause) = codes "save failed: " ++ cause_text cause

@@ -23,7 +23,7 @@ fn parent_in(line: &str) -> Option<u32> {
     behind.split_ascii_whitespace().nth(1)?.parse().ok()
 }
 
-/// The number of the host's process, where the kernel tells it; else that of this one.
+/// The process number of the host, or of the keeper if the kernel does not tell the host's.
 fn host_process(rt: &HostRuntime) -> u32 {
     let parent = match fs::read_to_string(rt, "/proc/self/stat") {
         Ok(line) => parent_in(line.as_str()),

@@ -17,7 +17,7 @@ pub enum Call {
     Print(PrintCall),
     /// The list of sessions that can be recovered.
     List,
-    /// Dropped and ended sessions are removed: those of this file, or of all.
+    /// Removes the dropped and ended sessions of this file, or of all files.
     Forget(Option<String>),
     /// A file's session is recovered.
     Recover(RecoverCall),
@@ -61,7 +61,7 @@ pub struct RecoverCall {
 pub struct PrintCall {
     pub file: String,
     pub direction: Base,
-    /// The columns of a row, from 1 to 500; None for those of the terminal.
+    /// The columns of a row, from 1 to 500; None takes the width of the terminal.
     pub columns: Option<u16>,
     /// Whether marks are printed.
     pub has_marks: bool,

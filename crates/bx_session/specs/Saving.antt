@@ -46,7 +46,7 @@ abbrev pub is_edit_or_move_key : Option Key → Bool
 is_edit_or_move_key None = false
 is_edit_or_move_key (Some key) = is_edit_or_move key
 
--- the session after a byte, by the answer; `fault`: that of a Save, none if it succeeded
+-- the session after a byte, by the answer; `fault`: why a Save failed, None if it succeeded
 abbrev pub AfterByte : Data → Option StoreFault → Session → ℕ → Result Status Refused → Session → Type 0
 AfterByte d fault old b (Ok status) new = (new ≡ after_byte d fault old b) × (status ≡ status_of new)
 AfterByte d fault old b (Err refused.Edit) new = (new ≡ after_spending old b) × (is_edit_or_move_key (key_of_byte old b) ≡ true)

@@ -96,7 +96,7 @@ after_spending s b = if s.editor.ended then s else record s { rest = head_of (re
 abbrev pub known_after : Option PictureState → Key → Editor → Option PictureState
 known_after known key e = if asks_for_whole key || e.ended then None else known
 
--- a key is applied, and not yet painted; `fault`: that of a Save, none if it succeeds
+-- a key is applied, and not yet painted; `fault`: why a Save failed, None if it succeeded
 abbrev pub session_after_key : Data → Option StoreFault → Session → Key → Session
 session_after_key d fault s key =
     let e = after_key d fault s.editor key in

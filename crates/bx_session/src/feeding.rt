@@ -33,7 +33,7 @@ fn is_size(height: u16, width: u16) -> bool
     is_side(height) && is_side(width)
 }
 
-/// Applies a key to the editor. After Save, `fault` is that of the store; none if it has the text.
+/// Applies a key to the editor. `fault` tells why a Save failed; None if the store has the text.
 ///
 /// Errors: `Edit` if memory runs out, only for a key that edits, moves, copies or finds; nothing has changed.
 fn apply<D: BidiData + Drop>(
@@ -88,7 +88,7 @@ impl<D: BidiData + Drop> Session<D> {
         }
     }
 
-    /// Applies a key without painting. After Save, `fault` is that of the store; none if it has the text.
+    /// Applies a key without painting. `fault` tells why a Save failed; None if the store has the text.
     ///
     /// Errors: `Edit` if memory runs out, only for a key that edits, moves, copies or finds; nothing has changed.
     pub(crate) fn press(&mut self, key: Key, fault: Option<StoreFault>) -> Result<(), Refused>
