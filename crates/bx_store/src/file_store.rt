@@ -135,8 +135,9 @@ where
     fn write_by(&mut self, in_place: &mut InPlace<R::File>) -> Result<(), StoreFault>
         ensures { self.new.failures ≡ self.old.failures }
     {
-        in_place.keep(self.watch.files)?;
+        in_place.sync()?;
         self.watch.look_again(in_place.target())?;
+        in_place.keep(self.watch.files)?;
         let mut file = in_place.open_target(self.watch.files, self.watch.seen())?;
         let mark = String::from_str(self.watch.allocator(), in_place.mark())?;
         file.set_len(0)?;

@@ -55,9 +55,13 @@ impl<F: Read + Write + Seek + OpenFile + AsFd + Drop> InPlace<F> {
         self.draft.target()
     }
 
-    /// Syncs the whole text to disk as the mark.
+    /// Syncs the whole text to disk.
+    pub fn sync(&mut self) -> io::Result<()> {
+        self.draft.sync()
+    }
+
+    /// Makes the synced text the mark.
     pub fn keep<R: Files<File = F>>(&mut self, files: &R) -> io::Result<()> {
-        self.draft.sync()?;
         self.draft.replace(files)?;
         self.is_kept = true;
         self.draft.sync_folder(files)
