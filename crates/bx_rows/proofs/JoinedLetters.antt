@@ -26,7 +26,7 @@ zip-within [] ys = omega arith
 zip-within (x ∷ xs) [] = omega arith
 zip-within (x ∷ xs) (y ∷ ys) = let rest = zip-within xs ys in omega (arith, rest)
 
-first_forms-at : (n i : ℕ) (fs : List Form) → i < n → get_or (first_forms n fs) i Isolated ≡ get_or fs i Isolated
+pub first_forms-at : (n i : ℕ) (fs : List Form) → i < n → get_or (first_forms n fs) i Isolated ≡ get_or fs i Isolated
 first_forms-at zero i fs h = absurd (omega arith)
 first_forms-at (suc n) zero [] h = refl
 first_forms-at (suc n) zero (f ∷ fs) h = refl

@@ -130,7 +130,7 @@ letters-text : (text : List ℕ) → text_shown (map (λ x. glyph (x ∷ []) 1 f
 letters-text [] = refl
 letters-text (b ∷ bs) = ap (λ xs. b ∷ xs) (letters-text bs)
 
-glyphs-text : (n : ℕ) (text : List ℕ) (b : Bool)
+pub glyphs-text : (n : ℕ) (text : List ℕ) (b : Bool)
     → text_shown (elim b as (λ _. List Glyph) [ true ↦ letter_glyphs text | false ↦ glyph text n false ∷ [] ]) ≡ text
 glyphs-text n text true = letters-text text
 glyphs-text n text false = append-nil text

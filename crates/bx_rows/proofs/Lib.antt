@@ -14,12 +14,15 @@ pub mod FaceGlyphs
 pub mod NumbersBelow
 pub mod TurnedPairs
 pub mod LowestLevels
+pub mod TouchingUnits
+pub mod LevelsBetween
 pub mod UnitsShown
 pub mod PictureLaws
 pub mod RowsFit
 pub mod Scans
 pub mod RowReads
 pub mod RowUnits
+pub mod TouchingLetters
 pub mod EachRow
 pub mod NarrowSteps
 pub mod AsciiRuns
@@ -32,7 +35,9 @@ mod Examples
 mod JoiningExamples
 pub mod JoinedColumns
 pub mod LetterForms
+pub mod FormsShown
 mod LawExamples
+mod TouchingExamples
 pub mod Unmirrored
 pub mod PlainRows
 pub mod PlainDrawn

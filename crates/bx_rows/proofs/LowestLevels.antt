@@ -209,7 +209,7 @@ lowest-order levels i j m h g l =
 -- ---- consequences
 
 -- one of the units from one index to another has the lowest of all levels
-lowest-part : (n : ℕ) (levels : List ℕ) (i a at b j : ℕ) → i ≤ a → a ≤ at → at ≤ b → b ≤ j → j < length levels
+pub lowest-part : (n : ℕ) (levels : List ℕ) (i a at b j : ℕ) → i ≤ a → a ≤ at → at ≤ b → b ≤ j → j < length levels
     → All (λ l. n ≤ l) (between i (j + 1) levels) → HoldsAt (λ l. l ≡ n) levels at → IsLowest n (between a (b + 1) levels)
 lowest-part n levels i a at b j h f g k l all one =
     let count : length (between a (b + 1) levels) ≡ b + 1 - a = length-between levels a (b + 1) (omega (arith, k, l)) in

@@ -1,13 +1,17 @@
 -- Laws of pictures with joined letters.
-use Rattle.std.specs.Prelude.{◌≡◌, ◌⊎◌, ℕ, Bool, All, List, Option, None, Some, encode_utf8_all, flat_map, map, replicate}
+use Rattle.std.specs.Prelude.{◌≡◌, ◌⊎◌, ◌+◌, ◌%◌, ◌<◌, ℕ, Bool, false, true, All, HoldsAt, List, [], ◌∷◌, ◌++◌, Option, None, Some, chars, encode_utf8_all, flat_map}
+use Rattle.std.specs.Prelude.{length, map, replicate, reverse, slice_index_or, take, unwrap_or}
 use Rattle.std.specs.Str.{IsUtf8}
 use Rattle.bx_ucd.specs.Data.{Data}
 use Rattle.bx_ucd.specs.declared.joining.Form.{Form}
 use Rattle.bx_ucd.specs.declared.joining.Joining.TheVariants.{U}
+use Rattle.bx_cells.specs.declared.unit.Face.TheVariants.{Own}
 use Rattle.bx_cells.specs.declared.unit.Unit.{Unit}
+use Rattle.bx_cells.specs.Faces.{face}
 use Rattle.bx_cells.specs.Units.{HasFace, StandsIn, unit_chars}
 use Rattle.bx_joining.specs.JoinedText.{AreFormless}
-use Rattle.bx_rows.specs.RowPicture.{Glyph, draw}
+use Rattle.bx_joining.specs.Joining.{Joiner, form_if, joiners, joins_after, joins_before}
+use Rattle.bx_rows.specs.RowPicture.{Glyph, draw, is_own, mirrored_chars, unit_columns, unit_glyphs}
 
 -- the tables' data with no joining types and no forms
 abbrev pub unjoined : Data → Data
@@ -62,3 +66,39 @@ LettersShowTheirForms = (says : Data) (w : ℕ) (body : List ℕ) (paragraph : �
     → IsUtf8 body → All (StandsIn body) us → All (HasFace says w body) us
     → ShowsForms says (text_shown (draw (plain says) w body paragraph each us levels))
     (text_shown (draw (unjoined says) w body paragraph each us levels)) (text_shown (draw says w body paragraph each us levels))
+
+-- behind `number` characters of the body a letter is shown in the form that goes by what it joins; a letter without that form is
+-- shown as without joined letters
+pub record GoesByJoining (says : Data) (body : List ℕ) (each : List (Option ℕ)) (number : ℕ) (p : Place) : Type 0 where
+  pub before : List Joiner
+  pub own : Joiner
+  pub after : List Joiner
+  pub body_is : joiners says body each ≡ before ++ (own ∷ after)
+  pub number_is : length before ≡ number
+  pub shown_is : p.shown ≡ unwrap_or (says.form p.letter (form_if (joins_before (reverse before) own) (joins_after own after))) p.unjoined
+
+-- the places of a unit of `n` columns, each shown so
+pub record AreByJoining (says : Data) (w n : ℕ) (body : List ℕ) (each : List (Option ℕ)) (u : Unit) (places : List Place) : Type 0 where
+  pub letters_are : unit_chars body u ≡ map (λ p. p.letter) places
+  pub unjoined_are : mirrored_chars says w n (unit_chars body u) ≡ map (λ p. p.unjoined) places
+  pub each_is : (k : ℕ) → k < length places → HoldsAt (GoesByJoining says body each (length (chars (take u.start body)) + k)) places k
+
+-- the text of the joined letters is shown if it shows itself in `n` columns, else the one without joined letters
+pub record ShowsIfOwn (says : Data) (w n : ℕ) (joined unjoined shown : List ℕ) : Type 0 where
+  pub fits : is_own n (face says w joined) ≡ true → shown ≡ joined
+  pub differs : is_own n (face says w joined) ≡ false → shown ≡ unjoined
+
+-- the unit `i` of a row, which shows its own text in `n` columns, at an odd level
+pub record IsOwnAtOdd (us : List Unit) (levels : List ℕ) (i n : ℕ) (u : Unit) : Type 0 where
+  pub count : length levels ≡ length us
+  pub within : i < length us
+  pub unit_is : HoldsAt (λ v. v ≡ u) us i
+  pub own : u.face ≡ Own n
+  pub odd : HoldsAt (λ l. l % 2 ≡ 1) levels i
+
+-- such a unit's glyphs show each letter in the form that goes by what it joins
+abbrev pub LettersGoByJoining : Type 0
+LettersGoByJoining = (says : Data) (w : ℕ) (body : List ℕ) (each : List (Option ℕ)) (us : List Unit) (levels : List ℕ) (i n : ℕ) (u : Unit)
+    (places : List Place) → IsUtf8 body → StandsIn body u → IsOwnAtOdd us levels i n u → AreByJoining says w n body each u places
+    → ShowsIfOwn says w n (encode_utf8_all (map (λ p. p.shown) places)) (encode_utf8_all (map (λ p. p.unjoined) places))
+    (text_shown (slice_index_or (unit_glyphs says w body each us (unit_columns w 0 us) levels) i []))

@@ -1,8 +1,9 @@
 //! Laws of units, rows, visual order and pictures. The functions are empty: their contracts are the laws.
 
 ghost use Rattle.bx_rows.specs.Laws.{RowsAreOfRest, RowsCutUnits, RowsEndWell, RowsMeetAgain, UnitsFitWindow, UnitsMakeBody, UnitsStandInTurn};
-ghost use Rattle.bx_rows.specs.JoiningLaws.{FormlessRowsStay, FormsChangeTextsAlone, LettersShowTheirForms};
+ghost use Rattle.bx_rows.specs.JoiningLaws.{FormlessRowsStay, FormsChangeTextsAlone, LettersGoByJoining, LettersShowTheirForms};
 ghost use Rattle.bx_rows.specs.OrderLaws.{EqualLevelsOrder, LowestLevelsOrder, LowestStaysBetween, OrdersArePermutations, PicturesGoByLevels, PicturesShowUnits, StaysBetween};
+ghost use Rattle.bx_rows.specs.TouchingLetters.{EqualOddLevelsTouch, JoinedLettersTouch};
 
 /// The units of a body joined are the body: they are adjacent from its start to its end. Each fits in the window.
 pub fn units_make_body()
@@ -47,6 +48,21 @@ pub fn forms_change_texts_alone()
     ensures alone { FormsChangeTextsAlone }
     ensures formless { FormlessRowsStay }
     ensures letters { LettersShowTheirForms }
+{}
+
+/// A unit at an odd level shows each of its letters in the form that goes by what the letter joins: medial where it joins both
+/// neighbours, final or initial where it joins one, isolated where it joins none. A letter without that form, and a unit whose
+/// text would take other columns, is shown as without joined letters.
+pub fn letters_go_by_joining()
+    ensures { LettersGoByJoining }
+{}
+
+/// Two units of one odd level, with no lower level between them, have only units between them that stand between them in the
+/// text. So do two units that begin with letters that join, where the row has both at the letters' level: between them stand
+/// only units of transparent characters.
+pub fn joined_letters_touch()
+    ensures units { EqualOddLevelsTouch }
+    ensures letters { JoinedLettersTouch }
 {}
 
 /// From any row on, the rows of a body are those of the rest of the body, taken as a body of its own.
