@@ -13,10 +13,14 @@ use Rattle.bx_ucd.specs.declared.class.Class.TheVariants.{L}
 use Rattle.bx_explicit.specs.declared.entry.ExplicitChar.{ExplicitChar}
 use Rattle.bx_explicit.specs.declared.runs.Run.{Run}
 use Rattle.bx_explicit.specs.Runs.{run, join_run, runs_from, kept_indexes, indexes_of, IsRunWithin, AreRising}
-use Rattle.bx_explicit.specs.Sequences.{RunSequence, followers, follows, sequence_of, sequences_from, sequences, first_or_0, first_index, chain_indexes}
+use Rattle.bx_explicit.specs.Sequences.{RunSequence, followers, follows, sequence_of, sequences_from, sequences, chain_indexes}
 use Rattle.bx_explicit.specs.Walk.{AreGiven}
 use Rattle.bx_explicit.proofs.LevelRuns.{runs_within, all_rising}
 use Rattle.bx_explicit.proofs.Bounds.{sequences_each, followers_each}
+
+-- the first index of a sequence, or 0
+abbrev pub first_index : RunSequence → ℕ
+first_index s = get_or s.indexes 0 0
 
 -- each is after the ones before it
 abbrev AreBehind : List RunSequence → Type 0
@@ -60,7 +64,7 @@ begin_all kept (Some c ∷ g) k e = begin_join kept g k (k + 1 + length g) c (ru
 
 module _ (paragraph : ℕ) (cs : List Class) (kept : List (Option ExplicitChar)) where
   first_of_sequence : (r : Run) (fs : List Run) → BeginsIt kept r → first_index (sequence_of paragraph cs kept r fs) ≡ r.first
-  first_of_sequence r fs b = ap (λ ps. first_or_0 (ps ++ chain_indexes kept fs)) b.1
+  first_of_sequence r fs b = ap (λ ps. get_or (ps ++ chain_indexes kept fs) 0 0) b.1
 
   abbrev IsBeyond : ℕ → Run → Type 0
   IsBeyond low r = (low < r.first) × BeginsIt kept r

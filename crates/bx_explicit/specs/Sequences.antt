@@ -84,11 +84,3 @@ sequences_from paragraph cs kept before (r ∷ rs) = elim (follows cs before r) 
 
 abbrev pub sequences : ℕ → List Class → List (Option ExplicitChar) → List RunSequence
 sequences paragraph cs kept = sequences_from paragraph cs kept [] (runs_from 0 kept)
-
--- the first index of a sequence, or 0
-abbrev pub first_or_0 : List ℕ → ℕ
-first_or_0 [] = 0
-first_or_0 (p ∷ ps) = p
-
-abbrev pub first_index : RunSequence → ℕ
-first_index s = first_or_0 s.indexes

@@ -1,8 +1,8 @@
 //! All isolating run sequences of a body at once, each with its indexes (BD13, X10). The editor does not run this, it reads one
 //! sequence after another by `SequenceWalk`. With it the crate serves by itself as a library.
-ghost use Rattle.std.specs.Prelude.{◌≡◌, ◌<◌, ◌≤◌, ◌++◌, IfOk, OnOk, All, drop, length, true};
+ghost use Rattle.std.specs.Prelude.{◌≡◌, ◌<◌, ◌≤◌, ◌++◌, IfOk, OnOk, All, drop, length, slice_index, true};
 ghost use Rattle.bx_explicit.specs.LevelIndexes.{level_indexes, indexes_from};
-ghost use Rattle.bx_explicit.specs.Sequences.{RunSequence, first_index, sequences};
+ghost use Rattle.bx_explicit.specs.Sequences.{RunSequence, sequences};
 ghost use Rattle.bx_explicit.specs.Stack.{max_depth};
 ghost use Rattle.bx_explicit.specs.Walk.{AreGiven};
 
@@ -61,9 +61,9 @@ impl Sequence {
         self.eos
     }
 
-    /// Its first index, by which `sequences` sorts.
+    /// Its first index, or 0, by which `sequences` sorts.
     fn first_index(&self) -> usize
-        ensures { result ≡ first_index self.now }
+        ensures { result ≡ slice_index self.now.indexes 0 }
     {
         match self.indexes.as_slice() {
             [] => 0,

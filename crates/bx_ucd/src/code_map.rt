@@ -9,7 +9,7 @@ ghost use Rattle.std.specs.BTreeMap.{get};
 use std::alloc::{AllocError, Global};
 use std::collections::BTreeMap;
 
-/// The number of slots. Characters in use rarely share a slot: their codes differ by a multiple of it.
+/// The number of slots. Two characters share a slot if their codes differ by a multiple of this number; characters in use rarely do.
 const SLOTS: usize = 8192;
 
 /// The values of some characters. One look at a slot mostly gives the value, or rules out that there is one.

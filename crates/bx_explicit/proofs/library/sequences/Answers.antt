@@ -4,9 +4,9 @@ use Rattle.std.specs.List.Sorted.{IsNonDecreasingBy}
 use Rattle.std.proofs.lemmas.List.Sorted.{IsNonDecreasingBy-from_sort_by_key}
 use Rattle.bx_explicit.specs.declared.entry.Explicit.{Explicit}
 use Rattle.bx_explicit.specs.Stack.{max_depth}
-use Rattle.bx_explicit.specs.Sequences.{RunSequence, first_index, sequences}
+use Rattle.bx_explicit.specs.Sequences.{RunSequence, sequences}
 use Rattle.bx_explicit.proofs.Bounds.{sequences_low, sequences_below}
-use Rattle.bx_explicit.proofs.Ordered.{sorted_is_sequences}
+use Rattle.bx_explicit.proofs.Ordered.{first_index, sorted_is_sequences}
 use Rattle.bx_explicit.proofs.library.sequences.Goals as goal
 
 pub returns-clause-sequences : goal.returns-clause-sequences
