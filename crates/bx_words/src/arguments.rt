@@ -1,7 +1,6 @@
 //! Command-line options that several programs share.
 
-ghost use Rattle.std.specs.Prelude.{◌≡◌, true, IfSome};
-ghost use Rattle.bx_terms.specs.Sizes.{is_side};
+ghost use Rattle.bx_words.specs.Arguments.{GivesDirection, GivesSide};
 
 use bx_terms::{Base, LARGEST_SIDE, is_side};
 use clap::{Arg, ArgMatches, value_parser};
@@ -29,12 +28,20 @@ pub fn direction<'a>(alloc: Global) -> Arg<'a> {
 
 /// The side of a window, from its option.
 pub fn side_of(matches: &ArgMatches<'_>, name: &str) -> Option<u16>
-    ensures { IfSome result (λ n. is_side n ≡ true) }
+    ensures { GivesSide matches.now name.now result }
 {
-    matches.get_one::<u16>(name).filter(|n| is_side(*n))
+    match matches.get_one::<u16>(name) {
+        Some(n) if is_side(n) => Some(n),
+        _ => None,
+    }
 }
 
 /// The direction, from its option.
-pub fn direction_of(matches: &ArgMatches<'_>) -> Option<Base> {
-    matches.get_str("direction")?.parse().ok()
+pub fn direction_of(matches: &ArgMatches<'_>) -> Option<Base>
+    ensures { GivesDirection matches.now result }
+{
+    match matches.get_str("direction")?.parse() {
+        Ok(base) => Some(base),
+        Err(_) => None,
+    }
 }

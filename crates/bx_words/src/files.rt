@@ -1,5 +1,8 @@
 //! The files that the programs read.
 
+ghost use Rattle.std.specs.Prelude.{IfErr};
+ghost use Rattle.bx_words.specs.Files.{IsFaultOf};
+
 use crate::shown::Shown;
 use bx_terms::LARGEST_TEXT;
 use std::fs::{self, File};
@@ -17,7 +20,9 @@ pub enum FileFault<'a> {
 }
 
 /// Why the file at a path could not be read.
-fn fault_of<'a>(path: &'a str, kind: ErrorKind) -> FileFault<'a> {
+fn fault_of<'a>(path: &'a str, kind: ErrorKind) -> FileFault<'a>
+    ensures { IsFaultOf path.entry.now result }
+{
     match kind {
         ErrorKind::OutOfMemory => FileFault::OutOfMemory,
         _ => FileFault::Unreadable(path),
@@ -36,7 +41,9 @@ fn text_bytes<R: Read + Drop>(rt: &HostRuntime, reader: R) -> io::Result<Vec<u8>
 /// The bytes of a text file, cut off one byte past the largest text. None if the file does not exist.
 ///
 /// Errors: `Unreadable`; `OutOfMemory`.
-pub fn text_of<'a>(rt: &HostRuntime, path: &'a str) -> Result<Option<Vec<u8>>, FileFault<'a>> {
+pub fn text_of<'a>(rt: &HostRuntime, path: &'a str) -> Result<Option<Vec<u8>>, FileFault<'a>>
+    ensures { IfErr result (IsFaultOf path.entry.now) }
+{
     let read = match File::open(rt, path) {
         Ok(file) => text_bytes(rt, file).map(Some),
         Err(error) if error.kind() == ErrorKind::NotFound => Ok(None),
@@ -71,7 +78,9 @@ pub fn is_text_of<'a>(
     rt: &HostRuntime,
     path: &'a str,
     text: &[u8],
-) -> Result<Option<bool>, FileFault<'a>> {
+) -> Result<Option<bool>, FileFault<'a>>
+    ensures { IfErr result (IsFaultOf path.entry.now) }
+{
     let mut file = match File::open(rt, path) {
         Ok(file) => file,
         Err(error) if error.kind() == ErrorKind::NotFound => return Ok(None),
@@ -89,6 +98,8 @@ pub fn is_text_of<'a>(
 /// All bytes of a file.
 ///
 /// Errors: `Unreadable`, also if the file does not exist; `OutOfMemory`.
-pub fn bytes_of<'a>(rt: &HostRuntime, path: &'a str) -> Result<Vec<u8>, FileFault<'a>> {
+pub fn bytes_of<'a>(rt: &HostRuntime, path: &'a str) -> Result<Vec<u8>, FileFault<'a>>
+    ensures { IfErr result (IsFaultOf path.entry.now) }
+{
     fs::read(rt, path).map_err(|error| fault_of(path, error.kind()))
 }

@@ -1,5 +1,9 @@
 //! Unicode's files: the options that name them, their paths and their bytes.
 
+ghost use Rattle.std.specs.Prelude.{◌≡◌};
+ghost use Rattle.bx_words.specs.Arguments.{GivesJoining, GivesPaths};
+ghost use Rattle.bx_words.specs.Files.{AreLent, kept_pair, lent_pair};
+
 use crate::files::{FileFault, bytes_of};
 use bx_ucd::JoiningFiles;
 use clap::{Arg, ArgMatches, Command};
@@ -72,7 +76,9 @@ pub fn with_tables<'a>(command: Command<'a>, alloc: Global) -> Result<Command<'a
 }
 
 /// The paths of the two files by which letters are joined; None if one of them is missing.
-fn joining_paths_of<'a>(matches: &ArgMatches<'a>) -> Option<JoiningPaths<'a>> {
+fn joining_paths_of<'a>(matches: &ArgMatches<'a>) -> Option<JoiningPaths<'a>>
+    ensures { GivesJoining matches.now result }
+{
     Some(JoiningPaths {
         joining: matches.get_str("joining")?,
         characters: matches.get_str("characters")?,
@@ -80,7 +86,9 @@ fn joining_paths_of<'a>(matches: &ArgMatches<'a>) -> Option<JoiningPaths<'a>> {
 }
 
 /// The paths of Unicode's files, from their options; None if a required one is missing.
-pub fn paths_of<'a>(matches: &ArgMatches<'a>) -> Option<UnicodePaths<'a>> {
+pub fn paths_of<'a>(matches: &ArgMatches<'a>) -> Option<UnicodePaths<'a>>
+    ensures { GivesPaths matches.now result }
+{
     Some(UnicodePaths {
         classes: matches.get_str("classes")?,
         brackets: matches.get_str("brackets")?,
@@ -97,7 +105,9 @@ impl JoiningBytes {
         })
     }
 
-    fn lend(&self) -> JoiningFiles<'_> {
+    fn lend(&self) -> JoiningFiles<'_>
+        ensures { lent_pair result ≡ kept_pair self.now }
+    {
         JoiningFiles {
             joining: self.joining.as_slice(),
             characters: self.characters.as_slice(),
@@ -125,7 +135,9 @@ impl UnicodeBytes {
     }
 
     /// Lends the bytes.
-    pub fn lend(&self) -> UnicodeFiles<'_> {
+    pub fn lend(&self) -> UnicodeFiles<'_>
+        ensures { AreLent self.now result }
+    {
         UnicodeFiles {
             classes: self.classes.as_slice(),
             brackets: self.brackets.as_slice(),
