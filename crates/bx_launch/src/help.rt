@@ -29,7 +29,7 @@ opens what cannot be saved, -n keeps no session, --no-joining joins no letters.
   Ctrl-Space or Ctrl-@  mark where the region begins; it ends at the cursor
   Ctrl-X Ctrl-C Ctrl-V  cut, copy the region, or else the line; put it in
   Ctrl-W or F3, Ctrl-R  find forward, backward; Enter ends it, Ctrl-Q goes back
-  F1, F2 or Esc [ 9 ~   show keys; direction: auto, ltr, rtl and auto again
+  F1, F2                show keys; direction: auto, ltr, rtl and auto again
 
 The last row: * where changes are not saved, else -; paragraph:place; a message.
 Marks, in negative image, stand for what has no look of its own:

@@ -1,8 +1,11 @@
--- A row that follows from the law alone.
+-- Rows that follow from the laws alone.
 use Rattle.std.proofs.Common.{◌≡◌, ℕ, List, [], ◌∷◌, ◌++◌, Some, Ok, refl, lit≤}
 use Rattle.std.specs.Prelude.{codes}
+use Rattle.bx_keys.specs.Keys.{key_of}
+use Rattle.bx_keys.specs.declared.key.Key.TheVariants.{Notice}
+use Rattle.bx_keys.specs.declared.notice.Notice.TheVariants.{ReadOnly}
 use Rattle.bx_wire.specs.Letters.{letter_of}
-use Rattle.bx_wire.specs.Laws.{ReadsBack}
+use Rattle.bx_wire.specs.Laws.{NoticesAreKeys, ReadsBack}
 use Rattle.bx_wire.specs.Messages.{Reads, message_bytes}
 use Rattle.bx_wire.specs.declared.heard.Heard.TheVariants.{Word}
 use Rattle.bx_wire.specs.declared.heard.Message.{Message}
@@ -17,3 +20,7 @@ word_row : ReadsBack → (message : Message) (new : List ℕ)
     → (message.heard ≡ Word) × (message.text.items ≡ 0x61 ∷ []) × (new ≡ 0x77 ∷ 0x62 ∷ [])
 word_row law message new r =
     law Word (codes "a") (codes "wb") new (Ok (Some message)) (record { has_no_nul = refl; fits = lit≤ tt }) r
+
+-- CSI > 4 ~ tells of a read-only disk
+read_only_row : NoticesAreKeys → key_of (codes "\u{1b}[>4~") ≡ Some (Notice ReadOnly)
+read_only_row law = law ReadOnly

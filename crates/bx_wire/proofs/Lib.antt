@@ -1,2 +1,3 @@
+pub mod NoticeKeys
 pub mod ReadBack
 pub mod Examples

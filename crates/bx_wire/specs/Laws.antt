@@ -1,7 +1,11 @@
--- What is written is read back.
+-- What is written is read back, and a notice's number names its key.
 use Rattle.std.specs.Prelude.{◌≡◌, ◌⊎◌, ℕ, List, ◌++◌, Option, Some, None, Result, Ok, Err}
+use Rattle.bx_keys.specs.Keys.{key_of}
+use Rattle.bx_keys.specs.declared.key.Key.TheVariants as key
+use Rattle.bx_keys.specs.declared.notice.Notice as told
 use Rattle.bx_wire.specs.Letters.{letter_of}
 use Rattle.bx_wire.specs.Messages.{message_bytes, IsText, Reads}
+use Rattle.bx_wire.specs.Notices.{number_of, sequence_of}
 use Rattle.bx_wire.specs.declared.heard.Heard.{Heard}
 use Rattle.bx_wire.specs.declared.heard.Message.{Message}
 use Rattle.bx_wire.specs.declared.fault.WireFault.{WireFault}
@@ -18,3 +22,7 @@ abbrev pub ReadsBack : Type 0
 ReadsBack =
     (heard : Heard) (text rest new : List ℕ) (result : Result (Option Message) WireFault) → IsText text
     → Reads result (Some (message_bytes (letter_of heard) text ++ rest)) (Some new) → IsReadBack heard text rest new result
+
+-- the sequence of a notice's number is the editor's key for that notice
+abbrev pub NoticesAreKeys : Type 0
+NoticesAreKeys = (notice : told.Notice) → key_of (sequence_of (number_of notice)) ≡ Some (key.Notice notice)

@@ -1,7 +1,7 @@
--- The numbers of notices.
-use Rattle.std.specs.Prelude.{ℕ}
-use Rattle.bx_wire.specs.declared.notice.Notice.{Notice}
-use Rattle.bx_wire.specs.declared.notice.Notice.TheVariants as notice
+-- The numbers of notices, and the sequences by which the editor gets them.
+use Rattle.std.specs.Prelude.{ℕ, ◌+◌, List, [], ◌∷◌}
+use Rattle.bx_keys.specs.declared.notice.Notice.{Notice}
+use Rattle.bx_keys.specs.declared.notice.Notice.TheVariants as notice
 
 abbrev pub number_of : Notice → ℕ
 number_of notice.NoSpace = 1
@@ -13,3 +13,7 @@ number_of notice.KeptAgain = 6
 number_of notice.Recovered = 7
 number_of notice.RecoveredAside = 8
 number_of notice.InPlace = 9
+
+-- the sequence that the host makes of a number: CSI > digit ~
+abbrev pub sequence_of : ℕ → List ℕ
+sequence_of number = 0x1B ∷ 0x5B ∷ 0x3E ∷ (0x30 + number) ∷ 0x7E ∷ []
