@@ -358,6 +358,12 @@ def missing_programs(tree):
     yield holds('no filter: keys', run.pump(5, b'<abc>') and b'2004h' not in run.output)
     run.type(QUIT)
     yield from finish(run, 'no filter', 0)
+    run = start(tree, 'edit', 'plain', tree.file('missing'))
+    run.pump(5, b'hello')
+    run.hang_up()
+    yield holds('no filter: a closed terminal ends it', run.pump(5))
+    yield same('no filter: a closed terminal, processes', run.left(3), {})
+    run.close()
     if tree.has_filter:
         os.rename(f'{lib}/bidi_input.away', f'{lib}/bidi_input')
 
