@@ -59,7 +59,11 @@ static _Noreturn void become_filter(char *file, int in, pid_t host) {
     if (dup2(in, STDIN_FILENO) < 0 || dup2(keys, STDOUT_FILENO) < 0 || none < 0 || dup2(none, STDERR_FILENO) < 0) _exit(126);
     tell_watcher(FILTER_BEGINS, getpid());
     give_back_signals();
-    if (!file) copy_keys();
+    if (!file) {
+        /* its own input would have no end */
+        close_typing();
+        copy_keys();
+    }
     char *own_words[] = {file, NULL, NULL, NULL};
     if (tells_erase) {
         static char option[] = "--erase", number[8];

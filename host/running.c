@@ -83,8 +83,11 @@ static bool mind_end(int64_t *end, bool *is_killed) {
 
 /* When the next thing is to be done without being woken. */
 static int64_t next_moment(int64_t end, int64_t second) {
-    if (end != 0 && keys >= 0 && end - GRACE + FILTERING < second) return end - GRACE + FILTERING;
-    return end != 0 && end < second ? end : second;
+    int64_t moments[] = {end, end != 0 && keys >= 0 ? end - GRACE + FILTERING : 0, escape_moment()};
+    int64_t next = second;
+    for (size_t i = 0; i < sizeof moments / sizeof *moments; i++)
+        if (moments[i] != 0 && moments[i] < next) next = moments[i];
+    return next;
 }
 
 static void run(void) {
@@ -96,6 +99,7 @@ static void run(void) {
         mind_terminal();
         tell_second(&second);
         mind_notices();
+        mind_escape();
         wait_once(next_moment(end, second));
     }
 }

@@ -2,6 +2,7 @@
 
 #include <errno.h>
 #include <fcntl.h>
+#include <poll.h>
 #include <stdint.h>
 #include <stdio.h>
 #include <stdlib.h>
@@ -11,7 +12,7 @@
 #include "writing.h"
 
 /* What waits here and in the pipe is little, since the end of the host loses it. */
-enum { PIECE = 1024, MOST_WAITING = 4096, PATIENCE = 1000, MOST_NOTICES = 8, LARGEST_NOTICE = 99 };
+enum { PIECE = 1024, MOST_WAITING = 4096, PATIENCE = 1000, MOST_NOTICES = 8, LARGEST_NOTICE = 99, ALONE = 50 };
 
 /* What the last byte is: the end of a key, or a part of one. */
 enum place { BETWEEN, ESCAPED, SHIFTED, SEQUENCE, LONG_ESCAPE, CHARACTER };
@@ -149,6 +150,24 @@ void give_notice(const char *text) {
 
 void mind_notices(void) {
     if (notice_count > 0 && !is_pasting && now() >= last_byte + PATIENCE) put_notices();
+}
+
+int64_t escape_moment(void) {
+    return place == ESCAPED && !is_pasting && takes_typing() ? last_byte + ALONE : 0;
+}
+
+/* Bytes that came while the host was stopped follow the Escape. */
+static bool is_typed_on(void) {
+    struct pollfd wanted = {.fd = line, .events = POLLIN};
+    return poll(&wanted, 1, 0) != 0;
+}
+
+void mind_escape(void) {
+    int64_t moment = escape_moment();
+    if (moment == 0 || now() < moment || is_typed_on()) return;
+    if (!add_bytes(&typing, "[93~", 4)) return;
+    place = BETWEEN;
+    if (notice_count > 0) put_notices();
 }
 
 void end_typing(void) {

@@ -3,6 +3,7 @@
 #define TYPING_H
 
 #include <stdbool.h>
+#include <stdint.h>
 
 #include "wire.h"
 
@@ -29,6 +30,12 @@ void give_notice(const char *text);
 
 /* Gives notices that have waited long enough. */
 void mind_notices(void);
+
+/* When an Escape that nothing follows becomes a key of its own; 0 where none waits. */
+int64_t escape_moment(void);
+
+/* Makes an Escape that nothing has followed for long enough the sequence CSI 93~. */
+void mind_escape(void);
 
 /* Reads the terminal no more, and ends the filter's input once it has all. */
 void end_typing(void);

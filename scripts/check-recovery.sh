@@ -277,9 +277,8 @@ break_off() { # ROW WORDS KEY..
         expect "$scene" "$words"
     else
         kill -s KILL "$(program_under "$process")" "$(ps -o pid= --ppid "$process" | tr -d ' ')"
-        # the terminal is still raw and on the alternate screen
-        terminal send-keys -t shell C-j "stty sane; printf '\\033[?1049l'" C-j
-        sleep 0.5
+        # the watcher gives the terminal back
+        wait_for 150 shows_shell
     fi
     say clear
 }

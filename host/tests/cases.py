@@ -91,14 +91,17 @@ def resizes(tree):
 
 
 def notices(tree):
-    """A notice goes between keys: the first before all keys, a later one not into a paste nor a key, unless that stays unfinished."""
+    """A notice goes between keys: the first before all keys, a later one not into a paste nor a key, unless that stays unfinished.
+    An Escape that nothing follows becomes a sequence."""
     first, later = b'\x1b[>9~', b'\x1b[>1~'
     cases = (('at once', [b'ab'], b'ab' + later),
              ('a paste', [b'\x1b[200~ab', 2.2, b'cd\x1b[201~e'], b'\x1b[200~abcd\x1b[201~' + later + b'e'),
              ('the end of a paste', [b'\x1b[200~ab\x1b[201', 2.2, b'~'], b'\x1b[200~ab\x1b[201~' + later),
              ('a character', [0.8, b'\xd7', 0.4, b'\x90'], b'\xd7\x90' + later),
              ('a sequence', [0.8, b'\x1b[1;5', 0.4, b'C'], b'\x1b[1;5C' + later),
-             ('an Escape', [b'\x1b', 2.2, b'x'], b'\x1b' + later + b'x'))
+             ('an Escape', [b'\x1b', 2.2, b'x'], b'\x1b[93~' + later + b'x'),
+             ('an Escape before a letter', [b'\x1bx'], b'\x1bx' + later),
+             ('an Escape in a paste', [b'\x1b[200~a\x1b', 0.2, b'b\x1b[201~'], b'\x1b[200~a\x1bb\x1b[201~' + later))
     if tree.has_filter:
         os.rename(f'{tree.top}/lib/bidi_edit/bidi_input', f'{tree.top}/lib/bidi_edit/bidi_input.away')
     for name, steps, wanted in cases:
@@ -358,6 +361,12 @@ def missing_programs(tree):
     yield holds('no filter: keys', run.pump(5, b'<abc>') and b'2004h' not in run.output)
     run.type(QUIT)
     yield from finish(run, 'no filter', 0)
+    run = start(tree, 'edit', 'plain', tree.file('missing'))
+    run.pump(5, b'hello')
+    run.hang_up()
+    yield holds('no filter: a closed terminal ends it', run.pump(5))
+    yield same('no filter: a closed terminal, processes', run.left(3), {})
+    run.close()
     if tree.has_filter:
         os.rename(f'{lib}/bidi_input.away', f'{lib}/bidi_input')
 

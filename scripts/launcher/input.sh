@@ -67,11 +67,11 @@ check_terminal_keys() {
     done <"$folder/table"
 }
 
-# Sequences cut in the middle, each part in its own read.
+# Sequences cut in the middle, each part in its own read, and an Escape that nothing follows.
 check_cut_keys() {
     start 8 50 "$recorder" f
     wait_for 50 test -e "$folder/record"
-    for part in 'a\033' 'O' 'A\033[1' ';2' 'Db'; do
+    for part in 'a\033O' 'A\033[1' ';2' 'Db\033' 'c'; do
         # shellcheck disable=SC2059
         printf "$part" >"$folder/keys"
         type_bytes "$folder/keys"
@@ -79,7 +79,7 @@ check_cut_keys() {
     done
     type_keys C-q
     finish 'input, cut' 7 50
-    same 'input, keys that come byte by byte' "$(cat -v "$folder/record")" 'a^[[A^[[Db'
+    same 'input, keys that come byte by byte' "$(cat -v "$folder/record")" 'a^[[A^[[Db^[[93~c'
 }
 
 # Makes 1 MB of text with every byte value, and the text expected from it.
@@ -162,6 +162,20 @@ check_editor_input() {
     rm -f note
 }
 
+# An Escape that nothing follows takes no letter with it, and does nothing.
+check_escape() {
+    rm -f note
+    start 8 40 "$top/bidi-edit" note
+    type_keys -l ab
+    type_keys Escape
+    sleep 0.3
+    type_keys -l '[A'
+    : >"$folder/opened"
+    same 'input, an Escape that nothing follows, in the editor' "$(settled_screen person)" "$(alone 8 40 "$folder/none" 'ab[A')"
+    type_keys C-q C-q
+    finish 'input, an Escape' 0 50
+}
+
 # The editor inserts the text, and works on.
 check_big_edit() {
     rm -f note
@@ -187,5 +201,6 @@ check_input() {
     check_marks
     has_editor || return 0
     check_editor_input
+    check_escape
     check_big_edit
 }
