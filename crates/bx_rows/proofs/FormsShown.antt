@@ -15,7 +15,7 @@ use Rattle.bx_joining.specs.JoinedText.{in_forms}
 use Rattle.bx_joining.specs.Joining.{Joiner, body_forms, form_if, forms_behind, joins_after, joins_before}
 use Rattle.bx_joining.proofs.FormsAt.{form_between}
 use Rattle.bx_joining.proofs.TextForms.{length-first_forms}
-use Rattle.bx_rows.specs.JoiningLaws.{AreByJoining, GoesByJoining, LettersGoByJoining, Place, ShowsIfOwn, text_shown}
+use Rattle.bx_rows.specs.JoiningLaws.{AreByJoining, GoesByJoining, LettersGoByJoining, ShownLetter, ShowsIfOwn, text_shown}
 use Rattle.bx_rows.specs.RowPicture.{face_glyphs, is_own, joined_image_within, mirror_image_within, mirrored_chars, shown_text, unit_columns, unit_forms, unit_glyphs}
 use Rattle.bx_rows.proofs.JoinedLetters.{first_forms-at}
 use Rattle.bx_rows.proofs.LetterForms.{glyphs-text}
@@ -24,7 +24,7 @@ use Rattle.bx_rows.proofs.PictureSums.{columns-length}
 use Rattle.bx_rows.proofs.Pieces.{piece-at}
 
 -- the form at a place of the body
-form-there : (says : Data) (body : List ℕ) (each : List (Option ℕ)) (number : ℕ) (p : Place) (g : GoesByJoining says body each number p)
+form-there : (says : Data) (body : List ℕ) (each : List (Option ℕ)) (number : ℕ) (p : ShownLetter) (g : GoesByJoining says body each number p)
     → p.shown ≡ unwrap_or (says.form p.letter (get_or (body_forms says body each) number Isolated)) p.unjoined
 form-there says body each number p g =
     let is : get_or (body_forms says body each) number Isolated ≡ form_if (joins_before (reverse g.before) g.own) (joins_after g.own g.after) =
@@ -34,7 +34,7 @@ form-there says body each number p g =
     g.shown_is ∙ ap (λ f. unwrap_or (says.form p.letter f) p.unjoined) (sym is)
 
 -- characters in forms, place by place
-in-forms-are : (says : Data) (forms : List Form) (ps : List Place) (d : Place) → length forms ≡ length ps
+in-forms-are : (says : Data) (forms : List Form) (ps : List ShownLetter) (d : ShownLetter) → length forms ≡ length ps
     → ((k : ℕ) → k < length ps → (get_or ps k d).shown ≡ unwrap_or (says.form (get_or ps k d).letter (get_or forms k Isolated)) (get_or ps k d).unjoined)
     → in_forms says forms (map (λ p. p.letter) ps) (map (λ p. p.unjoined) ps) ≡ map (λ p. p.shown) ps
 in-forms-are says [] [] d e s = refl
@@ -43,14 +43,14 @@ in-forms-are says (f ∷ fs) [] d e s = absurd (omega arith)
 in-forms-are says (f ∷ fs) (p ∷ ps) d e s =
     ap₂ (λ x xs. x ∷ xs) (sym (s 0 (omega arith))) (in-forms-are says fs ps d (omega arith) (λ k h. s (suc k) (omega arith)))
 
-unit-in-forms : (says : Data) (w n : ℕ) (body : List ℕ) (each : List (Option ℕ)) (u : Unit) (ps : List Place) → AreByJoining says w n body each u ps
+unit-in-forms : (says : Data) (w n : ℕ) (body : List ℕ) (each : List (Option ℕ)) (u : Unit) (ps : List ShownLetter) → AreByJoining says w n body each u ps
     → in_forms says (unit_forms says body each u) (unit_chars body u) (mirrored_chars says w n (unit_chars body u)) ≡ map (λ p. p.shown) ps
 unit-in-forms says w n body each u ps a =
     let number = length (chars (take u.start body)) in
     let all = body_forms says body each in
     let forms = unit_forms says body each u in
     let count : length (unit_chars body u) ≡ length ps = ap length a.letters_are ∙ length-map ps (λ p. p.letter) in
-    let d : Place = record { letter = 0; unjoined = 0; shown = 0 } in
+    let d : ShownLetter = record { letter = 0; unjoined = 0; shown = 0 } in
     ap₂ (λ ls cs. in_forms says forms ls cs) a.letters_are a.unjoined_are
     ∙ in-forms-are says forms ps d (length-first_forms (length (unit_chars body u)) (drop number all) ∙ count)
     (λ k h.

@@ -21,7 +21,7 @@ use Rattle.bx_cells.proofs.Rest.{chars_encoded}
 use Rattle.bx_joining.specs.JoinedText.{AreFormless}
 use Rattle.bx_rows.specs.declared.row.Row.{Row}
 use Rattle.bx_rows.specs.declared.start_search.RowStart.{RowStart}
-use Rattle.bx_rows.specs.JoiningLaws.{FormlessRowsStay, FormsChangeTextsAlone, IsSameOrForm, LettersShowTheirForms, Place, columns_shown, text_shown}
+use Rattle.bx_rows.specs.JoiningLaws.{FormlessRowsStay, FormsChangeTextsAlone, IsSameOrForm, LettersShowTheirForms, ShownLetter, columns_shown, text_shown}
 use Rattle.bx_rows.specs.Laws.{EndsWell, IsFull, RowsAreOfRest, RowsCutUnits, RowsEndWell, RowsMeetAgain, StandInTurn, UnitsFitWindow, UnitsMakeBody, UnitsStandInTurn}
 use Rattle.bx_rows.specs.OrderLaws.{AreAtLevel, EqualLevelsOrder, IsLowest, LowestLevelsOrder, LowestStaysBetween, OrdersArePermutations, PicturesGoByLevels, PicturesShowUnits}
 use Rattle.bx_rows.specs.OrderLaws.{ShowsLeft, StandsBetween, StandsLeft, StaysBetween}
@@ -341,7 +341,7 @@ characters : (cs : List ℕ) → beh ≡ encode_utf8_all cs → cs ≡ 0x628 ∷
 unfolding unicode_segmentation unicode_width
 characters cs e = sym (chars_encoded cs (subst IsUtf8 e whole-beh)) ∙ ap chars (sym e)
 
-one-place : (types : ℕ → Joining) (forms : ℕ → Form → Option ℕ) (text : List ℕ) (ps : List Place) → map (λ p. p.letter) ps ≡ 0x628 ∷ []
+one-place : (types : ℕ → Joining) (forms : ℕ → Form → Option ℕ) (text : List ℕ) (ps : List ShownLetter) → map (λ p. p.letter) ps ≡ 0x628 ∷ []
     → map (λ p. p.unjoined) ps ≡ 0x628 ∷ [] → text ≡ encode_utf8_all (map (λ p. p.shown) ps) → All (IsSameOrForm (with_forms types forms)) ps
     → (text ≡ beh) ⊎ FormOfBeh forms text
 one-place types forms text [] e u t a = absurd (cc e)

@@ -16,7 +16,7 @@ use Rattle.bx_cells.specs.declared.unit.Unit.{Unit}
 use Rattle.bx_cells.specs.Faces.{face}
 use Rattle.bx_cells.specs.Units.{HasFace, StandsIn, unit_text}
 use Rattle.bx_joining.specs.JoinedText.{in_forms}
-use Rattle.bx_rows.specs.JoiningLaws.{IsSameOrForm, LettersShowTheirForms, Place, ShowsForms, plain, text_shown, unjoined}
+use Rattle.bx_rows.specs.JoiningLaws.{IsSameOrForm, LettersShowTheirForms, ShownLetter, ShowsForms, plain, text_shown, unjoined}
 use Rattle.bx_rows.specs.RowPicture.{Glyph, blank, columns_used, face_glyphs, glyph, is_own, joined_image_within, letter_glyphs, mirror_image_within, mirrored_chars, shown_text}
 use Rattle.bx_rows.specs.RowPicture.{unit_columns, unit_forms, unit_glyphs}
 use Rattle.bx_rows.specs.Shown.{HasLetter}
@@ -30,7 +30,7 @@ use Rattle.bx_rows.proofs.Leveled.{formless-text, same-either, whole-mirrored}
 none : (says : Data) → ShowsForms says [] [] []
 none says = record { places = []; letters_are = refl; unjoined_are = refl; shown_are = refl; each = All-nil (IsSameOrForm says) }
 
-more : (says : Data) (p : Place) (ls us ss : List ℕ) → IsSameOrForm says p → ShowsForms says ls us ss
+more : (says : Data) (p : ShownLetter) (ls us ss : List ℕ) → IsSameOrForm says p → ShowsForms says ls us ss
     → ShowsForms says (encode_utf8 p.letter ++ ls) (encode_utf8 p.unjoined ++ us) (encode_utf8 p.shown ++ ss)
 more says p ls us ss h s = record {
   places = p ∷ s.places;
@@ -40,7 +40,7 @@ more says p ls us ss h s = record {
   each = All-cons (IsSameOrForm says) p s.places h s.each;
 }
 
-encoded-both : (f : Place → ℕ) (ps qs : List Place) → encode_utf8_all (map f ps) ++ encode_utf8_all (map f qs) ≡ encode_utf8_all (map f (ps ++ qs))
+encoded-both : (f : ShownLetter → ℕ) (ps qs : List ShownLetter) → encode_utf8_all (map f ps) ++ encode_utf8_all (map f qs) ≡ encode_utf8_all (map f (ps ++ qs))
 encoded-both f ps qs = sym (all-append (map f ps) (map f qs)) ∙ ap encode_utf8_all (sym (map-append f ps qs))
 
 both : (says : Data) (ls us ss ls' us' ss' : List ℕ) → ShowsForms says ls us ss → ShowsForms says ls' us' ss'

@@ -14,7 +14,7 @@ use Rattle.bx_resolve.specs.TestTables.{small}
 use Rattle.bx_cells.specs.declared.unit.Face.TheVariants.{Own}
 use Rattle.bx_cells.specs.declared.unit.Unit.{Unit}
 use Rattle.bx_cells.specs.Units.{StandsIn}
-use Rattle.bx_rows.specs.JoiningLaws.{AreByJoining, GoesByJoining, IsOwnAtOdd, LettersGoByJoining, Place, text_shown}
+use Rattle.bx_rows.specs.JoiningLaws.{AreByJoining, GoesByJoining, IsOwnAtOdd, LettersGoByJoining, ShownLetter, text_shown}
 use Rattle.bx_rows.specs.OrderLaws.{AreAtLevel}
 use Rattle.bx_rows.specs.RowLevels.{row_levels}
 use Rattle.bx_rows.specs.RowPicture.{unit_columns, unit_glyphs}
@@ -154,10 +154,10 @@ shown forms l i =
     let says = joining forms in
     text_shown (get_or (unit_glyphs says 3 two (Some l ∷ Some 1 ∷ Some 1 ∷ []) two_units (unit_columns 3 0 two_units) (l ∷ 1 ∷ 1 ∷ [])) i [])
 
-abbrev place : ℕ → Place
+abbrev place : ℕ → ShownLetter
 place c = record { letter = 0x628; unjoined = 0x628; shown = c }
 
-initial-there : (forms : ℕ → Form → Option ℕ) (l c : ℕ) → unwrap_or (forms 0x628 Initial) 0x628 ≡ c → (k : ℕ) (d : Place) → k < 1
+initial-there : (forms : ℕ → Form → Option ℕ) (l c : ℕ) → unwrap_or (forms 0x628 Initial) 0x628 ≡ c → (k : ℕ) (d : ShownLetter) → k < 1
     → GoesByJoining (joining forms) two (Some l ∷ Some 1 ∷ Some 1 ∷ []) (1 + k) (get_or (place c ∷ []) k d)
 unfolding unicode_segmentation unicode_width
 initial-there forms l c e zero d h = record {

@@ -42,18 +42,18 @@ abbrev pub text_shown : List Glyph → List ℕ
 text_shown glyphs = flat_map (λ g. g.text) glyphs
 
 -- one place of a row: the letter of the body, the character shown without joined letters, and the character shown with them
-pub record Place : Type 0 where
+pub record ShownLetter : Type 0 where
   pub letter : ℕ
   pub unjoined : ℕ
   pub shown : ℕ
 
 -- the character shown is the one shown without joined letters, or a form of the letter
-abbrev pub IsSameOrForm : Data → Place → Type 0
+abbrev pub IsSameOrForm : Data → ShownLetter → Type 0
 IsSameOrForm says p = (p.shown ≡ p.unjoined) ⊎ ((f : Form) × (says.form p.letter f ≡ Some p.shown))
 
 -- three texts of the same places: the letters, the characters without joined letters, and the characters shown
 pub record ShowsForms (says : Data) (letters unjoined shown : List ℕ) : Type 0 where
-  pub places : List Place
+  pub places : List ShownLetter
   pub letters_are : letters ≡ encode_utf8_all (map (λ p. p.letter) places)
   pub unjoined_are : unjoined ≡ encode_utf8_all (map (λ p. p.unjoined) places)
   pub shown_are : shown ≡ encode_utf8_all (map (λ p. p.shown) places)
@@ -69,7 +69,7 @@ LettersShowTheirForms = (says : Data) (w : ℕ) (body : List ℕ) (paragraph : �
 
 -- behind `number` characters of the body a letter is shown in the form that goes by what it joins; a letter without that form is
 -- shown as without joined letters
-pub record GoesByJoining (says : Data) (body : List ℕ) (each : List (Option ℕ)) (number : ℕ) (p : Place) : Type 0 where
+pub record GoesByJoining (says : Data) (body : List ℕ) (each : List (Option ℕ)) (number : ℕ) (p : ShownLetter) : Type 0 where
   pub before : List Joiner
   pub own : Joiner
   pub after : List Joiner
@@ -78,7 +78,7 @@ pub record GoesByJoining (says : Data) (body : List ℕ) (each : List (Option �
   pub shown_is : p.shown ≡ unwrap_or (says.form p.letter (form_if (joins_before (reverse before) own) (joins_after own after))) p.unjoined
 
 -- the places of a unit of `n` columns, each shown so
-pub record AreByJoining (says : Data) (w n : ℕ) (body : List ℕ) (each : List (Option ℕ)) (u : Unit) (places : List Place) : Type 0 where
+pub record AreByJoining (says : Data) (w n : ℕ) (body : List ℕ) (each : List (Option ℕ)) (u : Unit) (places : List ShownLetter) : Type 0 where
   pub letters_are : unit_chars body u ≡ map (λ p. p.letter) places
   pub unjoined_are : mirrored_chars says w n (unit_chars body u) ≡ map (λ p. p.unjoined) places
   pub each_is : (k : ℕ) → k < length places → HoldsAt (GoesByJoining says body each (length (chars (take u.start body)) + k)) places k
@@ -99,6 +99,6 @@ pub record IsOwnAtOdd (us : List Unit) (levels : List ℕ) (i n : ℕ) (u : Unit
 -- such a unit's glyphs show each letter in the form that goes by what it joins
 abbrev pub LettersGoByJoining : Type 0
 LettersGoByJoining = (says : Data) (w : ℕ) (body : List ℕ) (each : List (Option ℕ)) (us : List Unit) (levels : List ℕ) (i n : ℕ) (u : Unit)
-    (places : List Place) → IsUtf8 body → StandsIn body u → IsOwnAtOdd us levels i n u → AreByJoining says w n body each u places
+    (places : List ShownLetter) → IsUtf8 body → StandsIn body u → IsOwnAtOdd us levels i n u → AreByJoining says w n body each u places
     → ShowsIfOwn says w n (encode_utf8_all (map (λ p. p.shown) places)) (encode_utf8_all (map (λ p. p.unjoined) places))
     (text_shown (slice_index_or (unit_glyphs says w body each us (unit_columns w 0 us) levels) i []))
