@@ -19,7 +19,7 @@ form_between before (d ∷ ds) c after =
     ap (λ xs. xs ++ before) (reverse_onto ds d []) ∙ append_assoc (reverse ds) (d ∷ []) before in
     form_between (d ∷ before) ds c after ∙ ap (λ xs. form_if (joins_before xs c) (joins_after c after)) (sym turned)
 
-length-forms : (before cs : List Joiner) → length (forms_behind before cs) ≡ length cs
+pub length-forms : (before cs : List Joiner) → length (forms_behind before cs) ≡ length cs
 length-forms before [] = refl
 length-forms before (c ∷ cs) = omega (arith, length-forms (c ∷ before) cs)
 

@@ -3,6 +3,8 @@ pub mod LastChars
 pub mod FormsAt
 pub mod TextForms
 pub mod JoinedNeighbours
+pub mod LowestLevels
+pub mod LawForms
 pub mod Nearest
 pub mod StandOn
 pub mod Examples

@@ -1,6 +1,6 @@
--- The forms of a body's letters. Which letters join is decided by the joining types and levels of neighbours.
-use Rattle.std.specs.Prelude.{ℕ, zero, suc, ◌%◌, ◌==◌, ◌&&◌, Bool, true, false, List, [], ◌∷◌, map, length, drop, Option, Some, None, chars}
-use Rattle.std.specs.List.{zip}
+-- The forms of a body's letters. Which letters join is decided by the joining types and levels of neighbours, and of what is between them.
+use Rattle.std.specs.Prelude.{ℕ, zero, suc, ◌%◌, ◌==◌, ◌&&◌, ◌||◌, not, nat_lt, Bool, true, false, List, [], ◌∷◌, map, length, drop, Option, Some, None, chars}
+use Rattle.std.specs.List.{list_any, zip}
 use Rattle.bx_ucd.specs.Data.{Data}
 use Rattle.bx_ucd.specs.declared.joining.Joining.{Joining}
 use Rattle.bx_ucd.specs.declared.joining.Joining.TheVariants.{R, L, D, C, T}
@@ -34,6 +34,11 @@ abbrev pub neighbour : List Joiner → Option Joiner
 neighbour [] = None
 neighbour (x ∷ xs) = elim (is_transparent x.0) [ true ↦ neighbour xs | false ↦ Some x ]
 
+-- the transparent characters nearer than the nearest that is not
+abbrev pub passed_over : List Joiner → List Joiner
+passed_over [] = []
+passed_over (x ∷ xs) = elim (is_transparent x.0) [ true ↦ x ∷ passed_over xs | false ↦ [] ]
+
 abbrev pub is_odd : ℕ → Bool
 is_odd level = level % 2 == 1
 
@@ -44,17 +49,26 @@ are_one_odd (Some level) None = is_odd level
 are_one_odd None (Some level) = is_odd level
 are_one_odd (Some level) (Some other) = is_odd level && (level == other)
 
--- two neighbours join, the first before the second
-abbrev pub join : Joiner → Joiner → Bool
-join first second = (joins_on first.0 && joins_back second.0) && are_one_odd first.1 second.1
+-- a level is lower than another; a character that X9 removes has none
+abbrev pub is_lower : Option ℕ → Option ℕ → Bool
+is_lower (Some level) (Some other) = nat_lt level other
+is_lower _ _ = false
+
+-- none of the characters between two has a lower level than one of them
+abbrev pub none_is_lower : List Joiner → Joiner → Joiner → Bool
+none_is_lower between first second = not (list_any (λ x. is_lower x.1 first.1 || is_lower x.1 second.1) between)
+
+-- two neighbours join, the first before the second, with these characters between them
+abbrev pub join : Joiner → List Joiner → Joiner → Bool
+join first between second = (joins_on first.0 && joins_back second.0) && are_one_odd first.1 second.1 && none_is_lower between first second
 
 -- a character joins the one before it, given those before it, the nearest first
 abbrev pub joins_before : List Joiner → Joiner → Bool
-joins_before before c = elim (neighbour before) [ None ↦ false | Some first ↦ join first c ]
+joins_before before c = elim (neighbour before) [ None ↦ false | Some first ↦ join first (passed_over before) c ]
 
 -- a character joins the one after it
 abbrev pub joins_after : Joiner → List Joiner → Bool
-joins_after c after = elim (neighbour after) [ None ↦ false | Some second ↦ join c second ]
+joins_after c after = elim (neighbour after) [ None ↦ false | Some second ↦ join c (passed_over after) second ]
 
 -- the form of a character that joins the one before it, and the one after it
 abbrev pub form_if : Bool → Bool → Form

@@ -1,4 +1,5 @@
 pub mod Joining
+pub mod Nearest
 pub mod Places
 pub mod JoinedText
 pub mod Laws

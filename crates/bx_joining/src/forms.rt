@@ -3,7 +3,8 @@ ghost use Rattle.std.specs.Prelude.{◌≡◌, ◌<◌, ◌++◌, ◌∷◌, [],
 ghost use Rattle.std.specs.Str.{IsCharBoundary};
 ghost use Rattle.bx_joining.specs.JoinedText.{AreFormless};
 ghost use Rattle.bx_ucd.specs.declared.joining.Form.{Form};
-ghost use Rattle.bx_joining.specs.Joining.{are_one_odd, body_forms, form_if, is_transparent, join, joiners, joins_after, joins_back, joins_before, joins_on, neighbour};
+ghost use Rattle.bx_joining.specs.Joining.{Joiner, are_one_odd, body_forms, form_if, is_lower, is_transparent, join, joiners, joins_after, joins_back, joins_before, joins_on};
+ghost use Rattle.bx_joining.specs.Nearest.{lower_of, lowest_level, nearest};
 
 use bx_resolve::Level;
 use bx_terms::first_char;
@@ -81,11 +82,36 @@ fn are_one_odd(first: Option<u8>, second: Option<u8>) -> bool
     }
 }
 
-/// Whether two neighbours join, the first before the second.
-fn join(first: Joiner, second: Joiner) -> bool
-    ensures { result ≡ join first second }
+/// Whether a level is lower than another, where there are both.
+fn is_lower(level: Option<u8>, other: Option<u8>) -> bool
+    ensures { result ≡ is_lower level other }
 {
-    joins_on(first.0) && joins_back(second.0) && are_one_odd(first.1, second.1)
+    match (level, other) {
+        (Some(level), Some(other)) => level < other,
+        _ => false,
+    }
+}
+
+/// The lower of two levels, of those that there are.
+fn lower_of(level: Option<u8>, other: Option<u8>) -> Option<u8>
+    ensures { result ≡ lower_of level other }
+{
+    match (level, other) {
+        (Some(level), Some(other)) => Some(level.min(other)),
+        (Some(level), None) => Some(level),
+        (None, other) => other,
+    }
+}
+
+/// Whether two neighbours join, the first before the second, given the lowest level of the characters between them.
+fn join(first: Joiner, lowest: Option<u8>, second: Joiner) -> bool
+    ensures { (between : List Joiner) → lowest_level between ≡ lowest → result ≡ join first between second }
+{
+    joins_on(first.0)
+        && joins_back(second.0)
+        && are_one_odd(first.1, second.1)
+        && !is_lower(lowest, first.1)
+        && !is_lower(lowest, second.1)
 }
 
 /// The form of a letter that joins the one before it, and the one after it.
@@ -100,41 +126,53 @@ fn form_if(joins_before: bool, joins_after: bool) -> Form
     }
 }
 
-/// The first character of a text that is not transparent.
-fn first_joiner<D: BidiData>(text: &str, levels: &[Level], tables: &D) -> Option<Joiner>
-    ensures { result ≡ neighbour (joiners (D.data tables.now) text.now levels.now) }
+/// The first character of a text that is not transparent, and the lowest level before it.
+fn first_joiner<D: BidiData>(
+    text: &str,
+    levels: &[Level],
+    tables: &D,
+) -> Option<(Joiner, Option<u8>)>
+    ensures { result ≡ nearest (joiners (D.data tables.now) text.now levels.now) }
 {
     let mut rest = text;
     let mut left = levels;
+    let mut lowest = None;
     'chars: while let Some((c, behind)) = first_char(rest) {
         let Some((level, after)) = left.split_first() else {
             return None;
         };
         let joining = tables.joining(c);
         if !is_transparent(joining) {
-            return Some((joining, level.get()));
+            return Some(((joining, level.get()), lowest));
         }
+        lowest = lower_of(lowest, level.get());
         rest = behind;
         left = after;
     }
     None
 }
 
-/// The last character of a text that is not transparent.
-fn last_joiner<D: BidiData>(text: &str, levels: &[Level], tables: &D) -> Option<Joiner>
+/// The last character of a text that is not transparent, and the lowest level after it.
+fn last_joiner<D: BidiData>(
+    text: &str,
+    levels: &[Level],
+    tables: &D,
+) -> Option<(Joiner, Option<u8>)>
     requires { length levels.now ≡ length (chars text.now) }
-    ensures { result ≡ neighbour (reverse (joiners (D.data tables.now) text.now levels.now)) }
+    ensures { result ≡ nearest (reverse (joiners (D.data tables.now) text.now levels.now)) }
 {
     let mut rest = text;
     let mut left = levels;
+    let mut lowest = None;
     'chars: while let Some((c, before)) = last_char(rest) {
         let Some((level, earlier)) = left.split_last() else {
             return None;
         };
         let joining = tables.joining(c);
         if !is_transparent(joining) {
-            return Some((joining, level.get()));
+            return Some(((joining, level.get()), lowest));
         }
+        lowest = lower_of(lowest, level.get());
         rest = before;
         left = earlier;
     }
@@ -151,7 +189,7 @@ fn joins_before<D: BidiData>(own: Joiner, text: &str, levels: &[Level], tables: 
         return false;
     }
     match last_joiner(text, levels, tables) {
-        Some(first) => join(first, own),
+        Some((first, lowest)) => join(first, lowest, own),
         None => false,
     }
 }
@@ -164,7 +202,7 @@ fn joins_after<D: BidiData>(own: Joiner, text: &str, levels: &[Level], tables: &
         return false;
     }
     match first_joiner(text, levels, tables) {
-        Some(second) => join(own, second),
+        Some((second, lowest)) => join(own, lowest, second),
         None => false,
     }
 }

@@ -7,4 +7,4 @@ mod laws;
 
 pub use forms::{LeveledBody, TextAt, has_forms, shown_form};
 pub use joined_text::joined_image;
-pub use laws::joining_is_symmetric;
+pub use laws::{forms_go_by_joining, joining_is_symmetric};

@@ -1,6 +1,6 @@
 use Rattle.std.proofs.Common.{◌≡◌, false, true, rules, Some, reverse, sym, ap, ap₂, ◌∙◌}
-use Rattle.bx_joining.specs.Joining.{is_transparent, joiners, neighbour}
-use Rattle.bx_joining.proofs.JoinedNeighbours.{found, passed}
+use Rattle.bx_joining.specs.Joining.{is_transparent, joiners}
+use Rattle.bx_joining.proofs.LowestLevels.{nearest_found, nearest_passed, nearest_with}
 use Rattle.bx_joining.proofs.Nearest.{last_count, last_joiners, no_joiners}
 use Rattle.bx_joining.proofs.forms.last_joiner.Goals as goal
 
@@ -12,8 +12,9 @@ returns-then-not-is_transparent g c =
     let level = c.in-Some-split_last.level.now in
     let last = last_joiners says c.chars.rest.now before c.in-Some.c c.chars.left.now earlier level c.in-Some.ensures.2 c.in-Some-split_last.ensures.cases.0 c.chars.invariant.count in
     let opaque : is_transparent (says.joining c.in-Some.c) ≡ false = search rules in
-    ap₂ (λ j o. Some (j, o)) c.joining-joining.ensures c.get.ensures
-    ∙ sym (c.chars.invariant.near ∙ ap neighbour last ∙ found (says.joining c.in-Some.c, level) (reverse (joiners says before earlier)) opaque)
+    ap₂ (λ j o. Some ((j, o), c.chars.lowest)) c.joining-joining.ensures c.get.ensures
+    ∙ sym (c.chars.invariant.near ∙ ap (nearest_with c.chars.lowest) last
+    ∙ nearest_found c.chars.lowest (says.joining c.in-Some.c, level) (reverse (joiners says before earlier)) opaque)
 
 pub chars-preserved : goal.chars-preserved
 chars-preserved g c =
@@ -23,13 +24,16 @@ chars-preserved g c =
     let level = c.in-Some-split_last.level.now in
     let last = last_joiners says c.chars.rest.now before c.in-Some.c c.chars.left.now earlier level c.in-Some.ensures.2 c.in-Some-split_last.ensures.cases.0 c.chars.invariant.count in
     let transparent : is_transparent (says.joining c.in-Some.c) ≡ true = search rules in
+    let lower : c.lower_of.result ≡ lower_of c.chars.lowest level = c.lower_of.ensures ∙ ap (lower_of c.chars.lowest) c.get-get.ensures in
     record {
       text = c.in-Some.ensures.3;
       count = last_count c.chars.rest.now before c.in-Some.c c.chars.left.now earlier level c.in-Some.ensures.2 c.in-Some-split_last.ensures.cases.0 c.chars.invariant.count;
-      near = c.chars.invariant.near ∙ ap neighbour last ∙ passed (says.joining c.in-Some.c, level) (reverse (joiners says before earlier)) transparent;
+      near = c.chars.invariant.near ∙ ap (nearest_with c.chars.lowest) last
+          ∙ nearest_passed c.chars.lowest (says.joining c.in-Some.c, level) (reverse (joiners says before earlier)) transparent
+          ∙ ap (λ l. nearest_with l (reverse (joiners says before earlier))) (sym lower);
     }
 
 pub returns : goal.returns
 returns g c =
     let says = g.D.BidiData.data c.args.tables.now in
-    sym (c.chars.invariant.near ∙ ap (λ js. neighbour (reverse js)) (no_joiners says c.chars.rest.now c.chars.left.now c.in_default.ensures))
+    sym (c.chars.invariant.near ∙ ap (λ js. nearest_with c.chars.lowest (reverse js)) (no_joiners says c.chars.rest.now c.chars.left.now c.in_default.ensures))
