@@ -6,7 +6,8 @@ use Rattle.std.specs.Char.{encode_utf8}
 use Rattle.bx_ucd.specs.Data.{Data}
 use Rattle.bx_ucd.specs.SmallTables.{small}
 use Rattle.bx_find.specs.Laws.{IsFirst, IsLast, MatchesAt}
-use Rattle.bx_find.specs.Letters.{is_passed_over, is_unlettered}
+use Rattle.bx_ucd.specs.Class.{is_unlettered}
+use Rattle.bx_find.specs.Letters.{is_passed_over}
 
 -- ---- whatever the tables say
 
@@ -25,6 +26,31 @@ left_mark_is_passed_over says = or_true (is_unlettered (says.class 0x200e))
 
 right_mark_is_passed_over : (says : Data) → is_passed_over says 0x200f ≡ true
 right_mark_is_passed_over says = or_true (is_unlettered (says.class 0x200f))
+
+-- ---- by the small tables' classes: accents, boundary neutrals, each directional formatting character, and no letter
+
+accents_are_passed_over : (is_passed_over small 0x300 ≡ true) × (is_passed_over small 0x301 ≡ true) × (is_passed_over small 0x36f ≡ true)
+accents_are_passed_over = (refl, refl, refl)
+
+boundary_neutrals_are_passed_over : (is_passed_over small 0x0 ≡ true) × (is_passed_over small 0x8 ≡ true)
+boundary_neutrals_are_passed_over = (refl, refl)
+
+embeddings_are_passed_over : (is_passed_over small 0x202a ≡ true) × (is_passed_over small 0x202b ≡ true) × (is_passed_over small 0x202c ≡ true)
+embeddings_are_passed_over = (refl, refl, refl)
+
+overrides_are_passed_over : (is_passed_over small 0x202d ≡ true) × (is_passed_over small 0x202e ≡ true)
+overrides_are_passed_over = (refl, refl)
+
+isolates_are_passed_over : (is_passed_over small 0x2066 ≡ true) × (is_passed_over small 0x2067 ≡ true)
+    × (is_passed_over small 0x2068 ≡ true) × (is_passed_over small 0x2069 ≡ true)
+isolates_are_passed_over = (refl, refl, refl, refl)
+
+letters_are_not : (is_passed_over small 0x61 ≡ false) × (is_passed_over small 0x5d0 ≡ false) × (is_passed_over small 0x628 ≡ false)
+letters_are_not = (refl, refl, refl)
+
+spaces_and_digits_are_not : (is_passed_over small 0x20 ≡ false) × (is_passed_over small 0x9 ≡ false)
+    × (is_passed_over small 0x30 ≡ false) × (is_passed_over small 0x660 ≡ false)
+spaces_and_digits_are_not = (refl, refl, refl, refl)
 
 -- ---- the nearest matches of `ab` in x, a, U+0301, b, a, b
 

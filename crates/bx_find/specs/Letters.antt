@@ -1,29 +1,13 @@
 -- The letters that a search compares.
 use Rattle.std.specs.Prelude.{ℕ, Bool, true, false, ◌||◌, ◌==◌, List, [], ◌∷◌, Option, Some, None, if◌then◌else◌}
 use Rattle.std.specs.Char.{to_ascii_lowercase}
-use Rattle.bx_terms.specs.Characters.{is_within}
 use Rattle.bx_ucd.specs.Data.{Data}
-use Rattle.bx_ucd.specs.declared.class.Class.{Class}
-use Rattle.bx_ucd.specs.declared.class.Class.TheVariants.{NSM, BN, LRE, RLE, LRO, RLO, PDF, LRI, RLI, FSI, PDI}
-
--- the classes of points and accents, of joiners, and of directional formatting characters
-abbrev pub is_unlettered : Class → Bool
-is_unlettered NSM = true
-is_unlettered BN = true
-is_unlettered LRE = true
-is_unlettered RLE = true
-is_unlettered LRO = true
-is_unlettered RLO = true
-is_unlettered PDF = true
-is_unlettered LRI = true
-is_unlettered RLI = true
-is_unlettered FSI = true
-is_unlettered PDI = true
-is_unlettered _ = false
+use Rattle.bx_ucd.specs.Class.{is_unlettered}
+use Rattle.bx_ucd.specs.Joining.{is_direction_mark}
 
 -- ARABIC TATWEEL, which lengthens a stroke, or a directional mark: ALM, LRM or RLM
 abbrev pub is_stroke_or_mark : ℕ → Bool
-is_stroke_or_mark c = ((c == 0x640) || (c == 0x61C)) || is_within 0x200E 0x200F c
+is_stroke_or_mark c = (c == 0x640) || is_direction_mark c
 
 -- a character that a search passes over
 abbrev pub is_passed_over : Data → ℕ → Bool

@@ -15,8 +15,8 @@ use Rattle.bx_input.specs.declared.beginning.Beginning.{Beginning}
 use Rattle.bx_input.specs.declared.beginning.Beginning.TheVariants as beginning
 use Rattle.bx_input.specs.declared.held.Held.{Held}
 use Rattle.bx_input.specs.declared.held.Held.TheVariants as held
-use Rattle.bx_input.specs.declared.place.Place.{Place}
-use Rattle.bx_input.specs.declared.place.Place.TheVariants as place
+use Rattle.bx_input.specs.declared.filter_state.FilterState.{FilterState}
+use Rattle.bx_input.specs.declared.filter_state.FilterState.TheVariants as state
 
 -- the bytes that wait outside a paste
 abbrev pub begun : Beginning → List ℕ
@@ -49,9 +49,9 @@ held_back held.Two = csi (codes "2")
 held_back held.Twenty = csi (codes "20")
 held_back held.TwoHundredOne = csi (codes "201")
 
-abbrev pub state_of : Place → State
-state_of (place.Outside waiting is_open) = spec.Outside (begun waiting) is_open
-state_of (place.Within waiting after_return) = spec.Within (held_back waiting) after_return
+abbrev pub state_of : FilterState → State
+state_of (state.Outside waiting is_open) = spec.Outside (begun waiting) is_open
+state_of (state.Within waiting after_return) = spec.Within (held_back waiting) after_return
 
 -- the bytes of an output
 abbrev pub bytes_of : Output → List ℕ
@@ -79,5 +79,5 @@ TellsInPaste after_in_paste.EndsPaste read = (paste_fate read ≡ Ends) × (byte
 TellsInPaste after_in_paste.Breaks read = paste_fate read ≡ Breaks
 
 -- the filter goes to the step's state, with the step's output
-abbrev pub Goes : Place × Output → Step → Type 0
+abbrev pub Goes : FilterState × Output → Step → Type 0
 Goes went s = (state_of went.0 ≡ s.state) × (bytes_of went.1 ≡ s.output)

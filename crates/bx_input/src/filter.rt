@@ -5,15 +5,15 @@ ghost use Rattle.bx_input.specs.Filter as spec;
 ghost use Rattle.bx_input.specs.Held.{bytes_of};
 
 use crate::beginning::Beginning;
+use crate::filter_state::FilterState;
 use crate::output::Output;
-use crate::place::Place;
 use crate::step::{outside, within};
 use std::marker::Model;
 
 /// A filter between a terminal and the editor.
 #[derive(Drop, Debug)]
 pub struct Filter {
-    place: Place,
+    state: FilterState,
 }
 
 impl Model for Filter {
@@ -22,7 +22,7 @@ impl Model for Filter {
 
     ghost Value = { State };
 
-    ghost view = { λ f. state_of f.place };
+    ghost view = { λ f. state_of f.state };
 }
 
 impl Filter {
@@ -31,7 +31,7 @@ impl Filter {
         ensures { result ≡ spec.start }
     {
         Filter {
-            place: Place::Outside {
+            state: FilterState::Outside {
                 waiting: Beginning::Nothing,
                 is_open: false,
             },
@@ -43,14 +43,14 @@ impl Filter {
         ensures state { self.new ≡ (spec.step self.old byte).state }
         ensures output { bytes_of result ≡ (spec.step self.old byte).output }
     {
-        let (place, output) = match self.place {
-            Place::Outside { waiting, is_open } => outside(waiting, is_open, byte),
-            Place::Within {
+        let (state, output) = match self.state {
+            FilterState::Outside { waiting, is_open } => outside(waiting, is_open, byte),
+            FilterState::Within {
                 waiting,
                 after_return,
             } => within(waiting, after_return, byte),
         };
-        self.place = place;
+        self.state = state;
         output
     }
 
@@ -59,9 +59,9 @@ impl Filter {
         ensures state { self.new ≡ spec.start }
         ensures output { result.now ≡ spec.at_end self.old }
     {
-        let rest = match self.place {
-            Place::Outside { waiting, .. } => waiting.bytes(),
-            Place::Within { waiting, .. } => waiting.text(),
+        let rest = match self.state {
+            FilterState::Outside { waiting, .. } => waiting.bytes(),
+            FilterState::Within { waiting, .. } => waiting.text(),
         };
         *self = Filter::new();
         rest
@@ -71,6 +71,6 @@ impl Filter {
     pub(crate) fn copied(&self) -> Filter
         ensures { result ≡ self.now }
     {
-        Filter { place: self.place }
+        Filter { state: self.state }
     }
 }

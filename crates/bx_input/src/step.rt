@@ -8,9 +8,9 @@ ghost use Rattle.bx_input.specs.Paste.{pasted_byte, pasted_part, paste_fate};
 
 use crate::after::{After, AfterInPaste, ESC, control_key, paste_after, sequence_after};
 use crate::beginning::Beginning;
+use crate::filter_state::FilterState;
 use crate::held::Held;
 use crate::output::Output;
-use crate::place::Place;
 
 const NOTHING: Output = Output {
     before: b"",
@@ -18,17 +18,17 @@ const NOTHING: Output = Output {
     byte: None,
 };
 
-const OUTSIDE: Place = Place::Outside {
+const OUTSIDE: FilterState = FilterState::Outside {
     waiting: Beginning::Nothing,
     is_open: false,
 };
 
 /// Reads a byte outside a paste.
-pub fn outside(waiting: Beginning, is_open: bool, byte: u8) -> (Place, Output)
+pub fn outside(waiting: Beginning, is_open: bool, byte: u8) -> (FilterState, Output)
     ensures { Goes result (spec.step (spec.Outside (begun waiting) is_open) byte) }
 {
     match sequence_after(waiting, byte) {
-        After::Waits(waiting) => (Place::Outside { waiting, is_open }, NOTHING),
+        After::Waits(waiting) => (FilterState::Outside { waiting, is_open }, NOTHING),
         After::Becomes(bytes) => (
             OUTSIDE,
             Output {
@@ -52,17 +52,17 @@ fn apart(is_open: bool, byte: Option<u8>) -> Output
 }
 
 /// Reads a byte that does not continue the waiting bytes' sequence.
-fn broken_off(waiting: Beginning, is_open: bool, byte: u8) -> (Place, Output)
+fn broken_off(waiting: Beginning, is_open: bool, byte: u8) -> (FilterState, Output)
     ensures { Goes result (broken (begun waiting) is_open byte) }
 {
     let was_open = is_open || waiting != Beginning::Nothing;
     let before = waiting.bytes();
     if byte == ESC {
-        let place = Place::Outside {
+        let state = FilterState::Outside {
             waiting: Beginning::Escape,
             is_open: was_open,
         };
-        return (place, output(before, None));
+        return (state, output(before, None));
     }
     match control_key(byte) {
         Some(key) => (
@@ -74,11 +74,11 @@ fn broken_off(waiting: Beginning, is_open: bool, byte: u8) -> (Place, Output)
             },
         ),
         None => {
-            let place = Place::Outside {
+            let state = FilterState::Outside {
                 waiting: Beginning::Nothing,
                 is_open: was_open && 0x20 <= byte && byte <= 0x3F,
             };
-            (place, output(before, Some(byte)))
+            (state, output(before, Some(byte)))
         }
     }
 }
@@ -94,17 +94,17 @@ fn output(before: &'static [u8], byte: Option<u8>) -> Output
     }
 }
 
-fn fresh_paste(after_return: bool) -> Place
+fn fresh_paste(after_return: bool) -> FilterState
     ensures { state_of result ≡ spec.Within [] after_return }
 {
-    Place::Within {
+    FilterState::Within {
         waiting: Held::Nothing,
         after_return,
     }
 }
 
 /// Reads a byte within a paste.
-pub fn within(waiting: Held, after_return: bool, byte: u8) -> (Place, Output)
+pub fn within(waiting: Held, after_return: bool, byte: u8) -> (FilterState, Output)
     ensures { Goes result (spec.step (spec.Within (held_back waiting) after_return) byte) }
 {
     match paste_after(waiting, byte) {
@@ -115,17 +115,17 @@ pub fn within(waiting: Held, after_return: bool, byte: u8) -> (Place, Output)
     }
 }
 
-fn waits(waiting: Held) -> Place
+fn waits(waiting: Held) -> FilterState
     ensures { state_of result ≡ spec.Within (held_back waiting) false }
 {
-    Place::Within {
+    FilterState::Within {
         waiting,
         after_return: false,
     }
 }
 
 /// Reads a byte within a paste that does not continue the waiting bytes' sequence.
-fn broken_off_in_paste(waiting: Held, after_return: bool, byte: u8) -> (Place, Output)
+fn broken_off_in_paste(waiting: Held, after_return: bool, byte: u8) -> (FilterState, Output)
     ensures { Goes result (with_front (pasted_part (held_back waiting)) (fresh_in_paste (paste_fate (byte ∷ [])) after_return byte)) }
 {
     let before = waiting.text();

@@ -1,6 +1,5 @@
 -- The neighbours of letters, and what is passed over between them.
 use Rattle.std.proofs.Common.{◌≡◌, Bool, true, false, not, ◌&&◌, ◌||◌, List, [], ◌∷◌, ◌++◌, All, Option, Some, None, reverse, refl, sym, ap, ap₂, ◌∙◌, arith}
-use Rattle.std.specs.List.{list_any}
 use Rattle.std.proofs.lemmas.List.Sorted.{All-permutation, IsPermutation-reverse, list_any-IsPermutation}
 use Rattle.std.proofs.lemmas.List.Elements.{All-rest}
 use Rattle.bx_joining.specs.Joining.{Joiner, are_one_odd, is_lower, is_transparent, join, joins_back, joins_on, neighbour, none_is_lower, passed_over}

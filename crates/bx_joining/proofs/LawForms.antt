@@ -1,11 +1,11 @@
 -- A character's form says which sides it joins.
-use Rattle.std.proofs.Common.{◌≡◌, ◌↔◌, ◌<◌, ℕ, Bool, true, false, List, [], ◌∷◌, ◌++◌, Option, Some, length, reverse, append-nil, arith, length-append, subst, sym, ap, ap₂, ◌∙◌, refl}
+use Rattle.std.proofs.Common.{◌≡◌, ◌↔◌, ◌<◌, Bool, true, false, List, [], ◌∷◌, ◌++◌, Option, Some, length, reverse, append-nil, arith, length-append, subst, sym, ap, ◌∙◌, refl}
 use Rattle.std.specs.Prelude.{slice_get}
 use Rattle.std.proofs.lemmas.Option.{slice_get-get_or}
 use Rattle.bx_ucd.specs.declared.joining.Form.{Form}
 use Rattle.bx_ucd.specs.declared.joining.Form.TheVariants.{Isolated, Initial, Medial, Final}
-use Rattle.bx_joining.specs.Joining.{Joiner, body_forms, form_if, forms_behind, joiners, joins_after, joins_before}
-use Rattle.bx_joining.specs.Laws.{FormsGoByJoining, HasFormBetween}
+use Rattle.bx_joining.specs.Joining.{Joiner, body_forms, form_if, forms_behind, joins_after, joins_before}
+use Rattle.bx_joining.specs.Laws.{FormsGoByJoining}
 use Rattle.bx_joining.proofs.FormsAt.{form_between, length-forms}
 
 -- which form it is, and what is joined

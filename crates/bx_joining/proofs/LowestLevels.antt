@@ -1,9 +1,9 @@
 -- The lowest level of some characters stands for all of their levels.
-use Rattle.std.proofs.Common.{◌≡◌, ℕ, ◌==◌, min, nat_lt, Bool, true, false, not, ◌&&◌, ◌||◌, List, [], ◌∷◌, Option, Some, None, refl, sym, ap, ap₂, ◌∙◌, arith}
+use Rattle.std.proofs.Common.{◌≡◌, ℕ, min, nat_lt, Bool, true, false, not, ◌&&◌, ◌||◌, List, [], ◌∷◌, Option, Some, None, refl, sym, ap, ap₂, ◌∙◌, arith}
 use Rattle.std.specs.List.{list_any}
 use Rattle.std.proofs.lemmas.Bool.Decides.{nat_tests}
 use Rattle.bx_joining.specs.Joining.{Joiner, are_one_odd, is_lower, is_transparent, join, joins_back, joins_on, neighbour, passed_over}
-use Rattle.bx_joining.specs.Nearest.{lower_of, lowest_level, nearest}
+use Rattle.bx_joining.specs.Nearest.{lower_of, lowest_level}
 use Rattle.bx_joining.proofs.JoinedNeighbours.{found, found_first, passed, passed_on}
 
 -- ---- the lower of levels
@@ -35,7 +35,7 @@ lower-test (Some a) None (Some c) = or-false (nat_lt a c)
 lower-test (Some a) (Some b) None = refl
 lower-test (Some a) (Some b) (Some c) = min-lt a b c
 
--- ---- none between is lower
+-- ---- none between two is lower
 
 four : (a b c d : Bool) → ((a || b) || (c || d)) ≡ ((a || c) || (b || d))
 four true b c d = refl
@@ -53,18 +53,12 @@ any-lower (x ∷ xs) first second =
     ∙ four (is_lower x.1 first) (is_lower x.1 second) (is_lower rest first) (is_lower rest second)
     ∙ sym (ap₂ (λ a b. a || b) (lower-test x.1 rest first) (lower-test x.1 rest second))
 
-two-not : (a b c : Bool) → ((a && not b) && not c) ≡ (a && not (b || c))
-two-not true true c = refl
-two-not true false c = refl
-two-not false b c = refl
-
-pub join-lowest : (first second : Joiner) (between : List Joiner)
-    → ((((joins_on first.0 && joins_back second.0) && are_one_odd first.1 second.1) && not (is_lower (lowest_level between) first.1))
-    && not (is_lower (lowest_level between) second.1)) ≡ join first between second
-join-lowest first second between =
-    let both = (joins_on first.0 && joins_back second.0) && are_one_odd first.1 second.1 in
-    two-not both (is_lower (lowest_level between) first.1) (is_lower (lowest_level between) second.1)
-    ∙ ap (λ b. both && not b) (sym (any-lower between first.1 second.1))
+pub join-lowest : (first second : Joiner) (between : List Joiner) (lowest : Option ℕ) (lower : Bool) → lowest_level between ≡ lowest
+    → (is_lower lowest first.1 || is_lower lowest second.1) ≡ lower
+    → join first between second ≡ (((joins_on first.0 && joins_back second.0) && are_one_odd first.1 second.1) && not lower)
+join-lowest first second between lowest lower e f =
+    ap (λ b. ((joins_on first.0 && joins_back second.0) && are_one_odd first.1 second.1) && not b)
+    (any-lower between first.1 second.1 ∙ ap (λ l. is_lower l first.1 || is_lower l second.1) e ∙ f)
 
 -- ---- the nearest, with a level passed over before
 

@@ -1,5 +1,5 @@
 //! The forms of a body's letters, by the letters beside them.
-ghost use Rattle.std.specs.Prelude.{◌≡◌, ◌<◌, ◌++◌, ◌∷◌, [], IsUtf8, List, MatchOption, None, chars, encode_utf8, false, length, reverse, slice_index_or, take, ℕ};
+ghost use Rattle.std.specs.Prelude.{◌≡◌, ◌<◌, ◌++◌, ◌∷◌, ◌&&◌, ◌||◌, [], IsUtf8, List, MatchOption, None, chars, encode_utf8, false, length, reverse, slice_index_or, take, ℕ};
 ghost use Rattle.std.specs.Str.{IsCharBoundary};
 ghost use Rattle.bx_joining.specs.JoinedText.{AreFormless};
 ghost use Rattle.bx_ucd.specs.declared.joining.Form.{Form};
@@ -49,7 +49,7 @@ fn last_char(text: &str) -> Option<(char, &str)>
     }
 }
 
-/// Whether letters join across a character of this type.
+/// Whether letters may join across a character of this type.
 fn is_transparent(joining: Joining) -> bool
     ensures { result ≡ is_transparent joining }
 {
@@ -103,15 +103,28 @@ fn lower_of(level: Option<u8>, other: Option<u8>) -> Option<u8>
     }
 }
 
-/// Whether two neighbours join, the first before the second, given the lowest level of the characters between them.
+/// Whether a level is lower than the level of one of two characters.
+fn is_lower_than_one(level: Option<u8>, first: Joiner, second: Joiner) -> bool
+    ensures { result ≡ (is_lower level first.1 || is_lower level second.1) }
+{
+    is_lower(level, first.1) || is_lower(level, second.1)
+}
+
+/// Whether two neighbours join, the first before the second, where nothing between them has a lower level.
+fn could_join(first: Joiner, second: Joiner) -> bool
+    ensures { result ≡ ((joins_on first.0 && joins_back second.0) && are_one_odd first.1 second.1) }
+{
+    joins_on(first.0) && joins_back(second.0) && are_one_odd(first.1, second.1)
+}
+
+/// Whether two neighbours join, the first before the second, given the lowest level between them.
 fn join(first: Joiner, lowest: Option<u8>, second: Joiner) -> bool
     ensures { (between : List Joiner) → lowest_level between ≡ lowest → result ≡ join first between second }
 {
-    joins_on(first.0)
-        && joins_back(second.0)
-        && are_one_odd(first.1, second.1)
-        && !is_lower(lowest, first.1)
-        && !is_lower(lowest, second.1)
+    if is_lower_than_one(lowest, first, second) {
+        return false;
+    }
+    could_join(first, second)
 }
 
 /// The form of a letter that joins the one before it, and the one after it.
@@ -184,7 +197,7 @@ fn joins_before<D: BidiData>(own: Joiner, text: &str, levels: &[Level], tables: 
     requires { length levels.now ≡ length (chars text.now) }
     ensures { result ≡ joins_before (reverse (joiners (D.data tables.now) text.now levels.now)) own }
 {
-    // most characters that join nothing are marks, so a cluster of many marks is not read once for each
+    // A mark joins nothing, so the marks of a long cluster do not read each other.
     if !joins_back(own.0) {
         return false;
     }

@@ -6,9 +6,9 @@ use Rattle.std.proofs.lemmas.List.{get_or_append_left, take-append-le, take_all}
 use Rattle.std.proofs.lemmas.List.Sums.{sum_by-cons}
 use Rattle.std.proofs.Math.Seq.{get_or-append_seam, take-append_seam}
 use Rattle.bx_paras.specs.declared.lengths.Lengths.{Lengths}
-use Rattle.bx_paras.specs.declared.position.Position.{Position}
+use Rattle.bx_paras.specs.declared.paragraph_span.ParagraphSpan.{ParagraphSpan}
 use Rattle.bx_paras.specs.Positions.{bytes_of, total, spans_from, spans, separators, paragraph_of}
-use Rattle.bx_paras.specs.Flat.{IsPosition}
+use Rattle.bx_paras.specs.Flat.{IsSpanAround}
 use Rattle.bx_paras.proofs.Followed.{has_end, no_end}
 use Rattle.bx_paras.proofs.Totals.{total_more}
 
@@ -55,13 +55,13 @@ module _ (offset : ℕ) where
       (λ l. let past : offset < at + total (take (suc n + 1) (p ∷ ps)) = e (omega arith) in next_past at n p ps past) in
       begun_first at p (ps ++ u ∷ []) (omega arith) ∙ omega (arith, more)
 
-past_of : (ps : List Lengths) (offset : ℕ) (p : Position) (e : Option ℕ) → p.end ≡ e → IsPosition ps offset p → p.number < length ps
+past_of : (ps : List Lengths) (offset : ℕ) (p : ParagraphSpan) (e : Option ℕ) → p.end ≡ e → IsSpanAround ps offset p → p.number < length ps
     → offset < total (take (p.number + 1) ps)
 past_of ps offset p (Some e) k h l = let t = has_end ps offset p e h k in omega (arith, t.end, t.past)
 past_of ps offset p None k h l = absurd (omega (arith, no_end ps offset p h k))
 
-pub position_is : (ps : List Lengths) (u : Lengths) (offset : ℕ) (p : Position) → IsPosition ps offset p → p.number ≡ paragraph_of (ps ++ u ∷ []) offset
-position_is ps u offset p h =
+pub span_is : (ps : List Lengths) (u : Lengths) (offset : ℕ) (p : ParagraphSpan) → IsSpanAround ps offset p → p.number ≡ paragraph_of (ps ++ u ∷ []) offset
+span_is ps u offset p h =
     let n : start_before offset 0 (ps ++ u ∷ []) ≡ p.number + 1 =
     begun_at offset 0 p.number ps u h.number (omega (arith, h.start, h.start_before)) (λ l. omega (arith, past_of ps offset p p.end refl h l)) in
     omega (arith, n)
@@ -96,12 +96,12 @@ span_of_last ps u n start e s =
     ∙ ap (λ (q : Lengths). Some (start, start + q.body)) here
 
 -- the paragraph of an offset, by its position: one that ends, and the last
-pub record EndedSpan (ps : List Lengths) (u : Lengths) (p : Position) (e : ℕ) : Type 0 where
+pub record EndedSpan (ps : List Lengths) (u : Lengths) (p : ParagraphSpan) (e : ℕ) : Type 0 where
   pub within : p.number < length (ps ++ u ∷ [])
   pub order : p.separator ≤ e
   pub span : slice_get (spans (ps ++ u ∷ [])) p.number ≡ Some (p.start, e - p.separator)
 
-pub ended_span : (ps : List Lengths) (u : Lengths) (offset : ℕ) (p : Position) (e : ℕ) → IsPosition ps offset p → p.end ≡ Some e → EndedSpan ps u p e
+pub ended_span : (ps : List Lengths) (u : Lengths) (offset : ℕ) (p : ParagraphSpan) (e : ℕ) → IsSpanAround ps offset p → p.end ≡ Some e → EndedSpan ps u p e
 ended_span ps u offset p e h k =
     let t = has_end ps offset p e h k in
     let inside : p.number < length ps = t.inside in
@@ -121,7 +121,7 @@ ended_span ps u offset p e h k =
           ∙ ap (λ (r : Lengths). Some (p.start, p.start + r.body)) here ∙ ap (λ s. Some (p.start, s)) stop;
     }
 
-pub last_span : (ps : List Lengths) (u : Lengths) (offset : ℕ) (p : Position) → IsPosition ps offset p → p.end ≡ None
+pub last_span : (ps : List Lengths) (u : Lengths) (offset : ℕ) (p : ParagraphSpan) → IsSpanAround ps offset p → p.end ≡ None
     → slice_get (spans (ps ++ u ∷ [])) p.number ≡ Some (p.start, p.start + u.body)
 last_span ps u offset p h k =
     let all : p.number ≡ length ps = no_end ps offset p h k in

@@ -7,8 +7,8 @@ use Rattle.std.proofs.lemmas.List.{get_or_default}
 use Rattle.bx_paras.specs.declared.lengths.Lengths.{Lengths}
 use Rattle.bx_paras.specs.Positions.{total}
 use Rattle.std.proofs.Math.Seq.{take-append-add, drop-append-add, take-append_seam, drop-append_seam}
-use Rattle.bx_paras.specs.declared.position.Position.{Position}
-use Rattle.bx_paras.specs.Flat.{flat, separator_of, IsPosition}
+use Rattle.bx_paras.specs.declared.paragraph_span.ParagraphSpan.{ParagraphSpan}
+use Rattle.bx_paras.specs.Flat.{flat, separator_of, IsSpanAround}
 use Rattle.bx_paras.proofs.Totals.{total_append}
 
 pub flat_append : (bs ds : List (List Lengths)) → flat (bs ++ ds) ≡ flat bs ++ flat ds
@@ -105,7 +105,7 @@ module _ (bs : List (List Lengths)) (i : ℕ) (b : List Lengths) (h : i < length
   pub position_at : (n s offset within before past separator : ℕ) → n ≡ length (flat (take i bs)) → s ≡ total (flat (take i bs)) → s ≤ offset
       → within < length b → before ≡ total (take within b) → before ≤ offset - s → past ≡ total (take (within + 1) b) → offset - s < past
       → separator ≡ separator_of b within
-      → IsPosition (flat bs) offset (record { number = n + within; start = s + before; end = Some (s + past); separator = separator })
+      → IsSpanAround (flat bs) offset (record { number = n + within; start = s + before; end = Some (s + past); separator = separator })
   position_at n s offset within before past separator en es start_before inside eb lb ep lp sep =
       let there : n + within ≡ length (flat (take i bs)) + within = omega (arith, en) in
       let next : n + within + 1 ≡ length (flat (take i bs)) + (within + 1) = omega (arith, en) in
@@ -135,5 +135,5 @@ module _ (bs : List (List Lengths)) (i : ℕ) (b : List Lengths) (h : i < length
         found ∙ ap (λ es. get_or (flat es) n (get_or ls left d)) same,
       )
 
-pub IsPosition-same : (bs ds : List (List Lengths)) (offset : ℕ) (p : Position) → bs ≡ ds → IsPosition (flat bs) offset p → IsPosition (flat ds) offset p
-IsPosition-same bs ds offset p e h = subst (λ cs. IsPosition (flat cs) offset p) e h
+pub IsSpanAround-same : (bs ds : List (List Lengths)) (offset : ℕ) (p : ParagraphSpan) → bs ≡ ds → IsSpanAround (flat bs) offset p → IsSpanAround (flat ds) offset p
+IsSpanAround-same bs ds offset p e h = subst (λ cs. IsSpanAround (flat cs) offset p) e h

@@ -8,14 +8,14 @@ use Rattle.bx_ucd.specs.Data.{Data}
 use Rattle.bx_text.specs.declared.change.Change.{Change}
 use Rattle.bx_text.specs.Edits.{IsChange, largest_text}
 use Rattle.bx_paras.specs.declared.lengths.Lengths.{Lengths}
-use Rattle.bx_paras.specs.declared.position.Position.{Position}
+use Rattle.bx_paras.specs.declared.paragraph_span.ParagraphSpan.{ParagraphSpan}
 use Rattle.bx_paras.specs.Paragraphs.{lengths, separator_count}
 use Rattle.bx_paras.specs.Capacity.{block_capacity}
 use Rattle.bx_paras.specs.Positions.{bytes_of, total}
 use Rattle.bx_paras.specs.Ended.{ended_within}
 use Rattle.bx_text.specs.Text.{HasRoomFor}
 use Rattle.bx_paras.specs.Index.{CoversBytes, HasSpares}
-use Rattle.bx_paras.specs.Flat.{IsPosition}
+use Rattle.bx_paras.specs.Flat.{IsSpanAround}
 use Rattle.bx_paras.specs.Touched.{IsTouched}
 use Rattle.bx_paras.proofs.Cuts.{unended}
 use Rattle.bx_paras.proofs.Totals.{total_append, total_more, total_push, total_front}
@@ -25,19 +25,19 @@ use Rattle.bx_paras.proofs.Turns.{total_lengths, few_lengths}
 -- ---- positions
 
 -- the meaning of a position with an end
-pub record HasEnd (ps : List Lengths) (offset : ℕ) (p : Position) (e : ℕ) : Type 0 where
+pub record HasEnd (ps : List Lengths) (offset : ℕ) (p : ParagraphSpan) (e : ℕ) : Type 0 where
   pub inside : p.number < length ps
   pub end : e ≡ total (take (p.number + 1) ps)
   pub past : offset < e
 
-pub has_end : (ps : List Lengths) (offset : ℕ) (p : Position) (e : ℕ) → IsPosition ps offset p → p.end ≡ Some e → HasEnd ps offset p e
+pub has_end : (ps : List Lengths) (offset : ℕ) (p : ParagraphSpan) (e : ℕ) → IsSpanAround ps offset p → p.end ≡ Some e → HasEnd ps offset p e
 has_end ps offset p e h k =
     let both : (p.number < length ps) × (e ≡ total (take (p.number + 1) ps))
     × (offset < e) = subst (λ o. MatchOption o (p.number ≡ length ps) (λ n. (p.number < length ps) × (n ≡ total (take (p.number + 1) ps)) × (offset < n))) k
     h.end_is in
     record { inside = both.0; end = both.1; past = both.2 }
 
-pub no_end : (ps : List Lengths) (offset : ℕ) (p : Position) → IsPosition ps offset p → p.end ≡ None → p.number ≡ length ps
+pub no_end : (ps : List Lengths) (offset : ℕ) (p : ParagraphSpan) → IsSpanAround ps offset p → p.end ≡ None → p.number ≡ length ps
 no_end ps offset p h k = subst (λ o. MatchOption o (p.number ≡ length ps) (λ n. (p.number < length ps) × (n ≡ total (take (p.number + 1) ps)) × (offset < n))) k
     h.end_is
 
@@ -48,13 +48,13 @@ parted_at ps u d n h =
     ∙ append_assoc (take n ps) (get_or ps n d ∷ drop (n + 1) ps) (u ∷ [])
 
 -- the paragraph at a position, and those after it
-record IsParted (ps : List Lengths) (u : Lengths) (offset : ℕ) (p : Position) : Type 0 where
+record IsParted (ps : List Lengths) (u : Lengths) (offset : ℕ) (p : ParagraphSpan) : Type 0 where
   here : Lengths
   behind : List Lengths
   whole : ps ++ u ∷ [] ≡ take p.number ps ++ here ∷ behind
   holds : (offset < total (take p.number ps) + bytes_of here) ⊎ (total (ps ++ u ∷ []) ≡ total (take p.number ps) + bytes_of here)
 
-parted_by : (ps : List Lengths) (u : Lengths) (offset : ℕ) (p : Position) (e : Option ℕ) → p.end ≡ e → IsPosition ps offset p → IsParted ps u offset p
+parted_by : (ps : List Lengths) (u : Lengths) (offset : ℕ) (p : ParagraphSpan) (e : Option ℕ) → p.end ≡ e → IsSpanAround ps offset p → IsParted ps u offset p
 parted_by ps u offset p (Some e) k h =
     let t = has_end ps offset p e h k in
     record {
@@ -78,7 +78,7 @@ reached n s b all (inr e) h = omega arith
 
 -- ---- a change
 
-module _ {says : Data} {old : List ℕ} {c : Change} {new : List ℕ} {ps : List Lengths} {u : Lengths} {first last : Position}
+module _ {says : Data} {old : List ℕ} {c : Change} {new : List ℕ} {ps : List Lengths} {u : Lengths} {first last : ParagraphSpan}
     (touched : IsTouched says old c new ps u first last) where
   before : IsParted ps u (c.start - 1) first
   before = parted_by ps u (c.start - 1) first first.end refl touched.first_is

@@ -5,7 +5,7 @@ use Rattle.std.proofs.lemmas.List.{take_all}
 use Rattle.bx_ucd.specs.Data.{Data}
 use Rattle.bx_text.specs.declared.change.Change.{Change}
 use Rattle.bx_paras.specs.declared.lengths.Lengths.{Lengths}
-use Rattle.bx_paras.specs.declared.position.Position.{Position}
+use Rattle.bx_paras.specs.declared.paragraph_span.ParagraphSpan.{ParagraphSpan}
 use Rattle.bx_paras.specs.declared.scan_range.ScanRange.{ScanRange}
 use Rattle.bx_paras.specs.Paragraphs.{lengths}
 use Rattle.bx_paras.specs.Positions.{bytes_of, total}
@@ -19,7 +19,7 @@ use Rattle.bx_paras.proofs.Firsts.{same_lengths}
 use Rattle.bx_paras.proofs.Followed.{has_end, no_end, parted_at, start_inside, old_bytes}
 use Rattle.bx_paras.proofs.Totals.{total_more, total_push}
 
-module _ {says : Data} {old : List ℕ} {c : Change} {new : List ℕ} {ps : List Lengths} {last : ℕ} {p q : Position}
+module _ {says : Data} {old : List ℕ} {c : Change} {new : List ℕ} {ps : List Lengths} {last : ℕ} {p q : ParagraphSpan}
     (touched : IsTouched says old c new ps (unended last) p q) where
   abbrev nothing : Lengths
   nothing = record { body = 0; separator = 0 }

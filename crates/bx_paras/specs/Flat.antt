@@ -1,7 +1,7 @@
 -- Paragraphs in blocks, and positions among them.
 use Rattle.std.specs.Prelude.{◌≡◌, ◌<◌, ◌≤◌, ℕ, ◌+◌, ◌-◌, ◌*◌, ◌==◌, List, [], ◌∷◌, ◌++◌, length, take, get_or, if◌then◌else◌, MatchOption}
 use Rattle.bx_paras.specs.declared.lengths.Lengths.{Lengths}
-use Rattle.bx_paras.specs.declared.position.Position.{Position}
+use Rattle.bx_paras.specs.declared.paragraph_span.ParagraphSpan.{ParagraphSpan}
 use Rattle.bx_paras.specs.Capacity.{block_capacity}
 use Rattle.bx_paras.specs.Positions.{total}
 
@@ -28,7 +28,7 @@ abbrev pub separator_of : List Lengths → ℕ → ℕ
 separator_of ps n = (get_or ps n (record { body = 0; separator = 0 })).separator
 
 -- the paragraph that an offset falls in: it ends past the offset, or it is the text's last, which is not in a block
-pub record IsPosition (ps : List Lengths) (offset : ℕ) (p : Position) : Type 0 where
+pub record IsSpanAround (ps : List Lengths) (offset : ℕ) (p : ParagraphSpan) : Type 0 where
   pub number : p.number ≤ length ps
   pub start : p.start ≡ total (take p.number ps)
   pub start_before : p.start ≤ offset

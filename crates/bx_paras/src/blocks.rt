@@ -2,11 +2,11 @@
 
 ghost use Rattle.std.specs.Prelude.{◌≡◌, ℕ, [], ◌∷◌, ◌++◌, ◌+◌, ◌-◌, ◌<◌, ◌≤◌, ◌^◌, ◌⊎◌, length, take, drop, get_or, IfOk, OnOk, OnErr, MatchOption, vec_len};
 ghost use Rattle.bx_paras.specs.Positions.{bytes_of, total};
-ghost use Rattle.bx_paras.specs.Flat.{flat, BlocksState, room_at, separator_of, IsPosition};
+ghost use Rattle.bx_paras.specs.Flat.{flat, BlocksState, room_at, separator_of, IsSpanAround};
 
 use crate::block::{BLOCK_CAPACITY, Block, total};
 use crate::lengths::Lengths;
-use crate::position::Position;
+use crate::paragraph_span::ParagraphSpan;
 use crate::splices::{cut_at, join_at, push_at, remove_blocks};
 use std::alloc::{AllocError, Global};
 use std::marker::Model;
@@ -81,10 +81,10 @@ impl Blocks {
         }
     }
 
-    /// The position of the paragraph that an offset falls in.
+    /// The paragraph that an offset falls in.
     #[tactic(auto, using(crate::proofs::Flats::total_flat_more, crate::proofs::Flats::length_flat_more, crate::proofs::Flats::total_flat_front, crate::proofs::Flats::length_flat_front))]
-    pub fn find(&self, offset: usize) -> Position
-        ensures { IsPosition (flat self.now.blocks) offset result }
+    pub fn find(&self, offset: usize) -> ParagraphSpan
+        ensures { IsSpanAround (flat self.now.blocks) offset result }
     {
         let mut number = 0;
         let mut start = 0;
@@ -95,7 +95,7 @@ impl Blocks {
                     block.lengths(),
                     offset - start,
                 );
-                return Position {
+                return ParagraphSpan {
                     number: number + within,
                     start: start + before,
                     end: Some(start + past),
@@ -105,7 +105,7 @@ impl Blocks {
             number += block.lengths().len();
             start = end;
         }
-        Position {
+        ParagraphSpan {
             number,
             start,
             end: None,

@@ -15,7 +15,7 @@ ghost use Rattle.bx_paras.specs.ScanRanges.{IsScanRange};
 use crate::block::BLOCK_CAPACITY;
 use crate::blocks::Blocks;
 use crate::lead_bytes::lead_bytes_of;
-use crate::position::Position;
+use crate::paragraph_span::ParagraphSpan;
 use crate::rescan::replace;
 use crate::scan::paragraph_from;
 use crate::scan_range::{ScanRange, range_to_end};
@@ -55,7 +55,7 @@ fn touched<D: BidiData>(
     text: &Text,
     tables: &D,
     change: &Change,
-) -> (Position, Position)
+) -> (ParagraphSpan, ParagraphSpan)
     requires was { (old : List ℕ)
         × IsUtf8 old
         × (closed front.now.blocks last ≡ lengths (D.data tables.now) old)
@@ -74,7 +74,7 @@ fn touched<D: BidiData>(
 }
 
 /// The offset up to which the paragraph before a change has no separator, at most the start of the change.
-fn quiet_until(first: Position, change: &Change) -> usize
+fn quiet_until(first: ParagraphSpan, change: &Change) -> usize
     ensures { MatchOption first.end (result ≡ change.now.start) (λ e. result ≡ min change.now.start (e - first.separator)) }
 {
     match first.end {
@@ -85,7 +85,7 @@ fn quiet_until(first: Position, change: &Change) -> usize
 
 /// Lengths of the rest of the paragraph after a change: of its body, and of its separator. The change ended at `offset`
 /// in the old text, and `left` bytes follow it.
-fn rest_behind(last: Position, offset: usize, left: usize) -> (usize, usize)
+fn rest_behind(last: ParagraphSpan, offset: usize, left: usize) -> (usize, usize)
     ensures { MatchOption last.end (result ≡ (left, 0)) (λ e. result ≡ (e - last.separator - offset, min last.separator (e - offset))) }
 {
     match last.end {
@@ -105,7 +105,7 @@ fn range_after<D: BidiData>(
     text: &Text,
     tables: &D,
     change: &Change,
-    reached: (Position, Position),
+    reached: (ParagraphSpan, ParagraphSpan),
 ) -> ScanRange
     requires touched { (old : List ℕ)
         × IsTouched (D.data tables.now) old change.now text.now.edited.text (flat front.now.blocks)
@@ -240,12 +240,12 @@ impl Index {
         ensures number { result.0 ≡ paragraph_of self.now.paragraphs offset }
         ensures span { slice_get (spans self.now.paragraphs) result.0 ≡ Some result.1 }
     {
-        let position = self.front.find(offset);
-        let start = position.start;
-        let Some(end) = position.end else {
-            return (position.number, (start, start + self.last as usize));
+        let span = self.front.find(offset);
+        let start = span.start;
+        let Some(end) = span.end else {
+            return (span.number, (start, start + self.last as usize));
         };
-        (position.number, (start, end - position.separator))
+        (span.number, (start, end - span.separator))
     }
 
     /// Offsets of the start and the end of a paragraph's body, in bytes.
@@ -286,7 +286,7 @@ impl Index {
     pub fn walk_at_offset(&self, offset: usize) -> ParagraphWalk<'_>
         ensures { result ≡ record { paragraphs = self.now.paragraphs; number = paragraph_of self.now.paragraphs offset } }
     {
-        let position = self.front.find(offset);
-        ParagraphWalk::new(&self.front, self.last, position.number, position.start)
+        let span = self.front.find(offset);
+        ParagraphWalk::new(&self.front, self.last, span.number, span.start)
     }
 }

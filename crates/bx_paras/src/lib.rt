@@ -9,7 +9,7 @@ mod index;
 mod laws;
 mod lead_bytes;
 mod lengths;
-mod position;
+mod paragraph_span;
 mod rescan;
 mod scan;
 mod scan_range;

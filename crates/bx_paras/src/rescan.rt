@@ -8,7 +8,7 @@ ghost use Rattle.bx_paras.specs.Flat.{flat, room_at};
 ghost use Rattle.bx_paras.specs.ScanRanges.{IsScanRange};
 
 use crate::blocks::Blocks;
-use crate::position::Position;
+use crate::paragraph_span::ParagraphSpan;
 use crate::scan::paragraph_from;
 use crate::scan_range::ScanRange;
 use crate::scanned_text::ScannedText;
@@ -56,7 +56,7 @@ fn insert_scanned<D: BidiData>(
 pub(crate) fn replace<D: BidiData>(
     blocks: &mut Blocks,
     scanned: &ScannedText<'_, D>,
-    from: Position,
+    from: ParagraphSpan,
     to: usize,
     stop: usize,
     range: ScanRange,

@@ -121,7 +121,7 @@ kept_one RLI s t = refl
 kept_one FSI s t = refl
 kept_one PDI s t = refl
 
-kept_each : (s : State) (cs : List Class) → map is_some (explicit_from s cs) ≡ map is_kept cs
+pub kept_each : (s : State) (cs : List Class) → map is_some (explicit_from s cs) ≡ map is_kept cs
 kept_each s [] = refl
 kept_each s (c ∷ cs) =
     let t : State = next_state (role_of c) cs s in
@@ -196,7 +196,7 @@ module _ (says : Data) (chars : List ℕ) (kept : List (Option ExplicitChar)) wh
       (with_low s.indexes (levels_in says chars kept s) each (all_low s.level _ (All-head lows s ss a)) b)
 
 module _ (says : Data) where
-  paragraph_kept : (level : ℕ) (chars : List ℕ) → level ≤ 1 → map is_some (paragraph_levels says level chars) ≡ map is_kept (map says.class chars)
+  pub paragraph_kept : (level : ℕ) (chars : List ℕ) → level ≤ 1 → map is_some (paragraph_levels says level chars) ≡ map is_kept (map says.class chars)
   paragraph_kept level chars low =
       let cs : List Class = map says.class chars in
       let kept : List (Option ExplicitChar) = explicit_levels level cs in
@@ -223,7 +223,7 @@ found_low : (o : Option Class) → level_of o ≤ 1
 found_low None = omega arith
 found_low (Some c) = strong_low c
 
-base_low : (base : Base) (cs : List Class) → base_level base cs ≤ 1
+pub base_low : (base : Base) (cs : List Class) → base_level base cs ≤ 1
 base_low Auto cs = found_low (first_strong 0 cs)
 base_low Ltr cs = omega arith
 base_low Rtl cs = omega arith

@@ -23,6 +23,9 @@ pub mod LeftTexts
 pub mod Mapped
 pub mod EachOnce
 pub mod KeptLevels
+pub mod Directions
+pub mod DirectionsAt
+pub mod OverrideLevels
 pub mod Cuts
 pub mod MovedPairs
 pub mod FramedPairs

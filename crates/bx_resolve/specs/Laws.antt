@@ -1,14 +1,21 @@
--- Laws of the isolating run sequences of every text, and of the levels of a text of class L.
-use Rattle.std.specs.Prelude.{◌≡◌, ◌≤◌, ℕ, List, [], ◌∷◌, ◌++◌, All, Some, length, replicate}
+-- Laws of the isolating run sequences of every text, of the levels of a text of class L, and of the directions of all levels.
+use Rattle.std.specs.Prelude.{◌≡◌, ◌<◌, ◌≤◌, ℕ, ◌+◌, ◌%◌, Bool, true, false, List, [], ◌∷◌, ◌++◌, All, Option, Some, None, length, map, replicate}
+use Rattle.std.specs.Prelude.{slice_index_or}
+use Rattle.std.specs.List.{list_any}
 use Rattle.std.specs.List.Sorted.{IsPermutation}
 use Rattle.bx_ucd.specs.Data.{Data}
 use Rattle.bx_ucd.specs.declared.class.Class.{Class}
-use Rattle.bx_ucd.specs.declared.class.Class.TheVariants.{L}
+use Rattle.bx_ucd.specs.declared.class.Class.TheVariants.{L, R, AL, EN, AN, ON, LRO, RLO, PDI}
 use Rattle.bx_terms.specs.declared.base.Base.{Base}
-use Rattle.bx_explicit.specs.Explicit.{explicit_levels}
+use Rattle.bx_explicit.specs.declared.entry.Entry.{Entry}
+use Rattle.bx_explicit.specs.declared.entry.Override.{Override}
+use Rattle.bx_explicit.specs.declared.entry.Override.TheVariants.{Neutral, Left, Right}
+use Rattle.bx_explicit.specs.declared.state.State.{State}
+use Rattle.bx_explicit.specs.Explicit.{explicit_levels, start, top}
+use Rattle.bx_explicit.specs.Laws.{states}
 use Rattle.bx_explicit.specs.Runs.{kept_indexes}
 use Rattle.bx_explicit.specs.Sequences.{RunSequence, sequences}
-use Rattle.bx_resolve.specs.Levels.{paragraph_level_under, levels_under}
+use Rattle.bx_resolve.specs.Levels.{is_kept, levels_under, paragraph_level_under, type_of}
 
 -- the indexes of all sequences, concatenated
 abbrev pub all_indexes : List RunSequence → List ℕ
@@ -24,3 +31,65 @@ HaveEachOnce = (level : ℕ) (cs : List Class) → level ≤ 1
 abbrev pub LeftTextsHave : Base → ℕ → ℕ → Type 0
 LeftTextsHave base paragraph level = (says : Data) (chars : List ℕ) → All (λ c. says.class c ≡ L) chars
     → (paragraph_level_under says base chars ≡ paragraph) × (levels_under says base chars ≡ replicate (length chars) (Some level))
+
+-- a level of the direction of L, and of R: the character has a level, and it is even, or odd
+abbrev pub IsEven : Option ℕ → Type 0
+IsEven None = ⊥
+IsEven (Some level) = level % 2 ≡ 0
+
+abbrev pub IsOdd : Option ℕ → Type 0
+IsOdd None = ⊥
+IsOdd (Some level) = level % 2 ≡ 1
+
+-- the level of L, EN and AN is even and the level of R and AL is odd; a character of another class may have either
+abbrev pub HasDirection : Class → Option ℕ → Type 0
+HasDirection L level = IsEven level
+HasDirection EN level = IsEven level
+HasDirection AN level = IsEven level
+HasDirection R level = IsOdd level
+HasDirection AL level = IsOdd level
+HasDirection _ level = Unit {0}
+
+-- of the character at an index: its class, its type after overrides, and its level. Past the end ON stands for both
+abbrev pub class_at : Data → List ℕ → ℕ → Class
+class_at says chars i = slice_index_or (map says.class chars) i ON
+
+abbrev pub type_at : Data → Base → List ℕ → ℕ → Class
+type_at says base chars i = type_of (slice_index_or (explicit_levels (paragraph_level_under says base chars) (map says.class chars)) i None)
+
+abbrev pub level_at : Data → Base → List ℕ → ℕ → Option ℕ
+level_at says base chars i = slice_index_or (levels_under says base chars) i None
+
+-- in any text, each level has the direction of the character's type after overrides
+abbrev pub TypesKeepDirection : Type 0
+TypesKeepDirection = (says : Data) (base : Base) (chars : List ℕ) (i : ℕ) → HasDirection (type_at says base chars i) (level_at says base chars i)
+
+abbrev pub is_override : Class → Bool
+is_override LRO = true
+is_override RLO = true
+is_override _ = false
+
+-- in a text without overrides, each level has the direction of the character's class
+abbrev pub LettersKeepDirection : Type 0
+LettersKeepDirection = (says : Data) (base : Base) (chars : List ℕ) (i : ℕ) → list_any is_override (map says.class chars) ≡ false
+    → HasDirection (class_at says chars i) (level_at says base chars i)
+
+-- the last entry of the stack that X6 and X6a ask for a character: the one after a PDI, and else the one before the character
+abbrev pub entry_by : Class → State → State → Entry
+entry_by PDI before after = top after
+entry_by c before after = top before
+
+abbrev pub entry_at : ℕ → List Class → ℕ → Entry
+entry_at level cs i = let s : State = start level in
+    entry_by (slice_index_or cs i ON) (slice_index_or (states level cs) i s) (slice_index_or (states level cs) (i + 1) s)
+
+-- an LRO makes a level even, an RLO odd
+abbrev pub FollowsOverride : Override → Option ℕ → Type 0
+FollowsOverride Neutral level = Unit {0}
+FollowsOverride Left level = IsEven level
+FollowsOverride Right level = IsOdd level
+
+-- each character that X9 keeps under an override, of whatever class, has a level of the override's direction
+abbrev pub OverridesGiveDirection : Type 0
+OverridesGiveDirection = (says : Data) (base : Base) (chars : List ℕ) (i : ℕ) → i < length chars → is_kept (class_at says chars i) ≡ true
+    → FollowsOverride (entry_at (paragraph_level_under says base chars) (map says.class chars) i).forced (level_at says base chars i)

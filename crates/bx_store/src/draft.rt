@@ -1,6 +1,6 @@
 //! The file that a save writes before the file that it saves.
 
-use crate::owner::{Place, set_ids, take_place};
+use crate::owner::{Replaced, set_ids, take_over};
 use crate::target::{folder_of, if_found, is_same_file};
 use std::alloc::Global;
 use std::fs::{Metadata, OpenFile, OpenOptions};
@@ -63,15 +63,15 @@ fn make_beside<R: Files>(
     Err(ErrorKind::AlreadyExists.into())
 }
 
-/// Wraps a new file in a buffer, and gives it the place of `old`, the file last found there, if any. Also returns the
+/// Wraps a new file in a buffer. It takes over what `old`, the file that it replaces, had. Also returns the
 /// permissions that the file gets once it is complete.
 fn buffered<F: Read + Write + Seek + OpenFile + AsFd + Drop>(
     alloc: Global,
     file: F,
-    old: Option<Place<'_>>,
+    old: Option<Replaced<'_>>,
 ) -> io::Result<(BufWriter<F>, u32)> {
     let mode = match old {
-        Some(old) => take_place(&file, old)?,
+        Some(old) => take_over(&file, old)?,
         None => 0,
     };
     Ok((BufWriter::with_capacity(alloc, BUFFER_SIZE, file)?, mode))
@@ -83,7 +83,7 @@ impl<F: Read + Write + Seek + OpenFile + AsFd + Drop> Draft<F> {
         files: &R,
         alloc: Global,
         target: String,
-        old: Option<Place<'_>>,
+        old: Option<Replaced<'_>>,
     ) -> io::Result<Self> {
         let mode = if old.is_some() {
             OWNERS_ALONE
@@ -101,7 +101,7 @@ impl<F: Read + Write + Seek + OpenFile + AsFd + Drop> Draft<F> {
         alloc: Global,
         place: &str,
         mode: u32,
-        old: Option<Place<'_>>,
+        old: Option<Replaced<'_>>,
     ) -> io::Result<Self> {
         let (file, path) = make_beside(files, alloc, place, mode)?;
         match buffered(alloc, file, old) {

@@ -106,7 +106,7 @@ where
             let in_place = InPlace::begin(files, alloc, mark, target)?;
             return Ok(Saving::InPlace(in_place));
         }
-        let draft = Draft::beside(files, alloc, target, self.watch.place())?;
+        let draft = Draft::beside(files, alloc, target, self.watch.replaced())?;
         Ok(Saving::Beside(draft))
     }
 

@@ -8,10 +8,10 @@ use std::os::unix::fs::{MetadataExt, PermissionsExt, fchown};
 /// The set-user-ID and set-group-ID bits.
 const SET_IDS: u32 = 0o6000;
 
-/// What a new file takes over.
+/// The file that a new one replaces.
 #[derive(Clone, Copy)]
-pub struct Place<'a> {
-    /// The file last found there.
+pub struct Replaced<'a> {
+    /// Its facts when it was last seen.
     pub old: &'a Metadata,
     /// Whether its permissions say all; otherwise the group's may be those of an access list, which a new file has not.
     pub is_plain: bool,
@@ -71,8 +71,8 @@ fn mode_of(preserved: Preserved, old: &Metadata) -> u32 {
 
 /// Gives a new file the owner, group and permissions of the file that was there. Returns the permissions. The set-ID bits are
 /// left out until the file is complete.
-pub fn take_place<F: OpenFile + AsFd>(file: &F, place: Place<'_>) -> io::Result<u32> {
-    let Place { old, is_plain } = place;
+pub fn take_over<F: OpenFile + AsFd>(file: &F, replaced: Replaced<'_>) -> io::Result<u32> {
+    let Replaced { old, is_plain } = replaced;
     let mut preserved = take_owner(file, old)?;
     preserved.group = preserved.group && is_plain;
     let mode = mode_of(preserved, old);

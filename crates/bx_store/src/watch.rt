@@ -4,7 +4,7 @@ ghost use Rattle.bx_store.specs.Causes.{fault};
 ghost use Rattle.bx_store.specs.declared.cause.SaveCause.TheVariants.{OutOfMemory};
 
 use crate::cause::SaveCause;
-use crate::owner::Place;
+use crate::owner::Replaced;
 use crate::store::StoreFault;
 use crate::target::{find, is_in_its_folder, is_unchanged, target_of};
 use std::alloc::Global;
@@ -138,11 +138,11 @@ impl<'a, R: Files> Watch<'a, R> {
         has_one_name && self.is_plain()
     }
 
-    /// What a new file takes over from the file that was last seen, if one was.
-    pub fn place(&self) -> Option<Place<'_>> {
+    /// The file that was last seen, if one was, as one to be replaced.
+    pub fn replaced(&self) -> Option<Replaced<'_>> {
         let is_plain = self.is_plain();
         match &self.seen {
-            Some(old) => Some(Place { old, is_plain }),
+            Some(old) => Some(Replaced { old, is_plain }),
             None => None,
         }
     }

@@ -1,3 +1,4 @@
 pub mod Characters
+pub mod Directions
 pub mod Glyphs
 pub mod Sizes

@@ -1,7 +1,7 @@
 -- The groups of bidirectional classes that the rules name.
 use Rattle.std.specs.Prelude.{ℕ, zero, suc, ◌%◌, Bool, true, false}
 use Rattle.bx_ucd.specs.declared.class.Class.{Class}
-use Rattle.bx_ucd.specs.declared.class.Class.TheVariants.{L, R, AL, B, S, WS, ON, LRI, RLI, FSI, PDI}
+use Rattle.bx_ucd.specs.declared.class.Class.TheVariants.{L, R, AL, B, S, WS, ON, NSM, BN, LRE, RLE, LRO, RLO, PDF, LRI, RLI, FSI, PDI}
 
 -- an isolate initiator
 abbrev pub is_initiator : Class → Bool
@@ -28,6 +28,21 @@ is_neutral LRI = true
 is_neutral RLI = true
 is_neutral PDI = true
 is_neutral _ = false
+
+-- a class of marks, joiners and formatting characters, which have no letter of their own
+abbrev pub is_unlettered : Class → Bool
+is_unlettered NSM = true
+is_unlettered BN = true
+is_unlettered LRE = true
+is_unlettered RLE = true
+is_unlettered LRO = true
+is_unlettered RLO = true
+is_unlettered PDF = true
+is_unlettered LRI = true
+is_unlettered RLI = true
+is_unlettered FSI = true
+is_unlettered PDI = true
+is_unlettered _ = false
 
 -- the direction of a level: L if it is even, R if odd
 abbrev pub direction : ℕ → Class

@@ -1,9 +1,10 @@
 -- Joining types and forms of characters, by the entries of the files.
 use Rattle.std.specs.Prelude.{ℕ, Bool, true, false, not, ◌&&◌, ◌||◌, ◌==◌, List, Option, is_some, option_map, if◌then◌else◌}
 use Rattle.bx_ucd.specs.Answers.{find_last}
+use Rattle.bx_ucd.specs.Class.{is_unlettered}
 use Rattle.bx_ucd.specs.Control.{is_control}
 use Rattle.bx_ucd.specs.declared.class.Class.{Class}
-use Rattle.bx_ucd.specs.declared.class.Class.TheVariants.{NSM, BN, LRE, RLE, LRO, RLO, PDF, LRI, RLI, FSI, PDI}
+use Rattle.bx_ucd.specs.declared.class.Class.TheVariants.{BN}
 use Rattle.bx_ucd.specs.declared.joining.Joining.{Joining}
 use Rattle.bx_ucd.specs.declared.joining.Joining.TheVariants.{R, L, D, U, T}
 use Rattle.bx_ucd.specs.declared.joining.Form.{Form}
@@ -39,23 +40,13 @@ abbrev pub is_direction_mark : ℕ → Bool
 is_direction_mark c = (c == 0x61C) || ((c == 0x200E) || (c == 0x200F))
 
 -- a nonspacing mark, a formatting character, or a boundary neutral that is no control
-abbrev pub is_transparent : Class → ℕ → Bool
-is_transparent NSM c = true
-is_transparent LRE c = true
-is_transparent RLE c = true
-is_transparent LRO c = true
-is_transparent RLO c = true
-is_transparent PDF c = true
-is_transparent LRI c = true
-is_transparent RLI c = true
-is_transparent FSI c = true
-is_transparent PDI c = true
-is_transparent BN c = not (is_control c)
-is_transparent _ c = false
+abbrev pub is_joined_across : Class → ℕ → Bool
+is_joined_across BN c = not (is_control c)
+is_joined_across class c = is_unlettered class
 
 -- the joining type of a character of a class that has no line
 abbrev pub joining_by_class : Class → ℕ → Joining
-joining_by_class class c = if is_direction_mark c || is_transparent class c then T else U
+joining_by_class class c = if is_direction_mark c || is_joined_across class c then T else U
 
 -- the joining type of a character, by the last line for it, if there is one
 abbrev pub joining_by_lines : List JoiningEntry → ℕ → Option Joining

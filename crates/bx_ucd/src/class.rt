@@ -1,7 +1,7 @@
 //! The values of the property Bidi_Class (UAX #9, 3.2).
 
 ghost use Rattle.std.specs.Prelude.{◌≡◌};
-ghost use Rattle.bx_ucd.specs.Class.{is_initiator, is_strong, is_neutral, direction};
+ghost use Rattle.bx_ucd.specs.Class.{is_initiator, is_strong, is_neutral, is_unlettered, direction};
 
 /// A bidirectional class, under its short name in the data files.
 #[derive(Clone, Copy, PartialEq, Eq, Debug)]
@@ -66,6 +66,19 @@ pub fn is_strong(class: Class) -> bool
     ensures { result ≡ is_strong class }
 {
     matches!(class, Class::L | Class::R | Class::AL)
+}
+
+/// Whether the class is one of marks, joiners and formatting characters, which have no letter of their own.
+#[inline(always)]
+pub fn is_unlettered(class: Class) -> bool
+    ensures { result ≡ is_unlettered class }
+{
+    match class {
+        Class::NSM | Class::BN | Class::PDF | Class::PDI => true,
+        Class::LRE | Class::RLE | Class::LRO | Class::RLO => true,
+        Class::LRI | Class::RLI | Class::FSI => true,
+        _ => false,
+    }
 }
 
 /// Whether the class is neutral or an isolate formatting class, "NI" (UAX #9, N0 to N2).

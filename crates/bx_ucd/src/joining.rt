@@ -1,9 +1,9 @@
 //! How letters join: joining types, and the forms that letters have.
 
 ghost use Rattle.std.specs.Prelude.{◌≡◌};
-ghost use Rattle.bx_ucd.specs.Joining.{counted, is_direction_mark, is_transparent, joining_by_class, needs_form};
+ghost use Rattle.bx_ucd.specs.Joining.{counted, is_direction_mark, is_joined_across, joining_by_class, needs_form};
 
-use crate::class::Class;
+use crate::class::{Class, is_unlettered};
 use bx_terms::is_control;
 
 /// A joining type (the property Joining_Type), under its short name in the data files.
@@ -37,22 +37,20 @@ pub enum Form {
 }
 
 /// Whether a character is ARABIC LETTER MARK, LEFT-TO-RIGHT MARK or RIGHT-TO-LEFT MARK.
-fn is_direction_mark(c: char) -> bool
+#[inline(always)]
+pub fn is_direction_mark(c: char) -> bool
     ensures { result ≡ is_direction_mark c }
 {
     c == '\u{61c}' || c == '\u{200e}' || c == '\u{200f}'
 }
 
 /// Whether letters join across a character of this class, where no line gives its joining type.
-fn is_transparent(class: Class, c: char) -> bool
-    ensures { result ≡ is_transparent class c }
+fn is_joined_across(class: Class, c: char) -> bool
+    ensures { result ≡ is_joined_across class c }
 {
     match class {
-        Class::NSM | Class::PDF | Class::PDI => true,
-        Class::LRE | Class::RLE | Class::LRO | Class::RLO => true,
-        Class::LRI | Class::RLI | Class::FSI => true,
         Class::BN => !is_control(c),
-        _ => false,
+        _ => is_unlettered(class),
     }
 }
 
@@ -60,7 +58,7 @@ fn is_transparent(class: Class, c: char) -> bool
 pub(crate) fn joining_by_class(class: Class, c: char) -> Joining
     ensures { result ≡ joining_by_class class c }
 {
-    if is_direction_mark(c) || is_transparent(class, c) {
+    if is_direction_mark(c) || is_joined_across(class, c) {
         Joining::T
     } else {
         Joining::U

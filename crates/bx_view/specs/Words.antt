@@ -1,6 +1,7 @@
 -- Words of a text: from its paragraphs, its clusters and the classes of its characters alone, without window and rows.
 use Rattle.std.specs.Prelude.{ℕ, ◌+◌, ◌==◌, nat_lt, Bool, true, false, not, ◌&&◌, ◌||◌, List, [], ◌∷◌, ◌++◌, map, length, reverse, find, unwrap_or, chars}
 use Rattle.bx_ucd.specs.Data.{Data}
+use Rattle.bx_ucd.specs.Joining.{is_direction_mark}
 use Rattle.unicode_segmentation.specs.Grapheme.{graphemes}
 use Rattle.bx_ucd.specs.declared.class.Class.{Class}
 use Rattle.bx_ucd.specs.declared.class.Class.TheVariants.{L, R, AL, EN, AN, NSM, BN}
@@ -19,10 +20,6 @@ is_word_class AN = true
 is_word_class NSM = true
 is_word_class BN = true
 is_word_class _ = false
-
--- a direction mark: ALM, LRM or RLM
-abbrev pub is_direction_mark : ℕ → Bool
-is_direction_mark c = (c == 0x61C) || ((c == 0x200E) || (c == 0x200F))
 
 -- words have no direction marks, whatever their class
 abbrev pub is_word_character : Data → ℕ → Bool

@@ -3,10 +3,10 @@ ghost use Rattle.std.specs.Prelude.{◌≡◌, ◌+◌, ◌<◌, ◌≤◌, Bool
 ghost use Rattle.std.specs.Str.{IsCharBoundary};
 ghost use Rattle.unicode_segmentation.specs.Grapheme.{graphemes};
 ghost use Rattle.bx_paragraph.specs.Layout.{IsLayoutBy};
-ghost use Rattle.bx_view.specs.Words.{body_words, is_direction_mark, is_of_word, is_word_character, is_word_class, put_if, word_starts};
+ghost use Rattle.bx_view.specs.Words.{body_words, is_of_word, is_word_character, is_word_class, put_if, word_starts};
 
 use bx_paragraph::ParagraphLayout;
-use bx_ucd::{BidiData, Class};
+use bx_ucd::{BidiData, Class, is_direction_mark};
 use unicode_segmentation::UnicodeSegmentation;
 
 /// Whether words have characters of a class.
@@ -18,13 +18,6 @@ fn is_word_class(class: Class) -> bool
         Class::EN | Class::AN | Class::NSM | Class::BN => true,
         _ => false,
     }
-}
-
-/// Whether a character is ALM, LRM or RLM.
-fn is_direction_mark(c: char) -> bool
-    ensures { result ≡ is_direction_mark c }
-{
-    c == '\u{61C}' || c == '\u{200E}' || c == '\u{200F}'
 }
 
 /// Whether words have a character.

@@ -1,5 +1,6 @@
 use Rattle.std.proofs.Common.{◌≡◌, false, true, rules, Some, reverse, sym, ap, ap₂, ◌∙◌}
 use Rattle.bx_joining.specs.Joining.{is_transparent, joiners}
+use Rattle.bx_joining.specs.Nearest.{lower_of}
 use Rattle.bx_joining.proofs.LowestLevels.{nearest_found, nearest_passed, nearest_with}
 use Rattle.bx_joining.proofs.Nearest.{last_count, last_joiners, no_joiners}
 use Rattle.bx_joining.proofs.forms.last_joiner.Goals as goal
@@ -24,7 +25,7 @@ chars-preserved g c =
     let level = c.in-Some-split_last.level.now in
     let last = last_joiners says c.chars.rest.now before c.in-Some.c c.chars.left.now earlier level c.in-Some.ensures.2 c.in-Some-split_last.ensures.cases.0 c.chars.invariant.count in
     let transparent : is_transparent (says.joining c.in-Some.c) ≡ true = search rules in
-    let lower : c.lower_of.result ≡ lower_of c.chars.lowest level = c.lower_of.ensures ∙ ap (lower_of c.chars.lowest) c.get-get.ensures in
+    let lower : c.lower_of-lowest.result ≡ lower_of c.chars.lowest level = c.lower_of-lowest.ensures ∙ ap (lower_of c.chars.lowest) c.get-in-Some.ensures in
     record {
       text = c.in-Some.ensures.3;
       count = last_count c.chars.rest.now before c.in-Some.c c.chars.left.now earlier level c.in-Some.ensures.2 c.in-Some-split_last.ensures.cases.0 c.chars.invariant.count;

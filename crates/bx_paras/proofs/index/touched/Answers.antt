@@ -1,6 +1,6 @@
 use Rattle.std.proofs.Common.{◌≤◌, ◌+◌, length, ap, subst, arith}
 use Rattle.bx_paras.specs.Positions.{total}
-use Rattle.bx_paras.specs.Flat.{flat, IsPosition}
+use Rattle.bx_paras.specs.Flat.{flat, IsSpanAround}
 use Rattle.bx_paras.proofs.Turns.{total_lengths}
 use Rattle.bx_paras.proofs.index.touched.Goals as goal
 
@@ -19,7 +19,7 @@ returns g c =
         new_utf8 = c.len-utf8.ensures.utf8;
         is_change = was.3;
         were = was.2;
-        first_is = subst (λ n. IsPosition (flat c.args.front.now.blocks) n c.find-first.result) c.saturating_sub.ensures c.find-first.ensures;
+        first_is = subst (λ n. IsSpanAround (flat c.args.front.now.blocks) n c.find-first.result) c.saturating_sub.ensures c.find-first.ensures;
         last_is = c.find-last.ensures;
       },
     )

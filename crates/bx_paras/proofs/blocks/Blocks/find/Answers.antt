@@ -1,7 +1,7 @@
 use Rattle.std.proofs.Common.{◌≡◌, ◌∙◌, ◌+◌, length, take, ap, arith}
 use Rattle.bx_paras.specs.Positions.{total}
 use Rattle.bx_paras.specs.Flat.{flat, separator_of, BlocksState}
-use Rattle.bx_paras.proofs.Flats.{position_at, IsPosition-same, total_flat_more, total_flat_front}
+use Rattle.bx_paras.proofs.Flats.{position_at, IsSpanAround-same, total_flat_more, total_flat_front}
 use Rattle.bx_paras.proofs.Totals.{total_front}
 use Rattle.bx_paras.proofs.blocks.Blocks.find.Goals as goal
 
@@ -36,4 +36,4 @@ returns-then-offset-end c =
     (c.position_within-within.ensures.end ∙ ap (λ ls. total (take (c.position_within-within.result.0 + 1) ls)) e)
     c.position_within-within.ensures.past
     (c.position_within-within.ensures.separator ∙ ap (λ ls. separator_of ls c.position_within-within.result.0) e) in
-    IsPosition-same _ _ _ _ (c.deref-block-items.ensures.value ∙ ap (λ (s : BlocksState). s.blocks) c.self.view_is) p
+    IsSpanAround-same _ _ _ _ (c.deref-block-items.ensures.value ∙ ap (λ (s : BlocksState). s.blocks) c.self.view_is) p

@@ -4,7 +4,7 @@ use Rattle.bx_paras.specs.Positions.{paragraph_of, spans, total}
 use Rattle.bx_paras.specs.Index.{IndexState}
 use Rattle.bx_paras.proofs.Cuts.{unended}
 use Rattle.bx_paras.proofs.Totals.{total_front, total_push}
-use Rattle.bx_paras.proofs.Asked.{ended_span, last_span, position_is}
+use Rattle.bx_paras.proofs.Asked.{ended_span, last_span, span_is}
 use Rattle.bx_paras.proofs.index.Index.span_at.Goals as goal
 
 pub overflow_add-result : goal.overflow_add-result
@@ -21,7 +21,7 @@ overflow_add-result c =
 
 pub returns-in_default-clause-number : goal.returns-in_default-clause-number
 returns-in_default-clause-number c =
-    position_is (flat c.self.inside.front.blocks) (unended c.self.inside.last) c.args.offset c.find-position.result c.find-position.ensures
+    span_is (flat c.self.inside.front.blocks) (unended c.self.inside.last) c.args.offset c.find-position.result c.find-position.ensures
     ∙ ap (λ (s : IndexState). paragraph_of s.paragraphs c.args.offset) c.self.view_is
 
 pub returns-in_default-clause-span : goal.returns-in_default-clause-span
@@ -35,7 +35,7 @@ overflow_sub-result c = (ended_span (flat c.self.inside.front.blocks) (unended c
 
 pub returns-clause-number : goal.returns-clause-number
 returns-clause-number c =
-    position_is (flat c.self.inside.front.blocks) (unended c.self.inside.last) c.args.offset c.find-position.result c.find-position.ensures
+    span_is (flat c.self.inside.front.blocks) (unended c.self.inside.last) c.args.offset c.find-position.result c.find-position.ensures
     ∙ ap (λ (s : IndexState). paragraph_of s.paragraphs c.args.offset) c.self.view_is
 
 pub returns-clause-span : goal.returns-clause-span

@@ -4,7 +4,7 @@ use Rattle.bx_paras.specs.Positions.{paragraph_of}
 use Rattle.bx_paras.specs.Index.{IndexState}
 use Rattle.bx_paras.specs.Spots.{closed}
 use Rattle.bx_paras.proofs.Cuts.{unended}
-use Rattle.bx_paras.proofs.Asked.{position_is}
+use Rattle.bx_paras.proofs.Asked.{span_is}
 use Rattle.bx_paras.proofs.index.Index.walk_at_offset.Goals as goal
 
 pub returns : goal.returns
@@ -12,5 +12,5 @@ returns c =
     let i = c.self.inside in
     c.new.ensures
     ∙ ap (λ n. record { paragraphs = closed i.front.blocks i.last; number = n })
-    (position_is (flat i.front.blocks) (unended i.last) c.args.offset c.find-position.result c.find-position.ensures)
+    (span_is (flat i.front.blocks) (unended i.last) c.args.offset c.find-position.result c.find-position.ensures)
     ∙ ap (λ (s : IndexState). record { paragraphs = s.paragraphs; number = paragraph_of s.paragraphs c.args.offset }) c.self.view_is

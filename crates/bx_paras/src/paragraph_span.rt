@@ -1,8 +1,8 @@
-//! Positions of paragraphs.
+//! Where paragraphs are in the text.
 
-/// The position of a paragraph in the text.
+/// A paragraph's number and bytes in the text.
 #[derive(Clone, Copy, PartialEq, Eq, Debug)]
-pub struct Position {
+pub struct ParagraphSpan {
     /// Its number, from 0.
     pub number: usize,
     /// Offset of the start of its body.

@@ -5,7 +5,7 @@ use crate::held::Held;
 
 /// The state of the filter.
 #[derive(Clone, Copy, PartialEq, Eq, Debug)]
-pub enum Place {
+pub enum FilterState {
     /// Outside a paste. A sequence that went out unchanged may still be open.
     Outside { waiting: Beginning, is_open: bool },
     /// Within a paste, right after a CR or not.
