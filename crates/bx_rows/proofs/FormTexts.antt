@@ -15,7 +15,6 @@ abbrev pub run : ℕ → ℕ → List ℕ
 run a n = encode_utf8_all (range_with_len a n)
 
 three : (c : ℕ) → 0xE000 ≤ c → c < 0x10000 → length (encode_utf8 c) ≡ 3
-unfolding len_utf8
 three c low high = length-encode c ∙ grind (arith, nat_tests)
 
 scalar-high : (c : ℕ) → 0xE000 ≤ c → c < 0x10000 → IsScalar c
