@@ -126,7 +126,3 @@ or_else (Some p) other = Some p
 -- the offset at which a row is entered in a column: the unit that covers it, else the row's reading end
 abbrev pub entry : ℕ → BodyRow → ℕ → Option ℕ
 entry w r column = or_else (covering w r column) (reading_end w r)
-
--- the same numbers, each as often, in any order: every sum over them is the same
-abbrev pub AreReordered : List ℕ → List ℕ → Type 0
-AreReordered xs ys = (f : ℕ → ℕ) → sum_by f xs ≡ sum_by f ys

@@ -7,7 +7,8 @@ pub mod Reversals
 pub mod ReversedItems
 pub mod OneRow
 pub mod Computed
-pub mod GlyphTexts
+pub mod FormTexts
+mod GlyphTexts
 pub mod PictureSums
 pub mod Pieces
 pub mod FaceGlyphs

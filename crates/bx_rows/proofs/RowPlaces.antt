@@ -13,14 +13,13 @@ use Rattle.bx_cells.specs.declared.unit.Unit.{Unit}
 use Rattle.bx_cells.specs.Units.{StandsIn, unit_at, unit_text, units, units_from}
 use Rattle.bx_joining.specs.Joining.{text_forms}
 use Rattle.bx_joining.specs.Places.{StandsAt}
+use Rattle.bx_joining.specs.declared.forms.TextAt.{TextAt}
 use Rattle.bx_rows.specs.declared.row.Row.{Row}
-use Rattle.bx_rows.specs.declared.row_at.RowAt.{RowAt}
 use Rattle.bx_rows.specs.declared.start_search.RowStart.{RowStart}
 use Rattle.bx_rows.specs.RowStarts.{most_units, row_starts, start_of, units_of_row}
 use Rattle.bx_rows.specs.RowPicture.{face_glyphs}
 use Rattle.bx_rows.specs.RowStarts.{StartsRow}
 use Rattle.bx_rows.specs.RowPicture.{unit_forms}
-use Rattle.bx_rows.specs.UnitPlaces.{StandsInRow}
 use Rattle.bx_rows.specs.Wrapping.{wrap}
 use Rattle.bx_rows.proofs.EachRow.{found-row, part-at}
 use Rattle.bx_rows.proofs.RowUnits.{chars-behind}
@@ -42,32 +41,11 @@ starts-row says w body starts k d e within boundary =
     let found = found-row (start_of body us) (wrap says w body us) k (get_or starts k d) at in
     record { boundary = boundary; chars = start-counts body us (get_or starts k d) found.0 found.2 }
 
--- units that are read from an offset on are not before it
-units-behind_from : (says : Data) (w at o : ℕ) (cs : List (List ℕ)) → at ≤ o → All (λ u. at ≤ u.start) (map (unit_at says w) (with_offsets o cs))
-unfolding with_offsets
-units-behind_from says w at o [] h = All-nil (λ u. at ≤ u.start)
-units-behind_from says w at o (c ∷ cs) h =
-    All-cons (λ u. at ≤ u.start) (unit_at says w (o, c)) (map (unit_at says w) (with_offsets (o + length c) cs)) h
-    (units-behind_from says w at (o + length c) cs (omega (arith, h)))
-
-pub units-behind : (says : Data) (w : ℕ) (body : List ℕ) (at n : ℕ) (here : List Unit) → take n (units_from says w body at) ≡ here
-    → All (λ u. at ≤ u.start) here
-units-behind says w body at n here e =
-    subst (All (λ u. at ≤ u.start)) e
-    (All-take (λ u. at ≤ u.start) n (units_from says w body at) (units-behind_from says w at at (graphemes true (drop at body)) (omega arith)))
-
 -- a row of a body by its number
 pub starts-at : (says : Data) (w : ℕ) (body : List ℕ) (starts : List RowStart) (k : ℕ) (d : RowStart) → IsUtf8 body → starts ≡ row_starts says w body
     → k < length starts → StartsRow body (get_or starts k d)
 starts-at says w body starts k d u e within =
     starts-row says w body starts k d e within (part-at says w body starts k d (slice_get starts (k + 1)) u e within refl).boundary
-
-pub behind-start : (says : Data) (w : ℕ) (body : List ℕ) (starts : List RowStart) (k : ℕ) (d : RowStart) (us : List Unit) → IsUtf8 body
-    → starts ≡ row_starts says w body → k < length starts → us ≡ units_of_row says w body k → All (λ v. (get_or starts k d).offset ≤ v.start) us
-behind-start says w body starts k d us u e within are =
-    let next = slice_get starts (k + 1) in
-    let part = part-at says w body starts k d next u e within refl in
-    units-behind says w body (get_or starts k d).offset (most_units w body (get_or starts k d) next) us (part.units ∙ sym are)
 
 -- ---- characters
 
@@ -98,33 +76,56 @@ char-at body at c behind u b e =
 
 -- ---- units
 
--- the text of a unit of a row stands in the body that the row's place has
-pub stands-in : (body text : List ℕ) (row : RowAt) (u : Unit) (level : ℕ) → row.body.text.now ≡ body → StartsRow body row.start
-    → row.start.offset ≤ u.start → StandsIn body u → text ≡ unit_text body u
-    → StandsInRow text (record { row = row; offset = u.start; level = level })
-stands-in body text row u level e starts order stand text_is =
+-- the text of a unit stands in its body
+pub stands-in : (body text : List ℕ) (u : Unit) → StandsIn body u → text ≡ unit_text body u
+    → StandsAt body text u.start (length (chars (take u.start body)))
+stands-in body text u stand text_is =
     let within = stand.2.0 in
     let size : length (unit_text body u) ≡ u.stop - u.start =
     length-take-le (u.stop - u.start) (drop u.start body) (omega (arith, length-drop u.start body, within, stand.0)) in
     let here : text ≡ take (length text) (drop u.start body) =
     text_is ∙ ap (λ n. take n (drop u.start body)) (sym (ap length text_is ∙ size)) in
-    record {
-      row = subst (λ b. StartsRow b row.start) (sym e) starts;
-      order = order;
-      stands = subst (λ b. StandsAt b text u.start (length (chars (take u.start b)))) (sym e)
-          (record { boundary = stand.1; here = here; before = refl });
-    }
+    record { boundary = stand.1; here = here; before = refl }
 
--- the number of the characters before an offset of a row
-pub numbered : (body : List ℕ) (start : RowStart) (offset : ℕ) → IsUtf8 body → StartsRow body start → start.offset ≤ offset
-    → start.chars + length (chars (slice_range body start.offset offset)) ≡ length (chars (take offset body))
-numbered body start offset u starts order =
-    sym (chars-behind body start.offset offset u starts.boundary order ∙ ap (λ n. n + length (chars (slice_range body start.offset offset))) (sym starts.chars))
+-- a place of a body that was counted
+pub record IsNear (body : List ℕ) (each : List (Option ℕ)) (p : TextAt) : Type 0 where
+  pub text : p.body.text.now ≡ body
+  pub levels : p.body.each.now ≡ each
+  pub boundary : IsCharBoundary body p.offset
+  pub number : p.number ≡ length (chars (take p.offset body))
 
--- the glyphs of a unit, by its text and the body that the row's place has
-pub drawn-in : (says : Data) (w : ℕ) (body other : List ℕ) (each : List (Option ℕ)) (u : Unit) (text : List ℕ) (columns level : ℕ)
-    → other ≡ body → text ≡ unit_text body u
+-- a place counted from another one
+pub near-moved : (body : List ℕ) (each : List (Option ℕ)) (p q : TextAt) (offset : ℕ) → IsNear body each p → IsCharBoundary body offset → q.offset ≡ offset
+    → q.number ≡ length (chars (take offset p.body.text.now)) → q.body.text.now ≡ p.body.text.now → q.body.each.now ≡ p.body.each.now → IsNear body each q
+near-moved body each p q offset near boundary at counted text levels = record {
+  text = text ∙ near.text;
+  levels = levels ∙ near.levels;
+  boundary = subst (IsCharBoundary body) (sym at) boundary;
+  number = counted ∙ ap (λ b. length (chars (take offset b))) near.text ∙ ap (λ o. length (chars (take o body))) (sym at);
+}
+
+-- the glyphs of a unit, by its text and a place that was counted
+pub drawn-in : (says : Data) (w : ℕ) (body : List ℕ) (each : List (Option ℕ)) (u : Unit) (text : List ℕ) (columns level : ℕ) (p : TextAt)
+    → IsNear body each p → p.offset ≡ u.start → text ≡ unit_text body u
     → face_glyphs says w (unit_text body u) u.face columns level (unit_forms says body each u)
-    ≡ face_glyphs says w text u.face columns level (text_forms says other each (length (chars (take u.start other))) text)
-drawn-in says w body other each u text columns level e f =
-    ap₂ (λ b t. face_glyphs says w t u.face columns level (text_forms says b each (length (chars (take u.start b))) t)) (sym e) (sym f)
+    ≡ face_glyphs says w text u.face columns level (text_forms says p.body.text.now p.body.each.now p.number text)
+drawn-in says w body each u text columns level p near at f =
+    ap (λ t. face_glyphs says w t u.face columns level (text_forms says body each (length (chars (take u.start body))) t)) (sym f)
+    ∙ ap (λ n. face_glyphs says w text u.face columns level (text_forms says body each n text)) (sym (near.number ∙ ap (λ o. length (chars (take o body))) at))
+    ∙ ap₂ (λ b ls. face_glyphs says w text u.face columns level (text_forms says b ls p.number text)) (sym near.text) (sym near.levels)
+
+pub stands-near : (body text : List ℕ) (each : List (Option ℕ)) (u : Unit) (p : TextAt) → IsNear body each p → p.offset ≡ u.start → StandsIn body u
+    → text ≡ unit_text body u → StandsAt p.body.text.now text p.offset p.number
+stands-near body text each u p near at stand f =
+    subst (λ b. StandsAt b text p.offset p.number) (sym near.text) (subst (λ o. StandsAt body text o p.number) (sym at)
+    (subst (StandsAt body text u.start) (sym (near.number ∙ ap (λ o. length (chars (take o body))) at)) (stands-in body text u stand f)))
+
+-- the number of the characters before an offset, counted from one before it or behind it
+pub number-on : (body : List ℕ) (near number offset : ℕ) → IsUtf8 body → IsCharBoundary body near → number ≡ length (chars (take near body))
+    → near ≤ offset → number + length (chars (slice_range body near offset)) ≡ length (chars (take offset body))
+number-on body near number offset u boundary e order =
+    sym (chars-behind body near offset u boundary order ∙ ap (λ n. n + length (chars (slice_range body near offset))) (sym e))
+
+pub number-back : (body : List ℕ) (near number offset : ℕ) → IsUtf8 body → IsCharBoundary body offset → number ≡ length (chars (take near body))
+    → offset ≤ near → number ≡ length (chars (take offset body)) + length (chars (slice_range body offset near))
+number-back body near number offset u boundary e order = e ∙ chars-behind body offset near u boundary order

@@ -5,15 +5,14 @@ ghost use Rattle.std.specs.Cow.{cow_str_bytes};
 ghost use Rattle.bx_terms.specs.Characters.{are_ascii_printable, is_ascii_printable};
 ghost use Rattle.bx_terms.specs.Glyphs.{is_one_glyph, run_width};
 ghost use Rattle.bx_rows.specs.RowPicture.{blank, face_glyphs, glyph, is_own, letter_glyphs, mirror_image_within, shown_text, text_glyphs, with_blanks};
-ghost use Rattle.bx_rows.specs.UnitPlaces.{StandsInRow, forms_of_unit};
+ghost use Rattle.bx_rows.specs.UnitPlaces.{StandsThere, forms_of_unit};
 ghost use Rattle.bx_rows.specs.Shown.{HasLetter, glyph_of};
 
 use crate::drawn::{Drawn, RowPicture};
 use crate::joined_text::{OwnSize, joined};
 use crate::mirrors::{has_mirror, mirrored};
-use crate::row_at::RowAt;
 use bx_cells::Face;
-use bx_joining::has_forms;
+use bx_joining::{TextAt, has_forms};
 use bx_terms::are_ascii_printable;
 use bx_ucd::BidiData;
 use std::alloc::{AllocError, Global};
@@ -176,7 +175,7 @@ fn shown_text<'a, D: BidiData>(
     size: OwnSize,
     tables: &D,
 ) -> Result<CowStr<'a, Global>, AllocError>
-    requires { StandsInRow text.now at }
+    requires { StandsThere text.now at }
     ensures { IfOk result (λ t. cow_str_bytes t ≡ shown_text (D.data tables.now) size.w size.columns at.entry.level (forms_of_unit (D.data tables.now) at.entry text.entry.now) text.entry.now) }
 {
     if at.level % 2 == 0 {
@@ -187,18 +186,16 @@ fn shown_text<'a, D: BidiData>(
     if !has_forms(text, tables) {
         return Ok(mirrored);
     }
-    let place = at.row.text_at(at.offset);
-    match joined(alloc, text, shown, place, tables, size)? {
+    match joined(alloc, text, shown, at.place, tables, size)? {
         Some(other) => Ok(CowStr::Owned(other)),
         None => Ok(mirrored),
     }
 }
 
-/// The position of a unit: its row, its offset in the body, and its level.
+/// The place of a unit in its body, and its level.
 #[derive(Clone, Copy)]
 pub(crate) struct UnitAt<'t, 'e> {
-    pub(crate) row: RowAt<'t, 'e>,
-    pub(crate) offset: usize,
+    pub(crate) place: TextAt<'t, 'e>,
     pub(crate) level: u8,
 }
 
@@ -220,7 +217,7 @@ pub(crate) fn push_face<'a, D: BidiData>(
     w: u16,
 ) -> Result<(), AllocError>
     requires letter { HasLetter unit.face }
-    requires stands { StandsInRow text.now unit.at }
+    requires stands { StandsThere text.now unit.at }
     ensures { OnOk result (map glyph_of glyphs.new.items ≡ map glyph_of glyphs.old.items
         ++ face_glyphs (D.data tables.now) w text.entry.now unit.entry.face unit.entry.columns unit.entry.at.level
         (forms_of_unit (D.data tables.now) unit.entry.at text.entry.now)) }

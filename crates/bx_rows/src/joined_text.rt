@@ -14,6 +14,7 @@ ghost use Rattle.bx_ucd.specs.declared.joining.Form.{Form};
 
 use crate::drawn::Drawn;
 use crate::glyphs::is_own;
+use crate::mirrors::fixed_text;
 use crate::row_at::RowAt;
 use bx_cells::face;
 use bx_joining::{LeveledBody, TextAt, joined_image, shown_form};
@@ -87,6 +88,10 @@ fn join_at<D: BidiData>(
     let Some(shown) = shown_form(at.letter, at.place, tables) else {
         return Ok(());
     };
+    if let Some(text) = fixed_text(shown, tables, w) {
+        drawn.text = CowStr::Borrowed(text);
+        return Ok(());
+    }
     let mut other = String::new(alloc);
     other.push(shown)?;
     if is_own(face(other.as_str(), tables, w), 1) {

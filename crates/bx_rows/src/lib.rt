@@ -5,6 +5,7 @@
 
 mod ascii_part;
 mod drawn;
+mod form_texts;
 mod glyphs;
 mod joined_text;
 mod laws;

@@ -9,8 +9,9 @@ ghost use Rattle.bx_rows.specs.RowPicture.{glyph, mirror_image, mirror_image_wit
 ghost use Rattle.bx_rows.specs.Shown.{glyph_of};
 
 use crate::drawn::Drawn;
+use crate::form_texts::form_text;
 use crate::glyphs::{is_own, letter};
-use crate::plain_row::is_plain;
+use crate::plain_row::is_narrow;
 use bx_cells::face;
 use bx_joining::has_forms;
 use bx_terms::first_char;
@@ -64,21 +65,28 @@ fn mirror_image<D: BidiData>(alloc: Global, text: &str, tables: &D) -> Result<St
     Ok(other)
 }
 
-/// The fixed text of a character from SPACE to TILDE that is shown as itself in one column.
-fn fixed_text<'a, D: BidiData>(c: char, tables: &D, w: u16) -> Option<&'a str>
-    ensures bytes { IfSome result (λ t. t.now ≡ encode_utf8 c) }
-    ensures face { IfSome result (λ t. face (D.data tables.now) w t.now ≡ Own 1) }
+/// The fixed text of a character from SPACE to TILDE, or of an Arabic letter in a form.
+fn text_of<'a>(c: char) -> Option<&'a str>
+    ensures { IfSome result (λ t. t.now ≡ encode_utf8 c) }
 {
     if c < ' ' || c > '~' {
-        return None;
-    }
-    if !is_plain(c, tables, w) {
-        return None;
+        return form_text(c);
     }
     Some(letter(c as u8))
 }
 
-/// The mirror of a text of one character, if it is printable ASCII: a fixed text, so nothing is allocated.
+/// The fixed text of such a character that is shown as itself in one column.
+pub(crate) fn fixed_text<'a, D: BidiData>(c: char, tables: &D, w: u16) -> Option<&'a str>
+    ensures bytes { IfSome result (λ t. t.now ≡ encode_utf8 c) }
+    ensures face { IfSome result (λ t. face (D.data tables.now) w t.now ≡ Own 1) }
+{
+    if !is_narrow(c, tables, w) {
+        return None;
+    }
+    text_of(c)
+}
+
+/// The mirror of a text of one character, if it has a fixed text, so that nothing is allocated.
 fn fixed_mirror<'a, D: BidiData>(text: &str, tables: &D, w: u16) -> Option<&'a str>
     ensures { IfSome result (λ t. t.now ≡ mirror_image_within (D.data tables.now) w 1 text.now) }
 {

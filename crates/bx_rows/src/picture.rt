@@ -10,7 +10,7 @@ ghost use Rattle.bx_rows.specs.VisualOrder.{visual};
 
 use crate::drawn::{Drawn, RowPicture};
 use crate::glyphs::{LeveledFace, UnitAt, push_face, with_blanks};
-use crate::row_at::RowAt;
+use crate::row_at::{RowAt, moved};
 use crate::start_search::RowStart;
 use crate::visual_order::visual;
 use crate::wrapping::columns_at;
@@ -94,19 +94,19 @@ fn push_units<'a, D: BidiData>(
     requires order { All (λ k. k < length row.now.units.now) row.now.order.now }
     requires body { row.now.at.body.text.now ≡ body.now }
     requires starts { StartsRow body.now row.now.at.start }
-    requires behind { All (λ u. row.now.at.start.offset ≤ u.start) row.now.units.now }
     ensures { OnOk result (map glyph_of glyphs.new.items ≡ map glyph_of glyphs.old.items
         ++ flat_map (λ k. slice_index_or (unit_glyphs (D.data tables.now) w body.entry.now row.now.at.body.each.now row.now.units.now row.now.columns.now
         row.now.levels.now) k []) row.now.order.now) }
 {
+    let mut near = row.at.first();
     for number in row.order {
         let unit = row.units[*number];
+        near = moved(near, unit.start);
         let face = LeveledFace {
             face: unit.face,
             columns: row.columns[*number],
             at: UnitAt {
-                row: row.at,
-                offset: unit.start,
+                place: near,
                 level: row.levels[*number],
             },
         };
@@ -128,7 +128,6 @@ fn unit_row<'a, D: BidiData>(
     requires used { columns_used w row.now.units.now ≤ w }
     requires levels { length row.now.levels.now ≡ length row.now.units.now }
     requires starts { StartsRow body.now row.now.start }
-    requires behind { All (λ u. row.now.start.offset ≤ u.start) row.now.units.now }
     ensures glyphs { IfOk result (λ r. map glyph_of r.0.items
         ≡ own_glyphs (D.data tables.now) w body.entry.now row.now.each.now row.now.units.now row.now.levels.now) }
     ensures used { IfOk result (λ r. r.1 ≡ columns_used w row.now.units.now) }
@@ -160,7 +159,6 @@ fn row_glyphs<'a, D: BidiData>(
     requires used { columns_used w row.now.units.now ≤ w }
     requires levels { length row.now.levels.now ≡ length row.now.units.now }
     requires starts { StartsRow body.now row.now.start }
-    requires behind { All (λ u. row.now.start.offset ≤ u.start) row.now.units.now }
     ensures { IfOk result (λ v. map glyph_of v.items
         ≡ draw (D.data tables.now) w body.entry.now row.now.paragraph row.now.each.now row.now.units.now row.now.levels.now) }
 {
@@ -184,7 +182,6 @@ pub fn draw<'a, D: BidiData>(
     requires fits { columns_used w row.now.units.now ≤ w }
     requires levels { length row.now.levels.now ≡ length row.now.units.now }
     requires starts { StartsRow body.now row.now.start }
-    requires behind { All (λ u. row.now.start.offset ≤ u.start) row.now.units.now }
     ensures picture { IfOk result (λ p. map glyph_of p.glyphs.items
         ≡ draw (D.data tables.now) w body.entry.now row.now.paragraph row.now.each.now row.now.units.now row.now.levels.now) }
     ensures glyphs { IfOk result (λ p. All (λ g. is_one_glyph (cow_str_bytes g.text) ≡ true) p.glyphs.items) }
@@ -210,7 +207,6 @@ pub(crate) fn draw_units<'a, D: BidiData>(
     requires fits { columns_used w row.now.units.now ≤ w }
     requires levels { length row.now.levels.now ≡ length row.now.units.now }
     requires starts { StartsRow body.now row.now.start }
-    requires behind { All (λ u. row.now.start.offset ≤ u.start) row.now.units.now }
     ensures picture { IfOk result (λ p. map glyph_of p.glyphs.items
         ≡ own_glyphs (D.data tables.now) w body.entry.now row.now.each.now row.now.units.now row.now.levels.now) }
     ensures glyphs { IfOk result (λ p. All (λ g. is_one_glyph (cow_str_bytes g.text) ≡ true) p.glyphs.items) }

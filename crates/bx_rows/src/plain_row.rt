@@ -5,6 +5,7 @@ ghost use Rattle.bx_cells.specs.declared.unit.Face.TheVariants.{Own};
 ghost use Rattle.bx_cells.specs.declared.unit.Unit.{Unit};
 ghost use Rattle.bx_cells.specs.Simple.{begins};
 ghost use Rattle.bx_cells.specs.SimpleFace.{simple_face};
+ghost use Rattle.bx_cells.specs.SimpleRanges.{Tells};
 ghost use Rattle.bx_cells.specs.Units.{units_from};
 ghost use Rattle.bx_rows.specs.LevelReads.{Reads};
 ghost use Rattle.bx_rows.specs.PlainRows.{AreSingle, IsClusterEnd};
@@ -33,16 +34,34 @@ pub(crate) struct PlainRow<'a> {
     pub(crate) levels: Vec<u8>,
 }
 
-/// Whether a character is a unit of one column with its own text, provided that a unit begins after it.
+/// Whether a character of a kind is a unit of one column with its own text, provided that a unit begins after it.
+#[inline(always)]
+fn is_single<D: BidiData>(c: char, kind: Simple, tables: &D, w: u16) -> bool
+    requires { Tells c kind }
+    ensures begin { result ≡ true → begins c ≡ true }
+    ensures face { result ≡ true → simple_face (D.data tables.now) w c false ≡ Own 1 }
+{
+    let Simple::Begins(columns) = kind else {
+        return false;
+    };
+    is_own(simple_face(c, columns, false, tables, w), 1)
+}
+
+/// Whether a common character is such a unit; false for all others.
 #[inline(always)]
 pub(crate) fn is_plain<D: BidiData>(c: char, tables: &D, w: u16) -> bool
     ensures begin { result ≡ true → begins c ≡ true }
     ensures face { result ≡ true → simple_face (D.data tables.now) w c false ≡ Own 1 }
 {
-    let Simple::Begins(columns) = common_kind(c) else {
-        return false;
-    };
-    is_own(simple_face(c, columns, false, tables, w), 1)
+    is_single(c, common_kind(c), tables, w)
+}
+
+/// Whether a simple character is such a unit; false for all others.
+pub(crate) fn is_narrow<D: BidiData>(c: char, tables: &D, w: u16) -> bool
+    ensures begin { result ≡ true → begins c ≡ true }
+    ensures face { result ≡ true → simple_face (D.data tables.now) w c false ≡ Own 1 }
+{
+    is_single(c, simple_kind(c), tables, w)
 }
 
 /// The class of a plain character; none for any other.

@@ -1,7 +1,6 @@
-//! The position of a row in its body.
-ghost use Rattle.std.specs.Prelude.{◌≡◌, ◌≤◌, chars, length, take};
+//! The place of a row, and of a unit, in their body.
+ghost use Rattle.std.specs.Prelude.{◌≡◌, chars, length, take};
 ghost use Rattle.std.specs.Str.{IsCharBoundary};
-ghost use Rattle.bx_rows.specs.RowStarts.{StartsRow};
 
 use crate::start_search::RowStart;
 use crate::unit_levels::char_count;
@@ -15,25 +14,52 @@ pub(crate) struct RowAt<'t, 'e> {
 }
 
 impl<'t, 'e> RowAt<'t, 'e> {
-    /// The position in the body of a text that begins at `offset`, in this row or later.
-    pub(crate) fn text_at(self, offset: usize) -> TextAt<'t, 'e>
-        requires starts { StartsRow self.body.text.now self.start }
-        requires order { self.start.offset ≤ offset }
-        requires boundary { IsCharBoundary self.body.text.now offset }
-        ensures offset { result.offset ≡ offset }
-        ensures number { result.number ≡ length (chars (take offset self.entry.body.text.now)) }
+    /// The place of the row's start.
+    pub(crate) fn first(self) -> TextAt<'t, 'e>
+        ensures offset { result.offset ≡ self.entry.start.offset }
+        ensures number { result.number ≡ self.entry.start.chars }
         ensures text { result.body.text.now ≡ self.entry.body.text.now }
         ensures each { result.body.each.now ≡ self.entry.body.each.now }
     {
-        let text = self.body.text();
-        let before = char_count(&text[self.start.offset..offset]);
         TextAt {
-            body: LeveledBody {
-                text,
-                each: self.body.each,
-            },
-            offset,
-            number: self.start.chars + before,
+            body: self.body,
+            offset: self.start.offset,
+            number: self.start.chars,
         }
+    }
+}
+
+/// The number of characters before an offset of a text, counted from a place before or behind it.
+fn number_at(text: &str, near: usize, number: usize, offset: usize) -> usize
+    requires near { IsCharBoundary text.now near }
+    requires number { number ≡ length (chars (take near text.now)) }
+    requires offset { IsCharBoundary text.now offset }
+    ensures { result ≡ length (chars (take offset text.now)) }
+{
+    if near <= offset {
+        return number + char_count(&text[near..offset]);
+    }
+    number - char_count(&text[offset..near])
+}
+
+/// The place at another offset of a body. Only the text between both places is read.
+pub(crate) fn moved<'t, 'e>(near: TextAt<'t, 'e>, offset: usize) -> TextAt<'t, 'e>
+    requires from { IsCharBoundary near.body.text.now near.offset }
+    requires number { near.number ≡ length (chars (take near.offset near.body.text.now)) }
+    requires to { IsCharBoundary near.body.text.now offset }
+    ensures offset { result.offset ≡ offset }
+    ensures number { result.number ≡ length (chars (take offset near.entry.body.text.now)) }
+    ensures text { result.body.text.now ≡ near.entry.body.text.now }
+    ensures each { result.body.each.now ≡ near.entry.body.each.now }
+{
+    let text = near.body.text();
+    let number = number_at(text, near.offset, near.number, offset);
+    TextAt {
+        body: LeveledBody {
+            text,
+            each: near.body.each,
+        },
+        offset,
+        number,
     }
 }

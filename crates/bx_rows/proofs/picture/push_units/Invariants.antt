@@ -1,12 +1,13 @@
--- The glyphs of the units read so far are added.
+-- The glyphs of the units read so far are added, and a place of the body is counted.
 use Rattle.std.proofs.Common.{◌≡◌, ◌++◌, [], map, take}
 use Rattle.std.specs.Prelude.{flat_map, slice_index_or}
 use Rattle.bx_rows.specs.RowPicture.{unit_glyphs}
 use Rattle.bx_rows.specs.Shown.{glyph_of}
+use Rattle.bx_rows.proofs.RowPlaces.{IsNear}
 use Rattle.bx_rows.proofs.picture.push_units.Given as goal
 
 abbrev pub invariant-loop-number : goal.invariant-loop-number
 invariant-loop-number g l =
-    map glyph_of l.glyphs.items ≡ map glyph_of l.initial.glyphs.items
+    (map glyph_of l.glyphs.items ≡ map glyph_of l.initial.glyphs.items
     ++ flat_map (λ k. slice_index_or (unit_glyphs (g.D.BidiData.data l.tables) l.w l.body l.row.at.body.each.now l.row.units.now l.row.columns.now l.row.levels.now) k
-    []) (take l.number-index l.row.order.now)
+    []) (take l.number-index l.row.order.now)) × IsNear l.body l.row.at.body.each.now l.near

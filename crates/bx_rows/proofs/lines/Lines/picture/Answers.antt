@@ -3,19 +3,13 @@ use Rattle.std.specs.Prelude.{IfOk}
 use Rattle.bx_rows.specs.Lines.{levels_of}
 use Rattle.bx_rows.specs.Shown.{glyph_of}
 use Rattle.bx_rows.proofs.PictureLaws.{same-draw}
-use Rattle.bx_rows.proofs.RowPlaces.{behind-start, starts-at}
+use Rattle.bx_rows.proofs.RowPlaces.{starts-at}
 use Rattle.bx_rows.proofs.lines.Lines.picture.Goals as goal
 
 pub draw-requires-clause-starts : goal.draw-requires-clause-starts
 draw-requires-clause-starts g c =
     let self = c.args.self.now in
     starts-at (g.D.BidiData.data self.tables.now) self.w self.body.now self.starts.now c.args.number _ self.utf8 self.rows c.requires
-
-pub draw-requires-clause-behind : goal.draw-requires-clause-behind
-draw-requires-clause-behind g c =
-    let self = c.args.self.now in
-    behind-start (g.D.BidiData.data self.tables.now) self.w self.body.now self.starts.now c.args.number _ _ self.utf8 self.rows c.requires
-    (c.deref-2.ensures.value ∙ c.in_ok-units.ensures.units)
 
 pub returns-clause-picture : goal.returns-clause-picture
 returns-clause-picture g c =
