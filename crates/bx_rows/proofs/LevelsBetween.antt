@@ -1,9 +1,9 @@
 -- The levels of a row's units from one letter to another of its level: none is lower if none of the characters between has a lower one.
-use Rattle.std.proofs.Common.{◌≡◌, ◌⊎◌, ℕ, zero, suc, ◌+◌, ◌<◌, ◌≤◌, Bool, true, false, List, [], ◌∷◌, ◌++◌, length, get_or, take, drop, All, Option, Some, None}
+use Rattle.std.proofs.Common.{◌≡◌, ℕ, zero, suc, ◌+◌, ◌<◌, ◌≤◌, Bool, true, false, List, [], ◌∷◌, ◌++◌, length, get_or, take, drop, All, Option, Some, None}
 use Rattle.std.proofs.Common.{◌-◌, refl, sym, ap, subst, ◌∙◌, arith, inl, inr}
 use Rattle.std.specs.Prelude.{◌&&◌, unwrap_or}
 use Rattle.std.proofs.lemmas.Bool.{and_parts, cases_lt}
-use Rattle.std.proofs.lemmas.List.{get_or-append-add, get_or-drop}
+use Rattle.std.proofs.lemmas.List.{get_or-drop}
 use Rattle.std.proofs.lemmas.List.Elements.{All-head, All-tail}
 use Rattle.bx_ucd.specs.declared.class.Class.{Class}
 use Rattle.bx_rows.specs.RowLevels.{CharLevel, first_level, is_segment_separator, is_trailing, l1, level_at, levels_or_before, only_trailing, trails, unit_levels}
@@ -79,7 +79,7 @@ first-own b (suc c) l [] h e = absurd (cc e)
 first-own b (suc c) l (None ∷ ls) h e = absurd (cc e)
 first-own b (suc c) l (Some m ∷ ls) h e = cc e
 
-unit-own : (b i l : ℕ) (counts : List ℕ) (ls : List (Option ℕ)) → i < length counts → 0 < get_or counts i 0 → get_or ls (before i counts) None ≡ Some l
+pub unit-own : (b i l : ℕ) (counts : List ℕ) (ls : List (Option ℕ)) → i < length counts → 0 < get_or counts i 0 → get_or ls (before i counts) None ≡ Some l
     → get_or (levels_or_before b (unit_levels counts ls)) i 0 ≡ l
 unit-own b i l [] ls h some e = absurd (omega (arith, h))
 unit-own b zero l (c ∷ counts) ls h some e = first-own b c l ls some e
@@ -88,7 +88,7 @@ unit-own b (suc i) l (c ∷ counts) ls h some e =
 
 -- ---- the levels of characters after L1
 
-l1-behind : (p x : ℕ) (front rest : List CharLevel) → get_or (l1 p (front ++ rest)) (length front + x) None ≡ get_or (l1 p rest) x None
+pub l1-behind : (p x : ℕ) (front rest : List CharLevel) → get_or (l1 p (front ++ rest)) (length front + x) None ≡ get_or (l1 p rest) x None
 l1-behind p x [] rest = let e : 0 + x ≡ x = omega arith in ap (λ y. get_or (l1 p rest) y None) e
 l1-behind p x (c ∷ front) rest =
     let e : suc (length front) + x ≡ suc (length front + x) = omega arith in
@@ -101,12 +101,15 @@ trails-on class (Some l) b s e =
     let parts : (is_trailing class && b) ≡ true = sym (ap (λ x. elim x as (λ _. Bool) [ true ↦ true | false ↦ is_trailing class && b ]) s) ∙ e in
     (and_parts (is_trailing class) b parts).1
 
-end-trails : (n : ℕ) (cs : List CharLevel) (last : CharLevel) (rest : List CharLevel) → All (λ c. (is_segment_separator c.0 ≡ false) × ((l : ℕ) → c.1 ≡ Some l → n ≤ l)) cs
+-- no segment separator, and of no level below `n`
+abbrev pub IsBetween : ℕ → CharLevel → Type 0
+IsBetween n c = (is_segment_separator c.0 ≡ false) × ((l : ℕ) → c.1 ≡ Some l → n ≤ l)
+
+end-trails : (n : ℕ) (cs : List CharLevel) (last : CharLevel) (rest : List CharLevel) → All (IsBetween n) cs
     → only_trailing (cs ++ last ∷ rest) ≡ true → trails last (only_trailing rest) ≡ true
 end-trails n [] last rest a e = e
 end-trails n (c ∷ cs) last rest a e =
-    let P : CharLevel → Type 0 = λ c. (is_segment_separator c.0 ≡ false) × ((l : ℕ) → c.1 ≡ Some l → n ≤ l) in
-    end-trails n cs last rest (All-tail P c cs a) (trails-on c.0 c.1 (only_trailing (cs ++ last ∷ rest)) (All-head P c cs a).0 e)
+    end-trails n cs last rest (All-tail (IsBetween n) c cs a) (trails-on c.0 c.1 (only_trailing (cs ++ last ∷ rest)) (All-head (IsBetween n) c cs a).0 e)
 
 level-chosen : (p n m l : ℕ) (class : Class) (t : Bool) → n ≤ m → (t ≡ true → p ≡ n) → level_at p (class, Some m) t ≡ Some l → n ≤ l
 level-chosen p n m l class true h f e =
@@ -121,16 +124,14 @@ own-least p n l class (Some m) after s h f e =
 
 -- characters before one that trails only in a paragraph of its own level
 between-least : (p n x l : ℕ) (cs : List CharLevel) (last : CharLevel) (rest : List CharLevel)
-    → All (λ c. (is_segment_separator c.0 ≡ false) × ((l : ℕ) → c.1 ≡ Some l → n ≤ l)) cs
+    → All (IsBetween n) cs
     → (trails last (only_trailing rest) ≡ true → p ≡ n) → x < length cs → get_or (l1 p (cs ++ last ∷ rest)) x None ≡ Some l → n ≤ l
 between-least p n x l [] last rest a f h e = absurd (omega (arith, h))
 between-least p n zero l (c ∷ cs) last rest a f h e =
-    let P : CharLevel → Type 0 = λ c. (is_segment_separator c.0 ≡ false) × ((l : ℕ) → c.1 ≡ Some l → n ≤ l) in
-    let own = All-head P c cs a in
-    own-least p n l c.0 c.1 (only_trailing (cs ++ last ∷ rest)) own.0 own.1 (λ t. f (end-trails n cs last rest (All-tail P c cs a) t)) e
+    let own = All-head (IsBetween n) c cs a in
+    own-least p n l c.0 c.1 (only_trailing (cs ++ last ∷ rest)) own.0 own.1 (λ t. f (end-trails n cs last rest (All-tail (IsBetween n) c cs a) t)) e
 between-least p n (suc x) l (c ∷ cs) last rest a f h e =
-    let P : CharLevel → Type 0 = λ c. (is_segment_separator c.0 ≡ false) × ((l : ℕ) → c.1 ≡ Some l → n ≤ l) in
-    between-least p n x l cs last rest (All-tail P c cs a) f (omega (arith, h)) e
+    between-least p n x l cs last rest (All-tail (IsBetween n) c cs a) f (omega (arith, h)) e
 
 -- ---- both
 
@@ -149,7 +150,7 @@ pub record HasLetters (n i j : ℕ) (counts : List ℕ) (cs : List CharLevel) : 
   pub are : cs ≡ front ++ ((one, Some n) ∷ (inside ++ ((other, Some n) ∷ rest)))
   pub at_one : before i counts ≡ length front
   pub at_other : before j counts ≡ length front + (1 + length inside)
-  pub least : All (λ c. (is_segment_separator c.0 ≡ false) × ((l : ℕ) → c.1 ≡ Some l → n ≤ l)) inside
+  pub least : All (IsBetween n) inside
 
 pub none-lower : (p n i j k : ℕ) (counts : List ℕ) (cs : List CharLevel) → HasLetters n i j counts cs → i < j → j < length counts
     → 0 < get_or counts i 0 → 0 < get_or counts j 0

@@ -16,6 +16,7 @@ pub mod NumbersBelow
 pub mod TurnedPairs
 pub mod LowestLevels
 pub mod TouchingUnits
+pub mod TouchingPictures
 pub mod LevelsBetween
 pub mod UnitsShown
 pub mod PictureLaws

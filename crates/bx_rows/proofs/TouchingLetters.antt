@@ -5,20 +5,21 @@ use Rattle.std.specs.Prelude.{◌&&◌, ◌||◌, not, HoldsAt, encode_utf8_all,
 use Rattle.std.specs.List.{list_any, zip}
 use Rattle.std.proofs.Math.Seq.{drop-append_seam}
 use Rattle.std.proofs.lemmas.Bool.{and_parts, cases_lt, eqb-true, lt-ltb, or_parts}
-use Rattle.std.proofs.lemmas.List.{drop-append-le, drop-drop, get_or-append-add, get_or-map, get_or_append_left, length-map, length-take-le, map-append}
+use Rattle.std.proofs.lemmas.List.{drop-append-le, drop-drop, get_or_default, get_or-append-add, get_or-map, get_or_append_left, length-map, length-take-le, map-append}
 use Rattle.std.proofs.lemmas.List.Elements.{All-cons, All-head, All-nil, All-tail}
 use Rattle.std.proofs.lemmas.Str.{IsUtf8-between, IsUtf8-take, chars-append, encodes-chars}
 use Rattle.std.specs.Str.{IsCharBoundary}
 use Rattle.bx_ucd.specs.Data.{Data}
+use Rattle.bx_ucd.specs.declared.class.Class.{Class}
 use Rattle.bx_cells.specs.declared.unit.Face.TheVariants.{Tab}
 use Rattle.bx_cells.specs.declared.unit.Unit.{Unit}
 use Rattle.bx_cells.specs.Units.{StandsIn, unit_chars, unit_text}
-use Rattle.bx_joining.specs.Joining.{Joiner, are_one_odd, is_lower, is_transparent, joins_back, joins_on, none_is_lower}
+use Rattle.bx_joining.specs.Joining.{are_one_odd, is_lower, is_transparent, joins_back, joins_on, none_is_lower}
 use Rattle.bx_rows.specs.Laws.{StandInTurn}
-use Rattle.bx_rows.specs.RowLevels.{CharLevel, chars_before, is_segment_separator, l1, levels_or_before, row_chars, row_levels, unit_levels}
-use Rattle.bx_rows.specs.TouchingLetters.{BeginJoined, IsPassedOver, JoinedLettersTouch, joiner}
+use Rattle.bx_rows.specs.RowLevels.{CharLevel, chars_before, is_segment_separator, is_trailing, l1, level_at, levels_or_before, only_trailing, row_chars, row_levels, trails, unit_levels}
+use Rattle.bx_rows.specs.TouchingLetters.{BeginJoined, IsPassedOver, JoinedLettersTouch, LettersKeepLevels, joiner}
 use Rattle.bx_rows.proofs.RowUnits.{chars-behind}
-use Rattle.bx_rows.proofs.LevelsBetween.{HasLetters, before, none-lower}
+use Rattle.bx_rows.proofs.LevelsBetween.{HasLetters, IsBetween, before, l1-behind, none-lower, unit-own}
 use Rattle.bx_rows.proofs.TouchingUnits.{all-at, equal-odd-touch}
 
 -- ---- letters that join
@@ -34,9 +35,6 @@ not-lower m n e =
 -- the class and the level of a character
 abbrev classed : Data → ℕ × Option ℕ → CharLevel
 classed says c = (says.class c.0, c.1)
-
-abbrev IsBetween : ℕ → CharLevel → Type 0
-IsBetween n c = (is_segment_separator c.0 ≡ false) × ((l : ℕ) → c.1 ≡ Some l → n ≤ l)
 
 not-lower-at : (n l : ℕ) (o : Option ℕ) → (is_lower o (Some n) || is_lower o (Some n)) ≡ false → o ≡ Some l → n ≤ l
 not-lower-at n l o e f =
@@ -213,6 +211,22 @@ begins-well : (body : List ℕ) (us : List Unit) (start stop : ℕ) → All (Sta
 begins-well body [] start stop a t h = absurd (omega (arith, h))
 begins-well body (u ∷ us) start stop a t h = subst (IsCharBoundary body) t.0 (All-head (StandsIn body) u us a).1
 
+-- the characters of a body with their levels, from a row's start on
+from-row : (body : List ℕ) (each : List (Option ℕ)) (us : List Unit) (start stop : ℕ) → IsUtf8 body → All (StandsIn body) us
+    → StandInTurn start (spans us) stop → 0 < length us → (front all : List (ℕ × Option ℕ)) → zip (chars body) each ≡ front ++ all
+    → length (chars (take start body)) ≤ length front
+    → zip (flat_map (unit_chars body) us ++ chars (drop stop body)) (drop (length (chars (take start body))) each)
+    ≡ drop (length (chars (take start body))) front ++ all
+from-row body each us start stop valid a t some front all e h =
+    let number = length (chars (take start body)) in
+    let rest = flat_map (unit_chars body) us ++ chars (drop stop body) in
+    let boundary = begins-well body us start stop a t some in
+    let split : chars body ≡ chars (take start body) ++ rest =
+    ap chars (sym (take-append-drop start body)) ∙ chars-append (take start body) (drop start body) (IsUtf8-take body start valid boundary)
+    ∙ ap (λ x. chars (take start body) ++ x) (units-chars body valid us start stop a t) in
+    ap (λ x. zip x (drop number each)) (sym (ap (drop number) split ∙ drop-append_seam (chars (take start body)) rest))
+    ∙ sym (zip-drop number (chars body) each) ∙ ap (drop number) e ∙ drop-append-le number front all h
+
 -- the row's characters with their levels, from its start up to the second letter
 record InRow (body : List ℕ) (each : List (Option ℕ)) (us : List Unit) (i j n first second : ℕ) (between : List (ℕ × Option ℕ)) : Type 0 where
   own : List ℕ
@@ -234,17 +248,12 @@ in-row says body each us start stop i j n valid a t h within s =
     let own = flat_map (unit_chars body) us in
     let number = length (chars (take start body)) in
     let begins = begins-where body us start stop t (omega (arith, within)) in
-    let boundary = begins-well body us start stop a t (omega (arith, within)) in
     let one = sym (unit-start body valid us start stop i d a t (omega (arith, h, within))) ∙ s.one d in
     let other = sym (unit-start body valid us start stop j d a t within) ∙ s.other d in
     let front = drop number s.before in
     let size : length front ≡ length s.before - number = length-drop number s.before in
-    let split : chars body ≡ chars (take start body) ++ (own ++ chars (drop stop body)) =
-    ap chars (sym (take-append-drop start body)) ∙ chars-append (take start body) (drop start body) (IsUtf8-take body start valid boundary)
-    ∙ ap (λ x. chars (take start body) ++ x) (units-chars body valid us start stop a t) in
     let behind : zip (own ++ chars (drop stop body)) (drop number each) ≡ (front ++ ((s.first, Some n) ∷ s.between)) ++ ((s.second, Some n) ∷ s.after) =
-    ap (λ x. zip x (drop number each)) (sym (ap (drop number) split ∙ drop-append_seam (chars (take start body)) (own ++ chars (drop stop body))))
-    ∙ sym (zip-drop number (chars body) each) ∙ ap (drop number) s.body_is ∙ drop-append-le number s.before all (omega (arith, one))
+    from-row body each us start stop valid a t (omega (arith, within)) s.before all s.body_is (omega (arith, one))
     ∙ sym (append_assoc front ((s.first, Some n) ∷ s.between) ((s.second, Some n) ∷ s.after)) in
     let count : length (front ++ ((s.first, Some n) ∷ s.between)) ≡ length front + suc (length s.between) = length-append front ((s.first, Some n) ∷ s.between) in
     let inside = before-within body valid us j within in
@@ -323,3 +332,40 @@ joined-touch says body paragraph each us start stop i j n valid a t h within s o
       touch = equal-odd-touch levels i j n h (omega (arith, within, count)) joins.odd (record { one = one; other = other; least = least });
       passed = passed-over says body each us start stop i j n s.first s.second s.between valid a t within s.passed r;
     }
+
+-- ---- a letter that L1 leaves
+
+stays : (p n : ℕ) (class : Class) (b : Bool) → is_segment_separator class ≡ false → is_trailing class ≡ false
+    → level_at p (class, Some n) (trails (class, Some n) b) ≡ Some n
+stays p n class b e f =
+    ap (λ x. level_at p (class, Some n) (elim x as (λ _. Bool) [ true ↦ true | false ↦ is_trailing class && b ])) e
+    ∙ ap (λ x. level_at p (class, Some n) (x && b)) f
+
+pub letters-keep-levels : LettersKeepLevels
+letters-keep-levels says body paragraph each us start stop i n valid a t within s d =
+    let f = classed says in
+    let none : Unit = record { start = 0; stop = 0; face = Tab } in
+    let own = flat_map (unit_chars body) us in
+    let number = length (chars (take start body)) in
+    let front = drop number s.before in
+    let some = unit-some body valid us start stop i a t within in
+    let one = sym (unit-start body valid us start stop i none a t within) ∙ s.begins none in
+    let size : length front ≡ length s.before - number = length-drop number s.before in
+    let behind = from-row body each us start stop valid a t (omega (arith, within)) s.before ((s.letter, Some n) ∷ s.after) s.body_is (omega (arith, one)) in
+    let found = zip-front own (chars (drop stop body)) (drop number each) front (s.letter, Some n) s.after behind
+    (omega (arith, size, one, before-within body valid us i within, some)) in
+    let cs = counts body us in
+    let ls = l1 paragraph (row_chars says body each us) in
+    let rest = map f found.0 in
+    let are : row_chars says body each us ≡ map f front ++ (f (s.letter, Some n) ∷ rest) =
+    ap (λ k. zip (map says.class own) (drop k each)) (begins-where body us start stop t (omega (arith, within)))
+    ∙ classed-zip says own (drop number each) ∙ ap (map f) found.1 ∙ map-append f front ((s.letter, Some n) ∷ found.0) in
+    let place : before i cs ≡ length (map f front) + 0 = omega (arith, one, size, length-map front f) in
+    let here : get_or ls (before i cs) None ≡ Some n =
+    ap (λ x. get_or ls x None) place ∙ ap (λ ys. get_or (l1 paragraph ys) (length (map f front) + 0) None) are
+    ∙ l1-behind paragraph 0 (map f front) (f (s.letter, Some n) ∷ rest)
+    ∙ stays paragraph n (says.class s.letter) (only_trailing rest) s.no_separator s.no_blank in
+    let count = length-map us (λ u. length (unit_chars body u)) in
+    let all = levels-length paragraph cs ls in
+    get_or_default (levels_or_before paragraph (unit_levels cs ls)) i d 0 (omega (arith, within, count, all))
+    ∙ unit-own paragraph i n cs ls (omega (arith, within, count)) some here

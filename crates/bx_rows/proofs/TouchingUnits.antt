@@ -1,7 +1,7 @@
 -- Two units of one odd level, with no lower level between them: no other unit stands between them.
-use Rattle.std.proofs.Common.{◌≡◌, ◌⊎◌, ℕ, zero, suc, ◌+◌, ◌-◌, ◌%◌, ◌<◌, ◌≤◌, List, [], ◌∷◌, ◌++◌, length, get_or, take, All}
+use Rattle.std.proofs.Common.{◌≡◌, ℕ, zero, suc, ◌+◌, ◌-◌, ◌%◌, ◌<◌, ◌≤◌, List, ◌∷◌, ◌++◌, length, get_or, take, All}
 use Rattle.std.proofs.Common.{refl, sym, ap, subst, ◌∙◌, arith, inl, inr, ⊎_elim, length-append}
-use Rattle.std.specs.Prelude.{HoldsAt, IsPermutation}
+use Rattle.std.specs.Prelude.{HoldsAt}
 use Rattle.std.specs.List.{between, range_with_len, sum_by}
 use Rattle.std.proofs.Math.Seq.{get_or-append_seam}
 use Rattle.std.proofs.lemmas.Bool.{cases_lt}
@@ -11,7 +11,7 @@ use Rattle.std.proofs.lemmas.List.FromFn.{get_or-range_with_len, length-range_wi
 use Rattle.std.proofs.lemmas.List.Sorted.{Contains-permutation, IsPermutation-sym, sum_by-IsPermutation}
 use Rattle.std.proofs.lemmas.List.Sums.{sum_by-cons, sum_by-take-le, sum_by_more_le}
 use Rattle.bx_rows.specs.OrderLaws.{AreAtLevel, IsOrderAt, StandsLeft}
-use Rattle.bx_rows.specs.TouchingLetters.{EqualOddLevelsTouch, Touch}
+use Rattle.bx_rows.specs.TouchingLetters.{EqualOddLevelsTouch}
 use Rattle.bx_rows.specs.VisualOrder.{visual}
 use Rattle.bx_rows.proofs.LowestLevels.{equal-order, lowest-order, lowest-part}
 use Rattle.bx_rows.proofs.Permutes.{visual-permutes}

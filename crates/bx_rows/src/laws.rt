@@ -3,7 +3,7 @@
 ghost use Rattle.bx_rows.specs.Laws.{RowsAreOfRest, RowsCutUnits, RowsEndWell, RowsMeetAgain, UnitsFitWindow, UnitsMakeBody, UnitsStandInTurn};
 ghost use Rattle.bx_rows.specs.JoiningLaws.{FormlessRowsStay, FormsChangeTextsAlone, LettersGoByJoining, LettersShowTheirForms};
 ghost use Rattle.bx_rows.specs.OrderLaws.{EqualLevelsOrder, LowestLevelsOrder, LowestStaysBetween, OrdersArePermutations, PicturesGoByLevels, PicturesShowUnits, StaysBetween};
-ghost use Rattle.bx_rows.specs.TouchingLetters.{EqualOddLevelsTouch, JoinedLettersTouch};
+ghost use Rattle.bx_rows.specs.TouchingLetters.{EqualOddLevelsTouch, JoinedLettersTouch, LettersKeepLevels, PicturesShowTouch};
 
 /// The units of a body joined are the body: they are adjacent from its start to its end. Each fits in the window.
 pub fn units_make_body()
@@ -57,12 +57,14 @@ pub fn letters_go_by_joining()
     ensures { LettersGoByJoining }
 {}
 
-/// Two units of one odd level, with no lower level between them, have only units between them that stand between them in the
-/// text. So do two units that begin with letters that join, where the row has both at the letters' level: between them stand
-/// only units of transparent characters.
+/// Two units of one odd level, with no lower level between them, touch: only units between them in the text are between them
+/// on the screen. So do two units that begin with letters that join, where the row has both at the letters' level; letters join
+/// across all that is between. A row has a unit at the level of its first letter, if that is no separator or whitespace.
 pub fn joined_letters_touch()
     ensures units { EqualOddLevelsTouch }
     ensures letters { JoinedLettersTouch }
+    ensures levels { LettersKeepLevels }
+    ensures pictures { PicturesShowTouch }
 {}
 
 /// From any row on, the rows of a body are those of the rest of the body, taken as a body of its own.

@@ -1,4 +1,5 @@
-use Rattle.bx_rows.proofs.TouchingLetters.{joined-touch}
+use Rattle.bx_rows.proofs.TouchingLetters.{joined-touch, letters-keep-levels}
+use Rattle.bx_rows.proofs.TouchingPictures.{pictures-touch}
 use Rattle.bx_rows.proofs.TouchingUnits.{equal-odd-touch}
 use Rattle.bx_rows.proofs.laws.joined_letters_touch.Goals as goal
 
@@ -7,3 +8,9 @@ returns-clause-units c = equal-odd-touch
 
 pub returns-clause-letters : goal.returns-clause-letters
 returns-clause-letters c = joined-touch
+
+pub returns-clause-levels : goal.returns-clause-levels
+returns-clause-levels c = letters-keep-levels
+
+pub returns-clause-pictures : goal.returns-clause-pictures
+returns-clause-pictures c = pictures-touch
