@@ -1,8 +1,9 @@
 -- The definitions, computed on the worked examples.
-use Rattle.std.proofs.Common.{◌≡◌, ℕ, List, [], ◌∷◌, ◌++◌, refl, Option, Some, None, replicate, map}
+use Rattle.std.proofs.Common.{◌≡◌, ℕ, List, [], ◌∷◌, ◌++◌, refl, Option, Some, None, replicate, map, true, false}
+use Rattle.bx_ucd.specs.declared.class.Class.TheVariants.{L, AN, NSM, BN, B, LRE, LRO, RLE, RLO, PDF, LRI, FSI, PDI}
 use Rattle.bx_terms.specs.declared.base.Base.{Base}
 use Rattle.bx_terms.specs.declared.base.Base.TheVariants.{Auto, Ltr, Rtl}
-use Rattle.bx_resolve.specs.Levels.{levels_under, paragraph_level_under}
+use Rattle.bx_resolve.specs.Levels.{is_kept, levels_under, paragraph_level_under}
 use Rattle.bx_resolve.specs.TestTables.{small}
 
 abbrev levels : Base → List ℕ → List (Option ℕ)
@@ -104,3 +105,10 @@ mark_under_an_override = refl
 -- PDI with no initiator
 pdis_match_nothing : all (replicate 100 0x2069 ++ (97 ∷ [])) ≡ some (replicate 101 0)
 pdis_match_nothing = refl
+
+-- X9 keeps letters, numbers, marks, separators and isolates, and removes embeddings, overrides, their ends and BN
+classes_kept : map is_kept (L ∷ AN ∷ NSM ∷ B ∷ LRI ∷ FSI ∷ PDI ∷ []) ≡ replicate 7 true
+classes_kept = refl
+
+classes_removed : map is_kept (LRE ∷ RLE ∷ LRO ∷ RLO ∷ PDF ∷ BN ∷ []) ≡ replicate 6 false
+classes_removed = refl

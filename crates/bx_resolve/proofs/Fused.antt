@@ -7,9 +7,9 @@ use Rattle.std.proofs.Math.Seq.{drop-length}
 use Rattle.bx_ucd.specs.declared.class.Class.TheVariants.{L, R, AL, AN, EN, ES, ET, CS, B, S, WS, ON}
 use Rattle.bx_ucd.specs.declared.class.Class.{Class}
 use Rattle.bx_ucd.specs.Class.{is_neutral}
-use Rattle.bx_resolve.specs.Weak.{w1, w2, w3, w4, w5, w6, w7, weak, w3_at, w6_at, is_en, is_an, is_et, is_settled, beside, separator, is_en_past}
+use Rattle.bx_resolve.specs.Weak.{w1, w2, w3, w4, w5, w6, w7, weak, w3_at, w6_at, is_en, is_an, is_et, beside, separator, is_en_past}
 use Rattle.bx_resolve.specs.Weak.{terminator_of}
-use Rattle.bx_resolve.specs.Turns.{rest_after_w3, after_w1, mark_next, after_w2, strong_next, ahead, after_w5, past_next, after_w7, side_next}
+use Rattle.bx_resolve.specs.Turns.{is_settled, rest_after_w3, after_w1, mark_next, after_w2, strong_next, ahead, after_w5, past_next, after_w7, side_next}
 use Rattle.bx_resolve.specs.Neutral.{n1, n2, n2_at}
 use Rattle.bx_resolve.proofs.Run.{run, w1_run, w2_run, n1_run, next_mark, out_mark, next_strong, out_number, next_beside, out_separator, next_past}
 use Rattle.bx_resolve.proofs.Run.{out_terminator, next_side, out_left, w4_run, w5_run, w7_run, next_neutral, out_neutral}

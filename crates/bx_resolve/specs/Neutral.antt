@@ -1,5 +1,5 @@
 -- N1, N2, I1 and I2.
-use Rattle.std.specs.Prelude.{ℕ, ◌+◌, ◌%◌, Bool, true, false, List, [], ◌∷◌, map}
+use Rattle.std.specs.Prelude.{ℕ, ◌+◌, ◌%◌, true, false, List, [], ◌∷◌, map}
 use Rattle.std.proofs.Common.{zero, suc}
 use Rattle.bx_ucd.specs.declared.class.Class.{Class}
 use Rattle.bx_ucd.specs.declared.class.Class.TheVariants.{L, R, EN, AN}
@@ -35,11 +35,6 @@ n2_at embedding t = elim (is_neutral t) [ true ↦ embedding | false ↦ t ]
 
 abbrev pub n2 : Class → List Class → List Class
 n2 embedding ts = map (n2_at embedding) ts
-
-abbrev pub is_en_or_an : Class → Bool
-is_en_or_an EN = true
-is_en_or_an AN = true
-is_en_or_an _ = false
 
 -- I1: at an even level, R goes up one level, and AN and EN go up two
 abbrev pub rise_even : Class → ℕ

@@ -1,6 +1,7 @@
 -- One step of W1 to W7 in one pass: the state and the type written.
 use Rattle.std.specs.Prelude.{Bool, true, false, List, [], ◌∷◌, Option, Some, None}
 use Rattle.bx_ucd.specs.declared.class.Class.{Class}
+use Rattle.bx_ucd.specs.declared.class.Class.TheVariants.{L, R, B, S, WS, ON}
 use Rattle.bx_ucd.specs.Class.{is_strong}
 use Rattle.bx_resolve.specs.Weak.{is_nsm, is_en, is_et, is_left_or_right, mark_after, number_after, w3_at, is_en_past, terminator_of, left_number}
 
@@ -41,3 +42,13 @@ after_w7 side t = elim (is_en t) [ true ↦ left_number side | false ↦ t ]
 
 abbrev pub side_next : Class → Class → Class
 side_next side t = elim (is_left_or_right t) [ true ↦ t | false ↦ side ]
+
+-- the types that each step keeps, whatever its state
+abbrev pub is_settled : Class → Bool
+is_settled L = true
+is_settled R = true
+is_settled B = true
+is_settled S = true
+is_settled WS = true
+is_settled ON = true
+is_settled _ = false

@@ -1,7 +1,7 @@
 -- W1 to W7, over the types of a sequence.
 use Rattle.std.specs.Prelude.{◌&&◌, Bool, true, false, List, [], ◌∷◌, map}
 use Rattle.bx_ucd.specs.declared.class.Class.{Class}
-use Rattle.bx_ucd.specs.declared.class.Class.TheVariants.{L, R, AL, EN, ES, ET, AN, CS, NSM, B, S, WS, ON, LRI, RLI, FSI, PDI}
+use Rattle.bx_ucd.specs.declared.class.Class.TheVariants.{L, R, AL, EN, ES, ET, AN, CS, NSM, ON, LRI, RLI, FSI, PDI}
 use Rattle.bx_ucd.specs.Class.{is_strong}
 use Rattle.bx_resolve.specs.AtEach.{at_each}
 
@@ -25,16 +25,6 @@ abbrev pub is_left_or_right : Class → Bool
 is_left_or_right L = true
 is_left_or_right R = true
 is_left_or_right _ = false
-
--- the types that W1 to W7 keep in any context
-abbrev pub is_settled : Class → Bool
-is_settled L = true
-is_settled R = true
-is_settled B = true
-is_settled S = true
-is_settled WS = true
-is_settled ON = true
-is_settled _ = false
 
 -- the nearest type that passes the test, or `sos`
 abbrev pub nearest_that : (Class → Bool) → Class → List Class → Class

@@ -1,8 +1,9 @@
 //! The rules for neutral types (N1, N2) and implicit levels (I1, I2).
-ghost use Rattle.std.specs.Prelude.{◌≡◌, ◌≤◌, ◌+◌, All, IfOk, Some};
+ghost use Rattle.std.specs.Prelude.{◌≡◌, ◌≤◌, ◌+◌, ◌||◌, All, IfOk, Some};
 ghost use Rattle.bx_explicit.specs.Stack.{max_depth};
 ghost use Rattle.bx_resolve.specs.Levels.{max_level};
-ghost use Rattle.bx_resolve.specs.Neutral.{side_of, side, agreed, n1, n2, n2_at, is_en_or_an, rise_even, rise_odd, implicit_at, implicit};
+ghost use Rattle.bx_resolve.specs.Neutral.{side_of, side, agreed, n1, n2, n2_at, rise_even, rise_odd, implicit_at, implicit};
+ghost use Rattle.bx_resolve.specs.Weak.{is_an, is_en};
 
 use crate::paragraph::Level;
 use bx_ucd::Class;
@@ -114,7 +115,7 @@ pub fn n1_n2(types: &mut [Class], sos: Class, eos: Class, embedding: Class)
 /// Whether a type is EN or AN.
 #[inline(always)]
 fn is_en_or_an(t: Class) -> bool
-    ensures { result ≡ is_en_or_an t }
+    ensures { result ≡ (is_en t || is_an t) }
 {
     let is_european = matches!(t, Class::EN);
     let is_arabic = matches!(t, Class::AN);

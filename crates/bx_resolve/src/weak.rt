@@ -1,7 +1,7 @@
 //! The rules for weak types (W1 to W7), each as a pass over a sequence, and all in one pass.
 ghost use Rattle.std.specs.Prelude.{◌≡◌, IfOk, MatchOption, map, true};
-ghost use Rattle.bx_resolve.specs.Turns.{rest_after_w3, after_w1, mark_next, after_w2, strong_next, ahead, after_w5, past_next, after_w7, side_next};
-ghost use Rattle.bx_resolve.specs.Weak.{is_nsm, is_en, is_an, is_et, is_settled, mark_after, number_after, w3_at, beside, separator, is_en_past, terminator_of};
+ghost use Rattle.bx_resolve.specs.Turns.{is_settled, rest_after_w3, after_w1, mark_next, after_w2, strong_next, ahead, after_w5, past_next, after_w7, side_next};
+ghost use Rattle.bx_resolve.specs.Weak.{is_nsm, is_en, is_an, is_et, mark_after, number_after, w3_at, beside, separator, is_en_past, terminator_of};
 ghost use Rattle.bx_resolve.specs.Weak.{w6_at, left_number, w1, w2, w3, w4, w5, w6, w7, weak};
 
 use bx_ucd::Class;

@@ -2,8 +2,8 @@ use Rattle.std.proofs.Common.{sym, inr, ⊎_elim, ◌≡◌, ◌+◌, ◌-◌, �
 use Rattle.std.proofs.lemmas.List.{take_all}
 use Rattle.bx_ucd.specs.declared.class.Class.{Class}
 use Rattle.bx_ucd.specs.declared.class.Class.TheVariants.{L}
-use Rattle.bx_resolve.specs.Weak.{is_settled, w3_at, separator, beside}
-use Rattle.bx_resolve.specs.Turns.{ahead, rest_after_w3, after_w1, after_w2, strong_next}
+use Rattle.bx_resolve.specs.Weak.{w3_at, separator, beside}
+use Rattle.bx_resolve.specs.Turns.{ahead, is_settled, rest_after_w3, after_w1, after_w2, strong_next}
 use Rattle.bx_resolve.proofs.Fused.{seen, known_next}
 use Rattle.bx_resolve.proofs.Fused.{settled_keep, settled_strong, further, turn_write, known_after}
 use Rattle.bx_resolve.proofs.weak.weak_in_one_pass.Goals as goal
