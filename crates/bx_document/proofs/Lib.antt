@@ -8,7 +8,6 @@ pub mod RegionColumns
 pub mod TurnedSlots
 pub mod RegionRow
 pub mod RowsDrawn
-pub mod CellColumns
 pub mod TouchedPlace
 pub mod TouchedSpan
 pub mod LineSpan

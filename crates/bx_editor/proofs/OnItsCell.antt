@@ -7,7 +7,7 @@ use Rattle.bx_view.proofs.GlyphCells.{has-cell}
 use Rattle.bx_view.proofs.OneSlot.{one-slot}
 use Rattle.bx_view.proofs.TextPlaces.{place-in-window}
 use Rattle.bx_document.specs.Drawing.{IsAmong}
-use Rattle.bx_document.proofs.CellColumns.{cell-inside}
+use Rattle.bx_view.proofs.CellColumns.{cell-inside}
 use Rattle.bx_ucd.specs.Data.{Data}
 use Rattle.bx_editor.specs.Editor.{Editor, rows, text_height}
 use Rattle.bx_editor.specs.Picture.{StandsOnItsCell, text_picture}

@@ -15,7 +15,7 @@ use Rattle.bx_view.specs.declared.moves.Logical.{Logical}
 use Rattle.bx_view.specs.declared.moves.Logical.TheVariants.{Back, Forward}
 use Rattle.bx_view.specs.declared.moves.Move.{Move}
 use Rattle.bx_view.specs.Cells.{HasCells, HasOneSlot, times}
-use Rattle.bx_view.specs.Laws.{InEachWindow, IsGreatestBefore, IsLeastBehind, IsShownFrom, MovesKeep, MovesLeast, SpansText, WordsGoOn}
+use Rattle.bx_view.specs.Laws.{FindsLeastPlace, InEachWindow, IsGreatestBefore, IsLeastBehind, IsShownFrom, MovesKeep, MovesLeast, PlacesGoOn, SpansText, WordsGoOn}
 use Rattle.bx_view.specs.Moves.{moved}
 use Rattle.bx_view.specs.Places.{IsTextPlace, text_places}
 use Rattle.bx_view.specs.TextRows.{TextRow, places, row_at, row_of, slots, text_rows}
@@ -95,6 +95,60 @@ unfolding unicode_segmentation unicode_width
 moves_in_a law bracket base w m side =
     let keep = law (with_brackets bracket) base w (codes "a") side one_letter in
     let place = keep.moved m 0 (0, omega arith, refl) in either_place place.0 (letter_moved bracket base w m) place.1 place.2
+
+-- ---- the next place
+
+-- `aé`, whose second letter has two bytes
+abbrev two_letters : List ℕ
+two_letters = 97 ∷ 195 ∷ 169 ∷ []
+
+places_of_two : text_places small two_letters ≡ 0 ∷ 1 ∷ 3 ∷ []
+unfolding unicode_segmentation unicode_width
+places_of_two = refl
+
+place_of_two : (p : ℕ) → Contains (text_places small two_letters) p → Contains (0 ∷ 1 ∷ 3 ∷ []) p
+place_of_two p c = subst (λ os. Contains os p) places_of_two c
+
+at_the_second : Contains (text_places small two_letters) 1
+at_the_second = subst (λ os. Contains os 1) (sym places_of_two) (1, omega arith, refl)
+
+behind_the_second : (p k : ℕ) → k < 3 → get_or (0 ∷ 1 ∷ 3 ∷ []) k p ≡ p → 2 ≤ p → p ≡ 3
+behind_the_second p zero h e from = absurd (omega (arith, e, from))
+behind_the_second p (suc zero) h e from = absurd (omega (arith, e, from))
+behind_the_second p (suc (suc zero)) h e from = sym e
+behind_the_second p (suc (suc (suc k))) h e from = absurd (omega (arith, h))
+
+before_the_end : (p k : ℕ) → k < 3 → get_or (0 ∷ 1 ∷ 3 ∷ []) k p ≡ p → 1 ≤ p → p < 3 → p ≡ 1
+before_the_end p zero h e from upto = absurd (omega (arith, e, from))
+before_the_end p (suc zero) h e from upto = sym e
+before_the_end p (suc (suc zero)) h e from upto = absurd (omega (arith, e, upto))
+before_the_end p (suc (suc (suc k))) h e from upto = absurd (omega (arith, h))
+
+-- whatever finds places by the law finds the end of `aé` from within its second letter
+end_from_within_a_letter : (from : ℕ → ℕ) → FindsLeastPlace small two_letters from → from 2 ≡ 3
+end_from_within_a_letter from law =
+    let is = law.inside 2 (omega arith) in
+    let c = place_of_two (from 2) is.is_place in behind_the_second (from 2) c.0 c.1 c.2 is.not_before
+
+-- and the second letter from its start, not the end
+letter_from_its_start : (from : ℕ → ℕ) → FindsLeastPlace small two_letters from → from 1 ≡ 1
+letter_from_its_start from law =
+    let is = law.inside 1 (omega arith) in
+    let upto = is.least 1 at_the_second (omega arith) in
+    let not_before = is.not_before in omega (arith, upto, not_before)
+
+-- a step forward leads over both bytes of the second letter, and a step back too
+over_a_letter : (step : Logical → ℕ → ℕ) → PlacesGoOn small two_letters step → step Forward 1 ≡ 3
+over_a_letter step law =
+    let next = law.forward 1 (omega arith) in
+    let c = place_of_two (step Forward 1) next.is_stop in behind_the_second (step Forward 1) c.0 c.1 c.2 (omega (arith, next.behind))
+
+back_over_a_letter : (step : Logical → ℕ → ℕ) → PlacesGoOn small two_letters step → step Back 3 ≡ 1
+back_over_a_letter step law =
+    let previous = law.back 3 (omega arith) in
+    let c = place_of_two (step Back 3) previous.is_stop in
+    let from = previous.greatest 1 at_the_second (omega arith) in
+    before_the_end (step Back 3) c.0 c.1 c.2 (omega (arith, from)) previous.before
 
 -- ---- words
 

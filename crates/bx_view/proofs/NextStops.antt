@@ -83,7 +83,7 @@ within-at P (o ∷ os) a p (suc i) h e = within-at P os a.1 p i (omega (arith, h
 pub within-contains : (P : ℕ → Type 0) (os : List ℕ) → Within P os → (p : ℕ) → Contains os p → P p
 within-contains P os a p c = within-at P os a p c.0 c.1 c.2
 
-in-rest : (o : ℕ) (os : List ℕ) (p : ℕ) → Contains os p → Contains (o ∷ os) p
+pub in-rest : (o : ℕ) (os : List ℕ) (p : ℕ) → Contains os p → Contains (o ∷ os) p
 in-rest o os p c = (suc c.0, omega (arith, c.1), c.2)
 
 within-front : (P : ℕ → Type 0) (os ps : List ℕ) → Within P (os ++ ps) → Within P os
@@ -94,7 +94,7 @@ within-back : (P : ℕ → Type 0) (os ps : List ℕ) → Within P (os ++ ps) �
 within-back P [] ps a = a
 within-back P (o ∷ os) ps a = within-back P os ps a.1
 
-unreversed : (P : ℕ → Type 0) (os : List ℕ) → Within P (reverse os) → Within P os
+pub unreversed : (P : ℕ → Type 0) (os : List ℕ) → Within P (reverse os) → Within P os
 unreversed P [] a = tt
 unreversed P (o ∷ os) a =
     let apart = subst (Within P) (reverse-append (o ∷ []) os) a in
@@ -106,7 +106,7 @@ cons-at : (P : ℕ → Type 0) (o : ℕ) (os : List ℕ) → P o → ((p : ℕ) 
 cons-at P o os here rest p zero h e = subst P e here
 cons-at P o os here rest p (suc i) h e = rest p (i, omega (arith, h), e)
 
-cons-contains : (P : ℕ → Type 0) (o : ℕ) (os : List ℕ) → P o → ((p : ℕ) → Contains os p → P p) → (p : ℕ) → Contains (o ∷ os) p → P p
+pub cons-contains : (P : ℕ → Type 0) (o : ℕ) (os : List ℕ) → P o → ((p : ℕ) → Contains os p → P p) → (p : ℕ) → Contains (o ∷ os) p → P p
 cons-contains P o os here rest p c = cons-at P o os here rest p c.0 c.1 c.2
 
 -- ---- the least one behind

@@ -19,7 +19,7 @@ use Rattle.bx_view.proofs.RowsAround.{from, own}
 use Rattle.bx_view.proofs.GlyphCells.{rows-faced}
 use Rattle.bx_view.proofs.KeptPlaces.{rows-leveled}
 
-abbrev Fits : ℕ → BodyRow → Type 0
+abbrev pub Fits : ℕ → BodyRow → Type 0
 Fits w r = columns_used w r.units ≤ w
 
 fitting-last : (w : ℕ) (says : Data) (body : List ℕ) (paragraph : ℕ) (each : List (Option ℕ)) (xs : List (List Unit)) → All (λ us. columns_used w us ≤ w) xs
@@ -39,7 +39,7 @@ module _ (says : Data) (base : Base) (w : ℕ) where
       fitting-last w says body (paragraph_level_under says base (chars body)) (levels_under says base (chars body)) (rows_units says w body)
       (All-map (λ xs. columns_used w xs ≤ w) (row_units us) rs (λ i d h. (fit_if_wrapped says w body us rs refl i d h).2))
 
-  fitting-from : (start : ℕ) (ps : List Paragraph) → All (λ r. Fits w r.row) (from says base w start ps)
+  pub fitting-from : (start : ℕ) (ps : List Paragraph) → All (λ r. Fits w r.row) (from says base w start ps)
   fitting-from start [] = All-nil (λ (r : TextRow). Fits w r.row)
   fitting-from start (p ∷ ps) =
       let next = start + bytes_of (lengths_of p) in

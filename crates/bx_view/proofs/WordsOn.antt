@@ -39,15 +39,15 @@ found-before : (offset : ℕ) → 0 < offset → (os : List ℕ) → unwrap_or (
 found-before offset h [] = h
 found-before offset h (o ∷ os) = before-at offset o os (nat_lt o offset) refl (found-before offset h os)
 
-found-if-past : (place : ℕ) (x : Option ℕ) → place < unwrap_or x place → (n : ℕ) × (x ≡ Some n)
+pub found-if-past : (place : ℕ) (x : Option ℕ) → place < unwrap_or x place → (n : ℕ) × (x ≡ Some n)
 found-if-past place None h = absurd (omega (arith, h))
 found-if-past place (Some n) h = (n, refl)
 
-found-if-ahead : (place : ℕ) (x : Option ℕ) → unwrap_or x place < place → (n : ℕ) × (x ≡ Some n)
+pub found-if-ahead : (place : ℕ) (x : Option ℕ) → unwrap_or x place < place → (n : ℕ) × (x ≡ Some n)
 found-if-ahead place None h = absurd (omega (arith, h))
 found-if-ahead place (Some n) h = (n, refl)
 
-none-below-0 : (os : List ℕ) → unwrap_or (find (λ p. nat_lt p 0) os) 0 ≡ 0
+pub none-below-0 : (os : List ℕ) → unwrap_or (find (λ p. nat_lt p 0) os) 0 ≡ 0
 none-below-0 [] = refl
 none-below-0 (o ∷ os) =
     let no : nat_lt o 0 ≡ false = grind (arith, nat_tests) in

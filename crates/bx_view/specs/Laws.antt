@@ -38,6 +38,17 @@ pub record IsGreatestPlace (says : Data) (text : List ℕ) (offset place : ℕ) 
   pub not_after : place ≤ offset
   pub greatest : (p : ℕ) → IsTextPlace says text p → p ≤ offset → p ≤ place
 
+-- a place is the least one not before an offset
+pub record IsLeastPlace (says : Data) (text : List ℕ) (offset place : ℕ) : Type 0 where
+  pub is_place : IsTextPlace says text place
+  pub not_before : offset ≤ place
+  pub least : (p : ℕ) → IsTextPlace says text p → offset ≤ p → place ≤ p
+
+-- the place from an offset on is the least place not before it, and from past the text's end on the end
+pub record FindsLeastPlace (says : Data) (text : List ℕ) (from : ℕ → ℕ) : Type 0 where
+  pub inside : (offset : ℕ) → offset ≤ length text → IsLeastPlace says text offset (from offset)
+  pub past : (offset : ℕ) → length text < offset → from offset ≡ length text
+
 -- each move leads from an offset with the property `P` to one with it
 pub record MovesKeep (says : Data) (text : List ℕ) (w : ℕ) (rows : List TextRow) (P : ℕ → Type 0) : Type 0 where
   pub from : (offset : ℕ) → P (place_from rows offset)
@@ -65,13 +76,21 @@ pub record IsGreatestBefore (stops : List ℕ) (place stop : ℕ) : Type 0 where
   pub before : stop < place
   pub greatest : (o : ℕ) → Contains stops o → o < place → o ≤ stop
 
--- A step by a word forward leads to the least start of a word or end of a body behind the place, and stays only at the
--- text's end. A step back leads to the greatest start of a word or body before it, and stays only at the text's start.
-pub record WordsGoOn (says : Data) (text : List ℕ) (step : Logical → ℕ → ℕ) : Type 0 where
-  pub forward : (place : ℕ) → place < length text → IsLeastBehind (text_stops says Forward text) place (step Forward place)
-  pub back : (place : ℕ) → 0 < place → IsGreatestBefore (text_stops says Back text) place (step Back place)
+-- A step forward leads to the least stop behind the place, and stays only at the text's end. A step back leads to the
+-- greatest stop before it, and stays only at the text's start.
+pub record StepsOn (text : List ℕ) (stops : Logical → List ℕ) (step : Logical → ℕ → ℕ) : Type 0 where
+  pub forward : (place : ℕ) → place < length text → IsLeastBehind (stops Forward) place (step Forward place)
+  pub back : (place : ℕ) → 0 < place → IsGreatestBefore (stops Back) place (step Back place)
   pub at_end : (place : ℕ) → length text ≤ place → step Forward place ≡ place
   pub at_start : step Back 0 ≡ 0
+
+-- a step by a word forward leads to the next start of a word or end of a body, a step back to the previous start of a word or body
+abbrev pub WordsGoOn : Data → List ℕ → (Logical → ℕ → ℕ) → Type 0
+WordsGoOn says text step = StepsOn text (λ way. text_stops says way text) step
+
+-- a step leads to the next or the previous place
+abbrev pub PlacesGoOn : Data → List ℕ → (Logical → ℕ → ℕ) → Type 0
+PlacesGoOn says text step = StepsOn text (λ _. text_places says text) step
 
 -- the row of a place is one of the `t` rows from row `k` on
 abbrev pub IsShownFrom : List TextRow → ℕ → ℕ → ℕ → Type 0

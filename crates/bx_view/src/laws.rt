@@ -4,8 +4,9 @@ ghost use Rattle.std.specs.Prelude.{◌≡◌, ℕ, List, IsUtf8};
 ghost use Rattle.bx_ucd.specs.Data.{Data};
 ghost use Rattle.bx_ucd.specs.declared.class.Class.{Class};
 ghost use Rattle.bx_view.specs.Cells.{HasCells};
-ghost use Rattle.bx_view.specs.Laws.{InEachWindow, IsGreatestPlace, MovesKeep, MovesLeast, SpansText, WordsGoOn};
-ghost use Rattle.bx_view.specs.Moves.{place_at};
+ghost use Rattle.bx_view.specs.Entry.{RowsGoOn};
+ghost use Rattle.bx_view.specs.Laws.{FindsLeastPlace, InEachWindow, IsGreatestPlace, MovesKeep, MovesLeast, PlacesGoOn, SpansText, WordsGoOn};
+ghost use Rattle.bx_view.specs.Moves.{place_at, place_from, step_logical};
 ghost use Rattle.bx_view.specs.Places.{text_places, IsTextPlace};
 ghost use Rattle.bx_view.specs.TextRows.{places};
 ghost use Rattle.bx_view.specs.Words.{step_word};
@@ -20,6 +21,22 @@ pub fn places_are_boundaries()
 /// The place of an offset is the greatest place not after it.
 pub fn place_at_is_greatest()
     ensures { InEachWindow (λ says text w rows. (offset : ℕ) → IsGreatestPlace says text offset (place_at rows offset)) }
+{}
+
+/// The place from an offset on is the least place not before it, and from past the text's end on the end.
+pub fn place_from_is_least()
+    ensures { InEachWindow (λ says text w rows. FindsLeastPlace says text (place_from rows)) }
+{}
+
+/// A step forward leads to the next place, a step back to the previous place. Only at the text's end, or at its start, it stays.
+pub fn steps_go_on()
+    ensures { InEachWindow (λ says text w rows. PlacesGoOn says text (step_logical rows)) }
+{}
+
+/// A move by rows enters another row at the slot that covers the column of the place's cell, or if none does, at the nearest
+/// slot. In the place's own row it stays.
+pub fn rows_go_on()
+    ensures { InEachWindow (λ says text w rows. RowsGoOn w rows) }
 {}
 
 /// Each move leads from a place to a place.

@@ -6,7 +6,7 @@ use Rattle.bx_paragraph.proofs.Starts.{side-some}
 use Rattle.bx_document.specs.Document.{rows}
 use Rattle.bx_document.specs.Drawing.{IsAmong}
 use Rattle.bx_document.specs.Shown.{rows_above, shown_columns}
-use Rattle.bx_document.proofs.CellColumns.{cell-inside}
+use Rattle.bx_view.proofs.CellColumns.{cell-inside}
 use Rattle.bx_document.proofs.ShownTop.{above-is, among, drawn-told, top-is}
 use Rattle.bx_document.proofs.document.Document.show.Goals as goal
 

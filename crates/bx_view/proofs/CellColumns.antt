@@ -120,7 +120,7 @@ abbrev Lie : ℕ → List Slot → Type 0
 Lie w [] = ⊤
 Lie w (s ∷ ss) = (1 ≤ s.column) × (s.column ≤ w) × Lie w ss
 
-abbrev total : List (ℕ × ℕ) → ℕ
+abbrev pub total : List (ℕ × ℕ) → ℕ
 total us = sum_by (λ u. u.1) us
 
 abbrev Wide : List (ℕ × ℕ) → Type 0
@@ -141,20 +141,20 @@ some-get (n ∷ ns) (suc k) h inside = some-get ns k h.1 (omega (arith, inside))
 no_unit : Unit
 no_unit = record { start = 0; stop = 0; face = Tab }
 
-module _ (w : ℕ) (us : List Unit) (some : AllSome (unit_columns w 0 us)) where
+module _ (w : ℕ) (us : List Unit) where
   abbrev columns : List ℕ
   columns = unit_columns w 0 us
 
-  extents-wide : (order : List ℕ) → All (λ k. k < length us) order → Wide (map (extent_of us columns) order)
-  extents-wide [] below = tt
-  extents-wide (k ∷ ks) below =
+  extents-wide : AllSome columns → (order : List ℕ) → All (λ k. k < length us) order → Wide (map (extent_of us columns) order)
+  extents-wide some [] below = tt
+  extents-wide some (k ∷ ks) below =
       let here : k < length us = below 0 k (omega arith) in
       let is = ap (λ (x : ℕ × ℕ). x.1) (extent-is us columns k no_unit here (columns-length w 0 us)) in (
         omega (arith, is, some-get columns k some (omega (arith, here, columns-length w 0 us))),
-        extents-wide ks (λ i d inside. below (suc i) d (omega (arith, inside))),
+        extents-wide some ks (λ i d inside. below (suc i) d (omega (arith, inside))),
       )
 
-  extents-total : (order : List ℕ) → All (λ k. k < length us) order → total (map (extent_of us columns) order) ≡ columns_of columns order
+  pub extents-total : (order : List ℕ) → All (λ k. k < length us) order → total (map (extent_of us columns) order) ≡ columns_of columns order
   extents-total [] below = refl
   extents-total (k ∷ ks) below =
       let is = ap (λ (x : ℕ × ℕ). x.1) (extent-is us columns k no_unit (below 0 k (omega arith)) (columns-length w 0 us)) in
@@ -170,14 +170,14 @@ lie-append : (w : ℕ) (ss ts : List Slot) → Lie w ss → Lie w ts → Lie w (
 lie-append w [] ts h k = k
 lie-append w (s ∷ ss) ts h k = (h.0, h.1, lie-append w ss ts h.2 k)
 
-abbrev left_of : ℕ → ℕ → ℕ → ℕ
+abbrev pub left_of : ℕ → ℕ → ℕ → ℕ
 left_of n w used = elim n [ zero ↦ 1 | suc _ ↦ w - used + 1 ]
 
 left-by : (n w used : ℕ) → used ≤ w → (1 ≤ left_of n w used) × (left_of n w used + used ≤ w + 1)
 left-by zero w used h = (omega arith, omega (arith, h))
 left-by (suc n) w used h = (omega arith, omega (arith, h))
 
-abbrev end_of : ℕ → ℕ → ℕ → ℕ
+abbrev pub end_of : ℕ → ℕ → ℕ → ℕ
 end_of n w used = elim n [ zero ↦ min (used + 1) w | suc _ ↦ max (w - used) 1 ]
 
 end-by : (n w used : ℕ) → 1 ≤ w → (1 ≤ end_of n w used) × (end_of n w used ≤ w)
@@ -201,7 +201,7 @@ row-lie w r some each fits e =
     let below : All (λ k. k < length us) order =
     subst (λ n. All (λ k. k < n) order) e (below_if_visual r.levels order refl) in
     let left = left-by (r.paragraph % 2) w (columns_used w us) fits in
-    let sum = extents-total w us each order below in
+    let sum = extents-total w us order below in
     let used = columns-in-order w us r.levels (unit_columns w 0 us) order e refl refl in
     let extents = map (extent_of us (unit_columns w 0 us)) order in
     let own : Lie w (unit_slots w r) =
