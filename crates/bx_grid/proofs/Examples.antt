@@ -5,7 +5,7 @@ use Rattle.std.specs.Str.{chars}
 use Rattle.unicode_width.proofs.Computing.{unicode_width}
 use Rattle.bx_grid.specs.Columns.{Col, Unknown, Glyph, blank, paste, run_columns, AreBlank}
 use Rattle.bx_grid.specs.Columns.{is_one_glyph}
-use Rattle.bx_grid.specs.Glyphs.{WholeGlyph, IsGlyph, columns_of, all_columns, AreWhole, AreWholeRows}
+use Rattle.bx_grid.specs.Glyphs.{WholeGlyph, IsGlyph, whole_columns, all_columns, AreWhole, AreWholeRows}
 use Rattle.bx_grid.specs.Picture.{PictureState, Shows}
 use Rattle.bx_grid.specs.Terminal.{Terminal, reads, after_resize}
 use Rattle.bx_grid.proofs.Whole.{whole-append, whole_glyph, whole_blanks, whole_head}
@@ -184,7 +184,7 @@ light_is = record { utf8 = (0x4E16 ∷ [], (refl, refl)); one = refl }
 
 wide_whole : AreWhole wide_row
 unfolding chars unicode_width
-wide_whole = whole-append (columns_of light) (replicate 2 blank) (whole_glyph light light_is) (whole_blanks 2)
+wide_whole = whole-append (whole_columns light) (replicate 2 blank) (whole_glyph light light_is) (whole_blanks 2)
 
 pub wide_rows : AreWholeRows 1 4 wide_row
 wide_rows = (wide_whole, tt)

@@ -7,7 +7,7 @@ use Rattle.std.proofs.lemmas.Bool.Decides.{nat_tests}
 use Rattle.std.proofs.Math.Nat.{mul-le-mul_right}
 use Rattle.bx_grid.specs.Columns.{Col, Glyph, blank, paste, run_columns, AreBlank, run_width}
 use Rattle.bx_grid.specs.Columns.{is_one_glyph}
-use Rattle.bx_grid.specs.Glyphs.{WholeGlyph, IsGlyph, columns_of}
+use Rattle.bx_grid.specs.Glyphs.{WholeGlyph, IsGlyph, whole_columns}
 use Rattle.bx_grid.specs.Codes.{code_of, codes_of, blank_code}
 use Rattle.bx_grid.specs.Seen.{seen, all_seen}
 use Rattle.bx_grid.specs.declared.column.Column.{Column}
@@ -87,7 +87,7 @@ put_kept g line column text negative is can =
     let k = column - 1 in
     let glyph : WholeGlyph = record { text = text; negative = negative } in
     let one : IsGlyph glyph = record { utf8 = can.utf8; one = can.glyph } in
-    let news : List Col = columns_of glyph in
+    let news : List Col = whole_columns glyph in
     let len : length news ≡ run_width text = run_length negative text in
     let below : r < g.height = omega (arith, can.inside) in
     let room : k + length news ≤ g.width = omega (arith, can.room.fits, len) in

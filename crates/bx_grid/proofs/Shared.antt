@@ -7,7 +7,7 @@ use Rattle.std.proofs.lemmas.Bool.{cases_lt}
 use Rattle.std.proofs.lemmas.List.{get_or-take, get_or-drop, get_or-append_right, get_or_append_left, take_at, length-take, length-drop}
 use Rattle.std.proofs.lemmas.List.Elements.{All-head, All-tail}
 use Rattle.bx_grid.specs.Columns.{Col, Unknown, Glyph, glyph_columns, glyph_columns_from}
-use Rattle.bx_grid.specs.Glyphs.{WholeGlyph, IsGlyph, columns_of, all_columns, AreWhole, StandsWhole, IsWholeAt, ShareWholeGlyphs, IsOfGlyph}
+use Rattle.bx_grid.specs.Glyphs.{WholeGlyph, IsGlyph, whole_columns, all_columns, AreWhole, StandsWhole, IsWholeAt, ShareWholeGlyphs, IsOfGlyph}
 use Rattle.bx_grid.specs.Glyphs.{DifferInWholeGlyphs}
 use Rattle.bx_grid.proofs.Puts.{length-glyph}
 use Rattle.bx_grid.proofs.Whole.{columns_form}
@@ -40,21 +40,21 @@ later (Glyph text count offset negative) i j front rest e h =
       all = ap (λ k. take count (drop k (front ++ rest))) there ∙ ap (take count) (drop-append-add front rest (j - offset)) ∙ h.all;
     }
 
-first : (g : WholeGlyph) (n i : ℕ) (rest : List Col) → IsGlyph g → columns_of g ≡ glyph_columns g.text n g.negative → i < n
-    → IsWholeAt (at (columns_of g ++ rest) i) i (columns_of g ++ rest)
+first : (g : WholeGlyph) (n i : ℕ) (rest : List Col) → IsGlyph g → whole_columns g ≡ glyph_columns g.text n g.negative → i < n
+    → IsWholeAt (at (whole_columns g ++ rest) i) i (whole_columns g ++ rest)
 first g n i rest one form low =
-    let len : length (columns_of g) ≡ n = ap length form ∙ length-glyph g.text n 0 n g.negative in
-    let is : at (columns_of g ++ rest) i ≡ Glyph g.text n i g.negative =
-    get_or_append_left (columns_of g) rest Unknown i (omega (arith, len)) ∙ ap (λ cs. at cs i) form ∙ column_of g.text n i g.negative low in
+    let len : length (whole_columns g) ≡ n = ap length form ∙ length-glyph g.text n 0 n g.negative in
+    let is : at (whole_columns g ++ rest) i ≡ Glyph g.text n i g.negative =
+    get_or_append_left (whole_columns g) rest Unknown i (omega (arith, len)) ∙ ap (λ cs. at cs i) form ∙ column_of g.text n i g.negative low in
     let none : i - i ≡ 0 = omega arith in
-    let stands : StandsWhole g.text n i g.negative i (columns_of g ++ rest) = record {
+    let stands : StandsWhole g.text n i g.negative i (whole_columns g ++ rest) = record {
       glyph = record { utf8 = one.utf8; one = one.one };
       counted = sym len;
       within = low;
       begins = omega arith;
-      all = ap (λ k. take n (drop k (columns_of g ++ rest))) none ∙ take_at (columns_of g) rest n len;
+      all = ap (λ k. take n (drop k (whole_columns g ++ rest))) none ∙ take_at (whole_columns g) rest n len;
     } in
-    subst (λ (c : Col). IsWholeAt c i (columns_of g ++ rest)) (sym is) stands
+    subst (λ (c : Col). IsWholeAt c i (whole_columns g ++ rest)) (sym is) stands
 
 whole_by : (gs : List WholeGlyph) → All IsGlyph gs → (i : ℕ) → i < length (all_columns gs) → IsWholeAt (at (all_columns gs) i) i (all_columns gs)
 whole_by [] h i low = absurd (omega (arith, low))
@@ -62,14 +62,14 @@ whole_by (g ∷ gs) h i low =
     let one = All-head IsGlyph g gs h in
     let f = columns_form g one in
     let rest = all_columns gs in
-    let len : length (columns_of g) ≡ f.0 = ap length f.2 ∙ length-glyph g.text f.0 0 f.0 g.negative in
+    let len : length (whole_columns g) ≡ f.0 = ap length f.2 ∙ length-glyph g.text f.0 0 f.0 g.negative in
     elim (cases_lt i f.0) [
       | inl in_first ↦ first g f.0 i rest one f.2 in_first
       | inr past ↦
-          let inside : i - f.0 < length rest = omega (arith, low, len, past, length-append (columns_of g) rest) in
-          let is : at (columns_of g ++ rest) i ≡ at rest (i - f.0) = get_or-append_right (columns_of g) rest f.0 i Unknown len past in
-          subst (λ (c : Col). IsWholeAt c i (columns_of g ++ rest)) (sym is)
-          (later (at rest (i - f.0)) i (i - f.0) (columns_of g) rest (omega (arith, len, past)) (whole_by gs (All-tail IsGlyph g gs h) (i - f.0) inside))
+          let inside : i - f.0 < length rest = omega (arith, low, len, past, length-append (whole_columns g) rest) in
+          let is : at (whole_columns g ++ rest) i ≡ at rest (i - f.0) = get_or-append_right (whole_columns g) rest f.0 i Unknown len past in
+          subst (λ (c : Col). IsWholeAt c i (whole_columns g ++ rest)) (sym is)
+          (later (at rest (i - f.0)) i (i - f.0) (whole_columns g) rest (omega (arith, len, past)) (whole_by gs (All-tail IsGlyph g gs h) (i - f.0) inside))
     ]
 
 pub stands_whole : (xs : List Col) → AreWhole xs → (i : ℕ) → i < length xs → IsWholeAt (at xs i) i xs

@@ -12,7 +12,7 @@ use Rattle.std.specs.Prelude.{if◌then◌else◌, All}
 use Rattle.std.specs.Str.{chars}
 use Rattle.unicode_width.specs.Width.{str_width}
 use Rattle.bx_grid.specs.Columns.{Col, Unknown, Glyph, are_ascii_printable, blank, columns_before, glyph_columns, glyph_columns_from, paste, plain_columns}
-use Rattle.bx_grid.specs.Glyphs.{WholeGlyph, IsGlyph, columns_of, all_columns, AreWhole}
+use Rattle.bx_grid.specs.Glyphs.{WholeGlyph, IsGlyph, whole_columns, all_columns, AreWhole}
 use Rattle.bx_grid.specs.Seen.{seen, all_seen}
 use Rattle.bx_grid.specs.declared.column.Column.{Column}
 use Rattle.bx_grid.specs.Turned.{IsBorder, turned, turned_in}
@@ -43,11 +43,11 @@ border-past xs ys k q e b = ap columns_before (sym (ap (λ n. get_or (xs ++ ys) 
 
 -- past the first glyph, or before it
 cut-glyph : (g : WholeGlyph) (later : List Col) → IsGlyph g → ((q : ℕ) → IsBorder later q → Cut later q) → (n k : ℕ) (past : Bool) → nat_le n k ≡ past
-    → 1 ≤ k → columns_of g ≡ glyph_columns g.text n g.negative → IsBorder (columns_of g ++ later) k → Cut (columns_of g ++ later) k
+    → 1 ≤ k → whole_columns g ≡ glyph_columns g.text n g.negative → IsBorder (whole_columns g ++ later) k → Cut (whole_columns g ++ later) k
 cut-glyph g later one rest n k true e low form b =
-    let len : length (columns_of g) ≡ n = ap length form ∙ length-glyph g.text n 0 n g.negative in
-    let at : k ≡ length (columns_of g) + (k - n) = let le : n ≤ k = grind (arith, nat_tests) in omega (arith, len, le) in
-    cut-past (columns_of g) later k (k - n) at (whole_glyph g one) (rest (k - n) (border-past (columns_of g) later k (k - n) at b))
+    let len : length (whole_columns g) ≡ n = ap length form ∙ length-glyph g.text n 0 n g.negative in
+    let at : k ≡ length (whole_columns g) + (k - n) = let le : n ≤ k = grind (arith, nat_tests) in omega (arith, len, le) in
+    cut-past (whole_columns g) later k (k - n) at (whole_glyph g one) (rest (k - n) (border-past (whole_columns g) later k (k - n) at b))
 cut-glyph g later one rest n k false e low form b =
     let inside : k < n = grind (arith, nat_tests) in
     let offset = ap (λ cs. columns_before (get_or (cs ++ later) k blank)) form ∙ offset-at g.text n n 0 k g.negative later inside in
@@ -84,16 +84,16 @@ run-turned : (plain : Bool) (text : List ℕ) (n : ℕ) (negative : Bool)
 run-turned true text n negative = turned-plain text negative
 run-turned false text n negative = turned-from text n n 0 negative
 
-glyph-turned : (g : WholeGlyph) → map turned (columns_of g) ≡ columns_of (turned_glyph g)
+glyph-turned : (g : WholeGlyph) → map turned (whole_columns g) ≡ whole_columns (turned_glyph g)
 glyph-turned g = run-turned (are_ascii_printable g.text) g.text (str_width false (chars g.text)) g.negative
 
 whole-by : (gs : List WholeGlyph) → All IsGlyph gs → AreWhole (map turned (all_columns gs))
 whole-by [] h = whole-nil
 whole-by (g ∷ gs) h =
     let one = All-head IsGlyph g gs h in
-    whole_along (columns_of (turned_glyph g) ++ map turned (all_columns gs)) (map turned (columns_of g ++ all_columns gs))
-    (ap (λ cs. cs ++ map turned (all_columns gs)) (sym (glyph-turned g)) ∙ sym (map-append turned (columns_of g) (all_columns gs)))
-    (whole-append (columns_of (turned_glyph g)) (map turned (all_columns gs))
+    whole_along (whole_columns (turned_glyph g) ++ map turned (all_columns gs)) (map turned (whole_columns g ++ all_columns gs))
+    (ap (λ cs. cs ++ map turned (all_columns gs)) (sym (glyph-turned g)) ∙ sym (map-append turned (whole_columns g) (all_columns gs)))
+    (whole-append (whole_columns (turned_glyph g)) (map turned (all_columns gs))
     (whole_glyph (turned_glyph g) (record { utf8 = one.utf8; one = one.one })) (whole-by gs (All-tail IsGlyph g gs h)))
 
 pub whole-turned : (cs : List Col) → AreWhole cs → AreWhole (map turned cs)

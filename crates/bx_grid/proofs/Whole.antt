@@ -12,7 +12,7 @@ use Rattle.unicode_width.specs.Width.{str_width}
 use Rattle.bx_bytes.specs.Utf8.{are_printable}
 use Rattle.bx_grid.specs.Columns.{Col, Glyph, blank, is_ascii_glyph, glyph_columns, glyph_columns_from, run_columns, cut_before, cut_after}
 use Rattle.bx_grid.specs.Effects.{Puts, glyphs_at}
-use Rattle.bx_grid.specs.Glyphs.{WholeGlyph, IsGlyph, columns_of, all_columns, AreWhole, AreWholeRows}
+use Rattle.bx_grid.specs.Glyphs.{WholeGlyph, IsGlyph, whole_columns, all_columns, AreWhole, AreWholeRows}
 use Rattle.bx_grid.specs.Columns.{is_ascii_printable}
 use Rattle.bx_grid.proofs.Puts.{length-glyph}
 use Rattle.bx_grid.proofs.Reading.{and_left, and_right}
@@ -38,13 +38,13 @@ form_by false text negative e h =
     (w, grind (arith, nat_tests), rw other refl)
 
 -- a glyph has one column or more, which differ in their offsets alone
-pub columns_form : (g : WholeGlyph) → IsGlyph g → (n : ℕ) × (1 ≤ n) × (columns_of g ≡ glyph_columns g.text n g.negative)
+pub columns_form : (g : WholeGlyph) → IsGlyph g → (n : ℕ) × (1 ≤ n) × (whole_columns g ≡ glyph_columns g.text n g.negative)
 columns_form g h = form_by (is_ascii_glyph g.text) g.text g.negative refl h.one
 
-pub columns_some : (g : WholeGlyph) → IsGlyph g → 1 ≤ length (columns_of g)
+pub columns_some : (g : WholeGlyph) → IsGlyph g → 1 ≤ length (whole_columns g)
 columns_some g h =
     let f = columns_form g h in
-    let len : length (columns_of g) ≡ f.0 = ap length f.2 ∙ length-glyph g.text f.0 0 f.0 g.negative in
+    let len : length (whole_columns g) ≡ f.0 = ap length f.2 ∙ length-glyph g.text f.0 0 f.0 g.negative in
     omega (arith, f.1, len)
 
 -- ---- lists of glyphs
@@ -52,7 +52,7 @@ columns_some g h =
 pub all_columns-append : (gs hs : List WholeGlyph) → all_columns (gs ++ hs) ≡ all_columns gs ++ all_columns hs
 all_columns-append [] hs = refl
 all_columns-append (g ∷ gs) hs =
-    ap (λ cs. columns_of g ++ cs) (all_columns-append gs hs) ∙ sym (append_assoc (columns_of g) (all_columns gs) (all_columns hs))
+    ap (λ cs. whole_columns g ++ cs) (all_columns-append gs hs) ∙ sym (append_assoc (whole_columns g) (all_columns gs) (all_columns hs))
 
 pub whole-nil : AreWhole []
 whole-nil = record { glyphs = []; each = All-nil IsGlyph; are = refl }
@@ -67,8 +67,8 @@ whole-append xs ys a b = record {
 pub whole_along : (xs ys : List Col) → xs ≡ ys → AreWhole xs → AreWhole ys
 whole_along xs ys e a = record { glyphs = a.glyphs; each = a.each; are = a.are ∙ e }
 
-pub whole_glyph : (g : WholeGlyph) → IsGlyph g → AreWhole (columns_of g)
-whole_glyph g h = record { glyphs = g ∷ []; each = All-cons IsGlyph g [] h (All-nil IsGlyph); are = append-nil (columns_of g) }
+pub whole_glyph : (g : WholeGlyph) → IsGlyph g → AreWhole (whole_columns g)
+whole_glyph g h = record { glyphs = g ∷ []; each = All-cons IsGlyph g [] h (All-nil IsGlyph); are = append-nil (whole_columns g) }
 
 -- ---- where columns may be cut
 
@@ -105,7 +105,7 @@ split_by (g ∷ gs) h (x ∷ xs) text columns negative ys e =
     let f = columns_form g one in
     let cut = first_cut g f.0 (all_columns gs) xs ys x text columns negative f.1 (ap (λ cs. cs ++ all_columns gs) (sym f.2) ∙ e) in
     let rest = split_by gs (All-tail IsGlyph g gs h) cut.0 text columns negative ys cut.2 in (
-      whole_along (columns_of g ++ cut.0) (x ∷ xs) (ap (λ cs. cs ++ cut.0) f.2 ∙ sym cut.1) (whole-append (columns_of g) cut.0 (whole_glyph g one) rest.0),
+      whole_along (whole_columns g ++ cut.0) (x ∷ xs) (ap (λ cs. cs ++ cut.0) f.2 ∙ sym cut.1) (whole-append (whole_columns g) cut.0 (whole_glyph g one) rest.0),
       rest.1,
     )
 
@@ -130,7 +130,7 @@ first_is g zero later ys text columns negative low e = absurd (omega arith)
 first_is g (suc n) later ys text columns negative low e = (cc e, cc e, cc e)
 
 headed : (g : WholeGlyph) (n : ℕ) (later ys : List Col) (text : List ℕ) (columns : ℕ) (negative : Bool) → g.text ≡ text → n ≡ columns → g.negative ≡ negative
-    → IsGlyph g → 1 ≤ n → columns_of g ≡ glyph_columns g.text n g.negative → AreWhole later → columns_of g ++ later ≡ Glyph text columns 0 negative ∷ ys
+    → IsGlyph g → 1 ≤ n → whole_columns g ≡ glyph_columns g.text n g.negative → AreWhole later → whole_columns g ++ later ≡ Glyph text columns 0 negative ∷ ys
     → IsHeaded text columns negative ys
 headed g n later ys text columns negative et en ex one some form whole e = record {
   glyph = record { utf8 = rw (← et) one.utf8; one = rw (← et) one.one };
@@ -154,15 +154,15 @@ pub whole_head : (text : List ℕ) (columns : ℕ) (negative : Bool) (ys : List 
     → IsHeaded text columns negative ys
 whole_head text columns negative ys a = head_by a.glyphs a.each text columns negative ys a.are
 
-after_by : (g : WholeGlyph) (n : ℕ) (ys : List Col) → 1 ≤ n → columns_of g ≡ glyph_columns g.text n g.negative → AreWhole (columns_of g ++ ys) → AreWhole ys
+after_by : (g : WholeGlyph) (n : ℕ) (ys : List Col) → 1 ≤ n → whole_columns g ≡ glyph_columns g.text n g.negative → AreWhole (whole_columns g ++ ys) → AreWhole ys
 after_by g zero ys low f a = absurd (omega arith)
 after_by g (suc n) ys low f a =
-    let first : columns_of g ++ ys ≡ Glyph g.text (suc n) 0 g.negative ∷ (glyph_columns_from g.text (suc n) g.negative 1 n ++ ys) = ap (λ cs. cs ++ ys) f in
-    let h = whole_head g.text (suc n) g.negative (glyph_columns_from g.text (suc n) g.negative 1 n ++ ys) (whole_along (columns_of g ++ ys) _ first a) in
-    whole_along h.rest ys (append_cancel_left (columns_of g) h.rest ys (sym h.are ∙ sym first)) h.whole
+    let first : whole_columns g ++ ys ≡ Glyph g.text (suc n) 0 g.negative ∷ (glyph_columns_from g.text (suc n) g.negative 1 n ++ ys) = ap (λ cs. cs ++ ys) f in
+    let h = whole_head g.text (suc n) g.negative (glyph_columns_from g.text (suc n) g.negative 1 n ++ ys) (whole_along (whole_columns g ++ ys) _ first a) in
+    whole_along h.rest ys (append_cancel_left (whole_columns g) h.rest ys (sym h.are ∙ sym first)) h.whole
 
 -- the columns after a glyph's
-pub whole_after : (g : WholeGlyph) (ys : List Col) → IsGlyph g → AreWhole (columns_of g ++ ys) → AreWhole ys
+pub whole_after : (g : WholeGlyph) (ys : List Col) → IsGlyph g → AreWhole (whole_columns g ++ ys) → AreWhole ys
 whole_after g ys h a =
     let f = columns_form g h in
     after_by g f.0 ys f.1 f.2 a
@@ -216,7 +216,7 @@ space_is = record { utf8 = (32 ∷ [], (refl, refl)); one = refl }
 
 pub whole_blanks : (n : ℕ) → AreWhole (replicate n blank)
 whole_blanks zero = whole-nil
-whole_blanks (suc n) = whole-append (columns_of space) (replicate n blank) (whole_glyph space space_is) (whole_blanks n)
+whole_blanks (suc n) = whole-append (whole_columns space) (replicate n blank) (whole_glyph space space_is) (whole_blanks n)
 
 pub rows_whole : (h w : ℕ) (cs : List Col) → length cs ≡ h * w → AreWholeRows h w cs → AreWhole cs
 rows_whole zero w cs len rows = whole_along [] cs (sym (nil_from_length cs (omega (arith, len)))) whole-nil
@@ -248,7 +248,7 @@ effects_by : (index : ℕ) (text : List ℕ) (n : ℕ) (negative : Bool) → 1 �
 effects_by index text zero negative low = absurd (omega arith)
 effects_by index text (suc n) negative low = ap (λ ds. Puts index text negative ∷ ds) (effects_past (index + 1) text (suc n) n 1 negative (omega arith))
 
-pub glyph_effects : (index : ℕ) (g : WholeGlyph) → IsGlyph g → glyphs_at index (columns_of g) ≡ Puts index g.text g.negative ∷ []
+pub glyph_effects : (index : ℕ) (g : WholeGlyph) → IsGlyph g → glyphs_at index (whole_columns g) ≡ Puts index g.text g.negative ∷ []
 glyph_effects index g h =
     let f = columns_form g h in
     ap (glyphs_at index) f.2 ∙ effects_by index g.text f.0 g.negative f.1

@@ -14,13 +14,13 @@ pub record IsGlyph (g : WholeGlyph) : Type 0 where
   pub one : is_one_glyph g.text ≡ true
 
 -- all its columns
-abbrev pub columns_of : WholeGlyph → List Col
-columns_of g = run_columns g.negative g.text
+abbrev pub whole_columns : WholeGlyph → List Col
+whole_columns g = run_columns g.negative g.text
 
 -- the columns of glyphs, side by side
 abbrev pub all_columns : List WholeGlyph → List Col
 all_columns [] = []
-all_columns (g ∷ gs) = columns_of g ++ all_columns gs
+all_columns (g ∷ gs) = whole_columns g ++ all_columns gs
 
 -- these columns are whole glyphs
 pub record AreWhole (columns : List Col) : Type 0 where

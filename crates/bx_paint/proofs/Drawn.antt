@@ -7,7 +7,7 @@ use Rattle.std.proofs.lemmas.List.Elements.{All-head, All-tail}
 use Rattle.bx_grid.specs.Columns.{Col, Glyph, is_ascii_glyph, are_equal, cut_after, run_columns, are_ascii_printable}
 use Rattle.bx_grid.specs.Columns.{is_ascii_printable}
 use Rattle.bx_grid.specs.Effects.{Effect, Puts}
-use Rattle.bx_grid.specs.Glyphs.{WholeGlyph, IsGlyph, columns_of, all_columns, AreWhole}
+use Rattle.bx_grid.specs.Glyphs.{WholeGlyph, IsGlyph, whole_columns, all_columns, AreWhole}
 use Rattle.bx_grid.specs.Terminal.{Terminal}
 use Rattle.bx_grid.specs.Picture.{PictureState}
 use Rattle.bx_grid.proofs.Doing.{run, run-append}
@@ -76,15 +76,15 @@ rendered p w false false above done rest below r c all index small n = n
 
 text_stands : (p : PictureState) (w : Terminal × List Effect) (g : WholeGlyph) (above done rest below : List Col) (r c : ℕ) (all : List Effect)
     → IsGlyph g → (h : Ready p w g.negative above done rest below r c all)
-    → run_columns g.negative (h.pending ++ g.text) ≡ run_columns g.negative h.pending ++ columns_of g → c + length (columns_of g) ≤ p.width
+    → run_columns g.negative (h.pending ++ g.text) ≡ run_columns g.negative h.pending ++ whole_columns g → c + length (whole_columns g) ≤ p.width
     → are_ascii_printable h.pending ≡ true
-    → Stands p (run w g.text) (is_ascii_glyph g.text) g.negative above (done ++ columns_of g) (drop (length (columns_of g)) rest) below r
-    (c + length (columns_of g))
+    → Stands p (run w g.text) (is_ascii_glyph g.text) g.negative above (done ++ whole_columns g) (drop (length (whole_columns g)) rest) below r
+    (c + length (whole_columns g))
     (all ++ Puts (r * p.width + c) g.text g.negative ∷ [])
 text_stands p w g above done rest below r c all is h joins fits plain =
     let k = ready_text p w g above done rest below r c all is h joins fits in
-    let n = length (columns_of g) in
-    let l = ready_leaves p (run w g.text) g.negative above (done ++ columns_of g) (drop n rest) below r (c + n)
+    let n = length (whole_columns g) in
+    let l = ready_leaves p (run w g.text) g.negative above (done ++ whole_columns g) (drop n rest) below r (c + n)
     (all ++ Puts (r * p.width + c) g.text g.negative ∷ []) k.0 in
     record {
       position = l.0;
@@ -94,12 +94,12 @@ text_stands p w g above done rest below r c all is h joins fits plain =
 
 drawn_by : (t : Bool) (p : PictureState) (w : Terminal × List Effect) (near negative : Bool) (g : WholeGlyph) (above done rest below : List Col) (r c : ℕ)
     (all : List Effect)
-    → Fits p → r < p.height → IsGlyph g → IsAtColumn r c p.width above done rest → length (columns_of g) ≤ length rest
+    → Fits p → r < p.height → IsGlyph g → IsAtColumn r c p.width above done rest → length (whole_columns g) ≤ length rest
     → near && is_ascii_glyph g.text ≡ t → Stands p w near negative above done rest below r c all
-    → Stands p (run w (glyph_bytes r c near negative g.text g.negative)) (is_ascii_glyph g.text) g.negative above (done ++ columns_of g)
-    (drop (length (columns_of g)) rest) below r (c + length (columns_of g)) (all ++ Puts (r * p.width + c) g.text g.negative ∷ [])
+    → Stands p (run w (glyph_bytes r c near negative g.text g.negative)) (is_ascii_glyph g.text) g.negative above (done ++ whole_columns g)
+    (drop (length (whole_columns g)) rest) below r (c + length (whole_columns g)) (all ++ Puts (r * p.width + c) g.text g.negative ∷ [])
 drawn_by true p w near negative g above done rest below r c all fits rh is index room e s =
-    let some : 1 ≤ length (columns_of g) = columns_some g is in
+    let some : 1 ≤ length (whole_columns g) = columns_some g is in
     let change = render_change negative g.negative in
     let n = rendered p w negative g.negative above done rest below r c all index (omega (arith, some, room, index.wide))
     (s.near_by (and_left near (is_ascii_glyph g.text) e)) in
@@ -108,7 +108,7 @@ drawn_by true p w near negative g above done rest below r c all fits rh is index
     (omega (arith, room, index.wide)) n.plain in
     rw (e, run-append w change g.text) after
 drawn_by false p w near negative g above done rest below r c all fits rh is index room e s =
-    let some : 1 ≤ length (columns_of g) = columns_some g is in
+    let some : 1 ≤ length (whole_columns g) = columns_some g is in
     let columns = partly above done rest below in
     let move = move_bytes r c in
     let change = render_change negative g.negative in
@@ -138,11 +138,11 @@ come_after p w first second columns negative effects h = rw (run-append w first 
 -- a glyph whose columns do not differ is there already
 stays : (p : PictureState) (w : Terminal × List Effect) (near negative : Bool) (g : WholeGlyph) (above done before ys below : List Col) (r c d : ℕ)
     (all : List Effect)
-    → IsGlyph g → AreWhole (before ++ (columns_of g ++ ys)) → Stands p w near negative above done (columns_of g ++ ys) below r c all
-    → Stands p w false negative above (done ++ columns_of g) ys below r d (all ++ [])
+    → IsGlyph g → AreWhole (before ++ (whole_columns g ++ ys)) → Stands p w near negative above done (whole_columns g ++ ys) below r c all
+    → Stands p w false negative above (done ++ whole_columns g) ys below r d (all ++ [])
 stays p w near negative g above done before ys below r c d all is whole s =
-    let shift : done ++ cut_after 0 (columns_of g ++ ys) ≡ (done ++ columns_of g) ++ cut_after 0 ys =
-    ap (λ xs. done ++ xs) (kept before ys g is whole) ∙ sym (append_assoc done (columns_of g) (cut_after 0 ys)) in
+    let shift : done ++ cut_after 0 (whole_columns g ++ ys) ≡ (done ++ whole_columns g) ++ cut_after 0 ys =
+    ap (λ xs. done ++ xs) (kept before ys g is whole) ∙ sym (append_assoc done (whole_columns g) (cut_after 0 ys)) in
     record {
       position = s.position;
       leaves = record {
@@ -156,20 +156,20 @@ stays p w near negative g above done before ys below r c d all is whole s =
 stands_by : (same : Bool) (p : PictureState) (w : Terminal × List Effect) (near negative : Bool) (g : WholeGlyph) (above done before olds over below : List Col)
     (r c : ℕ) (all : List Effect)
     → Fits p → r < p.height → IsGlyph g → IsAtColumn r c p.width above done (olds ++ over) → AreWhole (before ++ (olds ++ over))
-    → length (columns_of g) ≤ length olds → are_equal (take (length (columns_of g)) olds) (columns_of g) ≡ same
+    → length (whole_columns g) ≤ length olds → are_equal (take (length (whole_columns g)) olds) (whole_columns g) ≡ same
     → Stands p w near negative above done (olds ++ over) below r c all
     → Stands p (run w (glyph_sent r c near negative same g).bytes) (glyph_sent r c near negative same g).near (glyph_sent r c near negative same g).negative
-    above (done ++ columns_of g) (drop (length (columns_of g)) olds ++ over) below r (c + length (columns_of g)) (all ++ glyph_effect (r * p.width + c) same g)
+    above (done ++ whole_columns g) (drop (length (whole_columns g)) olds ++ over) below r (c + length (whole_columns g)) (all ++ glyph_effect (r * p.width + c) same g)
 stands_by true p w near negative g above done before olds over below r c all fits rh is index whole room e s =
-    let n = length (columns_of g) in
-    let split : olds ++ over ≡ columns_of g ++ (drop n olds ++ over) =
-    ap (λ xs. xs ++ over) (sym (take-append-drop n olds) ∙ ap (λ xs. xs ++ drop n olds) (lists_are (take n olds) (columns_of g) e))
-    ∙ append_assoc (columns_of g) (drop n olds) over in
+    let n = length (whole_columns g) in
+    let split : olds ++ over ≡ whole_columns g ++ (drop n olds ++ over) =
+    ap (λ xs. xs ++ over) (sym (take-append-drop n olds) ∙ ap (λ xs. xs ++ drop n olds) (lists_are (take n olds) (whole_columns g) e))
+    ∙ append_assoc (whole_columns g) (drop n olds) over in
     stays p w near negative g above done before (drop n olds ++ over) below r c (c + n) all is
-    (whole_along (before ++ (olds ++ over)) (before ++ (columns_of g ++ (drop n olds ++ over))) (ap (λ xs. before ++ xs) split) whole)
+    (whole_along (before ++ (olds ++ over)) (before ++ (whole_columns g ++ (drop n olds ++ over))) (ap (λ xs. before ++ xs) split) whole)
     (rw split at s)
 stands_by false p w near negative g above done before olds over below r c all fits rh is index whole room e s =
-    let n = length (columns_of g) in
+    let n = length (whole_columns g) in
     let rest : drop n (olds ++ over) ≡ drop n olds ++ over = drop-append-le n olds over room in
     let after = drawn_by (near && is_ascii_glyph g.text) p w near negative g above done (olds ++ over) below r c all fits rh is index
     (omega (arith, room, length-append olds over)) refl s in
@@ -192,9 +192,9 @@ no_more p r above over below olds done before w c near negative all index whole 
     rw (full, told) (s.position, leaves)
 
 one_more : (p : PictureState) (r : ℕ) (above over below : List Col) (g : WholeGlyph) (xs : List Col) → Fits p → r < p.height → IsGlyph g
-    → Goal p r above over below xs → Goal p r above over below (columns_of g ++ xs)
+    → Goal p r above over below xs → Goal p r above over below (whole_columns g ++ xs)
 one_more p r above over below g xs fits rh is more olds done before w c near negative all index whole same s =
-    let cg = columns_of g in
+    let cg = whole_columns g in
     let n = length cg in
     let alike = are_equal (take n olds) cg in
     let sent = glyph_sent r c near negative alike g in

@@ -7,7 +7,7 @@ use Rattle.std.proofs.lemmas.List.{take-append-drop, take_at, drop_at, length-ta
 use Rattle.std.proofs.Math.Bool.{and-false}
 use Rattle.std.proofs.lemmas.List.Elements.{All-head, All-tail}
 use Rattle.bx_grid.specs.Columns.{Col, Unknown, Glyph, blank, is_blank, col_eq, are_equal}
-use Rattle.bx_grid.specs.Glyphs.{WholeGlyph, IsGlyph, columns_of, all_columns, AreWhole, AreWholeRows}
+use Rattle.bx_grid.specs.Glyphs.{WholeGlyph, IsGlyph, whole_columns, all_columns, AreWhole, AreWholeRows}
 use Rattle.bx_grid.specs.Picture.{PictureState, IsGrid}
 use Rattle.bx_grid.proofs.Blanks.{blanks_pass}
 use Rattle.bx_grid.proofs.Equal.{col_is, are_equal_refl}
@@ -91,16 +91,16 @@ one_differs [] (y ∷ ys) same h = absurd (omega (arith, same))
 one_differs (x ∷ xs) [] same h = absurd (omega (arith, same))
 one_differs (x ∷ xs) (y ∷ ys) same h = differ_by (col_eq x y) x y xs ys refl (one_differs xs ys (omega (arith, same))) h
 
-effect_by : (t : Bool) (index : ℕ) (g : WholeGlyph) (olds : List Col) → length olds ≡ length (columns_of g) → are_equal olds (columns_of g) ≡ t
-    → length (glyph_effect index t g) ≤ differing olds (columns_of g)
+effect_by : (t : Bool) (index : ℕ) (g : WholeGlyph) (olds : List Col) → length olds ≡ length (whole_columns g) → are_equal olds (whole_columns g) ≡ t
+    → length (glyph_effect index t g) ≤ differing olds (whole_columns g)
 effect_by true index g olds same e = omega arith
-effect_by false index g olds same e = one_differs olds (columns_of g) same e
+effect_by false index g olds same e = one_differs olds (whole_columns g) same e
 
 glyphs_few : (index : ℕ) (gs : List WholeGlyph) (olds : List Col) → All IsGlyph gs → length olds ≡ length (all_columns gs)
     → length (glyphs_changed index olds (all_columns gs)) ≤ differing olds (all_columns gs)
 glyphs_few index [] olds each same = omega arith
 glyphs_few index (g ∷ gs) olds each same =
-    let cg = columns_of g in
+    let cg = whole_columns g in
     let n = length cg in
     let xs = all_columns gs in
     let count : length olds ≡ n + length xs = same ∙ length-append cg xs in

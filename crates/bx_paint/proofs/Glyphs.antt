@@ -4,7 +4,7 @@ use Rattle.std.proofs.lemmas.Bool.Decides.{nat_tests}
 use Rattle.std.proofs.lemmas.List.{take_at, drop-drop}
 use Rattle.bx_grid.specs.Columns.{Col, Glyph, is_ascii_glyph, are_equal, glyph_columns, glyph_columns_from}
 use Rattle.bx_grid.specs.Effects.{Effect, Puts}
-use Rattle.bx_grid.specs.Glyphs.{WholeGlyph, IsGlyph, columns_of}
+use Rattle.bx_grid.specs.Glyphs.{WholeGlyph, IsGlyph, whole_columns}
 use Rattle.bx_grid.proofs.Laid.{plain_width}
 use Rattle.bx_grid.proofs.Puts.{length-glyph}
 use Rattle.bx_grid.proofs.Whole.{columns_form}
@@ -61,10 +61,10 @@ glyph_effect index false g = Puts index g.text g.negative ∷ []
 
 -- the columns of a glyph, n of them, with others after them, where same says that the old columns are its own
 pub record IsByGlyph (same : Bool) (g : WholeGlyph) (n : ℕ) (olds xs : List Col) : Type 0 where
-  pub sent : (r c : ℕ) (near negative : Bool) → columns_sent r c near negative olds (columns_of g ++ xs)
+  pub sent : (r c : ℕ) (near negative : Bool) → columns_sent r c near negative olds (whole_columns g ++ xs)
       ≡ then_sent (glyph_sent r c near negative same g).bytes
       (columns_sent r (c + n) (glyph_sent r c near negative same g).near (glyph_sent r c near negative same g).negative (drop n olds) xs)
-  pub changed : (index : ℕ) → glyphs_changed index olds (columns_of g ++ xs) ≡ glyph_effect index same g ++ glyphs_changed (index + n) (drop n olds) xs
+  pub changed : (index : ℕ) → glyphs_changed index olds (whole_columns g ++ xs) ≡ glyph_effect index same g ++ glyphs_changed (index + n) (drop n olds) xs
 
 first_sent : (same : Bool) (r c : ℕ) (near negative : Bool) (g : WholeGlyph) (n : ℕ) (olds cs : List Col)
     → is_sent olds (Glyph g.text n 0 g.negative ∷ cs) ≡ not same
@@ -80,15 +80,15 @@ first_changed true index g n olds cs e = rw e refl
 first_changed false index g n olds cs e = rw e refl
 
 -- a glyph after which the next is near has one column
-near_alone : (same : Bool) (r c : ℕ) (near negative : Bool) (g : WholeGlyph) (m : ℕ) → columns_of g ≡ glyph_columns g.text (suc m) g.negative
+near_alone : (same : Bool) (r c : ℕ) (near negative : Bool) (g : WholeGlyph) (m : ℕ) → whole_columns g ≡ glyph_columns g.text (suc m) g.negative
     → (glyph_sent r c near negative same g).near ≡ true → m ≡ 0
 near_alone true r c near negative g m is h = absurd (cc h)
 near_alone false r c near negative g m is h =
     let one : suc m ≡ 1 = sym (length-glyph g.text (suc m) 0 (suc m) g.negative) ∙ ap length (sym is) ∙ plain_width g.negative g.text h in
     omega (arith, one)
 
-glyph_by : (same : Bool) (g : WholeGlyph) (m : ℕ) (olds xs : List Col) → IsGlyph g → columns_of g ≡ glyph_columns g.text (suc m) g.negative
-    → are_equal (take (suc m) olds) (columns_of g) ≡ same → IsByGlyph same g (suc m) olds xs
+glyph_by : (same : Bool) (g : WholeGlyph) (m : ℕ) (olds xs : List Col) → IsGlyph g → whole_columns g ≡ glyph_columns g.text (suc m) g.negative
+    → are_equal (take (suc m) olds) (whole_columns g) ≡ same → IsByGlyph same g (suc m) olds xs
 glyph_by same g m olds xs h is e =
     let whole = glyph_columns g.text (suc m) g.negative in
     let more = glyph_columns_from g.text (suc m) g.negative (0 + 1) m in
@@ -113,14 +113,14 @@ glyph_by same g m olds xs h is e =
           ∙ ap (λ k. glyphs_changed k (drop (suc m) olds) xs) (let n : (index + 1) + m ≡ index + suc m = omega arith in n));
     }
 
-by_form : (same : Bool) (g : WholeGlyph) (n : ℕ) (olds xs : List Col) → IsGlyph g → 1 ≤ n → columns_of g ≡ glyph_columns g.text n g.negative
-    → are_equal (take n olds) (columns_of g) ≡ same → IsByGlyph same g n olds xs
+by_form : (same : Bool) (g : WholeGlyph) (n : ℕ) (olds xs : List Col) → IsGlyph g → 1 ≤ n → whole_columns g ≡ glyph_columns g.text n g.negative
+    → are_equal (take n olds) (whole_columns g) ≡ same → IsByGlyph same g n olds xs
 by_form same g zero olds xs h some is e = absurd (omega (arith, some))
 by_form same g (suc m) olds xs h some is e = glyph_by same g m olds xs h is e
 
-pub by_glyph : (same : Bool) (g : WholeGlyph) (olds xs : List Col) → IsGlyph g → are_equal (take (length (columns_of g)) olds) (columns_of g) ≡ same
-    → IsByGlyph same g (length (columns_of g)) olds xs
+pub by_glyph : (same : Bool) (g : WholeGlyph) (olds xs : List Col) → IsGlyph g → are_equal (take (length (whole_columns g)) olds) (whole_columns g) ≡ same
+    → IsByGlyph same g (length (whole_columns g)) olds xs
 by_glyph same g olds xs h e =
     let form = columns_form g h in
-    let count : length (columns_of g) ≡ form.0 = ap length form.2 ∙ length-glyph g.text form.0 0 form.0 g.negative in
+    let count : length (whole_columns g) ≡ form.0 = ap length form.2 ∙ length-glyph g.text form.0 0 form.0 g.negative in
     rw count (by_form same g form.0 olds xs h form.1 form.2 (rw count at e))

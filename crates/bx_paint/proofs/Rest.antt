@@ -5,7 +5,7 @@ use Rattle.std.proofs.Common.{◌∙◌, length-append, arith}
 use Rattle.std.proofs.lemmas.Bool.Decides.{nat_tests}
 use Rattle.std.proofs.lemmas.List.{take_at, drop_at, drop-drop}
 use Rattle.bx_grid.specs.Columns.{Col, blank, columns_before, cut_after, put, put_in_row, glyph_columns, glyph_columns_from}
-use Rattle.bx_grid.specs.Glyphs.{WholeGlyph, IsGlyph, columns_of, AreWhole}
+use Rattle.bx_grid.specs.Glyphs.{WholeGlyph, IsGlyph, whole_columns, AreWhole}
 use Rattle.bx_grid.proofs.Pasted.{past_blanks}
 use Rattle.bx_grid.proofs.Whole.{columns_form, whole_split, whole_after, whole_left, whole_right}
 use Rattle.bx_grid.proofs.Spoils.{length-cut_after}
@@ -32,21 +32,21 @@ right_rest n xs = ap (cut_after 0) (cut_after-drop 0 n xs) ∙ right_again 0 (0 
 
 -- ---- a glyph that stays
 
-kept_by : (n : ℕ) (before ys : List Col) (g : WholeGlyph) → IsGlyph g → 1 ≤ n → columns_of g ≡ glyph_columns g.text n g.negative
-    → AreWhole (before ++ (columns_of g ++ ys))
-    → AreWhole (columns_of g ++ ys) × AreWhole ys
+kept_by : (n : ℕ) (before ys : List Col) (g : WholeGlyph) → IsGlyph g → 1 ≤ n → whole_columns g ≡ glyph_columns g.text n g.negative
+    → AreWhole (before ++ (whole_columns g ++ ys))
+    → AreWhole (whole_columns g ++ ys) × AreWhole ys
 kept_by zero before ys g h some is whole = absurd (omega (arith, some))
 kept_by (suc m) before ys g h some is whole =
     let parts = whole_split before g.text (suc m) g.negative (glyph_columns_from g.text (suc m) g.negative (0 + 1) m ++ ys) (rw is at whole) in
-    let here : AreWhole (columns_of g ++ ys) = rw is parts.1 in
+    let here : AreWhole (whole_columns g ++ ys) = rw is parts.1 in
     (here, whole_after g ys h here)
 
-pub kept : (before ys : List Col) (g : WholeGlyph) → IsGlyph g → AreWhole (before ++ (columns_of g ++ ys))
-    → cut_after 0 (columns_of g ++ ys) ≡ columns_of g ++ cut_after 0 ys
+pub kept : (before ys : List Col) (g : WholeGlyph) → IsGlyph g → AreWhole (before ++ (whole_columns g ++ ys))
+    → cut_after 0 (whole_columns g ++ ys) ≡ whole_columns g ++ cut_after 0 ys
 kept before ys g h whole =
     let form = columns_form g h in
     let parts = kept_by form.0 before ys g h form.1 form.2 whole in
-    whole_right 0 (columns_of g ++ ys) parts.0 ∙ ap (λ zs. columns_of g ++ zs) (sym (whole_right 0 ys parts.1))
+    whole_right 0 (whole_columns g ++ ys) parts.0 ∙ ap (λ zs. whole_columns g ++ zs) (sym (whole_right 0 ys parts.1))
 
 -- ---- blanks
 

@@ -5,7 +5,7 @@ use Rattle.std.proofs.lemmas.Bool.Decides.{nat_tests}
 use Rattle.std.proofs.lemmas.List.{append-nil, drop-drop}
 use Rattle.bx_grid.specs.Columns.{Col, Unknown, Glyph, put, run_columns}
 use Rattle.bx_grid.specs.Effects.{Effect, Puts, pending_effects, put_effects, glyphs_at}
-use Rattle.bx_grid.specs.Glyphs.{WholeGlyph, IsGlyph, columns_of}
+use Rattle.bx_grid.specs.Glyphs.{WholeGlyph, IsGlyph, whole_columns}
 use Rattle.bx_grid.specs.Terminal.{Terminal, run_ended, glyphs_put, within}
 use Rattle.bx_grid.specs.Picture.{PictureState}
 use Rattle.bx_grid.proofs.Doing.{run}
@@ -135,12 +135,12 @@ glyphs_at-append index (Glyph text columns offset negative ∷ xs) ys =
 
 pub ready_text : (p : PictureState) (w : Terminal × List Effect) (g : WholeGlyph) (above done rest below : List Col) (r c : ℕ) (all : List Effect)
     → IsGlyph g → (h : Ready p w g.negative above done rest below r c all)
-    → run_columns g.negative (h.pending ++ g.text) ≡ run_columns g.negative h.pending ++ columns_of g → c + length (columns_of g) ≤ p.width
-    → (k : Ready p (run w g.text) g.negative above (done ++ columns_of g) (drop (length (columns_of g)) rest) below r (c + length (columns_of g))
+    → run_columns g.negative (h.pending ++ g.text) ≡ run_columns g.negative h.pending ++ whole_columns g → c + length (whole_columns g) ≤ p.width
+    → (k : Ready p (run w g.text) g.negative above (done ++ whole_columns g) (drop (length (whole_columns g)) rest) below r (c + length (whole_columns g))
     (all ++ Puts (r * p.width + c) g.text g.negative ∷ [])) × (k.pending ≡ h.pending ++ g.text)
 ready_text p w g above done rest below r c all is h joins fits =
     let a = run_columns g.negative h.pending in
-    let b = columns_of g in
+    let b = whole_columns g in
     let index = r * p.width + h.from in
     let idle : w.0.half_read ≡ [] = ap (λ (u : Terminal). u.half_read) h.is in
     let next : run w g.text ≡ (record (w.0) { run = w.0.run ++ g.text; half_read = [] }, w.1) =

@@ -6,7 +6,7 @@ use Rattle.std.proofs.lemmas.List.{length-take, length-drop}
 use Rattle.std.proofs.lemmas.List.Elements.{All-nil, All-cons, All-head, All-tail, All-append, All-take, All-drop}
 use Rattle.bx_grid.specs.Columns.{Col, Unknown, Glyph, blank, is_blank, is_ascii_glyph, glyph_columns_from}
 use Rattle.bx_grid.specs.Effects.{Effect}
-use Rattle.bx_grid.specs.Glyphs.{WholeGlyph, IsGlyph, columns_of, all_columns, AreWhole}
+use Rattle.bx_grid.specs.Glyphs.{WholeGlyph, IsGlyph, whole_columns, all_columns, AreWhole}
 use Rattle.bx_grid.specs.Picture.{PictureState, AreWholeTokens, IsIdle, IsPicture}
 use Rattle.bx_grid.specs.Terminal.{Terminal, reads, run_ended, after_command}
 use Rattle.bx_grid.specs.Tokens.{is_param, command_of}
@@ -90,7 +90,7 @@ columns_texts text columns negative offset (suc count) h =
     All-cons IsText (Glyph text columns offset negative) (glyph_columns_from text columns negative (offset + 1) count) h
     (columns_texts text columns negative (offset + 1) count h)
 
-glyph_texts : (g : WholeGlyph) → IsGlyph g → All IsText (columns_of g)
+glyph_texts : (g : WholeGlyph) → IsGlyph g → All IsText (whole_columns g)
 glyph_texts g h =
     let form = columns_form g h in
     rw form.2 (columns_texts g.text form.0 g.negative 0 form.0 (text_ends g h))
@@ -98,7 +98,7 @@ glyph_texts g h =
 glyphs_texts : (gs : List WholeGlyph) → All IsGlyph gs → All IsText (all_columns gs)
 glyphs_texts [] h = All-nil IsText
 glyphs_texts (g ∷ gs) h =
-    All-append IsText (columns_of g) (all_columns gs) (glyph_texts g (All-head IsGlyph g gs h)) (glyphs_texts gs (All-tail IsGlyph g gs h))
+    All-append IsText (whole_columns g) (all_columns gs) (glyph_texts g (All-head IsGlyph g gs h)) (glyphs_texts gs (All-tail IsGlyph g gs h))
 
 whole_texts : (columns : List Col) → AreWhole columns → All IsText columns
 whole_texts columns h = rw (← h.are) (glyphs_texts h.glyphs h.each)

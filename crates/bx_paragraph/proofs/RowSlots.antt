@@ -14,7 +14,8 @@ use Rattle.bx_rows.proofs.NumbersBelow.{sum-visual}
 use Rattle.bx_rows.proofs.PictureSums.{columns-length, sum_by-same}
 use Rattle.bx_paragraph.specs.declared.slot.Slot.{Slot}
 use Rattle.bx_paragraph.specs.BodyRows.{BodyRow}
-use Rattle.bx_paragraph.specs.Slots.{columns_of, extent_of, row_slots, side_by_side, slot}
+use Rattle.bx_paragraph.specs.OrderedColumns.{ordered_columns}
+use Rattle.bx_paragraph.specs.Slots.{extent_of, row_slots, side_by_side, slot}
 
 -- ---- one more unit
 
@@ -34,8 +35,8 @@ side-more f order i column a b old new target h at all pushed =
     ap (λ xs. xs ++ side_by_side (column + b) rest) pushed ∙ append_assoc old (slot a column b ∷ []) (side_by_side (column + b) rest)
     ∙ ap (λ xs. old ++ xs) (sym here) ∙ all
 
-pub room-more : (columns order : List ℕ) (i column : ℕ) → i < length order → column + columns_of columns (drop i order) ≤ largest_side + 1
-    → column + get_or columns (get_or order i 0) 0 + columns_of columns (drop (i + 1) order) ≤ largest_side + 1
+pub room-more : (columns order : List ℕ) (i column : ℕ) → i < length order → column + ordered_columns columns (drop i order) ≤ largest_side + 1
+    → column + get_or columns (get_or order i 0) 0 + ordered_columns columns (drop (i + 1) order) ≤ largest_side + 1
 room-more columns order i column h room =
     let g : ℕ → ℕ = λ k. get_or columns k 0 in
     omega (arith, room, at_drop_more (sum_by g) order i 0 h, sum_by-cons g (get_or order i 0) (drop (i + 1) order))
@@ -50,7 +51,7 @@ chosen-one [] k = refl
 chosen-one (n ∷ ns) zero = one n
 chosen-one (n ∷ ns) (suc k) = chosen-one ns k
 
-chosen : (ns order : List ℕ) → sum_by (λ n. n) (flat_map (λ k. get_or (map (λ n. n ∷ []) ns) k []) order) ≡ columns_of ns order
+chosen : (ns order : List ℕ) → sum_by (λ n. n) (flat_map (λ k. get_or (map (λ n. n ∷ []) ns) k []) order) ≡ ordered_columns ns order
 chosen ns [] = refl
 chosen ns (k ∷ ks) =
     let f : ℕ → List ℕ = λ j. get_or (map (λ n. n ∷ []) ns) j [] in
@@ -62,23 +63,23 @@ ones (n ∷ ns) = omega (arith, sum_by-cons (sum_by (λ m. m)) (n ∷ []) (map (
 
 -- the columns of units in visual order are those that they use
 pub columns-in-order : (w : ℕ) (us : List Unit) (levels columns order : List ℕ) → length levels ≡ length us → columns ≡ unit_columns w 0 us
-    → order ≡ visual levels → columns_of columns order ≡ columns_used w us
+    → order ≡ visual levels → ordered_columns columns order ≡ columns_used w us
 columns-in-order w us levels columns order e is at =
     let ns = unit_columns w 0 us in
     let pieces : List (List ℕ) = map (λ n. n ∷ []) ns in
     let count : length pieces ≡ length levels = length-map ns (λ n. n ∷ []) ∙ columns-length w 0 us ∙ sym e in
-    ap (λ xs. columns_of xs order) is ∙ ap (columns_of ns) at ∙ sym (chosen ns (visual levels)) ∙ sum-visual (λ n. n) pieces levels count ∙ ones ns
+    ap (λ xs. ordered_columns xs order) is ∙ ap (ordered_columns ns) at ∙ sym (chosen ns (visual levels)) ∙ sum-visual (λ n. n) pieces levels count ∙ ones ns
     ∙ sum_by-same ns
 
 side-few : (w : ℕ) → is_side w ≡ true → w ≤ largest_side
 side-few w e = leb-true w largest_side (and_parts (nat_le 1 w) (nat_le w largest_side) e).1
 
 pub room-even : (w : ℕ) (us : List Unit) (levels columns order : List ℕ) → is_side w ≡ true → columns_used w us ≤ w → length levels ≡ length us
-    → columns ≡ unit_columns w 0 us → order ≡ visual levels → 1 + columns_of columns order ≤ largest_side + 1
+    → columns ≡ unit_columns w 0 us → order ≡ visual levels → 1 + ordered_columns columns order ≤ largest_side + 1
 room-even w us levels columns order side fits e is at = omega (arith, side-few w side, fits, columns-in-order w us levels columns order e is at)
 
 pub room-odd : (w : ℕ) (us : List Unit) (levels columns order : List ℕ) (used : ℕ) → is_side w ≡ true → columns_used w us ≤ w → length levels ≡ length us
-    → columns ≡ unit_columns w 0 us → order ≡ visual levels → used ≡ columns_used w us → w - used + 1 + columns_of columns order ≤ largest_side + 1
+    → columns ≡ unit_columns w 0 us → order ≡ visual levels → used ≡ columns_used w us → w - used + 1 + ordered_columns columns order ≤ largest_side + 1
 room-odd w us levels columns order used side fits e is at count =
     omega (arith, side-few w side, fits, count, columns-in-order w us levels columns order e is at)
 

@@ -1,6 +1,6 @@
 -- The slots of a row of a body: its places from left to right, each with its columns.
 use Rattle.std.specs.Prelude.{◌≡◌, ℕ, zero, suc, ◌+◌, ◌-◌, ◌%◌, ◌==◌, ◌&&◌, nat_le, nat_lt, min, max, true, false}
-use Rattle.std.specs.Prelude.{Bool, List, [], ◌∷◌, ◌++◌, map, length, reverse, find, slice_index_or, sum_by, Option, Some, None, option_map, unwrap_or}
+use Rattle.std.specs.Prelude.{Bool, List, [], ◌∷◌, ◌++◌, map, length, reverse, find, slice_index_or, Option, Some, None, option_map, unwrap_or}
 use Rattle.std.specs.List.{zip}
 use Rattle.bx_cells.specs.declared.unit.Unit.{Unit}
 use Rattle.bx_rows.specs.VisualOrder.{visual}
@@ -33,10 +33,6 @@ unit_slots w r = side_by_side (left_column w r) (map (extent_of r.units (unit_co
 -- the column of the slot of the paragraph's end: next to the units, or the last one at the edge
 abbrev pub end_column : ℕ → BodyRow → ℕ
 end_column w r = elim (r.paragraph % 2) [ zero ↦ min (columns_used w r.units + 1) w | suc _ ↦ max (w - columns_used w r.units) 1 ]
-
--- the sum of the columns of units
-abbrev pub columns_of : List ℕ → List ℕ → ℕ
-columns_of columns order = sum_by (λ k. slice_index_or columns k 0) order
 
 -- the slot of the paragraph's end, which covers no column
 abbrev pub end_slot : ℕ → BodyRow → Slot

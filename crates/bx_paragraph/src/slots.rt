@@ -3,7 +3,8 @@ ghost use Rattle.std.specs.Prelude.{◌≡◌, ◌≤◌, ◌<◌, ◌+◌, ◌+
 ghost use Rattle.bx_terms.specs.Sizes.{is_side, largest_side};
 ghost use Rattle.bx_rows.specs.RowPicture.{columns_used};
 ghost use Rattle.bx_paragraph.specs.RowParts.{body_row};
-ghost use Rattle.bx_paragraph.specs.Slots.{columns_of, extent_of, row_slots, side_by_side};
+ghost use Rattle.bx_paragraph.specs.OrderedColumns.{ordered_columns};
+ghost use Rattle.bx_paragraph.specs.Slots.{extent_of, row_slots, side_by_side};
 
 use crate::row_parts::RowParts;
 use crate::slot::Slot;
@@ -22,7 +23,7 @@ fn push_units(
 ) -> Result<(), AllocError>
     requires counts { length columns.now ≡ length units.now }
     requires order { All (λ k. k < length units.now) order.now }
-    requires room { at + columns_of columns.now order.now ≤ largest_side + 1 }
+    requires room { at + ordered_columns columns.now order.now ≤ largest_side + 1 }
     ensures { OnOk result (slots.new.items ≡ slots.old.items
         ++ side_by_side at (map (extent_of units.now columns.now) order.now)) }
 {

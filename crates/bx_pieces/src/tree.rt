@@ -163,13 +163,13 @@ pub fn holding(tree: &Link, at: usize) -> Option<(Piece, usize)>
 {
     match tree {
         None => None,
-        Some(tree) => held(&**tree, at),
+        Some(tree) => holding_in(&**tree, at),
     }
 }
 
 #[cycle(finding)]
 #[tactic(auto, using(crate::proofs::Cuts::holding_first, crate::proofs::Cuts::holding_past))]
-fn held(tree: &Tree, at: usize) -> Option<(Piece, usize)>
+fn holding_in(tree: &Tree, at: usize) -> Option<(Piece, usize)>
     ensures { result ≡ holding tree.now.pieces at }
 {
     let left = len(&tree.left);

@@ -29,14 +29,16 @@ loop-number-preserved g c =
     let u = get_or row.units.now k no_unit in
     let within : k < length row.units.now = c.requires.order c.loop-number.number-index 0 c.loop-number-test.true in
     let near : IsNear c.args.body.now each c.moved-near.result = near-moved c.args.body.now each c.loop-number.near c.moved-near.result u.start c.loop-number.invariant.1
-    (c.requires.stand k no_unit within).1 c.moved-near.ensures.offset c.moved-near.ensures.number c.moved-near.ensures.text c.moved-near.ensures.each in
-    (pieces-more (λ j. get_or (unit_glyphs says c.args.w c.args.body.now each row.units.now row.columns.now row.levels.now) j []) row.order.now
-    c.loop-number.number-index k _ _ _ _
-    c.loop-number-test.true refl c.loop-number.invariant.0 c.in_ok-push_face.ensures
-    (piece-at says c.args.w c.args.body.now each row.units.now row.columns.now row.levels.now k 0 0 no_unit within c.requires.columns
-    c.requires.levels
-    ∙ drawn-in says c.args.w c.args.body.now each u _ (get_or row.columns.now k 0) (get_or row.levels.now k 0) c.moved-near.result near
-    c.moved-near.ensures.offset c.range.ensures.value), near)
+    (c.requires.stand k no_unit within).1 c.moved-near.ensures.offset c.moved-near.ensures.number c.moved-near.ensures.text c.moved-near.ensures.each in (
+      pieces-more (λ j. get_or (unit_glyphs says c.args.w c.args.body.now each row.units.now row.columns.now row.levels.now) j []) row.order.now
+          c.loop-number.number-index k _ _ _ _
+          c.loop-number-test.true refl c.loop-number.invariant.0 c.in_ok-push_face.ensures
+          (piece-at says c.args.w c.args.body.now each row.units.now row.columns.now row.levels.now k 0 0 no_unit within c.requires.columns
+          c.requires.levels
+          ∙ drawn-in says c.args.w c.args.body.now each u _ (get_or row.columns.now k 0) (get_or row.levels.now k 0) c.moved-near.result near
+          c.moved-near.ensures.offset c.range.ensures.value),
+      near,
+    )
 
 pub moved-near-requires : goal.moved-near-requires
 moved-near-requires g c =
