@@ -28,7 +28,8 @@ use Rattle.bx_rows.proofs.RowsFit.{fit_if_wrapped, rest-of, row-within}
 use Rattle.bx_paragraph.specs.declared.slot.Slot.{Slot}
 use Rattle.bx_paragraph.specs.BodyRows.{BodyRow, body_rows, row_with, rows_units}
 use Rattle.bx_paragraph.specs.BodyRows.{row_at as row_at_body, row_of as row_of_body}
-use Rattle.bx_paragraph.specs.Slots.{column_in, columns_of, end_slot, extent_of, left_column, row_slots, side_by_side, unit_slots}
+use Rattle.bx_paragraph.specs.OrderedColumns.{ordered_columns}
+use Rattle.bx_paragraph.specs.Slots.{column_in, end_slot, extent_of, left_column, row_slots, side_by_side, unit_slots}
 use Rattle.bx_paragraph.proofs.LayoutRows.{last-at}
 use Rattle.bx_paragraph.proofs.RowSlots.{columns-in-order, extent-is}
 use Rattle.bx_paras.specs.Paragraphs.{lengths}
@@ -154,7 +155,7 @@ module _ (w : ℕ) (us : List Unit) where
         extents-wide some ks (λ i d inside. below (suc i) d (omega (arith, inside))),
       )
 
-  pub extents-total : (order : List ℕ) → All (λ k. k < length us) order → total (map (extent_of us columns) order) ≡ columns_of columns order
+  pub extents-total : (order : List ℕ) → All (λ k. k < length us) order → total (map (extent_of us columns) order) ≡ ordered_columns columns order
   extents-total [] below = refl
   extents-total (k ∷ ks) below =
       let is = ap (λ (x : ℕ × ℕ). x.1) (extent-is us columns k no_unit (below 0 k (omega arith)) (columns-length w 0 us)) in
