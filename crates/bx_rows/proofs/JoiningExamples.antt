@@ -8,7 +8,7 @@ use Rattle.bx_terms.specs.declared.base.Base.TheVariants.{Auto, Ltr}
 use Rattle.bx_ucd.specs.JoinedTables.{form_line, joined_tables, type_line}
 use Rattle.bx_ucd.specs.SmallTables.{class, mirror}
 use Rattle.bx_ucd.specs.declared.class.Class.{Class}
-use Rattle.bx_ucd.specs.declared.class.Class.TheVariants.{AN, BN, ON}
+use Rattle.bx_ucd.specs.declared.class.Class.TheVariants.{L as Left, R as Right, AN, BN, ON}
 use Rattle.bx_ucd.specs.declared.joining.Joining.TheVariants.{R, L, D, C, U, T}
 use Rattle.bx_ucd.specs.declared.joining.Form.TheVariants.{Isolated, Initial, Medial, Final}
 use Rattle.bx_ucd.specs.declared.joining_file.JoiningEntry.{JoiningEntry}
@@ -264,6 +264,57 @@ across_alm = refl
 not_across_alm_by_a_line : shown class mirror (type_line 0x61c U ∷ []) [] Auto 5 (beh ∷ 0x61c ∷ beh ∷ []) ≡ ((0x20 ∷ 0x20 ∷ beh ∷ 0x7e ∷ beh ∷ []) ∷ [])
 unfolding unicode_segmentation unicode_width
 not_across_alm_by_a_line = refl
+
+-- a direction mark of a lower level parts letters, of whatever forms
+abbrev with_lrm : ℕ → Class
+with_lrm c = with_class 0x200e Left c
+
+parted_by_lrm : shown with_lrm mirror [] [] Auto 5 (0x78 ∷ beh ∷ 0x200e ∷ beh ∷ []) ≡ ((0x78 ∷ beh ∷ 0x7e ∷ beh ∷ 0x20 ∷ []) ∷ [])
+unfolding unicode_segmentation unicode_width
+parted_by_lrm = refl
+
+isolated_by_lrm : shown with_lrm mirror [] (form_line beh Isolated isolated ∷ []) Auto 5 (0x78 ∷ beh ∷ 0x200e ∷ beh ∷ []) ≡ ((0x78 ∷ isolated ∷ 0x7e ∷ isolated ∷ 0x20 ∷ []) ∷ [])
+unfolding unicode_segmentation unicode_width
+isolated_by_lrm = refl
+
+parted_by_lrm_and_a_mark : shown with_lrm mirror [] [] Auto 5 (0x78 ∷ beh ∷ 0x301 ∷ 0x200e ∷ beh ∷ []) ≡ ((0x78 ∷ beh ∷ 0x301 ∷ 0x7e ∷ beh ∷ 0x20 ∷ []) ∷ [])
+unfolding unicode_segmentation unicode_width
+parted_by_lrm_and_a_mark = refl
+
+-- one of their level, or of a higher level, or that X9 removes, does not
+across_rlm_of_one_level : shown (with_class 0x200f Right) mirror [] [] Auto 5 (0x78 ∷ beh ∷ 0x200f ∷ beh ∷ []) ≡ ((0x78 ∷ final ∷ 0x7e ∷ initial ∷ 0x20 ∷ []) ∷ [])
+unfolding unicode_segmentation unicode_width
+across_rlm_of_one_level = refl
+
+across_lrm_of_a_higher_level : shown with_lrm mirror [] [] Auto 5 (beh ∷ 0x200e ∷ beh ∷ []) ≡ ((0x20 ∷ 0x20 ∷ final ∷ 0x7e ∷ initial ∷ []) ∷ [])
+unfolding unicode_segmentation unicode_width
+across_lrm_of_a_higher_level = refl
+
+across_a_removed_mark : shown (with_class 0x200e BN) mirror [] [] Auto 5 (0x78 ∷ beh ∷ 0x200e ∷ beh ∷ []) ≡ ((0x78 ∷ final ∷ 0x7e ∷ initial ∷ 0x20 ∷ []) ∷ [])
+unfolding unicode_segmentation unicode_width
+across_a_removed_mark = refl
+
+-- under an override all have one level: even, or odd
+lrm_under_lro : shown with_lrm mirror [] [] Auto 7 (0x78 ∷ 0x202d ∷ beh ∷ 0x200e ∷ beh ∷ 0x202c ∷ []) ≡ ((0x78 ∷ 0x6f ∷ beh ∷ 0x7e ∷ beh ∷ 0x70 ∷ 0x20 ∷ []) ∷ [])
+unfolding unicode_segmentation unicode_width
+lrm_under_lro = refl
+
+lrm_under_rlo : shown with_lrm mirror [] [] Auto 7 (0x78 ∷ 0x202e ∷ beh ∷ 0x200e ∷ beh ∷ 0x202c ∷ []) ≡ ((0x78 ∷ 0x4f ∷ 0x70 ∷ final ∷ 0x7e ∷ initial ∷ 0x20 ∷ []) ∷ [])
+unfolding unicode_segmentation unicode_width
+lrm_under_rlo = refl
+
+-- in a left-to-right isolate the mark has a lower level, in a right-to-left one a higher; one between the letters has a higher
+lrm_in_lri : shown with_lrm mirror [] [] Auto 7 (0x78 ∷ 0x2066 ∷ beh ∷ 0x200e ∷ beh ∷ 0x2069 ∷ []) ≡ ((0x78 ∷ 0x69 ∷ beh ∷ 0x7e ∷ beh ∷ 0x50 ∷ 0x20 ∷ []) ∷ [])
+unfolding unicode_segmentation unicode_width
+lrm_in_lri = refl
+
+lrm_in_rli : shown with_lrm mirror [] [] Auto 7 (0x78 ∷ 0x2067 ∷ beh ∷ 0x200e ∷ beh ∷ 0x2069 ∷ []) ≡ ((0x78 ∷ 0x49 ∷ final ∷ 0x7e ∷ initial ∷ 0x50 ∷ 0x20 ∷ []) ∷ [])
+unfolding unicode_segmentation unicode_width
+lrm_in_rli = refl
+
+across_an_isolated_lrm : shown with_lrm mirror [] [] Auto 7 (0x78 ∷ beh ∷ 0x2066 ∷ 0x200e ∷ 0x2069 ∷ beh ∷ []) ≡ ((0x78 ∷ final ∷ 0x50 ∷ 0x7e ∷ 0x69 ∷ initial ∷ 0x20 ∷ []) ∷ [])
+unfolding unicode_segmentation unicode_width
+across_an_isolated_lrm = refl
 
 -- levels must be equal
 levels_differ : shown class mirror [] [] Auto 5 (beh ∷ 0x202e ∷ beh ∷ 0x202c ∷ []) ≡ ((0x20 ∷ 0x70 ∷ beh ∷ 0x4f ∷ beh ∷ []) ∷ [])
