@@ -1,6 +1,6 @@
 //! The input files of a session.
 
-use crate::words::Options;
+use crate::parsed::Options;
 use bx_words::{FileFault, UnicodeBytes, bytes_of, text_of};
 
 /// The input files of a session.

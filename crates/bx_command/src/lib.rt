@@ -6,10 +6,12 @@ mod check;
 mod files;
 mod journal;
 mod line;
+mod parsed;
 mod words;
 
 pub use check::{TextFault, check_text};
 pub use files::Files;
 pub use journal::{JournalFile, JournalNotes, empty_journal};
 pub use line::start_of_line;
-pub use words::{Options, command_line};
+pub use parsed::Options;
+pub use words::command_line;

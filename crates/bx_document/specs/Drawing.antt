@@ -1,4 +1,4 @@
--- Rows of text are drawn as columns, and written into the rows of a grid.
+-- The columns that show a row of text, and a grid that has them in its rows.
 use Rattle.std.specs.Prelude.{ℕ, ◌+◌, ◌*◌, ◌≤◌, ◌<◌, List, flat_map}
 use Rattle.bx_grid.specs.Columns.{Col, glyph_columns, paste}
 use Rattle.bx_grid.specs.Picture.{GridState}
@@ -24,6 +24,6 @@ pub record IsAmong (rows : List TextRow) (top place count : ℕ) : Type 0 where
   pub above : row_of rows top ≤ row_of rows place
   pub below : row_of rows place < row_of rows top + count
 
--- the grid with these columns written over its own, from row `row` on; rows count from 0
+-- the grid with these columns in place of its own, from row `row` on; rows count from 0
 abbrev pub with_rows : GridState → ℕ → List Col → GridState
 with_rows g row columns = record g { columns = paste g.columns (row * g.width) columns }

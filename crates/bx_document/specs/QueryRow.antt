@@ -1,4 +1,4 @@
--- A status row shows a text, or a text and a query behind it. Glyphs that do not fit are left out.
+-- A status row shows a text, or a text and a query behind it. It leaves out the glyphs that do not fit.
 use Rattle.std.specs.Prelude.{ℕ, ◌-◌, nat_le, true, false, List, [], ◌∷◌, ◌++◌, take, replicate}
 use Rattle.bx_terms.specs.declared.base.Base.TheVariants.{Auto}
 use Rattle.bx_ucd.specs.Data.{Data}
@@ -9,11 +9,11 @@ use Rattle.bx_paragraph.specs.BodyRows.{body_rows, row_at}
 use Rattle.bx_paragraph.specs.OwnGlyphs.{row_own_glyphs}
 use Rattle.bx_document.specs.Drawing.{side_by_side}
 
--- A query is laid out alone, in 500 columns. These are the glyphs of its first row, from left to right.
+-- the glyphs of a query, from left to right: those of its first row, as a text of its own in 500 columns
 abbrev pub query_glyphs : Data → List ℕ → List Glyph
 query_glyphs d query = row_own_glyphs d 500 (row_at (body_rows d Auto 500 query) 0)
 
--- the leftmost glyphs that fit into `w` columns; none follows one that does not fit
+-- the leftmost glyphs, up to the first one that does not fit into `w` columns
 abbrev pub fitting : ℕ → List Glyph → List Glyph
 fitting w [] = []
 fitting w (g ∷ gs) = elim (nat_le g.columns w) [ true ↦ g ∷ fitting (w - g.columns) gs | false ↦ [] ]

@@ -1,5 +1,5 @@
--- A region is a part of the text, from one offset to another. Its columns in drawn rows are turned: shown negative, or plain if
--- they were negative.
+-- A region is a part of the text, from one offset to another. Drawn rows show its columns in the other rendition: negative, or
+-- plain if they were negative.
 use Rattle.std.specs.Prelude.{ℕ, ◌+◌, ◌-◌, ◌*◌, Bool, List, [], ◌∷◌, ◌++◌, flat_map, length, replicate, if◌then◌else◌}
 use Rattle.bx_grid.specs.Columns.{Col, blank}
 use Rattle.bx_grid.specs.Turned.{turned}
@@ -8,12 +8,12 @@ use Rattle.bx_view.specs.TextParts.{is_covered}
 use Rattle.bx_view.specs.TextRows.{TextRow}
 use Rattle.bx_document.specs.Drawing.{row_columns}
 
--- columns of which those are turned whose numbers pass; the first column has the number `k`
+-- the columns, in the other rendition where their numbers pass; the first column has the number `k`
 abbrev pub turned_where : (ℕ → Bool) → ℕ → List Col → List Col
 turned_where passes k [] = []
 turned_where passes k (c ∷ cs) = (if passes k then turned c else c) ∷ turned_where passes (k + 1) cs
 
--- the columns of a row of text; each unit that begins in the region has its columns turned
+-- the columns of a row of text; each unit that begins in the region shows its columns in the other rendition
 abbrev pub region_columns : Data → ℕ → ℕ × ℕ → TextRow → List Col
 region_columns d w region r = turned_where (is_covered w region r) 1 (row_columns d w r)
 

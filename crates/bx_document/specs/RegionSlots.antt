@@ -1,4 +1,4 @@
--- A region's units are turned one after another, each in the columns of its slot.
+-- The drawing of a region turns its units to the other rendition one after another, each in the columns of its slot.
 use Rattle.std.specs.Prelude.{ℕ, ◌+◌, ◌-◌, ◌*◌, ◌≤◌, List, [], ◌∷◌, length, take, drop}
 use Rattle.bx_grid.specs.Columns.{Col}
 use Rattle.bx_grid.specs.Picture.{GridState}
@@ -16,7 +16,7 @@ pub record IsSpan (columns : List Col) (s : Slot) : Type 0 where
   pub begins : IsBorder columns (s.column - 1)
   pub ends : IsBorder columns (s.column - 1 + s.columns)
 
--- a row once the columns of these slots are turned
+-- a row after each of these slots turned its columns to the other rendition
 abbrev pub turned_slots : List Slot → List Col → List Col
 turned_slots [] columns = columns
 turned_slots (s ∷ ss) columns = turned_slots ss (turned_in columns (s.column - 1) s.columns)

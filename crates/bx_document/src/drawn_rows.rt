@@ -20,8 +20,8 @@ pub(crate) struct Page {
     pub(crate) region: (usize, usize),
 }
 
-/// Fills a page, the first rows of a grid, with the text's rows from `at` on, and with blank rows past the text's end. Turns
-/// the columns of units that begin in the region.
+/// Fills a page, the first rows of a grid, with the text's rows from `at` on, and with blank rows past the text's end. Shows in
+/// the other rendition the columns of units that begin in the region.
 ///
 /// Errors: `OutOfMemory`; some of the rows may be drawn.
 pub(crate) fn draw_rows<D: BidiData>(

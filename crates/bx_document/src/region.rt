@@ -1,4 +1,4 @@
-//! Shows a region in a drawn row: the columns of its units are turned to the other rendition.
+//! Shows a region in a drawn row: turns the columns of its units to the other rendition.
 ghost use Rattle.std.specs.Prelude.{◌≡◌, ◌<◌, All, OnOk};
 ghost use Rattle.bx_view.specs.Source.{OfRow, Stands};
 ghost use Rattle.bx_document.specs.Drawing.{row_columns, with_rows};
@@ -11,7 +11,7 @@ use bx_terms::OutOfMemory;
 use bx_ucd::BidiData;
 use bx_view::{Layout, RowAt, Source};
 
-/// Turns the columns of slots in row `row` of a grid. Rows count from 0.
+/// Turns the columns of slots in row `row` of a grid to the other rendition. Rows count from 0.
 fn turn_slots(grid: &mut Grid, row: u16, slots: &[Slot])
     requires inside { row < grid.old.height }
     requires spans { All (IsSpan (row_in grid.old row)) slots.now }
@@ -24,8 +24,8 @@ fn turn_slots(grid: &mut Grid, row: u16, slots: &[Slot])
     }
 }
 
-/// Turns the columns of the region's units in row `row` of a grid, which shows row `at` of the text. Rows of the grid count
-/// from 0.
+/// Shows the columns of the region's units in the other rendition, in row `row` of a grid, which shows row `at` of the text.
+/// Rows of the grid count from 0.
 ///
 /// Errors: `OutOfMemory`.
 pub(crate) fn turn_row<D: BidiData>(

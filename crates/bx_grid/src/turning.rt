@@ -1,4 +1,4 @@
-//! Turning columns of a grid to the other rendition.
+//! Turns columns of a grid to the other rendition.
 
 ghost use Rattle.std.specs.Prelude.{◌≡◌, ◌+◌, ◌-◌, ◌*◌, ◌≤◌, ◌<◌, length, map, take, drop};
 ghost use Rattle.bx_grid.specs.Columns.{paste};
@@ -9,7 +9,7 @@ use crate::codes::note_codes;
 use crate::column::Column;
 use crate::grid::Grid;
 
-/// Turns all columns.
+/// Turns all columns to the other rendition.
 fn turn_all(columns: &mut [Column])
     ensures { all_seen columns.new ≡ map turned (all_seen columns.old) }
 {
@@ -18,7 +18,7 @@ fn turn_all(columns: &mut [Column])
     }
 }
 
-/// Turns columns, from an index up to another.
+/// Turns the columns from an index up to another to the other rendition.
 fn turn_columns(columns: &mut [Column], from: usize, to: usize)
     requires order { from ≤ to }
     requires inside { to ≤ length columns.old }

@@ -1,6 +1,6 @@
 //! The filter's output for a byte.
 
-/// The output for one byte of input: first bytes, a key's sequence and one more byte, of which each may be missing.
+/// The output for one byte of input: first bytes, then a key's sequence, then one more byte. Each of the three may be missing.
 #[derive(Clone, Copy, Debug)]
 pub struct Output {
     /// The first bytes, at most five.

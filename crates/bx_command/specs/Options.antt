@@ -1,0 +1,25 @@
+-- The options of the editor's command line.
+use Rattle.std.specs.Prelude.{◌≡◌, ℕ, List, Option, Some, option_map, codes}
+use Rattle.std.specs.Borrow.{Bor}
+use Rattle.clap.specs.declared.parser.matches.ArgMatches.{ArgMatches}
+use Rattle.bx_terms.specs.Directions.{word_of}
+use Rattle.bx_words.specs.Arguments.{ArePathsIn, IsSideIn, text_of}
+use Rattle.bx_command.specs.declared.parsed.Options.{Options}
+
+-- the text of an option that may be missing
+abbrev pub text_in : Option (Bor (List ℕ)) → Option (List ℕ)
+text_in text = option_map (λ t. t.now) text
+
+-- each option that has a text is given by the argument of its name
+pub record AreOptionsIn (matches : ArgMatches) (options : Options) : Type 0 where
+  pub rows : IsSideIn matches (codes "rows") options.rows
+  pub cols : IsSideIn matches (codes "cols") options.cols
+  pub unicode : ArePathsIn matches options.unicode
+  pub file : text_of matches (codes "file") ≡ Some options.file.now
+  pub opened : text_of matches (codes "text") ≡ text_in options.text
+  pub journal : text_of matches (codes "journal") ≡ text_in options.journal
+  pub in_place : text_of matches (codes "in-place") ≡ text_in options.in_place
+  pub replay : text_of matches (codes "replay") ≡ text_in options.replay
+  pub to : text_of matches (codes "to") ≡ text_in options.to
+  pub before : text_of matches (codes "before") ≡ text_in options.before
+  pub direction : text_of matches (codes "direction") ≡ Some (word_of options.direction)
