@@ -1,7 +1,7 @@
 -- A unit at an odd level shows each letter in the form that goes by what it joins.
-use Rattle.std.proofs.Common.{◌≡◌, ℕ, zero, suc, ◌+◌, ◌%◌, ◌<◌, Bool, true, false, List, [], ◌∷◌, ◌++◌, length, map, get_or, drop, take, chars, Option, IsUtf8, reverse}
+use Rattle.std.proofs.Common.{◌≡◌, ℕ, zero, suc, ◌+◌, ◌<◌, Bool, true, false, List, [], ◌∷◌, ◌++◌, length, map, get_or, drop, take, chars, Option, reverse}
 use Rattle.std.proofs.Common.{refl, sym, ap, ap₂, ◌∙◌, arith, append-nil}
-use Rattle.std.specs.Prelude.{HoldsAt, encode_utf8_all, unwrap_or}
+use Rattle.std.specs.Prelude.{encode_utf8_all, unwrap_or}
 use Rattle.std.proofs.lemmas.List.{get_or-drop, length-map}
 use Rattle.std.proofs.lemmas.Str.{IsUtf8-between, encodes-chars}
 use Rattle.bx_terms.specs.Characters.{are_ascii_printable}
@@ -12,7 +12,7 @@ use Rattle.bx_cells.specs.declared.unit.Unit.{Unit}
 use Rattle.bx_cells.specs.Faces.{face}
 use Rattle.bx_cells.specs.Units.{unit_chars, unit_text}
 use Rattle.bx_joining.specs.JoinedText.{in_forms}
-use Rattle.bx_joining.specs.Joining.{Joiner, body_forms, form_if, forms_behind, joins_after, joins_before}
+use Rattle.bx_joining.specs.Joining.{body_forms, form_if, forms_behind, joins_after, joins_before}
 use Rattle.bx_joining.proofs.FormsAt.{form_between}
 use Rattle.bx_joining.proofs.TextForms.{length-first_forms}
 use Rattle.bx_rows.specs.JoiningLaws.{AreByJoining, GoesByJoining, LettersGoByJoining, ShownLetter, ShowsIfOwn, text_shown}
