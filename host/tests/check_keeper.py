@@ -241,6 +241,20 @@ def live(top):
     first.close()
 
 
+def two_starts(top):
+    """A start is told of another one that is just opening FILE, also where FILE is not there."""
+    put(f'{top}/a.txt', b'text\n')
+    for name in ('a.txt', 'new.txt'):
+        first = Start(top, name)
+        second = Start(top, name, answers=['no'])
+        assert second.end == ('x', '2') and f'{name} is open in another window of yours, process {os.getpid()}.' in second.out, second.out
+        first.read()
+        assert first.second() == '.' and first.leave(0) == 0
+        third = Start(top, name)
+        assert third.end[0] == 'g' and not third.out, third.out
+        third.close()
+
+
 def a_pipe_in_its_place(top):
     """A pipe that takes FILE's place is not opened, which would wait for a writer."""
     put(f'{top}/a.txt', b'text\n')
@@ -268,7 +282,7 @@ def a_folder_that_goes(top):
     start.type(b'abc')
     start.second()
     shutil.rmtree(os.path.dirname(start.value('--journal')))
-    assert start.leave(0) == 0 and re.search('what was not saved cannot be had back, since its folder .* is gone', start.err), start.err
+    assert start.leave(0) == 0 and re.search('only what was saved is kept, since its folder .* is gone', start.err), start.err
 
 
 def no_room(top):
@@ -540,7 +554,7 @@ def printing(top):
     assert start.end[0] == 'P' and start.printer[:4] == ['--cols', '80', '--direction', 'auto'] and start.printer[-1] == 'a.txt', start.printer
 
 
-CASES = [help_and_version, refusals, a_session, keys_are_kept, questions, dropped, refused_by_the_program, live, a_pipe_in_its_place, a_folder_that_goes, no_room,
+CASES = [help_and_version, refusals, a_session, keys_are_kept, questions, dropped, refused_by_the_program, live, two_starts, a_pipe_in_its_place, a_folder_that_goes, no_room,
          another_file_meanwhile, the_host_dies, changed_since, mixed_line_ends, other_names, cannot_be_replayed, a_file_that_is_gone,
          another_version, tables_that_change, by_other_names, torn_by_another_name, secrets, forgets, foreign_names, closed_files, nothing_typed, stores_elsewhere,
          printing]

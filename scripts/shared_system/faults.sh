@@ -216,7 +216,7 @@ check_state_taken_away() {
     rm -rf "$folder/state"
     wait_for 30 has_title_with first 'not kept'
     terminal send-keys -t first C-q C-q
-    expect_in first 'faults, the state folder is gone: told where the text is dropped' 'is not kept, since'
+    expect_in first 'faults, the state folder is gone: told where the text is dropped' 'only what was saved is kept, since'
     leave_files
 }
 

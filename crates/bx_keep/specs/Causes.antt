@@ -1,8 +1,8 @@
 -- Why no copy of what is typed is kept, by the kind of the system's fault.
 use Rattle.std.specs.declared.io.ErrorKind.{ErrorKind}
 use Rattle.std.specs.declared.io.ErrorKind.TheVariants as kind
-use Rattle.bx_wire.specs.declared.notice.Notice.{Notice}
-use Rattle.bx_wire.specs.declared.notice.Notice.TheVariants as notice
+use Rattle.bx_keys.specs.declared.notice.Notice.{Notice}
+use Rattle.bx_keys.specs.declared.notice.Notice.TheVariants as notice
 
 abbrev pub notice_of : ErrorKind → Notice
 notice_of kind.StorageFull = notice.NoSpace

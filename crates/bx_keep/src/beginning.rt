@@ -6,9 +6,10 @@ use crate::checking::Edited;
 use crate::saying::warn;
 use crate::shelf::unkept_by;
 use crate::stop::Stop;
+use bx_keys::Notice;
 use bx_launch::Options;
 use bx_sessions::{Begin, Kept, Part, Reason, begin, has_room, sweep};
-use bx_wire::{Host, Notice};
+use bx_wire::Host;
 use bx_words::Shown;
 use std::rt::Files;
 use std::thread;
@@ -109,7 +110,11 @@ impl Begun {
         // what cannot be removed stays
         let _ = sweep(around.rt, sessions);
         match begin(around.rt, sessions) {
-            Ok(kept) => self.kept = Some(kept),
+            Ok(kept) => {
+                // without it other starts find the session once it is filled
+                let _ = kept.announce(around.rt, edited.path(), &around.process()?);
+                self.kept = Some(kept);
+            }
             Err(fault) => {
                 self.unkept = Some(unkept_by(alloc, sessions.path(), &fault)?);
                 return Ok(());

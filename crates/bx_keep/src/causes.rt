@@ -3,7 +3,7 @@
 ghost use Rattle.std.specs.Prelude.{◌≡◌};
 ghost use Rattle.bx_keep.specs.Causes.{notice_of};
 
-use bx_wire::Notice;
+use bx_keys::Notice;
 use std::alloc::{AllocError, Global};
 use std::io::ErrorKind;
 

@@ -112,8 +112,8 @@ impl Running<'_> {
         self.tell(host, line.as_str())
     }
 
-    /// Tells that what was typed is not kept, since the session's folder is gone. Whether all of it was saved is not known after a
-    /// Quit.
+    /// Tells that the session's folder is gone. A Quit does not tell whether all that was typed was saved, so behind one the line is
+    /// true in both cases.
     fn tell_gone<H: Host>(&self, host: &mut H, kept: &Kept, status: u64) -> Result<(), Stop> {
         let folder = Shown(kept.session.path());
         let cause = format!(in self.around.alloc(); "its folder {folder} is gone")?;
@@ -121,9 +121,7 @@ impl Running<'_> {
         if status != 0 || self.synced == 0 {
             return self.tell_lost(host, status, cause);
         }
-        let line = format!(in self.around.alloc();
-            "what was not saved cannot be had back, since {cause}"
-        )?;
+        let line = format!(in self.around.alloc(); "only what was saved is kept, since {cause}")?;
         self.tell(host, line.as_str())
     }
 

@@ -4,7 +4,7 @@ use crate::around::Around;
 use crate::beginning::Begun;
 use crate::checking::Edited;
 use bx_launch::are_all_crlf;
-use bx_sessions::{FillFault, Kept, Look, Opening, Part, ROOT, Source, open_plain};
+use bx_sessions::{FillFault, Kept, Look, Opening, ROOT, Source, open_plain};
 use bx_terms::LARGEST_TEXT;
 use std::io::{self, Read};
 use std::os::unix::fs::MetadataExt;
@@ -33,19 +33,6 @@ pub enum Text {
     /// No session is kept. Whether all its lines ended with CR LF.
     Unkept(bool),
 }
-
-/// All files of a session that filling it makes.
-const FILLED: [Part; 9] = [
-    Part::Path,
-    Part::Begin,
-    Part::Process,
-    Part::Versions,
-    Part::Mode,
-    Part::Unjoined,
-    Part::File,
-    Part::Secret,
-    Part::Text,
-];
 
 /// The bytes of FILE, if FILE still is as it was read; None if it is not.
 fn bytes_as_read(rt: &HostRuntime, path: &str, look: Look) -> io::Result<Option<Vec<u8>>> {
@@ -118,12 +105,7 @@ fn copy(around: Around<'_>, edited: &Edited, begun: &Begun, kept: &Kept, look: L
     for _ in 0..TRIES {
         match fill(around, edited, begun, kept, Source::File(edited.path())) {
             Ok(copied) if copied == Some(look) => return Text::Kept,
-            Ok(_) => {
-                for part in FILLED {
-                    // what stays makes the next try fail
-                    let _ = kept.session.erase(around.rt, part);
-                }
-            }
+            Ok(_) => kept.unfill(around.rt),
             Err(FillFault::Unwritten(_)) => return wait(around, edited.path(), Some(look)),
             Err(FillFault::Changed | FillFault::Unreadable(_)) => {}
         }

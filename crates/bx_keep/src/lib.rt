@@ -33,9 +33,10 @@ mod trouble;
 mod versions;
 
 pub use around::Around;
+pub use asking::{Choice, ask_choice, ask_to_go_on};
+pub use program_word::{Fault, ProgramWord, read_program_word};
 pub use replaying::{Held, Replay, ReplayFault, Replayer};
 pub use serving::serve;
 pub use start::Start;
-
-#[cfg(test)]
-mod tests;
+pub use starting::{UNKEPT, title_of};
+pub use stop::Stop;

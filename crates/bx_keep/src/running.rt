@@ -8,8 +8,9 @@ use crate::keeping::{Text, fill, keep_text};
 use crate::program_word::{ProgramWord, read_program_word};
 use crate::starting::{LOST, UNKEPT, title_of};
 use crate::stop::Stop;
+use bx_keys::Notice;
 use bx_sessions::{Kept, Look, Part, Source, has_room};
-use bx_wire::{Heard, Message, Notice, Said, Wire};
+use bx_wire::{Heard, Message, Said, Wire, notice_number};
 use std::alloc::Global;
 use std::io::{Read, Write};
 
@@ -72,7 +73,7 @@ pub fn say_notice<R: Read + Drop, W: Write + Drop>(
     wire: &mut Wire<R, W>,
     notice: Notice,
 ) -> Result<(), Stop> {
-    let number = notice.number();
+    let number = notice_number(notice);
     let number = format!(in alloc; "{number}")?;
     Ok(wire.say(Said::Notice, number.as_str())?)
 }

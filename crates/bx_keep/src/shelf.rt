@@ -3,9 +3,10 @@
 use crate::around::Around;
 use crate::causes::{Unkept, notice_of};
 use crate::stop::Stop;
+use bx_keys::Notice;
 use bx_launch::Place;
 use bx_sessions::{FolderFault, PlaceFault, Sessions, sessions_folder};
-use bx_wire::{Host, Notice};
+use bx_wire::Host;
 use bx_words::Shown;
 use std::alloc::{AllocError, Global};
 

@@ -3,8 +3,8 @@
 use crate::causes::notice_of;
 use crate::keeping::Text;
 use crate::running::Running;
+use bx_keys::Notice;
 use bx_sessions::{Kept, Part};
-use bx_wire::Notice;
 use std::fs::{OpenFile, OpenOptions};
 
 /// Whether a cause is one of a journal that cannot be written. It stays until the journal is kept again.

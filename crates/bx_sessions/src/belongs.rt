@@ -24,7 +24,9 @@ pub enum Belonging {
     OtherName,
     /// It opened this very file, which has another name now.
     Renamed,
-    /// It is of another file, or is not complete.
+    /// It began with the file, under any name, and is not complete.
+    Begun,
+    /// It is of another file.
     Other,
 }
 
@@ -82,10 +84,21 @@ impl Session {
         }
     }
 
+    /// How a session that is not complete belongs to a file.
+    fn begins_with(&self, rt: &HostRuntime, target: &Target<'_>) -> io::Result<Belonging> {
+        let opened = if_utf8(self.path_in(rt, Part::Opened))?;
+        Ok(match &opened {
+            Some(path) if path.as_str() == target.path || target.is_at(rt, path.as_str()) => {
+                Belonging::Begun
+            }
+            _ => Belonging::Other,
+        })
+    }
+
     /// How the session belongs to a file. This takes two reads of small files for one of another file.
     pub fn belongs(&self, rt: &HostRuntime, target: &Target<'_>) -> io::Result<Belonging> {
         let Some(path) = self.file_path(rt)? else {
-            return Ok(Belonging::Other);
+            return self.begins_with(rt, target);
         };
         let path = path.as_str();
         Ok(if path == target.path {

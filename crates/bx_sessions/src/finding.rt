@@ -84,7 +84,7 @@ impl Found {
 fn counts(belonging: Belonging, state: State) -> bool {
     match belonging {
         Belonging::Path | Belonging::OtherName => true,
-        Belonging::Renamed => state == State::Live,
+        Belonging::Renamed | Belonging::Begun => state == State::Live,
         Belonging::Other => false,
     }
 }

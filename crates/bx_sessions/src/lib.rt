@@ -9,7 +9,8 @@
 //! - [`find`] finds the sessions of a [`Target`]: live, elsewhere, unfinished, dropped.
 //! - [`Session::lock`] takes one over, [`Session::resume`] continues it, [`renew`] makes a new one of a
 //!   text that another version left.
-//! - [`begin`] makes a new one, and [`Kept::fill`] writes its files; it may be tried again where there was no room.
+//! - [`begin`] makes a new one, [`Kept::announce`] tells other starts of it, and [`Kept::fill`] writes its files; that may be
+//!   tried again where there was no room.
 //!
 //! While it runs: [`Session::is_there`], [`Sessions::is_same`], [`has_room`]. At its end: [`mend`], [`forget_dropped`],
 //! [`Session::remove`].

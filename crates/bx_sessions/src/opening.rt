@@ -69,10 +69,9 @@ impl From<io::Error> for FillFault {
 }
 
 /// All files that filling a session makes, the text last.
-const FILLED: [Part; 9] = [
+const FILLED: [Part; 8] = [
     Part::Path,
     Part::Begin,
-    Part::Process,
     Part::Versions,
     Part::Mode,
     Part::Unjoined,
@@ -81,7 +80,7 @@ const FILLED: [Part; 9] = [
     Part::Text,
 ];
 
-/// Makes a session's folder and locks it. Nobody else finds the session until it is filled.
+/// Makes a session's folder and locks it. Nobody else recovers the session until it is filled.
 ///
 /// Errors: `Gone` where the folder of sessions is no longer the one that was judged; `Io`. What was made is removed then.
 pub fn begin(rt: &HostRuntime, sessions: &Sessions) -> Result<Kept, FolderFault> {
@@ -172,8 +171,7 @@ impl Session {
     fn write_notes(&self, rt: &HostRuntime, opening: &Opening<'_>) -> io::Result<()> {
         let begin = opening.begin.words(rt.alloc())?;
         self.write_new(rt, Part::Begin, begin.as_str().as_bytes())?;
-        let process = opening.process.words(rt.alloc())?;
-        self.write_new(rt, Part::Process, process.as_str().as_bytes())?;
+        self.put_process(rt, opening.process)?;
         self.write_new(rt, Part::Versions, opening.versions.words().as_bytes())?;
         if !opening.is_joined {
             self.write_new(rt, Part::Unjoined, b"")?;
@@ -196,6 +194,15 @@ impl Session {
 }
 
 impl Kept {
+    /// Notes FILE's path and the process, by which other starts tell of the session before it is filled. They count while it is
+    /// locked, so they are not synced.
+    pub fn announce(&self, rt: &HostRuntime, path: &str, process: &Process) -> io::Result<()> {
+        let words = process.words(rt.alloc())?;
+        let session = &self.session;
+        create(rt, session.path_of(Part::Process)?.as_str())?.write_all(words.as_str().as_bytes())?;
+        create(rt, session.path_of(Part::Opened)?.as_str())?.write_all(path.as_bytes())
+    }
+
     /// Writes the files of a new session, the path last, and syncs them. Where this fails, for instance for want of room, it
     /// may be tried again. Returns the copied file as it was, if one was copied.
     ///

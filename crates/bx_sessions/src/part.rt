@@ -5,8 +5,10 @@
 pub enum Part {
     /// FILE as it was opened.
     Text,
-    /// FILE's path. It is written last, so that nobody finds a session before it is complete.
+    /// FILE's path. It is written last, so that nobody recovers a session before it is complete.
     Path,
+    /// FILE's path as the session begins, by which other starts find an editor that has FILE open.
+    Opened,
     /// The path of the file beside FILE that a recovery saves.
     Beside,
     /// The first window, direction and line.
@@ -51,6 +53,7 @@ impl Part {
         match self {
             Part::Text => "text",
             Part::Path => "path",
+            Part::Opened => "opened",
             Part::Beside => "beside",
             Part::Begin => "begin",
             Part::Process => "process",

@@ -1,7 +1,7 @@
 //! The sessions of a file, and their ends.
 
-use crate::folders::{new_folder, new_session, this_process, user_of};
-use bx_sessions::{Found, Part, Process, Sessions, Target, find, forget};
+use crate::folders::{fill, new_folder, this_process, user_of};
+use bx_sessions::{Found, Part, Process, Sessions, Target, begin, find, forget};
 use std::test::Fail;
 use std::{fs, io};
 
@@ -38,7 +38,11 @@ fn a_session_from_its_beginning_to_its_end(rt: HostRuntime) -> Result<(), Fail> 
     fs::hard_link(&rt, file.as_str(), name.as_str())?;
     let path = format!(in rt.alloc(); "{top}/sessions")?;
     let sessions = Sessions::make(&rt, path.as_str(), user_of(&rt, top))?;
-    let kept = new_session(&rt, &sessions, file.as_str(), &process)?;
+    let kept = begin(&rt, &sessions)?;
+    let unsaid = kinds(&rt, &sessions, file.as_str(), &process)?;
+    kept.announce(&rt, file.as_str(), &process)?;
+    let announced = kinds(&rt, &sessions, name.as_str(), &process)?;
+    fill(&rt, &sessions, &kept, file.as_str(), &process)?;
     let text = kept.session.read(&rt, Part::Text)?;
     let at_first = kinds(&rt, &sessions, file.as_str(), &process)?;
     let by_name = kinds(&rt, &sessions, name.as_str(), &process)?;
@@ -57,6 +61,8 @@ fn a_session_from_its_beginning_to_its_end(rt: HostRuntime) -> Result<(), Fail> 
         text.as_ref().map(|text| text.as_slice()),
         Some(b"text".as_slice())
     );
+    assert_eq!(rt; unsaid, (false, false, false));
+    assert_eq!(rt; announced, (true, false, false));
     assert_eq!(rt; at_first, (true, false, false));
     assert_eq!(rt; by_name, (true, false, false));
     assert_eq!(rt; of_other, (false, false, false));

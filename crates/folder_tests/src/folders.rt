@@ -40,6 +40,18 @@ pub fn new_session(
     process: &Process,
 ) -> Result<Kept, Fail> {
     let kept = begin(rt, sessions)?;
+    fill(rt, sessions, &kept, path, process)?;
+    Ok(kept)
+}
+
+/// Fills a session of the file at a path.
+pub fn fill(
+    rt: &HostRuntime,
+    sessions: &Sessions,
+    kept: &Kept,
+    path: &str,
+    process: &Process,
+) -> Result<(), Fail> {
     let versions = Versions::look(rt, "1", &[])?;
     let opening = Opening {
         target: Target::at(rt, path),
@@ -56,5 +68,5 @@ pub fn new_session(
         versions: &versions,
     };
     kept.fill(rt, sessions, &opening, Source::File(path))?;
-    Ok(kept)
+    Ok(())
 }

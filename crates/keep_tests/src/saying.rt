@@ -1,8 +1,8 @@
-//! Tests of what no clause says: questions that are asked again, lines that are told, and words of the program.
+//! Questions that are asked again, words of the program, and titles.
 
-use crate::asking::{Choice, ask_choice, ask_to_go_on};
-use crate::program_word::{Fault, ProgramWord, read_program_word};
-use crate::starting::{UNKEPT, title_of};
+use bx_keep::{
+    Choice, Fault, ProgramWord, UNKEPT, ask_choice, ask_to_go_on, read_program_word, title_of,
+};
 use bx_sessions::Look;
 use bx_wire::PreparedHost;
 use std::test::Fail;
