@@ -21,7 +21,7 @@ use Rattle.bx_paras.proofs.Cuts.{parts}
 use Rattle.bx_paragraph.specs.BodyRows.{body_rows}
 use Rattle.bx_paragraph.specs.Layout.{LayoutState, rows_by}
 use Rattle.bx_view.specs.BodyPlaces.{body_places, place_in_body}
-use Rattle.bx_view.specs.Holding.{AreHeld, HoldsBody, IsHeld, ViewState}
+use Rattle.bx_view.specs.Holding.{HoldsBody, IsHeld, ViewState}
 use Rattle.bx_view.specs.Moves.{place_from}
 use Rattle.bx_view.specs.Standing.{body_at, count, start_at}
 use Rattle.bx_view.specs.TextRows.{places, rows_from, text_rows}
@@ -233,10 +233,10 @@ inner_of (suc n) start e = let less : suc n < start = grind (arith, nat_tests) i
 
 -- the held paragraph at an index
 pub held_at : (says : Data) (base : Base) (left : List ℕ) (w : ℕ) (held : List LayoutState) (i : ℕ)
-    (l : LayoutState) → AreHeld says base held → HoldsBody left w held i → l ≡ get_or held i l
+    (l : LayoutState) → All (IsHeld says base) held → HoldsBody left w held i → l ≡ get_or held i l
     → IsHeld says base l × (l.w ≡ w) × (l.body ≡ left)
 held_at says base left w held i l all h e = (
-  subst (IsHeld says base) (sym e) (all.laid_out i l h.within),
+  subst (IsHeld says base) (sym e) (all i l h.within),
   ap (λ (x : LayoutState). x.w) e ∙ h.w_is l,
   ap (λ (x : LayoutState). x.body) e ∙ h.body_is l,
 )

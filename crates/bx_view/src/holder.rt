@@ -1,9 +1,9 @@
 //! The paragraphs held by a layout.
-ghost use Rattle.std.specs.Prelude.{◌≡◌, ◌≤◌, ◌<◌, ℕ, List, true, IfOk, IfSome, IsTrue, OnOk, length, slice_range};
+ghost use Rattle.std.specs.Prelude.{◌≡◌, ◌≤◌, ◌<◌, ℕ, List, true, All, IfOk, IfSome, IsTrue, OnOk, length, slice_range};
 ghost use Rattle.std.specs.List.{splice};
 ghost use Rattle.bx_terms.specs.Sizes.{is_side};
 ghost use Rattle.bx_text.specs.Edits.{IsRange};
-ghost use Rattle.bx_view.specs.Holding.{AreHeld, HasBody, HoldsBody, IsHeld, most_held};
+ghost use Rattle.bx_view.specs.Holding.{HasBody, HoldsBody, IsHeld};
 
 use crate::error::ViewError;
 use crate::in_text::stands_at;
@@ -81,9 +81,8 @@ pub(crate) fn held_limit(text: usize) -> usize {
 
 /// Evicts the oldest paragraph if `MOST_HELD` are held.
 fn drop_oldest<D: BidiData>(held: &mut Vec<ParagraphLayout>, tables: &D, base: Base)
-    requires { AreHeld (D.data tables.now) base held.old.items }
-    ensures held { AreHeld (D.data tables.now) base held.new.items }
-    ensures room { length held.new.items < most_held }
+    requires { All (IsHeld (D.data tables.now) base) held.old.items }
+    ensures { All (IsHeld (D.data tables.now) base) held.new.items }
 {
     // used by the contract alone
     let _ = tables;
@@ -102,9 +101,9 @@ pub(crate) fn hold<D: BidiData>(
     base: Base,
     limit: usize,
 ) -> Result<usize, AllocError>
-    requires held { AreHeld (D.data tables.now) base held.old.items }
+    requires held { All (IsHeld (D.data tables.now) base) held.old.items }
     requires new { IsHeld (D.data tables.now) base new }
-    ensures held { AreHeld (D.data tables.now) base held.new.items }
+    ensures held { All (IsHeld (D.data tables.now) base) held.new.items }
     ensures new { IfOk result (HoldsBody new.body new.w held.new.items) }
 {
     // used by the contract alone
@@ -132,10 +131,10 @@ pub(crate) fn lay_out_in<D: BidiData>(
     base: Base,
     w: u16,
 ) -> Result<(), ViewError>
-    requires held { AreHeld (D.data tables.now) base held.old.items }
+    requires held { All (IsHeld (D.data tables.now) base) held.old.items }
     requires within { i < length held.old.items }
     requires side { is_side w ≡ true }
-    ensures held { AreHeld (D.data tables.now) base held.new.items }
+    ensures held { All (IsHeld (D.data tables.now) base) held.new.items }
     ensures body { OnOk result ((body : List ℕ) → HasBody body held.old.items i → HoldsBody body w held.new.items i) }
 {
     // used by the contract alone
@@ -158,10 +157,10 @@ pub(crate) fn edit_in<D: BidiData>(
     tables: &D,
     base: Base,
 ) -> Result<bool, ViewError>
-    requires held { AreHeld (D.data tables.now) base held.old.items }
+    requires held { All (IsHeld (D.data tables.now) base) held.old.items }
     requires within { i < length held.old.items }
     requires order { range.start ≤ range.end }
-    ensures held { AreHeld (D.data tables.now) base held.new.items }
+    ensures held { All (IsHeld (D.data tables.now) base) held.new.items }
     ensures range { IfOk result (λ did. did ≡ true → (body : List ℕ) → HasBody body held.old.items i → IsRange body range.start range.end) }
     ensures body { IfOk result (λ did. did ≡ true → (body : List ℕ) → (w : ℕ) → HoldsBody body w held.old.items i
         → HoldsBody (splice body range.start range.end new.now) w held.new.items i) }
