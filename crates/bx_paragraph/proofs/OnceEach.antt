@@ -31,7 +31,7 @@ all-numbers ns =
     let count = length-map-range_with_len (λ k. get_or ns k 0) 0 (length ns) in
     same_lists (map (λ k. get_or ns k 0) (range_with_len 0 (length ns))) ns count
     (λ i d h. let within : i < length ns = omega (arith, h, count) in
-    get_or-map-range_with_len (λ k. get_or ns k 0) 0 (length ns) i i d within refl ∙ get_or_default ns i 0 d within)
+    get_or-map-range_with_len (λ k. get_or ns k 0) 0 (length ns) i i d within (omega arith) ∙ get_or_default ns i 0 d within)
 
 in-order : (ns levels : List ℕ) → length levels ≡ length ns → IsPermutation ns (map (λ k. get_or ns k 0) (visual levels))
 in-order ns levels e =
