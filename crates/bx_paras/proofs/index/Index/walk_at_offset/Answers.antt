@@ -12,5 +12,5 @@ returns c =
     let i = c.self.inside in
     c.new.ensures
     ∙ ap (λ n. record { paragraphs = closed i.front.blocks i.last; number = n })
-    (span_is (flat i.front.blocks) (unended i.last) c.args.offset c.find-position.result c.find-position.ensures)
+    (span_is (flat i.front.blocks) (unended i.last) c.args.offset c.find-span.result c.find-span.ensures)
     ∙ ap (λ (s : IndexState). record { paragraphs = s.paragraphs; number = paragraph_of s.paragraphs c.args.offset }) c.self.view_is
