@@ -670,9 +670,9 @@ check_changes() {
 
 # ---- files beside FILE, and kinds of places
 
-# Checks the cause that the last row told.
+# Checks the cause that the last row told. The painter goes over blanks that are there already.
 says() { # CAUSE
-    grep -q "save failed: $1" "$folder/out" || fails "the cause is not told: $1"
+    sed "s/$(printf '\033')\[[0-9]*;[0-9]*H/ /g" "$folder/out" | grep -q "save failed: $1" || fails "the cause is not told: $1"
 }
 
 # Saves once, and checks the state of FILE.

@@ -46,7 +46,7 @@ complaints() {
 }
 
 found=$(complaints)
-echo "$(listed | wc -l) of $(find crates -path '*/specs/*.antt' ! -name Lib.antt | wc -l) files of definitions are listed"
+echo "$(listed | wc -l) of $(find crates -path '*/out' -prune -o -path '*/specs/*.antt' ! -name Lib.antt -print | wc -l) files of definitions are listed"
 [ -z "$found" ] || {
     echo "$found" >&2
     exit 1

@@ -22,7 +22,12 @@ check_input_end() {
     same 'kill, the terminal: the program'"'"'s input' "$(cat "$folder/record")" 'typed end'
     wait_for 50 test -z "$(ls -A "$folder/private")"
     same 'kill, the terminal: files that stay' "$(ls -A "$folder/private")" ''
+    wait_for 50 has_no_recorder
     same 'kill, the terminal: processes that stay' "$(pgrep -f "$folder/recorder" | wc -l)" 0
+}
+
+has_no_recorder() {
+    [ -z "$(pgrep -f "$folder/recorder")" ]
 }
 
 check_hard_ends() {

@@ -1,5 +1,5 @@
 # shellcheck shell=sh
-# shellcheck disable=SC2034,SC2154 # variables shared with other parts
+# shellcheck disable=SC2016,SC2034,SC2154 # code for another shell; variables shared with other parts
 # Refusals before the screen changes: one line each, on standard error alone.
 
 # Runs a command without a controlling terminal, so that it cannot change one, and with a time limit.
@@ -165,16 +165,22 @@ check_refused_access() {
     rm -rf closed locked open
 }
 
+# Runs the host in a terminal, with a FILE that the program refuses, so that the screen does not change.
+refused_in_terminal() { # NAME WANTED FILE
+    HOST=$top/bidi-edit FILE=$3 timeout -s KILL 20 setsid -w script -qec '"$HOST" "$FILE" 2>&3' /dev/null </dev/null >"$folder/output" 3>"$folder/errors"
+    same "$1" "$? $(head -n 1 "$folder/errors")" "$2"
+    same "$1: nothing else" "$(grep -a -c '1049h' "$folder/output") $(grep -c . "$folder/errors")" '0 2'
+}
+
 check_leftovers() {
-    : >f
+    printf '\377' >f
     for name in f.bx f.bx9 f.bxx 'g h.bx2'; do : >"$name"; done
     told='bidi-edit: perhaps left by a save that was killed; look at it, and remove what is not wanted:'
-    lines_told=2
-    refused 'leftovers' "2 $told f.bx f.bx9" f
+    refused_in_terminal 'leftovers' "1 $told f.bx f.bx9" f
     ln -s 'g h' link
-    refused 'leftovers, beside what a link leads to' "2 $told '$folder/files/g h.bx2'" link
-    lines_told=1
-    rm -f f f.bx f.bx9 f.bxx 'g h.bx2' link
+    printf '\377' >'g h'
+    refused_in_terminal 'leftovers, beside what a link leads to' "1 $told '$folder/files/g h.bx2'" link
+    rm -f f f.bx f.bx9 f.bxx 'g h' 'g h.bx2' link
 }
 
 check_refusals() {

@@ -75,7 +75,7 @@ ssize_t write(int file, const void *from, size_t count) {
 int rename(const char *from, const char *to) {
     if (failing != 0 && bytes != failing) return syscall(SYS_rename, from, to);
     failing = failing ? failing : -1;
-    errno = EIO;
+    errno = ENOMEM; /* so the last row tells the cause of a refused growth */
     return -1;
 }
 END

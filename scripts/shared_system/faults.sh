@@ -197,6 +197,9 @@ check_home_of_another() {
     wait_for 60 shows_in first '* 1:2'
     same 'faults, root under the home of another: nothing of root is there' "$(find "$as_stranger_home" -user 0)" ''
     close_editors first
+    # the session is in root's own folder
+    same 'faults, root under the home of another: what is kept' \
+        "$(env -u XDG_STATE_HOME HOME="$as_stranger_home" "$host" --forget note 2>&1 | grep -c -F "$folder/files/note")" 1
     rm -rf "$as_stranger_home"
     leave_files
 }

@@ -54,6 +54,14 @@ tells() { # CHECK TOLD WORD..
     has "names, $checked: the name" "$(cat "$folder/told")" "$told_as"
 }
 
+# Checks the message in a terminal about a FILE that the program refuses, so that the screen does not change.
+tells_in_terminal() { # CHECK TOLD FILE
+    HOST=$host FILE=$3 as_user timeout -s KILL 20 setsid -w script -qec '"$HOST" "$FILE" 2>&3' /dev/null </dev/null 3>"$folder/told" >/dev/null
+    is_harmless "$folder/told"
+    report "names, $1: nothing hidden" $? "$(cat -v "$folder/told")"
+    has "names, $1: the name" "$(cat "$folder/told")" "$2"
+}
+
 # Prints what is told of a FILE: the cause, but of a name that is not UTF-8 only that.
 cause_of() { # TOLD CAUSE
     case $word in
@@ -91,8 +99,7 @@ check_messages() { # WORD TOLD
         ;;
     *)
         tells "$word, bytes" "$as_told is not UTF-8 in line 1" --print "$name"
-        as_user cp /dev/null "$name"
-        tells "$word, a draft" "what is not wanted: \$'$2.bx'" "$name"
+        tells_in_terminal "$word, a draft" "what is not wanted: \$'$2.bx'" "$name"
         ;;
     esac
     as_user rm "$name" "$name.bx"

@@ -96,6 +96,7 @@ make_clone() {
     done
     cat >"$kit/rt" <<'END'
 #!/bin/sh
+[ "${1:-}" != version ] || exit 0
 : >"$PWD/begun"
 echo "$TMPDIR" >"${0%/*}/temporary"
 while [ -f "${0%/*}/slow" ]; do sleep 0.1; done
