@@ -88,7 +88,9 @@ class Start:
         if not os.path.exists(path):
             self.say('i', 'o -')
             return
-        look = os.stat(path)
+        self.tell_look(os.stat(path))
+
+    def tell_look(self, look):
         self.say('i', f'o {look.st_dev} {look.st_ino} {look.st_size} {look.st_mtime_ns // 10**9} {look.st_mtime_ns % 10**9}')
 
     def type(self, keys):
@@ -283,6 +285,28 @@ def a_folder_that_goes(top):
     start.second()
     shutil.rmtree(os.path.dirname(start.value('--journal')))
     assert start.leave(0) == 0 and re.search('only what was saved is kept, since its folder .* is gone', start.err), start.err
+    start = edit(top, 'a.txt')
+    start.second()
+    start.type(b'abc')
+    shutil.rmtree(os.path.dirname(start.value('--journal')))
+    assert start.leave(0) == 0 and 'only what was saved is kept' in start.err, start.err
+
+
+def a_save_before_the_copy(top):
+    """A Save that replaces FILE before it is copied leaves the session with the text that the program read."""
+    put(f'{top}/a.txt', b'text\n')
+    start = Start(top, 'a.txt')
+    look = os.stat(f'{top}/a.txt')
+    put(f'{top}/a.txt.bx', b'xtext\n')
+    os.rename(f'{top}/a.txt.bx', f'{top}/a.txt')
+    start.tell_look(look)
+    assert start.second() == '.' and open(f'{sessions(top)[0]}/text').read() == 'text\n', start.notices
+    start.type(b'x\x13y')
+    start.say('i', 'f unsaved')
+    assert start.leave(1) == 1 and start.err.endswith('\nbidi-edit: what was typed is kept: bidi-edit --recover a.txt gets it back\n'), start.err
+    start = edit(top, 'a.txt', answers=['r'])
+    assert start.words[-1] == 'a.txt' and start.notices == [7], (start.words, start.notices, start.out)
+    start.close()
 
 
 def no_room(top):
@@ -554,8 +578,8 @@ def printing(top):
     assert start.end[0] == 'P' and start.printer[:4] == ['--cols', '80', '--direction', 'auto'] and start.printer[-1] == 'a.txt', start.printer
 
 
-CASES = [help_and_version, refusals, a_session, keys_are_kept, questions, dropped, refused_by_the_program, live, two_starts, a_pipe_in_its_place, a_folder_that_goes, no_room,
-         another_file_meanwhile, the_host_dies, changed_since, mixed_line_ends, other_names, cannot_be_replayed, a_file_that_is_gone,
+CASES = [help_and_version, refusals, a_session, keys_are_kept, questions, dropped, refused_by_the_program, live, two_starts, a_pipe_in_its_place, a_folder_that_goes,
+         a_save_before_the_copy, no_room, another_file_meanwhile, the_host_dies, changed_since, mixed_line_ends, other_names, cannot_be_replayed, a_file_that_is_gone,
          another_version, tables_that_change, by_other_names, torn_by_another_name, secrets, forgets, foreign_names, closed_files, nothing_typed, stores_elsewhere,
          printing]
 

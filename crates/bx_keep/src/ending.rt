@@ -118,7 +118,7 @@ impl Running<'_> {
         let folder = Shown(kept.session.path());
         let cause = format!(in self.around.alloc(); "its folder {folder} is gone")?;
         let cause = cause.as_str();
-        if status != 0 || self.synced == 0 {
+        if status != 0 {
             return self.tell_lost(host, status, cause);
         }
         let line = format!(in self.around.alloc(); "only what was saved is kept, since {cause}")?;

@@ -4,9 +4,10 @@ use crate::around::Around;
 use crate::beginning::Begun;
 use crate::checking::Edited;
 use bx_launch::are_all_crlf;
-use bx_sessions::{FillFault, Kept, Look, Opening, ROOT, Source, open_plain};
+use bx_sessions::{FillFault, Kept, Look, Opening, ROOT, Source, open_plain, read_open};
 use bx_terms::LARGEST_TEXT;
-use std::io::{self, Read};
+use std::fs::File;
+use std::io;
 use std::os::unix::fs::MetadataExt;
 use std::rt::Files;
 
@@ -34,26 +35,44 @@ pub enum Text {
     Unkept(bool),
 }
 
-/// The bytes of FILE, if FILE still is as it was read; None if it is not.
-fn bytes_as_read(rt: &HostRuntime, path: &str, look: Look) -> io::Result<Option<Vec<u8>>> {
-    let file = open_plain(rt, path)?;
-    if Look::of(&file.metadata()?) != look {
-        return Ok(None);
+/// FILE as the program read it.
+#[derive(Clone, Copy)]
+struct AsRead<'a> {
+    rt: &'a HostRuntime,
+    path: &'a str,
+    /// FILE, opened before the program started: a save that replaces FILE leaves its bytes in it.
+    held: Option<&'a File>,
+    look: Look,
+}
+
+impl AsRead<'_> {
+    /// The file that is held, if that is what the program read, else the one at FILE's path.
+    fn open(&self) -> io::Result<File> {
+        if let Some(held) = self.held {
+            if Look::of(&held.metadata()?) == self.look {
+                return held.try_clone();
+            }
+        }
+        open_plain(self.rt, self.path)
     }
-    let mut bytes = Vec::new(rt.alloc());
-    file.take(LARGEST_TEXT as u64).read_to_end(&mut bytes)?;
-    if Look::of(&rt.metadata(path)?) == look {
-        Ok(Some(bytes))
-    } else {
-        Ok(None)
+
+    /// FILE's bytes; None if FILE is not as it was read.
+    fn bytes(&self) -> io::Result<Option<Vec<u8>>> {
+        let file = self.open()?;
+        if Look::of(&file.metadata()?) != self.look {
+            return Ok(None);
+        }
+        let bytes = read_open(self.rt, &file, LARGEST_TEXT as u64)?;
+        let is_same = Look::of(&file.metadata()?) == self.look;
+        Ok(if is_same { Some(bytes) } else { None })
     }
 }
 
 /// FILE's text in memory, until there is room for it.
-fn wait(around: Around<'_>, path: &str, look: Option<Look>) -> Text {
-    match look {
+fn wait(around: Around<'_>, read: Option<&AsRead<'_>>) -> Text {
+    match read {
         None => Text::Waiting(Vec::new(around.alloc())),
-        Some(look) => match bytes_as_read(around.rt, path, look) {
+        Some(read) => match read.bytes() {
             Ok(Some(bytes)) => Text::Waiting(bytes),
             _ => Text::Lost,
         },
@@ -61,10 +80,10 @@ fn wait(around: Around<'_>, path: &str, look: Option<Look>) -> Text {
 }
 
 /// Whether all lines of FILE end with CR LF.
-fn has_all_crlf(around: Around<'_>, path: &str, look: Option<Look>) -> bool {
-    match look {
+fn has_all_crlf(read: Option<&AsRead<'_>>) -> bool {
+    match read {
         None => false,
-        Some(look) => match bytes_as_read(around.rt, path, look) {
+        Some(read) => match read.bytes() {
             Ok(Some(bytes)) => are_all_crlf(bytes.as_slice()),
             _ => false,
         },
@@ -101,33 +120,65 @@ pub fn fill(
 }
 
 /// Copies FILE into the session, and compares the copy with what the program read.
-fn copy(around: Around<'_>, edited: &Edited, begun: &Begun, kept: &Kept, look: Look) -> Text {
+fn copy(
+    around: Around<'_>,
+    edited: &Edited,
+    begun: &Begun,
+    kept: &Kept,
+    read: &AsRead<'_>,
+) -> Text {
     for _ in 0..TRIES {
-        match fill(around, edited, begun, kept, Source::File(edited.path())) {
-            Ok(copied) if copied == Some(look) => return Text::Kept,
+        let Ok(file) = read.open() else {
+            continue;
+        };
+        match fill(around, edited, begun, kept, Source::File(&file)) {
+            Ok(copied) if copied == Some(read.look) => return Text::Kept,
             Ok(_) => kept.unfill(around.rt),
-            Err(FillFault::Unwritten(_)) => return wait(around, edited.path(), Some(look)),
+            Err(FillFault::Unwritten(_)) => return wait(around, Some(read)),
             Err(FillFault::Changed | FillFault::Unreadable(_)) => {}
         }
     }
     Text::Lost
 }
 
-/// Keeps the text that the program read, as it told.
-pub fn keep_text(around: Around<'_>, edited: &Edited, begun: &Begun, look: Option<Look>) -> Text {
-    let Some(kept) = &begun.kept else {
-        return Text::Unkept(has_all_crlf(around, edited.path(), look));
-    };
-    // what cannot be read is opened empty
-    let look = if edited.is_closed { None } else { look };
-    if begun.is_waiting {
-        return wait(around, edited.path(), look);
+/// Opens FILE before the program starts, whose saves may replace it. None where the session has its text, or FILE cannot be read.
+pub fn hold(around: Around<'_>, edited: &Edited, begun: &Begun) -> Option<File> {
+    if begun.is_resumed {
+        return None;
     }
-    match look {
-        Some(look) => copy(around, edited, begun, kept, look),
+    open_plain(around.rt, edited.path()).ok()
+}
+
+/// Keeps the text that the program read, as it told. FILE was held since before.
+pub fn keep_text(
+    around: Around<'_>,
+    edited: &Edited,
+    begun: &Begun,
+    held: Option<&File>,
+    look: Option<Look>,
+) -> Text {
+    let read = match look {
+        // what cannot be read is opened empty
+        Some(look) if !edited.is_closed => Some(AsRead {
+            rt: around.rt,
+            path: edited.path(),
+            held,
+            look,
+        }),
+        _ => None,
+    };
+    let read = read.as_ref();
+    let Some(kept) = &begun.kept else {
+        return Text::Unkept(has_all_crlf(read));
+    };
+    if begun.is_waiting {
+        return wait(around, read);
+    }
+    match read {
+        Some(read) => copy(around, edited, begun, kept, read),
         None => match fill(around, edited, begun, kept, Source::Empty) {
             Ok(_) => Text::Kept,
-            Err(_) => wait(around, edited.path(), None),
+            Err(_) => wait(around, None),
         },
     }
 }

@@ -4,7 +4,7 @@ use crate::around::Around;
 use crate::beginning::Begun;
 use crate::checking::Edited;
 use crate::fault::Ended;
-use crate::keeping::{Text, fill, keep_text};
+use crate::keeping::{Text, fill, hold, keep_text};
 use crate::program_word::{ProgramWord, read_program_word};
 use crate::starting::{LOST, UNKEPT, title_of};
 use crate::stop::Stop;
@@ -12,6 +12,7 @@ use bx_keys::Notice;
 use bx_sessions::{Kept, Look, Part, Source, has_room};
 use bx_wire::{Heard, Message, Said, Wire, notice_number};
 use std::alloc::Global;
+use std::fs::File;
 use std::io::{Read, Write};
 
 /// The room at which the program tries its journal again, in bytes.
@@ -25,6 +26,8 @@ pub struct Running<'a> {
     pub begun: Begun,
     /// The text as it was opened.
     pub text: Text,
+    /// FILE, opened before the program started; None once the session has its text.
+    held: Option<File>,
     /// FILE as the program read it; None if it was not there.
     pub look: Option<Look>,
     /// Why the program ended, as it told.
@@ -83,11 +86,13 @@ impl<'a> Running<'a> {
     pub fn new(around: Around<'a>, edited: &'a Edited, begun: Begun) -> Self {
         let trouble = first_trouble(&begun);
         let text = first_text(&begun);
+        let held = hold(around, edited, &begun);
         Running {
             around,
             edited,
             begun,
             text,
+            held,
             look: None,
             ended: None,
             is_journal_lost: false,
@@ -106,13 +111,15 @@ impl<'a> Running<'a> {
     /// Keeps the text that the program read, unless the session has its own.
     fn take_look(&mut self, look: Option<Look>) {
         self.look = look;
+        let held = self.held.take();
         if !self.begun.is_resumed {
-            self.text = keep_text(self.around, self.edited, &self.begun, look);
+            self.text = keep_text(self.around, self.edited, &self.begun, held.as_ref(), look);
         }
     }
 
     /// Notes that FILE was changed while the program read it, so that it cannot be copied.
     fn lose_text(&mut self) {
+        self.held = None;
         if !self.begun.is_resumed {
             self.text = Text::Lost;
         }

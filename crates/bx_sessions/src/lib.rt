@@ -56,7 +56,7 @@ pub use look::Look;
 pub use machine::{Machine, Process, may_go_on_elsewhere};
 pub use marks::{Verdict, judge_mark};
 pub use mending::{Mended, Outcome, mend, mend_all};
-pub use opening::{FillFault, Kept, Opening, Source, begin, open_plain, read_plain};
+pub use opening::{FillFault, Kept, Opening, Source, begin, open_plain, read_open, read_plain};
 pub use part::Part;
 pub use places::{PlaceFault, all_folders, sessions_folder};
 pub use reasons::{Reason, find_in_place};

@@ -11,7 +11,7 @@ use crate::session::{Session, create};
 use crate::sessions::Sessions;
 use crate::versions::Versions;
 use std::fs::{File, OpenFile};
-use std::io::{self, ErrorKind, Read, Write};
+use std::io::{self, ErrorKind, Read, Seek, SeekFrom, Write};
 use std::rt::Files;
 use thiserror::Error;
 
@@ -42,8 +42,8 @@ pub struct Opening<'a> {
 pub enum Source<'a> {
     /// FILE is not there.
     Empty,
-    /// A copy of the file at this path.
-    File(&'a str),
+    /// A copy of this open file.
+    File(&'a File),
     /// These bytes.
     Bytes(&'a [u8]),
 }
@@ -115,10 +115,25 @@ pub fn read_plain(rt: &HostRuntime, path: &str) -> io::Result<Vec<u8>> {
     Ok(bytes)
 }
 
-/// Copies an open file, and looks at it before and after.
-fn copy_open(source: &mut File, target: &mut File) -> Result<Look, FillFault> {
+/// Another handle of an open file, at its first byte.
+fn from_start(file: &File) -> io::Result<File> {
+    let mut file = file.try_clone()?;
+    file.seek(SeekFrom::Start(0))?;
+    Ok(file)
+}
+
+/// The first bytes of an open file, at most so many.
+pub fn read_open(rt: &HostRuntime, file: &File, most: u64) -> io::Result<Vec<u8>> {
+    let mut bytes = Vec::new(rt.alloc());
+    from_start(file)?.take(most).read_to_end(&mut bytes)?;
+    Ok(bytes)
+}
+
+/// Copies an open file from its first byte on, and looks at it before and after.
+fn copy_whole(source: &File, target: &mut File) -> Result<Look, FillFault> {
+    let mut source = from_start(source).map_err(FillFault::Unreadable)?;
     let before = Look::of(&source.metadata().map_err(FillFault::Unreadable)?);
-    let copied = io::copy(source, target)?;
+    let copied = io::copy(&mut source, target)?;
     let after = Look::of(&source.metadata().map_err(FillFault::Unreadable)?);
     if before == after && copied == after.size {
         Ok(after)
@@ -128,16 +143,28 @@ fn copy_open(source: &mut File, target: &mut File) -> Result<Look, FillFault> {
 }
 
 impl Session {
-    /// Copies the file at a path into a new file of the session. Returns the copied file as it was before and after.
+    /// Copies the file at a path into a new file of the session.
+    ///
+    /// Errors: as `copy_open`.
+    pub fn copy_in(&self, rt: &HostRuntime, part: Part, path: &str) -> Result<Look, FillFault> {
+        let source = open_plain(rt, path).map_err(FillFault::Unreadable)?;
+        self.copy_open(rt, part, &source)
+    }
+
+    /// Copies an open file into a new file of the session. Returns the copied file as it was before and after.
     ///
     /// Errors: `Changed`; `Unreadable`; `Unwritten`. The copy may be there in part.
-    pub fn copy_in(&self, rt: &HostRuntime, part: Part, path: &str) -> Result<Look, FillFault> {
-        let mut source = open_plain(rt, path).map_err(FillFault::Unreadable)?;
+    pub fn copy_open(
+        &self,
+        rt: &HostRuntime,
+        part: Part,
+        source: &File,
+    ) -> Result<Look, FillFault> {
         if !self.is_there(rt) {
             return Err(FillFault::Unwritten(ErrorKind::NotFound.into()));
         }
         let mut target = create(rt, self.path_of(part)?.as_str())?;
-        let look = copy_open(&mut source, &mut target)?;
+        let look = copy_whole(source, &mut target)?;
         target.sync_all()?;
         Ok(look)
     }
@@ -147,7 +174,7 @@ impl Session {
         match source {
             Source::Empty => self.write_new(rt, Part::Text, b"")?,
             Source::Bytes(bytes) => self.write_new(rt, Part::Text, bytes)?,
-            Source::File(path) => return Ok(Some(self.copy_in(rt, Part::Text, path)?)),
+            Source::File(file) => return Ok(Some(self.copy_open(rt, Part::Text, file)?)),
         }
         Ok(None)
     }

@@ -2,6 +2,7 @@
 
 use bx_sessions::{
     Begin, Kept, Machine, Opening, Process, ROOT, Sessions, Source, Target, Versions, begin,
+    open_plain,
 };
 use bx_terms::Base;
 use std::alloc::AllocError;
@@ -67,6 +68,7 @@ pub fn fill(
         process,
         versions: &versions,
     };
-    kept.fill(rt, sessions, &opening, Source::File(path))?;
+    let file = open_plain(rt, path)?;
+    kept.fill(rt, sessions, &opening, Source::File(&file))?;
     Ok(())
 }
