@@ -112,7 +112,7 @@ impl Begun {
         match begin(around.rt, sessions) {
             Ok(kept) => {
                 // without it other starts find the session once it is filled
-                let _ = kept.announce(around.rt, edited.path(), &around.process()?);
+                let _ = kept.announce(around.rt, edited.place.path.as_str(), &around.process()?);
                 self.kept = Some(kept);
             }
             Err(fault) => {
