@@ -9,7 +9,7 @@ use Rattle.bx_paragraph.specs.BodyRows.{body_rows, row_at}
 use Rattle.bx_paragraph.specs.OwnGlyphs.{row_own_glyphs}
 use Rattle.bx_document.specs.Drawing.{side_by_side}
 
--- the glyphs of a query, from left to right: those of its first row, as a text of its own in 500 columns
+-- the query is wrapped as a text of its own in 500 columns; its first row is shown, from left to right
 abbrev pub query_glyphs : Data → List ℕ → List Glyph
 query_glyphs d query = row_own_glyphs d 500 (row_at (body_rows d Auto 500 query) 0)
 

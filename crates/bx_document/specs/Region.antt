@@ -13,7 +13,7 @@ abbrev pub turned_where : (ℕ → Bool) → ℕ → List Col → List Col
 turned_where passes k [] = []
 turned_where passes k (c ∷ cs) = (if passes k then turned c else c) ∷ turned_where passes (k + 1) cs
 
--- the columns of a row of text; each unit that begins in the region shows its columns in the other rendition
+-- the columns of a row of text; units that begin in the region are in the other rendition
 abbrev pub region_columns : Data → ℕ → ℕ × ℕ → TextRow → List Col
 region_columns d w region r = turned_where (is_covered w region r) 1 (row_columns d w r)
 

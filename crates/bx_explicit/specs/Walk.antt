@@ -43,7 +43,7 @@ pub record IsApart (s : RunSequence) (others : List RunSequence) : Type 0 where
   pub inside : All (IsIn low high) s.indexes
   pub outside : All (λ (u : RunSequence). All (IsOut low high) u.indexes) others
 
--- `given` lists the sequences of `all` in another order; a sequence lies apart from those of `all` that it overtakes
+-- `given` is a permutation of `all`; a sequence that moves ahead of others is apart from each of them
 abbrev pub AreGiven : List RunSequence → List RunSequence → Type 0
 AreGiven [] all = all ≡ []
 AreGiven (s ∷ given) all = (before : List RunSequence) × (after : List RunSequence) × (all ≡ before ++ s ∷ after) × IsApart s before

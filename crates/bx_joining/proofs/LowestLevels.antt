@@ -1,4 +1,4 @@
--- The lowest level of some characters stands for all of their levels.
+-- A character is lower than a level exactly if the lowest of the characters' levels is.
 use Rattle.std.proofs.Common.{◌≡◌, ℕ, min, nat_lt, Bool, true, false, not, ◌&&◌, ◌||◌, List, [], ◌∷◌, Option, Some, None, refl, sym, ap, ap₂, ◌∙◌, arith}
 use Rattle.std.specs.List.{list_any}
 use Rattle.std.proofs.lemmas.Bool.Decides.{nat_tests}

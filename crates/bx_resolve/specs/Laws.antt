@@ -50,7 +50,7 @@ HasDirection R level = IsOdd level
 HasDirection AL level = IsOdd level
 HasDirection _ level = Unit {0}
 
--- of the character at an index: its class, its type after overrides, and its level. Past the end ON stands for both
+-- a character's class, type after overrides, and level, by its index; past the end the class and the type are ON
 abbrev pub class_at : Data → List ℕ → ℕ → Class
 class_at says chars i = slice_index_or (map says.class chars) i ON
 

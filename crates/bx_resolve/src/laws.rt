@@ -16,8 +16,8 @@ pub fn left_texts_are_flat()
     ensures rtl { LeftTextsHave Rtl 1 2 }
 {}
 
-/// The level of a character of class L, EN or AN is even and that of one of class R or AL is odd, in any nesting and under any base
-/// direction; under an LRO or an RLO the override's direction takes the place of the class.
+/// Characters of class L, EN or AN have even levels, and characters of class R or AL odd ones, in any nesting and base direction.
+/// Under an override all characters have levels of its direction.
 pub fn letters_keep_direction()
     ensures types { TypesKeepDirection }
     ensures letters { LettersKeepDirection }

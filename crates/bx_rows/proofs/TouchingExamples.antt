@@ -90,7 +90,7 @@ two-stand =
     (All-cons P (unit 1 3) (unit 3 5 ∷ []) (omega arith, one, three)
     (All-cons P (unit 3 5) [] (omega arith, three, (omega arith, λ h k. absurd (omega (arith, h)))) (All-nil P)))
 
--- the same tables with other classes, of which that of BEH is neither a separator nor whitespace
+-- the same tables with other classes; laws that use them take as premise that BEH is neither a separator nor whitespace
 abbrev classed : (ℕ → Class) → (ℕ → Form → Option ℕ) → Data
 classed classes forms = record (joining forms) { class = classes }
 

@@ -1,4 +1,4 @@
--- Units that begin with letters that join touch: the row's characters from the one letter to the other are those of the body.
+-- Units that begin with joined letters touch, since the row and the body have the same characters between them.
 use Rattle.std.proofs.Common.{◌≡◌, ℕ, zero, suc, ◌+◌, ◌-◌, ◌%◌, ◌<◌, ◌≤◌, Bool, true, false, List, [], ◌∷◌, ◌++◌, length, map, get_or, take, drop, slice_range, chars, IsUtf8, All, Option, Some, None}
 use Rattle.std.proofs.Common.{refl, sym, ap, ap₂, subst, ◌∙◌, arith, inl, inr, take-append-drop, append_assoc, length-append, length-drop}
 use Rattle.std.specs.Prelude.{◌&&◌, ◌||◌, not, HoldsAt, encode_utf8_all, flat_map}
