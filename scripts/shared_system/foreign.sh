@@ -8,6 +8,11 @@ slow_opening() { # TIME
     echo "strace -f -qq -o '$folder/trace' -P note -P '$folder/files/note' -e trace=openat -e inject=openat:delay_enter=$1"
 }
 
+# Prints what runs the editor so that each read of `note` takes this long, in microseconds.
+slow_reading() { # TIME
+    echo "strace -f -qq -o '$folder/trace' -P note -P '$folder/files/note' -e trace=read -e inject=read:delay_enter=$1"
+}
+
 change_note() {
     echo of another | as_user tee note >/dev/null
 }
@@ -25,16 +30,16 @@ save_twice() { # NAME
     rm -rf "$folder/trace" "$folder/state" note*
 }
 
-# Between the opening and the copy for recovery, which is made beside the painting: the copy would be another text's.
+# Between the program's reading and the copy for recovery, which is made beside the painting: the copy would be another text's.
 check_changed_before_copy() {
     rm -rf "$folder/state"
     printf 'ab\n' | as_user tee note >/dev/null
-    open_editor first "$(slow_opening 2000000)" note
+    open_editor first "$(slow_reading 700000)" note
     wait_for 60 shows_in first '- 1:1'
     change_note
     terminal send-keys -t first y
     wait_for 60 shows_in first '* 1:2'
-    wait_for 40 has_title_with first 'not kept'
+    wait_for 200 has_title_with first 'not kept'
     report 'foreign, before the copy: the title tells that nothing is kept' $? "$(title_of first)"
     save_twice 'before the copy' yab
 }

@@ -3,9 +3,9 @@
 ghost use Rattle.std.specs.Prelude.{◌≡◌, true, IfSome};
 ghost use Rattle.bx_terms.specs.Sizes.{is_side};
 
-use bx_keep::{Around, Held, Replay, ReplayFault, Replayer};
+use bx_keep::{Around, FoundText, Replay, ReplayFault, Replayer};
 use bx_launch::Tables;
-use bx_recovery::{Beginning, Held as Found, RecoveryFault, recover};
+use bx_recovery::{Beginning, FileText, RecoveryFault, recover};
 use bx_sessions::{Part, Session, read_plain};
 use bx_store::MemoryStore;
 use bx_terms::is_side;
@@ -87,11 +87,11 @@ fn bytes_of_file(around: Around<'_>, file: &str) -> Vec<u8> {
 }
 
 /// What FILE has, in the keeper's words.
-fn held_of(found: Found) -> Held {
-    match found {
-        Found::Same => Held::Same,
-        Found::Known => Held::Known,
-        Found::Foreign => Held::Foreign,
+fn found_text(held: FileText) -> FoundText {
+    match held {
+        FileText::Same => FoundText::Same,
+        FileText::Known => FoundText::Known,
+        FileText::Foreign => FoundText::Foreign,
     }
 }
 
@@ -121,7 +121,7 @@ fn replay_keys(around: Around<'_>, session: &Session, file: &str) -> Result<Repl
         bytes_of_file(around, file).as_slice(),
     )?;
     Ok(Replay {
-        held: held_of(replayed.held),
+        found: found_text(replayed.held),
         text: Vec::from_slice(around.alloc(), store.contents())?,
     })
 }

@@ -5,15 +5,16 @@ use Rattle.unicode_segmentation.proofs.Computing.{unicode_segmentation}
 use Rattle.unicode_width.proofs.Computing.{unicode_width}
 use Rattle.bx_resolve.specs.TestTables.{small}
 use Rattle.bx_terms.specs.declared.base.Base.TheVariants.{Auto}
-use Rattle.bx_text.specs.Edits.{inserted, opened}
+use Rattle.bx_text.specs.Edits.{Edited, exchanged, inserted, opened, wrapped}
 use Rattle.bx_grid.specs.Columns.{Col, Glyph, blank}
 use Rattle.bx_rows.specs.RowPicture.{letter_glyphs}
 use Rattle.bx_view.specs.TextRows.{TextRow, row_at}
 use Rattle.bx_view.proofs.Computed.{rows}
+use Rattle.bx_document.specs.declared.edits.RegionEnd.TheVariants.{Start, Stop}
 use Rattle.bx_document.specs.declared.history.HistoryStep.TheVariants.{Undo, Redo}
-use Rattle.bx_document.specs.Document.{Document, at_opening, place_after}
+use Rattle.bx_document.specs.Document.{Document, after_exchange, after_wrap, at_opening, place_after}
 use Rattle.bx_document.specs.Drawing.{row_columns}
-use Rattle.bx_document.specs.History.{next_change, stepped}
+use Rattle.bx_document.specs.History.{next_change, next_changes, stepped, stepped_times}
 use Rattle.bx_document.specs.Line.{line_of}
 use Rattle.bx_document.specs.QueryRow.{glyph_row, query_glyphs}
 use Rattle.bx_document.specs.Region.{region_columns, region_rows, turned_where}
@@ -152,3 +153,41 @@ no_redo_after_an_edit = refl
 
 redo_after_undo : stepped Redo (stepped Undo (inserted (opened (codes "ab")) 1 (codes "x") 1 2)) ≡ inserted (opened (codes "ab")) 1 (codes "x") 1 2
 redo_after_undo = refl
+
+-- x and y were put in: both are taken out at once, and the cursor is where it was before the first
+abbrev two_letters : Edited
+two_letters = inserted (inserted (opened (codes "ab")) 1 (codes "x") 1 2) 2 (codes "y") 2 3
+
+two_undone : next_changes Undo 2 two_letters ≡ Some (record { start = 1; removed = 2; added = 0; place = 1 })
+two_undone = refl
+
+two_undone_text : (stepped_times Undo 2 two_letters).text ≡ codes "ab"
+two_undone_text = refl
+
+two_redone : next_changes Redo 2 (stepped_times Undo 2 two_letters) ≡ Some (record { start = 1; removed = 0; added = 2; place = 3 })
+two_redone = refl
+
+-- ---- two edits at once
+
+-- x takes the place of ab
+a_letter_for_two : (after_exchange small (at_opening (codes "abc") 4 Auto) 0 2 (codes "x") 2).content
+    ≡ exchanged (opened (codes "abc")) 0 2 (codes "x") 2 0 1
+unfolding unicode_segmentation unicode_width
+a_letter_for_two = refl
+
+-- e takes the place of a, and with it the mark that stood on a
+a_letter_for_one_with_a_mark : (after_exchange small (at_opening (0x61 ∷ 0xcc ∷ 0x81 ∷ []) 4 Auto) 0 1 (codes "e") 3).content
+    ≡ exchanged (opened (0x61 ∷ 0xcc ∷ 0x81 ∷ [])) 0 1 (codes "e") 3 0 3
+unfolding unicode_segmentation unicode_width
+a_letter_for_one_with_a_mark = refl
+
+-- brackets around b: the cursor stays at the same end of b
+wrapped_from_the_start : (after_wrap small (at_opening (codes "abc") 8 Auto) 1 2 (codes "(") (codes ")") 1 Start).content
+    ≡ wrapped (opened (codes "abc")) 1 2 (codes "(") (codes ")") 1 3 2
+unfolding unicode_segmentation unicode_width
+wrapped_from_the_start = refl
+
+wrapped_from_the_end : (after_wrap small (at_opening (codes "abc") 8 Auto) 1 2 (codes "(") (codes ")") 2 Stop).content
+    ≡ wrapped (opened (codes "abc")) 1 2 (codes "(") (codes ")") 2 3 3
+unfolding unicode_segmentation unicode_width
+wrapped_from_the_end = refl

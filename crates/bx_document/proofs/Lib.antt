@@ -16,4 +16,10 @@ pub mod PlacesKept
 pub mod PlacesMoved
 pub mod ShownTop
 pub mod FoundOffsets
+pub mod LastPoints
+pub mod FirstSeparators
 mod Examples
+pub mod TypedGlyphs
+pub mod TurnedExamples
+mod PlaceExamples
+pub mod WrappedPlace

@@ -1,16 +1,23 @@
 -- The places of edits are places of their texts, also after an edit, an undo or a redo.
-use Rattle.std.proofs.Common.{◌≡◌, ℕ, List, [], ◌∷◌, Some, All, refl, sym, ap, subst}
+use Rattle.std.proofs.Common.{◌≡◌, ℕ, zero, suc, ◌+◌, ◌-◌, ◌≤◌, List, [], ◌∷◌, ◌++◌, length, take, drop, map, slice_range, None, Some, All, refl, sym, ap}
+use Rattle.std.proofs.Common.{subst, ◌∙◌, append_assoc, arith}
+use Rattle.std.proofs.lemmas.List.{drop-append-le, drop-take, length-take-le, take-append-le, take-take}
+use Rattle.std.specs.List.{fold, reduce}
+use Rattle.std.specs.Prelude.{is_some}
 use Rattle.std.proofs.lemmas.List.Elements.{All-cons, All-head, All-nil, All-tail}
 use Rattle.std.proofs.lemmas.Option.{none-some, same_Some}
 use Rattle.bx_ucd.specs.Data.{Data}
 use Rattle.bx_text.specs.declared.change.Change.{Change}
 use Rattle.bx_text.specs.Edits.{Edit, Edited, change_back, change_of, edit_of, first_again, first_back}
-use Rattle.bx_text.specs.Edits.{redone_in, replaced, splice, undone_in}
+use Rattle.bx_text.specs.Edits.{exchanged, inserted, redone, redone_in, removed, replaced, splice, undone, undone_in, wrapped}
+use Rattle.bx_text.specs.Times.{merged, next_redos, next_undos, redone_times, undone_times}
+use Rattle.bx_text.proofs.UndoneTimes.{no_redo, no_undo, nothing_redone, nothing_undone}
+use Rattle.bx_text.proofs.Versions.{splice_after, splice_before}
 use Rattle.bx_view.specs.Places.{IsTextPlace}
 use Rattle.bx_document.specs.declared.history.HistoryStep.{HistoryStep}
 use Rattle.bx_document.specs.declared.history.HistoryStep.TheVariants.{Undo, Redo}
-use Rattle.bx_document.specs.Document.{DocumentState}
-use Rattle.bx_document.specs.History.{next_change, stepped}
+use Rattle.bx_document.specs.Document.{DocumentState, wrapped_text}
+use Rattle.bx_document.specs.History.{next_change, next_changes, stepped, stepped_times}
 use Rattle.bx_document.specs.Past.{HasPlaces, KeepsPlaces}
 
 module _ (says : Data) where
@@ -52,18 +59,180 @@ module _ (says : Data) where
   place_stepped Undo t u c e h f = subst (λ (v : Edited). IsTextPlace says v.text c.place) (sym e) (place_back t.past t c h.past f)
   place_stepped Redo t u c e h f = subst (λ (v : Edited). IsTextPlace says v.text c.place) (sym e) (place_again t.future t c h.future f)
 
+  -- ---- many steps
+
+  keeps_undone : (n : ℕ) (t : Edited) → KeepsPlaces says t → KeepsPlaces says (undone_times n t)
+  keeps_undone zero t h = h
+  keeps_undone (suc n) t h = keeps_undone n (undone t) (keeps_back t.past t refl h)
+
+  keeps_redone : (n : ℕ) (t : Edited) → KeepsPlaces says t → KeepsPlaces says (redone_times n t)
+  keeps_redone zero t h = h
+  keeps_redone (suc n) t h = keeps_redone n (redone t) (keeps_again t.future t refl h)
+
+  pub keeps_times : (step : HistoryStep) (n : ℕ) (t u : Edited) → u ≡ stepped_times step n t → KeepsPlaces says t → KeepsPlaces says u
+  keeps_times Undo n t u e h = subst (KeepsPlaces says) (sym e) (keeps_undone n t h)
+  keeps_times Redo n t u e h = subst (KeepsPlaces says) (sym e) (keeps_redone n t h)
+
+  -- the place of the last of many changes
+  back_from : (n : ℕ) (past : List Edit) (text : List ℕ) (future : List Edit) (c : Change) → All Is past → IsTextPlace says text c.place
+      → IsTextPlace says ((undone_times n (record { text = text; past = past; future = future })).text)
+      ((fold merged c (map change_back (take n past))).place)
+  back_from zero past text future c all h = h
+  back_from (suc n) [] text future c all h = subst (λ (t : Edited). IsTextPlace says t.text c.place) (sym (no_undo n text future)) h
+  back_from (suc n) (f ∷ past) text future c all h =
+      let b : HasPlaces says f = All-head Is f past all in
+      back_from n past f.before.text (f ∷ future) (merged c (change_back f)) (All-tail Is f past all) b.before
+
+  again_from : (n : ℕ) (future : List Edit) (text : List ℕ) (past : List Edit) (c : Change) → All Is future → IsTextPlace says text c.place
+      → IsTextPlace says ((redone_times n (record { text = text; past = past; future = future })).text)
+      ((fold merged c (map change_of (take n future))).place)
+  again_from zero future text past c all h = h
+  again_from (suc n) [] text past c all h = subst (λ (t : Edited). IsTextPlace says t.text c.place) (sym (no_redo n text past)) h
+  again_from (suc n) (f ∷ future) text past c all h =
+      let b : HasPlaces says f = All-head Is f future all in
+      again_from n future f.after.text (f ∷ past) (merged c (change_of f)) (All-tail Is f future all) b.after
+
+  back_first : (n : ℕ) (past : List Edit) (text : List ℕ) (future : List Edit) (c : Change) → All Is past
+      → Some c ≡ next_undos n (record { text = text; past = past; future = future })
+      → IsTextPlace says ((undone_times n (record { text = text; past = past; future = future })).text) c.place
+  back_first zero past text future c all e = absurd (none-some c (sym e))
+  back_first (suc n) [] text future c all e = absurd (none-some c (sym e))
+  back_first (suc n) (f ∷ past) text future c all e =
+      let b : HasPlaces says f = All-head Is f past all in
+      let whole = fold merged (change_back f) (map change_back (take n past)) in
+      subst (λ (k : Change). IsTextPlace says ((undone_times n (record { text = f.before.text; past = past; future = f ∷ future })).text) k.place)
+      (sym (same_Some c whole e)) (back_from n past f.before.text (f ∷ future) (change_back f) (All-tail Is f past all) b.before)
+
+  again_first : (n : ℕ) (future : List Edit) (text : List ℕ) (past : List Edit) (c : Change) → All Is future
+      → Some c ≡ next_redos n (record { text = text; past = past; future = future })
+      → IsTextPlace says ((redone_times n (record { text = text; past = past; future = future })).text) c.place
+  again_first zero future text past c all e = absurd (none-some c (sym e))
+  again_first (suc n) [] text past c all e = absurd (none-some c (sym e))
+  again_first (suc n) (f ∷ future) text past c all e =
+      let b : HasPlaces says f = All-head Is f future all in
+      let whole = fold merged (change_of f) (map change_of (take n future)) in
+      subst (λ (k : Change). IsTextPlace says ((redone_times n (record { text = f.after.text; past = f ∷ past; future = future })).text) k.place)
+      (sym (same_Some c whole e)) (again_from n future f.after.text (f ∷ past) (change_of f) (All-tail Is f future all) b.after)
+
+  pub place_times : (step : HistoryStep) (n : ℕ) (t u : Edited) (c : Change) → u ≡ stepped_times step n t → KeepsPlaces says t
+      → Some c ≡ next_changes step n t → IsTextPlace says u.text c.place
+  place_times Undo n t u c e h f =
+      subst (λ (v : Edited). IsTextPlace says v.text c.place) (sym e) (back_first n t.past t.text t.future c h.past f)
+  place_times Redo n t u c e h f =
+      subst (λ (v : Edited). IsTextPlace says v.text c.place) (sym e) (again_first n t.future t.text t.past c h.future f)
+
+  -- ---- edits
+
+  pub keeps_replaced : (t : Edited) (start stop : ℕ) (new : List ℕ) (before after : ℕ) → KeepsPlaces says t → IsTextPlace says t.text before
+      → IsTextPlace says (splice t.text start stop new) after → KeepsPlaces says (replaced t start stop new before after)
+  keeps_replaced t start stop new before after h was is =
+      let edit = edit_of t.text start stop new before after in
+      let places : HasPlaces says edit = record { before = was; after = is } in
+      record { past = All-cons Is edit t.past places h.past; future = All-nil Is }
+
+-- one step is a step
+one_back : (past : List Edit) → reduce merged (map change_back (take 1 past)) ≡ first_back past
+one_back [] = refl
+one_back (f ∷ past) = refl
+
+one_again : (future : List Edit) → reduce merged (map change_of (take 1 future)) ≡ first_again future
+one_again [] = refl
+one_again (f ∷ future) = refl
+
+pub next_one : (step : HistoryStep) (t : Edited) → next_changes step 1 t ≡ next_change step t
+next_one Undo t = one_back t.past
+next_one Redo t = one_again t.future
+
+pub stepped_one : (step : HistoryStep) (t : Edited) → stepped_times step 1 t ≡ stepped step t
+stepped_one Undo t = refl
+stepped_one Redo t = refl
+
+-- where no step is made, nothing changes; `inner` is the opened value of the document `now`
+nothing_stepped : (step : HistoryStep) (n : ℕ) (t : Edited) → None ≡ next_changes step n t → t ≡ stepped_times step n t
+nothing_stepped Undo n t e = sym (nothing_undone n t.text t.past t.future (ap is_some (sym e)))
+nothing_stepped Redo n t e = sym (nothing_redone n t.text t.past t.future (ap is_some (sym e)))
+
+pub nothing_changed : {D : Type 0} (inner now : DocumentState D) (step : HistoryStep) (n : ℕ) → inner ≡ now
+    → None ≡ next_changes step n inner.document.content
+    → inner ≡ record now { document = record now.document { content = stepped_times step n now.document.content } }
+nothing_changed {D} inner now step n same none =
+    let t = inner.document in
+    let kept : inner.document.content ≡ stepped_times step n inner.document.content = nothing_stepped step n inner.document.content none in
+    ap (λ (x : Edited). record inner { document = record t { content = x } }) kept
+    ∙ ap (λ (s : DocumentState D). record s { document = record s.document { content = stepped_times step n s.document.content } }) same
+
 -- after an edit with places of both texts; `inner` is the opened value of the document `now`
 pub keeps_edited : {D : Type 0} (says : D → Data) (inner now : DocumentState D) (u : Edited) (start stop : ℕ) (new : List ℕ) (before after : ℕ)
     → inner ≡ now → u ≡ replaced inner.document.content start stop new before after → KeepsPlaces (says inner.tables) inner.document.content
     → IsTextPlace (says now.tables) now.document.content.text before
     → IsTextPlace (says now.tables) (splice now.document.content.text start stop new) after → KeepsPlaces (says inner.tables) u
 keeps_edited {D} says inner now u start stop new before after same e h was is =
-    let by : Data = says inner.tables in
+    subst (KeepsPlaces (says inner.tables)) (sym e)
+    (keeps_replaced (says inner.tables) inner.document.content start stop new before after h
+    (subst (λ (s : DocumentState D). IsTextPlace (says s.tables) s.document.content.text before) (sym same) was)
+    (subst (λ (s : DocumentState D). IsTextPlace (says s.tables) (splice s.document.content.text start stop new) after) (sym same) is))
+
+-- after bytes were exchanged
+pub exchanged_text : (text : List ℕ) (start stop : ℕ) (new : List ℕ) → start ≤ length text
+    → splice (splice text start stop []) start start new ≡ splice text start stop new
+exchanged_text text start stop new inside =
+    let mid = splice text start stop [] in
+    let e : start ≡ start + 0 = omega arith in
+    ap (λ xs. xs ++ new ++ drop start mid) (splice_before text [] start stop inside)
+    ∙ ap (λ xs. take start text ++ new ++ xs) (ap (λ n. drop n mid) e ∙ splice_after text [] start stop inside)
+
+pub keeps_exchanged : {D : Type 0} (says : D → Data) (inner now : DocumentState D) (u : Edited) (start stop : ℕ) (new : List ℕ) (place between after : ℕ)
+    → inner ≡ now → u ≡ exchanged inner.document.content start stop new place between after
+    → KeepsPlaces (says inner.tables) inner.document.content → start ≤ length now.document.content.text
+    → IsTextPlace (says now.tables) now.document.content.text place
+    → IsTextPlace (says now.tables) (splice now.document.content.text start stop []) between
+    → IsTextPlace (says now.tables) (splice now.document.content.text start stop new) after → KeepsPlaces (says inner.tables) u
+keeps_exchanged {D} says inner now u start stop new place between after same e h inside was mid is =
     let t = inner.document.content in
-    let edit = edit_of t.text start stop new before after in
-    let places : HasPlaces by edit = record {
-      before = subst (λ (s : DocumentState D). IsTextPlace (says s.tables) s.document.content.text before) (sym same) was;
-      after = subst (λ (s : DocumentState D). IsTextPlace (says s.tables) (splice s.document.content.text start stop new) after) (sym same) is;
-    } in
+    let by : Data = says inner.tables in
+    let was' = subst (λ (s : DocumentState D). IsTextPlace (says s.tables) s.document.content.text place) (sym same) was in
+    let mid' = subst (λ (s : DocumentState D). IsTextPlace (says s.tables) (splice s.document.content.text start stop []) between) (sym same) mid in
+    let is' = subst (λ (s : DocumentState D). IsTextPlace (says s.tables) (splice s.document.content.text start stop new) after) (sym same) is in
+    let within : start ≤ length t.text = subst (λ (s : DocumentState D). start ≤ length s.document.content.text) (sym same) inside in
     subst (KeepsPlaces by) (sym e)
-    (record { past = All-cons (HasPlaces by) edit t.past places h.past; future = All-nil (HasPlaces by) })
+    (keeps_replaced by (removed t start stop place between) start start new between after (keeps_replaced by t start stop [] place between h was' mid') mid'
+    (subst (λ x. IsTextPlace by x after) (sym (exchanged_text t.text start stop new within)) is'))
+
+-- after bytes were wrapped
+pub keeps_wrapped : {D : Type 0} (says : D → Data) (inner now : DocumentState D) (u : Edited) (start stop : ℕ) (front back : List ℕ)
+    (place between after : ℕ)
+    → inner ≡ now → u ≡ wrapped inner.document.content start stop front back place between after
+    → KeepsPlaces (says inner.tables) inner.document.content
+    → IsTextPlace (says now.tables) now.document.content.text place
+    → IsTextPlace (says now.tables) (splice now.document.content.text stop stop back) between
+    → IsTextPlace (says now.tables) (wrapped_text now.document.content.text start stop front back) after → KeepsPlaces (says inner.tables) u
+keeps_wrapped {D} says inner now u start stop front back place between after same e h was mid is =
+    let t = inner.document.content in
+    let by : Data = says inner.tables in
+    let was' = subst (λ (s : DocumentState D). IsTextPlace (says s.tables) s.document.content.text place) (sym same) was in
+    let mid' = subst (λ (s : DocumentState D). IsTextPlace (says s.tables) (splice s.document.content.text stop stop back) between) (sym same) mid in
+    let is' = subst (λ (s : DocumentState D). IsTextPlace (says s.tables) (wrapped_text s.document.content.text start stop front back) after) (sym same) is in
+    subst (KeepsPlaces by) (sym e)
+    (keeps_replaced by (inserted t stop back place between) start start front between after
+    (keeps_replaced by t stop stop back place between h was' mid') mid' is')
+
+-- the text around which both texts stand
+pub wrapped_is : (text : List ℕ) (start stop : ℕ) (front back : List ℕ) → start ≤ stop → stop ≤ length text
+    → splice text start stop (front ++ slice_range text start stop ++ back) ≡ wrapped_text text start stop front back
+wrapped_is text start stop front back order inside =
+    let mid = splice text stop stop back in
+    let region = slice_range text start stop in
+    let rest = back ++ drop stop text in
+    let whole : mid ≡ take stop text ++ rest = append_assoc (take stop text) back (drop stop text) in
+    let first : take start mid ≡ take start text =
+    ap (take start) whole ∙ take-append-le start (take stop text) rest (omega (arith, length-take-le stop text inside))
+    ∙ take-take start stop text order in
+    let more : stop ≡ start + (stop - start) = omega arith in
+    let second : drop start mid ≡ region ++ rest =
+    ap (drop start) whole ∙ drop-append-le start (take stop text) rest (omega (arith, length-take-le stop text inside))
+    ∙ ap (λ xs. xs ++ rest) (ap (λ n. drop start (take n text)) more ∙ drop-take start (stop - start) text) in
+    append_assoc (take start text) (front ++ region ++ back) (drop stop text)
+    ∙ ap (λ xs. take start text ++ xs)
+    (append_assoc (front ++ region) back (drop stop text) ∙ append_assoc front region rest)
+    ∙ sym (append_assoc (take start text) front (region ++ rest))
+    ∙ sym (ap (λ xs. xs ++ front ++ drop start mid) first ∙ ap (λ xs. take start text ++ front ++ xs) second)

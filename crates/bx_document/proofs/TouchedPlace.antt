@@ -170,19 +170,17 @@ module _ (says : Data) (text : List ℕ) (utf8 : IsUtf8 text) where
         (sym (ap chars was ∙ chars-append (take stop text) tail (IsUtf8-take text stop utf8 range.stop_bounds))) ∙ p) in
         place_before_back says base w h mine behind_all offset mine_utf8 behind_utf8 q within
 
-    -- the place after an edit
-    pub touched_place : (base : Base) (w : ℕ) → 1 ≤ w
-        → place_from (text_rows says base w (splice text start stop new)) (start + length new)
-        ≡ a + place_from (text_rows says base w mine) (start - a + length new)
-    touched_place base w h =
-        let offset = start + length new in
-        let inner : offset - length before ≡ start - a + length new = omega (arith, before_bytes, front.order) in
+    -- a place in or right behind the new bytes
+    pub touched_place : (base : Base) (w : ℕ) → 1 ≤ w → (offset : ℕ) → start ≤ offset → offset ≤ start + length new
+        → place_from (text_rows says base w (splice text start stop new)) offset ≡ a + place_from (text_rows says base w mine) (offset - a)
+    touched_place base w h offset from upto =
+        let inner : offset - length before ≡ offset - a = omega (arith, before_bytes) in
         ap (λ bs. place_from (text_rows says base w bs) offset) whole
         ∙ place_after_front says base w h before (mine ++ behind_all) offset before_utf8 (IsUtf8-append mine behind_all mine_utf8 behind_utf8)
         (front_at front.some) (omega (arith, before_bytes, front.order))
         ∙ ap (λ n. length before + place_from (text_rows says base w (mine ++ behind_all)) n) inner
-        ∙ ap (λ n. n + place_from (text_rows says base w (mine ++ behind_all)) (start - a + length new)) before_bytes
-        ∙ ap (λ n. a + n) (back_at_end (start - a + length new) base w h (omega (arith, mine_bytes)) back.ends)
+        ∙ ap (λ n. n + place_from (text_rows says base w (mine ++ behind_all)) (offset - a)) before_bytes
+        ∙ ap (λ n. a + n) (back_at_end (offset - a) base w h (omega (arith, mine_bytes, front.order)) back.ends)
 
     pub splice_utf8 : IsUtf8 (splice text start stop new)
     splice_utf8 =

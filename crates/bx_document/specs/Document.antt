@@ -1,7 +1,9 @@
 -- An editable text and its layout in a window. Offsets and places count bytes of the text.
 use Rattle.std.specs.Prelude.{ℕ, ◌+◌, List, [], length}
 use Rattle.bx_terms.specs.declared.base.Base.{Base}
-use Rattle.bx_text.specs.Edits.{Edited, inserted, opened, removed, splice}
+use Rattle.bx_document.specs.declared.edits.RegionEnd.{RegionEnd}
+use Rattle.bx_document.specs.declared.edits.RegionEnd.TheVariants.{Start, Stop}
+use Rattle.bx_text.specs.Edits.{Edited, exchanged, inserted, opened, removed, splice, wrapped}
 use Rattle.bx_view.specs.Moves.{place_from}
 use Rattle.bx_view.specs.TextRows.{TextRow, text_rows}
 use Rattle.bx_ucd.specs.Data.{Data}
@@ -41,3 +43,29 @@ after_insertion d t place new = record t { content = inserted t.content place ne
 -- after the bytes from `start` to `stop` are removed; the cursor was at `place`
 abbrev pub after_removal : Data → Document → ℕ → ℕ → ℕ → Document
 after_removal d t start stop place = record t { content = removed t.content start stop place (place_after d t start stop []) }
+
+-- after the bytes from `start` to `stop` are removed and `new` is inserted in their place; the cursor was at `place`
+abbrev pub after_exchange : Data → Document → ℕ → ℕ → List ℕ → ℕ → Document
+after_exchange d t start stop new place = record t {
+  content = exchanged t.content start stop new place (place_after d t start stop []) (place_after d t start stop new);
+}
+
+-- the text with `back` inserted behind the bytes from `start` to `stop`, and `front` before them
+abbrev pub wrapped_text : List ℕ → ℕ → ℕ → List ℕ → List ℕ → List ℕ
+wrapped_text text start stop front back = splice (splice text stop stop back) start start front
+
+-- the same end of the wrapped bytes in that text
+abbrev pub wrapped_end : RegionEnd → ℕ → ℕ → List ℕ → ℕ
+wrapped_end Start start stop front = start + length front
+wrapped_end Stop start stop front = stop + length front
+
+-- the place after it, for a cursor that was at an end of those bytes: the first one at or after that end
+abbrev pub place_after_wrap : Data → Document → ℕ → ℕ → List ℕ → List ℕ → RegionEnd → ℕ
+place_after_wrap d t start stop front back at =
+    place_from (rows_of d t (wrapped_text t.content.text start stop front back)) (wrapped_end at start stop front)
+
+-- after `back` is inserted behind those bytes and then `front` before them; the cursor was at `place`, an end of them
+abbrev pub after_wrap : Data → Document → ℕ → ℕ → List ℕ → List ℕ → ℕ → RegionEnd → Document
+after_wrap d t start stop front back place at = record t {
+  content = wrapped t.content start stop front back place (place_after d t stop stop back) (place_after_wrap d t start stop front back at);
+}

@@ -1,7 +1,8 @@
 -- Undo and redo.
-use Rattle.std.specs.Prelude.{Option}
+use Rattle.std.specs.Prelude.{ℕ, Option}
 use Rattle.bx_text.specs.declared.change.Change.{Change}
 use Rattle.bx_text.specs.Edits.{Edited, next_redo, next_undo, redone, undone}
+use Rattle.bx_text.specs.Times.{next_redos, next_undos, redone_times, undone_times}
 use Rattle.bx_document.specs.declared.history.HistoryStep.{HistoryStep}
 use Rattle.bx_document.specs.declared.history.HistoryStep.TheVariants.{Undo, Redo}
 
@@ -14,3 +15,13 @@ stepped Redo t = redone t
 abbrev pub next_change : HistoryStep → Edited → Option Change
 next_change Undo t = next_undo t
 next_change Redo t = next_redo t
+
+-- the text after n steps, or as many as there are
+abbrev pub stepped_times : HistoryStep → ℕ → Edited → Edited
+stepped_times Undo n t = undone_times n t
+stepped_times Redo n t = redone_times n t
+
+-- the one change that they make; none where none is made
+abbrev pub next_changes : HistoryStep → ℕ → Edited → Option Change
+next_changes Undo n t = next_undos n t
+next_changes Redo n t = next_redos n t

@@ -1,7 +1,9 @@
 pub mod Cache
 pub mod Document
 pub mod Drawing
+pub mod Points
 pub mod QueryRow
+pub mod FirstSeparator
 pub mod History
 pub mod Line
 pub mod Past

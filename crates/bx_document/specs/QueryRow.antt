@@ -1,8 +1,11 @@
--- A status row shows a text, or a text and a query behind it. It leaves out the glyphs that do not fit.
-use Rattle.std.specs.Prelude.{ℕ, ◌-◌, nat_le, true, false, List, [], ◌∷◌, ◌++◌, take, replicate}
+-- A status row shows a text, or a text and behind it a query or what was typed. It leaves out the glyphs that do not fit.
+use Rattle.std.specs.Prelude.{◌≡◌, ℕ, ◌-◌, nat_le, true, false, List, [], ◌∷◌, ◌++◌, take, replicate, map, chars, encode_utf8}
+use Rattle.bx_terms.specs.Glyphs.{is_one_glyph, run_width}
 use Rattle.bx_terms.specs.declared.base.Base.TheVariants.{Auto}
 use Rattle.bx_ucd.specs.Data.{Data}
-use Rattle.bx_rows.specs.RowPicture.{Glyph}
+use Rattle.bx_rows.specs.RowPicture.{Glyph, glyph}
+use Rattle.bx_rows.specs.declared.drawn.Drawn.{Drawn}
+use Rattle.std.specs.Cow.{cow_str_bytes}
 pub use Rattle.bx_rows.specs.RowPicture.{letter_glyphs}
 use Rattle.bx_grid.specs.Columns.{Col, blank}
 use Rattle.bx_paragraph.specs.BodyRows.{body_rows, row_at}
@@ -21,3 +24,22 @@ fitting w (g ∷ gs) = elim (nat_le g.columns w) [ true ↦ g ∷ fitting (w - g
 -- a row of `w` columns: the glyphs that fit, and blanks on their right
 abbrev pub glyph_row : ℕ → List Glyph → List Col
 glyph_row w glyphs = take w (side_by_side (fitting w glyphs) ++ replicate w blank)
+
+-- ---- characters as they were typed
+
+-- a character that a terminal shows in one column
+pub record IsNarrow (c : ℕ) : Type 0 where
+  pub one : is_one_glyph (encode_utf8 c) ≡ true
+  pub columns : run_width (encode_utf8 c) ≡ 1
+
+-- a glyph whose text a terminal shows as one, in the glyph's columns
+pub record IsWellDrawn (g : Drawn) : Type 0 where
+  pub one : is_one_glyph (cow_str_bytes g.text) ≡ true
+  pub columns : run_width (cow_str_bytes g.text) ≡ g.columns
+
+abbrev pub typed_glyph : ℕ → Glyph
+typed_glyph c = glyph (encode_utf8 c) 1 false
+
+-- such characters in their order, a column for each
+abbrev pub typed_glyphs : List ℕ → List Glyph
+typed_glyphs typed = map typed_glyph (chars typed)

@@ -1,17 +1,60 @@
 //! Insertions and removals, each with the cursor's place after it. Each allocates first and then changes the text.
-ghost use Rattle.std.specs.Prelude.{◌≡◌, ℕ, List, [], Some, true, false, IfOk, IfSome, IsErrOf, IsUtf8, MatchOption, OnErr, OnOk};
+ghost use Rattle.std.specs.Prelude.{◌≡◌, ℕ, List, [], ◌++◌, ◌+◌, ◌≤◌, length, slice_range, string_bytes, Some, true, false, IfOk, IfSome, IsErrOf, IsUtf8, MatchOption, OnErr, OnOk};
 ghost use Rattle.bx_paras.specs.Paragraphs.{lengths};
-ghost use Rattle.bx_text.specs.Edits.{IsRange, IsChange, fits, splice};
+ghost use Rattle.bx_text.specs.Edits.{IsRange, IsChange, fits, fits_both, largest_text, splice};
 ghost use Rattle.bx_view.specs.Places.{IsTextPlace};
-ghost use Rattle.bx_document.specs.Document.{after_insertion, after_removal, place_after};
+ghost use Rattle.bx_document.specs.Document.{after_exchange, after_insertion, after_removal, after_wrap, place_after, place_after_wrap, wrapped_end, wrapped_text};
 
 use crate::document::Document;
-use crate::touched::place_after;
+use crate::touched::{place_after, place_inside};
 use bx_paras::Index;
 use bx_terms::{LARGEST_TEXT, OutOfMemory};
 use bx_text::{Change, Text};
 use bx_ucd::BidiData;
 use bx_view::Source;
+use std::alloc::Global;
+
+/// The end of a region at which the cursor stands.
+#[derive(Clone, Copy, PartialEq, Eq, Debug)]
+pub enum RegionEnd {
+    Start,
+    Stop,
+}
+
+/// The offset of an end of the bytes from `start` to `stop` once `front` stands before them.
+fn wrapped_end(end: RegionEnd, start: usize, stop: usize, front: &str) -> usize
+    requires { (start ≤ largest_text) × (stop ≤ largest_text) × (length front.now ≤ largest_text) }
+    ensures { result ≡ wrapped_end end start stop front.now }
+{
+    match end {
+        RegionEnd::Start => start + front.len(),
+        RegionEnd::Stop => stop + front.len(),
+    }
+}
+
+/// A copy of the bytes from `start` to `stop`, with `front` before and `back` behind them.
+///
+/// Errors: `OutOfMemory`.
+fn wrapped(
+    alloc: Global,
+    text: &Text,
+    start: usize,
+    stop: usize,
+    front: &str,
+    back: &str,
+) -> Result<String, OutOfMemory>
+    requires { IsRange text.now.edited.text start stop }
+    ensures { IfOk result (λ s. string_bytes s ≡ front.now ++ slice_range text.now.edited.text start stop ++ back.now) }
+{
+    let Ok(region) = text.copy_range(start, stop) else {
+        return Err(OutOfMemory);
+    };
+    let mut whole = String::new(alloc);
+    whole.push_str(front)?;
+    whole.push_str(region.as_str())?;
+    whole.push_str(back)?;
+    Ok(whole)
+}
 
 /// Updates the index after an edit, in the room reserved for one separator per added byte. No memory.
 pub(crate) fn follow<D: BidiData>(index: &mut Index, text: &Text, tables: &D, change: &Change)
@@ -100,5 +143,123 @@ impl<D: BidiData + Drop> Document<D> {
         };
         follow(&mut self.index, &self.text, &self.tables, &change);
         Ok(after)
+    }
+    /// Removes the bytes from `start` to `stop`, inserts `new` in their place, and returns the new place; none, and no change,
+    /// if the text would exceed 16,777,216 bytes after both. These are two edits, of which undo takes back the insertion
+    /// first; the second one restores the cursor to `place`.
+    ///
+    /// Errors: `OutOfMemory`, and nothing has changed.
+    pub fn exchange(
+        &mut self,
+        start: usize,
+        stop: usize,
+        new: &str,
+        place: usize,
+    ) -> Result<Option<usize>, OutOfMemory>
+        requires range { IsRange self.old.document.content.text start stop }
+        requires text_place { IsTextPlace (D.data self.old.tables) self.old.document.content.text place }
+        ensures ok { IfOk result (λ after. MatchOption after
+            ((fits self.old.document.content.text start stop new.now ≡ false) × (self.new ≡ self.old))
+            (λ o. (fits self.old.document.content.text start stop new.now ≡ true)
+            × (self.new ≡ record self.old {
+              document = after_exchange (D.data self.old.tables) self.old.document start stop new.now place;
+            })
+            × (o ≡ place_after (D.data self.old.tables) self.old.document start stop new.now))) }
+        ensures text_place { IfOk result (λ after. IfSome after (IsTextPlace (D.data self.new.tables) self.new.document.content.text)) }
+        ensures err { OnErr result (self.new ≡ self.old) }
+    {
+        let kept = self.text.len() - (stop - start);
+        if new.len() > LARGEST_TEXT - kept {
+            return Ok(None);
+        }
+        let between = self.place_after(start, stop, "")?;
+        let after = self.place_after(start, stop, new)?;
+        self.index.ready(new.len())?;
+        let Ok(change) = self.text.exchange(start, stop, new, place, between, after) else {
+            return Err(OutOfMemory);
+        };
+        follow(&mut self.index, &self.text, &self.tables, &change);
+        Ok(Some(after))
+    }
+
+    /// The place after a pending wrap.
+    ///
+    /// Errors: `OutOfMemory`.
+    fn place_after_wrap(
+        &mut self,
+        start: usize,
+        stop: usize,
+        front: &str,
+        back: &str,
+        end: RegionEnd,
+    ) -> Result<usize, OutOfMemory>
+        requires range { IsRange self.old.document.content.text start stop }
+        requires fits { fits_both self.old.document.content.text front.now back.now ≡ true }
+        ensures same { self.new ≡ self.old }
+        ensures place { IfOk result (λ o. o ≡ place_after_wrap (D.data self.old.tables) self.old.document start stop front.now back.now end) }
+        ensures text_place { IfOk result (IsTextPlace (D.data self.old.tables)
+            (wrapped_text self.old.document.content.text start stop front.now back.now)) }
+    {
+        // proof only: the text is UTF-8, and the width is within its limits
+        let _utf8 = self.text.len();
+        let _side = self.layout.width();
+        let whole = wrapped(self.alloc, &self.text, start, stop, front, back)?;
+        let offset = wrapped_end(end, start, stop, front);
+        let source = Source {
+            text: &self.text,
+            index: &self.index,
+            tables: &self.tables,
+        };
+        let place = place_inside(
+            self.alloc,
+            &source,
+            &mut self.layout,
+            start..stop,
+            whole.as_str(),
+            offset,
+        )?;
+        Ok(place)
+    }
+
+    /// Inserts `back` behind the bytes from `start` to `stop`, then `front` before them, and returns the new place; none, and
+    /// no change, if the text would exceed 16,777,216 bytes after both. The cursor was at `place`, which was the end `end` of
+    /// those bytes, and stays there. These are two edits, of which undo takes back the second first.
+    ///
+    /// Errors: `OutOfMemory`, and nothing has changed.
+    pub fn wrap(
+        &mut self,
+        start: usize,
+        stop: usize,
+        front: &str,
+        back: &str,
+        place: usize,
+        end: RegionEnd,
+    ) -> Result<Option<usize>, OutOfMemory>
+        requires range { IsRange self.old.document.content.text start stop }
+        requires text_place { IsTextPlace (D.data self.old.tables) self.old.document.content.text place }
+        ensures ok { IfOk result (λ after. MatchOption after
+            ((fits_both self.old.document.content.text front.now back.now ≡ false) × (self.new ≡ self.old))
+            (λ o. (fits_both self.old.document.content.text front.now back.now ≡ true)
+            × (self.new ≡ record self.old {
+              document = after_wrap (D.data self.old.tables) self.old.document start stop front.now back.now place end;
+            })
+            × (o ≡ place_after_wrap (D.data self.old.tables) self.old.document start stop front.now back.now end))) }
+        ensures text_place { IfOk result (λ after. IfSome after (IsTextPlace (D.data self.new.tables) self.new.document.content.text)) }
+        ensures err { OnErr result (self.new ≡ self.old) }
+    {
+        if front.len() + back.len() > LARGEST_TEXT - self.text.len() {
+            return Ok(None);
+        }
+        let between = self.place_after(stop, stop, back)?;
+        let after = self.place_after_wrap(start, stop, front, back, end)?;
+        self.index.ready(front.len() + (stop - start) + back.len())?;
+        let Ok(change) = self
+            .text
+            .wrap(start, stop, front, back, place, between, after)
+        else {
+            return Err(OutOfMemory);
+        };
+        follow(&mut self.index, &self.text, &self.tables, &change);
+        Ok(Some(after))
     }
 }

@@ -1,9 +1,9 @@
 //! Undo and redo.
-ghost use Rattle.std.specs.Prelude.{◌≡◌, IfOk, IfSome, OnErr, OnOk, option_map};
+ghost use Rattle.std.specs.Prelude.{◌≡◌, IfOk, IfSome, OnErr, OnOk, length, option_map};
 ghost use Rattle.bx_text.specs.Edits.{IsChange};
 ghost use Rattle.bx_view.specs.Holding.{IsViewBy, Keeps};
 ghost use Rattle.bx_view.specs.Places.{IsTextPlace};
-ghost use Rattle.bx_document.specs.History.{next_change, stepped};
+ghost use Rattle.bx_document.specs.History.{next_change, next_changes, stepped, stepped_times};
 
 use crate::document::Document;
 use crate::edits::follow;
@@ -21,28 +21,28 @@ pub enum HistoryStep {
     Redo,
 }
 
-/// The change that a step makes; none if there is no edit to undo, or to redo. No memory.
-fn next_change(text: &Text, step: HistoryStep) -> Option<Change>
-    ensures { result ≡ next_change step text.now.edited }
+/// The one change that `n` steps make; none if `n` is 0 or there is no edit to undo, or to redo. No memory.
+fn next_changes(text: &Text, step: HistoryStep, n: usize) -> Option<Change>
+    ensures { result ≡ next_changes step n text.now.edited }
 {
     match step {
-        HistoryStep::Undo => text.next_undo(),
-        HistoryStep::Redo => text.next_redo(),
+        HistoryStep::Undo => text.next_undos(n),
+        HistoryStep::Redo => text.next_redos(n),
     }
 }
 
-/// Undoes or redoes an edit of a text; none if there is none.
+/// Undoes or redoes `n` edits of a text, or all if there are fewer; none if none is undone or redone.
 ///
 /// Errors: `OutOfMemory`, and nothing has changed.
-fn step_in(text: &mut Text, step: HistoryStep) -> Result<Option<Change>, TextError>
-    ensures ok { OnOk result (text.new.edited ≡ stepped step text.old.edited) }
-    ensures change { IfOk result (λ c. c ≡ next_change step text.old.edited) }
+fn step_in(text: &mut Text, step: HistoryStep, n: usize) -> Result<Option<Change>, TextError>
+    ensures ok { OnOk result (text.new.edited ≡ stepped_times step n text.old.edited) }
+    ensures change { IfOk result (λ c. c ≡ next_changes step n text.old.edited) }
     ensures is_change { IfOk result (λ change. IfSome change (λ c. IsChange text.old.edited.text c text.new.edited.text)) }
     ensures err { OnErr result (text.new ≡ text.old) }
 {
     match step {
-        HistoryStep::Undo => text.undo(),
-        HistoryStep::Redo => text.redo(),
+        HistoryStep::Undo => text.undo_times(n),
+        HistoryStep::Redo => text.redo_times(n),
     }
 }
 
@@ -92,9 +92,22 @@ impl<D: BidiData + Drop> Document<D> {
         ensures text_place { IfOk result (λ place. IfSome place (IsTextPlace (D.data self.new.tables) self.new.document.content.text)) }
         ensures err { OnErr result (self.new ≡ self.old) }
     {
+        self.step_times(step, 1)
+    }
+
+    /// Undoes or redoes `n` edits at once, or all if there are fewer, and returns the cursor's place after the last. None if
+    /// `n` is 0 or there is no edit to undo, or to redo.
+    ///
+    /// Errors: `OutOfMemory`, and nothing has changed.
+    pub fn step_times(&mut self, step: HistoryStep, n: usize) -> Result<Option<usize>, OutOfMemory>
+        ensures ok { OnOk result (self.new ≡ record self.old { document = record self.old.document { content = stepped_times step n self.old.document.content } }) }
+        ensures place { IfOk result (λ o. o ≡ option_map (λ c. c.place) (next_changes step n self.old.document.content)) }
+        ensures text_place { IfOk result (λ place. IfSome place (IsTextPlace (D.data self.new.tables) self.new.document.content.text)) }
+        ensures err { OnErr result (self.new ≡ self.old) }
+    {
         // proof only: the text is UTF-8
         let _utf8 = self.text.len();
-        let Some(next) = next_change(&self.text, step) else {
+        let Some(next) = next_changes(&self.text, step, n) else {
             return Ok(None);
         };
         let source = Source {
@@ -104,11 +117,24 @@ impl<D: BidiData + Drop> Document<D> {
         };
         let held = held_change(&mut self.layout, &source, &next);
         self.index.ready(next.added)?;
-        let Ok(Some(change)) = step_in(&mut self.text, step) else {
+        let Ok(Some(change)) = step_in(&mut self.text, step, n) else {
             return Err(OutOfMemory);
         };
         follow(&mut self.index, &self.text, &self.tables, &change);
         follow_in_layout(&mut self.layout, held, &self.text, &self.tables, &change);
         Ok(Some(change.place))
+    }
+    /// The number of edits that can be undone. No memory.
+    pub fn past_len(&self) -> usize
+        ensures { result ≡ length self.now.document.content.past }
+    {
+        self.text.past_len()
+    }
+
+    /// The number of edits that can be redone. No memory.
+    pub fn future_len(&self) -> usize
+        ensures { result ≡ length self.now.document.content.future }
+    {
+        self.text.future_len()
     }
 }

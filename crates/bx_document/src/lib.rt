@@ -8,8 +8,10 @@ mod drawing;
 mod drawn_rows;
 mod edits;
 mod error;
+mod first_separator;
 mod history;
 mod moves;
+mod points;
 mod query_row;
 mod region;
 mod row_cache;
@@ -19,6 +21,7 @@ mod shown;
 mod touched;
 
 pub use document::Document;
+pub use edits::RegionEnd;
 pub use error::DocumentError;
 pub use history::HistoryStep;
 pub use shown::Shown;

@@ -1,5 +1,5 @@
-//! Draws status rows: a text, or a text and a query behind it.
-ghost use Rattle.std.specs.Prelude.{◌≡◌, ◌≤◌, ◌++◌, All, IfOk, length, map, string_bytes, sum_by, take, true};
+//! Draws status rows: a text, or a text and behind it a query or what was typed.
+ghost use Rattle.std.specs.Prelude.{◌≡◌, ◌≤◌, ◌∷◌, [], ◌++◌, All, IfOk, OnOk, chars, length, map, string_bytes, sum_by, take, true};
 ghost use Rattle.std.specs.Cow.{cow_str_bytes};
 ghost use Rattle.bx_terms.specs.Characters.{are_ascii_printable};
 ghost use Rattle.bx_terms.specs.Glyphs.{is_one_glyph, run_width};
@@ -7,7 +7,7 @@ ghost use Rattle.bx_terms.specs.Sizes.{is_side};
 ghost use Rattle.bx_terms.specs.declared.base.Base.TheVariants.{Auto};
 ghost use Rattle.bx_rows.specs.Shown.{glyph_of};
 ghost use Rattle.bx_paragraph.specs.Layout.{IsLayoutBy};
-ghost use Rattle.bx_document.specs.QueryRow.{fitting, glyph_row, letter_glyphs, query_glyphs};
+ghost use Rattle.bx_document.specs.QueryRow.{fitting, glyph_row, letter_glyphs, query_glyphs, typed_glyph, typed_glyphs, IsNarrow, IsWellDrawn};
 
 use crate::document::Document;
 use crate::drawing::draw_glyphs;
@@ -16,7 +16,8 @@ use bx_paragraph::{LentRow, ParagraphLayout};
 use bx_rows::{Drawn, RowPicture};
 use bx_terms::{Base, OutOfMemory};
 use bx_ucd::BidiData;
-use std::alloc::Global;
+use std::alloc::{AllocError, Global};
+use std::borrow::CowStr;
 
 /// The columns in which a query is laid out.
 const QUERY_WIDTH: u16 = 500;
@@ -94,6 +95,34 @@ fn text_and_query<'a, D: BidiData>(
     Ok(picture)
 }
 
+/// Appends the glyph of a character of one column.
+fn push_narrow(alloc: Global, glyphs: &mut Vec<Drawn<'_>>, c: char) -> Result<(), AllocError>
+    requires narrow { IsNarrow c }
+    ensures typed { OnOk result (map glyph_of glyphs.new.items ≡ map glyph_of glyphs.old.items ++ typed_glyph c ∷ []) }
+    ensures glyphs { All IsWellDrawn glyphs.old.items → OnOk result (All IsWellDrawn glyphs.new.items) }
+{
+    let mut buffer = [0; 4];
+    let text = String::from_str(alloc, c.encode_utf8(&mut buffer))?;
+    glyphs.push(Drawn {
+        text: CowStr::Owned(text),
+        columns: 1,
+        negative: false,
+    })?;
+    Ok(())
+}
+
+/// Appends the glyphs of characters of one column each, in their order.
+fn push_typed(alloc: Global, glyphs: &mut Vec<Drawn<'_>>, typed: &str) -> Result<(), AllocError>
+    requires narrow { All IsNarrow (chars typed.now) }
+    ensures typed { OnOk result (map glyph_of glyphs.new.items ≡ map glyph_of glyphs.old.items ++ typed_glyphs typed.now) }
+    ensures glyphs { All IsWellDrawn glyphs.old.items → OnOk result (All IsWellDrawn glyphs.new.items) }
+{
+    for c in typed.chars() {
+        push_narrow(alloc, glyphs, c)?;
+    }
+    Ok(())
+}
+
 impl<D: BidiData + Drop> Document<D> {
     /// Draws a text into a row of the window's width, as far as it fits. It has only characters from SPACE to TILDE.
     ///
@@ -120,6 +149,22 @@ impl<D: BidiData + Drop> Document<D> {
     {
         let layout = lay_out(self.alloc, query, &self.tables)?;
         let picture = text_and_query(self.alloc, text, &layout, &self.tables)?;
+        let row = glyph_row(self.alloc, &picture, self.width())?;
+        Ok(row)
+    }
+
+    /// Draws a text, and behind it characters in the order in which they were typed, into a row of the window's width, as far as
+    /// they fit. The text has only characters from SPACE to TILDE, and a terminal shows each typed one in one column.
+    ///
+    /// Errors: `OutOfMemory`.
+    pub fn draw_typed(&self, text: &str, typed: &str) -> Result<OwnedRow, OutOfMemory>
+        requires printable { are_ascii_printable text.now ≡ true }
+        requires narrow { All IsNarrow (chars typed.now) }
+        ensures row { IfOk result (λ row. row ≡ glyph_row self.now.document.w (letter_glyphs text.now ++ typed_glyphs typed.now)) }
+        ensures filled { IfOk result (λ row. length row ≡ self.now.document.w) }
+    {
+        let mut picture = RowPicture::of_letters(self.alloc, text)?;
+        push_typed(self.alloc, &mut picture.glyphs, typed)?;
         let row = glyph_row(self.alloc, &picture, self.width())?;
         Ok(row)
     }

@@ -84,6 +84,37 @@ fn place_in<D: BidiData>(
     Ok(place)
 }
 
+/// The first place at or after an offset, in `new` or at its end, once `new` has replaced the bytes of a range. A copy of
+/// the touched paragraphs is laid out.
+///
+/// Errors: `OutOfMemory`.
+pub(crate) fn place_inside<D: BidiData>(
+    alloc: Global,
+    source: &Source<'_, D>,
+    layout: &mut Layout,
+    range: Range<usize>,
+    new: &str,
+    offset: usize,
+) -> Result<usize, OutOfMemory>
+    requires data { IsViewBy (D.data source.now.tables.now) layout.old }
+    requires range { IsRange (bytes source.now) range.start range.end }
+    requires fits { fits (bytes source.now) range.start range.end new.now ≡ true }
+    requires inside { (range.start ≤ offset) × (offset ≤ range.start + length new.now) }
+    ensures keeps { Keeps (D.data source.now.tables.now) layout.old layout.new }
+    ensures place { IfOk result (λ o. o ≡ place_from
+        (rows_by (D.data source.now.tables.now) layout.old
+        (splice (bytes source.now) range.start range.end new.now)) offset) }
+    ensures text_place { IfOk result (IsTextPlace (D.data source.now.tables.now)
+        (splice (bytes source.now) range.start range.end new.now)) }
+{
+    // proof only: the width is within its limits
+    let _side = layout.width();
+    let (first, characters) = touched(source, range.start, range.end, new)?;
+    // The copy is no longer than the text after the edit, so it is not too long.
+    let place = place_in(alloc, characters, source.tables, layout, offset - first)?;
+    Ok(first + place)
+}
+
 /// The place after a pending edit that replaces the bytes of a range with `new`. If one held paragraph contains the range,
 /// the edit is made in it; otherwise a copy of the touched paragraphs is laid out.
 ///
@@ -110,9 +141,7 @@ pub(crate) fn place_after<D: BidiData>(
     if let Some(place) = layout.edit(source, range.start, range.end, new)? {
         return Ok(place);
     }
-    let (first, characters) = touched(source, range.start, range.end, new)?;
-    // The copy is no longer than the text after the edit, so it is not too long.
-    let offset = range.start - first + new.len();
-    let place = place_in(alloc, characters, source.tables, layout, offset)?;
-    Ok(first + place)
+    let offset = range.start + new.len();
+    let place = place_inside(alloc, source, layout, range, new, offset)?;
+    Ok(place)
 }

@@ -67,7 +67,7 @@ status_line changed paragraph unit message =
 -- an editor's status line, with the numbers of the cursor's place
 abbrev pub status_text : Data → Editor → List ℕ
 status_text d e =
-    status_line e.changed (paragraph_number d e.content.text e.place + 1) (unit_number d e.width e.content.text e.place) e.message
+    status_line e.changed (paragraph_number d e.content.text e.place + 1) (unit_number d e.content.text e.place) e.message
 
 -- in a search, the query follows the text
 abbrev pub search_glyphs : Data → Seek → List ℕ → List Glyph

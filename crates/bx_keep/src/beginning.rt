@@ -53,7 +53,7 @@ pub struct Begun {
 
 /// FILE's permissions in a session, where FILE is gone and the session tells them.
 fn lost_mode(around: Around<'_>, edited: &Edited, kept: &Kept) -> Option<u32> {
-    if edited.place.is_there(around.rt) || !kept.session.has(around.rt, Part::Mode) {
+    if edited.destination.is_there(around.rt) || !kept.session.has(around.rt, Part::Mode) {
         return None;
     }
     kept.session.mode(around.rt).ok()
@@ -112,7 +112,11 @@ impl Begun {
         match begin(around.rt, sessions) {
             Ok(kept) => {
                 // without it other starts find the session once it is filled
-                let _ = kept.announce(around.rt, edited.place.path.as_str(), &around.process()?);
+                let _ = kept.announce(
+                    around.rt,
+                    edited.destination.path.as_str(),
+                    &around.process()?,
+                );
                 self.kept = Some(kept);
             }
             Err(fault) => {
@@ -122,7 +126,7 @@ impl Begun {
         }
         let size = around
             .rt
-            .metadata(edited.place.path.as_str())
+            .metadata(edited.destination.path.as_str())
             .map_or(0, |found| found.len());
         let wanted = size.saturating_add(BESIDE_TEXT);
         if !has_room(host, sessions.path(), wanted).unwrap_or(true) {

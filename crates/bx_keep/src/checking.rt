@@ -4,7 +4,7 @@ use crate::around::Around;
 use crate::saying::warn;
 use crate::shelf::Shelf;
 use crate::stop::Stop;
-use bx_launch::{FileFault, Place, check_kind};
+use bx_launch::{Destination, FileFault, check_kind};
 use bx_sessions::{Mended, Reason, find_in_place, mend_all};
 use bx_wire::Host;
 use bx_words::Shown;
@@ -17,7 +17,7 @@ const REFUSED: u8 = 1;
 /// FILE, and where its sessions are.
 #[derive(Drop)]
 pub struct Edited {
-    pub place: Place,
+    pub destination: Destination,
     pub shelf: Shelf,
     /// Why saves are written into FILE itself.
     pub in_place: Option<Reason>,
@@ -52,8 +52,12 @@ fn split_path(path: &str) -> (&str, &str) {
     }
 }
 
-/// The place of a FILE whose folder is gone, as the system resolves its path.
-fn lost_place<H: Host>(around: Around<'_>, host: &mut H, file: &str) -> Result<Place, Stop> {
+/// Where the saves of a FILE go whose folder is gone, as the system resolves its path.
+fn lost_destination<H: Host>(
+    around: Around<'_>,
+    host: &mut H,
+    file: &str,
+) -> Result<Destination, Stop> {
     let alloc = around.alloc();
     let facts = host.facts(file)?;
     let path = String::from_str(alloc, facts.real_path.as_str())?;
@@ -62,7 +66,7 @@ fn lost_place<H: Host>(around: Around<'_>, host: &mut H, file: &str) -> Result<P
     let folder_facts = host.facts(folder)?;
     let folder = String::from_str(alloc, folder)?;
     let name = String::from_str(alloc, name)?;
-    Ok(Place {
+    Ok(Destination {
         file: String::from_str(alloc, file)?,
         target,
         folder,
@@ -74,21 +78,21 @@ fn lost_place<H: Host>(around: Around<'_>, host: &mut H, file: &str) -> Result<P
 }
 
 /// Whether FILE's folder is not there.
-fn has_no_folder(found: &Result<Place, FileFault>) -> bool {
+fn has_no_folder(found: &Result<Destination, FileFault>) -> bool {
     matches!(found, Err(FileFault::NoFolder(_)))
 }
 
 impl Edited {
     /// Finds FILE and its sessions.
     ///
-    /// Errors: the refusal of what is no plain file, or has no place; `Gone`; `OutOfMemory`.
+    /// Errors: the refusal of what is no plain file, or has no destination; `Gone`; `OutOfMemory`.
     pub fn find<H: Host>(around: Around<'_>, host: &mut H, file: &str) -> Result<Edited, Stop> {
         let alloc = around.alloc();
         check_kind(around.rt, alloc, file).map_err(|fault| Stop::of_file(alloc, fault))?;
-        let place = Place::find(around.rt, host, alloc, file).map_err(|fault| Stop::of_file(
-            alloc, fault,
-        ))?;
-        Edited::at(around, host, place)
+        let destination = Destination::find(around.rt, host, alloc, file).map_err(
+            |fault| Stop::of_file(alloc, fault),
+        )?;
+        Edited::at(around, host, destination)
     }
 
     /// Finds FILE and its sessions, also where FILE's folder is gone.
@@ -101,25 +105,29 @@ impl Edited {
     ) -> Result<Edited, Stop> {
         let alloc = around.alloc();
         check_kind(around.rt, alloc, file).map_err(|fault| Stop::of_file(alloc, fault))?;
-        let found = Place::find(around.rt, host, alloc, file);
-        let place = if has_no_folder(&found) {
-            lost_place(around, host, file)?
+        let found = Destination::find(around.rt, host, alloc, file);
+        let destination = if has_no_folder(&found) {
+            lost_destination(around, host, file)?
         } else {
             found.map_err(|fault| Stop::of_file(alloc, fault))?
         };
-        Edited::at(around, host, place)
+        Edited::at(around, host, destination)
     }
 
-    /// Finds the sessions of FILE at a place.
-    fn at<H: Host>(around: Around<'_>, host: &mut H, place: Place) -> Result<Edited, Stop> {
-        let shelf = Shelf::find(around, host, &place)?;
-        let in_place = match around.rt.metadata(place.path.as_str()) {
-            Ok(found) => find_in_place(&place.facts, &found, &place.folder_facts),
+    /// Finds the sessions of FILE by its destination.
+    fn at<H: Host>(
+        around: Around<'_>,
+        host: &mut H,
+        destination: Destination,
+    ) -> Result<Edited, Stop> {
+        let shelf = Shelf::find(around, host, &destination)?;
+        let in_place = match around.rt.metadata(destination.path.as_str()) {
+            Ok(found) => find_in_place(&destination.facts, &found, &destination.folder_facts),
             Err(_) => None,
         };
-        let is_closed = place.is_closed(around.rt);
+        let is_closed = destination.is_closed(around.rt);
         Ok(Edited {
-            place,
+            destination,
             shelf,
             in_place,
             is_closed,
@@ -128,12 +136,12 @@ impl Edited {
 
     /// FILE as it is named.
     pub fn file(&self) -> &str {
-        self.place.file.as_str()
+        self.destination.file.as_str()
     }
 
     /// The absolute path, without links, that saves go to.
     pub fn path(&self) -> &str {
-        self.place.path.as_str()
+        self.destination.path.as_str()
     }
 
     /// Repairs FILE after saves of ended sessions that were cut off. Returns whether FILE is whole.
@@ -176,10 +184,10 @@ impl Edited {
             return Ok(());
         }
         let alloc = around.alloc();
-        let readable = self.place.check_readable(around.rt, alloc);
+        let readable = self.destination.check_readable(around.rt, alloc);
         readable.map_err(|fault| Stop::of_file(alloc, fault))?;
         let is_in_place = self.in_place.is_some();
-        let saving = self.place.check_saving(around.rt, alloc, is_in_place);
+        let saving = self.destination.check_saving(around.rt, alloc, is_in_place);
         saving.map_err(|fault| Stop::of_file(alloc, fault))
     }
 
@@ -203,7 +211,7 @@ impl Edited {
     /// Tells what is not as usual: an empty text in place of FILE's, and what killed saves left.
     pub fn tell_unusual<H: Host>(&self, around: Around<'_>, host: &mut H) -> Result<(), Stop> {
         self.tell_closed(around, host)?;
-        if let Some(line) = self.place.leftovers(around.rt, around.alloc())? {
+        if let Some(line) = self.destination.leftovers(around.rt, around.alloc())? {
             warn(host, around.alloc(), line.as_str())?;
         }
         Ok(())

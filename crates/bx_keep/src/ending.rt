@@ -5,7 +5,7 @@ use crate::fate::{Fate, Left};
 use crate::fault::Ended;
 use crate::keeping::Text;
 use crate::mode::give_mode;
-use crate::replaying::{Held, Replay, Replayer};
+use crate::replaying::{FoundText, Replay, Replayer};
 use crate::running::Running;
 use crate::saying::warn;
 use crate::stop::Stop;
@@ -260,7 +260,7 @@ impl Running<'_> {
         let _ = kept
             .session
             .put(self.around.rt, Part::Snapshot, replayed.text.as_slice());
-        replayed.held == Held::Same
+        replayed.found == FoundText::Same
     }
 
     /// Leaves a session to be recovered.
@@ -325,7 +325,7 @@ impl Running<'_> {
         let Some(file) = &self.begun.aside_of else {
             return Ok(());
         };
-        if !self.edited.place.is_there(self.around.rt) {
+        if !self.edited.destination.is_there(self.around.rt) {
             return Ok(());
         }
         let (file, beside) = (Shown(file.as_str()), Shown(self.edited.file()));

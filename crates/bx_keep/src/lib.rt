@@ -35,7 +35,7 @@ mod versions;
 pub use around::Around;
 pub use asking::{Choice, ask_choice, ask_to_go_on};
 pub use program_word::{Fault, ProgramWord, read_program_word};
-pub use replaying::{Held, Replay, ReplayFault, Replayer};
+pub use replaying::{FoundText, Replay, ReplayFault, Replayer};
 pub use serving::serve;
 pub use start::Start;
 pub use starting::{UNKEPT, title_of};

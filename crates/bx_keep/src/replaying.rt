@@ -5,7 +5,7 @@ use bx_sessions::Session;
 
 /// What FILE has, beside a session.
 #[derive(Clone, Copy, PartialEq, Eq, Debug)]
-pub enum Held {
+pub enum FoundText {
     /// The session's text.
     Same,
     /// The text as it was opened, or one that the session saved.
@@ -17,7 +17,7 @@ pub enum Held {
 /// A session's text after its keys, and what FILE has beside it.
 #[derive(Drop)]
 pub struct Replay {
-    pub held: Held,
+    pub found: FoundText,
     pub text: Vec<u8>,
 }
 

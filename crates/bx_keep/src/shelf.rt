@@ -4,7 +4,7 @@ use crate::around::Around;
 use crate::causes::{Unkept, notice_of};
 use crate::stop::Stop;
 use bx_keys::Notice;
-use bx_launch::Place;
+use bx_launch::Destination;
 use bx_sessions::{FolderFault, PlaceFault, Sessions, sessions_folder};
 use bx_wire::Host;
 use bx_words::Shown;
@@ -47,9 +47,13 @@ impl Shelf {
     /// Finds and judges the folder of sessions for a file. It is not made.
     ///
     /// Errors: `Gone`; `OutOfMemory`.
-    pub fn find<H: Host>(around: Around<'_>, host: &mut H, place: &Place) -> Result<Shelf, Stop> {
+    pub fn find<H: Host>(
+        around: Around<'_>,
+        host: &mut H,
+        destination: &Destination,
+    ) -> Result<Shelf, Stop> {
         let surroundings = around.start.surroundings();
-        let folder = &place.folder_facts;
+        let folder = &destination.folder_facts;
         let path = sessions_folder(
             around.rt,
             host,

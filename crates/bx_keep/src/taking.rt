@@ -6,7 +6,7 @@ use crate::causes::cause_of;
 use crate::checking::{Edited, mended_line};
 use crate::free_name::free_name;
 use crate::parts::keep_parts;
-use crate::replaying::{Held, Replay, ReplayFault, Replayer};
+use crate::replaying::{FoundText, Replay, ReplayFault, Replayer};
 use crate::saying::tell;
 use crate::shelf::unwritable;
 use crate::stop::Stop;
@@ -134,10 +134,10 @@ impl<P: Replayer> Taking<'_, P> {
         replayed: &Replay,
     ) -> Result<Outcome, Stop> {
         tell_cut(self.around, host, &kept.session)?;
-        if replayed.held == Held::Same {
+        if replayed.found == FoundText::Same {
             self.end_where_same(host, &kept.session)
         } else {
-            self.go_on(host, kept, replayed.held)
+            self.go_on(host, kept, replayed.found)
         }
     }
 
@@ -153,10 +153,10 @@ impl<P: Replayer> Taking<'_, P> {
     }
 
     /// The file that a session goes on with: FILE, or a new one beside it, if FILE has a foreign content.
-    fn file_of<H: Host>(&self, host: &mut H, held: Held) -> Result<Option<String>, Stop> {
+    fn file_of<H: Host>(&self, host: &mut H, found: FoundText) -> Result<Option<String>, Stop> {
         let around = self.around;
         let (alloc, file) = (around.alloc(), self.edited.file());
-        if held != Held::Foreign || around.rt.metadata(file).is_err() {
+        if found != FoundText::Foreign || around.rt.metadata(file).is_err() {
             return Ok(None);
         }
         let beside = free_name(around.rt, alloc, file, "recovered")?;
@@ -195,8 +195,8 @@ impl<P: Replayer> Taking<'_, P> {
     }
 
     /// Goes on with a session on FILE, or on a new file beside it.
-    fn go_on<H: Host>(&self, host: &mut H, kept: Kept, held: Held) -> Result<Outcome, Stop> {
-        let beside = self.file_of(host, held)?;
+    fn go_on<H: Host>(&self, host: &mut H, kept: Kept, found: FoundText) -> Result<Outcome, Stop> {
+        let beside = self.file_of(host, found)?;
         self.note(
             host,
             &kept.session,
@@ -231,8 +231,8 @@ impl<P: Replayer> Taking<'_, P> {
     /// Starts a new session from the text that a session left. All of it counts as unsaved.
     fn take_by_text<H: Host>(&self, host: &mut H, kept: Kept) -> Result<Outcome, Stop> {
         let around = self.around;
-        let held = held_beside_text(around, &kept.session, self.edited.path());
-        if held == Held::Same {
+        let found = found_beside_text(around, &kept.session, self.edited.path());
+        if found == FoundText::Same {
             return self.end_where_same(host, &kept.session);
         }
         tell(
@@ -254,7 +254,7 @@ impl<P: Replayer> Taking<'_, P> {
         };
         // what stays of the old one is asked about at another start
         let _ = kept.session.remove(around.rt);
-        self.go_on(host, renewed, held)
+        self.go_on(host, renewed, found)
     }
 
     /// Asks about a session whose keys cannot be replayed. It never keeps FILE from being opened.
@@ -315,22 +315,22 @@ fn has_bytes(around: Around<'_>, session: &Session, part: Part, bytes: &[u8]) ->
 }
 
 /// What FILE has, beside the text that a session left.
-fn held_beside_text(around: Around<'_>, session: &Session, file: &str) -> Held {
+fn found_beside_text(around: Around<'_>, session: &Session, file: &str) -> FoundText {
     let Ok(bytes) = read_plain(around.rt, file) else {
         return if around.rt.metadata(file).is_err() {
-            Held::Known
+            FoundText::Known
         } else {
-            Held::Foreign
+            FoundText::Foreign
         };
     };
     let bytes = bytes.as_slice();
     if has_bytes(around, session, Part::Snapshot, bytes) {
-        Held::Same
+        FoundText::Same
     } else if has_bytes(around, session, Part::Text, bytes)
         || has_bytes(around, session, Part::Save, bytes)
     {
-        Held::Known
+        FoundText::Known
     } else {
-        Held::Foreign
+        FoundText::Foreign
     }
 }

@@ -1,8 +1,8 @@
 //! Checks of a file before it is opened.
 
+use crate::destination::Destination;
 use crate::fault::{FileCause, FileFault};
 use crate::kind::{Kind, kind_at};
-use crate::place::Place;
 use bx_words::Shown;
 use std::alloc::{AllocError, Global};
 use std::fs;
@@ -43,15 +43,15 @@ pub fn check_kind(rt: &impl Files, alloc: Global, file: &str) -> Result<(), File
 }
 
 /// The most bytes that a name may have whose file is saved.
-fn most_bytes(place: &Place) -> u64 {
-    let longest = match place.folder_facts.longest_name {
+fn most_bytes(destination: &Destination) -> u64 {
+    let longest = match destination.folder_facts.longest_name {
         0 => USUAL_NAME,
         longest => longest,
     };
     longest.saturating_sub(DRAFT)
 }
 
-impl Place {
+impl Destination {
     /// Whether something is there that saves go to.
     pub fn is_there(&self, rt: &impl Files) -> bool {
         kind_at(rt, self.target.as_str()) != Kind::Missing

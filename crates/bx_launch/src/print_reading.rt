@@ -4,7 +4,7 @@ ghost use Rattle.std.specs.Prelude.{◌≤◌, IfOk, IfSome, length};
 ghost use Rattle.bx_launch.specs.Calls.{HasNoFile};
 
 use crate::call::{Call, CallFault, Options, PrintCall, WordFault};
-use crate::values::{columns_of, direction_of, path_of};
+use crate::values::{direction_of, path_of, width_of};
 use bx_terms::Base;
 use std::alloc::Global;
 
@@ -78,7 +78,7 @@ struct Before<'a> {
 impl<'a> Before<'a> {
     fn take_value(&mut self, option: Valued, value: &'a [u8]) -> Result<(), WordFault<'a>> {
         match option {
-            Valued::Columns => self.columns = Some(columns_of(value)?),
+            Valued::Columns => self.columns = Some(width_of(value)?),
             Valued::Direction => self.direction = direction_of(value)?,
         }
         Ok(())

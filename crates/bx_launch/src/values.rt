@@ -83,7 +83,7 @@ pub fn direction_of(value: &[u8]) -> Result<Base, WordFault<'_>> {
 /// The columns that the value of `--cols` names, from 1 to 500.
 ///
 /// Errors: `NoWidth` where it is no such number, or has more than three digits.
-pub fn columns_of(value: &[u8]) -> Result<u16, WordFault<'_>>
+pub fn width_of(value: &[u8]) -> Result<u16, WordFault<'_>>
     ensures number { IfOk result (λ n. n ≡ digits_value 10 value.now) }
     ensures side { IfOk result (λ n. is_side n ≡ true) }
 {

@@ -1,6 +1,6 @@
 -- The slots of a row of a body: its places from left to right, each with its columns.
 use Rattle.std.specs.Prelude.{◌≡◌, ℕ, zero, suc, ◌+◌, ◌-◌, ◌%◌, ◌==◌, ◌&&◌, nat_le, nat_lt, min, max, true, false}
-use Rattle.std.specs.Prelude.{Bool, List, [], ◌∷◌, ◌++◌, map, length, reverse, find, slice_index_or, sum_by, Option, Some, None, option_map, unwrap_or}
+use Rattle.std.specs.Prelude.{Bool, List, [], ◌∷◌, ◌++◌, map, length, reverse, find, slice_index_or, Option, Some, None, option_map, unwrap_or}
 use Rattle.std.specs.List.{zip}
 use Rattle.bx_cells.specs.declared.unit.Unit.{Unit}
 use Rattle.bx_rows.specs.VisualOrder.{visual}
@@ -122,7 +122,3 @@ or_else (Some p) other = Some p
 -- the offset at which a row is entered in a column: the unit that covers it, else the row's reading end
 abbrev pub entry : ℕ → BodyRow → ℕ → Option ℕ
 entry w r column = or_else (covering w r column) (reading_end w r)
-
--- the same numbers, each as often, in any order: every sum over them is the same
-abbrev pub AreReordered : List ℕ → List ℕ → Type 0
-AreReordered xs ys = (f : ℕ → ℕ) → sum_by f xs ≡ sum_by f ys

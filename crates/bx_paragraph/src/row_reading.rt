@@ -1,5 +1,5 @@
 //! The units, slots and glyphs of a row.
-ghost use Rattle.std.specs.Prelude.{◌≡◌, ◌≤◌, ◌+◌, ◌==◌, All, IfOk, length, map, sum_by, true};
+ghost use Rattle.std.specs.Prelude.{◌≡◌, ◌≤◌, ◌+◌, ◌==◌, All, IfOk, IsPermutation, length, map, sum_by, true};
 ghost use Rattle.std.specs.Cow.{cow_str_bytes};
 ghost use Rattle.bx_terms.specs.Glyphs.{is_one_glyph, run_width};
 ghost use Rattle.bx_rows.specs.RowPicture.{columns_used};
@@ -8,7 +8,7 @@ ghost use Rattle.bx_paragraph.specs.BodyRows.{offsets_of, row_glyphs};
 ghost use Rattle.bx_paragraph.specs.LentRow.{row};
 ghost use Rattle.bx_paragraph.specs.OwnGlyphs.{row_own_glyphs};
 ghost use Rattle.bx_paragraph.specs.RowParts.{row_of_parts};
-ghost use Rattle.bx_paragraph.specs.Slots.{AreReordered, row_slots};
+ghost use Rattle.bx_paragraph.specs.Slots.{row_slots};
 
 use crate::lent_row::LentRow;
 use crate::row_parts::RowParts;
@@ -63,7 +63,7 @@ impl<'a, 't, D: BidiData> LentRow<'a, 't, D> {
     /// Errors: `OutOfMemory`.
     pub fn slots(&self) -> Result<Vec<Slot>, OutOfMemory>
         ensures slots { IfOk result (λ v. v.items ≡ row_slots self.now.paragraph.now.w (row self.now)) }
-        ensures once { IfOk result (λ v. AreReordered (map (λ s. s.offset) v.items) (offsets_of (row self.now))) }
+        ensures once { IfOk result (λ v. IsPermutation (offsets_of (row self.now)) (map (λ s. s.offset) v.items)) }
     {
         let parts = self.parts()?;
         let slots = self.slots_of(&parts)?;

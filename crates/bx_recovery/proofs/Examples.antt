@@ -7,8 +7,8 @@ use Rattle.unicode_width.proofs.Computing.{unicode_width}
 use Rattle.bx_session.proofs.Computed.{start}
 use Rattle.bx_editor.proofs.Computed.{tables}
 use Rattle.bx_session.specs.Session.{Session}
-use Rattle.bx_recovery.specs.declared.replaying.Held.{Held}
-use Rattle.bx_recovery.specs.declared.replaying.Held.TheVariants.{Same, Known, Foreign}
+use Rattle.bx_recovery.specs.declared.replaying.FileText.{FileText}
+use Rattle.bx_recovery.specs.declared.replaying.FileText.TheVariants.{Same, Known, Foreign}
 use Rattle.bx_recovery.specs.Beginnings.{bytes_of, offset_of}
 use Rattle.bx_recovery.specs.Recovery.{HoldsBeside, known_texts, replayed_text}
 use Rattle.bx_recovery.proofs.Texts.{first_is_there, later_is_there}

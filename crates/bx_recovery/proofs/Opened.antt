@@ -10,9 +10,9 @@ use Rattle.bx_session.specs.Session.{Session, SessionState, at_opening}
 use Rattle.bx_session.specs.Saving.{StoreState}
 use Rattle.bx_session.specs.Painting.{QueuesPicture}
 use Rattle.bx_session.specs.Beginning.{Beginning, after_going_to, at_offset, changed_if}
-use Rattle.bx_recovery.specs.declared.replaying.Held.{Held}
+use Rattle.bx_recovery.specs.declared.replaying.FileText.{FileText}
 use Rattle.bx_recovery.specs.declared.replaying.Replayed.{Replayed}
-use Rattle.bx_recovery.specs.declared.replaying.Held.TheVariants.{Same, Known, Foreign}
+use Rattle.bx_recovery.specs.declared.replaying.FileText.TheVariants.{Same, Known, Foreign}
 use Rattle.bx_recovery.specs.Beginnings.{AreOfFiles, IsOpened, bytes_of}
 use Rattle.bx_recovery.specs.Recovery.{HoldsBeside, IsForeign, RecoversFrom, Recovers, TellsForeign}
 
@@ -69,13 +69,13 @@ recovers_of b files file d s (Ok x) store store' are opened recovers =
 
 -- ---- a foreign file
 
-tells_at : (d : Data) (b : Beginning) (file : List ℕ) (held : Held) (foreign : Bool) → HoldsBeside d (at_offset d b) b.journal file held
+tells_at : (d : Data) (b : Beginning) (file : List ℕ) (held : FileText) (foreign : Bool) → HoldsBeside d (at_offset d b) b.journal file held
     → (IsTrue foreign ↔ (held ≡ Foreign)) → IsTrue foreign ↔ IsForeign d b file
 tells_at d b file Same foreign holds is = (λ f. absurd (let e : Same ≡ Foreign = is.0 f in cc e), λ h. absurd (h.0 holds))
 tells_at d b file Known foreign holds is = (λ f. absurd (let e : Known ≡ Foreign = is.0 f in cc e), λ h. absurd (h.1 holds.1))
 tells_at d b file Foreign foreign holds is = (λ f. holds, λ h. is.1 refl)
 
-pub tells_foreign : (b : Beginning) (files : UnicodeFiles) (file : List ℕ) (d : Data) (s : Session) (held : Held) (foreign : Bool)
+pub tells_foreign : (b : Beginning) (files : UnicodeFiles) (file : List ℕ) (d : Data) (s : Session) (held : FileText) (foreign : Bool)
     → AreOfFiles d files → IsOpened d b s → HoldsBeside d s b.journal file held → (IsTrue foreign ↔ (held ≡ Foreign))
     → TellsForeign b files file foreign
 tells_foreign b files file d s held foreign are opened holds is = record {

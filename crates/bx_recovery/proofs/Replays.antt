@@ -9,8 +9,8 @@ use Rattle.bx_ucd.specs.Data.{Data}
 use Rattle.bx_session.specs.Session.{Session, SessionState, after_journal, after_replay, after_replaying, key_of_byte}
 use Rattle.bx_session.specs.Saving.{is_save_byte}
 use Rattle.bx_session.proofs.Replayed.{applies, replayed_more}
-use Rattle.bx_recovery.specs.declared.replaying.Held.{Held}
-use Rattle.bx_recovery.specs.declared.replaying.Held.TheVariants.{Same, Known, Foreign}
+use Rattle.bx_recovery.specs.declared.replaying.FileText.{FileText}
+use Rattle.bx_recovery.specs.declared.replaying.FileText.TheVariants.{Same, Known, Foreign}
 use Rattle.bx_recovery.specs.Recovery.{HoldsBeside, known_texts, replayed_text, texts_at_saves, with_text_if}
 use Rattle.bx_recovery.proofs.Texts.{no_text_is_there, first_or_later, first_is_there, later_is_there, saved_or_later, saved_is_there, passed_is_there}
 
@@ -98,7 +98,7 @@ differs : (d : Data) (s new : Session) (journal file : List ℕ) (same : Bool) �
 differs d s new journal file same is tells no_same =
     λ e. absurd (let h : IsTrue same = tells.1 (ap (λ (x : Session). x.editor.content.text) is ∙ sym e) in cc (no_same, h))
 
-pub holds_beside : (d : Data) (s new : Session) (journal file : List ℕ) (same known : Bool) (held : Held) → new ≡ after_journal d s journal
+pub holds_beside : (d : Data) (s new : Session) (journal file : List ℕ) (same known : Bool) (held : FileText) → new ≡ after_journal d s journal
     → (IsTrue same ↔ (new.editor.content.text ≡ file)) → ((IsTrue known ⊎ Contains [] file) ↔ Contains (known_texts d s journal) file)
     → (IsTrue same → held ≡ Same) → (IsFalse same → IsTrue known → held ≡ Known) → (IsFalse same → IsFalse known → held ≡ Foreign)
     → HoldsBeside d s journal file held

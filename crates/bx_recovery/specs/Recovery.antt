@@ -6,8 +6,8 @@ use Rattle.bx_words.specs.declared.unicode.UnicodeFiles.{UnicodeFiles}
 use Rattle.bx_session.specs.Session.{Session, after_journal, after_replay}
 use Rattle.bx_session.specs.Saving.{StoreState, is_save_byte, with_text}
 use Rattle.bx_session.specs.Beginning.{Beginning, at_offset, unpainted_at}
-use Rattle.bx_recovery.specs.declared.replaying.Held.{Held}
-use Rattle.bx_recovery.specs.declared.replaying.Held.TheVariants.{Same, Known, Foreign}
+use Rattle.bx_recovery.specs.declared.replaying.FileText.{FileText}
+use Rattle.bx_recovery.specs.declared.replaying.FileText.TheVariants.{Same, Known, Foreign}
 use Rattle.bx_recovery.specs.declared.replaying.Replayed.{Replayed}
 use Rattle.bx_recovery.specs.Beginnings.{AreOfFiles}
 
@@ -29,7 +29,7 @@ abbrev pub replayed_text : Data → Session → List ℕ → List ℕ
 replayed_text d s journal = (after_journal d s journal).editor.content.text
 
 -- what a file of these bytes holds beside a session that replays a journal
-abbrev pub HoldsBeside : Data → Session → List ℕ → List ℕ → Held → Type 0
+abbrev pub HoldsBeside : Data → Session → List ℕ → List ℕ → FileText → Type 0
 HoldsBeside d s journal file Same = file ≡ replayed_text d s journal
 HoldsBeside d s journal file Known = (file ≢ replayed_text d s journal) × Contains (known_texts d s journal) file
 HoldsBeside d s journal file Foreign = (file ≢ replayed_text d s journal) × ¬ Contains (known_texts d s journal) file

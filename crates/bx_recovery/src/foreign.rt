@@ -7,13 +7,13 @@ ghost use Rattle.bx_recovery.specs.Recovery.{TellsForeign};
 use crate::beginning::Beginning;
 use crate::fault::RecoveryFault;
 use crate::opening::open;
-use crate::replaying::{Held, replay_beside};
+use crate::replaying::{FileText, replay_beside};
 
 /// Whether it is another text that the file holds.
-fn is_other(held: Held) -> bool
-    ensures { IsTrue result ↔ (held ≡ Held.Foreign) }
+fn is_other(held: FileText) -> bool
+    ensures { IsTrue result ↔ (held ≡ FileText.Foreign) }
 {
-    matches!(held, Held::Foreign)
+    matches!(held, FileText::Foreign)
 }
 
 /// Whether a file's bytes differ from the opened text, from the text after the keys, and from the text at each Save among them.

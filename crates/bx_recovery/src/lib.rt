@@ -13,4 +13,4 @@ pub use fault::RecoveryFault;
 pub use foreign::is_foreign;
 pub use opening::open;
 pub use recovering::recover;
-pub use replaying::{Held, Replayed, replay, replay_beside};
+pub use replaying::{FileText, Replayed, replay, replay_beside};

@@ -17,7 +17,7 @@ use std::fmt;
 
 /// A file's content, compared with a session replayed over an earlier content of it.
 #[derive(Clone, Copy, PartialEq, Eq, Debug)]
-pub enum Held {
+pub enum FileText {
     /// The replayed text.
     Same,
     /// The opened text, or the text at a Save in the journal.
@@ -29,7 +29,7 @@ pub enum Held {
 /// The result of a replay: the file's content, and the number of keys in the journal.
 #[derive(Clone, Copy, PartialEq, Eq, Debug)]
 pub struct Replayed {
-    pub held: Held,
+    pub held: FileText,
     pub keys: u64,
 }
 
@@ -37,9 +37,9 @@ impl fmt::Display for Replayed {
     fn fmt<W: fmt::Write>(&self, f: &mut fmt::Formatter<W>) -> fmt::Result {
         let keys = self.keys;
         match self.held {
-            Held::Same => write!(f, "same {keys}"),
-            Held::Known => write!(f, "known {keys}"),
-            Held::Foreign => write!(f, "foreign {keys}"),
+            FileText::Same => write!(f, "same {keys}"),
+            FileText::Known => write!(f, "known {keys}"),
+            FileText::Foreign => write!(f, "foreign {keys}"),
         }
     }
 }
@@ -96,17 +96,17 @@ fn met_with<D: BidiData + Drop>(met: Met, session: &Session<D>, byte: u8, file: 
 }
 
 /// What a file holds, by whether it is the replayed text, and whether it is a text that the session knows.
-fn held_by(is_same: bool, is_known: bool) -> Held
-    ensures same { IsTrue is_same → result ≡ Held.Same }
-    ensures known { IsFalse is_same → IsTrue is_known → result ≡ Held.Known }
-    ensures foreign { IsFalse is_same → IsFalse is_known → result ≡ Held.Foreign }
+fn held_by(is_same: bool, is_known: bool) -> FileText
+    ensures same { IsTrue is_same → result ≡ FileText.Same }
+    ensures known { IsFalse is_same → IsTrue is_known → result ≡ FileText.Known }
+    ensures foreign { IsFalse is_same → IsFalse is_known → result ≡ FileText.Foreign }
 {
     if is_same {
-        Held::Same
+        FileText::Same
     } else if is_known {
-        Held::Known
+        FileText::Known
     } else {
-        Held::Foreign
+        FileText::Foreign
     }
 }
 

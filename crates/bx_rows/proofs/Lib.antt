@@ -47,3 +47,4 @@ pub mod Permutes
 pub mod Joined
 pub mod RowEnds
 pub mod RowsLeft
+pub mod RunColumns

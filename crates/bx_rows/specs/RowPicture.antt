@@ -35,23 +35,30 @@ letter_glyphs text = map (λ b. glyph (b ∷ []) 1 false) text
 abbrev pub text_glyphs : ℕ → List ℕ → List Glyph
 text_glyphs n text = elim (are_ascii_printable text) [ true ↦ letter_glyphs text | false ↦ glyph text n false ∷ [] ]
 
--- a text with its characters mirrored; characters without a mirror stay
+-- the mirrors of characters; characters without a mirror stay
+abbrev pub mirrors_of : Data → List ℕ → List ℕ
+mirrors_of says cs = map (λ c. unwrap_or (says.mirror c) c) cs
+
+-- a text with its characters mirrored
 abbrev pub mirror_image : Data → List ℕ → List ℕ
-mirror_image says text = encode_utf8_all (map (λ c. unwrap_or (says.mirror c) c) (chars text))
+mirror_image says text = encode_utf8_all (mirrors_of says (chars text))
 
 -- the face shows its own text in n columns
 abbrev pub is_own : ℕ → Face → Bool
 is_own n (Own m) = m == n
 is_own n _ = false
 
--- the mirrored text if it is shown as itself in `n` columns, else the text
-abbrev pub mirror_image_within : Data → ℕ → ℕ → List ℕ → List ℕ
-mirror_image_within says w n text = let other = mirror_image says text in elim (is_own n (face says w other)) [ true ↦ other | false ↦ text ]
+-- the characters' mirrors are shown as themselves in `n` columns
+abbrev pub mirrors_fit : Data → ℕ → ℕ → List ℕ → Bool
+mirrors_fit says w n cs = is_own n (face says w (encode_utf8_all (mirrors_of says cs)))
 
--- the same of a text's characters
+-- characters, mirrored if their mirrors fit in `n` columns
 abbrev pub mirrored_chars : Data → ℕ → ℕ → List ℕ → List ℕ
-mirrored_chars says w n cs =
-    let others = map (λ c. unwrap_or (says.mirror c) c) cs in elim (is_own n (face says w (encode_utf8_all others))) [ true ↦ others | false ↦ cs ]
+mirrored_chars says w n cs = elim (mirrors_fit says w n cs) [ true ↦ mirrors_of says cs | false ↦ cs ]
+
+-- a text, mirrored if the mirrors of its characters fit
+abbrev pub mirror_image_within : Data → ℕ → ℕ → List ℕ → List ℕ
+mirror_image_within says w n text = elim (mirrors_fit says w n (chars text)) [ true ↦ mirror_image says text | false ↦ text ]
 
 -- the mirrored text in the forms of the text's letters if it is shown as itself in `n` columns, else without
 abbrev pub joined_image_within : Data → ℕ → ℕ → List Form → List ℕ → List ℕ

@@ -1,9 +1,15 @@
 pub mod Characters
 pub mod Bytes
+pub mod Merged
+pub mod MergedSteps
 pub mod Versions
 pub mod Pushed
 pub mod Replaced
+pub mod ReplacedTwice
 pub mod Held
 pub mod Turned
+pub mod TurnedTimes
+pub mod UndoneTimes
 pub mod Examples
 pub mod Lent
+pub mod OneStep

@@ -1,4 +1,6 @@
 pub mod Edits
+pub mod Times
+pub mod Replacements
 pub mod Buffers
 pub mod Steps
 pub mod Text

@@ -1,11 +1,16 @@
 -- The past and the future of a text, as the program stores them: a step of the past has the pieces from before an edit, a step
 -- of the future those from after it. So each version of the text follows from the present text.
-use Rattle.std.specs.Prelude.{◌^◌, ◌<◌, ◌++◌, ◌≡◌, ℕ, ◌+◌, ◌≤◌, List, [], ◌∷◌, length}
+use Rattle.std.specs.Prelude.{◌^◌, ◌<◌, ◌++◌, ◌≡◌, ℕ, ◌+◌, ◌≤◌, List, [], ◌∷◌, length, reverse}
+use Rattle.std.specs.Str.{IsUtf8}
 use Rattle.bx_pieces.specs.declared.piece.Piece.{Piece}
 use Rattle.bx_pieces.specs.Pieces.{total, front, back}
+use Rattle.bx_text.specs.declared.change.Change.{Change}
 use Rattle.bx_text.specs.declared.step.Step.{Step}
+use Rattle.bx_text.specs.declared.step.Way.{Way}
+use Rattle.bx_text.specs.declared.step.Way.TheVariants.{Back, Again}
 use Rattle.bx_text.specs.Buffers.{Buffers, bytes_of, AreInBuffers}
-use Rattle.bx_text.specs.Edits.{Edit, IsRange, splice, largest_text}
+use Rattle.bx_text.specs.Edits.{Edit, Edited, IsRange, splice, largest_text}
+use Rattle.bx_text.specs.Times.{redone_times, undone_times}
 
 -- the text with the step's bytes replaced by its pieces
 abbrev pub after_swap : Buffers → List ℕ → Step → List ℕ
@@ -56,3 +61,65 @@ turned_step ps s = record { start = s.start; span = front (back ps s.start) s.le
 abbrev pub Turns : List Piece → List Step → List Step → List Piece → List Step → List Step → Type 0
 Turns ps from to ps' from' to' =
     (s : Step) × (from ≡ from' ++ s ∷ []) × (ps' ≡ turned_pieces ps s) × (to' ≡ to ++ turned_step ps s ∷ [])
+
+-- the change that a step makes
+abbrev pub place_of : Way → Step → ℕ
+place_of Back s = s.before
+place_of Again s = s.after
+
+abbrev pub step_change : Way → Step → Change
+step_change way s = record { start = s.start; removed = s.len; added = total s.span; place = place_of way s }
+
+-- the steps, the last first, apply to the text one after another
+pub record Apply (steps : List Step) : Type 0 where
+  pub buffers : Buffers
+  pub text : List ℕ
+  pub utf8 : IsUtf8 text
+  pub short : length text ≤ largest_text
+  pub applied : AreSteps buffers text (reverse steps)
+
+-- ---- many turns
+
+-- the pieces of a text, its steps that are turned, and those that take the inverses, the next last in both
+pub record Turning : Type 0 where
+  pub pieces : List Piece
+  pub from : List Step
+  pub to : List Step
+
+-- the text, where the steps of its past are turned, and where those of its future are
+abbrev pub in_undo : Buffers → Turning → Edited
+in_undo b t = record {
+  text = bytes_of b t.pieces;
+  past = past_of b (bytes_of b t.pieces) (reverse t.from);
+  future = future_of b (bytes_of b t.pieces) (reverse t.to);
+}
+
+abbrev pub in_redo : Buffers → Turning → Edited
+in_redo b t = record {
+  text = bytes_of b t.pieces;
+  past = past_of b (bytes_of b t.pieces) (reverse t.to);
+  future = future_of b (bytes_of b t.pieces) (reverse t.from);
+}
+
+pub record IsTurning (b : Buffers) (t : Turning) : Type 0 where
+  pub in_buffers : AreInBuffers b t.pieces
+  pub short : length (bytes_of b t.pieces) ≤ largest_text
+  pub from_steps : AreSteps b (bytes_of b t.pieces) (reverse t.from)
+  pub to_steps : AreSteps b (bytes_of b t.pieces) (reverse t.to)
+
+-- all its steps can be turned
+pub record CanTurn (t : Turning) : Type 0 where
+  pub buffers : Buffers
+  pub opened_in_memory : length buffers.opened < 2 ^ 64
+  pub added_in_memory : length buffers.added < 2 ^ 64
+  pub turning : IsTurning buffers t
+
+-- n steps were turned, which undoes n edits, or redoes them
+pub record HasTurned (b : Buffers) (n : ℕ) (old new : Turning) : Type 0 where
+  pub sound : IsTurning b new
+  pub undone : in_undo b new ≡ undone_times n (in_undo b old)
+  pub redone : in_redo b new ≡ redone_times n (in_redo b old)
+  pub left : length new.from + n ≡ length old.from
+
+abbrev pub HaveTurned : ℕ → Turning → Turning → Type 0
+HaveTurned n old new = (b : Buffers) → IsTurning b old → HasTurned b n old new

@@ -6,10 +6,13 @@
 mod buffers;
 mod change;
 mod error;
+mod pairs;
 mod slices;
 mod step;
 mod swap;
 mod text;
+mod times;
+mod turns;
 
 pub use change::Change;
 pub use error::TextError;

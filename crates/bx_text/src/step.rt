@@ -1,6 +1,17 @@
 //! An edit to undo or redo.
 
+ghost use Rattle.std.specs.Prelude.{◌≡◌};
+ghost use Rattle.bx_text.specs.Steps.{step_change};
+
+use crate::change::Change;
 use bx_pieces::Pieces;
+
+/// Where a step leads: back to the text before an edit, or again to the text after it.
+#[derive(Clone, Copy, PartialEq, Eq, Debug)]
+pub enum Way {
+    Back,
+    Again,
+}
 
 /// An edit to undo or redo: its position and its replacement.
 #[derive(Drop)]
@@ -15,4 +26,22 @@ pub struct Step {
     pub before: usize,
     /// The place after the edit.
     pub after: usize,
+}
+
+impl Step {
+    /// The change that the step makes. Allocates nothing.
+    pub fn change(&self, way: Way) -> Change
+        ensures { result ≡ step_change way self.now }
+    {
+        let place = match way {
+            Way::Back => self.before,
+            Way::Again => self.after,
+        };
+        Change {
+            start: self.start,
+            removed: self.len,
+            added: self.span.len(),
+            place,
+        }
+    }
 }

@@ -5,7 +5,6 @@ ghost use Rattle.bx_text.specs.Buffers.{with_added};
 ghost use Rattle.bx_text.specs.Steps.{IsShort, Turns};
 ghost use Rattle.bx_pieces.specs.Pieces.{total, front, back, IsAddressable};
 
-use crate::error::TextError;
 use crate::step::Step;
 use bx_pieces::{Buffer, Piece, Pieces, Spares};
 use std::mem;
@@ -37,7 +36,9 @@ fn add(pieces: &mut Pieces, added: &mut String, text: &str, spares: &mut Spares)
     requires spare { 1 ≤ spares.old }
     requires small { total pieces.old + length text.now < 2 ^ 64 }
     ensures buffer { string_bytes added.new ≡ string_bytes added.old ++ text.now }
+    ensures capacity { string_capacity added.old ≤ string_capacity added.new }
     ensures pieces { pieces.new ≡ with_added pieces.old (string_len added.old) (length text.now) }
+    ensures spares { spares.old ≤ spares.new + 1 }
 {
     let start = added.len();
     added.push_str(text).unwrap();
@@ -63,8 +64,10 @@ pub fn put(
     requires fits { IsAddressable pieces.old }
     requires small { total pieces.old + length text.now < 2 ^ 64 }
     ensures buffer { string_bytes added.new ≡ string_bytes added.old ++ text.now }
+    ensures capacity { string_capacity added.old ≤ string_capacity added.new }
     ensures pieces { pieces.new ≡ with_added (front pieces.old start) (string_len added.old) (length text.now) ++ back (back pieces.old start) len }
     ensures span { result ≡ front (back pieces.old start) len }
+    ensures spares { spares.old ≤ spares.new + 3 }
 {
     let (mut first, rest) = mem::replace(pieces, Pieces::new()).cut(start, spares);
     let (old, last) = rest.cut(len, spares);
@@ -73,27 +76,18 @@ pub fn put(
     old
 }
 
-/// Applies the last step of `from`, and pushes its inverse to `to`. If memory runs out, both and the pieces
-/// are unchanged.
-pub fn turn(
-    pieces: &mut Pieces,
-    from: &mut Vec<Step>,
-    to: &mut Vec<Step>,
-    spares: &mut Spares,
-) -> Result<(), TextError>
+/// Applies the last step of `from`, and pushes its inverse to `to`, in room made before. Allocates nothing.
+pub fn turn(pieces: &mut Pieces, from: &mut Vec<Step>, to: &mut Vec<Step>, spares: &mut Spares)
     requires some { 0 < length from.old.items }
     requires fits { IsAddressable pieces.old }
     requires small { IsShort pieces.old from.old.items }
-    ensures ok { OnOk result (Turns pieces.old from.old.items to.old.items pieces.new from.new.items to.new.items) }
-    ensures pieces { OnErr result (pieces.new ≡ pieces.old) }
-    ensures from { OnErr result (from.new ≡ from.old) }
-    ensures to { OnErr result (to.new.items ≡ to.old.items) }
-    ensures to_room { OnErr result ((vec_len to.new ≡ vec_len to.old) × (vec_capacity to.old ≤ vec_capacity to.new)) }
-    ensures spares { OnErr result (spares.old ≤ spares.new) }
-    ensures memory { OnErr result (result ≡ Err TextError.OutOfMemory) }
+    requires spare { 2 ≤ spares.old }
+    requires room { vec_len to.old + 1 ≤ vec_capacity to.old }
+    ensures turned { Turns pieces.old from.old.items to.old.items pieces.new from.new.items to.new.items }
+    ensures spares { spares.old ≤ spares.new + 2 }
+    ensures one_more { vec_len to.new ≡ vec_len to.old + 1 }
+    ensures capacity { vec_capacity to.old ≤ vec_capacity to.new }
 {
-    spares.fill(2)?;
-    to.reserve(1)?;
     let step = from.pop().unwrap();
     let added = step.span.len();
     let span = swap(pieces, step.start, step.len, step.span, spares);
@@ -105,5 +99,4 @@ pub fn turn(
         after: step.after,
     };
     to.push(back).unwrap();
-    Ok(())
 }

@@ -14,7 +14,7 @@ use crate::change::Change;
 use crate::error::TextError;
 use crate::slices::Slices;
 use crate::step::Step;
-use crate::swap::{put, turn};
+use crate::swap::put;
 use bx_pieces::{Buffer, Piece, Pieces, Spares};
 use bx_terms::LARGEST_TEXT;
 use std::alloc::{AllocError, Global};
@@ -24,16 +24,16 @@ use std::marker::Model;
 #[derive(Drop)]
 pub struct Text {
     // the text as opened, which never changes
-    opened: String,
+    pub(crate) opened: String,
     // all text inserted since
-    added: String,
-    pieces: Pieces,
+    pub(crate) added: String,
+    pub(crate) pieces: Pieces,
     // the latest last
-    past: Vec<Step>,
+    pub(crate) past: Vec<Step>,
     // the next last
-    future: Vec<Step>,
-    spares: Spares,
-    room: Option<usize>,
+    pub(crate) future: Vec<Step>,
+    pub(crate) spares: Spares,
+    pub(crate) room: Option<usize>,
 }
 
 impl Model for Text {
@@ -91,29 +91,19 @@ impl Text {
     }
 
     /// The change that `undo` would make next; none if the past is empty.
+    #[tactic(auto, using(crate::proofs::OneStep::undo_one))]
     pub fn next_undo(&self) -> Option<Change>
         ensures { result ≡ next_undo self.now.edited }
     {
-        let step = self.past.last()?;
-        Some(Change {
-            start: step.start,
-            removed: step.len,
-            added: step.span.len(),
-            place: step.before,
-        })
+        self.next_undos(1)
     }
 
     /// The change that `redo` would make next; none if the future is empty.
+    #[tactic(auto, using(crate::proofs::OneStep::redo_one))]
     pub fn next_redo(&self) -> Option<Change>
         ensures { result ≡ next_redo self.now.edited }
     {
-        let step = self.future.last()?;
-        Some(Change {
-            start: step.start,
-            removed: step.len,
-            added: step.span.len(),
-            place: step.after,
-        })
+        self.next_redos(1)
     }
 
     /// Reserves memory for an edit that inserts `bytes` bytes. The text is unchanged.
@@ -216,7 +206,7 @@ impl Text {
     }
 
     /// Whether two offsets are character boundaries, in order.
-    fn is_range(&self, start: usize, stop: usize) -> bool
+    pub(crate) fn is_range(&self, start: usize, stop: usize) -> bool
         ensures range { IsTrue result ↔ IsRange self.now.edited.text start stop }
         ensures short { length self.now.edited.text ≤ largest_text }
     {
@@ -346,6 +336,7 @@ impl Text {
     /// Undoes the latest edit; none if the past is empty.
     ///
     /// Errors: `OutOfMemory`, leaving all unchanged.
+    #[tactic(auto, using(crate::proofs::OneStep::undo_one))]
     pub fn undo(&mut self) -> Result<Option<Change>, TextError>
         ensures ok { OnOk result (self.new.edited ≡ undone self.old.edited) }
         ensures change { IfOk result (λ c. c ≡ next_undo self.old.edited) }
@@ -353,23 +344,13 @@ impl Text {
         ensures nothing { next_undo self.old.edited ≡ None → IsOk result }
         ensures err { OnErr result ((self.new ≡ self.old) × (result ≡ Err TextError.OutOfMemory)) }
     {
-        let change = self.next_undo();
-        if change.is_none() {
-            return Ok(change);
-        }
-        turn(
-            &mut self.pieces,
-            &mut self.past,
-            &mut self.future,
-            &mut self.spares,
-        )?;
-        self.room = None;
-        Ok(change)
+        self.undo_times(1)
     }
 
     /// Redoes the next edit; none if the future is empty.
     ///
     /// Errors: `OutOfMemory`, leaving all unchanged.
+    #[tactic(auto, using(crate::proofs::OneStep::redo_one))]
     pub fn redo(&mut self) -> Result<Option<Change>, TextError>
         ensures ok { OnOk result (self.new.edited ≡ redone self.old.edited) }
         ensures change { IfOk result (λ c. c ≡ next_redo self.old.edited) }
@@ -377,17 +358,6 @@ impl Text {
         ensures nothing { next_redo self.old.edited ≡ None → IsOk result }
         ensures err { OnErr result ((self.new ≡ self.old) × (result ≡ Err TextError.OutOfMemory)) }
     {
-        let change = self.next_redo();
-        if change.is_none() {
-            return Ok(change);
-        }
-        turn(
-            &mut self.pieces,
-            &mut self.future,
-            &mut self.past,
-            &mut self.spares,
-        )?;
-        self.room = None;
-        Ok(change)
+        self.redo_times(1)
     }
 }

@@ -2,7 +2,6 @@
 use Rattle.std.proofs.Common.{◌≡◌, ℕ, ◌+◌, ◌-◌, ◌<◌, ◌≤◌, ◌==◌, ◌||◌, nat_lt, zero, suc, ◌⊎◌, inl, inr, true, List, [], ◌∷◌, ◌++◌, map, length, take}
 use Rattle.std.proofs.Common.{drop, chars, encode_utf8_all, IsUtf8, IsCharBoundary, refl, sym, ap, subst, ◌∙◌, arith, append_assoc, length-append, length-drop, get_or, slice_range}
 use Rattle.std.specs.List.{splice as list_splice}
-use Rattle.std.specs.Prelude.{All}
 use Rattle.std.proofs.lemmas.Bool.Decides.{nat_tests}
 use Rattle.std.proofs.lemmas.List.{append_cancel_right, drop-append-le, drop-drop, drop_at, length-take-le, take-append-drop, take-append-le}
 use Rattle.std.proofs.lemmas.Str.{chars-append, chars-encodes, encodes-append, encodes-chars, scalars-chars, IsUtf8-append, IsUtf8-drop, IsUtf8-take}
@@ -21,7 +20,7 @@ use Rattle.bx_paras.proofs.Cuts.{parts}
 use Rattle.bx_paragraph.specs.BodyRows.{body_rows}
 use Rattle.bx_paragraph.specs.Layout.{LayoutState, rows_by}
 use Rattle.bx_view.specs.BodyPlaces.{body_places, place_in_body}
-use Rattle.bx_view.specs.Holding.{HoldsBody, IsHeld, ViewState}
+use Rattle.bx_view.specs.Holding.{AreHeld, HoldsBody, IsHeld, ViewState}
 use Rattle.bx_view.specs.Moves.{place_from}
 use Rattle.bx_view.specs.Standing.{body_at, count, start_at}
 use Rattle.bx_view.specs.TextRows.{places, rows_from, text_rows}
@@ -233,10 +232,10 @@ inner_of (suc n) start e = let less : suc n < start = grind (arith, nat_tests) i
 
 -- the held paragraph at an index
 pub held_at : (says : Data) (base : Base) (left : List ℕ) (w : ℕ) (held : List LayoutState) (i : ℕ)
-    (l : LayoutState) → All (IsHeld says base) held → HoldsBody left w held i → l ≡ get_or held i l
+    (l : LayoutState) → AreHeld says base held → HoldsBody left w held i → l ≡ get_or held i l
     → IsHeld says base l × (l.w ≡ w) × (l.body ≡ left)
 held_at says base left w held i l all h e = (
-  subst (IsHeld says base) (sym e) (all i l h.within),
+  subst (IsHeld says base) (sym e) (all.laid_out i l h.within),
   ap (λ (x : LayoutState). x.w) e ∙ h.w_is l,
   ap (λ (x : LayoutState). x.body) e ∙ h.body_is l,
 )

@@ -11,12 +11,12 @@ use Rattle.bx_paragraph.specs.declared.moves.Visual.TheVariants.{Left, Right}
 use Rattle.bx_paragraph.specs.BodyRows.{offsets_of}
 use Rattle.bx_paragraph.specs.Slots.{covering, entry, first_in, opposite, or_else, reading_end}
 use Rattle.bx_paragraph.specs.Slots.{reading_side, row_slots, slot_offsets, toward}
-use Rattle.bx_paragraph.proofs.OnceEach.{once-each}
+use Rattle.bx_paragraph.proofs.OnceEach.{once-contains, once-summed}
 use Rattle.bx_view.specs.Cells.{IsEntered, times}
 use Rattle.bx_view.specs.Moves.{place_in}
 use Rattle.bx_view.specs.TextRows.{TextRow, no_text_row, places_of, row_at, text_rows}
 use Rattle.bx_view.proofs.FindPlaces.{head-some, heads-at}
-use Rattle.bx_view.proofs.KeptPlaces.{HasLevels, contains-counted, contains-moved, counted-contains, one-at, reordered-contains, rows-leveled, within-of}
+use Rattle.bx_view.proofs.KeptPlaces.{HasLevels, contains-counted, contains-moved, counted-contains, one-at, rows-leveled, within-of}
 use Rattle.bx_view.proofs.PlacesRise.{rows-headed-in}
 use Rattle.bx_view.proofs.Within.{Lies, Within, covering-lies, within-reverse}
 
@@ -49,7 +49,7 @@ entered-at w r levels some column =
     let os = slot_offsets w r.row in
     let slots : Within P os =
     within-of P os
-    (λ o c. contains-moved r.start (offsets_of r.row) o (reordered-contains os (offsets_of r.row) o (once-each w r.row levels) c)) in
+    (λ o c. contains-moved r.start (offsets_of r.row) o (once-contains w r.row levels o c)) in
     let side = opposite (reading_side r.row.paragraph) in
     in-row-is (Contains (places_of r)) r (entry w r.row column)
     (either-is P (covering w r.row column) (reading_end w r.row) (covering-lies P column (row_slots w r.row) slots) (toward-is P side os some slots))
@@ -60,7 +60,7 @@ some-slot w r levels some =
     let o = get_or (offsets_of r.row) 0 0 in
     let there : Contains (offsets_of r.row) o = Contains-get_or (offsets_of r.row) 0 0 some in
     let counted : 0 < times o (slot_offsets w r.row) =
-    omega (arith, counted-contains (offsets_of r.row) o there, once-each w r.row levels (one-at o)) in
+    omega (arith, counted-contains (offsets_of r.row) o there, once-summed w r.row levels (one-at o)) in
     some-of (slot_offsets w r.row) o (contains-counted (slot_offsets w r.row) o counted)
 
 module _ (says : Data) (base : Base) (w : ℕ) (some : 1 ≤ w) (text : List ℕ) (utf8 : IsUtf8 text) where

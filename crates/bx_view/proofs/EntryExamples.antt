@@ -68,7 +68,7 @@ down_to_the_letter : RowsGoOn 6 lines → vertical 6 lines Down 0 ≡ 4
 down_to_the_letter law =
     let row : row_of lines 0 ≡ 0 = ap (λ ns. get_or ns 0 0) first_line in
     let column : cell_of 6 lines 0 ≡ 1 = ap (λ ns. get_or ns 0 0) columns_above in
-    let entry = law.enters Down 1 0 1 (omega (arith, row, two_lines)) (λ e. omega (arith, e, row)) in
+    let entry = law.enters Down 1 (cell_of 6 lines 0) 0 1 (law.own 0).0 (law.own 0).1 (omega (arith, row, two_lines)) (λ e. omega (arith, e, row)) in
     let by = subst (λ ss. Covers ss 1 entry.slot ⊎ IsNearest ss 1 entry.slot) slots_below
     (subst (λ c. Covers (row_slots 6 (row_at lines 1).row) c entry.slot ⊎ IsNearest (row_slots 6 (row_at lines 1).row) c entry.slot) column entry.enters) in
     omega (arith, sym entry.place_is, starts_below, to_the_letter entry.slot by)
@@ -78,7 +78,7 @@ down_to_the_end : RowsGoOn 6 lines → vertical 6 lines Down 2 ≡ 5
 down_to_the_end law =
     let row : row_of lines 2 ≡ 0 = ap (λ ns. get_or ns 1 0) first_line in
     let column : cell_of 6 lines 2 ≡ 3 = ap (λ ns. get_or ns 1 0) columns_above in
-    let entry = law.enters Down 1 2 1 (omega (arith, row, two_lines)) (λ e. omega (arith, e, row)) in
+    let entry = law.enters Down 1 (cell_of 6 lines 2) 2 1 (law.own 2).0 (law.own 2).1 (omega (arith, row, two_lines)) (λ e. omega (arith, e, row)) in
     let by = subst (λ ss. Covers ss 3 entry.slot ⊎ IsNearest ss 3 entry.slot) slots_below
     (subst (λ c. Covers (row_slots 6 (row_at lines 1).row) c entry.slot ⊎ IsNearest (row_slots 6 (row_at lines 1).row) c entry.slot) column entry.enters) in
     let is = subst (λ ss. Contains ss entry.slot) slots_below entry.is_slot in

@@ -5,8 +5,10 @@ use Rattle.unicode_segmentation.proofs.Computing.{unicode_segmentation}
 use Rattle.unicode_width.proofs.Computing.{unicode_width}
 use Rattle.bx_terms.specs.declared.base.Base.TheVariants.{Ltr, Rtl}
 use Rattle.bx_paragraph.specs.declared.moves.Visual.TheVariants.{Left, Right}
+use Rattle.bx_paragraph.specs.declared.slot.Slot.{Slot}
 use Rattle.bx_view.specs.declared.moves.Logical.TheVariants.{Back, Forward}
 use Rattle.bx_view.specs.declared.moves.Vertical.TheVariants.{Up, Down}
+use Rattle.bx_view.specs.TextParts.{slots_in}
 use Rattle.bx_view.specs.TextRows.{TextRow, cell_of, places, row_of, slots}
 use Rattle.bx_view.specs.Moves.{page, place_at, place_from, row_end, row_home, step_logical, step_visual, vertical}
 use Rattle.bx_view.specs.Top.{follow}
@@ -90,6 +92,19 @@ left_through_mixed = refl
 mixed_slots : map (slots 5) mixed ≡ (0 ∷ 1 ∷ 4 ∷ 2 ∷ 6 ∷ []) ∷ (7 ∷ 9 ∷ []) ∷ []
 unfolding unicode_segmentation unicode_width
 mixed_slots = refl
+
+abbrev offset_and_column : Slot → ℕ × ℕ
+offset_and_column s = (s.offset, s.column)
+
+-- offset and column of the slots in the part from one offset up to another: B and the blank behind it, then G, and no slot of the end
+slots_in_part : map (λ r. map offset_and_column (slots_in 5 (4, 99) r)) mixed ≡ ((4, 3) ∷ (6, 5) ∷ []) ∷ ((7, 1) ∷ []) ∷ []
+unfolding unicode_segmentation unicode_width
+slots_in_part = refl
+
+-- neighbours in the text, apart on the screen
+slots_apart : map (λ r. map offset_and_column (slots_in 5 (1, 4) r)) mixed ≡ ((1, 2) ∷ (2, 4) ∷ []) ∷ [] ∷ []
+unfolding unicode_segmentation unicode_width
+slots_apart = refl
 
 -- each place has one slot in all rows together
 one_slot_each : has_one_slot_each 5 mixed ∷ has_one_slot_each 6 two_directions ∷ has_one_slot_each 5 with_crlf ∷ [] ≡ true ∷ true ∷ true ∷ []

@@ -31,7 +31,7 @@ use Rattle.bx_paras.specs.Positions.{bytes_of}
 use Rattle.bx_paragraph.specs.declared.slot.Slot.{Slot}
 use Rattle.bx_paragraph.specs.BodyRows.{BodyRow, body_rows, offsets_of, row_with, rows_units, with_last}
 use Rattle.bx_paragraph.specs.Slots.{column_in, column_of, end_slot, extent_of, left_column, row_slots, side_by_side, slot, slot_offsets, unit_slots}
-use Rattle.bx_paragraph.proofs.OnceEach.{once-each}
+use Rattle.bx_paragraph.proofs.OnceEach.{once-summed}
 use Rattle.bx_paragraph.proofs.RowSlots.{extent-is}
 use Rattle.bx_view.specs.Cells.{HasCell, HasCells, IsEndCell, IsUnitCell, glyphs_of, times, with_looks}
 use Rattle.bx_view.specs.TextRows.{IsPlace, TextRow, no_text_row, row_at, row_of, text_row, text_rows}
@@ -269,7 +269,7 @@ module _ (says : Data) (w : ℕ) (r : TextRow) (levels : HasLevels r.row) (faces
   place-cell place low c =
       let offset = place - r.start in
       let some : 0 < times offset (slot_offsets w r.row) =
-      omega (arith, counted-contains (offsets_of r.row) offset c, once-each w r.row levels (one-at offset)) in
+      omega (arith, counted-contains (offsets_of r.row) offset c, once-summed w r.row levels (one-at offset)) in
       let f = found (row_slots w r.row) offset some in
       let at : r.start + f.one.offset ≡ place = omega (arith, f.offset_is, low) in
       subst (λ column. IsUnitCell says w r place column ⊎ IsEndCell w r place column) (sym f.column_is) (slot-cell f.one place f.among at)

@@ -28,7 +28,7 @@ module _ (says : Data) where
   pub of-text : (v : ViewState) (text : List ℕ) (number held : ℕ) (l : LayoutState) → is_side v.w ≡ true → IsViewBy says v
       → HoldsBody (body_at says text number) v.w v.held held → l ≡ get_or v.held held l → IsOfText says v text number l
   of-text v text number held l side all h e =
-      let is : IsHeld says v.base l = subst (IsHeld says v.base) (sym e) (all held l h.within) in
+      let is : IsHeld says v.base l = subst (IsHeld says v.base) (sym e) (all.laid_out held l h.within) in
       let w_is : l.w ≡ v.w = ap (λ (x : LayoutState). x.w) e ∙ h.w_is l in
       let body : l.body ≡ body_at says text number = ap (λ (x : LayoutState). x.body) e ∙ h.body_is l in
       let same : rows_by says l ≡ rows_in says v.base v.w text number =

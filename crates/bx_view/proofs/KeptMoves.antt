@@ -115,16 +115,15 @@ module _ (says : Data) (text : List ℕ) (w : ℕ) (rows : List TextRow) (P : �
       let r = row_at rows k in
       in-row-lies r (entry w r.row column) (entry-fits (λ o. P (r.start + o)) w r.row (row-lies k within) column)
 
-  to-row-at : (same : Bool) (place k : ℕ) → k < length rows → P place
-      → P (elim same [ true ↦ place | false ↦ unwrap_or (entry_in w (row_at rows k) (cell_of w rows place)) place ])
-  to-row-at true place k within b = b
-  to-row-at false place k within b =
-      let column = cell_of w rows place in else-lies (entry_in w (row_at rows k) column) place (kept-entry k column within) b
+  to-row-at : (same : Bool) (column place k : ℕ) → k < length rows → P place
+      → P (elim same [ true ↦ place | false ↦ unwrap_or (entry_in w (row_at rows k) column) place ])
+  to-row-at true column place k within b = b
+  to-row-at false column place k within b = else-lies (entry_in w (row_at rows k) column) place (kept-entry k column within) b
 
-  kept-rows_away : (way : Vertical) (n place : ℕ) → P place → P (rows_away w rows way n place)
-  kept-rows_away way n place b =
+  kept-rows_away : (way : Vertical) (n column place : ℕ) → P place → P (rows_away w rows way n column place)
+  kept-rows_away way n column place b =
       let k = row_away (length rows) way n (row_of rows place) in
-      to-row-at (k == row_of rows place) place k (away-within (length rows) way n (row_of rows place) (own-row place)) b
+      to-row-at (k == row_of rows place) column place k (away-within (length rows) way n (row_of rows place) (own-row place)) b
 
   entered : (o : Option ℕ) → Lies P o → IfSome o P
   entered None a = tt
@@ -154,7 +153,8 @@ module _ (says : Data) (text : List ℕ) (w : ℕ) (rows : List TextRow) (P : �
   kept-moved : (m : Move) (place : ℕ) → P place → P (moved says text w rows m place)
   kept-moved (moves.Logical way) place b = kept-step_logical way place b
   kept-moved (moves.Visual side) place b = kept-step_visual side place b
-  kept-moved (moves.Rows way n) place b = kept-rows_away way n place b
+  kept-moved (moves.Rows way n) place b = kept-rows_away way n (cell_of w rows place) place b
+  kept-moved (moves.RowsIn way n column) place b = kept-rows_away way n column place b
   kept-moved moves.RowHome place b = kept-row_home place
   kept-moved moves.RowEnd place b = kept-row_end place
   kept-moved (moves.Word way) place b = kept-word way place b
@@ -176,8 +176,8 @@ module _ (says : Data) (text : List ℕ) (w : ℕ) (rows : List TextRow) (P : �
     moved = kept-moved;
     logical = kept-step_logical;
     visual = kept-step_visual;
-    vertical = λ way place b. kept-rows_away way 1 place b;
-    page = kept-rows_away;
+    vertical = λ way place b. kept-rows_away way 1 (cell_of w rows place) place b;
+    page = λ way t place b. kept-rows_away way t (cell_of w rows place) place b;
     word = kept-word;
     entry = λ k column within. entered (entry_in w (row_at rows k) column) (kept-entry k column within);
     home = kept-row_home;

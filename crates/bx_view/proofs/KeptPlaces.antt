@@ -17,8 +17,8 @@ use Rattle.bx_rows.proofs.Resets.{one_each}
 use Rattle.bx_paras.specs.Paragraphs.{Paragraph, lengths_of, paragraphs}
 use Rattle.bx_paras.specs.Positions.{bytes_of}
 use Rattle.bx_paragraph.specs.BodyRows.{BodyRow, body_rows, offsets_of, row_with, rows_units, with_last}
-use Rattle.bx_paragraph.specs.Slots.{AreReordered, slot_offsets}
-use Rattle.bx_paragraph.proofs.OnceEach.{once-each}
+use Rattle.bx_paragraph.specs.Slots.{slot_offsets}
+use Rattle.bx_paragraph.proofs.OnceEach.{once-contains}
 use Rattle.bx_view.specs.Cells.{times}
 use Rattle.bx_view.specs.Laws.{MovesKeep}
 use Rattle.bx_view.specs.Places.{IsTextPlace}
@@ -64,9 +64,6 @@ pub counted-contains : (os : List ℕ) (o : ℕ) → Contains os o → 0 < times
 counted-contains os o c =
     let here : one-at o (get_or os c.0 o) ≡ 1 = ap (λ b. cond b 1 0) (eq-eqb (get_or os c.0 o) o c.2) in
     omega (arith, here, get_or-le-sum_by (one-at o) os c.0 o c.1)
-
-pub reordered-contains : (os ps : List ℕ) (o : ℕ) → AreReordered os ps → Contains os o → Contains ps o
-reordered-contains os ps o same c = contains-counted ps o (omega (arith, counted-contains os o c, same (one-at o)))
 
 -- ---- each row has its places in its slots
 
@@ -120,7 +117,7 @@ row-of-places rows w r all levels start =
     let none : r.start ≡ r.start + 0 = omega arith in record {
       start = subst (IsPlace rows) none start;
       slots = within-of P (slot_offsets w r.row)
-          (λ o c. own-places o (reordered-contains (slot_offsets w r.row) (offsets_of r.row) o (once-each w r.row levels) c));
+          (λ o c. own-places o (once-contains w r.row levels o c));
       units = within-of P (map (λ u. u.start) r.row.units) (λ o c. own-places o (Contains-append_left (map (λ u. u.start) r.row.units) _ o c));
       places = within-of P (offsets_of r.row) own-places;
     }

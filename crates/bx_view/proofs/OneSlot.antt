@@ -1,14 +1,15 @@
 -- Each place occurs once in the slots of the row that it falls in, and in no other row's slots.
 use Rattle.std.proofs.Common.{◌≡◌, ◌≢◌, ℕ, zero, suc, ◌+◌, ◌<◌, ◌≤◌, ◌==◌, Bool, true, false, List, [], ◌∷◌, ◌++◌, map, length}
-use Rattle.std.proofs.Common.{cond, sum_by, IsUtf8, refl, sym, ap, subst, ◌∙◌, arith, ⊎_elim, ne_eqb}
-use Rattle.std.specs.Prelude.{Contains}
+use Rattle.std.proofs.Common.{cond, IsUtf8, refl, ap, subst, ◌∙◌, arith, ⊎_elim, ne_eqb}
+use Rattle.std.specs.Prelude.{Contains, IsPermutation}
 use Rattle.std.proofs.lemmas.Bool.{cases_lt, eqb-true}
 use Rattle.std.proofs.lemmas.List.Concat.{flat_map-cons}
+use Rattle.std.proofs.lemmas.List.Sorted.{IsPermutation-map, sum_by-IsPermutation}
 use Rattle.std.proofs.lemmas.List.Sums.{sum_by-append, sum_by-cons}
 use Rattle.bx_ucd.specs.Data.{Data}
 use Rattle.bx_terms.specs.declared.base.Base.{Base}
 use Rattle.bx_paragraph.specs.BodyRows.{offsets_of}
-use Rattle.bx_paragraph.specs.Slots.{AreReordered, slot_offsets}
+use Rattle.bx_paragraph.specs.Slots.{slot_offsets}
 use Rattle.bx_paragraph.proofs.OnceEach.{once-each}
 use Rattle.bx_view.specs.Cells.{HasOneSlot, times}
 use Rattle.bx_view.specs.TextRows.{IsPlace, TextRow, first, no_text_row, places, places_of, row_at, row_of, slots, text_rows}
@@ -139,26 +140,20 @@ module _ (p high : ℕ) where
 
 -- ---- slots
 
-sum-moved : (f : ℕ → ℕ) (start : ℕ) (os : List ℕ) → sum_by f (map (λ o. start + o) os) ≡ sum_by (λ o. f (start + o)) os
-sum-moved f start [] = refl
-sum-moved f start (o ∷ os) =
-    sum_by-cons f (start + o) (map (λ k. start + k) os) ∙ ap (λ n. f (start + o) + n) (sum-moved f start os)
-    ∙ sym (sum_by-cons (λ k. f (start + k)) o os)
-
 -- the slots of a row are its places
-pub slots-reordered : (w : ℕ) (r : TextRow) → HasLevels r.row → AreReordered (slots w r) (places_of r)
-slots-reordered w r levels f =
-    sum-moved f r.start (slot_offsets w r.row) ∙ once-each w r.row levels (λ o. f (r.start + o)) ∙ sym (sum-moved f r.start (offsets_of r.row))
+pub slots-reordered : (w : ℕ) (r : TextRow) → HasLevels r.row → IsPermutation (places_of r) (slots w r)
+slots-reordered w r levels =
+    IsPermutation-map (λ o. r.start + o) (offsets_of r.row) (slot_offsets w r.row) (once-each w r.row levels)
 
 module _ (says : Data) (base : Base) (w : ℕ) (some : 1 ≤ w) (text : List ℕ) (utf8 : IsUtf8 text) where
   abbrev rows : List TextRow
   rows = text_rows says base w text
 
-  pub row-slots : (k : ℕ) → k < length rows → AreReordered (slots w (row_at rows k)) (places_of (row_at rows k))
+  pub row-slots : (k : ℕ) → k < length rows → IsPermutation (places_of (row_at rows k)) (slots w (row_at rows k))
   row-slots k within = slots-reordered w (row_at rows k) (rows-leveled says base w text k no_text_row within)
 
   same-times : (p k : ℕ) → k < length rows → times p (slots w (row_at rows k)) ≡ times p (places_of (row_at rows k))
-  same-times p k within = row-slots k within (one-at p)
+  same-times p k within = sum_by-IsPermutation (one-at p) (places_of (row_at rows k)) (slots w (row_at rows k)) (row-slots k within)
 
   abbrev own : ℕ → ℕ
   own p = row_of rows p

@@ -1,5 +1,5 @@
 -- A move by rows enters another row by the slot that covers the column, or by the nearest one.
-use Rattle.std.proofs.Common.{◌≡◌, ◌≢◌, ℕ, ◌+◌, ◌-◌, ◌%◌, ◌<◌, ◌≤◌, true, false, List, length, map, find, Option, Some, None, unwrap_or}
+use Rattle.std.proofs.Common.{◌≡◌, ◌≢◌, ℕ, ◌+◌, ◌%◌, ◌<◌, ◌≤◌, true, false, List, length, map, find, Option, Some, None, unwrap_or}
 use Rattle.std.proofs.Common.{IsUtf8, refl, sym, ap, subst, ◌∙◌, arith, eq-eqb, ne_eqb}
 use Rattle.std.specs.Prelude.{All, MatchOption}
 use Rattle.std.proofs.lemmas.List.{length-map}
@@ -16,7 +16,7 @@ use Rattle.bx_view.specs.declared.moves.Vertical.{Vertical}
 use Rattle.bx_view.specs.declared.moves.Vertical.TheVariants.{Up, Down}
 use Rattle.bx_view.specs.Entry.{IsEntry, RowsGoOn}
 use Rattle.bx_view.specs.Moves.{entry_in, place_in, row_away, rows_away, to_row}
-use Rattle.bx_view.specs.TextRows.{TextRow, cell_of, first, no_text_row, row_at, row_of, text_rows}
+use Rattle.bx_view.specs.TextRows.{TextRow, first, no_text_row, row_at, row_of, text_rows}
 use Rattle.bx_view.proofs.CellColumns.{cell-inside, extents-total, total}
 use Rattle.bx_view.proofs.Entered.{row-entered}
 use Rattle.bx_view.proofs.KeptPlaces.{HasLevels, rows-leveled}
@@ -62,29 +62,28 @@ module _ (says : Data) (base : Base) (w : ℕ) (side : 1 ≤ w) (text : List ℕ
   some-row : 0 < length rows
   some-row = omega (arith, text-rank says base w side text utf8 0, rank-few 0 (map first rows), length-map rows first)
 
-  entered : (place k : ℕ) → k < length rows → IsEntry w (row_at rows k) (cell_of w rows place) (unwrap_or (entry_in w (row_at rows k) (cell_of w rows place)) place)
-  entered place k h =
-      let column = cell_of w rows place in
+  entered : (column place k : ℕ) → 1 ≤ column → column ≤ w → k < length rows
+      → IsEntry w (row_at rows k) column (unwrap_or (entry_in w (row_at rows k) column) place)
+  entered column place k some inside h =
       let r = row_at rows k in
-      let lies = cell-inside says base w text place side utf8 in
       let is = row-entered says base w side text utf8 k h column in
       entry-at w r column place (entry w r.row column) (rows-leveled says base w text k no_text_row h)
-      (fitting-from says base w 0 (paragraphs says text) k no_text_row h) lies.0 lies.1 refl (has-some _ (entry_in w r column) is)
+      (fitting-from says base w 0 (paragraphs says text) k no_text_row h) some inside refl (has-some _ (entry_in w r column) is)
 
-  enters : (way : Vertical) (n place k : ℕ) → k ≡ row_away (length rows) way n (row_of rows place) → k ≢ row_of rows place
-      → IsEntry w (row_at rows k) (cell_of w rows place) (rows_away w rows way n place)
-  enters way n place k e other =
-      let column = cell_of w rows place in
+  enters : (way : Vertical) (n column place k : ℕ) → 1 ≤ column → column ≤ w → k ≡ row_away (length rows) way n (row_of rows place)
+      → k ≢ row_of rows place → IsEntry w (row_at rows k) column (rows_away w rows way n column place)
+  enters way n column place k some few e other =
       let inside : k < length rows =
       subst (λ m. m < length rows) (sym e) (away-within way (length rows) n (row_of rows place) (falls-within rows place some-row)) in
-      let reached : to_row w rows place k ≡ unwrap_or (entry_in w (row_at rows k) column) place =
+      let reached : to_row w rows column place k ≡ unwrap_or (entry_in w (row_at rows k) column) place =
       ap (λ t. elim t [ true ↦ place | false ↦ unwrap_or (entry_in w (row_at rows k) column) place ]) (ne_eqb k (row_of rows place) other) in
-      subst (IsEntry w (row_at rows k) column) (sym reached ∙ ap (to_row w rows place) e) (entered place k inside)
+      subst (IsEntry w (row_at rows k) column) (sym reached ∙ ap (to_row w rows column place) e) (entered column place k some few inside)
 
-  stays : (way : Vertical) (n place : ℕ) → row_away (length rows) way n (row_of rows place) ≡ row_of rows place → rows_away w rows way n place ≡ place
-  stays way n place e =
+  stays : (way : Vertical) (n column place : ℕ) → row_away (length rows) way n (row_of rows place) ≡ row_of rows place
+      → rows_away w rows way n column place ≡ place
+  stays way n column place e =
       let k = row_away (length rows) way n (row_of rows place) in
-      ap (λ t. elim t [ true ↦ place | false ↦ unwrap_or (entry_in w (row_at rows k) (cell_of w rows place)) place ]) (eq-eqb k (row_of rows place) e)
+      ap (λ t. elim t [ true ↦ place | false ↦ unwrap_or (entry_in w (row_at rows k) column) place ]) (eq-eqb k (row_of rows place) e)
 
   pub rows-go-on : RowsGoOn w rows
-  rows-go-on = record { enters = enters; stays = stays }
+  rows-go-on = record { own = λ place. cell-inside says base w text place side utf8; enters = enters; stays = stays }

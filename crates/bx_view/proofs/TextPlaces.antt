@@ -87,7 +87,7 @@ one-some : (bs : List ℕ) → 0 < length bs → one_piece bs ≡ bs ∷ []
 one-some [] h = absurd (omega (arith, h))
 one-some (b ∷ bs) h = refl
 
-pieces-bytes : (ps : List Paragraph) → AreUtf8 ps → concat (flat_map pieces_of ps) ≡ bytes ps
+pub pieces-bytes : (ps : List Paragraph) → AreUtf8 ps → concat (flat_map pieces_of ps) ≡ bytes ps
 pieces-bytes [] u = refl
 pieces-bytes (p ∷ ps) u =
     let gs = graphemes true p.body in
@@ -109,11 +109,11 @@ first-boundary : (start : ℕ) (gs : List (List ℕ)) → slice_get (boundaries 
 first-boundary start [] = refl
 first-boundary start (g ∷ gs) = refl
 
-start-in : (start : ℕ) (gs : List (List ℕ)) → Contains (boundaries start gs) start
+pub start-in : (start : ℕ) (gs : List (List ℕ)) → Contains (boundaries start gs) start
 start-in start [] = (0, omega arith, refl)
 start-in start (g ∷ gs) = (0, omega arith, refl)
 
-end-in : (start : ℕ) (gs : List (List ℕ)) → Contains (boundaries start gs) (start + length (concat gs))
+pub end-in : (start : ℕ) (gs : List (List ℕ)) → Contains (boundaries start gs) (start + length (concat gs))
 end-in start [] = let none : start ≡ start + 0 = omega arith in subst (Contains (start ∷ [])) none (0, omega arith, refl)
 end-in start (g ∷ gs) =
     let sum : start + length g + length (concat gs) ≡ start + length (concat (g ∷ gs)) = omega (arith, length-append g (concat gs)) in

@@ -1,13 +1,13 @@
 -- The cell of a place: one slot of one row, in the column at which the glyphs of its unit begin.
 use Rattle.std.specs.Prelude.{◌≡◌, ◌≢◌, ◌⊎◌, ℕ, zero, suc, ◌+◌, ◌-◌, ◌%◌, ◌<◌, ◌==◌, true, List, [], ◌∷◌, ◌++◌, length, count_by, sum_by, flat_map}
-use Rattle.std.specs.Prelude.{replicate, slice_index_or, Contains, HoldsAt, MatchOption, Option}
+use Rattle.std.specs.Prelude.{replicate, slice_index_or, Contains, HoldsAt, IsPermutation, MatchOption, Option}
 use Rattle.bx_ucd.specs.Data.{Data}
 use Rattle.bx_ucd.specs.declared.joining.Form.{Form}
 use Rattle.bx_ucd.specs.declared.joining.Joining.{Joining}
 use Rattle.bx_rows.specs.RowPicture.{Glyph, blank, columns_used, unit_columns, unit_glyphs}
 use Rattle.bx_rows.specs.VisualOrder.{visual}
 use Rattle.bx_paragraph.specs.BodyRows.{BodyRow}
-use Rattle.bx_paragraph.specs.Slots.{AreReordered, end_column}
+use Rattle.bx_paragraph.specs.Slots.{end_column}
 use Rattle.bx_view.specs.Moves.{entry_in}
 use Rattle.bx_view.specs.TextRows.{IsPlace, TextRow, cell_of, places_of, row_at, row_of, slots, text_row_glyphs}
 
@@ -67,7 +67,7 @@ IsEntered w r = (column : ℕ) → MatchOption (entry_in w r column) ⊥ (Contai
 
 -- the slots of each row are its places reordered, each row is entered at a place, and each place has one slot and its cell
 pub record HasCells (says : Data) (w : ℕ) (rows : List TextRow) : Type 0 where
-  pub slots : (k : ℕ) → k < length rows → AreReordered (slots w (row_at rows k)) (places_of (row_at rows k))
+  pub slots : (k : ℕ) → k < length rows → IsPermutation (places_of (row_at rows k)) (slots w (row_at rows k))
   pub entered : (k : ℕ) → k < length rows → IsEntered w (row_at rows k)
   pub one : (place : ℕ) → IsPlace rows place → HasOneSlot w rows place
   pub cell : (place : ℕ) → IsPlace rows place → HasCell says w rows place

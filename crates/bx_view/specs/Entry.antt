@@ -24,8 +24,11 @@ pub record IsEntry (w : ℕ) (r : TextRow) (column place : ℕ) : Type 0 where
   pub place_is : r.start + slot.offset ≡ place
   pub enters : Covers (row_slots w r.row) column slot ⊎ IsNearest (row_slots w r.row) column slot
 
--- A move by rows to another row enters it in the column of the place's cell. A move to the place's own row stays.
+-- A move by rows to another row enters it in the given column; Up, Down and the pages take that of the place's cell, which
+-- is one of the window's. A move to the place's own row stays.
 pub record RowsGoOn (w : ℕ) (rows : List TextRow) : Type 0 where
-  pub enters : (way : Vertical) (n place k : ℕ) → k ≡ row_away (length rows) way n (row_of rows place) → k ≢ row_of rows place
-      → IsEntry w (row_at rows k) (cell_of w rows place) (rows_away w rows way n place)
-  pub stays : (way : Vertical) (n place : ℕ) → row_away (length rows) way n (row_of rows place) ≡ row_of rows place → rows_away w rows way n place ≡ place
+  pub own : (place : ℕ) → (1 ≤ cell_of w rows place) × (cell_of w rows place ≤ w)
+  pub enters : (way : Vertical) (n column place k : ℕ) → 1 ≤ column → column ≤ w → k ≡ row_away (length rows) way n (row_of rows place)
+      → k ≢ row_of rows place → IsEntry w (row_at rows k) column (rows_away w rows way n column place)
+  pub stays : (way : Vertical) (n column place : ℕ) → row_away (length rows) way n (row_of rows place) ≡ row_of rows place
+      → rows_away w rows way n column place ≡ place

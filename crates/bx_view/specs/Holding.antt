@@ -1,5 +1,5 @@
 -- The model of a text's layout: held paragraphs, laid out under its base direction, for its width or an earlier one.
-use Rattle.std.specs.Prelude.{◌≡◌, ℕ, ◌<◌, true, List, length, All, HoldsAt}
+use Rattle.std.specs.Prelude.{◌≡◌, ℕ, ◌<◌, ◌≤◌, ◌⊎◌, true, List, length, sum_by, All, HoldsAt}
 use Rattle.bx_ucd.specs.Data.{Data}
 use Rattle.bx_terms.specs.Sizes.{is_side}
 use Rattle.bx_terms.specs.declared.base.Base.{Base}
@@ -16,11 +16,28 @@ pub record IsHeld (says : Data) (base : Base) (l : LayoutState) : Type 0 where
   pub base_is : l.base ≡ base
   pub rows : IsLayoutBy says l
 
--- all held paragraphs are laid out by the data
-abbrev pub IsViewBy : Data → ViewState → Type 0
-IsViewBy says v = All (IsHeld says v.base) v.held
+-- the most paragraphs that are held: more than the rows of any window
+abbrev pub most_held : ℕ
+most_held = 512
 
--- only the held paragraphs changed, and they are still laid out by the data
+-- not too many paragraphs, laid out by the data under a base direction
+pub record AreHeld (says : Data) (base : Base) (held : List LayoutState) : Type 0 where
+  pub few : length held ≤ most_held
+  pub laid_out : All (IsHeld says base) held
+
+-- the bytes of all held bodies
+abbrev pub held_bytes : List LayoutState → ℕ
+held_bytes held = sum_by (λ l. length l.body) held
+
+-- the held bodies are within a limit of bytes, or one paragraph is held alone
+abbrev pub FitsLimit : ℕ → List LayoutState → Type 0
+FitsLimit limit held = (held_bytes held ≤ limit) ⊎ (length held ≡ 1)
+
+-- the held paragraphs are not too many, and are laid out by the data
+abbrev pub IsViewBy : Data → ViewState → Type 0
+IsViewBy says v = AreHeld says v.base v.held
+
+-- only the held paragraphs changed: they are still not too many, and laid out by the data
 pub record Keeps (says : Data) (old new : ViewState) : Type 0 where
   pub base : new.base ≡ old.base
   pub w : new.w ≡ old.w

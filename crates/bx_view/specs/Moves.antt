@@ -64,11 +64,11 @@ step_visual w rows side place =
 abbrev pub entry_in : ℕ → TextRow → ℕ → Option ℕ
 entry_in w r column = place_in r (entry w r.row column)
 
--- from a place to row `k`; in its own row, the place itself
-abbrev pub to_row : ℕ → List TextRow → ℕ → ℕ → ℕ
-to_row w rows place k = elim (k == row_of rows place) [
+-- from a place to row `k`, which is entered in a column; in its own row, the place itself
+abbrev pub to_row : ℕ → List TextRow → ℕ → ℕ → ℕ → ℕ
+to_row w rows column place k = elim (k == row_of rows place) [
   | true ↦ place
-  | false ↦ unwrap_or (entry_in w (row_at rows k) (cell_of w rows place)) place
+  | false ↦ unwrap_or (entry_in w (row_at rows k) column) place
 ]
 
 -- the number of the row `n` rows above or below row `k` of `count` rows, at most the first or the last
@@ -76,17 +76,17 @@ abbrev pub row_away : ℕ → Vertical → ℕ → ℕ → ℕ
 row_away count Up n k = k - n
 row_away count Down n k = min (k + n) (count - 1)
 
--- `n` rows up or down
-abbrev pub rows_away : ℕ → List TextRow → Vertical → ℕ → ℕ → ℕ
-rows_away w rows way n place = to_row w rows place (row_away (length rows) way n (row_of rows place))
+-- `n` rows up or down, into a column
+abbrev pub rows_away : ℕ → List TextRow → Vertical → ℕ → ℕ → ℕ → ℕ
+rows_away w rows way n column place = to_row w rows column place (row_away (length rows) way n (row_of rows place))
 
--- Up and Down: the previous or the next row
+-- Up and Down: the previous or the next row, in the column of the place's cell
 abbrev pub vertical : ℕ → List TextRow → Vertical → ℕ → ℕ
-vertical w rows way place = rows_away w rows way 1 place
+vertical w rows way place = rows_away w rows way 1 (cell_of w rows place) place
 
--- PageUp and PageDown: `t` rows, the number of visible ones
+-- PageUp and PageDown: `t` rows, the number of visible ones, in the same column
 abbrev pub page : ℕ → List TextRow → Vertical → ℕ → ℕ → ℕ
-page w rows way t place = rows_away w rows way t place
+page w rows way t place = rows_away w rows way t (cell_of w rows place) place
 
 -- RowHome: the row's first offset
 abbrev pub row_home : List TextRow → ℕ → ℕ
@@ -109,7 +109,8 @@ word_towards says text rows side place = step_word says text (word_way (reads_on
 abbrev pub moved : Data → List ℕ → ℕ → List TextRow → Move → ℕ → ℕ
 moved says text w rows (moves.Logical way) place = step_logical rows way place
 moved says text w rows (moves.Visual side) place = step_visual w rows side place
-moved says text w rows (moves.Rows way n) place = rows_away w rows way n place
+moved says text w rows (moves.Rows way n) place = rows_away w rows way n (cell_of w rows place) place
+moved says text w rows (moves.RowsIn way n column) place = rows_away w rows way n column place
 moved says text w rows moves.RowHome place = row_home rows place
 moved says text w rows moves.RowEnd place = row_end rows place
 moved says text w rows (moves.Word way) place = step_word says text way place

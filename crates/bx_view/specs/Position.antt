@@ -9,4 +9,4 @@ use Rattle.bx_view.specs.TextRows.{TextRow, cell_of}
 pub record IsPosition (says : Data) (w : ℕ) (text : List ℕ) (rows : List TextRow) (place : ℕ) (p : Position) : Type 0 where
   pub column : p.column ≡ cell_of w rows place
   pub paragraph : p.paragraph ≡ paragraph_number says text place + 1
-  pub unit : p.unit ≡ unit_number says w text place
+  pub unit : p.unit ≡ unit_number says text place

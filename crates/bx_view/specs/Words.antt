@@ -1,5 +1,5 @@
 -- Words of a text: from its paragraphs, its clusters and the classes of its characters alone, without window and rows.
-use Rattle.std.specs.Prelude.{ℕ, ◌+◌, ◌==◌, nat_lt, Bool, true, false, not, ◌&&◌, ◌||◌, List, [], ◌∷◌, ◌++◌, map, length, reverse, find, unwrap_or, chars}
+use Rattle.std.specs.Prelude.{ℕ, ◌+◌, nat_lt, Bool, true, false, not, ◌&&◌, List, [], ◌∷◌, ◌++◌, map, length, reverse, find, unwrap_or, chars}
 use Rattle.bx_ucd.specs.Data.{Data}
 use Rattle.bx_ucd.specs.Joining.{is_direction_mark}
 use Rattle.unicode_segmentation.specs.Grapheme.{graphemes}

@@ -1,9 +1,9 @@
 //! The paragraphs held by a layout.
-ghost use Rattle.std.specs.Prelude.{◌≡◌, ◌≤◌, ◌<◌, ℕ, List, true, All, IfOk, IfSome, IsTrue, OnOk, length, slice_range};
+ghost use Rattle.std.specs.Prelude.{◌≡◌, ◌≤◌, ◌<◌, ◌+◌, ◌⊎◌, ◌↔◌, ℕ, List, [], true, IfOk, IfSome, IsTrue, MatchOption, OnOk, length, slice_range};
 ghost use Rattle.std.specs.List.{splice};
 ghost use Rattle.bx_terms.specs.Sizes.{is_side};
 ghost use Rattle.bx_text.specs.Edits.{IsRange};
-ghost use Rattle.bx_view.specs.Holding.{HasBody, HoldsBody, IsHeld};
+ghost use Rattle.bx_view.specs.Holding.{AreHeld, FitsLimit, HasBody, HoldsBody, IsHeld, held_bytes, most_held};
 
 use crate::error::ViewError;
 use crate::in_text::stands_at;
@@ -64,13 +64,26 @@ pub(crate) fn position(
     None
 }
 
-/// The length of all held bodies, in bytes.
-fn bytes_held(held: &[ParagraphLayout]) -> usize {
-    let mut bytes: usize = 0;
+/// The bytes that the held bodies leave of `limit`; None where they exceed it.
+#[tactic(auto, using(crate::proofs::HeldBytes::bytes_more, crate::proofs::HeldBytes::bytes_within))]
+fn bytes_left(held: &[ParagraphLayout], limit: usize) -> Option<usize>
+    ensures { MatchOption result (limit < held_bytes held.now) (λ left. held_bytes held.now + left ≡ limit) }
+{
+    let mut left = limit;
     for layout in held {
-        bytes = bytes.saturating_add(layout.body().len());
+        left = left.checked_sub(layout.body().len())?;
     }
-    bytes
+    Some(left)
+}
+
+/// Whether `bytes` more fit within `limit` beside the held bodies.
+fn has_room(held: &[ParagraphLayout], bytes: usize, limit: usize) -> bool
+    ensures { IsTrue result ↔ (held_bytes held.now + bytes ≤ limit) }
+{
+    match bytes_left(held, limit) {
+        Some(left) => bytes <= left,
+        None => false,
+    }
 }
 
 /// The most bytes that all held bodies may have, for a text of `text` bytes: the text once, and as much again for edited
@@ -81,8 +94,10 @@ pub(crate) fn held_limit(text: usize) -> usize {
 
 /// Evicts the oldest paragraph if `MOST_HELD` are held.
 fn drop_oldest<D: BidiData>(held: &mut Vec<ParagraphLayout>, tables: &D, base: Base)
-    requires { All (IsHeld (D.data tables.now) base) held.old.items }
-    ensures { All (IsHeld (D.data tables.now) base) held.new.items }
+    requires { AreHeld (D.data tables.now) base held.old.items }
+    ensures held { AreHeld (D.data tables.now) base held.new.items }
+    ensures room { length held.new.items < most_held }
+    ensures bytes { held_bytes held.new.items ≤ held_bytes held.old.items }
 {
     // used by the contract alone
     let _ = tables;
@@ -92,8 +107,30 @@ fn drop_oldest<D: BidiData>(held: &mut Vec<ParagraphLayout>, tables: &D, base: B
     }
 }
 
+/// Makes room for a paragraph of `bytes` bytes. Evicts the oldest if `MOST_HELD` are held, and all if the bodies would exceed
+/// `limit` bytes.
+fn make_room<D: BidiData>(
+    held: &mut Vec<ParagraphLayout>,
+    bytes: usize,
+    limit: usize,
+    tables: &D,
+    base: Base,
+)
+    requires { AreHeld (D.data tables.now) base held.old.items }
+    ensures held { AreHeld (D.data tables.now) base held.new.items }
+    ensures room { length held.new.items < most_held }
+    ensures bytes { (held.new.items ≡ []) ⊎ (held_bytes held.new.items + bytes ≤ limit) }
+{
+    if has_room(held, bytes, limit) {
+        drop_oldest(held, tables, base);
+    } else {
+        held.clear();
+    }
+}
+
 /// Adds a paragraph and returns its index. Evicts the oldest if `MOST_HELD` are held, and all others if the bodies would
 /// exceed `limit` bytes.
+#[tactic(auto, using(crate::proofs::HeldBytes::fits_pushed))]
 pub(crate) fn hold<D: BidiData>(
     held: &mut Vec<ParagraphLayout>,
     new: ParagraphLayout,
@@ -101,22 +138,13 @@ pub(crate) fn hold<D: BidiData>(
     base: Base,
     limit: usize,
 ) -> Result<usize, AllocError>
-    requires held { All (IsHeld (D.data tables.now) base) held.old.items }
+    requires held { AreHeld (D.data tables.now) base held.old.items }
     requires new { IsHeld (D.data tables.now) base new }
-    ensures held { All (IsHeld (D.data tables.now) base) held.new.items }
+    ensures held { AreHeld (D.data tables.now) base held.new.items }
     ensures new { IfOk result (HoldsBody new.body new.w held.new.items) }
+    ensures bytes { OnOk result (FitsLimit limit held.new.items) }
 {
-    // used by the contract alone
-    let _ = tables;
-    let _ = base;
-    let count = held.len();
-    let bytes = bytes_held(held).saturating_add(new.body().len());
-    if count > 0 && bytes > limit {
-        held.truncate(1);
-        held[0] = new;
-        return Ok(0);
-    }
-    drop_oldest(held, tables, base);
+    make_room(held, new.body().len(), limit, tables, base);
     held.push(new)?;
     Ok(held.len() - 1)
 }
@@ -131,10 +159,10 @@ pub(crate) fn lay_out_in<D: BidiData>(
     base: Base,
     w: u16,
 ) -> Result<(), ViewError>
-    requires held { All (IsHeld (D.data tables.now) base) held.old.items }
+    requires held { AreHeld (D.data tables.now) base held.old.items }
     requires within { i < length held.old.items }
     requires side { is_side w ≡ true }
-    ensures held { All (IsHeld (D.data tables.now) base) held.new.items }
+    ensures held { AreHeld (D.data tables.now) base held.new.items }
     ensures body { OnOk result ((body : List ℕ) → HasBody body held.old.items i → HoldsBody body w held.new.items i) }
 {
     // used by the contract alone
@@ -157,10 +185,10 @@ pub(crate) fn edit_in<D: BidiData>(
     tables: &D,
     base: Base,
 ) -> Result<bool, ViewError>
-    requires held { All (IsHeld (D.data tables.now) base) held.old.items }
+    requires held { AreHeld (D.data tables.now) base held.old.items }
     requires within { i < length held.old.items }
     requires order { range.start ≤ range.end }
-    ensures held { All (IsHeld (D.data tables.now) base) held.new.items }
+    ensures held { AreHeld (D.data tables.now) base held.new.items }
     ensures range { IfOk result (λ did. did ≡ true → (body : List ℕ) → HasBody body held.old.items i → IsRange body range.start range.end) }
     ensures body { IfOk result (λ did. did ≡ true → (body : List ℕ) → (w : ℕ) → HoldsBody body w held.old.items i
         → HoldsBody (splice body range.start range.end new.now) w held.new.items i) }

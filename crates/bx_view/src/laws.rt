@@ -5,6 +5,7 @@ ghost use Rattle.bx_ucd.specs.Data.{Data};
 ghost use Rattle.bx_ucd.specs.declared.class.Class.{Class};
 ghost use Rattle.bx_view.specs.Cells.{HasCells};
 ghost use Rattle.bx_view.specs.Entry.{RowsGoOn};
+ghost use Rattle.bx_view.specs.Going.{LeadBack, LeadToPlaces};
 ghost use Rattle.bx_view.specs.Laws.{FindsLeastPlace, InEachWindow, IsGreatestPlace, MovesKeep, MovesLeast, PlacesGoOn, SpansText, WordsGoOn};
 ghost use Rattle.bx_view.specs.Moves.{place_at, place_from, step_logical};
 ghost use Rattle.bx_view.specs.Places.{text_places, IsTextPlace};
@@ -37,6 +38,12 @@ pub fn steps_go_on()
 /// slot. In the place's own row it stays.
 pub fn rows_go_on()
     ensures { InEachWindow (λ says text w rows. RowsGoOn w rows) }
+{}
+
+/// The numbers that are told for a place lead back to it, and any two numbers lead to a place.
+pub fn numbers_lead_back()
+    ensures back { InEachWindow LeadBack }
+    ensures places { (says : Data) (text : List ℕ) → IsUtf8 text → LeadToPlaces says text }
 {}
 
 /// Each move leads from a place to a place.

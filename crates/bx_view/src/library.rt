@@ -1,4 +1,4 @@
-//! The rows of a text by their numbers, the slots of a row, the cell of a place, and the top. The editor does not run these,
+//! The rows of a text by their numbers, the slots of a row, and the top. The editor does not run these,
 //! it goes from row to row by `RowAt`, and asks `locate` once for each picture. With them the crate serves by itself as a
 //! library.
 ghost use Rattle.std.specs.Prelude.{◌≡◌, ℕ, ◌+◌, ◌<◌, ◌≤◌, true, All, IfOk, IsUtf8, length, map, option_map, slice_get, slice_range};
@@ -9,7 +9,7 @@ ghost use Rattle.bx_paras.specs.Paragraphs.{lengths};
 ghost use Rattle.bx_rows.specs.RowStarts.{row_starts};
 ghost use Rattle.bx_view.specs.Source.{IsViewBy, Keeps, body_at, bytes, count, rows, start_at};
 ghost use Rattle.bx_view.specs.Standing.{rows_ahead};
-ghost use Rattle.bx_view.specs.TextRows.{cell_of, first, row_at, row_of, slots};
+ghost use Rattle.bx_view.specs.TextRows.{first, row_at, row_of, slots};
 ghost use Rattle.bx_view.specs.Top.{follow};
 
 use crate::error::ViewError;
@@ -160,23 +160,6 @@ impl Layout {
         let slots = row.row.slots()?;
         let offsets = in_text(*slots.allocator(), row.start, &slots)?;
         Ok(offsets)
-    }
-
-    /// The column, from 1, of the cell of a place.
-    ///
-    /// Errors: `OutOfMemory`.
-    pub fn cell_of<D: BidiData>(
-        &mut self,
-        source: &Source<'_, D>,
-        place: usize,
-    ) -> Result<u16, ViewError>
-        requires data { IsViewBy source.now self.old }
-        ensures keeps { Keeps source.now self.old self.new }
-        ensures cell { IfOk result (λ column. column ≡ cell_of self.old.w (rows source.now self.old) place) }
-    {
-        let at = self.row_at(source, place)?;
-        let position = self.position(source, at, place)?;
-        Ok(position.column)
     }
 
     /// The offset of the top row after scrolling `t` visible rows, from the row of the offset `top`, by the fewest rows that

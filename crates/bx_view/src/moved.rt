@@ -38,7 +38,11 @@ impl Layout {
                 Ok(place)
             }
             Move::Rows(way, count) => {
-                let place = self.rows_away(source, way, count, place)?;
+                let place = self.rows_straight(source, way, count, place)?;
+                Ok(place)
+            }
+            Move::RowsIn(way, count, column) => {
+                let place = self.rows_away(source, way, count, column, place)?;
                 Ok(place)
             }
             Move::RowHome => {

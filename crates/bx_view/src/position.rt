@@ -3,8 +3,8 @@ ghost use Rattle.std.specs.Prelude.{◌≡◌, ◌≤◌, IfOk};
 ghost use Rattle.bx_paras.specs.Paragraphs.{lengths};
 ghost use Rattle.bx_paras.specs.Positions.{paragraph_of};
 ghost use Rattle.bx_view.specs.Position.{IsPosition};
-ghost use Rattle.bx_view.specs.Source.{StandsOn, bytes, rows};
-ghost use Rattle.bx_view.specs.TextRows.{row_of};
+ghost use Rattle.bx_view.specs.Source.{IsViewBy, Keeps, StandsOn, bytes, rows};
+ghost use Rattle.bx_view.specs.TextRows.{cell_of, row_of};
 
 use crate::error::ViewError;
 use crate::layout::Layout;
@@ -47,5 +47,22 @@ impl Layout {
             paragraph: at.paragraph + 1,
             unit: row.paragraph.units_ahead(at.row) + standing.units_before + 1,
         })
+    }
+
+    /// The column, from 1, of the cell of a place.
+    ///
+    /// Errors: `OutOfMemory`.
+    pub fn cell_of<D: BidiData>(
+        &mut self,
+        source: &Source<'_, D>,
+        place: usize,
+    ) -> Result<u16, ViewError>
+        requires data { IsViewBy source.now self.old }
+        ensures keeps { Keeps source.now self.old self.new }
+        ensures cell { IfOk result (λ column. column ≡ cell_of self.old.w (rows source.now self.old) place) }
+    {
+        let at = self.row_at(source, place)?;
+        let position = self.position(source, at, place)?;
+        Ok(position.column)
     }
 }

@@ -27,6 +27,18 @@ pub(crate) fn current_span<D: BidiData>(
     walk.span()
 }
 
+/// The start and end of the body of paragraph `number`, from 0.
+pub(crate) fn span_of<D: BidiData>(source: &Source<'_, D>, number: usize) -> (usize, usize)
+    requires { number < count source.now }
+    ensures start { result.0 ≡ start_at source.now number }
+    ensures body { slice_range (bytes source.now) result.0 result.1 ≡ body_at source.now number }
+    ensures range { IsRange (bytes source.now) result.0 result.1 }
+    ensures order { result.0 ≤ result.1 }
+    ensures within { result.1 ≤ length (bytes source.now) }
+{
+    source.index.span(number)
+}
+
 /// The number, from 0, of the paragraph that an offset falls in, and the start and end of its body.
 pub(crate) fn paragraph_under<D: BidiData>(
     source: &Source<'_, D>,

@@ -2,6 +2,7 @@
 ghost use Rattle.std.specs.Prelude.{◌≡◌, ℕ, ◌+◌, ◌-◌, IfOk, length, min};
 ghost use Rattle.bx_view.specs.Moves.{row_away, rows_away};
 ghost use Rattle.bx_view.specs.Source.{IsViewBy, Keeps, Stands, StandsOn, rows};
+ghost use Rattle.bx_view.specs.TextRows.{cell_of};
 
 use crate::error::ViewError;
 use crate::layout::Layout;
@@ -85,9 +86,33 @@ impl Layout {
         }
     }
 
-    /// The place after a move of `count` rows up or down: the target row is entered in the place's column. If it is the
+    /// The place after a move of `count` rows up or down: the target row is entered in a column, from 1. If it is the
     /// place's own row, the place itself.
     pub(crate) fn rows_away<D: BidiData>(
+        &mut self,
+        source: &Source<'_, D>,
+        way: Vertical,
+        count: usize,
+        column: u16,
+        place: usize,
+    ) -> Result<usize, ViewError>
+        requires data { IsViewBy source.now self.old }
+        ensures keeps { Keeps source.now self.old self.new }
+        ensures place { IfOk result (λ o. o ≡ rows_away self.old.w (rows source.now self.old) way count column place) }
+    {
+        let at = self.row_at(source, place)?;
+        let own = self.first_in(source, at);
+        let there = self.row_away(source, way, count, at)?;
+        let first = self.first_in(source, there);
+        if first == own {
+            return Ok(place);
+        }
+        let entry = self.row(source, there).entry(column)?;
+        Ok(entry.unwrap_or(place))
+    }
+
+    /// The place after a move of `count` rows up or down in the column of the place's cell.
+    pub(crate) fn rows_straight<D: BidiData>(
         &mut self,
         source: &Source<'_, D>,
         way: Vertical,
@@ -96,17 +121,10 @@ impl Layout {
     ) -> Result<usize, ViewError>
         requires data { IsViewBy source.now self.old }
         ensures keeps { Keeps source.now self.old self.new }
-        ensures place { IfOk result (λ o. o ≡ rows_away self.old.w (rows source.now self.old) way count place) }
+        ensures place { IfOk result (λ o. o ≡ rows_away self.old.w (rows source.now self.old) way count (cell_of self.old.w (rows source.now self.old) place) place) }
     {
-        let at = self.row_at(source, place)?;
-        let position = self.position(source, at, place)?;
-        let own = self.first_in(source, at);
-        let there = self.row_away(source, way, count, at)?;
-        let first = self.first_in(source, there);
-        if first == own {
-            return Ok(place);
-        }
-        let entry = self.row(source, there).entry(position.column)?;
-        Ok(entry.unwrap_or(place))
+        let column = self.cell_of(source, place)?;
+        let place = self.rows_away(source, way, count, column, place)?;
+        Ok(place)
     }
 }

@@ -2,7 +2,7 @@
 
 use crate::edit::{Changes, edit};
 use crate::tests::small_files;
-use bx_recovery::{Beginning, Held, RecoveryFault, Replayed, recover};
+use bx_recovery::{Beginning, FileText, RecoveryFault, Replayed, recover};
 use bx_session::{NoJournal, Recorder, Session, WrittenJournal, run_recorded};
 use bx_store::MemoryStore;
 use bx_terms::Base;
@@ -38,10 +38,10 @@ fn recovered(
 #[test]
 fn a_journal_beside_its_file(rt: HostRuntime) -> Result<(), Fail> {
     for (file, held) in [
-        (b"xyab".as_slice(), Held::Same),
-        (b"xab".as_slice(), Held::Known),
-        (b"ab".as_slice(), Held::Known),
-        (b"xa".as_slice(), Held::Foreign),
+        (b"xyab".as_slice(), FileText::Same),
+        (b"xab".as_slice(), FileText::Known),
+        (b"ab".as_slice(), FileText::Known),
+        (b"xa".as_slice(), FileText::Foreign),
     ] {
         let mut store = MemoryStore::new(rt.alloc(), None);
         let replayed = recovered(rt.alloc(), &mut store, b"x\x13y\x11\x11", file)?;

@@ -1,17 +1,15 @@
-use Rattle.std.proofs.Common.{◌≡◌, ◌∙◌, Some, sym}
-use Rattle.bx_document.specs.History.{next_change}
-use Rattle.bx_document.proofs.PlacesKept.{keeps_stepped, place_stepped}
+use Rattle.std.proofs.Common.{◌≡◌, OnOk, IfOk, option_map, subst}
+use Rattle.bx_document.proofs.PlacesKept.{next_one, stepped_one}
 use Rattle.bx_document.proofs.document.Document.step.Goals as goal
 
-pub invariant_of-self-2 : goal.invariant_of-self-2
-invariant_of-self-2 g c =
-    let says = g.D.BidiData.data c.self.inside.tables in
-    let keeps = keeps_stepped says c.args.step c.self.inside.text.edited c.step_in.new.text.edited c.in-Ok-Some.ensures.ok c.self.invariant.2 in
-    (c.follow.ensures, c.follow_in_layout.ensures.keeps.held, keeps, c.self.invariant.3)
+pub returns-clause-ok : goal.returns-clause-ok
+returns-clause-ok g c =
+    let now = c.args.self.now in
+    subst (λ x. OnOk c.step_times.result
+    (c.step_times.new.self ≡ record now { document = record now.document { content = x } })) (stepped_one c.args.step now.document.content)
+    c.step_times.ensures.ok
 
-pub returns-clause-text_place : goal.returns-clause-text_place
-returns-clause-text_place g c =
-    let says = g.D.BidiData.data c.self.inside.tables in
-    let told : Some c.in-Ok-Some.change ≡ next_change c.args.step c.self.inside.text.edited =
-    sym c.in-Ok-Some.field-0-is ∙ c.in-Ok-Some.ensures.change in
-    place_stepped says c.args.step c.self.inside.text.edited c.step_in.new.text.edited c.in-Ok-Some.change c.in-Ok-Some.ensures.ok c.self.invariant.2 told
+pub returns-clause-place : goal.returns-clause-place
+returns-clause-place g c =
+    subst (λ x. IfOk c.step_times.result (λ o. o ≡ option_map (λ k. k.place) x)) (next_one c.args.step c.args.self.now.document.content)
+    c.step_times.ensures.place

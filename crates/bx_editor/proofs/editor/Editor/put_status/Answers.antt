@@ -29,7 +29,7 @@ returns g c =
     } in
     let paragraph = subst (λ s. c.args.position.paragraph ≡ paragraph_number (g.D.BidiData.data s.tables) s.editor.content.text s.editor.place + 1)
     (sym c.self.view_is) c.requires.position.paragraph in
-    let unit = subst (λ s. c.args.position.unit ≡ unit_number (g.D.BidiData.data s.tables) s.editor.width s.editor.content.text s.editor.place)
+    let unit = subst (λ s. c.args.position.unit ≡ unit_number (g.D.BidiData.data s.tables) s.editor.content.text s.editor.place)
     (sym c.self.view_is) c.requires.position.unit in
     let text = c.in_ok-line.ensures.line ∙ ap₂ (λ p u. status_line i.changed p u i.message) paragraph unit in
     let columns = c.in_ok-row.ensures.row

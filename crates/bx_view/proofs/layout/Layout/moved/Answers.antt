@@ -21,6 +21,12 @@ returns-in_ok-place-in-Rows-clause-boundary g c =
     c.args.source.now.text.now.edited.text c.width-side.ensures.side c.args.source.now.utf8 (moves.Rows c.in-Rows.way c.in-Rows.count)
     c.args.place c.in_ok-place-in-Rows.place c.in_ok-place-in-Rows.ensures.place
 
+pub returns-in_ok-place-in-RowsIn-clause-boundary : goal.returns-in_ok-place-in-RowsIn-clause-boundary
+returns-in_ok-place-in-RowsIn-clause-boundary g c =
+    moved-bound (g.D.BidiData.data c.args.source.now.tables.now) c.args.self.now
+    c.args.source.now.text.now.edited.text c.width-side.ensures.side c.args.source.now.utf8 (moves.RowsIn c.in-RowsIn.way c.in-RowsIn.count c.in-RowsIn.column)
+    c.args.place c.in_ok-place-in-RowsIn.place c.in_ok-place-in-RowsIn.ensures.place
+
 pub returns-in_ok-place-in-RowHome-clause-boundary : goal.returns-in_ok-place-in-RowHome-clause-boundary
 returns-in_ok-place-in-RowHome-clause-boundary g c =
     moved-bound (g.D.BidiData.data c.args.source.now.tables.now) c.args.self.now

@@ -1,0 +1,22 @@
+//! Questions to the user and their answers, and what is told of a unit.
+//!
+//! Only functions that return a `Result` allocate.
+#![tactic(auto)]
+
+mod answers;
+mod codes;
+mod laws;
+mod line;
+mod names;
+mod question;
+#[cfg(test)]
+mod tests;
+mod told;
+
+pub use answers::{lengthened, shortened};
+pub use codes::{coded, is_code_letter};
+pub use laws::told_is_printable;
+pub use line::{Target, asked, is_line_letter};
+pub use names::{asks_code, closing, named};
+pub use question::Ask;
+pub use told::{class_name, write_told};

@@ -1,0 +1,17 @@
+-- The glyphs of characters read one by one.
+use Rattle.std.proofs.Common.{◌≡◌, ℕ, ◌+◌, ◌<◌, List, [], ◌∷◌, ◌++◌, length, take, map, get_or, sym, ap, subst, ◌∙◌}
+use Rattle.std.specs.Prelude.{All}
+use Rattle.std.proofs.lemmas.List.{map-append, take_more}
+use Rattle.bx_document.specs.QueryRow.{IsNarrow, typed_glyph}
+
+-- the character at the index n is c
+abbrev pub IsNext : List ℕ → ℕ → ℕ → Type 0
+IsNext cs n c = (n < length cs) × (c ≡ get_or cs n c)
+
+pub typed-more : (cs : List ℕ) (n c : ℕ) → IsNext cs n c → map typed_glyph (take (n + 1) cs) ≡ map typed_glyph (take n cs) ++ typed_glyph c ∷ []
+typed-more cs n c at =
+    ap (map typed_glyph) (take_more cs n c at.0) ∙ map-append typed_glyph (take n cs) (get_or cs n c ∷ [])
+    ∙ ap (λ x. map typed_glyph (take n cs) ++ typed_glyph x ∷ []) (sym at.1)
+
+pub narrow-there : (cs : List ℕ) (n c : ℕ) → IsNext cs n c → All IsNarrow cs → IsNarrow c
+narrow-there cs n c at all = subst IsNarrow (sym at.1) (all n c at.0)

@@ -1,0 +1,33 @@
+-- Points: marks and joiners that are typed behind a letter and are removed one by one.
+use Rattle.std.specs.Prelude.{ℕ, ◌-◌, ◌==◌, nat_le, Bool, true, false, not, ◌&&◌, ◌||◌, List, take, length, chars, encode_utf8_all, slice_index_or}
+use Rattle.bx_ucd.specs.Data.{Data}
+use Rattle.bx_ucd.specs.declared.class.Class.{Class}
+use Rattle.bx_ucd.specs.declared.class.Class.TheVariants.{NSM}
+
+-- the class of marks
+abbrev pub is_mark : Class → Bool
+is_mark NSM = true
+is_mark _ = false
+
+-- a variation selector or the enclosing keycap, which chooses the look of the character before it
+abbrev pub chooses_look : ℕ → Bool
+chooses_look c = (nat_le 0xFE00 c && nat_le c 0xFE0F) || (c == 0x20E3)
+
+-- ZERO WIDTH NON-JOINER or ZERO WIDTH JOINER
+abbrev pub is_zero_width_joiner : ℕ → Bool
+is_zero_width_joiner c = (c == 0x200C) || (c == 0x200D)
+
+abbrev pub is_point : Data → ℕ → Bool
+is_point says c = (is_mark (says.class c) && not (chooses_look c)) || is_zero_width_joiner c
+
+-- the last character of some, and the bytes of those before it
+abbrev pub last_character : List ℕ → ℕ
+last_character cs = slice_index_or cs (length cs - 1) 0
+
+abbrev pub before_last : List ℕ → List ℕ
+before_last cs = encode_utf8_all (take (length cs - 1) cs)
+
+-- The offset in a unit, given by its bytes, from which a point is removed: that of the last character, if it is a point, else
+-- the unit's start. It is the start too if the unit has one character.
+abbrev pub point_start : Data → List ℕ → ℕ
+point_start says unit = elim (is_point says (last_character (chars unit))) [ true ↦ length (before_last (chars unit)) | false ↦ 0 ]

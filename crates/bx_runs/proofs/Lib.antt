@@ -1,0 +1,4 @@
+pub mod Bisected
+pub mod Steps
+pub mod RunLaws
+mod Examples

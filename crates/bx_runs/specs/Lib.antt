@@ -1,0 +1,4 @@
+pub mod Typing
+pub mod Runs
+pub mod Model
+pub mod Laws

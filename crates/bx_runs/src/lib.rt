@@ -1,0 +1,17 @@
+//! Runs of edits: what one press of a key takes back or makes again.
+//!
+//! Only functions that return a `Result` allocate.
+#![tactic(auto)]
+
+mod laws;
+mod runs;
+#[cfg(test)]
+mod tests;
+mod typing;
+
+pub use laws::{
+    begin_where_edits_begin, edit_is_of_its_run, redo_ends_with_a_run, undo_ends_with_a_run,
+    undo_then_redo,
+};
+pub use runs::Runs;
+pub use typing::{Kind, Removal, Typing};

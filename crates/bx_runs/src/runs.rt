@@ -1,0 +1,112 @@
+//! The lengths of the past at which runs of edits begin.
+
+ghost use Rattle.std.specs.Prelude.{◌≡◌, ◌≤◌, [], true, false, take, drop, length, OnOk, OnErr};
+ghost use Rattle.bx_runs.specs.Runs.{above, below, edited, run_end, run_start, Rise};
+
+use bx_terms::OutOfMemory;
+use std::alloc::Global;
+use std::marker::Model;
+
+/// How many of some rising numbers are below `n`.
+fn count_below(numbers: &[usize], n: usize) -> usize
+    requires { Rise numbers.now }
+    ensures bound { result ≤ length numbers.now }
+    ensures below { take result numbers.now ≡ below n numbers.now }
+{
+    numbers.partition_point(|r| *r < n)
+}
+
+/// How many of some rising numbers are not above `n`.
+fn count_up_to(numbers: &[usize], n: usize) -> usize
+    requires { Rise numbers.now }
+    ensures bound { result ≤ length numbers.now }
+    ensures above { drop result numbers.now ≡ above n numbers.now }
+{
+    numbers.partition_point(|r| *r <= n)
+}
+
+/// The lengths of the past at which runs of edits begin. A length counts edits.
+#[derive(Drop)]
+pub struct Runs {
+    // each above the one before
+    numbers: Vec<usize>,
+    // whether the next edit allocates nothing
+    room: bool,
+}
+
+impl Model for Runs {
+    ghost use Rattle.bx_runs.specs.Model.{RunsState};
+
+    ghost Value = { RunsState };
+
+    ghost use Rattle.bx_runs.specs.Model.{runs_of, AreRuns};
+
+    ghost view = { runs_of };
+
+    ghost invariant = { AreRuns };
+}
+
+impl Runs {
+    /// No run.
+    pub fn new(alloc: Global) -> Runs
+        ensures numbers { result.numbers ≡ [] }
+        ensures room { result.room ≡ false }
+    {
+        Runs {
+            numbers: Vec::new(alloc),
+            room: false,
+        }
+    }
+
+    /// Makes room: after Ok the next `edited` allocates nothing.
+    ///
+    /// Errors: `OutOfMemory`, and nothing has changed.
+    pub fn reserve(&mut self) -> Result<(), OutOfMemory>
+        ensures numbers { self.new.numbers ≡ self.old.numbers }
+        ensures ok { OnOk result (self.new.room ≡ true) }
+        ensures err { OnErr result (self.new ≡ self.old) }
+    {
+        self.numbers.reserve(1)?;
+        self.room = true;
+        Ok(())
+    }
+
+    /// Takes in an edit that was made at the past's length `n`, and goes on with the run before or begins one.
+    pub fn edited(&mut self, n: usize, goes_on: bool)
+        requires room { self.old.room ≡ true }
+        ensures numbers { self.new.numbers ≡ edited self.old.numbers n goes_on }
+        ensures room { self.new.room ≡ false }
+    {
+        let kept = count_below(&self.numbers, n);
+        self.numbers.truncate(kept);
+        self.room = false;
+        if goes_on {
+            return;
+        }
+        self.numbers.push(n).unwrap();
+    }
+
+    /// The length of the past to which an undo of a run goes from the length `n`: the last at which a run begins before it,
+    /// or 0.
+    pub fn start_before(&self, n: usize) -> usize
+        ensures { result ≡ run_start self.now.numbers n }
+    {
+        let count = count_below(&self.numbers, n);
+        if count == 0 {
+            return 0;
+        }
+        self.numbers[count - 1]
+    }
+
+    /// The length of the past to which a redo of a run goes from the length `n`: the next at which a run begins, at most
+    /// `last`, the length that the past has once all is made again.
+    pub fn end_after(&self, n: usize, last: usize) -> usize
+        ensures { result ≡ run_end self.now.numbers n last }
+    {
+        let count = count_up_to(&self.numbers, n);
+        if count == self.numbers.len() {
+            return last;
+        }
+        last.min(self.numbers[count])
+    }
+}

@@ -1,0 +1,104 @@
+//! What the next edit may go on with.
+
+ghost use Rattle.std.specs.Prelude.{◌≡◌};
+ghost use Rattle.bx_runs.specs.Typing.{after_insertion, after_removal, goes_on, goes_on_removing, kind_of};
+
+use bx_ucd::Class;
+
+/// What the next edit may go on with: the latest key and edit.
+#[derive(Clone, Copy, PartialEq, Eq, Debug, Default)]
+pub enum Typing {
+    /// Nothing: the next edit begins a run.
+    #[default]
+    Off,
+    /// A word, and the blanks behind it.
+    Word,
+    /// Blanks before a word.
+    Blanks,
+    /// Characters erased backward.
+    Erasing,
+    /// Characters deleted forward.
+    Deleting,
+    /// A paste of which nothing is in the text yet.
+    Paste,
+    /// A paste of which something is in the text.
+    Pasting,
+}
+
+/// Kinds of characters that are put in.
+#[derive(Clone, Copy, PartialEq, Eq, Debug)]
+pub enum Kind {
+    /// A separator of paragraphs: class B.
+    Separator,
+    /// A blank: class WS or S.
+    Blank,
+    /// A character of any other class.
+    Letter,
+}
+
+impl Kind {
+    /// The kind of the characters of a class.
+    pub fn of(class: Class) -> Kind
+        ensures { result ≡ kind_of class }
+    {
+        match class {
+            Class::B => Kind::Separator,
+            Class::WS | Class::S => Kind::Blank,
+            _ => Kind::Letter,
+        }
+    }
+}
+
+/// The two ways to remove a character.
+#[derive(Clone, Copy, PartialEq, Eq, Debug)]
+pub enum Removal {
+    /// Removes the text before the cursor.
+    Erase,
+    /// Removes the text after the cursor.
+    Delete,
+}
+
+impl Removal {
+    /// What the next edit may go on with after such a removal.
+    pub fn typing(self) -> Typing
+        ensures { result ≡ after_removal self }
+    {
+        match self {
+            Removal::Erase => Typing::Erasing,
+            Removal::Delete => Typing::Deleting,
+        }
+    }
+}
+
+impl Typing {
+    /// Whether an insertion of a character of this kind goes on with the run before.
+    pub fn goes_on(self, kind: Kind) -> bool
+        ensures { result ≡ goes_on self kind }
+    {
+        match self {
+            Typing::Pasting => true,
+            Typing::Word => kind != Kind::Separator,
+            Typing::Blanks => kind == Kind::Blank,
+            _ => false,
+        }
+    }
+
+    /// What the next edit may go on with after an insertion of a character of this kind.
+    pub fn after_insertion(self, kind: Kind) -> Typing
+        ensures { result ≡ after_insertion self kind }
+    {
+        match (self, kind) {
+            (Typing::Paste | Typing::Pasting, _) => Typing::Pasting,
+            (_, Kind::Separator) => Typing::Off,
+            (_, Kind::Blank) => Typing::Blanks,
+            (_, Kind::Letter) => Typing::Word,
+        }
+    }
+
+    /// Whether a removal goes on with the run before.
+    pub fn goes_on_removing(self, removal: Removal) -> bool
+        ensures { result ≡ goes_on_removing self removal }
+    {
+        self == removal.typing()
+    }
+}

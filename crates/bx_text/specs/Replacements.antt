@@ -1,0 +1,16 @@
+-- Edits that are made together.
+use Rattle.std.specs.Prelude.{ℕ, ◌+◌, List, length}
+use Rattle.bx_text.specs.declared.change.Change.{Change}
+use Rattle.bx_text.specs.declared.pairs.Replacement.{Replacement}
+use Rattle.bx_text.specs.Edits.{Edited, replaced, splice}
+
+-- the text after an edit, with its past
+abbrev pub made : Edited → Replacement → Edited
+made t r = replaced t r.start (r.start + r.len) r.text.now r.before r.after
+
+-- the bytes after it
+abbrev pub text_after : List ℕ → Replacement → List ℕ
+text_after text r = splice text r.start (r.start + r.len) r.text.now
+
+abbrev pub change_made : Replacement → Change
+change_made r = record { start = r.start; removed = r.len; added = length r.text.now; place = r.after }

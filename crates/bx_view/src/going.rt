@@ -1,0 +1,74 @@
+//! The place with given numbers of its paragraph and its unit.
+ghost use Rattle.std.specs.Prelude.{◌≡◌, ◌-◌, ◌<◌, ◌≤◌, ◌∷◌, IfOk, drop, length, min, true};
+ghost use Rattle.std.specs.Str.{IsCharBoundary};
+ghost use Rattle.unicode_segmentation.specs.Grapheme.{graphemes};
+ghost use Rattle.bx_view.specs.Going.{place_of, unit_place};
+ghost use Rattle.bx_view.specs.Places.{boundaries};
+ghost use Rattle.bx_view.specs.Source.{IsViewBy, Keeps, bytes, count};
+
+use crate::error::ViewError;
+use crate::layout::Layout;
+use crate::source::Source;
+use crate::span::span_of;
+use bx_ucd::BidiData;
+use unicode_segmentation::UnicodeSegmentation;
+
+/// The offset at which the unit at an offset of a body ends.
+fn unit_end(body: &str, at: usize) -> usize
+    requires start { IsCharBoundary body.now at }
+    requires some { at < length body.now }
+    ensures later { at < result }
+    ensures boundary { IsCharBoundary body.now result }
+    ensures places { boundaries at (graphemes true (drop at body.now)) ≡ at ∷ boundaries result (graphemes true (drop result body.now)) }
+{
+    match body[at..].graphemes(true).next() {
+        Some(unit) => at + unit.len(),
+        None => unreachable!(),
+    }
+}
+
+/// The offset at which a unit of a body begins, by its number from 0; the body's end, if the body has fewer.
+fn unit_start(body: &str, number: usize) -> usize
+    ensures place { result ≡ unit_place 0 body.now number }
+    ensures within { result ≤ length body.now }
+{
+    let mut at = 0;
+    let mut left = number;
+    'units: while left > 0 && at < body.len() {
+        at = unit_end(body, at);
+        left -= 1;
+    }
+    at
+}
+
+/// The number, from 0, of a paragraph by its number from 1, where 0 means 1; the last one, if there are fewer.
+fn paragraph_number<D: BidiData>(source: &Source<'_, D>, paragraph: usize) -> usize
+    ensures number { result ≡ min (paragraph - 1) (count source.now - 1) }
+    ensures there { result < count source.now }
+{
+    let last = source.index.count() - 1;
+    paragraph.saturating_sub(1).min(last)
+}
+
+impl Layout {
+    /// The place of a unit by the numbers of its paragraph and of the unit in it, both from 1, where 0 means 1. For a
+    /// paragraph too large it is in the last one, for a unit too large it is the paragraph's end.
+    ///
+    /// Errors: `OutOfMemory`.
+    pub fn place_of<D: BidiData>(
+        &mut self,
+        source: &Source<'_, D>,
+        paragraph: usize,
+        unit: usize,
+    ) -> Result<usize, ViewError>
+        requires data { IsViewBy source.now self.old }
+        ensures keeps { Keeps source.now self.old self.new }
+        ensures place { IfOk result (λ o. o ≡ place_of (D.data source.now.tables.now) (bytes source.now) paragraph unit) }
+    {
+        let number = paragraph_number(source, paragraph);
+        let (start, stop) = span_of(source, number);
+        let held = self.find(source, number, start, stop)?;
+        let body = self.paragraph(source, number, held).body();
+        Ok(start + unit_start(body, unit.saturating_sub(1)))
+    }
+}
