@@ -27,7 +27,7 @@ last_character cs = slice_index_or cs (length cs - 1) 0
 abbrev pub before_last : List ℕ → List ℕ
 before_last cs = encode_utf8_all (take (length cs - 1) cs)
 
--- The offset in a unit, given by its bytes, from which a point is removed: that of the last character, if it is a point, else
--- the unit's start. It is the start too if the unit has one character.
+-- The first byte, counted in a unit's bytes, of what is removed from the unit's end: of the last character, if that is a
+-- point, else of the whole unit. A unit of one character is removed whole, point or not.
 abbrev pub point_start : Data → List ℕ → ℕ
 point_start says unit = elim (is_point says (last_character (chars unit))) [ true ↦ length (before_last (chars unit)) | false ↦ 0 ]

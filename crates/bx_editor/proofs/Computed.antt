@@ -30,5 +30,5 @@ abbrev pub shown : Editor → ℕ → PictureState
 shown e top = picture tables e (next_top tables e top)
 
 -- columns of characters that are one glyph each
-abbrev pub columns_of : List ℕ → List Col
-columns_of text = map (λ b. Glyph (b ∷ []) 1 0 false) text
+abbrev pub ascii_columns : List ℕ → List Col
+ascii_columns text = map (λ b. Glyph (b ∷ []) 1 0 false) text

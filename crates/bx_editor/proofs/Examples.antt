@@ -11,7 +11,7 @@ use Rattle.bx_store.specs.declared.cause.SaveCause.TheVariants.{NoSpace}
 use Rattle.bx_editor.specs.declared.message.Message.TheVariants.{NothingToUndo, NothingToRedo, Unsaved}
 use Rattle.bx_editor.specs.Editor.{Editor}
 use Rattle.bx_editor.specs.Keys.{after_key}
-use Rattle.bx_editor.proofs.Computed.{tables, start, after, letters, shown, columns_of}
+use Rattle.bx_editor.proofs.Computed.{tables, start, after, letters, shown, ascii_columns}
 
 abbrev text_and_place : Editor → List ℕ × ℕ
 text_and_place e = (e.content.text, e.place)
@@ -116,7 +116,7 @@ a_notice_between_two_quits_does_not_count = refl
 -- ---- notices
 
 pub a_notice_is_the_message : (shown (after (start (codes "ab") 2 32) (Insert 0x78 ∷ Notice notices.NoSpace ∷ [])) 0).columns
-    ≡ columns_of (codes "xab                             " ++ codes "* 1:2 no copy is kept: no space ")
+    ≡ ascii_columns (codes "xab                             " ++ codes "* 1:2 no copy is kept: no space ")
 unfolding unicode_segmentation unicode_width digits
 a_notice_is_the_message = refl
 
@@ -128,45 +128,45 @@ a_notice_in_a_search = refl
 
 -- ---- pictures
 
-pub an_empty_file : (shown (start [] 2 10) 0).columns ≡ columns_of (codes "          - 1:1     ")
+pub an_empty_file : (shown (start [] 2 10) 0).columns ≡ ascii_columns (codes "          - 1:1     ")
 unfolding unicode_segmentation unicode_width digits
 an_empty_file = refl
 
-pub a_row_alone_has_no_status : (shown (start (codes "ab") 1 5) 0).columns ≡ columns_of (codes "ab   ")
+pub a_row_alone_has_no_status : (shown (start (codes "ab") 1 5) 0).columns ≡ ascii_columns (codes "ab   ")
 unfolding unicode_segmentation unicode_width digits
 a_row_alone_has_no_status = refl
 
 pub the_question_is_seen : (shown (after (start (codes "ab") 2 30) (Insert 0x78 ∷ Quit ∷ [])) 0).columns
-    ≡ columns_of (codes "xab                           " ++ codes "* 1:2 unsaved: ^Q again       ")
+    ≡ ascii_columns (codes "xab                           " ++ codes "* 1:2 unsaved: ^Q again       ")
 unfolding unicode_segmentation unicode_width digits
 the_question_is_seen = refl
 
 pub a_size_keeps_the_message : (shown (after (start (codes "ab") 2 30) (Insert 0x78 ∷ Quit ∷ Size 2 25 ∷ [])) 0).columns
-    ≡ columns_of (codes "xab                      " ++ codes "* 1:2 unsaved: ^Q again  ")
+    ≡ ascii_columns (codes "xab                      " ++ codes "* 1:2 unsaved: ^Q again  ")
 unfolding unicode_segmentation unicode_width digits
 a_size_keeps_the_message = refl
 
 pub three_lines_from_the_top : shown (start (codes "1\n2\n3") 3 4) 0
-    ≡ record { height = 3; width = 4; columns = columns_of (codes "1   2   - 1:"); row = 0; column = 0 }
+    ≡ record { height = 3; width = 4; columns = ascii_columns (codes "1   2   - 1:"); row = 0; column = 0 }
 unfolding unicode_segmentation unicode_width digits
 three_lines_from_the_top = refl
 
 pub the_top_follows_the_cursor : shown (after (start (codes "1\n2\n3") 3 4) (Down ∷ Down ∷ [])) 0
-    ≡ record { height = 3; width = 4; columns = columns_of (codes "2   3   - 3:"); row = 1; column = 0 }
+    ≡ record { height = 3; width = 4; columns = ascii_columns (codes "2   3   - 3:"); row = 1; column = 0 }
 unfolding unicode_segmentation unicode_width digits
 the_top_follows_the_cursor = refl
 
 pub a_line_before_the_others : shown (after (start (codes "1\n2") 3 4) (Insert 10 ∷ [])) 0
-    ≡ record { height = 3; width = 4; columns = columns_of (codes "    1   * 2:"); row = 1; column = 0 }
+    ≡ record { height = 3; width = 4; columns = ascii_columns (codes "    1   * 2:"); row = 1; column = 0 }
 unfolding unicode_segmentation unicode_width digits
 a_line_before_the_others = refl
 
-pub a_long_line_wraps : (shown (start (codes "abcdef") 3 4) 0).columns ≡ columns_of (codes "abcdef  - 1:")
+pub a_long_line_wraps : (shown (start (codes "abcdef") 3 4) 0).columns ≡ ascii_columns (codes "abcdef  - 1:")
 unfolding unicode_segmentation unicode_width digits
 a_long_line_wraps = refl
 
 pub a_save_is_told : (shown (after (start (codes "ab") 2 20) (Insert 0x78 ∷ Save ∷ [])) 0).columns
-    ≡ columns_of (codes "xab                 " ++ codes "- 1:2 saved         ")
+    ≡ ascii_columns (codes "xab                 " ++ codes "- 1:2 saved         ")
 unfolding unicode_segmentation unicode_width digits
 a_save_is_told = refl
 
@@ -176,27 +176,27 @@ after_failed_save width cause =
     after_key tables (Some (record { cause = cause })) (after (start (codes "ab") 2 width) (Insert 0x78 ∷ [])) Save
 
 pub a_failed_save_is_told : (shown (after_failed_save 20 None) 0).columns
-    ≡ columns_of (codes "xab                 " ++ codes "* 1:2 save failed   ")
+    ≡ ascii_columns (codes "xab                 " ++ codes "* 1:2 save failed   ")
 unfolding unicode_segmentation unicode_width digits
 a_failed_save_is_told = refl
 
 pub its_cause_is_told : (shown (after_failed_save 30 (Some NoSpace)) 0).columns
-    ≡ columns_of (codes "xab                           " ++ codes "* 1:2 save failed: no space   ")
+    ≡ ascii_columns (codes "xab                           " ++ codes "* 1:2 save failed: no space   ")
 unfolding unicode_segmentation unicode_width digits
 its_cause_is_told = refl
 
 pub directions_take_turns : (shown (after (start (codes "ab") 2 30) (Direction ∷ [])) 0).columns
-    ≡ columns_of (codes "ab                            " ++ codes "- 1:1 direction ltr           ")
+    ≡ ascii_columns (codes "ab                            " ++ codes "- 1:1 direction ltr           ")
 unfolding unicode_segmentation unicode_width digits
 directions_take_turns = refl
 
 pub the_third_direction_is_the_first : (shown (after (start (codes "ab") 2 30) (Direction ∷ Direction ∷ Direction ∷ [])) 0).columns
-    ≡ columns_of (codes "ab                            " ++ codes "- 1:1 direction auto          ")
+    ≡ ascii_columns (codes "ab                            " ++ codes "- 1:1 direction auto          ")
 unfolding unicode_segmentation unicode_width digits
 the_third_direction_is_the_first = refl
 
 pub an_ended_session_is_blank : shown (after (start (codes "ab") 1 5) (Quit ∷ [])) 0
-    ≡ record { height = 1; width = 5; columns = columns_of (codes "     "); row = 0; column = 0 }
+    ≡ record { height = 1; width = 5; columns = ascii_columns (codes "     "); row = 0; column = 0 }
 unfolding unicode_segmentation unicode_width digits
 an_ended_session_is_blank = refl
 

@@ -10,7 +10,7 @@ use Rattle.bx_keys.specs.declared.key.Key.TheVariants.{Mark, Copy, Cut, Put, Hel
 use Rattle.bx_editor.specs.declared.message.Message.{Message}
 use Rattle.bx_editor.specs.declared.message.Message.TheVariants as messages
 use Rattle.bx_editor.specs.Editor.{Editor}
-use Rattle.bx_editor.proofs.Computed.{start, after, letters, shown, columns_of}
+use Rattle.bx_editor.proofs.Computed.{start, after, letters, shown, ascii_columns}
 
 -- text, place, mark and message
 abbrev marked : Editor → List ℕ × ℕ × Option ℕ × Option Message
@@ -146,7 +146,7 @@ unfolding unicode_segmentation unicode_width digits
 help_is_a_key_between_two_quits = refl
 
 pub the_control_keys_are_listed : (shown (after (start [] 2 80) (Help ∷ [])) 0).columns
-    ≡ columns_of (codes "                                                                                "
+    ≡ ascii_columns (codes "                                                                                "
     ++ codes "- 1:1 ^S save ^Q quit ^Z undo ^W find ^@ mark ^X cut ^C copy ^V put F2 turn     ")
 unfolding unicode_segmentation unicode_width digits
 the_control_keys_are_listed = refl

@@ -6,7 +6,7 @@ use Rattle.unicode_segmentation.proofs.Computing.{unicode_segmentation}
 use Rattle.unicode_width.proofs.Computing.{unicode_width}
 use Rattle.bx_keys.specs.declared.key.Key.{Key}
 use Rattle.bx_keys.specs.declared.key.Key.TheVariants.{Insert, Mark, Copy, Quit, Direction, WordLeft, WordRight, TextStart, TextEnd}
-use Rattle.bx_editor.proofs.Computed.{start, after, shown, columns_of}
+use Rattle.bx_editor.proofs.Computed.{start, after, shown, ascii_columns}
 
 -- the place after keys in a window of a single row
 abbrev place : List ℕ → List Key → ℕ
@@ -55,11 +55,11 @@ a_word_move_clears_the_message = refl
 
 -- the top follows the cursor to both ends
 pub the_end_of_three_lines : shown (after (start (codes "1\n2\n3") 3 4) (TextEnd ∷ [])) 0
-    ≡ record { height = 3; width = 4; columns = columns_of (codes "2   3   - 3:"); row = 1; column = 1 }
+    ≡ record { height = 3; width = 4; columns = ascii_columns (codes "2   3   - 3:"); row = 1; column = 1 }
 unfolding unicode_segmentation unicode_width digits
 the_end_of_three_lines = refl
 
 pub the_start_of_three_lines : shown (after (start (codes "1\n2\n3") 3 4) (TextEnd ∷ TextStart ∷ [])) 2
-    ≡ record { height = 3; width = 4; columns = columns_of (codes "1   2   - 1:"); row = 0; column = 0 }
+    ≡ record { height = 3; width = 4; columns = ascii_columns (codes "1   2   - 1:"); row = 0; column = 0 }
 unfolding unicode_segmentation unicode_width digits
 the_start_of_three_lines = refl

@@ -3,7 +3,7 @@ use Rattle.std.specs.Prelude.{ℕ, Bool, true, false, ◌||◌, ◌==◌, List, 
 use Rattle.std.specs.Char.{to_ascii_lowercase}
 use Rattle.bx_ucd.specs.Data.{Data}
 use Rattle.bx_ucd.specs.Class.{is_unlettered}
-use Rattle.bx_ucd.specs.Joining.{is_direction_mark}
+use Rattle.bx_terms.specs.Characters.{is_direction_mark}
 
 -- ARABIC TATWEEL, which lengthens a stroke, or a directional mark: ALM, LRM or RLM
 abbrev pub is_stroke_or_mark : ℕ → Bool

@@ -2,8 +2,9 @@
 ghost use Rattle.std.specs.Prelude.{◌≡◌};
 ghost use Rattle.bx_find.specs.Letters.{is_stroke_or_mark, is_passed_over, letter_if_any};
 
+use bx_terms::is_direction_mark;
+use bx_ucd::BidiData;
 use bx_ucd::class::is_unlettered;
-use bx_ucd::{BidiData, is_direction_mark};
 
 /// Whether a character is the tatweel or a directional mark: ALM, LRM or RLM.
 #[inline(always)]

@@ -3,8 +3,7 @@ ghost use Rattle.std.specs.Prelude.{◌≡◌, ◌+◌, ◌≤◌, IfSome, encod
 ghost use Rattle.std.specs.List.{range_with_len};
 
 /// The characters from U+FB50 to U+FBFF.
-const FORMS_A: &str =
-    "\u{fb50}\u{fb51}\u{fb52}\u{fb53}\u{fb54}\u{fb55}\u{fb56}\u{fb57}\
+const FORMS_A: &str = "\u{fb50}\u{fb51}\u{fb52}\u{fb53}\u{fb54}\u{fb55}\u{fb56}\u{fb57}\
     \u{fb58}\u{fb59}\u{fb5a}\u{fb5b}\u{fb5c}\u{fb5d}\u{fb5e}\u{fb5f}\
     \u{fb60}\u{fb61}\u{fb62}\u{fb63}\u{fb64}\u{fb65}\u{fb66}\u{fb67}\
     \u{fb68}\u{fb69}\u{fb6a}\u{fb6b}\u{fb6c}\u{fb6d}\u{fb6e}\u{fb6f}\
@@ -28,8 +27,7 @@ const FORMS_A: &str =
     \u{fbf8}\u{fbf9}\u{fbfa}\u{fbfb}\u{fbfc}\u{fbfd}\u{fbfe}\u{fbff}";
 
 /// The characters from U+FE80 to U+FEFC.
-const FORMS_B: &str =
-    "\u{fe80}\u{fe81}\u{fe82}\u{fe83}\u{fe84}\u{fe85}\u{fe86}\u{fe87}\
+const FORMS_B: &str = "\u{fe80}\u{fe81}\u{fe82}\u{fe83}\u{fe84}\u{fe85}\u{fe86}\u{fe87}\
     \u{fe88}\u{fe89}\u{fe8a}\u{fe8b}\u{fe8c}\u{fe8d}\u{fe8e}\u{fe8f}\
     \u{fe90}\u{fe91}\u{fe92}\u{fe93}\u{fe94}\u{fe95}\u{fe96}\u{fe97}\
     \u{fe98}\u{fe99}\u{fe9a}\u{fe9b}\u{fe9c}\u{fe9d}\u{fe9e}\u{fe9f}\

@@ -1,5 +1,5 @@
 -- Kinds of characters that several layers use.
-use Rattle.std.specs.Prelude.{ℕ, Bool, not, ◌&&◌, ◌||◌, nat_le, List, [], ◌∷◌, false, chars}
+use Rattle.std.specs.Prelude.{ℕ, Bool, not, ◌&&◌, ◌||◌, ◌==◌, nat_le, List, [], ◌∷◌, false, chars}
 use Rattle.std.specs.List.{list_all}
 
 abbrev pub is_within : ℕ → ℕ → ℕ → Bool
@@ -8,6 +8,10 @@ is_within low high c = nat_le low c && nat_le c high
 -- a control character of C0 or C1, DELETE, LINE SEPARATOR or PARAGRAPH SEPARATOR
 abbrev pub is_control : ℕ → Bool
 is_control c = (is_within 0x00 0x1F c || is_within 0x7F 0x9F c) || is_within 0x2028 0x2029 c
+
+-- ARABIC LETTER MARK, LEFT-TO-RIGHT MARK or RIGHT-TO-LEFT MARK
+abbrev pub is_direction_mark : ℕ → Bool
+is_direction_mark c = (c == 0x61C) || ((c == 0x200E) || (c == 0x200F))
 
 -- printable ASCII, SPACE to TILDE, as a character or as its byte
 abbrev pub is_ascii_printable : ℕ → Bool

@@ -92,7 +92,7 @@ pub length-future_of : (b : Buffers) (text : List ℕ) (ss : List Step) → leng
 length-future_of b text [] = refl
 length-future_of b text (s ∷ ss) = ap suc (length-future_of b (after_swap b text s) ss)
 
--- the changes of the steps are those of the edits
+-- The history's steps and the edits of the past tell the same changes, in the same order.
 pub past_changes : (b : Buffers) (n : ℕ) (text : List ℕ) (ss : List Step)
     → map (step_change Back) (take n ss) ≡ map change_back (take n (past_of b text ss))
 past_changes b zero text ss = refl

@@ -3,6 +3,7 @@ use Rattle.std.specs.Prelude.{ℕ, Bool, true, false, not, ◌&&◌, ◌||◌, �
 use Rattle.bx_ucd.specs.Answers.{find_last}
 use Rattle.bx_ucd.specs.Class.{is_unlettered}
 use Rattle.bx_ucd.specs.Control.{is_control}
+use Rattle.bx_terms.specs.Characters.{is_direction_mark}
 use Rattle.bx_ucd.specs.declared.class.Class.{Class}
 use Rattle.bx_ucd.specs.declared.class.Class.TheVariants.{BN}
 use Rattle.bx_ucd.specs.declared.joining.Joining.{Joining}
@@ -34,10 +35,6 @@ abbrev pub has_form : (Form → Option ℕ) → Bool
 has_form forms = (is_some (forms Isolated) || is_some (forms Initial)) || (is_some (forms Medial) || is_some (forms Final))
 
 -- ---- joining types
-
--- ARABIC LETTER MARK, LEFT-TO-RIGHT MARK or RIGHT-TO-LEFT MARK
-abbrev pub is_direction_mark : ℕ → Bool
-is_direction_mark c = (c == 0x61C) || ((c == 0x200E) || (c == 0x200F))
 
 -- a nonspacing mark, a formatting character, or a boundary neutral that is no control
 abbrev pub is_joined_across : Class → ℕ → Bool

@@ -1,10 +1,10 @@
 //! How letters join: joining types, and the forms that letters have.
 
 ghost use Rattle.std.specs.Prelude.{◌≡◌};
-ghost use Rattle.bx_ucd.specs.Joining.{counted, is_direction_mark, is_joined_across, joining_by_class, needs_form};
+ghost use Rattle.bx_ucd.specs.Joining.{counted, is_joined_across, joining_by_class, needs_form};
 
 use crate::class::{Class, is_unlettered};
-use bx_terms::is_control;
+use bx_terms::{is_control, is_direction_mark};
 
 /// A joining type (the property Joining_Type), under its short name in the data files.
 #[derive(Clone, Copy, PartialEq, Eq, Debug)]
@@ -34,14 +34,6 @@ pub enum Form {
     Medial,
     /// It joins the letter before it alone.
     Final,
-}
-
-/// Whether a character is ARABIC LETTER MARK, LEFT-TO-RIGHT MARK or RIGHT-TO-LEFT MARK.
-#[inline(always)]
-pub fn is_direction_mark(c: char) -> bool
-    ensures { result ≡ is_direction_mark c }
-{
-    c == '\u{61c}' || c == '\u{200e}' || c == '\u{200f}'
 }
 
 /// Whether letters join across a character of this class, where no line gives its joining type.

@@ -28,7 +28,7 @@ pub use class::Class;
 pub use data::{BidiData, Side};
 pub use error::{Cause, UcdError, UcdFile};
 pub use joined_letters::JoiningFiles;
-pub use joining::{Form, Joining, is_direction_mark};
+pub use joining::{Form, Joining};
 pub use laws::small_tables_are_read;
 pub use sample::sample_tables;
 pub use tables::Tables;

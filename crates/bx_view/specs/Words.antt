@@ -1,7 +1,7 @@
 -- Words of a text: from its paragraphs, its clusters and the classes of its characters alone, without window and rows.
 use Rattle.std.specs.Prelude.{ℕ, ◌+◌, nat_lt, Bool, true, false, not, ◌&&◌, List, [], ◌∷◌, ◌++◌, map, length, reverse, find, unwrap_or, chars}
 use Rattle.bx_ucd.specs.Data.{Data}
-use Rattle.bx_ucd.specs.Joining.{is_direction_mark}
+use Rattle.bx_terms.specs.Characters.{is_direction_mark}
 use Rattle.unicode_segmentation.specs.Grapheme.{graphemes}
 use Rattle.bx_ucd.specs.declared.class.Class.{Class}
 use Rattle.bx_ucd.specs.declared.class.Class.TheVariants.{L, R, AL, EN, AN, NSM, BN}

@@ -6,7 +6,8 @@ ghost use Rattle.bx_paragraph.specs.Layout.{IsLayoutBy};
 ghost use Rattle.bx_view.specs.Words.{body_words, is_of_word, is_word_character, is_word_class, put_if, word_starts};
 
 use bx_paragraph::ParagraphLayout;
-use bx_ucd::{BidiData, Class, is_direction_mark};
+use bx_terms::is_direction_mark;
+use bx_ucd::{BidiData, Class};
 use unicode_segmentation::UnicodeSegmentation;
 
 /// Whether words have characters of a class.

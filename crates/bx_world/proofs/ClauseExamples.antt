@@ -16,7 +16,7 @@ use Rattle.bx_store.specs.Stores.{greatest, no_faults}
 use Rattle.bx_store.specs.declared.store.StoreFault.{StoreFault}
 use Rattle.bx_editor.specs.Editor.{Editor, at_start, rows}
 use Rattle.bx_editor.specs.Picture.{picture}
-use Rattle.bx_editor.proofs.Computed.{tables, columns_of}
+use Rattle.bx_editor.proofs.Computed.{tables, ascii_columns}
 use Rattle.bx_session.specs.Saving.{StoreState}
 use Rattle.bx_session.specs.Session.{Session}
 use Rattle.bx_session.proofs.Computed.{start}
@@ -145,7 +145,7 @@ promised_length : length (unread promised) ≡ 22
 unfolding unicode_segmentation unicode_width digits
 promised_length = refl
 
-promised_columns : (picture_of tables promised.session).columns ≡ columns_of (codes "ab   ")
+promised_columns : (picture_of tables promised.session).columns ≡ ascii_columns (codes "ab   ")
 unfolding unicode_segmentation unicode_width digits
 promised_columns = refl
 
@@ -155,7 +155,7 @@ promised_read = refl
 
 pub a_promise_is_seen : (store store' : StoreState) (new : World) (t : Terminal)
     → (read : List ℕ) × PlaysReading tables promised store ((Read 22, ok) ∷ []) new store' read
-    × SeesPromised tables promised ((Read 22, ok) ∷ []) read new → new.screen ≡ Some t → t.columns ≡ columns_of (codes "ab   ")
+    × SeesPromised tables promised ((Read 22, ok) ∷ []) read new → new.screen ≡ Some t → t.columns ≡ ascii_columns (codes "ab   ")
 a_promise_is_seen store store' new t clause is =
     let plays = clause.1 in
     let all : clause.0 ≡ take 22 promised.line ++ [] = plays.4 ∙ ap (λ xs. take 22 promised.line ++ xs) plays.5.2 in

@@ -9,7 +9,7 @@ use Rattle.bx_grid.specs.Terminal.{Terminal, reads}
 use Rattle.bx_store.specs.declared.store.StoreFault.{StoreFault}
 use Rattle.bx_editor.specs.Editor.{Editor}
 use Rattle.bx_editor.specs.Picture.{picture}
-use Rattle.bx_editor.proofs.Computed.{tables, columns_of}
+use Rattle.bx_editor.proofs.Computed.{tables, ascii_columns}
 use Rattle.bx_session.specs.declared.status.Status.TheVariants.{Running}
 use Rattle.bx_session.specs.Beginning.{Beginning, IsBegun, begun, unpainted_at}
 use Rattle.bx_session.specs.Running.{ByteAnswer, Turn, HasRun}
@@ -71,7 +71,7 @@ in_one_turn n m k = (Send n, ok) ∷ (Byte 0x61, ok) ∷ (Byte 0x62, ok) ∷ (Se
 record ShowsBoth (s : Session) : Type 0 where
   pub height : s.editor.height ≡ 1
   pub width : s.editor.width ≡ 5
-  pub columns : (picture tables s.editor s.top).columns ≡ columns_of (codes "ab   ")
+  pub columns : (picture tables s.editor s.top).columns ≡ ascii_columns (codes "ab   ")
 
 played_both : (n m k : ℕ) (fault fault' : Option StoreFault)
     → ShowsBoth (after_read (after_send (typed_on (typed_in (after_send (begins_at (begun tables empty) window) n) fault) fault') m) k).session
@@ -99,7 +99,7 @@ pub typed_letters_are_shown : HeadlineOfRuns
     → (s : Session) (store store' : StoreState) (reader reader' writer writer' : Option (List ℕ)) (written last : List ℕ) (all : Session)
     → IsBegun tables empty
     → (run : HasRun tables (begun tables empty) s store store' reader reader' writer writer' fed [] written all)
-    → run.in_turns.turns ≡ typed last → s.pending ≡ [] → (reads window written).columns ≡ columns_of (codes "ab   ")
+    → run.in_turns.turns ≡ typed last → s.pending ≡ [] → (reads window written).columns ≡ ascii_columns (codes "ab   ")
 typed_letters_are_shown law s store store' reader reader' writer writer' written last all begins run turns sent =
     let found = law tables empty s store store' reader reader' writer writer' fed [] written all begins run window (record { no_run = refl; no_token = refl }) in
     let n = length run.in_turns.first in
@@ -181,7 +181,7 @@ pub letters_are_shown_as_they_are_read : HeadlineInChangingWindows
     → (run : HasRun tables (begun tables empty) s store store' reader reader' writer writer' fed [] written all)
     → run.in_turns.turns ≡ typed last → s.pending ≡ []
     → (found : RunsInWindow tables empty (begun tables empty) s store store' window (read_between (length run.in_turns.first) (length last) k))
-    × (found.new.line ≡ [] → found.terminal.columns ≡ columns_of (codes "ab   "))
+    × (found.new.line ≡ [] → found.terminal.columns ≡ ascii_columns (codes "ab   "))
 letters_are_shown_as_they_are_read law s store store' reader reader' writer writer' written last all k begins run turns sent =
     let n = length run.in_turns.first in
     let m = length last in
