@@ -14,6 +14,7 @@ use Rattle.bx_keys.specs.declared.key.Key.{Key}
 use Rattle.bx_keys.specs.declared.key.Key.TheVariants.{Insert, Erase, Delete, Up, Down, Right, Left, RowHome, RowEnd, PageUp, PageDown, Quit, Undo, Redo}
 use Rattle.bx_keys.specs.declared.key.Key.TheVariants.{Direction, Size, Notice}
 use Rattle.bx_keys.specs.declared.key.Key.TheVariants.{Mark, Copy, Cut, Put, Find, FindBack, WordLeft, WordRight, TextStart, TextEnd, Help}
+use Rattle.bx_keys.specs.declared.key.Key.TheVariants.{EraseWord, DeleteWord, FindNext, Cancel, ErasePoint, NewLine, LineUp, LineDown, PageBack, PageOn}
 use Rattle.bx_keys.specs.declared.notice.Notice.TheVariants.{NoSpace, InPlace}
 
 abbrev keys : List ℕ → List Key
@@ -35,11 +36,22 @@ search_and_mark = refl
 pub words_and_ends : keys (codes "\u{1b}[76~\u{1b}[77~\u{1b}[78~\u{1b}[79~\u{1b}[80~") ≡ WordLeft ∷ WordRight ∷ TextStart ∷ TextEnd ∷ Help ∷ []
 words_and_ends = refl
 
+pub erased_and_ended : keys (codes "\u{1b}[88~\u{1b}[89~\u{1b}[92~\u{1b}[93~\u{1b}[94~\u{1b}[95~")
+    ≡ EraseWord ∷ DeleteWord ∷ FindNext ∷ Cancel ∷ ErasePoint ∷ NewLine ∷ []
+erased_and_ended = refl
+
+pub lines_and_pages : keys (codes "\u{1b}[96~\u{1b}[97~\u{1b}[98~\u{1b}[99~") ≡ LineUp ∷ LineDown ∷ PageBack ∷ PageOn ∷ []
+lines_and_pages = refl
+
 pub notices : keys (codes "\u{1b}[>1~\u{1b}[>9~\u{1b}[>0~\u{1b}[>10~\u{1b}[>1") ≡ Notice NoSpace ∷ Notice InPlace ∷ []
 notices = refl
 
+-- the numbers from 81 to 99 that have no key
+pub free_numbers : keys (codes "\u{1b}[81~\u{1b}[82~\u{1b}[83~\u{1b}[84~\u{1b}[85~\u{1b}[86~\u{1b}[87~\u{1b}[90~\u{1b}[91~") ≡ []
+free_numbers = refl
+
 -- other numbers, other finals, and bytes between
-pub none_of_these : keys (codes "\u{1b}[69~\u{1b}[81~\u{1b}[070~\u{1b}[72;1~\u{1b}[72 ~\u{1b}[72^\u{1b}[7~") ≡ []
+pub none_of_these : keys (codes "\u{1b}[69~\u{1b}[100~\u{1b}[070~\u{1b}[72;1~\u{1b}[72 ~\u{1b}[72^\u{1b}[7~") ≡ []
 none_of_these = refl
 
 -- terminals send these for the keys: the input filter gives the sequences

@@ -11,6 +11,7 @@ use Rattle.bx_keys.specs.declared.key.Key.{Key}
 use Rattle.bx_keys.specs.declared.key.Key.TheVariants.{Insert, Erase, Delete, Back, Forward, Up, Down, Right, Left, RowHome, RowEnd, PageUp, PageDown, Save}
 use Rattle.bx_keys.specs.declared.key.Key.TheVariants.{Quit, Undo, Redo, Repaint, Direction, Size, Notice}
 use Rattle.bx_keys.specs.declared.key.Key.TheVariants.{Mark, Copy, Cut, Put, Find, FindBack, WordLeft, WordRight, TextStart, TextEnd, Help}
+use Rattle.bx_keys.specs.declared.key.Key.TheVariants.{EraseWord, DeleteWord, FindNext, Cancel, ErasePoint, NewLine, LineUp, LineDown, PageBack, PageOn}
 use Rattle.bx_keys.specs.declared.notice.Notice.TheVariants as notices
 
 -- ---- the key of an item
@@ -40,6 +41,16 @@ sequence_keys =
     ∷ (codes "78~", TextStart)
     ∷ (codes "79~", TextEnd)
     ∷ (codes "80~", Help)
+    ∷ (codes "88~", EraseWord)
+    ∷ (codes "89~", DeleteWord)
+    ∷ (codes "92~", FindNext)
+    ∷ (codes "93~", Cancel)
+    ∷ (codes "94~", ErasePoint)
+    ∷ (codes "95~", NewLine)
+    ∷ (codes "96~", LineUp)
+    ∷ (codes "97~", LineDown)
+    ∷ (codes "98~", PageBack)
+    ∷ (codes "99~", PageOn)
     ∷ (codes ">1~", Notice notices.NoSpace)
     ∷ (codes ">2~", Notice notices.FolderGone)
     ∷ (codes ">3~", Notice notices.NotPermitted)

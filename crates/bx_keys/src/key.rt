@@ -59,6 +59,26 @@ pub enum Key {
     TextEnd,
     /// Shows the keys in the status row.
     Help,
+    /// Removes what stands from the start of the word before the place to the place.
+    EraseWord,
+    /// Removes what stands from the place to the start of the next word.
+    DeleteWord,
+    /// Goes to the next match, and no search stays on.
+    FindNext,
+    /// Ends a search; where none is on, removes the mark.
+    Cancel,
+    /// Removes the last point (a nonspacing mark or zero-width joiner) of the unit before the place, else that unit.
+    ErasePoint,
+    /// Begins a new line with the text's own line end.
+    NewLine,
+    /// One row up, in the column of the first of such moves.
+    LineUp,
+    /// One row down, in the column of the first of such moves.
+    LineDown,
+    /// A screen of rows up, in the column of the first of such moves.
+    PageBack,
+    /// A screen of rows down, in the column of the first of such moves.
+    PageOn,
     /// The window's size in rows and columns, each from 1 to 500.
     Size(u16, u16),
     /// Shows a notice of the host in the status row.

@@ -109,7 +109,8 @@ fn two_byte_key(first: u8, second: u8) -> Option<Key>
 {
     match first {
         b'7' => seventies_key(second),
-        b'8' if second == b'0' => Some(Key::Help),
+        b'8' => eighties_key(second),
+        b'9' => nineties_key(second),
         b'>' => notice_key(second),
         _ => None,
     }
@@ -150,6 +151,37 @@ fn seventies_key(ones: u8) -> Option<Key>
         b'7' => Some(Key::WordRight),
         b'8' => Some(Key::TextStart),
         b'9' => Some(Key::TextEnd),
+        _ => None,
+    }
+}
+
+/// The key of a number from 80 to 89.
+fn eighties_key(ones: u8) -> Option<Key>
+    ensures value { result ≡ spec.sequence_key (0x38 ∷ ones ∷ 0x7E ∷ []) }
+    ensures sides { IfSome result HasSides }
+{
+    match ones {
+        b'0' => Some(Key::Help),
+        b'8' => Some(Key::EraseWord),
+        b'9' => Some(Key::DeleteWord),
+        _ => None,
+    }
+}
+
+/// The key of a number from 90 to 99.
+fn nineties_key(ones: u8) -> Option<Key>
+    ensures value { result ≡ spec.sequence_key (0x39 ∷ ones ∷ 0x7E ∷ []) }
+    ensures sides { IfSome result HasSides }
+{
+    match ones {
+        b'2' => Some(Key::FindNext),
+        b'3' => Some(Key::Cancel),
+        b'4' => Some(Key::ErasePoint),
+        b'5' => Some(Key::NewLine),
+        b'6' => Some(Key::LineUp),
+        b'7' => Some(Key::LineDown),
+        b'8' => Some(Key::PageBack),
+        b'9' => Some(Key::PageOn),
         _ => None,
     }
 }

@@ -45,6 +45,16 @@ fn name_of(key: Key) -> &'static str {
         Key::TextStart => "text_start",
         Key::TextEnd => "text_end",
         Key::Help => "help",
+        Key::EraseWord => "erase_word",
+        Key::DeleteWord => "delete_word",
+        Key::FindNext => "find_next",
+        Key::Cancel => "cancel",
+        Key::ErasePoint => "erase_point",
+        Key::NewLine => "new_line",
+        Key::LineUp => "line_up",
+        Key::LineDown => "line_down",
+        Key::PageBack => "page_back",
+        Key::PageOn => "page_on",
         Key::Notice(_) => "notice",
     }
 }
