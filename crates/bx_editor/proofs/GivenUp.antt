@@ -5,11 +5,13 @@ use Rattle.bx_keys.specs.declared.key.Key.{Key}
 use Rattle.bx_keys.specs.declared.key.Key.TheVariants.{Insert, Erase, Delete, Back, Forward, Up, Down, Right, Left, RowHome, RowEnd, PageUp, PageDown, Save}
 use Rattle.bx_keys.specs.declared.key.Key.TheVariants.{Quit, Undo, Redo, Repaint, Direction, Size, Mark, Copy, Cut, Put}
 use Rattle.bx_keys.specs.declared.key.Key.TheVariants.{Find, FindBack, WordLeft, WordRight, TextStart, TextEnd, Help, Notice}
+use Rattle.bx_keys.specs.declared.key.Key.TheVariants.{EraseWord, DeleteWord, ErasePoint, NewLine, FindNext, Cancel, LineUp, LineDown, PageBack, PageOn}
 use Rattle.bx_store.specs.declared.store.StoreFault.{StoreFault}
 use Rattle.bx_ucd.specs.Data.{Data}
 use Rattle.bx_editor.specs.declared.seek.Seek.{Seek}
 use Rattle.bx_editor.specs.declared.seek.Seek.TheVariants.{Off, Begun, Typed}
 use Rattle.bx_editor.specs.Editor.{Editor, without_message}
+use Rattle.bx_editor.specs.Goal.{without_goal}
 use Rattle.bx_editor.specs.Keys.{after_any, after_key, after_seeking}
 use Rattle.bx_editor.specs.Laws.{after_typing, BeginsSearch, GivesUp, GivingUpGoesBack, IsGivenUp, StaysOn}
 use Rattle.bx_editor.specs.Search.{after_beginning, after_giving_up, is_no_letter, kept, lengthened, search_from, with_query, without_search}
@@ -37,6 +39,8 @@ seeking-keeps d fault again e (Insert c) on =
     letter-keeps e longer (c == 0xA) (is_no_letter d c) (record { origin_is = refl; mark_is = refl; content_is = refl }) on
 seeking-keeps d fault again e Erase on = record { origin_is = refl; mark_is = refl; content_is = refl }
 seeking-keeps d fault again e Delete on = record { origin_is = refl; mark_is = refl; content_is = refl }
+seeking-keeps d fault again e ErasePoint on = record { origin_is = refl; mark_is = refl; content_is = refl }
+seeking-keeps d fault again e FindNext on = record { origin_is = refl; mark_is = refl; content_is = refl }
 seeking-keeps d fault again e Find on = record { origin_is = refl; mark_is = refl; content_is = refl }
 seeking-keeps d fault again e FindBack on = record { origin_is = refl; mark_is = refl; content_is = refl }
 seeking-keeps d fault again e Repaint on = record { origin_is = refl; mark_is = refl; content_is = refl }
@@ -64,6 +68,14 @@ seeking-keeps d fault again e WordRight on = absurd (on refl)
 seeking-keeps d fault again e TextStart on = absurd (on refl)
 seeking-keeps d fault again e TextEnd on = absurd (on refl)
 seeking-keeps d fault again e Help on = absurd (on refl)
+seeking-keeps d fault again e EraseWord on = absurd (on refl)
+seeking-keeps d fault again e DeleteWord on = absurd (on refl)
+seeking-keeps d fault again e NewLine on = absurd (on refl)
+seeking-keeps d fault again e Cancel on = absurd (on refl)
+seeking-keeps d fault again e LineUp on = absurd (on refl)
+seeking-keeps d fault again e LineDown on = absurd (on refl)
+seeking-keeps d fault again e PageBack on = absurd (on refl)
+seeking-keeps d fault again e PageOn on = absurd (on refl)
 seeking-keeps d fault again e (Size height width) on = absurd (on refl)
 seeking-keeps d fault again e (Notice notice) on = absurd (on refl)
 
@@ -110,15 +122,15 @@ typing-keeps d e (key ∷ typed) on =
 same-key : (d : Data) (e : Editor) (key other : Key) (new : Editor) → key ≡ other → after_key d None e other ≡ new → after_key d None e key ≡ new
 same-key d e key other new is done = subst (λ k. after_key d None e k ≡ new) (sym is) done
 
-find-begins : (d : Data) (e : Editor) → e.seek ≡ Off → after_key d None e Find ≡ after_beginning (without_message e)
-find-begins d e off = ap (λ s. after_any d None e.quit_before s (without_message e) Find) off
+find-begins : (d : Data) (e : Editor) → e.seek ≡ Off → after_key d None e Find ≡ without_goal (after_beginning (without_message e))
+find-begins d e off = ap (λ s. without_goal (after_any d None e.quit_before s (without_message e) Find)) off
 
-find-back-begins : (d : Data) (e : Editor) → e.seek ≡ Off → after_key d None e FindBack ≡ after_beginning (without_message e)
-find-back-begins d e off = ap (λ s. after_any d None e.quit_before s (without_message e) FindBack) off
+find-back-begins : (d : Data) (e : Editor) → e.seek ≡ Off → after_key d None e FindBack ≡ without_goal (after_beginning (without_message e))
+find-back-begins d e off = ap (λ s. without_goal (after_any d None e.quit_before s (without_message e) FindBack)) off
 
-begin-is : (d : Data) (e : Editor) (begin : Key) → e.seek ≡ Off → BeginsSearch begin → after_key d None e begin ≡ after_beginning (without_message e)
-begin-is d e begin off (inl is) = same-key d e begin Find (after_beginning (without_message e)) is (find-begins d e off)
-begin-is d e begin off (inr is) = same-key d e begin FindBack (after_beginning (without_message e)) is (find-back-begins d e off)
+begin-is : (d : Data) (e : Editor) (begin : Key) → e.seek ≡ Off → BeginsSearch begin → after_key d None e begin ≡ without_goal (after_beginning (without_message e))
+begin-is d e begin off (inl is) = same-key d e begin Find (without_goal (after_beginning (without_message e))) is (find-begins d e off)
+begin-is d e begin off (inr is) = same-key d e begin FindBack (without_goal (after_beginning (without_message e))) is (find-back-begins d e off)
 
 quit-any : (d : Data) (again : Bool) (seek : Seek) (e : Editor) → seek ≢ Off → after_any d None again seek e Quit ≡ after_giving_up e
 quit-any d again Off e on = absurd (on refl)
@@ -130,11 +142,19 @@ copy-any d again Off e on = absurd (on refl)
 copy-any d again Begun e on = refl
 copy-any d again Typed e on = refl
 
-give-is : (d : Data) (e : Editor) (give : Key) → e.seek ≢ Off → GivesUp give → after_key d None e give ≡ after_giving_up (without_message e)
+cancel-any : (d : Data) (again : Bool) (seek : Seek) (e : Editor) → seek ≢ Off → after_any d None again seek e Cancel ≡ after_giving_up e
+cancel-any d again Off e on = absurd (on refl)
+cancel-any d again Begun e on = refl
+cancel-any d again Typed e on = refl
+
+give-is : (d : Data) (e : Editor) (give : Key) → e.seek ≢ Off → GivesUp give → after_key d None e give ≡ without_goal (after_giving_up (without_message e))
 give-is d e give on (inl is) =
-    same-key d e give Quit (after_giving_up (without_message e)) is (quit-any d e.quit_before e.seek (without_message e) on)
-give-is d e give on (inr is) =
-    same-key d e give Copy (after_giving_up (without_message e)) is (copy-any d e.quit_before e.seek (without_message e) on)
+    same-key d e give Quit (without_goal (after_giving_up (without_message e))) is (ap without_goal (quit-any d e.quit_before e.seek (without_message e) on))
+give-is d e give on (inr (inl is)) =
+    same-key d e give Copy (without_goal (after_giving_up (without_message e))) is (ap without_goal (copy-any d e.quit_before e.seek (without_message e) on))
+give-is d e give on (inr (inr is)) =
+    same-key d e give Cancel (without_goal (after_giving_up (without_message e))) is
+    (ap without_goal (cancel-any d e.quit_before e.seek (without_message e) on))
 
 pub giving-up-goes-back : GivingUpGoesBack
 giving-up-goes-back d e begin give typed off begins gives on =

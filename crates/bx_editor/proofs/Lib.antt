@@ -3,6 +3,7 @@ pub mod Examples
 pub mod RegionExamples
 pub mod SeenRegionExamples
 pub mod WordKeyExamples
+pub mod WorkKeyExamples
 pub mod SearchExamples
 pub mod StatusExamples
 pub mod StepOrder

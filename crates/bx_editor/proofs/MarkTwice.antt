@@ -9,6 +9,7 @@ use Rattle.bx_editor.specs.declared.message.Message.TheVariants.{MarkOff, MarkSe
 use Rattle.bx_editor.specs.declared.seek.Seek.{Seek}
 use Rattle.bx_editor.specs.declared.seek.Seek.TheVariants.{Off, Begun, Typed}
 use Rattle.bx_editor.specs.Editor.{Editor, with_place, without_message}
+use Rattle.bx_editor.specs.Goal.{without_goal}
 use Rattle.bx_editor.specs.Keys.{after_any, after_key, after_keys}
 use Rattle.bx_editor.specs.Laws.{GoesToBothEnds, MarkTwiceIsNothing}
 use Rattle.bx_editor.specs.Region.{after_mark, is_at_mark}
@@ -26,12 +27,12 @@ mark-any d again Off e is =
 mark-any d again Begun e is = refl
 mark-any d again Typed e is = refl
 
-mark-is : (d : Data) (e : Editor) → after_key d None e Mark ≡ without_search (after_mark (without_message e))
-mark-is d e = mark-any d e.quit_before e.seek (without_message e) refl
+mark-is : (d : Data) (e : Editor) → after_key d None e Mark ≡ without_goal (without_search (after_mark (without_message e)))
+mark-is d e = ap without_goal (mark-any d e.quit_before e.seek (without_message e) refl)
 
--- once the message is cleared and the search is over, with a mark and a message
+-- once the message is cleared, the search is over and no column is kept, with a mark and a message
 abbrev marked : Editor → Option ℕ → Option Message → Editor
-marked e mark message = record e { mark = mark; seek = Off; message = message; quit_before = false }
+marked e mark message = record e { mark = mark; seek = Off; message = message; quit_before = false; goal = None }
 
 at-itself : (place : ℕ) → (place == place) ≡ true
 at-itself place = grind (arith, nat_tests)
@@ -40,13 +41,13 @@ at-itself place = grind (arith, nat_tests)
 abbrev left : Editor → Bool → Editor
 left e there =
     let was = without_message e in
-    without_search (if there then record was { mark = None; message = Some MarkOff } else record was { mark = Some e.place; message = Some MarkSet })
+    without_goal (without_search (if there then record was { mark = None; message = Some MarkOff } else record was { mark = Some e.place; message = Some MarkSet }))
 
-mark-there : (e : Editor) → is_at_mark e.mark e.place ≡ true → without_search (after_mark (without_message e)) ≡ marked e None (Some MarkOff)
+mark-there : (e : Editor) → is_at_mark e.mark e.place ≡ true → without_goal (without_search (after_mark (without_message e))) ≡ marked e None (Some MarkOff)
 mark-there e is = ap (left e) is
 
 mark-not-there : (e : Editor) → is_at_mark e.mark e.place ≡ false
-    → without_search (after_mark (without_message e)) ≡ marked e (Some e.place) (Some MarkSet)
+    → without_goal (without_search (after_mark (without_message e))) ≡ marked e (Some e.place) (Some MarkSet)
 mark-not-there e is = ap (left e) is
 
 twice-there : (d : Data) (e : Editor) → is_at_mark e.mark e.place ≡ true
@@ -99,6 +100,6 @@ pub goes-to-both-ends : GoesToBothEnds
 goes-to-both-ends d e =
     let was = without_message e in
     record {
-      start = ap (λ new. after_key d None new TextStart) (end-any d e.quit_before e.seek was refl);
-      end = ap (λ new. after_key d None new TextEnd) (start-any d e.quit_before e.seek was refl);
+      start = ap (λ new. after_key d None (without_goal new) TextStart) (end-any d e.quit_before e.seek was refl);
+      end = ap (λ new. after_key d None (without_goal new) TextEnd) (start-any d e.quit_before e.seek was refl);
     }

@@ -13,6 +13,7 @@ use Rattle.bx_ucd.specs.Data.{Data}
 use Rattle.bx_editor.specs.declared.seek.Seek.{Seek}
 use Rattle.bx_editor.specs.declared.seek.Seek.TheVariants.{Off, Begun, Typed}
 use Rattle.bx_editor.specs.Editor.{Editor, after_insertion, place_after, without_message}
+use Rattle.bx_editor.specs.Goal.{without_goal}
 use Rattle.bx_editor.specs.Keys.{after_any, after_key, after_keys}
 use Rattle.bx_editor.specs.Region.{after_copy, after_cut, after_put, bytes_in, is_empty, line, region, taken}
 use Rattle.bx_editor.specs.Search.{without_search}
@@ -97,7 +98,8 @@ copy-puts-twice d e off is fit =
     let was = without_message e in
     let none : Editor = record was { mark = None; message = Some NothingToCopy } in
     let one : Editor = record was { mark = None; held = bytes_in e (line d e); message = Some LineCopied } in
-    let held : Editor = record was { mark = None; held = r; message = Some Copied } in
+    let copy : Editor = record was { mark = None; held = r; message = Some Copied } in
+    let held = without_goal copy in
     let order : a ≤ b = omega (arith, is.some) in
     let long : length r ≡ b - a = part-length text a b order is.inside in
     let twice-is : (k : ℕ) → k ≡ a → splice text k k r ≡ twice e (region e) =
@@ -120,10 +122,10 @@ copy-puts-twice d e off is fit =
       length-drop b text,
     ) in
     let copied : after_key d None e Copy ≡ held =
-    ap (λ s. after_any d None e.quit_before s was Copy) off
-    ∙ ap (λ x. if x then (if is_empty (line d e) then none else one) else held) (is-there e (region e) is) in
-    let pressed : after_keys d None e (Copy ∷ Put ∷ []) ≡ after_put d (without_message held) =
-    ap (λ new. after_key d None new Put) copied ∙ ap (λ s. after_any d None held.quit_before s (without_message held) Put) off in
+    ap (λ s. without_goal (after_any d None e.quit_before s was Copy)) off
+    ∙ ap (λ x. without_goal (if x then (if is_empty (line d e) then none else one) else copy)) (is-there e (region e) is) in
+    let pressed : after_keys d None e (Copy ∷ Put ∷ []) ≡ without_goal (after_put d (without_message held)) =
+    ap (λ new. after_key d None new Put) copied ∙ ap (λ s. without_goal (after_any d None held.quit_before s (without_message held) Put)) off in
     let room = has-room text e.place r (omega (arith, size, fit)) in
     let done = put-has d (without_message held) (twice e (region e)) (e.place + length r) (omega (arith, long, is.some)) room put refl in
     subst (HasPut d e (twice e (region e)) (e.place + length r)) (sym pressed)
@@ -147,12 +149,14 @@ put-restores-cut d e is short there =
     let was = without_message e in
     let after = place_after d was (splice text a b []) a in
     let without : Editor = record was { content = removed e.content a b e.place after; place = after; mark = None; seek = Off; changed = true } in
-    let cut : Editor = record without { held = r } in
+    let taken-out : Editor = record without { held = r } in
+    let cut = without_goal taken-out in
     let order : a ≤ b = omega (arith, is.some) in
     let long : length r ≡ b - a = part-length text a b order is.inside in
     let same : after_key d None e Cut ≡ cut =
-    cut-any d e.quit_before e.seek was cut
-    (ap (λ x. if x then after_copy d was else record (if x then was else without) { held = r }) (is-there e (taken d e) is)) refl in
+    ap without_goal
+    (cut-any d e.quit_before e.seek was taken-out
+    (ap (λ x. if x then after_copy d was else record (if x then was else without) { held = r }) (is-there e (taken d e) is)) refl) in
     let at : after ≡ a = sym (ap (λ (c : Editor). c.place) same) ∙ there in
     let size : length (splice text a b []) + length r ≡ length text =
     omega (
@@ -165,7 +169,7 @@ put-restores-cut d e is short there =
       length-append (take a text) (drop b text),
       length-drop b text,
     ) in
-    let pressed : after_keys d None e (Cut ∷ Put ∷ []) ≡ after_put d (without_message cut) = ap (λ c. after_key d None c Put) same in
+    let pressed : after_keys d None e (Cut ∷ Put ∷ []) ≡ without_goal (after_put d (without_message cut)) = ap (λ c. after_key d None c Put) same in
     let put : splice (splice text a b []) after after r ≡ text =
     ap (λ k. splice (splice text a b []) k k r) at ∙ back text a b order is.inside in
     let room = has-room (splice text a b []) after r (omega (arith, size, short)) in

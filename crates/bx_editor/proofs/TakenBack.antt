@@ -6,9 +6,11 @@ use Rattle.bx_keys.specs.declared.key.Key.{Key}
 use Rattle.bx_keys.specs.declared.key.Key.TheVariants.{Insert, Erase, Delete, Back, Forward, Up, Down, Right, Left, RowHome, RowEnd, PageUp, PageDown, Save}
 use Rattle.bx_keys.specs.declared.key.Key.TheVariants.{Quit, Undo, Redo, Repaint, Direction, Size, Mark, Copy, Cut, Put}
 use Rattle.bx_keys.specs.declared.key.Key.TheVariants.{Find, FindBack, WordLeft, WordRight, TextStart, TextEnd, Help, Notice}
+use Rattle.bx_keys.specs.declared.key.Key.TheVariants.{EraseWord, DeleteWord, ErasePoint, NewLine, FindNext, Cancel, LineUp, LineDown, PageBack, PageOn}
 use Rattle.bx_store.specs.declared.store.StoreFault.{StoreFault}
 use Rattle.bx_text.specs.Edits.{Edit, Edited, fits, inserted, removed, splice}
 use Rattle.bx_view.specs.Moves.{step_logical}
+use Rattle.bx_view.specs.Words.{step_word}
 use Rattle.bx_view.specs.declared.moves.Logical.TheVariants as logical
 use Rattle.bx_editor.specs.declared.message.Message.TheVariants.{TextFull, Unsaved, Copied, LineCopied, MarkOff, MarkSet, NothingToCopy, NothingToPut}
 use Rattle.bx_ucd.specs.Data.{Data}
@@ -16,9 +18,10 @@ use Rattle.bx_editor.specs.declared.seek.Seek.{Seek}
 use Rattle.bx_editor.specs.declared.seek.Seek.TheVariants.{Off, Begun, Typed}
 use Rattle.bx_editor.specs.Editor.{Editor, at_start, rows, place_after, after_insertion, after_removal, without_message}
 use Rattle.bx_editor.specs.Editor.{after_undo, after_redo, after_save, after_quit}
+use Rattle.bx_editor.specs.Erasing.{line_end, point_before}
 use Rattle.bx_editor.specs.Keys.{after_any, after_key, after_keys, after_pressing, after_seeking}
 use Rattle.bx_editor.specs.Region.{after_copy, after_cut, after_mark, after_put, bytes_in, is_at_mark, is_empty, line, region, taken}
-use Rattle.bx_editor.specs.Search.{after_letter, is_no_letter, kept, lengthened, search_from, with_query, without_search}
+use Rattle.bx_editor.specs.Search.{after_beginning, after_letter, is_no_letter, kept, lengthened, next_or_start, search_from, sought, with_query, without_search}
 use Rattle.bx_editor.specs.Laws.{after_typing, IsBackAt, IsUnmarkedAt, mark_behind, UndoGivesBack, RedoMirrorsUndo}
 use Rattle.bx_editor.proofs.InSearch.{each-key}
 
@@ -140,6 +143,17 @@ press_has d fault again first e WordRight h = h
 press_has d fault again first e TextStart h = h
 press_has d fault again first e TextEnd h = h
 press_has d fault again first e Help h = h
+press_has d fault again first e EraseWord h = removal_has first d e (step_word d e.content.text logical.Back e.place) e.place h
+press_has d fault again first e DeleteWord h = removal_has first d e e.place (step_word d e.content.text logical.Forward e.place) h
+press_has d fault again first e ErasePoint h = removal_has first d e (point_before d e) e.place h
+press_has d fault again first e NewLine h = insertion_has first d e (line_end d e.content.text) h
+press_has d fault again first e FindNext h =
+    either_has (length (sought d e) == 0) first (after_beginning e) (search_from d (next_or_start d e) e) h h
+press_has d fault again first e Cancel h = h
+press_has d fault again first e LineUp h = h
+press_has d fault again first e LineDown h = h
+press_has d fault again first e PageBack h = h
+press_has d fault again first e PageOn h = h
 press_has d fault again first e (Size height width) h = h
 press_has d fault again first e (Notice notice) h = h
 
@@ -180,6 +194,16 @@ seek_has d fault again first e WordRight h = press_has d fault again first e Wor
 seek_has d fault again first e TextStart h = press_has d fault again first e TextStart h
 seek_has d fault again first e TextEnd h = press_has d fault again first e TextEnd h
 seek_has d fault again first e Help h = press_has d fault again first e Help h
+seek_has d fault again first e EraseWord h = press_has d fault again first e EraseWord h
+seek_has d fault again first e DeleteWord h = press_has d fault again first e DeleteWord h
+seek_has d fault again first e ErasePoint h = h
+seek_has d fault again first e NewLine h = h
+seek_has d fault again first e FindNext h = h
+seek_has d fault again first e Cancel h = h
+seek_has d fault again first e LineUp h = press_has d fault again first e LineUp h
+seek_has d fault again first e LineDown h = press_has d fault again first e LineDown h
+seek_has d fault again first e PageBack h = press_has d fault again first e PageBack h
+seek_has d fault again first e PageOn h = press_has d fault again first e PageOn h
 seek_has d fault again first e (Size height width) h = press_has d fault again first e (Size height width) h
 seek_has d fault again first e (Notice notice) h = press_has d fault again first e (Notice notice) h
 
@@ -229,7 +253,7 @@ all_back : (d : Data) (first : List ℕ) (e : Editor) (text : List ℕ) (past fu
 all_back d first e text [] future h = record { text_is = h; past_is = refl; place_is = refl; mark_is = refl }
 all_back d first e text (edit ∷ past) future h =
     let now : Editor = record e { content = version text (edit ∷ past) future } in
-    let undone : Editor = record (without_message e) { place = edit.before.place; mark = None; seek = Off; changed = true } in
+    let undone : Editor = record (without_message e) { place = edit.before.place; mark = None; seek = Off; changed = true; goal = None } in
     let back = all_back d first undone edit.before.text past (edit ∷ future) h.1 in
     subst (λ new. IsBackAt first now (after_keys d None new (replicate (length past) Undo)))
     (sym (undone_is d e.quit_before e.seek (without_message e) text edit past future))

@@ -36,6 +36,8 @@ pub record Editor : Type 0 where
   pub quit_before : Bool
   pub ended : Bool
   pub base : Base
+  -- the column, from 1, that moves from row to row keep, if one is kept
+  pub goal : Option ℕ
   -- the window's rows and columns
   pub height : ℕ
   pub width : ℕ
@@ -60,6 +62,7 @@ at_start text height width base = record {
   quit_before = false;
   ended = false;
   base = base;
+  goal = None;
   height = height;
   width = width;
 }

@@ -4,6 +4,7 @@ use Rattle.bx_keys.specs.declared.key.Key.{Key}
 use Rattle.bx_keys.specs.declared.key.Key.TheVariants.{Insert, Erase, Delete, Back, Forward, Up, Down, Right, Left, RowHome, RowEnd, PageUp, PageDown}
 use Rattle.bx_keys.specs.declared.key.Key.TheVariants.{Save, Quit, Undo, Redo, Repaint, Direction, Size, Mark, Copy, Cut, Put}
 use Rattle.bx_keys.specs.declared.key.Key.TheVariants.{Find, FindBack, WordLeft, WordRight, TextStart, TextEnd, Help, Notice}
+use Rattle.bx_keys.specs.declared.key.Key.TheVariants.{EraseWord, DeleteWord, ErasePoint, NewLine, FindNext, Cancel, LineUp, LineDown, PageBack, PageOn}
 use Rattle.bx_store.specs.declared.store.StoreFault.{StoreFault}
 use Rattle.bx_paragraph.specs.declared.moves.Visual.TheVariants as visual
 use Rattle.bx_view.specs.declared.moves.Logical.TheVariants as logical
@@ -12,10 +13,12 @@ use Rattle.bx_view.specs.Moves.{step_logical, step_visual, vertical, page, row_h
 use Rattle.bx_ucd.specs.Data.{Data}
 use Rattle.bx_editor.specs.Editor.{Editor, rows, text_height, after_insertion, after_removal, after_undo, after_redo, after_save, after_quit}
 use Rattle.bx_editor.specs.Editor.{next_base, with_base, with_notice, with_size, with_place, after_help, without_message}
+use Rattle.bx_editor.specs.Erasing.{after_deleting_word, after_erasing_point, after_erasing_word, after_new_line}
+use Rattle.bx_editor.specs.Goal.{after_row_move, goal_behind}
 use Rattle.bx_editor.specs.declared.seek.Seek.{Seek}
 use Rattle.bx_editor.specs.declared.seek.Seek.TheVariants.{Off}
-use Rattle.bx_editor.specs.Search.{after_beginning, after_find, after_find_back, after_giving_up, after_letter, after_shortening, without_search}
-use Rattle.bx_editor.specs.Region.{after_copy, after_cut, after_mark, after_put}
+use Rattle.bx_editor.specs.Search.{after_beginning, after_find, after_find_back, after_find_next, after_giving_up, after_letter, after_shortening, without_search}
+use Rattle.bx_editor.specs.Region.{after_copy, after_cut, after_mark, after_put, without_mark}
 
 -- The user presses a key outside a search, and the message is cleared. `fault`: why a Save failed, None if it succeeded; `again`: the key before was Quit.
 abbrev pub after_pressing : Data → Option StoreFault → Bool → Editor → Key → Editor
@@ -49,6 +52,16 @@ after_pressing d fault again e WordRight = with_place e (word_towards d e.conten
 after_pressing d fault again e TextStart = with_place e 0
 after_pressing d fault again e TextEnd = with_place e (length e.content.text)
 after_pressing d fault again e Help = after_help e
+after_pressing d fault again e EraseWord = after_erasing_word d e
+after_pressing d fault again e DeleteWord = after_deleting_word d e
+after_pressing d fault again e ErasePoint = after_erasing_point d e
+after_pressing d fault again e NewLine = after_new_line d e
+after_pressing d fault again e FindNext = after_find_next d e
+after_pressing d fault again e Cancel = without_mark e
+after_pressing d fault again e LineUp = after_row_move d e ways.Up 1
+after_pressing d fault again e LineDown = after_row_move d e ways.Down 1
+after_pressing d fault again e PageBack = after_row_move d e ways.Up (text_height e.height)
+after_pressing d fault again e PageOn = after_row_move d e ways.Down (text_height e.height)
 after_pressing d fault again e (Size height width) = e
 after_pressing d fault again e (Notice notice) = e
 
@@ -57,10 +70,14 @@ abbrev pub after_seeking : Data → Option StoreFault → Bool → Editor → Ke
 after_seeking d fault again e (Insert c) = after_letter d e c
 after_seeking d fault again e Erase = after_shortening d e
 after_seeking d fault again e Delete = after_shortening d e
+after_seeking d fault again e ErasePoint = after_shortening d e
+after_seeking d fault again e NewLine = without_search e
 after_seeking d fault again e Find = after_find d e
+after_seeking d fault again e FindNext = after_find d e
 after_seeking d fault again e FindBack = after_find_back d e
 after_seeking d fault again e Quit = after_giving_up e
 after_seeking d fault again e Copy = after_giving_up e
+after_seeking d fault again e Cancel = after_giving_up e
 after_seeking d fault again e Repaint = e
 after_seeking d fault again e key = without_search (after_pressing d fault again e key)
 
@@ -69,11 +86,17 @@ abbrev pub after_any : Data → Option StoreFault → Bool → Seek → Editor �
 after_any d fault again Off e key = after_pressing d fault again e key
 after_any d fault again _ e key = after_seeking d fault again e key
 
--- any key; a key that the user pressed clears the message first
+-- a key that the user presses: the message is cleared first, and the kept column is forgotten behind it, but by moves from row to row
+abbrev pub after_user : Data → Option StoreFault → Editor → Key → Editor
+after_user d fault e key =
+    let new = after_any d fault e.quit_before e.seek (without_message e) key in
+    record new { goal = goal_behind key new.goal }
+
+-- any key
 abbrev pub after_key : Data → Option StoreFault → Editor → Key → Editor
 after_key d fault e (Size height width) = with_size e height width
 after_key d fault e (Notice notice) = with_notice e notice
-after_key d fault e key = after_any d fault e.quit_before e.seek (without_message e) key
+after_key d fault e key = after_user d fault e key
 
 -- keys in sequence; all Saves succeed, or all fail with this fault
 abbrev pub after_keys : Data → Option StoreFault → Editor → List Key → Editor
@@ -90,6 +113,7 @@ is_edit_or_move Repaint = false
 is_edit_or_move Direction = false
 is_edit_or_move Mark = false
 is_edit_or_move Help = false
+is_edit_or_move Cancel = false
 is_edit_or_move (Size height width) = false
 is_edit_or_move (Notice notice) = false
 is_edit_or_move _ = true

@@ -3,7 +3,7 @@ use Rattle.std.specs.Prelude.{◌≡◌, ◌≢◌, ◌⊎◌, ℕ, ◌+◌, ◌
 use Rattle.bx_terms.specs.Sizes.{is_side, largest_text}
 use Rattle.bx_terms.specs.declared.base.Base.{Base}
 use Rattle.bx_keys.specs.declared.key.Key.{Key}
-use Rattle.bx_keys.specs.declared.key.Key.TheVariants.{Quit, Undo, Redo, Mark, Copy, Cut, Put, Find, FindBack, TextStart, TextEnd}
+use Rattle.bx_keys.specs.declared.key.Key.TheVariants.{Quit, Undo, Redo, Mark, Copy, Cut, Put, Find, FindBack, TextStart, TextEnd, Cancel}
 use Rattle.bx_store.specs.declared.store.StoreFault.{StoreFault}
 use Rattle.bx_text.specs.Edits.{Edit}
 use Rattle.bx_ucd.specs.Data.{Data}
@@ -118,11 +118,12 @@ PutRestoresCut =
     → HasPut d e e.content.text ((taken d e).1) (after_keys d None e (Cut ∷ Put ∷ []))
 
 -- Mark twice at one place changes nothing but the message, if the mark was there or nowhere; a mark elsewhere is gone. A
--- search ends, and an earlier Quit is forgotten.
+-- search ends, and an earlier Quit and a kept column are forgotten.
 pub record AreTwoMarks (e new : Editor) : Type 0 where
-  pub here : (e.mark ≡ None) ⊎ (e.mark ≡ Some e.place) → new ≡ record e { seek = Off; message = new.message; quit_before = false }
+  pub here : (e.mark ≡ None) ⊎ (e.mark ≡ Some e.place)
+      → new ≡ record e { seek = Off; message = new.message; quit_before = false; goal = None }
   pub elsewhere : (mark : ℕ) → e.mark ≡ Some mark → mark ≢ e.place
-      → new ≡ record e { mark = None; seek = Off; message = new.message; quit_before = false }
+      → new ≡ record e { mark = None; seek = Off; message = new.message; quit_before = false; goal = None }
 
 abbrev pub MarkTwiceIsNothing : Type 0
 MarkTwiceIsNothing = (d : Data) (e : Editor) → AreTwoMarks e (after_keys d None e (Mark ∷ Mark ∷ []))
@@ -130,11 +131,11 @@ MarkTwiceIsNothing = (d : Data) (e : Editor) → AreTwoMarks e (after_keys d Non
 -- ---- the text's ends
 
 -- TextEnd then TextStart leads to the text's start, TextStart then TextEnd to its end; all else stays, but a search ends, and
--- the message and an earlier Quit are gone
+-- the message, an earlier Quit and a kept column are gone
 pub record ReachesBothEnds (d : Data) (e : Editor) : Type 0 where
-  pub start : after_keys d None e (TextEnd ∷ TextStart ∷ []) ≡ record e { place = 0; seek = Off; message = None; quit_before = false }
+  pub start : after_keys d None e (TextEnd ∷ TextStart ∷ []) ≡ record e { place = 0; seek = Off; message = None; quit_before = false; goal = None }
   pub end : after_keys d None e (TextStart ∷ TextEnd ∷ [])
-      ≡ record e { place = length e.content.text; seek = Off; message = None; quit_before = false }
+      ≡ record e { place = length e.content.text; seek = Off; message = None; quit_before = false; goal = None }
 
 abbrev pub GoesToBothEnds : Type 0
 GoesToBothEnds = (d : Data) (e : Editor) → ReachesBothEnds d e
@@ -183,7 +184,7 @@ abbrev pub BeginsSearch : Key → Type 0
 BeginsSearch key = (key ≡ Find) ⊎ (key ≡ FindBack)
 
 abbrev pub GivesUp : Key → Type 0
-GivesUp key = (key ≡ Quit) ⊎ (key ≡ Copy)
+GivesUp key = (key ≡ Quit) ⊎ ((key ≡ Copy) ⊎ (key ≡ Cancel))
 
 -- a search is on, and stays on while these keys are typed
 abbrev pub StaysOn : Data → Editor → List (Key × Option StoreFault) → Type 0

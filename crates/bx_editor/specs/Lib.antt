@@ -1,6 +1,8 @@
 pub mod Editor
 pub mod Region
 pub mod Search
+pub mod Goal
+pub mod Erasing
 pub mod Origin
 pub mod Keys
 pub mod Opening

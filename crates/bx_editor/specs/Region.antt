@@ -36,6 +36,10 @@ abbrev pub after_mark : Editor → Editor
 after_mark e =
     if is_at_mark e.mark e.place then record e { mark = None; message = Some MarkOff } else record e { mark = Some e.place; message = Some MarkSet }
 
+-- Cancel removes the mark
+abbrev pub without_mark : Editor → Editor
+without_mark e = record e { mark = None }
+
 -- Copy holds the region, or the line if the region is empty; if both are empty, the held text stays
 abbrev pub after_copy : Data → Editor → Editor
 after_copy d e =

@@ -114,6 +114,10 @@ next_or_start d e = unwrap_or (find (nat_lt e.place) (places (rows d e))) 0
 abbrev pub after_find : Data → Editor → Editor
 after_find d e = search_from d (next_or_start d e) (record e { seek = Typed })
 
+-- FindNext: to the next match, and no search is on; if the query has no letters, a search begins
+abbrev pub after_find_next : Data → Editor → Editor
+after_find_next d e = if length (sought d e) == 0 then after_beginning e else search_from d (next_or_start d e) e
+
 -- to the previous match
 abbrev pub after_find_back : Data → Editor → Editor
 after_find_back d e = search_back d (record e { seek = Typed })

@@ -1,8 +1,8 @@
 //! The keys that edit, undo and redo.
 ghost use Rattle.std.specs.Prelude.{◌≡◌, true, None, OnErr, OnOk, encode_utf8};
 ghost use Rattle.bx_text.specs.Edits.{IsRange};
-ghost use Rattle.bx_view.specs.Moves.{step_logical};
-ghost use Rattle.bx_editor.specs.Editor.{after_insertion, after_removal, after_step, nothing_left, rows, without_message};
+ghost use Rattle.bx_editor.specs.Editor.{after_insertion, after_removal, after_step, nothing_left, without_message};
+ghost use Rattle.bx_editor.specs.Erasing.{after_new_line};
 
 use crate::editor::Editor;
 use crate::message::Message;
@@ -10,7 +10,6 @@ use crate::seek::Seek;
 use bx_document::HistoryStep;
 use bx_terms::OutOfMemory;
 use bx_ucd::BidiData;
-use bx_view::{Logical, Move};
 
 /// The message where there is nothing to undo, or to redo.
 fn nothing_left(step: HistoryStep) -> Message
@@ -42,6 +41,22 @@ impl<D: BidiData + Drop> Editor<D> {
         self.forget();
     }
 
+    /// Inserts a text at the place; if the editor's text is full, sets a message instead.
+    fn insert_text(&mut self, new: &str) -> Result<(), OutOfMemory>
+        ensures ok { OnOk result (self.new ≡ record self.old {
+          editor = after_insertion (D.data self.old.tables) (without_message self.old.editor) new.now;
+        }) }
+        ensures err { OnErr result (self.new ≡ self.old) }
+    {
+        let Some(place) = self.document.insert(self.place, new)? else {
+            self.tell(Message::TextFull);
+            return Ok(());
+        };
+        settle(&mut self.place, &mut self.mark, &mut self.seek, place);
+        self.finish_edit();
+        Ok(())
+    }
+
     /// Inserts a character at the place; if the text is full, sets a message instead.
     pub(crate) fn insert(&mut self, c: char) -> Result<(), OutOfMemory>
         ensures ok { OnOk result (self.new ≡ record self.old {
@@ -51,13 +66,22 @@ impl<D: BidiData + Drop> Editor<D> {
     {
         let mut buffer = [0; 4];
         let new = c.encode_utf8(&mut buffer);
-        let Some(place) = self.document.insert(self.place, new)? else {
-            self.tell(Message::TextFull);
-            return Ok(());
+        self.insert_text(new)
+    }
+
+    /// Inserts the text's line end at the place; if the text is full, sets a message instead.
+    pub(crate) fn new_line(&mut self) -> Result<(), OutOfMemory>
+        ensures ok { OnOk result (self.new ≡ record self.old {
+          editor = after_new_line (D.data self.old.tables) (without_message self.old.editor);
+        }) }
+        ensures err { OnErr result (self.new ≡ self.old) }
+    {
+        let line_end = if self.document.has_crlf_first() {
+            "\r\n"
+        } else {
+            "\n"
         };
-        settle(&mut self.place, &mut self.mark, &mut self.seek, place);
-        self.finish_edit();
-        Ok(())
+        self.insert_text(line_end)
     }
 
     /// Removes the bytes from `start` to `stop`. An empty range changes no text.
@@ -75,38 +99,6 @@ impl<D: BidiData + Drop> Editor<D> {
         let place = self.document.remove(start, stop, self.place)?;
         settle(&mut self.place, &mut self.mark, &mut self.seek, place);
         self.finish_edit();
-        Ok(())
-    }
-
-    /// Removes the unit before the place, if there is one.
-    pub(crate) fn erase(&mut self) -> Result<(), OutOfMemory>
-        ensures ok { OnOk result (self.new ≡ record self.old {
-          editor = after_removal (D.data self.old.tables) (without_message self.old.editor)
-              (step_logical (rows (D.data self.old.tables) self.old.editor) Logical.Back self.old.editor.place) self.old.editor.place;
-        }) }
-        ensures err { OnErr result (self.new ≡ self.old) }
-    {
-        // proof only: the text is UTF-8
-        let _utf8 = self.document.len();
-        let place = self.place;
-        let start = self.document.moved(Move::Logical(Logical::Back), place)?;
-        self.remove(start, place)?;
-        Ok(())
-    }
-
-    /// Removes the unit at the place, if there is one.
-    pub(crate) fn delete(&mut self) -> Result<(), OutOfMemory>
-        ensures ok { OnOk result (self.new ≡ record self.old {
-          editor = after_removal (D.data self.old.tables) (without_message self.old.editor) self.old.editor.place
-              (step_logical (rows (D.data self.old.tables) self.old.editor) Logical.Forward self.old.editor.place);
-        }) }
-        ensures err { OnErr result (self.new ≡ self.old) }
-    {
-        // proof only: the text is UTF-8
-        let _utf8 = self.document.len();
-        let place = self.place;
-        let stop = self.document.moved(Move::Logical(Logical::Forward), place)?;
-        self.remove(place, stop)?;
         Ok(())
     }
 

@@ -6,6 +6,7 @@ ghost use Rattle.bx_terms.specs.Sizes.{is_side};
 ghost use Rattle.bx_text.specs.Slices.{joined, lends};
 ghost use Rattle.bx_grid.specs.Picture.{is_size};
 ghost use Rattle.bx_editor.specs.Editor.{with_size};
+ghost use Rattle.bx_editor.specs.Goal.{without_goal};
 ghost use Rattle.bx_editor.specs.Search.{without_search};
 
 use crate::message::Message;
@@ -30,6 +31,7 @@ pub struct Editor<D: BidiData + Drop> {
     pub(crate) message: Option<Message>,
     pub(crate) quit_before: bool,
     pub(crate) ended: bool,
+    pub(crate) goal: Option<u16>,
     pub(crate) height: u16,
 }
 
@@ -57,6 +59,7 @@ impl<D: BidiData + Drop> Model for Editor<D> {
         quit_before = e.quit_before;
         ended = e.ended;
         base = e.document.document.base;
+        goal = e.goal;
         height = e.height;
         width = e.document.document.w;
       };
@@ -164,5 +167,12 @@ impl<D: BidiData + Drop> Editor<D> {
         ensures { self.new ≡ record self.old { editor = without_search self.old.editor } }
     {
         self.seek = Seek::Off;
+    }
+
+    /// Forgets the column that moves from row to row keep. No memory.
+    pub fn forget_goal(&mut self)
+        ensures { self.new ≡ record self.old { editor = without_goal self.old.editor } }
+    {
+        self.goal = None;
     }
 }

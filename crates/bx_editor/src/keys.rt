@@ -2,11 +2,12 @@
 ghost use Rattle.std.specs.Prelude.{◌≡◌, None, Some, true, false, OnErr, OnOk};
 ghost use Rattle.bx_view.specs.Places.{IsTextPlace};
 ghost use Rattle.bx_editor.specs.Editor.{after_quit, next_base, with_base, without_message};
-ghost use Rattle.bx_editor.specs.Keys.{after_key, after_pressing, after_seeking, is_edit_or_move, is_save, is_size_key, is_told_key};
+ghost use Rattle.bx_editor.specs.Keys.{after_any, after_key, after_pressing, after_seeking, is_edit_or_move, is_save, is_size_key, is_told_key};
 ghost use Rattle.bx_editor.specs.Search.{without_search};
 
 use crate::editor::Editor;
 use crate::message::Message;
+use crate::moving::goal_behind;
 use crate::seek::Seek;
 use bx_document::HistoryStep;
 use bx_keys::Key;
@@ -77,6 +78,7 @@ impl<D: BidiData + Drop> Editor<D> {
             Some(fault) => self.tell(Message::SaveFailed(fault.cause)),
         }
         self.leave_search();
+        self.goal = None;
     }
 
     /// Applies a key other than Save and Size.
@@ -90,13 +92,28 @@ impl<D: BidiData + Drop> Editor<D> {
         ensures err { OnErr result (self.new ≡ self.old) }
         ensures edits { OnErr result (is_edit_or_move key ≡ true) }
     {
-        match (key, self.seek) {
-            (Key::Notice(notice), _) => {
-                self.message = Some(Message::Notice(notice));
-                Ok(())
-            }
-            (_, Seek::Off) => self.press(key),
-            (_, Seek::Begun | Seek::Typed) => self.press_in_search(key),
+        if let Key::Notice(notice) = key {
+            self.message = Some(Message::Notice(notice));
+            return Ok(());
+        }
+        self.press_any(key)?;
+        self.goal = goal_behind(key, self.goal);
+        Ok(())
+    }
+
+    /// Applies a key, in a search or outside.
+    fn press_any(&mut self, key: Key) -> Result<(), OutOfMemory>
+        requires no_save { is_save key ≡ false }
+        requires typed { is_told_key key ≡ false }
+        ensures ok { OnOk result (self.new.editor
+            ≡ after_any (D.data self.old.tables) None self.old.editor.quit_before self.old.editor.seek (without_message self.old.editor) key) }
+        ensures tables { self.new.tables ≡ self.old.tables }
+        ensures err { OnErr result (self.new ≡ self.old) }
+        ensures edits { OnErr result (is_edit_or_move key ≡ true) }
+    {
+        match self.seek {
+            Seek::Off => self.press(key),
+            Seek::Begun | Seek::Typed => self.press_in_search(key),
         }
     }
 
@@ -113,8 +130,12 @@ impl<D: BidiData + Drop> Editor<D> {
         let page = self.page();
         match key {
             Key::Insert(c) => self.insert(c),
-            Key::Erase => self.erase(),
-            Key::Delete => self.delete(),
+            Key::Erase => self.erase(Move::Logical(Logical::Back)),
+            Key::Delete => self.delete(Move::Logical(Logical::Forward)),
+            Key::EraseWord => self.erase(Move::Word(Logical::Back)),
+            Key::DeleteWord => self.delete(Move::Word(Logical::Forward)),
+            Key::ErasePoint => self.erase_point(),
+            Key::NewLine => self.new_line(),
             Key::Back => self.moved(Move::Logical(Logical::Back)),
             Key::Forward => self.moved(Move::Logical(Logical::Forward)),
             Key::Up => self.moved(Move::Rows(Vertical::Up, 1)),
@@ -129,6 +150,11 @@ impl<D: BidiData + Drop> Editor<D> {
             Key::WordRight => self.moved(Move::WordTowards(Visual::Right)),
             Key::TextStart => self.moved(Move::TextStart),
             Key::TextEnd => self.moved(Move::TextEnd),
+            Key::LineUp => self.move_by_rows(Vertical::Up, 1),
+            Key::LineDown => self.move_by_rows(Vertical::Down, 1),
+            Key::PageBack => self.move_by_rows(Vertical::Up, page),
+            Key::PageOn => self.move_by_rows(Vertical::Down, page),
+            Key::FindNext => self.go_to_next(),
             Key::Undo => self.step(HistoryStep::Undo),
             Key::Redo => self.step(HistoryStep::Redo),
             Key::Copy => self.copy(),
@@ -136,6 +162,10 @@ impl<D: BidiData + Drop> Editor<D> {
             Key::Put => self.put(),
             Key::Mark => {
                 self.turn_mark();
+                Ok(())
+            }
+            Key::Cancel => {
+                self.remove_mark();
                 Ok(())
             }
             Key::Help => {
@@ -175,10 +205,14 @@ impl<D: BidiData + Drop> Editor<D> {
     {
         match key {
             Key::Insert(c) => self.type_letter(c),
-            Key::Erase | Key::Delete => self.shorten(),
-            Key::Find => self.find_next(),
+            Key::Erase | Key::Delete | Key::ErasePoint => self.shorten(),
+            Key::NewLine => {
+                self.end_search();
+                Ok(())
+            }
+            Key::Find | Key::FindNext => self.find_next(),
             Key::FindBack => self.find_previous(),
-            Key::Quit | Key::Copy => {
+            Key::Quit | Key::Copy | Key::Cancel => {
                 self.give_up();
                 Ok(())
             }

@@ -3,6 +3,7 @@
 
 mod editing;
 mod editor;
+mod erasing;
 mod error;
 mod keys;
 mod laws;

@@ -1,5 +1,5 @@
 //! The next and previous match of a query, and the cursor's place there.
-ghost use Rattle.std.specs.Prelude.{◌≡◌, ◌≤◌, Some, IfOk, IfSome, chars, length};
+ghost use Rattle.std.specs.Prelude.{◌≡◌, ◌≤◌, ◌==◌, not, Some, IfOk, IfSome, chars, length};
 ghost use Rattle.bx_find.specs.Letters.{letters};
 ghost use Rattle.bx_find.specs.Matches.{first_from, last_before};
 ghost use Rattle.bx_view.specs.Places.{IsTextPlace};
@@ -31,6 +31,14 @@ const NOT_FOUND: Landing = Landing {
     place: None,
     message: Some(Message::NotFound),
 };
+
+/// Whether a query of at most 64 characters has letters to be sought. No memory.
+pub(crate) fn has_letters<D: BidiData + Drop>(document: &Document<D>, query: &str) -> bool
+    requires few { length (chars query.now) ≤ 64 }
+    ensures { result ≡ not (length (letters (D.data document.now.tables) (chars query.now)) == 0) }
+{
+    document.query(query).is_some()
+}
 
 /// Leads to the place of a match.
 ///

@@ -1,14 +1,26 @@
 //! The keys that move the cursor, and the call that moves it to an offset.
-ghost use Rattle.std.specs.Prelude.{◌≡◌, OnErr, OnOk};
+ghost use Rattle.std.specs.Prelude.{◌≡◌, IfOk, OnErr, OnOk};
 ghost use Rattle.bx_view.specs.Moves.{moved, place_from};
 ghost use Rattle.bx_view.specs.Places.{IsTextPlace};
 ghost use Rattle.bx_editor.specs.Editor.{rows, text_height, with_place, without_message};
+ghost use Rattle.bx_editor.specs.Goal.{after_row_move, goal_behind, goal_column};
 
 use crate::editor::Editor;
 use crate::picture::text_height;
+use bx_keys::Key;
 use bx_terms::OutOfMemory;
 use bx_ucd::BidiData;
-use bx_view::Move;
+use bx_view::{Move, Vertical};
+
+/// The kept column behind a key that the user pressed: kept by moves from row to row and by Repaint.
+pub(crate) fn goal_behind(key: Key, goal: Option<u16>) -> Option<u16>
+    ensures { result ≡ goal_behind key goal }
+{
+    match key {
+        Key::LineUp | Key::LineDown | Key::PageBack | Key::PageOn | Key::Repaint => goal,
+        _ => None,
+    }
+}
 
 impl<D: BidiData + Drop> Editor<D> {
     /// Moves the cursor to a place, and clears the message.
@@ -53,6 +65,32 @@ impl<D: BidiData + Drop> Editor<D> {
     {
         let place = self.document.moved(m, self.place)?;
         self.set_place(place);
+        Ok(())
+    }
+
+    /// The column that moves from row to row keep: the kept one, else the cursor's.
+    ///
+    /// Errors: `OutOfMemory`.
+    fn goal_column(&mut self) -> Result<u16, OutOfMemory>
+        ensures same { self.new ≡ self.old }
+        ensures column { IfOk result (λ column. column ≡ goal_column (D.data self.old.tables) self.old.editor) }
+    {
+        match self.goal {
+            Some(column) => Ok(column),
+            None => self.document.column(self.place),
+        }
+    }
+
+    /// Goes up or down by `n` rows in the kept column, which becomes the cursor's if none is kept.
+    pub(crate) fn move_by_rows(&mut self, way: Vertical, n: usize) -> Result<(), OutOfMemory>
+        ensures ok { OnOk result (self.new ≡ record self.old {
+          editor = after_row_move (D.data self.old.tables) (without_message self.old.editor) way n;
+        }) }
+        ensures err { OnErr result (self.new ≡ self.old) }
+    {
+        let column = self.goal_column()?;
+        self.moved(Move::RowsIn(way, n, column))?;
+        self.goal = Some(column);
         Ok(())
     }
 }

@@ -69,6 +69,7 @@ impl<D: BidiData + Drop> Editor<D> {
                 message: None,
                 quit_before: false,
                 ended: false,
+                goal: None,
                 height,
             }),
             Err(_) => Err(OpenError::OutOfMemory),

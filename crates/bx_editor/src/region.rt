@@ -2,7 +2,7 @@
 ghost use Rattle.std.specs.Prelude.{◌≡◌, OnErr, OnOk, Some, None, slice_range};
 ghost use Rattle.bx_text.specs.Edits.{IsRange};
 ghost use Rattle.bx_editor.specs.Editor.{without_message};
-ghost use Rattle.bx_editor.specs.Region.{after_copy, after_cut, after_mark, after_put, is_at_mark, region, taken};
+ghost use Rattle.bx_editor.specs.Region.{after_copy, after_cut, after_mark, after_put, is_at_mark, region, taken, without_mark};
 
 use crate::editing::settle;
 use crate::editor::Editor;
@@ -32,6 +32,14 @@ impl<D: BidiData + Drop> Editor<D> {
             self.mark = Some(self.place);
             self.tell(Message::MarkSet);
         }
+    }
+
+    /// Removes the mark.
+    pub(crate) fn remove_mark(&mut self)
+        ensures { self.new ≡ record self.old { editor = without_mark (without_message self.old.editor) } }
+    {
+        self.mark = None;
+        self.forget();
     }
 
     /// The offsets of the region's start and end: the mark and the place in order. Equal if there is no mark.

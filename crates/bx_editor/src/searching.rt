@@ -2,11 +2,11 @@
 ghost use Rattle.std.specs.Prelude.{◌≡◌, IfOk, IfSome, OnErr, OnOk};
 ghost use Rattle.bx_view.specs.Places.{IsTextPlace};
 ghost use Rattle.bx_editor.specs.Editor.{without_message};
-ghost use Rattle.bx_editor.specs.Search.{after_beginning, after_find, after_find_back, after_giving_up, after_letter, after_shortening};
+ghost use Rattle.bx_editor.specs.Search.{after_beginning, after_find, after_find_back, after_find_next, after_giving_up, after_letter, after_shortening};
 ghost use Rattle.bx_editor.specs.Search.{landed, next_or_start, without_search};
 
 use crate::editor::Editor;
-use crate::matches::{Landing, backward, forward};
+use crate::matches::{Landing, backward, forward, has_letters};
 use crate::query::{kept, lengthened, shortened};
 use crate::seek::Seek;
 use bx_terms::OutOfMemory;
@@ -40,15 +40,23 @@ impl<D: BidiData + Drop> Editor<D> {
         self.end_search();
     }
 
+    /// Moves the cursor to where a match is, and sets the message. No memory.
+    fn settle_at(&mut self, landing: Landing)
+        requires place { IfSome landing.place (IsTextPlace (D.data self.old.tables) self.old.editor.content.text) }
+        ensures { self.new ≡ record self.old { editor = landed (without_message self.old.editor) landing } }
+    {
+        self.place = landing.place.unwrap_or(self.place);
+        self.message = landing.message;
+        self.quit_before = false;
+    }
+
     /// Moves the cursor to where a search led, and sets its message.
     fn land(&mut self, landing: Landing)
         requires origin { IsTextPlace (D.data self.old.tables) self.old.editor.content.text self.old.editor.origin }
         requires place { IfSome landing.place (IsTextPlace (D.data self.old.tables) self.old.editor.content.text) }
         ensures { self.new ≡ record self.old { editor = landed (record (without_message self.old.editor) { seek = Seek.Typed }) landing } }
     {
-        self.place = landing.place.unwrap_or(self.place);
-        self.message = landing.message;
-        self.quit_before = false;
+        self.settle_at(landing);
         self.seek = Seek::Typed;
     }
 
@@ -122,6 +130,23 @@ impl<D: BidiData + Drop> Editor<D> {
         let next = self.next_or_start()?;
         let landing = forward(&mut self.document, self.query.as_str(), next)?;
         self.land(landing);
+        Ok(())
+    }
+
+    /// Goes to the next match, and no search is on. If the query has no letters, begins a search.
+    pub(crate) fn go_to_next(&mut self) -> Result<(), OutOfMemory>
+        ensures ok { OnOk result (self.new ≡ record self.old {
+          editor = after_find_next (D.data self.old.tables) (without_message self.old.editor);
+        }) }
+        ensures err { OnErr result (self.new ≡ self.old) }
+    {
+        if !has_letters(&self.document, self.query.as_str()) {
+            self.begin_search();
+            return Ok(());
+        }
+        let next = self.next_or_start()?;
+        let landing = forward(&mut self.document, self.query.as_str(), next)?;
+        self.settle_at(landing);
         Ok(())
     }
 

@@ -4,11 +4,13 @@ use Rattle.bx_keys.specs.declared.key.Key.{Key}
 use Rattle.bx_keys.specs.declared.key.Key.TheVariants.{Insert, Erase, Delete, Back, Forward, Up, Down, Right, Left, RowHome, RowEnd, PageUp, PageDown}
 use Rattle.bx_keys.specs.declared.key.Key.TheVariants.{Save, Quit, Undo, Redo, Repaint, Direction, Size, Mark, Copy, Cut, Put}
 use Rattle.bx_keys.specs.declared.key.Key.TheVariants.{Find, FindBack, WordLeft, WordRight, TextStart, TextEnd, Help, Notice}
+use Rattle.bx_keys.specs.declared.key.Key.TheVariants.{EraseWord, DeleteWord, ErasePoint, NewLine, FindNext, Cancel, LineUp, LineDown, PageBack, PageOn}
 use Rattle.bx_store.specs.declared.store.StoreFault.{StoreFault}
 use Rattle.bx_ucd.specs.Data.{Data}
 use Rattle.bx_editor.specs.declared.seek.Seek.{Seek}
 use Rattle.bx_editor.specs.declared.seek.Seek.TheVariants.{Off, Begun, Typed}
 use Rattle.bx_editor.specs.Editor.{Editor, EditorState, after_save, without_message}
+use Rattle.bx_editor.specs.Goal.{goal_behind}
 use Rattle.bx_editor.specs.Keys.{after_any, after_key, after_pressing, after_seeking, is_save}
 use Rattle.bx_editor.proofs.InSearch.{any-key, each-key, save-ends}
 
@@ -45,6 +47,16 @@ pressed_alike d fault again e WordRight other = refl
 pressed_alike d fault again e TextStart other = refl
 pressed_alike d fault again e TextEnd other = refl
 pressed_alike d fault again e Help other = refl
+pressed_alike d fault again e EraseWord other = refl
+pressed_alike d fault again e DeleteWord other = refl
+pressed_alike d fault again e ErasePoint other = refl
+pressed_alike d fault again e NewLine other = refl
+pressed_alike d fault again e FindNext other = refl
+pressed_alike d fault again e Cancel other = refl
+pressed_alike d fault again e LineUp other = refl
+pressed_alike d fault again e LineDown other = refl
+pressed_alike d fault again e PageBack other = refl
+pressed_alike d fault again e PageOn other = refl
 pressed_alike d fault again e (Size height width) other = refl
 pressed_alike d fault again e (Notice notice) other = refl
 
@@ -80,6 +92,16 @@ sought_alike d fault again e WordRight other = refl
 sought_alike d fault again e TextStart other = refl
 sought_alike d fault again e TextEnd other = refl
 sought_alike d fault again e Help other = refl
+sought_alike d fault again e EraseWord other = refl
+sought_alike d fault again e DeleteWord other = refl
+sought_alike d fault again e ErasePoint other = refl
+sought_alike d fault again e NewLine other = refl
+sought_alike d fault again e FindNext other = refl
+sought_alike d fault again e Cancel other = refl
+sought_alike d fault again e LineUp other = refl
+sought_alike d fault again e LineDown other = refl
+sought_alike d fault again e PageBack other = refl
+sought_alike d fault again e PageOn other = refl
 sought_alike d fault again e (Size height width) other = refl
 sought_alike d fault again e (Notice notice) other = refl
 
@@ -92,7 +114,9 @@ alike d fault again Typed e key other = sought_alike d fault again e key other
 unless_save : (d : Data) (fault : Option StoreFault) (e : Editor) (key : Key) → is_save key ≡ false → after_key d None e key ≡ after_key d fault e key
 unless_save d fault e =
     each-key d None e (λ key new. is_save key ≡ false → new ≡ after_key d fault e key) (λ height width other. refl) (λ notice other. refl)
-    (λ key small other. alike d fault e.quit_before e.seek (without_message e) key other ∙ sym (any-key d fault e key small))
+    (λ key small other.
+    ap (λ (x : Editor). record x { goal = goal_behind key x.goal }) (alike d fault e.quit_before e.seek (without_message e) key other)
+    ∙ sym (any-key d fault e key small))
 
 -- nor whether the editor has ended
 save_ended : (e : Editor) (fault : Option StoreFault) → (after_save e fault).ended ≡ e.ended
@@ -133,6 +157,16 @@ same_ended d fault e WordRight = ap (λ (x : Editor). x.ended) (sym (unless_save
 same_ended d fault e TextStart = ap (λ (x : Editor). x.ended) (sym (unless_save d fault e TextStart refl))
 same_ended d fault e TextEnd = ap (λ (x : Editor). x.ended) (sym (unless_save d fault e TextEnd refl))
 same_ended d fault e Help = ap (λ (x : Editor). x.ended) (sym (unless_save d fault e Help refl))
+same_ended d fault e EraseWord = ap (λ (x : Editor). x.ended) (sym (unless_save d fault e EraseWord refl))
+same_ended d fault e DeleteWord = ap (λ (x : Editor). x.ended) (sym (unless_save d fault e DeleteWord refl))
+same_ended d fault e ErasePoint = ap (λ (x : Editor). x.ended) (sym (unless_save d fault e ErasePoint refl))
+same_ended d fault e NewLine = ap (λ (x : Editor). x.ended) (sym (unless_save d fault e NewLine refl))
+same_ended d fault e FindNext = ap (λ (x : Editor). x.ended) (sym (unless_save d fault e FindNext refl))
+same_ended d fault e Cancel = ap (λ (x : Editor). x.ended) (sym (unless_save d fault e Cancel refl))
+same_ended d fault e LineUp = ap (λ (x : Editor). x.ended) (sym (unless_save d fault e LineUp refl))
+same_ended d fault e LineDown = ap (λ (x : Editor). x.ended) (sym (unless_save d fault e LineDown refl))
+same_ended d fault e PageBack = ap (λ (x : Editor). x.ended) (sym (unless_save d fault e PageBack refl))
+same_ended d fault e PageOn = ap (λ (x : Editor). x.ended) (sym (unless_save d fault e PageOn refl))
 same_ended d fault e (Size height width) = ap (λ (x : Editor). x.ended) (sym (unless_save d fault e (Size height width) refl))
 same_ended d fault e (Notice notice) = ap (λ (x : Editor). x.ended) (sym (unless_save d fault e (Notice notice) refl))
 

@@ -6,16 +6,19 @@ use Rattle.bx_keys.specs.declared.key.Key.{Key}
 use Rattle.bx_keys.specs.declared.key.Key.TheVariants.{Insert, Erase, Delete, Back, Forward, Up, Down, Right, Left, RowHome, RowEnd, PageUp, PageDown}
 use Rattle.bx_keys.specs.declared.key.Key.TheVariants.{Save, Quit, Undo, Redo, Repaint, Direction, Size, Mark, Copy, Cut, Put}
 use Rattle.bx_keys.specs.declared.key.Key.TheVariants.{Find, FindBack, WordLeft, WordRight, TextStart, TextEnd, Help, Notice}
+use Rattle.bx_keys.specs.declared.key.Key.TheVariants.{EraseWord, DeleteWord, ErasePoint, NewLine, FindNext, Cancel, LineUp, LineDown, PageBack, PageOn}
 use Rattle.bx_view.specs.declared.moves.Logical.TheVariants as logical
 use Rattle.bx_view.specs.Moves.{step_logical}
+use Rattle.bx_view.specs.Words.{step_word}
 use Rattle.bx_grid.specs.Picture.{PictureState}
 use Rattle.bx_store.specs.declared.store.StoreFault.{StoreFault}
 use Rattle.bx_ucd.specs.Data.{Data}
 use Rattle.bx_editor.specs.Editor.{Editor, rows, after_insertion, after_removal, after_undo, after_redo, after_save, after_quit, without_message}
 use Rattle.bx_editor.specs.declared.seek.Seek.{Seek}
 use Rattle.bx_editor.specs.declared.seek.Seek.TheVariants.{Off, Begun, Typed}
+use Rattle.bx_editor.specs.Erasing.{line_end, point_before}
 use Rattle.bx_editor.specs.Keys.{after_any, after_key, after_pressing, after_seeking, asks_for_whole}
-use Rattle.bx_editor.specs.Search.{after_letter, is_no_letter}
+use Rattle.bx_editor.specs.Search.{after_letter, is_no_letter, sought}
 use Rattle.bx_editor.specs.Region.{after_copy, after_cut, after_mark, after_put, is_at_mark, is_empty, line, region, taken}
 use Rattle.bx_editor.proofs.InSearch.{each-key}
 use Rattle.bx_session.specs.Painting.{FitsEditor}
@@ -91,6 +94,16 @@ pressing_size d fault again e WordRight = (refl, refl)
 pressing_size d fault again e TextStart = (refl, refl)
 pressing_size d fault again e TextEnd = (refl, refl)
 pressing_size d fault again e Help = (refl, refl)
+pressing_size d fault again e EraseWord = removal_size d e (step_word d e.content.text logical.Back e.place) e.place
+pressing_size d fault again e DeleteWord = removal_size d e e.place (step_word d e.content.text logical.Forward e.place)
+pressing_size d fault again e ErasePoint = removal_size d e (point_before d e) e.place
+pressing_size d fault again e NewLine = insertion_size d e (line_end d e.content.text)
+pressing_size d fault again e FindNext = size_if (length (sought d e) == 0) e _ _ (refl, refl) (refl, refl)
+pressing_size d fault again e Cancel = (refl, refl)
+pressing_size d fault again e LineUp = (refl, refl)
+pressing_size d fault again e LineDown = (refl, refl)
+pressing_size d fault again e PageBack = (refl, refl)
+pressing_size d fault again e PageOn = (refl, refl)
 pressing_size d fault again e (Size height width) = (refl, refl)
 pressing_size d fault again e (Notice notice) = (refl, refl)
 
@@ -128,6 +141,16 @@ seeking_size d fault again e WordRight = pressing_size d fault again e WordRight
 seeking_size d fault again e TextStart = pressing_size d fault again e TextStart
 seeking_size d fault again e TextEnd = pressing_size d fault again e TextEnd
 seeking_size d fault again e Help = pressing_size d fault again e Help
+seeking_size d fault again e EraseWord = pressing_size d fault again e EraseWord
+seeking_size d fault again e DeleteWord = pressing_size d fault again e DeleteWord
+seeking_size d fault again e ErasePoint = (refl, refl)
+seeking_size d fault again e NewLine = (refl, refl)
+seeking_size d fault again e FindNext = (refl, refl)
+seeking_size d fault again e Cancel = (refl, refl)
+seeking_size d fault again e LineUp = pressing_size d fault again e LineUp
+seeking_size d fault again e LineDown = pressing_size d fault again e LineDown
+seeking_size d fault again e PageBack = pressing_size d fault again e PageBack
+seeking_size d fault again e PageOn = pressing_size d fault again e PageOn
 seeking_size d fault again e (Size height width) = pressing_size d fault again e (Size height width)
 seeking_size d fault again e (Notice notice) = pressing_size d fault again e (Notice notice)
 

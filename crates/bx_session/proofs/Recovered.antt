@@ -7,10 +7,12 @@ use Rattle.bx_keys.specs.declared.key.Key.{Key}
 use Rattle.bx_keys.specs.declared.key.Key.TheVariants.{Insert, Erase, Delete, Back, Forward, Up, Down, Right, Left, RowHome, RowEnd, PageUp, PageDown, Save}
 use Rattle.bx_keys.specs.declared.key.Key.TheVariants.{Quit, Undo, Redo, Repaint, Direction, Size, Mark, Copy, Cut, Put}
 use Rattle.bx_keys.specs.declared.key.Key.TheVariants.{Find, FindBack, WordLeft, WordRight, TextStart, TextEnd, Help, Notice}
+use Rattle.bx_keys.specs.declared.key.Key.TheVariants.{EraseWord, DeleteWord, ErasePoint, NewLine, FindNext, Cancel, LineUp, LineDown, PageBack, PageOn}
 use Rattle.bx_keys.specs.Keys.{key_after, rest_after}
 use Rattle.bx_keys.specs.Waiting.{head_of}
 use Rattle.bx_text.specs.Edits.{Edit, Edited, fits, inserted, removed, splice}
 use Rattle.bx_view.specs.Moves.{step_logical}
+use Rattle.bx_view.specs.Words.{step_word}
 use Rattle.bx_view.specs.declared.moves.Logical.TheVariants as logical
 use Rattle.bx_store.specs.declared.store.StoreFault.{StoreFault}
 use Rattle.bx_editor.specs.declared.message.Message.TheVariants.{TextFull, Unsaved, Copied, LineCopied, MarkOff, MarkSet, NothingToCopy, NothingToPut}
@@ -18,8 +20,10 @@ use Rattle.bx_ucd.specs.Data.{Data}
 use Rattle.bx_editor.specs.Editor.{Editor, rows, place_after, after_insertion, after_removal, after_undo, after_redo, after_save, without_message}
 use Rattle.bx_editor.specs.declared.seek.Seek.{Seek}
 use Rattle.bx_editor.specs.declared.seek.Seek.TheVariants.{Off, Begun, Typed}
+use Rattle.bx_editor.specs.Erasing.{line_end, point_before}
+use Rattle.bx_editor.specs.Goal.{goal_behind, without_goal}
 use Rattle.bx_editor.specs.Keys.{after_any, after_key, after_pressing, after_seeking}
-use Rattle.bx_editor.specs.Search.{after_letter, is_no_letter, kept, lengthened, search_from, with_query, without_search}
+use Rattle.bx_editor.specs.Search.{after_beginning, after_letter, is_no_letter, kept, lengthened, next_or_start, search_from, sought, with_query, without_search}
 use Rattle.bx_editor.proofs.InSearch.{any-key, each-key, save-ends}
 use Rattle.bx_editor.specs.Region.{after_copy, after_cut, after_mark, after_put, bytes_in, is_at_mark, is_empty, line, region, taken}
 use Rattle.bx_session.specs.declared.error.Refused.{Refused}
@@ -46,6 +50,7 @@ pub record Lasting : Type 0 where
   pub seek : Seek
   pub origin : ℕ
   pub base : Base
+  pub goal : Option ℕ
   pub height : ℕ
   pub width : ℕ
 
@@ -59,6 +64,7 @@ lasting e = record {
   seek = e.seek;
   origin = e.origin;
   base = e.base;
+  goal = e.goal;
   height = e.height;
   width = e.width;
 }
@@ -74,6 +80,7 @@ with l e = record e {
   seek = l.seek;
   origin = l.origin;
   base = l.base;
+  goal = l.goal;
   height = l.height;
   width = l.width;
 }
@@ -188,6 +195,18 @@ pressed_lasts d fault again again' e f WordRight other = refl
 pressed_lasts d fault again again' e f TextStart other = refl
 pressed_lasts d fault again again' e f TextEnd other = refl
 pressed_lasts d fault again again' e f Help other = refl
+pressed_lasts d fault again again' e f EraseWord other = removal_lasts d e f (step_word d e.content.text logical.Back e.place) e.place
+pressed_lasts d fault again again' e f DeleteWord other = removal_lasts d e f e.place (step_word d e.content.text logical.Forward e.place)
+pressed_lasts d fault again again' e f ErasePoint other = removal_lasts d e f (point_before d e) e.place
+pressed_lasts d fault again again' e f NewLine other = insertion_lasts d e f (line_end d e.content.text)
+pressed_lasts d fault again again' e f FindNext other =
+    let g = with (lasting e) f in
+    either_lasts (length (sought d e) == 0) (after_beginning e) (search_from d (next_or_start d e) e) (after_beginning g) (search_from d (next_or_start d g) g) refl refl
+pressed_lasts d fault again again' e f Cancel other = refl
+pressed_lasts d fault again again' e f LineUp other = refl
+pressed_lasts d fault again again' e f LineDown other = refl
+pressed_lasts d fault again again' e f PageBack other = refl
+pressed_lasts d fault again again' e f PageOn other = refl
 pressed_lasts d fault again again' e f (Size height width) other = refl
 pressed_lasts d fault again again' e f (Notice notice) other = refl
 
@@ -235,6 +254,16 @@ sought_lasts d fault again again' e f WordRight other = ap over (pressed_lasts d
 sought_lasts d fault again again' e f TextStart other = ap over (pressed_lasts d fault again again' e f TextStart other)
 sought_lasts d fault again again' e f TextEnd other = ap over (pressed_lasts d fault again again' e f TextEnd other)
 sought_lasts d fault again again' e f Help other = ap over (pressed_lasts d fault again again' e f Help other)
+sought_lasts d fault again again' e f EraseWord other = ap over (pressed_lasts d fault again again' e f EraseWord other)
+sought_lasts d fault again again' e f DeleteWord other = ap over (pressed_lasts d fault again again' e f DeleteWord other)
+sought_lasts d fault again again' e f ErasePoint other = refl
+sought_lasts d fault again again' e f NewLine other = refl
+sought_lasts d fault again again' e f FindNext other = refl
+sought_lasts d fault again again' e f Cancel other = refl
+sought_lasts d fault again again' e f LineUp other = ap over (pressed_lasts d fault again again' e f LineUp other)
+sought_lasts d fault again again' e f LineDown other = ap over (pressed_lasts d fault again again' e f LineDown other)
+sought_lasts d fault again again' e f PageBack other = ap over (pressed_lasts d fault again again' e f PageBack other)
+sought_lasts d fault again again' e f PageOn other = ap over (pressed_lasts d fault again again' e f PageOn other)
 sought_lasts d fault again again' e f (Size height width) other = ap over (pressed_lasts d fault again again' e f (Size height width) other)
 sought_lasts d fault again again' e f (Notice notice) other = ap over (pressed_lasts d fault again again' e f (Notice notice) other)
 
@@ -250,25 +279,28 @@ other_lasts d fault e f =
     each-key d fault e (λ key new. is_other key ≡ true → lasting new ≡ lasting (after_key d None (with (lasting e) f) key)) (λ height width other. refl)
     (λ notice other. refl)
     (λ key small other.
-    seek_lasts d fault e.quit_before f.quit_before e.seek (without_message e) (without_message f) key other
+    ap (λ (l : Lasting). record l { goal = goal_behind key l.goal })
+    (seek_lasts d fault e.quit_before f.quit_before e.seek (without_message e) (without_message f) key other)
     ∙ ap lasting (sym (any-key d None (with (lasting e) f) key small)))
 
-save_lasts : (e : Editor) (fault : Option StoreFault) → lasting (without_search (after_save e fault)) ≡ lasting (without_search e)
+save_lasts : (e : Editor) (fault : Option StoreFault)
+    → lasting (without_goal (without_search (after_save e fault))) ≡ lasting (without_goal (without_search e))
 save_lasts e None = refl
 save_lasts e (Some fault) = refl
 
 quit_by : (ends : Bool) (e : Editor)
-    → lasting (if ends then record e { quit_before = true; ended = true } else record e { quit_before = true; message = Some Unsaved }) ≡ lasting e
+    → lasting (without_goal (if ends then record e { quit_before = true; ended = true } else record e { quit_before = true; message = Some Unsaved }))
+    ≡ lasting (without_goal e)
 quit_by true e = refl
 quit_by false e = refl
 
 quit_lasts : (d : Data) (fault : Option StoreFault) (seek : Seek) (e f : Editor) → e.seek ≡ seek
-    → lasting (after_any d fault e.quit_before seek (without_message e) Quit) ≡ lasting (after_replayed d seek (with (lasting e) f) Quit)
+    → lasting (without_goal (after_any d fault e.quit_before seek (without_message e) Quit)) ≡ lasting (after_replayed d seek (with (lasting e) f) Quit)
 quit_lasts d fault Off e f is = quit_by (not e.changed || e.quit_before) (without_message e)
 quit_lasts d fault Begun e f is =
-    ap (λ s. lasting (after_any d None f.quit_before s (without_message (with (lasting e) f)) Quit)) (sym is)
+    ap (λ s. lasting (without_goal (after_any d None f.quit_before s (without_message (with (lasting e) f)) Quit))) (sym is)
 quit_lasts d fault Typed e f is =
-    ap (λ s. lasting (after_any d None f.quit_before s (without_message (with (lasting e) f)) Quit)) (sym is)
+    ap (λ s. lasting (without_goal (after_any d None f.quit_before s (without_message (with (lasting e) f)) Quit))) (sym is)
 
 key_lasts : (d : Data) (fault : Option StoreFault) (e f : Editor) (key : Key)
     → lasting (after_key d fault e key) ≡ lasting (after_replayed d e.seek (with (lasting e) f) key)
@@ -357,8 +389,8 @@ all_follow d s r store store' (a ∷ answered) new before feeds none =
 -- ---- for each part
 
 same_lasts : (e f : Editor) → f.content ≡ e.content → f.place ≡ e.place → f.mark ≡ e.mark → f.held ≡ e.held → f.query ≡ e.query
-    → f.seek ≡ e.seek → f.origin ≡ e.origin → f.base ≡ e.base → f.height ≡ e.height → f.width ≡ e.width → lasting e ≡ lasting f
-same_lasts e f content place mark held query seek origin base height width =
+    → f.seek ≡ e.seek → f.origin ≡ e.origin → f.base ≡ e.base → f.goal ≡ e.goal → f.height ≡ e.height → f.width ≡ e.width → lasting e ≡ lasting f
+same_lasts e f content place mark held query seek origin base goal height width =
     let was = lasting e in
     let placed : Lasting = record was { content = f.content; place = f.place; mark = f.mark } in
     let filled : Lasting = record placed { held = f.held; query = f.query } in
@@ -371,13 +403,14 @@ same_lasts e f content place mark held query seek origin base height width =
     ∙ ap (λ x. record filled { seek = x }) (sym seek)
     ∙ ap (λ x. record filled { seek = f.seek; origin = x }) (sym origin)
     ∙ ap (λ x. record sought { base = x }) (sym base)
-    ∙ ap (λ x. record sought { base = f.base; height = x }) (sym height)
-    ∙ ap (λ x. record sought { base = f.base; height = f.height; width = x }) (sym width)
+    ∙ ap (λ x. record sought { base = f.base; goal = x }) (sym goal)
+    ∙ ap (λ x. record sought { base = f.base; goal = f.goal; height = x }) (sym height)
+    ∙ ap (λ x. record sought { base = f.base; goal = f.goal; height = f.height; width = x }) (sym width)
 
 pub follows : (s r : Session) → HasBackMidway s r → Follows s r
 follows s r h =
     let p = h.parts in record {
-      lasts = same_lasts s.editor r.editor p.content p.place p.mark p.held p.query h.seek h.origin p.base p.height p.width;
+      lasts = same_lasts s.editor r.editor p.content p.place p.mark p.held p.query h.seek h.origin p.base p.goal p.height p.width;
       rest_is = sym p.rest;
       goes_on = p.goes_on;
     }
@@ -391,6 +424,7 @@ has_back s r h = record {
     held = ap (λ (l : Lasting). l.held) (sym h.lasts);
     query = ap (λ (l : Lasting). l.query) (sym h.lasts);
     base = ap (λ (l : Lasting). l.base) (sym h.lasts);
+    goal = ap (λ (l : Lasting). l.goal) (sym h.lasts);
     height = ap (λ (l : Lasting). l.height) (sym h.lasts);
     width = ap (λ (l : Lasting). l.width) (sym h.lasts);
     rest = sym h.rest_is;
@@ -409,6 +443,7 @@ ended_back s r h =
       held = p.held;
       query = p.query;
       base = p.base;
+      goal = p.goal;
       height = p.height;
       width = p.width;
       rest = p.rest;

@@ -5,6 +5,7 @@ use Rattle.bx_keys.specs.declared.key.Key.{Key}
 use Rattle.bx_keys.specs.declared.key.Key.TheVariants.{Insert, Erase, Delete, Back, Forward, Up, Down, Right, Left, RowHome, RowEnd, PageUp, PageDown, Save}
 use Rattle.bx_keys.specs.declared.key.Key.TheVariants.{Quit, Undo, Redo, Repaint, Direction, Size, Mark, Copy, Cut, Put}
 use Rattle.bx_keys.specs.declared.key.Key.TheVariants.{Find, FindBack, WordLeft, WordRight, TextStart, TextEnd, Help, Notice}
+use Rattle.bx_keys.specs.declared.key.Key.TheVariants.{EraseWord, DeleteWord, ErasePoint, NewLine, FindNext, Cancel, LineUp, LineDown, PageBack, PageOn}
 use Rattle.bx_keys.specs.Keys.{key_after, rest_after}
 use Rattle.bx_keys.specs.Waiting.{head_of}
 use Rattle.bx_text.specs.Edits.{Edit, Edited, edit_of, fits, inserted, redone_in, removed, replaced, splice, undone_in}
@@ -14,8 +15,9 @@ use Rattle.bx_editor.specs.declared.message.Message.TheVariants.{TextFull}
 use Rattle.bx_editor.specs.Editor.{Editor, after_insertion, after_removal, after_undo, after_redo, place_after, with_notice, with_size, without_message}
 use Rattle.bx_editor.specs.declared.seek.Seek.{Seek}
 use Rattle.bx_editor.specs.declared.seek.Seek.TheVariants.{Off, Begun, Typed}
+use Rattle.bx_editor.specs.Goal.{without_goal}
 use Rattle.bx_editor.specs.Keys.{after_any, after_key, after_pressing, after_seeking, is_save}
-use Rattle.bx_editor.specs.Search.{after_letter, is_no_letter, without_search}
+use Rattle.bx_editor.specs.Search.{after_letter, is_no_letter, sought, without_search}
 use Rattle.bx_editor.proofs.InSearch.{each-key}
 use Rattle.bx_editor.specs.Region.{after_copy, after_cut, after_put, is_at_mark, is_empty, line, region, taken}
 use Rattle.bx_session.specs.Parts.{is_quit}
@@ -97,7 +99,7 @@ abbrev pub is_other : Key → Bool
 is_other key = not (is_save key) && not (is_quit (Some key))
 
 -- any key of a replay
-pub each-replayed : (d : Data) (seek : Seek) (e : Editor) (P : Key → Editor → Type 0) → P Save (without_search e) → P Quit (after_replayed d seek e Quit)
+pub each-replayed : (d : Data) (seek : Seek) (e : Editor) (P : Key → Editor → Type 0) → P Save (without_goal (without_search e)) → P Quit (after_replayed d seek e Quit)
     → ((key : Key) → is_other key ≡ true → P key (after_key d None e key)) → (key : Key) → P key (after_replayed d seek e key)
 each-replayed d seek e P save quit other (Insert c) = other (Insert c) refl
 each-replayed d seek e P save quit other Erase = other Erase refl
@@ -129,6 +131,16 @@ each-replayed d seek e P save quit other WordRight = other WordRight refl
 each-replayed d seek e P save quit other TextStart = other TextStart refl
 each-replayed d seek e P save quit other TextEnd = other TextEnd refl
 each-replayed d seek e P save quit other Help = other Help refl
+each-replayed d seek e P save quit other EraseWord = other EraseWord refl
+each-replayed d seek e P save quit other DeleteWord = other DeleteWord refl
+each-replayed d seek e P save quit other ErasePoint = other ErasePoint refl
+each-replayed d seek e P save quit other NewLine = other NewLine refl
+each-replayed d seek e P save quit other FindNext = other FindNext refl
+each-replayed d seek e P save quit other Cancel = other Cancel refl
+each-replayed d seek e P save quit other LineUp = other LineUp refl
+each-replayed d seek e P save quit other LineDown = other LineDown refl
+each-replayed d seek e P save quit other PageBack = other PageBack refl
+each-replayed d seek e P save quit other PageOn = other PageOn refl
 each-replayed d seek e P save quit other (Size height width) = other (Size height width) refl
 each-replayed d seek e P save quit other (Notice notice) = other (Notice notice) refl
 
@@ -164,6 +176,16 @@ pressed_steps d fault again e WordRight other = idle e _ refl refl refl
 pressed_steps d fault again e TextStart other = idle e _ refl refl refl
 pressed_steps d fault again e TextEnd other = idle e _ refl refl refl
 pressed_steps d fault again e Help other = idle e _ refl refl refl
+pressed_steps d fault again e EraseWord other = removal_steps d e _ e.place
+pressed_steps d fault again e DeleteWord other = removal_steps d e e.place _
+pressed_steps d fault again e ErasePoint other = removal_steps d e _ e.place
+pressed_steps d fault again e NewLine other = insertion_steps d e _
+pressed_steps d fault again e FindNext other = either_steps (length (sought d e) == 0) e _ _ (idle e _ refl refl refl) (idle e _ refl refl refl)
+pressed_steps d fault again e Cancel other = idle e _ refl refl refl
+pressed_steps d fault again e LineUp other = idle e _ refl refl refl
+pressed_steps d fault again e LineDown other = idle e _ refl refl refl
+pressed_steps d fault again e PageBack other = idle e _ refl refl refl
+pressed_steps d fault again e PageOn other = idle e _ refl refl refl
 pressed_steps d fault again e (Size height width) other = idle e _ refl refl refl
 pressed_steps d fault again e (Notice notice) other = idle e _ refl refl refl
 
@@ -206,6 +228,16 @@ sought_steps d fault again e WordRight other = over e _ (pressed_steps d fault a
 sought_steps d fault again e TextStart other = over e _ (pressed_steps d fault again e TextStart refl)
 sought_steps d fault again e TextEnd other = over e _ (pressed_steps d fault again e TextEnd refl)
 sought_steps d fault again e Help other = over e _ (pressed_steps d fault again e Help refl)
+sought_steps d fault again e EraseWord other = over e _ (pressed_steps d fault again e EraseWord refl)
+sought_steps d fault again e DeleteWord other = over e _ (pressed_steps d fault again e DeleteWord refl)
+sought_steps d fault again e ErasePoint other = idle e _ refl refl refl
+sought_steps d fault again e NewLine other = idle e _ refl refl refl
+sought_steps d fault again e FindNext other = idle e _ refl refl refl
+sought_steps d fault again e Cancel other = idle e _ refl refl refl
+sought_steps d fault again e LineUp other = over e _ (pressed_steps d fault again e LineUp refl)
+sought_steps d fault again e LineDown other = over e _ (pressed_steps d fault again e LineDown refl)
+sought_steps d fault again e PageBack other = over e _ (pressed_steps d fault again e PageBack refl)
+sought_steps d fault again e PageOn other = over e _ (pressed_steps d fault again e PageOn refl)
 sought_steps d fault again e (Size height width) other = over e _ (pressed_steps d fault again e (Size height width) refl)
 sought_steps d fault again e (Notice notice) other = over e _ (pressed_steps d fault again e (Notice notice) refl)
 
@@ -214,24 +246,25 @@ any_steps d fault again Off e key other = pressed_steps d fault again e key othe
 any_steps d fault again Begun e key other = sought_steps d fault again e key other
 any_steps d fault again Typed e key other = sought_steps d fault again e key other
 
-cleared : (e new : Editor) → Steps (without_message e) new → Steps e new
-cleared e new h = record { goes_on = h.goes_on; edits = h.edits }
+-- whatever the message was, and whatever column is kept
+cleared : (e new : Editor) (goal : Option ℕ) → Steps (without_message e) new → Steps e (record new { goal = goal })
+cleared e new goal h = record { goes_on = h.goes_on; edits = h.edits }
 
 pub key_steps : (d : Data) (fault : Option StoreFault) (e : Editor) (key : Key) → is_other key ≡ true → Steps e (after_key d fault e key)
 key_steps d fault e =
     each-key d fault e (λ key new. is_other key ≡ true → Steps e new) (λ height width other. idle e (with_size e height width) refl refl refl)
     (λ notice other. idle e (with_notice e notice) refl refl refl)
-    (λ key small other. cleared e _ (any_steps d fault e.quit_before e.seek (without_message e) key other))
+    (λ key small other. cleared e _ _ (any_steps d fault e.quit_before e.seek (without_message e) key other))
 
 -- a Quit in a search gives it up
 quit_steps : (d : Data) (seek : Seek) (e : Editor) → e.seek ≡ seek → Steps e (after_replayed d seek e Quit)
-quit_steps d Off e is = idle e e refl refl refl
-quit_steps d Begun e is = subst (λ seek. Steps e (after_any d None e.quit_before seek (without_message e) Quit)) (sym is) (idle e _ refl refl refl)
-quit_steps d Typed e is = subst (λ seek. Steps e (after_any d None e.quit_before seek (without_message e) Quit)) (sym is) (idle e _ refl refl refl)
+quit_steps d Off e is = idle e (without_goal e) refl refl refl
+quit_steps d Begun e is = subst (λ seek. Steps e (without_goal (after_any d None e.quit_before seek (without_message e) Quit))) (sym is) (idle e _ refl refl refl)
+quit_steps d Typed e is = subst (λ seek. Steps e (without_goal (after_any d None e.quit_before seek (without_message e) Quit))) (sym is) (idle e _ refl refl refl)
 
 pub replayed_steps : (d : Data) (e : Editor) (key : Key) → Steps e (after_replayed d e.seek e key)
 replayed_steps d e key =
-    each-replayed d e.seek e (λ k new. Steps e new) (idle e (without_search e) refl refl refl) (quit_steps d e.seek e refl)
+    each-replayed d e.seek e (λ k new. Steps e new) (idle e (without_goal (without_search e)) refl refl refl) (quit_steps d e.seek e refl)
     (λ k other. key_steps d None e k other) key
 
 goes_on : (d : Data) (e : Editor) (key : Key) → e.ended ≡ false → (after_replayed d e.seek e key).ended ≡ false
@@ -278,6 +311,16 @@ editor_is d seek s WordRight = refl
 editor_is d seek s TextStart = refl
 editor_is d seek s TextEnd = refl
 editor_is d seek s Help = refl
+editor_is d seek s EraseWord = refl
+editor_is d seek s DeleteWord = refl
+editor_is d seek s ErasePoint = refl
+editor_is d seek s NewLine = refl
+editor_is d seek s FindNext = refl
+editor_is d seek s Cancel = refl
+editor_is d seek s LineUp = refl
+editor_is d seek s LineDown = refl
+editor_is d seek s PageBack = refl
+editor_is d seek s PageOn = refl
 editor_is d seek s (Size height width) = refl
 editor_is d seek s (Notice notice) = refl
 
@@ -314,6 +357,16 @@ rest_stays d seek s WordRight = refl
 rest_stays d seek s TextStart = refl
 rest_stays d seek s TextEnd = refl
 rest_stays d seek s Help = refl
+rest_stays d seek s EraseWord = refl
+rest_stays d seek s DeleteWord = refl
+rest_stays d seek s ErasePoint = refl
+rest_stays d seek s NewLine = refl
+rest_stays d seek s FindNext = refl
+rest_stays d seek s Cancel = refl
+rest_stays d seek s LineUp = refl
+rest_stays d seek s LineDown = refl
+rest_stays d seek s PageBack = refl
+rest_stays d seek s PageOn = refl
 rest_stays d seek s (Size height width) = refl
 rest_stays d seek s (Notice notice) = refl
 

@@ -19,8 +19,8 @@ use Rattle.bx_session.specs.Session.{Session, after_all_replayed, at_opening, at
 abbrev pub RefusesNoKey : List ByteAnswer → Type 0
 RefusesNoKey answered = All (λ (a : ByteAnswer). a.1 ≢ Err refused.Edit) answered
 
--- a replayed session has the other's text with its past and future, cursor's place, mark, held bytes, query, direction, window and
--- unfinished input; and it has not ended
+-- a replayed session has the other's text with its past and future, cursor's place, mark, held bytes, query, direction, kept
+-- column, window and unfinished input; and it has not ended
 pub record HasBack (had replayed : Session) : Type 0 where
   pub content : replayed.editor.content ≡ had.editor.content
   pub place : replayed.editor.place ≡ had.editor.place
@@ -28,6 +28,7 @@ pub record HasBack (had replayed : Session) : Type 0 where
   pub held : replayed.editor.held ≡ had.editor.held
   pub query : replayed.editor.query ≡ had.editor.query
   pub base : replayed.editor.base ≡ had.editor.base
+  pub goal : replayed.editor.goal ≡ had.editor.goal
   pub height : replayed.editor.height ≡ had.editor.height
   pub width : replayed.editor.width ≡ had.editor.width
   pub rest : replayed.rest ≡ had.rest

@@ -12,6 +12,7 @@ use Rattle.bx_view.specs.Moves.{place_from}
 use Rattle.bx_editor.specs.Editor.{Editor, at_start, rows, with_place, with_size, without_message}
 use Rattle.bx_editor.specs.declared.seek.Seek.{Seek}
 use Rattle.bx_editor.specs.declared.seek.Seek.TheVariants.{Off}
+use Rattle.bx_editor.specs.Goal.{without_goal}
 use Rattle.bx_editor.specs.Search.{without_search}
 use Rattle.bx_editor.specs.Keys.{after_key, asks_for_whole}
 use Rattle.bx_editor.specs.Picture.{picture, next_top}
@@ -129,8 +130,8 @@ status_of s = if s.editor.ended then Ended else Running
 
 -- the effect of a key in a replay: a Save only ends a search; a Quit gives up a search, and outside one does nothing
 abbrev pub after_replayed : Data → Seek → Editor → Key → Editor
-after_replayed d seek e Save = without_search e
-after_replayed d Off e Quit = e
+after_replayed d seek e Save = without_goal (without_search e)
+after_replayed d Off e Quit = without_goal e
 after_replayed d seek e key = after_key d None e key
 
 -- keys in sequence
@@ -140,8 +141,8 @@ after_all_replayed d e (key ∷ keys) = after_all_replayed d (after_replayed d e
 
 -- the session after such a key
 abbrev pub session_after_replayed : Data → Seek → Session → Key → Session
-session_after_replayed d seek s Save = record s { editor = without_search s.editor }
-session_after_replayed d Off s Quit = s
+session_after_replayed d seek s Save = record s { editor = without_goal (without_search s.editor) }
+session_after_replayed d Off s Quit = record s { editor = without_goal s.editor }
 session_after_replayed d seek s key = session_after_key d None s key
 
 abbrev pub after_replayed_key : Data → Session → Option Key → Session

@@ -16,7 +16,8 @@ use bx_store::{Store, StoreFault};
 use bx_ucd::BidiData;
 
 impl<D: BidiData + Drop> Session<D> {
-    /// Applies a key of a journal. A Save only ends a search; a Quit gives up a search, and outside one does nothing.
+    /// Applies a key of a journal. A Save only ends a search; a Quit gives up a search, and outside one does nothing more. Like any
+    /// key, each forgets the kept column.
     ///
     /// Errors: `Edit` if memory runs out, only for a key that edits, moves, copies or finds; nothing has changed.
     fn press_again(&mut self, key: Key) -> Result<(), Refused>
@@ -31,9 +32,13 @@ impl<D: BidiData + Drop> Session<D> {
         match (key, self.editor.seek()) {
             (Key::Save, _) => {
                 self.editor.leave_search();
+                self.editor.forget_goal();
                 Ok(())
             }
-            (Key::Quit, Seek::Off) => Ok(()),
+            (Key::Quit, Seek::Off) => {
+                self.editor.forget_goal();
+                Ok(())
+            }
             _ => self.press(key, None),
         }
     }

@@ -6,6 +6,7 @@ use Rattle.bx_keys.specs.declared.key.Key.{Key}
 use Rattle.bx_keys.specs.declared.key.Key.TheVariants.{Insert, Erase, Delete, Back, Forward, Up, Down, Right, Left, RowHome, RowEnd, PageUp, PageDown}
 use Rattle.bx_keys.specs.declared.key.Key.TheVariants.{Save, Quit, Undo, Redo, Repaint, Direction, Size, Mark, Copy, Cut, Put}
 use Rattle.bx_keys.specs.declared.key.Key.TheVariants.{Find, FindBack, WordLeft, WordRight, TextStart, TextEnd, Help, Notice}
+use Rattle.bx_keys.specs.declared.key.Key.TheVariants.{EraseWord, DeleteWord, ErasePoint, NewLine, FindNext, Cancel, LineUp, LineDown, PageBack, PageOn}
 use Rattle.bx_keys.specs.Keys.{rest_after}
 use Rattle.bx_keys.specs.Waiting.{head_of}
 use Rattle.bx_grid.specs.Picture.{PictureState, IsIdle, Shows}
@@ -14,6 +15,7 @@ use Rattle.bx_ucd.specs.Data.{Data}
 use Rattle.bx_editor.specs.Editor.{Editor}
 use Rattle.bx_editor.specs.declared.seek.Seek.{Seek}
 use Rattle.bx_editor.specs.declared.seek.Seek.TheVariants.{Off, Begun, Typed}
+use Rattle.bx_editor.specs.Goal.{without_goal}
 use Rattle.bx_editor.specs.Search.{without_search}
 use Rattle.bx_session.specs.Session.{Session, after_all_replayed, at_opening, at_replay_end, after_replay, after_replayed_key, after_spending, key_of_byte, session_after_key, session_after_replayed}
 use Rattle.bx_session.specs.Painting.{QueuesPicture}
@@ -89,8 +91,11 @@ key_stays d t s key = record {
       (key_fits d None t.height t.width (fits t.height t.width s.editor) s.editor key refl ∙ on);
 }
 
-search_stays : (t : Terminal) (s : Session) → StaysKnown t s (record s { editor = without_search s.editor })
-search_stays t s = record { pending = refl; known = known_at (fits t.height t.width s.editor) s.known }
+save_stays : (t : Terminal) (s : Session) → StaysKnown t s (record s { editor = without_goal (without_search s.editor) })
+save_stays t s = record { pending = refl; known = known_at (fits t.height t.width s.editor) s.known }
+
+quit_stays : (t : Terminal) (s : Session) → StaysKnown t s (record s { editor = without_goal s.editor })
+quit_stays t s = record { pending = refl; known = known_at (fits t.height t.width s.editor) s.known }
 
 replayed_stays : (d : Data) (t : Terminal) (seek : Seek) (s : Session) (key : Key) → StaysKnown t s (session_after_replayed d seek s key)
 replayed_stays d t seek s (Insert c) = key_stays d t s (Insert c)
@@ -106,8 +111,8 @@ replayed_stays d t seek s RowHome = key_stays d t s RowHome
 replayed_stays d t seek s RowEnd = key_stays d t s RowEnd
 replayed_stays d t seek s PageUp = key_stays d t s PageUp
 replayed_stays d t seek s PageDown = key_stays d t s PageDown
-replayed_stays d t seek s Save = search_stays t s
-replayed_stays d t Off s Quit = stays_at t s
+replayed_stays d t seek s Save = save_stays t s
+replayed_stays d t Off s Quit = quit_stays t s
 replayed_stays d t Begun s Quit = key_stays d t s Quit
 replayed_stays d t Typed s Quit = key_stays d t s Quit
 replayed_stays d t seek s Undo = key_stays d t s Undo
@@ -125,6 +130,16 @@ replayed_stays d t seek s WordRight = key_stays d t s WordRight
 replayed_stays d t seek s TextStart = key_stays d t s TextStart
 replayed_stays d t seek s TextEnd = key_stays d t s TextEnd
 replayed_stays d t seek s Help = key_stays d t s Help
+replayed_stays d t seek s EraseWord = key_stays d t s EraseWord
+replayed_stays d t seek s DeleteWord = key_stays d t s DeleteWord
+replayed_stays d t seek s ErasePoint = key_stays d t s ErasePoint
+replayed_stays d t seek s NewLine = key_stays d t s NewLine
+replayed_stays d t seek s FindNext = key_stays d t s FindNext
+replayed_stays d t seek s Cancel = key_stays d t s Cancel
+replayed_stays d t seek s LineUp = key_stays d t s LineUp
+replayed_stays d t seek s LineDown = key_stays d t s LineDown
+replayed_stays d t seek s PageBack = key_stays d t s PageBack
+replayed_stays d t seek s PageOn = key_stays d t s PageOn
 replayed_stays d t seek s (Size height width) = key_stays d t s (Size height width)
 replayed_stays d t seek s (Notice notice) = key_stays d t s (Notice notice)
 

@@ -6,6 +6,7 @@ use Rattle.bx_keys.specs.declared.key.Key.{Key}
 use Rattle.bx_keys.specs.declared.key.Key.TheVariants.{Insert, Erase, Delete, Back, Forward, Up, Down, Right, Left, RowHome, RowEnd, PageUp, PageDown}
 use Rattle.bx_keys.specs.declared.key.Key.TheVariants.{Save, Quit, Undo, Redo, Repaint, Direction, Size, Mark, Copy, Cut, Put}
 use Rattle.bx_keys.specs.declared.key.Key.TheVariants.{Find, FindBack, WordLeft, WordRight, TextStart, TextEnd, Help, Notice}
+use Rattle.bx_keys.specs.declared.key.Key.TheVariants.{EraseWord, DeleteWord, ErasePoint, NewLine, FindNext, Cancel, LineUp, LineDown, PageBack, PageOn}
 use Rattle.bx_keys.specs.Keys.{rest_after}
 use Rattle.bx_keys.specs.Waiting.{head_of}
 use Rattle.bx_grid.specs.Picture.{PictureState}
@@ -58,6 +59,16 @@ kind_of_key d fault e WordRight = inl (any_size d fault e.quit_before e.seek (wi
 kind_of_key d fault e TextStart = inl (any_size d fault e.quit_before e.seek (without_message e) TextStart, λ h w t. refl)
 kind_of_key d fault e TextEnd = inl (any_size d fault e.quit_before e.seek (without_message e) TextEnd, λ h w t. refl)
 kind_of_key d fault e Help = inl (any_size d fault e.quit_before e.seek (without_message e) Help, λ h w t. refl)
+kind_of_key d fault e EraseWord = inl (any_size d fault e.quit_before e.seek (without_message e) EraseWord, λ h w t. refl)
+kind_of_key d fault e DeleteWord = inl (any_size d fault e.quit_before e.seek (without_message e) DeleteWord, λ h w t. refl)
+kind_of_key d fault e ErasePoint = inl (any_size d fault e.quit_before e.seek (without_message e) ErasePoint, λ h w t. refl)
+kind_of_key d fault e NewLine = inl (any_size d fault e.quit_before e.seek (without_message e) NewLine, λ h w t. refl)
+kind_of_key d fault e FindNext = inl (any_size d fault e.quit_before e.seek (without_message e) FindNext, λ h w t. refl)
+kind_of_key d fault e Cancel = inl (any_size d fault e.quit_before e.seek (without_message e) Cancel, λ h w t. refl)
+kind_of_key d fault e LineUp = inl (any_size d fault e.quit_before e.seek (without_message e) LineUp, λ h w t. refl)
+kind_of_key d fault e LineDown = inl (any_size d fault e.quit_before e.seek (without_message e) LineDown, λ h w t. refl)
+kind_of_key d fault e PageBack = inl (any_size d fault e.quit_before e.seek (without_message e) PageBack, λ h w t. refl)
+kind_of_key d fault e PageOn = inl (any_size d fault e.quit_before e.seek (without_message e) PageOn, λ h w t. refl)
 kind_of_key d fault e (Size height width) = inr (height, width, refl)
 kind_of_key d fault e (Notice notice) = inl ((refl, refl), λ h w t. refl)
 
