@@ -155,6 +155,7 @@ a_recovered_session_goes_on law store store' b new feeds none =
       held = refl;
       query = refl;
       base = refl;
+      goal = refl;
       height = refl;
       width = refl;
       rest = refl;
