@@ -11,6 +11,7 @@ use Rattle.bx_ucd.specs.Data.{Data}
 use Rattle.bx_editor.specs.declared.seek.Seek.{Seek}
 use Rattle.bx_editor.specs.declared.seek.Seek.TheVariants.{Off, Begun, Typed}
 use Rattle.bx_editor.specs.Editor.{Editor, after_save, with_notice, with_size, without_message}
+use Rattle.bx_editor.specs.Goal.{without_goal}
 use Rattle.bx_editor.specs.Keys.{after_any, after_key, after_user, is_told_key}
 use Rattle.bx_editor.specs.Search.{without_search}
 
@@ -79,5 +80,5 @@ save-any d fault again Off e is = off e fault is
 save-any d fault again Begun e is = refl
 save-any d fault again Typed e is = refl
 
-pub save-ends : (d : Data) (fault : Option StoreFault) (e : Editor) → after_key d fault e Save ≡ record (without_search (after_save (without_message e) fault)) { goal = None }
-save-ends d fault e = ap (λ new. record new { goal = None }) (save-any d fault e.quit_before e.seek (without_message e) refl)
+pub save-ends : (d : Data) (fault : Option StoreFault) (e : Editor) → after_key d fault e Save ≡ without_goal (without_search (after_save (without_message e) fault))
+save-ends d fault e = ap without_goal (save-any d fault e.quit_before e.seek (without_message e) refl)

@@ -146,4 +146,4 @@ pub copy_goes_back : GivingUpGoesBack → now (given_up_by FindBack Copy) ≡ (c
 unfolding unicode_segmentation unicode_width digits
 copy_goes_back law =
     given_up_now marked_at_1 (given_up_by FindBack Copy)
-    (law tables marked_at_1 FindBack Copy in_search refl (inr refl) (inr refl) stays_on_after_find_back)
+    (law tables marked_at_1 FindBack Copy in_search refl (inr refl) (inr (inl refl)) stays_on_after_find_back)

@@ -19,6 +19,7 @@ use Rattle.bx_editor.specs.declared.seek.Seek.TheVariants.{Off, Begun, Typed}
 use Rattle.bx_editor.specs.Editor.{Editor, at_start, rows, place_after, after_insertion, after_removal, without_message}
 use Rattle.bx_editor.specs.Editor.{after_undo, after_redo, after_save, after_quit}
 use Rattle.bx_editor.specs.Erasing.{line_end, point_before}
+use Rattle.bx_editor.specs.Goal.{without_goal}
 use Rattle.bx_editor.specs.Keys.{after_any, after_key, after_keys, after_pressing, after_seeking}
 use Rattle.bx_editor.specs.Region.{after_copy, after_cut, after_mark, after_put, bytes_in, is_at_mark, is_empty, line, region, taken}
 use Rattle.bx_editor.specs.Search.{after_beginning, after_letter, is_no_letter, kept, lengthened, next_or_start, search_from, sought, with_query, without_search}
@@ -256,21 +257,21 @@ all_back d first e text (edit ∷ past) future h =
     let undone : Editor = record (without_message e) { place = edit.before.place; mark = None; seek = Off; changed = true; goal = None } in
     let back = all_back d first undone edit.before.text past (edit ∷ future) h.1 in
     subst (λ new. IsBackAt first now (after_keys d None new (replicate (length past) Undo)))
-    (sym (undone_is d e.quit_before e.seek (without_message e) text edit past future))
+    (sym (ap without_goal (undone_is d e.quit_before e.seek (without_message e) text edit past future)))
     (record { text_is = back.text_is; past_is = back.past_is; place_is = back.place_is; mark_is = back.mark_is ∙ none_behind past })
 
 redo_back : (d : Data) (first : List ℕ) (e : Editor) (text : List ℕ) (past future : List Edit) → IsPastOf first text past → past ≢ []
     → (after_keys d None (record e { content = version text past future }) (Undo ∷ Redo ∷ [])).content ≡ version text past future
 redo_back d first e text [] future h some = absurd (some refl)
 redo_back d first e text (edit ∷ past) future h some =
-    ap (λ new. (after_key d None new Redo).content) (undone_is d e.quit_before e.seek (without_message e) text edit past future)
+    ap (λ new. (after_key d None (without_goal new) Redo).content) (undone_is d e.quit_before e.seek (without_message e) text edit past future)
     ∙ ap (λ t. version t (edit ∷ past) future) h.0
 
 undo_back : (d : Data) (e : Editor) (text : List ℕ) (past future : List Edit) → IsFutureOf text future → future ≢ []
     → (after_keys d None (record e { content = version text past future }) (Redo ∷ Undo ∷ [])).content ≡ version text past future
 undo_back d e text past [] h some = absurd (some refl)
 undo_back d e text past (edit ∷ future) h some =
-    ap (λ new. (after_key d None new Undo).content) (redone_is d e.quit_before e.seek (without_message e) text edit past future)
+    ap (λ new. (after_key d None (without_goal new) Undo).content) (redone_is d e.quit_before e.seek (without_message e) text edit past future)
     ∙ ap (λ t. version t past (edit ∷ future)) h.0
 
 -- ---- place and mark behind both
@@ -280,7 +281,7 @@ redo_place : (d : Data) (e : Editor) (text : List ℕ) (past future : List Edit)
 redo_place d e text [] future edit rest is = absurd (cc)
 redo_place d e text (latest ∷ past) future edit rest is =
     let same : latest ≡ edit = cc in
-    let undone = undone_is d e.quit_before e.seek (without_message e) text latest past future in
+    let undone = ap without_goal (undone_is d e.quit_before e.seek (without_message e) text latest past future) in
     let there : IsUnmarkedAt latest.after.place (after_keys d None (record e { content = version text (latest ∷ past) future }) (Undo ∷ Redo ∷ [])) =
     subst (λ new. IsUnmarkedAt latest.after.place (after_key d None new Redo)) (sym undone) (record { place_is = refl; mark_is = refl }) in
     subst (λ (x : Edit). IsUnmarkedAt x.after.place (after_keys d None (record e { content = version text (latest ∷ past) future }) (Undo ∷ Redo ∷ [])))
@@ -291,7 +292,7 @@ undo_place : (d : Data) (e : Editor) (text : List ℕ) (past future : List Edit)
 undo_place d e text past [] edit rest is = absurd (cc)
 undo_place d e text past (next ∷ future) edit rest is =
     let same : next ≡ edit = cc in
-    let redone = redone_is d e.quit_before e.seek (without_message e) text next past future in
+    let redone = ap without_goal (redone_is d e.quit_before e.seek (without_message e) text next past future) in
     let there : IsUnmarkedAt next.before.place (after_keys d None (record e { content = version text past (next ∷ future) }) (Redo ∷ Undo ∷ [])) =
     subst (λ new. IsUnmarkedAt next.before.place (after_key d None new Undo)) (sym redone) (record { place_is = refl; mark_is = refl }) in
     subst (λ (x : Edit). IsUnmarkedAt x.before.place (after_keys d None (record e { content = version text past (next ∷ future) }) (Redo ∷ Undo ∷ [])))

@@ -12,7 +12,7 @@ use Rattle.bx_editor.specs.declared.message.Message.TheVariants.{FromStart}
 use Rattle.bx_editor.specs.declared.seek.Seek.{Seek}
 use Rattle.bx_editor.specs.declared.seek.Seek.TheVariants.{Off, Begun}
 use Rattle.bx_editor.specs.Editor.{Editor}
-use Rattle.bx_editor.proofs.Computed.{start, after, letters}
+use Rattle.bx_editor.proofs.Computed.{start, after}
 
 abbrev text_and_place : Editor → List ℕ × ℕ
 text_and_place e = (e.content.text, e.place)

@@ -35,6 +35,7 @@ put_status-requires-clause-position g c =
       quit_before = i.quit_before;
       ended = i.ended;
       base = doc.document.base;
+      goal = i.goal;
       height = i.height;
       width = doc.document.w;
     })) i.place c.in_ok-shown.shown.position) (sym c.show.ensures.same) c.in_ok-shown.ensures.position
@@ -56,6 +57,7 @@ returns-clause-top g c =
       quit_before = i.quit_before;
       ended = i.ended;
       base = i.document.document.base;
+      goal = i.goal;
       height = i.height;
       width = i.document.document.w;
     }) in
@@ -81,6 +83,7 @@ returns-clause-picture g c =
       quit_before = i.quit_before;
       ended = i.ended;
       base = i.document.document.base;
+      goal = i.goal;
       height = i.height;
       width = i.document.document.w;
     }) in
@@ -107,6 +110,7 @@ returns-clause-picture g c =
         quit_before = i.quit_before;
         ended = i.ended;
         base = doc.document.base;
+        goal = i.goal;
         height = i.height;
         width = doc.document.w;
       });

@@ -24,6 +24,7 @@ returns g c =
       quit_before = i.quit_before;
       ended = i.ended;
       base = i.document.document.base;
+      goal = i.goal;
       height = i.height;
       width = i.document.document.w;
     } in
