@@ -14,7 +14,7 @@ use Rattle.bx_text.specs.Edits.{Edited}
 use Rattle.bx_text.specs.Edits.{opened as opened_text}
 use Rattle.bx_editor.specs.Editor.{Editor}
 use Rattle.bx_editor.specs.Laws.{HasRows}
-use Rattle.bx_editor.proofs.Computed.{tables, columns_of}
+use Rattle.bx_editor.proofs.Computed.{tables, ascii_columns}
 use Rattle.bx_session.specs.declared.error.Refused.{Refused}
 use Rattle.bx_session.specs.declared.error.Refused.TheVariants.{Edit, Paint}
 use Rattle.bx_session.specs.declared.status.Status.{Status}
@@ -34,7 +34,7 @@ abbrev opened : Session
 opened = start (codes "ab") 1 5
 
 pub the_letter_is_painted : AlwaysShowsState
-    → (after_byte tables None opened 0x78).painted ≡ Some (record { height = 1; width = 5; columns = columns_of (codes "xab  "); row = 0; column = 1 })
+    → (after_byte tables None opened 0x78).painted ≡ Some (record { height = 1; width = 5; columns = ascii_columns (codes "xab  "); row = 0; column = 1 })
 unfolding unicode_segmentation unicode_width digits
 the_letter_is_painted law = (law.byte tables None opened 0x78 (law.opening tables (codes "ab") 1 5 Auto) refl).0
 
