@@ -7,9 +7,8 @@
 mod words;
 
 use bx_input::run;
-use std::env;
-use std::io;
 use std::process::ExitCode;
+use std::{env, io};
 use words::erases_by_delete;
 
 /// The exit status for a refused command line.
@@ -29,7 +28,12 @@ fn refuse(rt: &HostRuntime, why: &str) -> ExitCode {
 
 /// Filters standard input to its end.
 fn filter(rt: &HostRuntime, erases_by_delete: bool) -> ExitCode {
-    match run(rt.alloc(), erases_by_delete, &mut rt.reader(), &mut rt.stdout()) {
+    match run(
+        rt.alloc(),
+        erases_by_delete,
+        &mut rt.reader(),
+        &mut rt.stdout(),
+    ) {
         Ok(()) => ExitCode::SUCCESS,
         Err(fault) => {
             // if standard error fails, nobody can be told

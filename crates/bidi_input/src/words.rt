@@ -1,11 +1,13 @@
 //! The command line.
 
-ghost use Rattle.std.specs.Prelude.{◌≡◌};
-ghost use Rattle.bidi_input.specs.Words.{erase_code};
+ghost use Rattle.std.specs.Prelude.{◌≡◌, map, string_bytes};
+ghost use Rattle.bidi_input.specs.Words.{erase_code, told_by};
 
 /// Whether the terminal's own erase character, as the words tell it, is DELETE: `--erase` and its code in two hexadecimal
 /// digits. Without words it is not. Other words give `None`.
-pub fn erases_by_delete(words: &[String]) -> Option<bool> {
+pub fn erases_by_delete(words: &[String]) -> Option<bool>
+    ensures { result ≡ told_by (map string_bytes words.now) }
+{
     match words {
         [] => Some(false),
         [option, code] if option.as_str() == "--erase" => is_delete(code.as_bytes()),
