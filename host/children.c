@@ -17,9 +17,6 @@
 #include "watcher.h"
 #include "writing.h"
 
-/* Whether the filter takes the terminal's erase character. It does not yet. */
-static const bool tells_erase = false;
-
 /* A size waits this long for the room that the filter took before it. */
 enum { SIZE_LIMIT = 100, TRIES = 3, MOST_WORDS = 65536 };
 
@@ -64,13 +61,9 @@ static _Noreturn void become_filter(char *file, int in, pid_t host) {
         close_typing();
         copy_keys();
     }
-    char *own_words[] = {file, NULL, NULL, NULL};
-    if (tells_erase) {
-        static char option[] = "--erase", number[8];
-        snprintf(number, sizeof number, "%u", (unsigned)erase_character());
-        own_words[1] = option;
-        own_words[2] = number;
-    }
+    static char option[] = "--erase", code[4];
+    snprintf(code, sizeof code, "%02x", (unsigned)erase_character());
+    char *own_words[] = {file, option, code, NULL};
     execv(file, own_words);
     _exit(127);
 }

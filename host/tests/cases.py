@@ -123,6 +123,25 @@ def notices(tree):
         os.rename(f'{tree.top}/lib/bidi_edit/bidi_input.away', f'{tree.top}/lib/bidi_edit/bidi_input')
 
 
+def erases(tree):
+    """The filter is told the terminal's own erase character: with 7F the byte 08 erases a word, else a point; 00 is none."""
+    if not tree.has_filter:
+        yield 'erases: skipped, since bidi_input is not built', ''
+        return
+    word, point = b'\x1b[88~', b'\x1b[94~'
+    for erase, wanted in ((b'\x7f', word), (b'\x08', point), (b'\x00', point), (b'\x1f', point)):
+        made = tree.file('raw') + '.made'
+        run = Run(tree.words('edit', 'plain', tree.file('raw')), erase=erase, HOME=f'{tree.top}/home')
+        run.pump(5, b'hello')
+        run.type(b'a\x08\x7fb')
+        run.rest(0.5)
+        with open(made, 'rb') as raw:
+            yield same(f'erases, {erase!r}: what the program reads', raw.read(), b'a' + wanted + point + b'b')
+        run.type(QUIT)
+        yield from finish(run, f'erases, {erase!r}', 0)
+        os.unlink(made)
+
+
 def standard_files(tree):
     plain = f"'{tree.host}' edit plain '{tree.file('files')}'"
     for how in ('<&- >&- 2>&-', '</dev/null >/dev/null', '2>&-', '<&-', '| cat', '>/dev/full 2>/dev/full'):
@@ -371,5 +390,5 @@ def missing_programs(tree):
         os.rename(f'{lib}/bidi_input.away', f'{lib}/bidi_input')
 
 
-ALL = [edits, sizes, resizes, notices, standard_files, questions, refusals, statuses, printing, without_terminal, keepers, told_words, facts_meanwhile, late_signals, deaf_programs, limits,
-       missing_programs]
+ALL = [edits, sizes, resizes, notices, erases, standard_files, questions, refusals, statuses, printing, without_terminal, keepers, told_words, facts_meanwhile,
+       late_signals, deaf_programs, limits, missing_programs]

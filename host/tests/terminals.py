@@ -70,7 +70,7 @@ class Run:
     """A command on a terminal of its own."""
     count = 0
 
-    def __init__(self, words, rows=24, columns=80, **variables):
+    def __init__(self, words, rows=24, columns=80, erase=b'\x08', **variables):
         Run.count += 1
         self.mark = f'HOST_RUN={os.getpid()}.{Run.count}'.encode()
         env = dict(os.environ, TERM='xterm-256color', XTERM_VERSION='XTerm(379)', HOST_RUN=self.mark.decode().partition('=')[2])
@@ -79,7 +79,7 @@ class Run:
         env.update(variables)
         self.master, self.slave = pty.openpty()
         settings = termios.tcgetattr(self.slave)
-        settings[6][termios.VERASE] = b'\x08'
+        settings[6][termios.VERASE] = erase
         termios.tcsetattr(self.slave, termios.TCSANOW, settings)
         self.settings = termios.tcgetattr(self.slave)
         self.resize(rows, columns)

@@ -43,8 +43,8 @@ all_clean after_return (b ∷ c ∷ bs) =
     either_clean (is_c1 b c) (pasted_after false bs) (pasted_byte after_return b ++ pasted_after (nat_eq b 0x0D) (c ∷ bs)) (all_clean false bs)
     (joined (pasted_byte after_return b) (pasted_after (nat_eq b 0x0D) (c ∷ bs)) (byte_clean after_return b) (all_clean (nat_eq b 0x0D) (c ∷ bs)))
 
-pub pastes_clean : PastesAreClean
-pastes_clean = record {
+pub pastes_clean : (by_delete : Bool) → PastesAreClean by_delete
+pastes_clean by_delete = record {
   each_byte = λ waiting after_return b. step_clean (paste_fate (waiting ++ b ∷ [])) waiting after_return b;
   input_ends = λ waiting after_return. part_clean waiting;
   whole = λ text. all_clean false text;

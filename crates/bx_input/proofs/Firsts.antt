@@ -1,8 +1,10 @@
 -- Patterns that take a byte as their first alone, and how long a beginning is.
-use Rattle.std.proofs.Common.{◌≡◌, ℕ, ◌<◌, inl, inr, Bool, true, false, not, ◌&&◌, cond, nat_le, List, [], ◌∷◌, ◌++◌, length, refl, ap, ◌∙◌, arith}
+use Rattle.std.proofs.Common.{◌≡◌, ℕ, ◌<◌, inl, inr, Bool, true, false, not, ◌&&◌, ◌||◌, cond, nat_eq, nat_le, List, [], ◌∷◌, ◌++◌, length, refl, ap, ◌∙◌, arith}
 use Rattle.std.specs.List.{list_all}
+use Rattle.std.specs.Str.{bytes_eq}
 use Rattle.std.proofs.lemmas.Bool.{cases_Bool, both_ways, and_parts, and_left, and_right, or_cases, or_from, or_parts, cond-false, leb-true}
 use Rattle.std.proofs.lemmas.Bool.{not-true}
+use Rattle.std.proofs.lemmas.Bool.Decides.{nat_tests}
 use Rattle.bx_bytes.specs.Fate.{fate_in}
 use Rattle.bx_bytes.specs.Pattern.{Piece, One, Many, is_within, past, matches, begins, matches_any, begins_any}
 use Rattle.bx_bytes.specs.declared.fate.Fate.{Fate}
@@ -91,6 +93,49 @@ any_not_begun (p ∷ patterns) x xs b h =
 pub breaks_at : (patterns : List (List Piece)) (x : ℕ) (xs : List ℕ) (b : ℕ) → list_all (lacks_after_first b) patterns ≡ true
     → fate_in patterns (x ∷ (xs ++ b ∷ [])) ≡ Breaks
 breaks_at patterns x xs b h = breaks_if patterns (x ∷ (xs ++ b ∷ [])) (any_not_begun patterns x xs b h)
+
+-- ---- a byte that some take behind another
+
+-- the byte and another before it are a pattern
+abbrev is_pair_of : ℕ → List Piece → Bool
+is_pair_of a (One low high ∷ One l h ∷ []) = nat_eq low a && nat_eq high a
+is_pair_of a _ = false
+
+-- none has the byte but as its first, or behind that one alone
+abbrev pub lacks_behind : ℕ → ℕ → List Piece → Bool
+lacks_behind a b p = lacks_after_first b p || is_pair_of a p
+
+not_within : (a low high x : ℕ) → nat_eq low a && nat_eq high a ≡ true → nat_eq x a ≡ false → is_within low high x ≡ false
+not_within a low high x is n = grind (arith, nat_tests)
+
+pair_not_begun : (a : ℕ) (p : List Piece) (x : ℕ) (xs : List ℕ) (b : ℕ) → is_pair_of a p ≡ true → bytes_eq (x ∷ xs) (a ∷ []) ≡ false
+    → begins p (x ∷ (xs ++ b ∷ [])) ≡ false
+pair_not_begun a [] x xs b is n = absurd (cc is)
+pair_not_begun a (Many low high ∷ ps) x xs b is n = absurd (cc is)
+pair_not_begun a (One low high ∷ []) x xs b is n = absurd (cc is)
+pair_not_begun a (One low high ∷ Many l h ∷ ps) x xs b is n = absurd (cc is)
+pair_not_begun a (One low high ∷ One l h ∷ p ∷ ps) x xs b is n = absurd (cc is)
+pair_not_begun a (One low high ∷ One l h ∷ []) x [] b is n =
+    let other : nat_eq x a ≡ false = grind (arith, nat_tests) in
+    and_left (is_within low high x) (begins (One l h ∷ []) (b ∷ [])) (not_within a low high x is other)
+pair_not_begun a (One low high ∷ One l h ∷ []) x (y ∷ ys) b is n =
+    and_right (is_within low high x) (begins (One l h ∷ []) (y ∷ (ys ++ b ∷ []))) (and_right (is_within l h y) (begins [] (ys ++ b ∷ [])) (none_begin [] ys b refl))
+
+any_not_behind : (patterns : List (List Piece)) (a x : ℕ) (xs : List ℕ) (b : ℕ) → list_all (lacks_behind a b) patterns ≡ true
+    → bytes_eq (x ∷ xs) (a ∷ []) ≡ false → begins_any patterns (x ∷ (xs ++ b ∷ [])) ≡ false
+any_not_behind [] a x xs b h n = refl
+any_not_behind (p ∷ patterns) a x xs b h n =
+    let parts = and_parts (lacks_behind a b p) (list_all (lacks_behind a b) patterns) h in
+    let here : begins p (x ∷ (xs ++ b ∷ [])) ≡ false = elim (or_cases (lacks_after_first b p) (is_pair_of a p) parts.0) [
+      | inl lacks ↦ not_begun p x xs b lacks
+      | inr pair ↦ pair_not_begun a p x xs b pair n
+    ] in
+    or_from (begins p (x ∷ (xs ++ b ∷ []))) (begins_any patterns (x ∷ (xs ++ b ∷ []))) here (any_not_behind patterns a x xs b parts.1 n)
+
+-- the byte breaks whatever has begun but that one
+pub breaks_behind : (patterns : List (List Piece)) (a x : ℕ) (xs : List ℕ) (b : ℕ) → list_all (lacks_behind a b) patterns ≡ true
+    → bytes_eq (x ∷ xs) (a ∷ []) ≡ false → fate_in patterns (x ∷ (xs ++ b ∷ [])) ≡ Breaks
+breaks_behind patterns a x xs b h n = breaks_if patterns (x ∷ (xs ++ b ∷ [])) (any_not_behind patterns a x xs b h n)
 
 -- ---- the number of waiting bytes
 

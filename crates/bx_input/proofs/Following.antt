@@ -1,10 +1,12 @@
 -- The editor's decoder behind the filter.
 use Rattle.std.proofs.Common.{◌≡◌, ◌≢◌, ℕ, ◌⊎◌, inl, inr, Bool, true, false, not, ◌&&◌, nat_eq, cond, List, [], ◌∷◌, ◌++◌, map, get_or, Option, Some, None}
 use Rattle.std.proofs.Common.{refl, ap, sym, ◌∙◌, append_assoc, subst, arith}
+use Rattle.std.specs.Prelude.{find}
 use Rattle.std.specs.List.{AllByRecursion, list_all}
 use Rattle.std.specs.Str.{bytes_eq, chars, IsUtf8}
-use Rattle.std.proofs.lemmas.Bool.{cases_eq, and_parts, and_cases, or_parts}
+use Rattle.std.proofs.lemmas.Bool.{cases_Bool, cases_eq, and_parts, and_cases, or_parts, cond-true, cond-false}
 use Rattle.std.proofs.lemmas.List.{append-nil}
+use Rattle.std.proofs.lemmas.Slice.Eq.{bytes_eq-Decides}
 use Rattle.bx_bytes.specs.Pattern.{is_within}
 use Rattle.bx_bytes.specs.Utf8.{characters}
 use Rattle.bx_bytes.specs.declared.fate.Fate.{Fate}
@@ -15,10 +17,12 @@ use Rattle.bx_keys.specs.Waiting as editor
 use Rattle.bx_keys.specs.declared.key.Key.TheVariants.{Insert}
 use Rattle.bx_keys.proofs.Cuts.{in_pieces, rest_waits}
 use Rattle.bx_keys.proofs.Feeding.{waits_decoding, feeds_waiting, feeds_end, feeds_break, feeds_alone}
-use Rattle.bx_input.specs.Table.{Row, rows, sequences, fate, row_of, paste_start, paste_end}
+use Rattle.bx_input.specs.Filter as filter
+use Rattle.bx_input.specs.Table as table
+use Rattle.bx_input.specs.Table.{Row, sequences, fate, paste_start, paste_end}
 use Rattle.bx_input.specs.Paste.{pasted, paste_fate}
-use Rattle.bx_input.specs.Filter.{State, Outside, Within, Step, step_by, paste_step_by, fresh_in_paste, fresh, broken, ended, step, start, run, at_end, filtered, apart_from, is_empty}
-use Rattle.bx_input.specs.Laws.{is_text_byte, IsText, is_insert, HasKey, AddsKey, BecomesRow, PastesInsert}
+use Rattle.bx_input.specs.Filter.{State, Outside, Within, Step, step_to, paste_step_by, fresh_in_paste, ended, start, at_end, apart_from, is_empty}
+use Rattle.bx_input.specs.Laws.{became, longer_by, longer_row, row_behind, is_text_byte, IsText, is_insert, HasKey, AddsKey, BecomesRow, PastesInsert}
 use Rattle.bx_input.proofs.Clean.{pastes_clean}
 use Rattle.bx_input.proofs.Decoding.{IsFree, IsOutside, anew, anew_in_text, after_can, alone_free, sequence_over, still_free, text_inserts, text_not_escape}
 use Rattle.bx_input.proofs.Firsts.{lacks_after_first, breaks_at}
@@ -146,223 +150,313 @@ row_leaves is_open r rest h w free =
     let parts = and_parts (starts_anew r.becomes) (is_empty (decoding r.becomes).rest) h in
     ap (λ (d : Decoding). d.rest) (sent_anew is_open rest r.becomes parts.0 w free) ∙ is_nothing (decoding r.becomes).rest parts.1
 
-ended_follows : (is_open : Bool) (read : List ℕ) (o : Option Row) (rest : List ℕ) → row_of read ≡ o → editor.fate rest ≡ Waits
-    → (is_open ≡ false → IsFree rest) → Follows (ended is_open o).state (left rest (ended is_open o).output)
-ended_follows is_open read None rest h w free = opened_free is_open rest w free
-ended_follows is_open read (Some r) rest h w free =
-    let is = found (λ (x : Row). bytes_eq x.sequence read) is_whole rows r refl h in
-    subst (FollowsOutside [] false) (sym (row_leaves is_open r rest is.fits w free)) (nothing_follows false)
+all_whole : (by_delete : Bool) → list_all is_whole (table.rows by_delete) ≡ true
+all_whole true = refl
+all_whole false = refl
 
--- ---- what breaks off
+abbrev is_anew : Row → Bool
+is_anew r = starts_anew r.becomes
 
-not_begun : (b c : ℕ) → fate (0x1B ∷ c ∷ []) ≡ Waits → fate (0x1B ∷ b ∷ []) ≡ Breaks → b ≢ c
-not_begun b c h g e = let s : Waits ≡ Breaks = sym h ∙ ap (λ x. fate (0x1B ∷ x ∷ [])) (sym e) ∙ g in cc s
+all_anew : (by_delete : Bool) → list_all is_anew (table.rows by_delete) ≡ true
+all_anew true = refl
+all_anew false = refl
 
-over_by : (rest : List ℕ) (b : ℕ) → editor.fate rest ≡ Waits → IsOutside rest b → IsFree (rest_after rest b)
-over_by [] b w o = alone_free b o.not_escape
-over_by (x ∷ xs) b w o = elim (cases_eq x 0x1B) [
-  | inl escape ↦ (
-      let waits : editor.fate (0x1B ∷ xs) ≡ Waits = ap (λ y. editor.fate (y ∷ xs)) (sym escape) ∙ w in
-      let outside : IsOutside (0x1B ∷ xs) b = subst (λ y. IsOutside (y ∷ xs) b) escape o in
-      subst (λ y. IsFree (rest_after (y ∷ xs) b)) (sym escape) (sequence_over xs b waits outside))
-  | inr other ↦ still_free (x ∷ xs) b w other o.not_escape
-]
+-- ---- whether or not the terminal's own erase character is DELETE
 
--- nothing waited in the filter
-passed_free : (is_open : Bool) (rest : List ℕ) (b : ℕ) → FollowsOutside [] is_open rest → editor.fate rest ≡ Waits → b ≢ 0x1B
-    → is_open_after [] is_open && is_within 0x20 0x3F b ≡ false → IsFree (rest_after rest b)
-passed_free is_open rest b f w n h = elim (and_cases (is_open_after [] is_open) (is_within 0x20 0x3F b) h) [
-  | inl closed ↦ still_free rest b w (f.closed (or_parts is_open false closed).0) n
-  | inr outside ↦ over_by rest b w (record {
-    not_within = outside;
-    not_escape = n;
-    not_csi = λ e. absurd (f.not_bare refl e);
-    not_ss3 = λ e. absurd (f.not_bare refl e);
-  })
-]
+module _ (by_delete : Bool) where
+  abbrev rows : List Row
+  rows = table.rows by_delete
 
-within_false : (is_open t : Bool) → is_open_after (0 ∷ []) is_open && t ≡ false → t ≡ false
-within_false true t h = h
-within_false false t h = h
+  abbrev row_of : List ℕ → Option Row
+  row_of = table.row_of by_delete
 
--- or something did
-broken_free : (is_open : Bool) (rest : List ℕ) (x : ℕ) (xs : List ℕ) (b : ℕ) → editor.fate rest ≡ Waits → fate (x ∷ xs) ≡ Waits
-    → fate (x ∷ (xs ++ b ∷ [])) ≡ Breaks → b ≢ 0x1B → is_open_after (x ∷ xs) is_open && is_within 0x20 0x3F b ≡ false
-    → IsFree (rest_after (left rest (x ∷ xs)) b)
-broken_free is_open rest x xs b w h g n c =
-    let outside : is_within 0x20 0x3F b ≡ false = within_false is_open (is_within 0x20 0x3F b) c in
-    let alone : left rest (x ∷ xs) ≡ 0x1B ∷ [] → fate (0x1B ∷ b ∷ []) ≡ Breaks =
-    λ e. ap (λ ys. fate (ys ++ b ∷ [])) (sym (bare_alone rest x xs w h e)) ∙ g in
-    over_by (left rest (x ∷ xs)) b (rest_waits (rest ++ x ∷ xs)) (record {
+  abbrev fresh : Fate → Bool → ℕ → Step
+  fresh = filter.fresh by_delete
+
+  abbrev broken : List ℕ → Bool → ℕ → Step
+  broken = filter.broken by_delete
+
+  abbrev step_by : Fate → List ℕ → Bool → ℕ → Step
+  step_by = filter.step_by by_delete
+
+  abbrev step : State → ℕ → Step
+  step = filter.step by_delete
+
+  abbrev run : State → List ℕ → Step
+  run = filter.run by_delete
+
+  abbrev filtered : List ℕ → List ℕ
+  filtered = filter.filtered by_delete
+
+  ended_follows : (is_open : Bool) (read : List ℕ) (o : Option Row) (rest : List ℕ) → row_of read ≡ o → editor.fate rest ≡ Waits
+      → (is_open ≡ false → IsFree rest) → Follows (ended is_open o).state (left rest (ended is_open o).output)
+  ended_follows is_open read None rest h w free = opened_free is_open rest w free
+  ended_follows is_open read (Some r) rest h w free =
+      let is = found (λ (x : Row). bytes_eq x.sequence read) is_whole rows r (all_whole by_delete) h in
+      subst (FollowsOutside [] false) (sym (row_leaves is_open r rest is.fits w free)) (nothing_follows false)
+
+  -- ---- what breaks off
+
+  not_begun : (b c : ℕ) → fate (0x1B ∷ c ∷ []) ≡ Waits → fate (0x1B ∷ b ∷ []) ≡ Breaks → b ≢ c
+  not_begun b c h g e = let s : Waits ≡ Breaks = sym h ∙ ap (λ x. fate (0x1B ∷ x ∷ [])) (sym e) ∙ g in cc s
+
+  over_by : (rest : List ℕ) (b : ℕ) → editor.fate rest ≡ Waits → IsOutside rest b → IsFree (rest_after rest b)
+  over_by [] b w o = alone_free b o.not_escape
+  over_by (x ∷ xs) b w o = elim (cases_eq x 0x1B) [
+    | inl escape ↦ (
+        let waits : editor.fate (0x1B ∷ xs) ≡ Waits = ap (λ y. editor.fate (y ∷ xs)) (sym escape) ∙ w in
+        let outside : IsOutside (0x1B ∷ xs) b = subst (λ y. IsOutside (y ∷ xs) b) escape o in
+        subst (λ y. IsFree (rest_after (y ∷ xs) b)) (sym escape) (sequence_over xs b waits outside))
+    | inr other ↦ still_free (x ∷ xs) b w other o.not_escape
+  ]
+
+  -- nothing waited in the filter
+  passed_free : (is_open : Bool) (rest : List ℕ) (b : ℕ) → FollowsOutside [] is_open rest → editor.fate rest ≡ Waits → b ≢ 0x1B
+      → is_open_after [] is_open && is_within 0x20 0x3F b ≡ false → IsFree (rest_after rest b)
+  passed_free is_open rest b f w n h = elim (and_cases (is_open_after [] is_open) (is_within 0x20 0x3F b) h) [
+    | inl closed ↦ still_free rest b w (f.closed (or_parts is_open false closed).0) n
+    | inr outside ↦ over_by rest b w (record {
       not_within = outside;
       not_escape = n;
-      not_csi = λ e. not_begun b 0x5B refl (alone e);
-      not_ss3 = λ e. not_begun b 0x4F refl (alone e);
+      not_csi = λ e. absurd (f.not_bare refl e);
+      not_ss3 = λ e. absurd (f.not_bare refl e);
     })
+  ]
 
-after_byte : (rest waiting : List ℕ) (b : ℕ) → left rest (waiting ++ b ∷ []) ≡ rest_after (left rest waiting) b
-after_byte rest waiting b = left_append rest waiting (b ∷ [])
+  within_false : (is_open t : Bool) → is_open_after (0 ∷ []) is_open && t ≡ false → t ≡ false
+  within_false true t h = h
+  within_false false t h = h
 
-other_follows : (waiting : List ℕ) (is_open : Bool) (rest : List ℕ) (b : ℕ) → editor.fate rest ≡ Waits → fate waiting ≡ Waits
-    → fate (waiting ++ b ∷ []) ≡ Breaks → b ≢ 0x1B → FollowsOutside waiting is_open rest
-    → FollowsOutside [] (is_open_after waiting is_open && is_within 0x20 0x3F b) (left rest (waiting ++ b ∷ []))
-other_follows [] is_open rest b w h g n f = record {
-  closed = λ c. passed_free is_open rest b f w n c;
-  not_bare = λ e. not_bare rest b w n;
-}
-other_follows (x ∷ xs) is_open rest b w h g n f =
-    let same : left rest (x ∷ (xs ++ b ∷ [])) ≡ rest_after (left rest (x ∷ xs)) b = after_byte rest (x ∷ xs) b in
-    record {
-      closed = λ c. subst IsFree (sym same) (broken_free is_open rest x xs b w h g n c);
-      not_bare = λ e s. not_bare (left rest (x ∷ xs)) b (rest_waits (rest ++ x ∷ xs)) n (sym same ∙ s);
-    }
+  -- or something did
+  broken_free : (is_open : Bool) (rest : List ℕ) (x : ℕ) (xs : List ℕ) (b : ℕ) → editor.fate rest ≡ Waits → fate (x ∷ xs) ≡ Waits
+      → fate (x ∷ (xs ++ b ∷ [])) ≡ Breaks → b ≢ 0x1B → is_open_after (x ∷ xs) is_open && is_within 0x20 0x3F b ≡ false
+      → IsFree (rest_after (left rest (x ∷ xs)) b)
+  broken_free is_open rest x xs b w h g n c =
+      let outside : is_within 0x20 0x3F b ≡ false = within_false is_open (is_within 0x20 0x3F b) c in
+      let alone : left rest (x ∷ xs) ≡ 0x1B ∷ [] → fate (0x1B ∷ b ∷ []) ≡ Breaks =
+      λ e. ap (λ ys. fate (ys ++ b ∷ [])) (sym (bare_alone rest x xs w h e)) ∙ g in
+      over_by (left rest (x ∷ xs)) b (rest_waits (rest ++ x ∷ xs)) (record {
+        not_within = outside;
+        not_escape = n;
+        not_csi = λ e. not_begun b 0x5B refl (alone e);
+        not_ss3 = λ e. not_begun b 0x4F refl (alone e);
+      })
 
-escape_closed : (waiting : List ℕ) (is_open : Bool) (rest : List ℕ) → editor.fate rest ≡ Waits → FollowsOutside waiting is_open rest
-    → is_open_after waiting is_open ≡ false → IsFree (left rest waiting)
-escape_closed [] is_open rest w f c = subst IsFree (sym (left_none rest w)) (f.closed (or_parts is_open false c).0)
-escape_closed (x ∷ xs) is_open rest w f c = absurd (let no = (or_parts is_open true c).1 in cc no)
+  after_byte : (rest waiting : List ℕ) (b : ℕ) → left rest (waiting ++ b ∷ []) ≡ rest_after (left rest waiting) b
+  after_byte rest waiting b = left_append rest waiting (b ∷ [])
 
-breaks_no_escape : (b : ℕ) → fate (b ∷ []) ≡ Breaks → b ≢ 0x1B
-breaks_no_escape b h e = let same : Waits ≡ Breaks = ap (λ x. fate (x ∷ [])) (sym e) ∙ h in cc same
+  other_follows : (waiting : List ℕ) (is_open : Bool) (rest : List ℕ) (b : ℕ) → editor.fate rest ≡ Waits → fate waiting ≡ Waits
+      → fate (waiting ++ b ∷ []) ≡ Breaks → b ≢ 0x1B → FollowsOutside waiting is_open rest
+      → FollowsOutside [] (is_open_after waiting is_open && is_within 0x20 0x3F b) (left rest (waiting ++ b ∷ []))
+  other_follows [] is_open rest b w h g n f = record {
+    closed = λ c. passed_free is_open rest b f w n c;
+    not_bare = λ e. not_bare rest b w n;
+  }
+  other_follows (x ∷ xs) is_open rest b w h g n f =
+      let same : left rest (x ∷ (xs ++ b ∷ [])) ≡ rest_after (left rest (x ∷ xs)) b = after_byte rest (x ∷ xs) b in
+      record {
+        closed = λ c. subst IsFree (sym same) (broken_free is_open rest x xs b w h g n c);
+        not_bare = λ e s. not_bare (left rest (x ∷ xs)) b (rest_waits (rest ++ x ∷ xs)) n (sym same ∙ s);
+      }
 
-fresh_follows_outside : (t : Fate) (waiting : List ℕ) (is_open : Bool) (rest : List ℕ) (b : ℕ) → fate (b ∷ []) ≡ t → editor.fate rest ≡ Waits
-    → fate waiting ≡ Waits → fate (waiting ++ b ∷ []) ≡ Breaks → FollowsOutside waiting is_open rest
-    → Follows (fresh t (is_open_after waiting is_open) b).state (left rest (waiting ++ (fresh t (is_open_after waiting is_open) b).output))
-fresh_follows_outside Waits waiting is_open rest b e w h g f =
-    subst (λ xs. FollowsOutside (b ∷ []) (is_open_after waiting is_open) (left rest xs)) (sym (append-nil waiting))
-    (record { closed = λ c. escape_closed waiting is_open rest w f c; not_bare = λ no s. cc no })
-fresh_follows_outside Ends waiting is_open rest b e w h g f =
-    let opened : Bool = is_open_after waiting is_open in
-    let went : Step = ended opened (row_of (b ∷ [])) in
-    subst (Follows went.state) (sym (left_append rest waiting went.output))
-    (ended_follows opened (b ∷ []) (row_of (b ∷ [])) (left rest waiting) refl (rest_waits (rest ++ waiting)) (λ c. escape_closed waiting is_open rest w f c))
-fresh_follows_outside Breaks waiting is_open rest b e w h g f = other_follows waiting is_open rest b w h g (breaks_no_escape b e) f
+  escape_closed : (waiting : List ℕ) (is_open : Bool) (rest : List ℕ) → editor.fate rest ≡ Waits → FollowsOutside waiting is_open rest
+      → is_open_after waiting is_open ≡ false → IsFree (left rest waiting)
+  escape_closed [] is_open rest w f c = subst IsFree (sym (left_none rest w)) (f.closed (or_parts is_open false c).0)
+  escape_closed (x ∷ xs) is_open rest w f c = absurd (let no = (or_parts is_open true c).1 in cc no)
 
-broken_follows : (waiting : List ℕ) (is_open : Bool) (rest : List ℕ) (b : ℕ) → editor.fate rest ≡ Waits → fate waiting ≡ Waits
-    → fate (waiting ++ b ∷ []) ≡ Breaks → FollowsOutside waiting is_open rest
-    → Follows (broken waiting is_open b).state (left rest (broken waiting is_open b).output)
-broken_follows waiting is_open rest b w h g f = fresh_follows_outside (fate (b ∷ [])) waiting is_open rest b refl w h g f
+  breaks_no_escape : (b : ℕ) → fate (b ∷ []) ≡ Breaks → b ≢ 0x1B
+  breaks_no_escape b h e = let same : Waits ≡ Breaks = ap (λ x. fate (x ∷ [])) (sym e) ∙ h in cc same
 
-not_nothing : (xs : List ℕ) (b : ℕ) → xs ++ b ∷ [] ≢ []
-not_nothing [] b e = cc e
-not_nothing (x ∷ xs) b e = cc e
+  fresh_follows_outside : (t : Fate) (waiting : List ℕ) (is_open : Bool) (rest : List ℕ) (b : ℕ) → fate (b ∷ []) ≡ t → editor.fate rest ≡ Waits
+      → fate waiting ≡ Waits → fate (waiting ++ b ∷ []) ≡ Breaks → FollowsOutside waiting is_open rest
+      → Follows (fresh t (is_open_after waiting is_open) b).state (left rest (waiting ++ (fresh t (is_open_after waiting is_open) b).output))
+  fresh_follows_outside Waits waiting is_open rest b e w h g f =
+      subst (λ xs. FollowsOutside (b ∷ []) (is_open_after waiting is_open) (left rest xs)) (sym (append-nil waiting))
+      (record { closed = λ c. escape_closed waiting is_open rest w f c; not_bare = λ no s. cc no })
+  fresh_follows_outside Ends waiting is_open rest b e w h g f =
+      let opened : Bool = is_open_after waiting is_open in
+      let went : Step = ended opened (row_of (b ∷ [])) in
+      subst (Follows went.state) (sym (left_append rest waiting went.output))
+      (ended_follows opened (b ∷ []) (row_of (b ∷ [])) (left rest waiting) refl (rest_waits (rest ++ waiting)) (λ c. escape_closed waiting is_open rest w f c))
+  fresh_follows_outside Breaks waiting is_open rest b e w h g f = other_follows waiting is_open rest b w h g (breaks_no_escape b e) f
 
-outside_follows : (f : Fate) (waiting : List ℕ) (is_open : Bool) (b : ℕ) (rest : List ℕ) → fate (waiting ++ b ∷ []) ≡ f → fate waiting ≡ Waits
-    → editor.fate rest ≡ Waits → FollowsOutside waiting is_open rest
-    → Follows (step_by f waiting is_open b).state (left rest (step_by f waiting is_open b).output)
-outside_follows Waits waiting is_open b rest h s w f =
-    subst (FollowsOutside (waiting ++ b ∷ []) is_open) (sym (left_none rest w))
-    (record { closed = f.closed; not_bare = λ e. absurd (not_nothing waiting b e) })
-outside_follows Ends waiting is_open b rest h s w f = ended_follows is_open (waiting ++ b ∷ []) (row_of (waiting ++ b ∷ [])) rest refl w f.closed
-outside_follows Breaks waiting is_open b rest h s w f = broken_follows waiting is_open rest b w s h f
+  broken_follows : (waiting : List ℕ) (is_open : Bool) (rest : List ℕ) (b : ℕ) → editor.fate rest ≡ Waits → fate waiting ≡ Waits
+      → fate (waiting ++ b ∷ []) ≡ Breaks → FollowsOutside waiting is_open rest
+      → Follows (broken waiting is_open b).state (left rest (broken waiting is_open b).output)
+  broken_follows waiting is_open rest b w h g f = fresh_follows_outside (fate (b ∷ [])) waiting is_open rest b refl w h g f
 
--- ---- within a paste
+  not_nothing : (xs : List ℕ) (b : ℕ) → xs ++ b ∷ [] ≢ []
+  not_nothing [] b e = cc e
+  not_nothing (x ∷ xs) b e = cc e
 
-text_free : (rest bs : List ℕ) → editor.fate rest ≡ Waits → IsFree rest → IsText bs → IsFree (left rest bs)
-text_free rest [] w free t = subst IsFree (sym (left_none rest w)) free
-text_free rest (b ∷ bs) w free t =
-    let parts = and_parts (is_text_byte b) (list_all is_text_byte bs) t in
-    let next : List ℕ = rest_after rest b in
-    subst IsFree (sym (left_append rest (b ∷ []) bs))
-    (text_free next bs (rest_waits (rest ++ b ∷ [])) (still_free rest b w free (text_not_escape b parts.0)) parts.1)
+  outside_follows : (f : Fate) (waiting : List ℕ) (is_open : Bool) (b : ℕ) (rest : List ℕ) → fate (waiting ++ b ∷ []) ≡ f → fate waiting ≡ Waits
+      → editor.fate rest ≡ Waits → FollowsOutside waiting is_open rest
+      → Follows (step_by f waiting is_open b).state (left rest (step_by f waiting is_open b).output)
+  outside_follows Waits waiting is_open b rest h s w f =
+      subst (FollowsOutside (waiting ++ b ∷ []) is_open) (sym (left_none rest w))
+      (record { closed = f.closed; not_bare = λ e. absurd (not_nothing waiting b e) })
+  outside_follows Ends waiting is_open b rest h s w f = ended_follows is_open (waiting ++ b ∷ []) (row_of (waiting ++ b ∷ [])) rest refl w f.closed
+  outside_follows Breaks waiting is_open b rest h s w f = broken_follows waiting is_open rest b w s h f
 
-free_follows : (rest : List ℕ) → IsFree rest → FollowsOutside [] false rest
-free_follows rest free = record { closed = λ e. free; not_bare = λ e s. free (ap (λ xs. get_or xs 0 0) s) }
+  -- ---- within a paste
 
-after_end_follows : (t : Bool) (rest : List ℕ) → IsFree rest → Follows (cond t start (Within [] false)) rest
-after_end_follows true rest free = free_follows rest free
-after_end_follows false rest free = free
+  text_free : (rest bs : List ℕ) → editor.fate rest ≡ Waits → IsFree rest → IsText bs → IsFree (left rest bs)
+  text_free rest [] w free t = subst IsFree (sym (left_none rest w)) free
+  text_free rest (b ∷ bs) w free t =
+      let parts = and_parts (is_text_byte b) (list_all is_text_byte bs) t in
+      let next : List ℕ = rest_after rest b in
+      subst IsFree (sym (left_append rest (b ∷ []) bs))
+      (text_free next bs (rest_waits (rest ++ b ∷ [])) (still_free rest b w free (text_not_escape b parts.0)) parts.1)
 
-fresh_follows : (f : Fate) (after_return : Bool) (b : ℕ) (rest : List ℕ) → IsFree rest → Follows (fresh_in_paste f after_return b).state rest
-fresh_follows Waits after_return b rest free = free
-fresh_follows Ends after_return b rest free = free
-fresh_follows Breaks after_return b rest free = free
+  free_follows : (rest : List ℕ) → IsFree rest → FollowsOutside [] false rest
+  free_follows rest free = record { closed = λ e. free; not_bare = λ e s. free (ap (λ xs. get_or xs 0 0) s) }
 
-within_follows : (f : Fate) (waiting : List ℕ) (after_return : Bool) (b : ℕ) (rest : List ℕ) → IsFree rest
-    → Follows (paste_step_by f waiting after_return b).state rest
-within_follows Waits waiting after_return b rest free = free
-within_follows Ends waiting after_return b rest free = after_end_follows (bytes_eq (waiting ++ b ∷ []) paste_end) rest free
-within_follows Breaks waiting after_return b rest free = fresh_follows (paste_fate (b ∷ [])) after_return b rest free
+  after_end_follows : (t : Bool) (rest : List ℕ) → IsFree rest → Follows (cond t start (Within [] false)) rest
+  after_end_follows true rest free = free_follows rest free
+  after_end_follows false rest free = free
 
-step_follows : (s : State) (b : ℕ) (rest : List ℕ) → IsSound s → editor.fate rest ≡ Waits → Follows s rest
-    → Follows (step s b).state (left rest (step s b).output)
-step_follows (Outside waiting is_open) b rest s w f = outside_follows (fate (waiting ++ b ∷ [])) waiting is_open b rest refl s w f
-step_follows (Within waiting after_return) b rest s w f =
-    within_follows (paste_fate (waiting ++ b ∷ [])) waiting after_return b (left rest (step (Within waiting after_return) b).output)
-    (text_free rest (step (Within waiting after_return) b).output w f (pastes_clean.each_byte waiting after_return b))
+  fresh_follows : (f : Fate) (after_return : Bool) (b : ℕ) (rest : List ℕ) → IsFree rest → Follows (fresh_in_paste f after_return b).state rest
+  fresh_follows Waits after_return b rest free = free
+  fresh_follows Ends after_return b rest free = free
+  fresh_follows Breaks after_return b rest free = free
 
-run_follows : (s : State) (bs rest : List ℕ) → IsSound s → editor.fate rest ≡ Waits → Follows s rest → Follows (run s bs).state (left rest (run s bs).output)
-run_follows s [] rest h w f = subst (Follows s) (sym (left_none rest w)) f
-run_follows s (b ∷ bs) rest h w f =
-    let first : Step = step s b in
-    subst (Follows (run first.state bs).state) (sym (left_append rest first.output (run first.state bs).output))
-    (run_follows first.state bs (left rest first.output) (step_sound s b) (rest_waits (rest ++ first.output)) (step_follows s b rest h w f))
+  within_follows : (f : Fate) (waiting : List ℕ) (after_return : Bool) (b : ℕ) (rest : List ℕ) → IsFree rest
+      → Follows (paste_step_by f waiting after_return b).state rest
+  within_follows Waits waiting after_return b rest free = free
+  within_follows Ends waiting after_return b rest free = after_end_follows (bytes_eq (waiting ++ b ∷ []) paste_end) rest free
+  within_follows Breaks waiting after_return b rest free = fresh_follows (paste_fate (b ∷ [])) after_return b rest free
 
--- ---- the editor's keys, whatever came before
+  step_follows : (s : State) (b : ℕ) (rest : List ℕ) → IsSound s → editor.fate rest ≡ Waits → Follows s rest
+      → Follows (step s b).state (left rest (step s b).output)
+  step_follows (Outside waiting is_open) b rest s w f = outside_follows (fate (waiting ++ b ∷ [])) waiting is_open b rest refl s w f
+  step_follows (Within waiting after_return) b rest s w f =
+      within_follows (paste_fate (waiting ++ b ∷ [])) waiting after_return b (left rest (step (Within waiting after_return) b).output)
+      (text_free rest (step (Within waiting after_return) b).output w f ((pastes_clean by_delete).each_byte waiting after_return b))
 
--- outside a paste nothing is open for the decoder that is not for the filter
-closed_before : (bs waiting : List ℕ) (is_open : Bool) → (run start bs).state ≡ Outside waiting is_open
-    → is_open_after waiting is_open ≡ false → IsFree (decoding (filtered bs)).rest
-closed_before bs waiting is_open at c =
-    let all : Step = run start bs in
-    let f : FollowsOutside waiting is_open (decoding all.output).rest =
-    subst (λ s. Follows s (decoding all.output).rest) at (run_follows start bs [] refl refl (nothing_follows false)) in
-    let out : filtered bs ≡ all.output ++ waiting = ap (λ s. all.output ++ at_end s) at in
-    subst IsFree (sym (ap (λ xs. (decoding xs).rest) out ∙ ap (λ (d : Decoding). d.rest) (in_pieces all.output waiting)))
-    (escape_closed waiting is_open (decoding all.output).rest (rest_waits all.output) f c)
+  run_follows : (s : State) (bs rest : List ℕ) → IsSound s → editor.fate rest ≡ Waits → Follows s rest → Follows (run s bs).state (left rest (run s bs).output)
+  run_follows s [] rest h w f = subst (Follows s) (sym (left_none rest w)) f
+  run_follows s (b ∷ bs) rest h w f =
+      let first : Step = step s b in
+      subst (Follows (run first.state bs).state) (sym (left_append rest first.output (run first.state bs).output))
+      (run_follows first.state bs (left rest first.output) (step_sound by_delete s b) (rest_waits (rest ++ first.output)) (step_follows s b rest h w f))
 
-pub record IsAlike (r : Row) : Type 0 where
-  pub is_becoming : BecomesRow r
-  pub has_key : HasKey r
-  pub is_anew : starts_anew r.becomes ≡ true
+  -- ---- the editor's keys, whatever came before
 
-adds_key : (r : Row) → IsAlike r → AddsKey r
-adds_key r is bs waiting is_open at =
-    let opened : Bool = is_open_after waiting is_open in
-    let sent : List ℕ = apart_from opened r.becomes in
-    let out : filtered (bs ++ r.sequence) ≡ filtered bs ++ sent =
-    ap (λ (x : Step). x.output ++ at_end x.state) (is.is_becoming bs waiting is_open at) ∙ append-nil (filtered bs ++ sent) in
-    let here : decoding ((decoding (filtered bs)).rest ++ sent) ≡ record { keys = r.key ∷ []; rest = [] } =
-    sent_anew opened (decoding (filtered bs)).rest r.becomes is.is_anew (rest_waits (filtered bs)) (closed_before bs waiting is_open at) ∙ is.has_key in
-    ap (λ xs. (decoding xs).keys) out
-    ∙ ap (λ (d : Decoding). d.keys) (in_pieces (filtered bs) sent)
-    ∙ ap (λ (d : Decoding). (decoding (filtered bs)).keys ++ d.keys) here
+  -- outside a paste nothing is open for the decoder that is not for the filter
+  closed_before : (bs waiting : List ℕ) (is_open : Bool) → (run start bs).state ≡ Outside waiting is_open
+      → is_open_after waiting is_open ≡ false → IsFree (decoding (filtered bs)).rest
+  closed_before bs waiting is_open at c =
+      let all : Step = run start bs in
+      let f : FollowsOutside waiting is_open (decoding all.output).rest =
+      subst (λ s. Follows s (decoding all.output).rest) at (run_follows start bs [] refl refl (nothing_follows false)) in
+      let out : filtered bs ≡ all.output ++ waiting = ap (λ s. all.output ++ at_end s) at in
+      subst IsFree (sym (ap (λ xs. (decoding xs).rest) out ∙ ap (λ (d : Decoding). d.rest) (in_pieces all.output waiting)))
+      (escape_closed waiting is_open (decoding all.output).rest (rest_waits all.output) f c)
 
-all_add : (rs : List Row) → AllByRecursion BecomesRow rs → AllByRecursion HasKey rs → list_all (λ (r : Row). starts_anew r.becomes) rs ≡ true
-    → AllByRecursion AddsKey rs
-all_add [] b k a = tt
-all_add (r ∷ rs) b k a =
-    let parts = and_parts (starts_anew r.becomes) (list_all (λ (x : Row). starts_anew x.becomes) rs) a in
-    (adds_key r (record { is_becoming = b.0; has_key = k.0; is_anew = parts.0 }), all_add rs b.1 k.1 parts.1)
+  pub record IsAlike (r : Row) : Type 0 where
+    pub has_key : HasKey r
+    pub is_anew : starts_anew r.becomes ≡ true
 
-pub rows_add_keys : AllByRecursion AddsKey rows
-rows_add_keys = all_add rows rows_become rows_have_keys refl
+  -- a row's bytes behind bytes that went out
+  sent_key : (r : Row) (is_open : Bool) (sent : List ℕ) → IsAlike r → (is_open ≡ false → IsFree (decoding sent).rest)
+      → (decoding (sent ++ apart_from is_open r.becomes)).keys ≡ (decoding sent).keys ++ r.key ∷ []
+  sent_key r is_open sent is free =
+      let here : decoding ((decoding sent).rest ++ apart_from is_open r.becomes) ≡ record { keys = r.key ∷ []; rest = [] } =
+      sent_anew is_open (decoding sent).rest r.becomes is.is_anew (rest_waits sent) free ∙ is.has_key in
+      ap (λ (d : Decoding). d.keys) (in_pieces sent (apart_from is_open r.becomes)) ∙ ap (λ (d : Decoding). (decoding sent).keys ++ d.keys) here
 
--- a CAN ends what is open, and behind it the text begins anew
-opened_text : (rest text : List ℕ) → editor.fate rest ≡ Waits → decoding (rest ++ (apart_from true [] ++ text)) ≡ decoding text
-opened_text rest text w = anew rest 0x18 text refl w ∙ after_can text
+  -- an ESC has no key
+  escape_key : (sent : List ℕ) → (decoding (sent ++ 0x1B ∷ [])).keys ≡ (decoding sent).keys
+  escape_key sent =
+      ap (λ (d : Decoding). d.keys) (in_pieces sent (0x1B ∷ []))
+      ∙ ap (λ (d : Decoding). (decoding sent).keys ++ d.keys) (anew (decoding sent).rest 0x1B [] refl (rest_waits sent))
+      ∙ append-nil (decoding sent).keys
 
-opened_inserts : (opened : Bool) (rest text : List ℕ) → editor.fate rest ≡ Waits → (opened ≡ false → IsFree rest) → IsText text
-    → list_all is_insert (decoding (rest ++ (apart_from opened [] ++ text))).keys ≡ true
-opened_inserts true rest text w free t =
-    ap (λ (d : Decoding). list_all is_insert d.keys) (opened_text rest text w) ∙ text_inserts [] text refl nothing_free t
-opened_inserts false rest text w free t = text_inserts rest text w (free refl) t
+  -- the row that an ESC makes longer, if there is one
+  adds_by : (o : Option Row) (r : Row) (bs waiting : List ℕ) (is_open : Bool) → IsAlike r → ((q : Row) → o ≡ Some q → IsAlike q × (waiting ≡ 0x1B ∷ []))
+      → (run start bs).state ≡ Outside waiting is_open → run start (bs ++ r.sequence) ≡ step_to start (became by_delete bs waiting is_open r o)
+      → (decoding (filtered (bs ++ r.sequence))).keys ≡ (decoding (filtered bs)).keys ++ (row_behind r o).key ∷ []
+  adds_by None r bs waiting is_open is longer at becoming =
+      let opened : Bool = is_open_after waiting is_open in
+      let out : filtered (bs ++ r.sequence) ≡ filtered bs ++ apart_from opened r.becomes =
+      ap (λ (x : Step). x.output ++ at_end x.state) becoming ∙ append-nil (filtered bs ++ apart_from opened r.becomes) in
+      ap (λ xs. (decoding xs).keys) out ∙ sent_key r opened (filtered bs) is (closed_before bs waiting is_open at)
+  adds_by (Some q) r bs waiting is_open is longer at becoming =
+      let all : Step = run start bs in
+      let says = longer q refl in
+      let out : filtered (bs ++ r.sequence) ≡ all.output ++ apart_from is_open q.becomes =
+      ap (λ (x : Step). x.output ++ at_end x.state) becoming ∙ append-nil (all.output ++ apart_from is_open q.becomes) in
+      let before : filtered bs ≡ all.output ++ 0x1B ∷ [] = ap (λ s. all.output ++ at_end s) at ∙ ap (λ xs. all.output ++ xs) says.1 in
+      let f : FollowsOutside waiting is_open (decoding all.output).rest =
+      subst (λ s. Follows s (decoding all.output).rest) at (run_follows start bs [] refl refl (nothing_follows false)) in
+      ap (λ xs. (decoding xs).keys) out
+      ∙ sent_key q is_open all.output says.0 f.closed
+      ∙ ap (λ keys. keys ++ q.key ∷ []) (sym (ap (λ xs. (decoding xs).keys) before ∙ escape_key all.output))
 
-opened_characters : (opened : Bool) (rest text : List ℕ) → editor.fate rest ≡ Waits → (opened ≡ false → IsFree rest) → IsText text → IsUtf8 text
-    → (decoding (rest ++ (apart_from opened [] ++ text))).keys ≡ map Insert (chars text)
-opened_characters true rest text w free t u =
-    ap (λ (d : Decoding). d.keys) (opened_text rest text w) ∙ utf8_inserts [] text u t refl nothing_free
-opened_characters false rest text w free t u = utf8_inserts rest text u t w (free refl)
+  -- what is true of all rows is so of one that is found
+  of_found : (P : Row → Type 0) (p : Row → Bool) (rs : List Row) (q : Row) → AllByRecursion P rs → find p rs ≡ Some q → P q
+  of_found P p [] q all h = absurd (cc h)
+  of_found P p (x ∷ rs) q all h = elim (cases_Bool (p x)) [
+    | inl here ↦ (let e : x ≡ q = (let s : Some x ≡ Some q = sym (cond-true (p x) (Some x) (find p rs) here) ∙ h in cc s) in subst P e all.0)
+    | inr later ↦ of_found P p rs q all.1 (sym (cond-false (p x) (Some x) (find p rs) later) ∙ h)
+  ]
 
-pub pastes_insert : PastesInsert
-pastes_insert bs waiting is_open text at none =
-    let opened : Bool = is_open_after waiting is_open in
-    let sent : List ℕ = apart_from opened [] ++ pasted text in
-    let waits = rest_waits (filtered bs) in
-    let free = closed_before bs waiting is_open at in
-    let out : filtered (bs ++ (paste_start ++ (text ++ paste_end))) ≡ filtered bs ++ sent =
-    ap (λ (x : Step). x.output ++ at_end x.state) (pastes_text bs waiting is_open text at none) ∙ append-nil (filtered bs ++ sent) in (
-      ap (λ xs. (decoding xs).keys) out ∙ ap (λ (d : Decoding). d.keys) (in_pieces (filtered bs) sent),
-      opened_inserts opened (decoding (filtered bs)).rest (pasted text) waits free (pastes_clean.whole text),
-      opened_characters opened (decoding (filtered bs)).rest (pasted text) waits free (pastes_clean.whole text),
-    )
+  row_alike : (read : List ℕ) (q : Row) → row_of read ≡ Some q → IsAlike q
+  row_alike read q h = record {
+    has_key = of_found HasKey (λ (x : Row). bytes_eq x.sequence read) rows q (rows_have_keys by_delete) h;
+    is_anew = (found (λ (x : Row). bytes_eq x.sequence read) is_anew rows q (all_anew by_delete) h).fits;
+  }
+
+  longer_says : (o : Option Row) (waiting read : List ℕ) (q : Row) → row_of read ≡ o → longer_by waiting o ≡ Some q → IsAlike q × (waiting ≡ 0x1B ∷ [])
+  longer_says None waiting read q h is = absurd (cc is)
+  longer_says (Some r) waiting read q h is = elim (cases_Bool (bytes_eq waiting (0x1B ∷ []))) [
+    | inl same ↦ (
+        let e : r ≡ q = (let s : Some r ≡ Some q = sym (cond-true (bytes_eq waiting (0x1B ∷ [])) (Some r) None same) ∙ is in cc s) in
+        (subst IsAlike e (row_alike read r h), (bytes_eq-Decides waiting (0x1B ∷ [])).0 same))
+    | inr other ↦ absurd (let no : None ≡ Some q = sym (cond-false (bytes_eq waiting (0x1B ∷ [])) (Some r) None other) ∙ is in cc no)
+  ]
+
+  adds_key : (r : Row) → BecomesRow by_delete r → IsAlike r → AddsKey by_delete r
+  adds_key r becomes is bs waiting is_open at =
+      let read : List ℕ = 0x1B ∷ r.sequence in
+      adds_by (longer_row by_delete waiting r) r bs waiting is_open is (λ q e. longer_says (row_of read) waiting read q refl e) at
+      (becomes bs waiting is_open at)
+
+  all_add : (rs : List Row) → AllByRecursion (BecomesRow by_delete) rs → AllByRecursion HasKey rs → list_all is_anew rs ≡ true
+      → AllByRecursion (AddsKey by_delete) rs
+  all_add [] b k a = tt
+  all_add (r ∷ rs) b k a =
+      let parts = and_parts (is_anew r) (list_all is_anew rs) a in
+      (adds_key r b.0 (record { has_key = k.0; is_anew = parts.0 }), all_add rs b.1 k.1 parts.1)
+
+  pub rows_add_keys : AllByRecursion (AddsKey by_delete) rows
+  rows_add_keys = all_add rows (rows_become by_delete) (rows_have_keys by_delete) (all_anew by_delete)
+
+  -- a CAN ends what is open, and behind it the text begins anew
+  opened_text : (rest text : List ℕ) → editor.fate rest ≡ Waits → decoding (rest ++ (apart_from true [] ++ text)) ≡ decoding text
+  opened_text rest text w = anew rest 0x18 text refl w ∙ after_can text
+
+  opened_inserts : (opened : Bool) (rest text : List ℕ) → editor.fate rest ≡ Waits → (opened ≡ false → IsFree rest) → IsText text
+      → list_all is_insert (decoding (rest ++ (apart_from opened [] ++ text))).keys ≡ true
+  opened_inserts true rest text w free t =
+      ap (λ (d : Decoding). list_all is_insert d.keys) (opened_text rest text w) ∙ text_inserts [] text refl nothing_free t
+  opened_inserts false rest text w free t = text_inserts rest text w (free refl) t
+
+  opened_characters : (opened : Bool) (rest text : List ℕ) → editor.fate rest ≡ Waits → (opened ≡ false → IsFree rest) → IsText text → IsUtf8 text
+      → (decoding (rest ++ (apart_from opened [] ++ text))).keys ≡ map Insert (chars text)
+  opened_characters true rest text w free t u =
+      ap (λ (d : Decoding). d.keys) (opened_text rest text w) ∙ utf8_inserts [] text u t refl nothing_free
+  opened_characters false rest text w free t u = utf8_inserts rest text u t w (free refl)
+
+  pub pastes_insert : PastesInsert by_delete
+  pastes_insert bs waiting is_open text at none =
+      let opened : Bool = is_open_after waiting is_open in
+      let sent : List ℕ = apart_from opened [] ++ pasted text in
+      let waits = rest_waits (filtered bs) in
+      let free = closed_before bs waiting is_open at in
+      let out : filtered (bs ++ (paste_start ++ (text ++ paste_end))) ≡ filtered bs ++ sent =
+      ap (λ (x : Step). x.output ++ at_end x.state) (pastes_text by_delete bs waiting is_open text at none) ∙ append-nil (filtered bs ++ sent) in (
+        ap (λ xs. (decoding xs).keys) out ∙ ap (λ (d : Decoding). d.keys) (in_pieces (filtered bs) sent),
+        opened_inserts opened (decoding (filtered bs)).rest (pasted text) waits free ((pastes_clean by_delete).whole text),
+        opened_characters opened (decoding (filtered bs)).rest (pasted text) waits free ((pastes_clean by_delete).whole text),
+      )

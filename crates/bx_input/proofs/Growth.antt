@@ -10,9 +10,11 @@ use Rattle.std.proofs.lemmas.Bool.Decides.{nat_tests}
 use Rattle.std.proofs.lemmas.List.{length_push}
 use Rattle.bx_bytes.specs.declared.fate.Fate.{Fate}
 use Rattle.bx_bytes.specs.declared.fate.Fate.TheVariants.{Waits, Ends, Breaks}
-use Rattle.bx_input.specs.Table.{Row, rows, fate, row_of, paste_end}
+use Rattle.bx_input.specs.Filter as filter
+use Rattle.bx_input.specs.Table as table
+use Rattle.bx_input.specs.Table.{Row, fate, paste_end}
 use Rattle.bx_input.specs.Paste.{pasted_byte, pasted_part, paste_fate}
-use Rattle.bx_input.specs.Filter.{State, Outside, Within, Step, step_by, paste_step_by, fresh_in_paste, fresh, broken, ended, step, start, run, at_end, filtered, apart_from}
+use Rattle.bx_input.specs.Filter.{State, Outside, Within, Step, paste_step_by, fresh_in_paste, ended, start, at_end, apart_from}
 use Rattle.bx_input.specs.Laws.{waiting_in, is_key_byte, GrowsFiveTimes, GrowsByTwoThirds}
 use Rattle.bx_input.proofs.Passing.{is_open_after}
 
@@ -80,100 +82,131 @@ row_fits true r h =
 row_fits false r h =
     leb-true (3 * length (apart_from false r.becomes)) (5 * length r.sequence + last_extra r.sequence) (and_parts (fits_in r true) (fits_in r false) h).1
 
+all_fit : (by_delete : Bool) → list_all fits (table.rows by_delete) ≡ true
+unfolding extra last_extra
+all_fit true = refl
+all_fit false = refl
+
 nothing_fits : (is_open : Bool) → length (apart_from is_open []) ≤ 1
 nothing_fits true = omega arith
 nothing_fits false = omega arith
 
-row_of_fits : (read : List ℕ) (r : Row) → row_of read ≡ Some r → IsFound (λ (x : Row). bytes_eq x.sequence read) fits r
-unfolding extra last_extra
-row_of_fits read r h = found (λ (x : Row). bytes_eq x.sequence read) fits rows r refl h
+-- ---- whether or not the terminal's own erase character is DELETE
 
-ended_weighs : (is_open : Bool) (read : List ℕ) (o : Option Row) → row_of read ≡ o → 1 ≤ length read
-    → weight (ended is_open o) ≤ 5 * length read + last_extra read
-ended_weighs is_open read None h some = omega (arith, nothing_fits is_open)
-ended_weighs is_open read (Some r) h some =
-    let is = row_of_fits read r h in
-    let same : r.sequence ≡ read = (bytes_eq-Decides r.sequence read).0 is.passes in
-    omega (arith, row_fits is_open r is.fits, ap length same, ap last_extra same)
+module _ (by_delete : Bool) where
+  abbrev rows : List Row
+  rows = table.rows by_delete
 
--- ---- a byte
+  abbrev row_of : List ℕ → Option Row
+  row_of = table.row_of by_delete
 
-fresh_weighs : (f : Fate) (is_open : Bool) (b : ℕ) → weight (fresh f is_open b) ≤ 5 + extra b
-fresh_weighs Waits is_open b = omega arith
-fresh_weighs Ends is_open b = omega (arith, ended_weighs is_open (b ∷ []) (row_of (b ∷ [])) refl (omega arith), last_is [] b)
-fresh_weighs Breaks is_open b = omega arith
+  abbrev fresh : Fate → Bool → ℕ → Step
+  fresh = filter.fresh by_delete
 
-broken_weighs : (waiting : List ℕ) (is_open : Bool) (b : ℕ) → weight (broken waiting is_open b) ≤ 5 * length waiting + 5 + extra b
-broken_weighs waiting is_open b =
-    let after : Step = fresh (fate (b ∷ [])) (is_open_after waiting is_open) b in
-    omega (arith, length-append waiting after.output, fresh_weighs (fate (b ∷ [])) (is_open_after waiting is_open) b)
+  abbrev broken : List ℕ → Bool → ℕ → Step
+  broken = filter.broken by_delete
 
-outside_weighs : (f : Fate) (waiting : List ℕ) (is_open : Bool) (b : ℕ) → weight (step_by f waiting is_open b) ≤ 5 * length waiting + 5 + extra b
-outside_weighs Waits waiting is_open b = omega (arith, length_push waiting b)
-outside_weighs Ends waiting is_open b =
-    let read : List ℕ = waiting ++ b ∷ [] in
-    omega (arith, length_push waiting b, last_is waiting b, ended_weighs is_open read (row_of read) refl (omega (arith, length_push waiting b)))
-outside_weighs Breaks waiting is_open b = broken_weighs waiting is_open b
+  abbrev step_by : Fate → List ℕ → Bool → ℕ → Step
+  step_by = filter.step_by by_delete
 
-byte_is_one : (after_return : Bool) (b : ℕ) → length (pasted_byte after_return b) ≤ 1
-byte_is_one after_return b = grind (arith, nat_tests)
+  abbrev step : State → ℕ → Step
+  step = filter.step by_delete
 
-part_is_shorter : (bs : List ℕ) → length (pasted_part bs) ≤ length bs
-part_is_shorter [] = omega arith
-part_is_shorter (b ∷ bs) = omega (arith, length-append (pasted_byte false b) (pasted_part bs), byte_is_one false b, part_is_shorter bs)
+  abbrev run : State → List ℕ → Step
+  run = filter.run by_delete
 
-pasted_weighs : (f : Fate) (after_return : Bool) (b : ℕ) → weight (fresh_in_paste f after_return b) ≤ 5
-pasted_weighs Waits after_return b = omega arith
-pasted_weighs Ends after_return b = omega (arith, byte_is_one after_return b)
-pasted_weighs Breaks after_return b = omega (arith, byte_is_one after_return b)
+  abbrev filtered : List ℕ → List ℕ
+  filtered = filter.filtered by_delete
 
-after_end_weighs : (t : Bool) → length (waiting_in (cond t start (Within [] false))) ≤ 0
-after_end_weighs true = omega arith
-after_end_weighs false = omega arith
+  row_of_fits : (read : List ℕ) (r : Row) → row_of read ≡ Some r → IsFound (λ (x : Row). bytes_eq x.sequence read) fits r
+  row_of_fits read r h = found (λ (x : Row). bytes_eq x.sequence read) fits rows r (all_fit by_delete) h
 
-within_weighs : (f : Fate) (waiting : List ℕ) (after_return : Bool) (b : ℕ) → weight (paste_step_by f waiting after_return b) ≤ 5 * length waiting + 5
-within_weighs Waits waiting after_return b = omega (arith, length_push waiting b)
-within_weighs Ends waiting after_return b = omega (arith, after_end_weighs (bytes_eq (waiting ++ b ∷ []) paste_end))
-within_weighs Breaks waiting after_return b =
-    let after : Step = fresh_in_paste (paste_fate (b ∷ [])) after_return b in
-    omega (arith, length-append (pasted_part waiting) after.output, part_is_shorter waiting, pasted_weighs (paste_fate (b ∷ [])) after_return b)
+  ended_weighs : (is_open : Bool) (read : List ℕ) (o : Option Row) → row_of read ≡ o → 1 ≤ length read
+      → weight (ended is_open o) ≤ 5 * length read + last_extra read
+  ended_weighs is_open read None h some = omega (arith, nothing_fits is_open)
+  ended_weighs is_open read (Some r) h some =
+      let is = row_of_fits read r h in
+      let same : r.sequence ≡ read = (bytes_eq-Decides r.sequence read).0 is.passes in
+      omega (arith, row_fits is_open r is.fits, ap length same, ap last_extra same)
 
-step_weighs : (s : State) (b : ℕ) → weight (step s b) ≤ 5 * length (waiting_in s) + 5 + extra b
-step_weighs (Outside waiting is_open) b = outside_weighs (fate (waiting ++ b ∷ [])) waiting is_open b
-step_weighs (Within waiting after_return) b = omega (arith, within_weighs (paste_fate (waiting ++ b ∷ [])) waiting after_return b)
+  -- ---- a byte
 
--- ---- input
+  fresh_weighs : (f : Fate) (is_open : Bool) (b : ℕ) → weight (fresh f is_open b) ≤ 5 + extra b
+  fresh_weighs Waits is_open b = omega arith
+  fresh_weighs Ends is_open b = omega (arith, ended_weighs is_open (b ∷ []) (row_of (b ∷ [])) refl (omega arith), last_is [] b)
+  fresh_weighs Breaks is_open b = omega arith
 
-run_weighs : (s : State) (bs : List ℕ) → weight (run s bs) ≤ 5 * length (waiting_in s) + 5 * length bs + extras bs
-unfolding extras
-run_weighs s [] = omega arith
-run_weighs s (b ∷ bs) =
-    let first : Step = step s b in
-    omega (arith, step_weighs s b, run_weighs first.state bs, length-append first.output (run first.state bs).output)
+  broken_weighs : (waiting : List ℕ) (is_open : Bool) (b : ℕ) → weight (broken waiting is_open b) ≤ 5 * length waiting + 5 + extra b
+  broken_weighs waiting is_open b =
+      let after : Step = fresh (fate (b ∷ [])) (is_open_after waiting is_open) b in
+      omega (arith, length-append waiting after.output, fresh_weighs (fate (b ∷ [])) (is_open_after waiting is_open) b)
 
-end_is_shorter : (s : State) → length (at_end s) ≤ length (waiting_in s)
-end_is_shorter (Outside waiting is_open) = omega arith
-end_is_shorter (Within waiting after_return) = part_is_shorter waiting
+  outside_weighs : (f : Fate) (waiting : List ℕ) (is_open : Bool) (b : ℕ) → weight (step_by f waiting is_open b) ≤ 5 * length waiting + 5 + extra b
+  outside_weighs Waits waiting is_open b = omega (arith, length_push waiting b)
+  outside_weighs Ends waiting is_open b =
+      let read : List ℕ = waiting ++ b ∷ [] in
+      omega (arith, length_push waiting b, last_is waiting b, ended_weighs is_open read (row_of read) refl (omega (arith, length_push waiting b)))
+  outside_weighs Breaks waiting is_open b = broken_weighs waiting is_open b
 
-filtered_weighs : (bs : List ℕ) → 3 * length (filtered bs) ≤ 5 * length bs + extras bs
-filtered_weighs bs =
-    let all : Step = run start bs in
-    omega (arith, run_weighs start bs, length-append all.output (at_end all.state), end_is_shorter all.state)
+  byte_is_one : (after_return : Bool) (b : ℕ) → length (pasted_byte after_return b) ≤ 1
+  byte_is_one after_return b = grind (arith, nat_tests)
 
-ten_each : (bs : List ℕ) → extras bs ≤ 10 * length bs
-unfolding extras
-ten_each [] = omega arith
-ten_each (b ∷ bs) = omega (arith, ten_at_most b, ten_each bs)
+  part_is_shorter : (bs : List ℕ) → length (pasted_part bs) ≤ length bs
+  part_is_shorter [] = omega arith
+  part_is_shorter (b ∷ bs) = omega (arith, length-append (pasted_byte false b) (pasted_part bs), byte_is_one false b, part_is_shorter bs)
 
-none_extra : (bs : List ℕ) → list_all (λ b. not (is_key_byte b)) bs ≡ true → extras bs ≡ 0
-unfolding extras
-none_extra [] h = refl
-none_extra (b ∷ bs) h =
-    let parts = and_parts (not (is_key_byte b)) (list_all (λ x. not (is_key_byte x)) bs) h in
-    omega (arith, no_extra b (not-true (is_key_byte b) parts.0), none_extra bs parts.1)
+  pasted_weighs : (f : Fate) (after_return : Bool) (b : ℕ) → weight (fresh_in_paste f after_return b) ≤ 5
+  pasted_weighs Waits after_return b = omega arith
+  pasted_weighs Ends after_return b = omega (arith, byte_is_one after_return b)
+  pasted_weighs Breaks after_return b = omega (arith, byte_is_one after_return b)
 
-pub grows_five_times : GrowsFiveTimes
-grows_five_times bs = omega (arith, filtered_weighs bs, ten_each bs)
+  after_end_weighs : (t : Bool) → length (waiting_in (cond t start (Within [] false))) ≤ 0
+  after_end_weighs true = omega arith
+  after_end_weighs false = omega arith
 
-pub grows_by_two_thirds : GrowsByTwoThirds
-grows_by_two_thirds bs h = omega (arith, filtered_weighs bs, none_extra bs h)
+  within_weighs : (f : Fate) (waiting : List ℕ) (after_return : Bool) (b : ℕ) → weight (paste_step_by f waiting after_return b) ≤ 5 * length waiting + 5
+  within_weighs Waits waiting after_return b = omega (arith, length_push waiting b)
+  within_weighs Ends waiting after_return b = omega (arith, after_end_weighs (bytes_eq (waiting ++ b ∷ []) paste_end))
+  within_weighs Breaks waiting after_return b =
+      let after : Step = fresh_in_paste (paste_fate (b ∷ [])) after_return b in
+      omega (arith, length-append (pasted_part waiting) after.output, part_is_shorter waiting, pasted_weighs (paste_fate (b ∷ [])) after_return b)
+
+  step_weighs : (s : State) (b : ℕ) → weight (step s b) ≤ 5 * length (waiting_in s) + 5 + extra b
+  step_weighs (Outside waiting is_open) b = outside_weighs (fate (waiting ++ b ∷ [])) waiting is_open b
+  step_weighs (Within waiting after_return) b = omega (arith, within_weighs (paste_fate (waiting ++ b ∷ [])) waiting after_return b)
+
+  -- ---- input
+
+  run_weighs : (s : State) (bs : List ℕ) → weight (run s bs) ≤ 5 * length (waiting_in s) + 5 * length bs + extras bs
+  unfolding extras
+  run_weighs s [] = omega arith
+  run_weighs s (b ∷ bs) =
+      let first : Step = step s b in
+      omega (arith, step_weighs s b, run_weighs first.state bs, length-append first.output (run first.state bs).output)
+
+  end_is_shorter : (s : State) → length (at_end s) ≤ length (waiting_in s)
+  end_is_shorter (Outside waiting is_open) = omega arith
+  end_is_shorter (Within waiting after_return) = part_is_shorter waiting
+
+  filtered_weighs : (bs : List ℕ) → 3 * length (filtered bs) ≤ 5 * length bs + extras bs
+  filtered_weighs bs =
+      let all : Step = run start bs in
+      omega (arith, run_weighs start bs, length-append all.output (at_end all.state), end_is_shorter all.state)
+
+  ten_each : (bs : List ℕ) → extras bs ≤ 10 * length bs
+  unfolding extras
+  ten_each [] = omega arith
+  ten_each (b ∷ bs) = omega (arith, ten_at_most b, ten_each bs)
+
+  none_extra : (bs : List ℕ) → list_all (λ b. not (is_key_byte b)) bs ≡ true → extras bs ≡ 0
+  unfolding extras
+  none_extra [] h = refl
+  none_extra (b ∷ bs) h =
+      let parts = and_parts (not (is_key_byte b)) (list_all (λ x. not (is_key_byte x)) bs) h in
+      omega (arith, no_extra b (not-true (is_key_byte b) parts.0), none_extra bs parts.1)
+
+  pub grows_five_times : GrowsFiveTimes by_delete
+  grows_five_times bs = omega (arith, filtered_weighs bs, ten_each bs)
+
+  pub grows_by_two_thirds : GrowsByTwoThirds by_delete
+  grows_by_two_thirds bs h = omega (arith, filtered_weighs bs, none_extra bs h)

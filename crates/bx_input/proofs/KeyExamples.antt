@@ -1,16 +1,24 @@
 -- Worked examples of keys that terminals send, and of their bytes in a paste and behind a sequence that breaks off.
-use Rattle.std.proofs.Common.{◌≡◌, ℕ, List, [], ◌∷◌, ◌++◌, refl}
+use Rattle.std.proofs.Common.{◌≡◌, ℕ, Bool, true, false, List, [], ◌∷◌, ◌++◌, map, refl}
 use Rattle.std.specs.Prelude.{codes}
 use Rattle.bx_keys.specs.Keys.{decoding}
 use Rattle.bx_keys.specs.declared.key.Key.{Key}
 use Rattle.bx_keys.specs.declared.key.Key.TheVariants.{Insert, Mark, Copy, Cut, Put, Find, FindBack, WordLeft, WordRight, TextStart, TextEnd, Help, Notice}
+use Rattle.bx_keys.specs.declared.key.Key.TheVariants.{EraseWord, DeleteWord, FindNext, Cancel, ErasePoint, NewLine, LineUp, LineDown, PageBack, PageOn, Right, Left, Delete}
 use Rattle.bx_keys.specs.declared.notice.Notice.TheVariants.{NoSpace, InPlace}
-use Rattle.bx_input.specs.Table.{paste_start, paste_end}
-use Rattle.bx_input.specs.Filter.{filtered}
+use Rattle.bx_input.specs.Table.{Row, rows, paste_start, paste_end}
+use Rattle.bx_input.specs.Filter as filter
+
+-- where the terminal's own erase character is another than DELETE
+abbrev filtered : List ℕ → List ℕ
+filtered = filter.filtered false
 
 -- the editor's keys behind the filter
+abbrev keys_where : Bool → List ℕ → List Key
+keys_where erases_by_delete bs = (decoding (filter.filtered erases_by_delete bs)).keys
+
 abbrev keys : List ℕ → List Key
-keys bs = (decoding (filtered bs)).keys
+keys = keys_where false
 
 pub control_characters : keys (0x00 ∷ 0x03 ∷ 0x12 ∷ 0x16 ∷ 0x17 ∷ 0x18 ∷ []) ≡ Mark ∷ Copy ∷ FindBack ∷ Put ∷ Find ∷ Cut ∷ []
 control_characters = refl
@@ -18,7 +26,34 @@ control_characters = refl
 pub others_go_through : filtered (codes "\u{13}\u{11}\u{1a}\u{19}\u{2}\u{6}") ≡ codes "\u{13}\u{11}\u{1a}\u{19}\u{2}\u{6}"
 others_go_through = refl
 
-pub f1_and_f3 : keys (codes "\u{1b}OP\u{1b}[11~\u{1b}[[A\u{1b}OR\u{1b}[13~\u{1b}[[C") ≡ Help ∷ Help ∷ Help ∷ Find ∷ Find ∷ Find ∷ []
+pub erase_keys : keys (0x7F ∷ 0x08 ∷ 0x0D ∷ 0x0A ∷ []) ≡ ErasePoint ∷ ErasePoint ∷ NewLine ∷ Insert 0x0A ∷ []
+erase_keys = refl
+
+pub erase_keys_by_delete : keys_where true (0x7F ∷ 0x08 ∷ 0x0D ∷ []) ≡ ErasePoint ∷ EraseWord ∷ NewLine ∷ []
+erase_keys_by_delete = refl
+
+-- the erase character changes what a sequence becomes, and none of them
+pub same_sequences : map (λ (r : Row). r.sequence) (rows true) ≡ map (λ (r : Row). r.sequence) (rows false)
+same_sequences = refl
+
+pub erase_with_alt : keys (codes "\u{1b}\u{7f}\u{1b}\u{8}") ≡ EraseWord ∷ EraseWord ∷ []
+erase_with_alt = refl
+
+pub delete_with_control : keys (codes "\u{1b}[3;5~\u{1b}[3^\u{1b}[M\u{1b}[3~\u{1b}[P") ≡ DeleteWord ∷ DeleteWord ∷ DeleteWord ∷ Delete ∷ Delete ∷ []
+delete_with_control = refl
+
+pub rows_and_pages : keys (codes "\u{1b}[A\u{1b}[B\u{1b}[C\u{1b}[D\u{1b}OA\u{1b}OB\u{1b}OC\u{1b}OD\u{1b}[5~\u{1b}[6~")
+    ≡ LineUp ∷ LineDown ∷ Right ∷ Left ∷ LineUp ∷ LineDown ∷ Right ∷ Left ∷ PageBack ∷ PageOn ∷ []
+rows_and_pages = refl
+
+pub rows_with_shift : keys (codes "\u{1b}[1;2A\u{1b}[1;2B\u{1b}[a\u{1b}[b\u{1b}[1;2C") ≡ LineUp ∷ LineDown ∷ LineUp ∷ LineDown ∷ Right ∷ []
+rows_with_shift = refl
+
+pub cancel_goes_through : keys (codes "\u{1b}[93~") ≡ Cancel ∷ []
+cancel_goes_through = refl
+
+pub f1_and_f3 : keys (codes "\u{1b}OP\u{1b}[11~\u{1b}[[A\u{1b}OR\u{1b}[13~\u{1b}[[C\u{17}")
+    ≡ Help ∷ Help ∷ Help ∷ FindNext ∷ FindNext ∷ FindNext ∷ Find ∷ []
 f1_and_f3 = refl
 
 pub arrows_with_control : keys (codes "\u{1b}[1;5D\u{1b}Od\u{1b}[5D\u{1b}[1;5C\u{1b}Oc\u{1b}[5C")
@@ -41,6 +76,23 @@ no_row = refl
 -- a paste only inserts, and behind it CTRL-W is a key
 pub in_a_paste : filtered (paste_start ++ (codes "a\u{17}\u{3}\u{18}" ++ (0x00 ∷ codes "b\r\nc" ++ paste_end)) ++ 0x17 ∷ []) ≡ codes "ab\nc\u{1b}[70~"
 in_a_paste = refl
+
+-- a paste neither erases nor cancels
+pub no_erase_in_a_paste : filtered (paste_start ++ (codes "a\u{7f}\u{8}\r\nb" ++ paste_end) ++ codes "\u{8}") ≡ codes "a\nb\u{1b}[94~"
+no_erase_in_a_paste = refl
+
+pub no_cancel_in_a_paste : keys (paste_start ++ (codes "a\u{1b}[93~" ++ paste_end))
+    ≡ Insert 0x61 ∷ Insert 0x5B ∷ Insert 0x39 ∷ Insert 0x33 ∷ Insert 0x7E ∷ []
+no_cancel_in_a_paste = refl
+
+pub lines_behind_broken : keys (codes "\u{1b}[1;5\r\u{1b}[1;5\u{8}\u{1b}\r") ++ keys (0xC3 ∷ 0x7F ∷ []) ≡ NewLine ∷ ErasePoint ∷ NewLine ∷ ErasePoint ∷ []
+lines_behind_broken = refl
+
+pub word_behind_broken : keys_where true (codes "\u{1b}[1;5\u{8}\u{1b}[1;5\u{1b}\u{8}") ≡ EraseWord ∷ EraseWord ∷ []
+word_behind_broken = refl
+
+pub f3_behind_broken : keys (codes "\u{1b}O\u{1b}OR") ≡ FindNext ∷ []
+f3_behind_broken = refl
 
 pub behind_broken : keys (codes "\u{1b}[1;5\u{3}x") ≡ Copy ∷ Insert 0x78 ∷ []
 behind_broken = refl

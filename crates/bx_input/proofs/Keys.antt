@@ -1,8 +1,9 @@
 -- The editor's keys.
-use Rattle.std.proofs.Common.{rules}
+use Rattle.std.proofs.Common.{Bool, true, false, rules}
 use Rattle.std.specs.List.{AllByRecursion}
 use Rattle.bx_input.specs.Table.{rows}
 use Rattle.bx_input.specs.Laws.{HasKey}
 
-pub rows_have_keys : AllByRecursion HasKey rows
-rows_have_keys = search rules
+pub rows_have_keys : (by_delete : Bool) → AllByRecursion HasKey (rows by_delete)
+rows_have_keys true = search rules
+rows_have_keys false = search rules

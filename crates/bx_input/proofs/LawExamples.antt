@@ -1,7 +1,7 @@
 -- A row that follows from each law alone, and from the contract of a run.
 use Rattle.std.proofs.Common.{◌≡◌, ◌≢◌, ℕ, ◌≤◌, inl, inr, Bool, true, false, not, List, [], ◌∷◌, ◌++◌, length, length-append, take}
 use Rattle.std.proofs.Common.{Option, Some, None, refl, ap, sym, ◌∙◌, subst, arith}
-use Rattle.std.specs.Prelude.{codes}
+use Rattle.std.specs.Prelude.{codes, unwrap_or}
 use Rattle.std.specs.List.{AllByRecursion, list_all}
 use Rattle.std.specs.Str.{chars, IsUtf8}
 use Rattle.std.proofs.lemmas.Bool.{and_left, and_parts, both_ways, not-true, or_from}
@@ -10,10 +10,11 @@ use Rattle.std.proofs.lemmas.List.Folds.{list_all-append}
 use lib.Utf8.{encode}
 use Rattle.bx_bytes.specs.Pattern.{Piece, One, Many, is_within, matches, matches_any}
 use Rattle.bx_keys.specs.Keys.{decoding}
-use Rattle.bx_keys.specs.declared.key.Key.TheVariants.{Insert, Up}
-use Rattle.bx_input.specs.Table.{rows, sequences, exact, paste_start, paste_end}
+use Rattle.bx_keys.specs.declared.key.Key.TheVariants.{Insert, EraseWord, ErasePoint, LineUp}
+use Rattle.bx_input.specs.Table.{Row, rows, row_of, sequences, exact, paste_start, paste_end}
 use Rattle.bx_input.specs.Paste.{kept_characters, pasted}
-use Rattle.bx_input.specs.Filter.{Outside, Within, Step, step_to, step, start, run, at_end, filtered}
+use Rattle.bx_input.specs.Filter as filter
+use Rattle.bx_input.specs.Filter.{State, Outside, Within, Step, step_to, start, at_end}
 use Rattle.bx_input.specs.Laws.{ComesInPieces, WaitsForFive, waiting_in, BecomesRow, HasNone, OthersPass, PastesText, IsText, PastesAreClean, GrowsFiveTimes, GrowsByTwoThirds}
 use Rattle.bx_input.specs.Laws.{HasKey, AddsKey, PastesInsert, PastesKeepCharacters}
 use Rattle.bx_input.specs.Running.{HasPassed, IsBrokenOff, IsFiltered, IsOneReadLate}
@@ -52,57 +53,87 @@ no_sequence ps bs e n front middle back cut =
 
 -- ---- the filter
 
+-- where the terminal's own erase character is another than DELETE
+abbrev run : State → List ℕ → Step
+run = filter.run false
+
+abbrev filtered : List ℕ → List ℕ
+filtered = filter.filtered false
+
 -- Shift and Up, of which the letter comes later
-pub of_in_any_pieces : ComesInPieces → (bs : List ℕ) → (run start bs).state ≡ Outside (codes "\u{1b}[1;2") false
-    → (run start (bs ++ codes "A")).output ≡ (run start bs).output ++ codes "\u{1b}[A"
+pub of_in_any_pieces : ComesInPieces false → (bs : List ℕ) → (run start bs).state ≡ Outside (codes "\u{1b}[1;2") false
+    → (run start (bs ++ codes "A")).output ≡ (run start bs).output ++ codes "\u{1b}[96~"
 of_in_any_pieces law bs e =
     ap (λ (x : Step). x.output) (law start bs (codes "A")) ∙ ap (λ s. (run start bs).output ++ (run s (codes "A")).output) e
 
 -- the whole mark that ends a paste never waits
-pub of_waits_for_five : WaitsForFive → (bs : List ℕ) → (run start bs).state ≢ Within paste_end false
+pub of_waits_for_five : WaitsForFive false → (bs : List ℕ) → (run start bs).state ≢ Within paste_end false
 of_waits_for_five law bs e = let short : 6 ≤ 5 = subst (λ s. length (waiting_in s) ≤ 5) e (law bs) in omega (arith, short)
 
 -- a paste does not save: CTRL-S does not go out
-pub of_clean_byte : PastesAreClean → (waiting : List ℕ) (after_return : Bool) (b : ℕ) → (step (Within waiting after_return) b).output ≢ 0x13 ∷ []
+pub of_clean_byte : PastesAreClean false → (waiting : List ℕ) (after_return : Bool) (b : ℕ) → (filter.step false (Within waiting after_return) b).output ≢ 0x13 ∷ []
 of_clean_byte law waiting after_return b e = both_ways _ refl (subst IsText e (law.each_byte waiting after_return b))
 
 -- a mark that is incomplete at the input's end goes out without its ESC
-pub of_clean_end : PastesAreClean → (waiting : List ℕ) (after_return : Bool) → at_end (Within waiting after_return) ≢ codes "\u{1b}[20"
+pub of_clean_end : PastesAreClean false → (waiting : List ℕ) (after_return : Bool) → at_end (Within waiting after_return) ≢ codes "\u{1b}[20"
 of_clean_end law waiting after_return e = both_ways _ refl (subst IsText e (law.input_ends waiting after_return))
 
-pub of_clean_text : PastesAreClean → (text : List ℕ) → pasted text ≢ codes "a\u{11}"
+pub of_clean_text : PastesAreClean false → (text : List ℕ) → pasted text ≢ codes "a\u{11}"
 of_clean_text law text e = both_ways _ refl (subst IsText e (law.whole text))
 
--- Up in application mode
-pub of_rows_become : AllByRecursion BecomesRow rows → (bs : List ℕ) → (run start bs).state ≡ start
-    → run start (bs ++ codes "\u{1b}OA") ≡ step_to start (filtered bs ++ codes "\u{1b}[A")
+-- the row of a byte
+abbrev row_at : ℕ → Row
+row_at b = unwrap_or (row_of false (b ∷ [])) (record { sequence = []; becomes = []; key = ErasePoint })
+
+-- Up
+pub of_rows_become : AllByRecursion (BecomesRow false) (rows false) → (bs : List ℕ) → (run start bs).state ≡ start
+    → run start (bs ++ codes "\u{1b}[A") ≡ step_to start (filtered bs ++ codes "\u{1b}[96~")
 of_rows_become law bs e = law.0 bs [] false e
 
+-- whatever waits, ESC too, goes out before it
+pub of_rows_become_behind : AllByRecursion (BecomesRow false) (rows false) → (bs waiting : List ℕ) → (run start bs).state ≡ Outside waiting true
+    → run start (bs ++ codes "\u{1b}[A") ≡ step_to start (filtered bs ++ codes "\u{1b}[96~")
+of_rows_become_behind law bs waiting e = law.0 bs waiting true e
+
+-- an ESC that waits belongs to DELETE
+pub of_rows_become_longer : BecomesRow false (row_at 0x7F) → (bs : List ℕ) → (run start bs).state ≡ Outside (0x1B ∷ []) false
+    → run start (bs ++ 0x7F ∷ []) ≡ step_to start ((run start bs).output ++ codes "\u{1b}[88~")
+of_rows_become_longer law bs e = law bs (0x1B ∷ []) false e
+
 -- input without ESC and the control characters of the table
-pub of_others_pass : OthersPass → (bs : List ℕ) → list_all (begins_none sequences) bs ≡ true → filtered bs ≡ bs
+pub of_others_pass : OthersPass false → (bs : List ℕ) → list_all (begins_none sequences) bs ≡ true → filtered bs ≡ bs
 of_others_pass law bs n = law bs (no_sequence sequences bs refl n)
 
 -- a letter, CTRL-Q, CTRL-S and a line feed
-pub of_others_pass_text : OthersPass → filtered (codes "a\u{11}\u{13}\n") ≡ codes "a\u{11}\u{13}\n"
+pub of_others_pass_text : OthersPass false → filtered (codes "a\u{11}\u{13}\n") ≡ codes "a\u{11}\u{13}\n"
 of_others_pass_text law = of_others_pass law (codes "a\u{11}\u{13}\n") refl
 
 -- CTRL-W
-pub of_grows_five_times : GrowsFiveTimes → length (filtered (codes "\u{17}")) ≤ 5
+pub of_grows_five_times : GrowsFiveTimes false → length (filtered (codes "\u{17}")) ≤ 5
 of_grows_five_times law = law (codes "\u{17}")
 
--- F1 in three bytes
-pub of_grows_by_two_thirds : GrowsByTwoThirds → length (filtered (codes "\u{1b}OP")) ≤ 5
-of_grows_by_two_thirds law = omega (arith, law (codes "\u{1b}OP") refl)
+-- Up in three bytes
+pub of_grows_by_two_thirds : GrowsByTwoThirds false → length (filtered (codes "\u{1b}[A")) ≤ 5
+of_grows_by_two_thirds law = omega (arith, law (codes "\u{1b}[A") refl)
 
-pub of_rows_have_keys : AllByRecursion HasKey rows → decoding (codes "\u{1b}[A") ≡ record { keys = Up ∷ []; rest = [] }
+pub of_rows_have_keys : AllByRecursion HasKey (rows false) → decoding (codes "\u{1b}[96~") ≡ record { keys = LineUp ∷ []; rest = [] }
 of_rows_have_keys law = law.0
 
-pub of_rows_add_keys : AllByRecursion AddsKey rows → (bs : List ℕ) → (run start bs).state ≡ start
-    → (decoding (filtered (bs ++ codes "\u{1b}OA"))).keys ≡ (decoding (filtered bs)).keys ++ Up ∷ []
+pub of_rows_add_keys : AllByRecursion (AddsKey false) (rows false) → (bs : List ℕ) → (run start bs).state ≡ start
+    → (decoding (filtered (bs ++ codes "\u{1b}[A"))).keys ≡ (decoding (filtered bs)).keys ++ LineUp ∷ []
 of_rows_add_keys law bs e = law.0 bs [] false e
 
+-- DELETE alone, and behind an ESC
+pub of_rows_add_point : AddsKey false (row_at 0x7F) → (bs : List ℕ) → (run start bs).state ≡ start
+    → (decoding (filtered (bs ++ 0x7F ∷ []))).keys ≡ (decoding (filtered bs)).keys ++ ErasePoint ∷ []
+of_rows_add_point law bs e = law bs [] false e
+
+pub of_rows_add_word : AddsKey false (row_at 0x7F) → (bs : List ℕ) → (run start bs).state ≡ Outside (0x1B ∷ []) false
+    → (decoding (filtered (bs ++ 0x7F ∷ []))).keys ≡ (decoding (filtered bs)).keys ++ EraseWord ∷ []
+of_rows_add_word law bs e = law bs (0x1B ∷ []) false e
+
 -- a paste with CR LF, CTRL-S and a control character of C1
-pub of_pastes_become_text : PastesText → run start (paste_start ++ (codes "a\r\n\u{13}bÂ\u{85}" ++ paste_end)) ≡ step_to start (codes "a\nb")
+pub of_pastes_become_text : PastesText false → run start (paste_start ++ (codes "a\r\n\u{13}bÂ\u{85}" ++ paste_end)) ≡ step_to start (codes "a\nb")
 of_pastes_become_text law = law [] [] false (codes "a\r\n\u{13}bÂ\u{85}") refl (no_sequence (exact paste_end ∷ []) (codes "a\r\n\u{13}bÂ\u{85}") refl refl)
 
 -- a, CR LF, NEXT LINE of C1 and a letter of two bytes
@@ -110,7 +141,7 @@ pub of_pastes_keep_characters : PastesKeepCharacters → (text : List ℕ) → I
     → chars (pasted text) ≡ 0x61 ∷ 0x0A ∷ 0x5D0 ∷ []
 of_pastes_keep_characters law text u e = (law text u).1 ∙ ap kept_characters e
 
-pub of_pastes_insert : PastesInsert
+pub of_pastes_insert : PastesInsert false
     → (decoding (filtered (paste_start ++ (codes "a\r\n\u{13}b" ++ paste_end)))).keys ≡ Insert 0x61 ∷ Insert 0x0A ∷ Insert 0x62 ∷ []
 unfolding chars encode
 of_pastes_insert law =
@@ -120,8 +151,8 @@ of_pastes_insert law =
 -- ---- a run
 
 -- a reader of known bytes leaves exactly their filtered text
-pub of_filtered : (bytes : List ℕ) (reader' writer' : Option (List ℕ)) → IsFiltered (Some (codes "x\u{1b}OA")) reader' (Some []) writer' bytes
-    → writer' ≡ Some (codes "x\u{1b}[A")
+pub of_filtered : (bytes : List ℕ) (reader' writer' : Option (List ℕ)) → IsFiltered false (Some (codes "x\u{1b}OA")) reader' (Some []) writer' bytes
+    → writer' ≡ Some (codes "x\u{1b}[96~")
 of_filtered bytes None writer' h = absurd h.reads
 of_filtered bytes (Some ys) None h = absurd h.writes
 of_filtered bytes (Some ys) (Some zs) h =
@@ -129,7 +160,7 @@ of_filtered bytes (Some ys) (Some zs) h =
     ap Some (h.writes ∙ ap filtered (sym all))
 
 -- a run that broke off behind two bytes wrote a front of them
-pub of_broken_off : (bytes zs : List ℕ) → IsBrokenOff (Some (codes "ab")) (Some []) (Some []) (Some zs) bytes → (rest : List ℕ) × (zs ++ rest ≡ codes "ab")
+pub of_broken_off : (bytes zs : List ℕ) → IsBrokenOff false (Some (codes "ab")) (Some []) (Some []) (Some zs) bytes → (rest : List ℕ) × (zs ++ rest ≡ codes "ab")
 of_broken_off bytes zs h =
     let all : codes "ab" ≡ bytes = h.reads ∙ append-nil bytes in
     elim h.writes [
@@ -138,13 +169,13 @@ of_broken_off bytes zs h =
     ]
 
 -- and one that a read broke off wrote the output of the first of them
-pub of_passed : (bytes zs : List ℕ) → HasPassed (Some (codes "ab")) (Some (codes "b")) (Some []) (Some zs) bytes (run start bytes).state → zs ≡ codes "a"
+pub of_passed : (bytes zs : List ℕ) → HasPassed false (Some (codes "ab")) (Some (codes "b")) (Some []) (Some zs) bytes (run start bytes).state → zs ≡ codes "a"
 of_passed [] zs h = absurd (let same : codes "ab" ≡ codes "b" = h.reads in cc same)
 of_passed (x ∷ []) zs h = let one : 0x61 ≡ x = (let same : codes "ab" ≡ x ∷ codes "b" = h.reads in cc same) in h.writes ∙ ap (λ y. (run start (y ∷ [])).output) (sym one)
 of_passed (x ∷ y ∷ ys) zs h = absurd (let same : codes "ab" ≡ x ∷ y ∷ (ys ++ codes "b") = h.reads in omega (arith, ap length same, length-append ys (codes "b")))
 
 -- after 300 bytes that were read, the output of the first 44 or more was written
-pub of_late : (bytes zs : List ℕ) → length bytes ≡ 300 → IsOneReadLate (Some []) (Some zs) bytes
+pub of_late : (bytes zs : List ℕ) → length bytes ≡ 300 → IsOneReadLate false (Some []) (Some zs) bytes
     → (n : ℕ) × (more : List ℕ) × (44 ≤ n) × (zs ≡ (run start (take n bytes)).output ++ more)
 of_late bytes zs count h =
     let front : take (length h.before) bytes ≡ h.before = ap (take (length h.before)) h.parts ∙ take_at h.before h.last (length h.before) refl in (

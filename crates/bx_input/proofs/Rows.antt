@@ -4,21 +4,21 @@ use Rattle.std.specs.Prelude.{option_map}
 use Rattle.bx_bytes.specs.declared.fate.Fate.TheVariants.{Ends}
 use Rattle.bx_input.specs.Table.{Row, fate, row_of}
 use Rattle.bx_input.specs.Filter.{Outside, step_to, step_by, ended, fresh, apart_from}
-use Rattle.bx_input.specs.Held.{becomes_of, BeginsByEscape}
+use Rattle.bx_input.specs.Models.{becomes_of, BeginsByEscape}
 
 ended_by : (is_open : Bool) (r : Option Row) (bs : List ℕ) → option_map (λ (r : Row). r.becomes) r ≡ Some bs
     → ended is_open r ≡ step_to (Outside [] false) (apart_from is_open bs)
 ended_by is_open None bs h = absurd (cc h)
 ended_by is_open (Some r) bs h = let e : r.becomes ≡ bs = cc h in rw e refl
 
-pub row_goes : (waiting : List ℕ) (is_open : Bool) (b : ℕ) (bs : List ℕ) → fate (waiting ++ b ∷ []) ≡ Ends
-    → becomes_of (waiting ++ b ∷ []) ≡ Some bs
-    → step_by (fate (waiting ++ b ∷ [])) waiting is_open b ≡ step_to (Outside [] false) (apart_from is_open bs)
-row_goes waiting is_open b bs h g = rw h (ended_by is_open (row_of (waiting ++ b ∷ [])) bs g)
+pub row_goes : (by_delete : Bool) (waiting : List ℕ) (is_open : Bool) (b : ℕ) (bs : List ℕ) → fate (waiting ++ b ∷ []) ≡ Ends
+    → becomes_of by_delete (waiting ++ b ∷ []) ≡ Some bs
+    → step_by by_delete (fate (waiting ++ b ∷ [])) waiting is_open b ≡ step_to (Outside [] false) (apart_from is_open bs)
+row_goes by_delete waiting is_open b bs h g = rw h (ended_by is_open (row_of by_delete (waiting ++ b ∷ [])) bs g)
 
-pub byte_goes : (is_open : Bool) (b : ℕ) (bs : List ℕ) → fate (b ∷ []) ≡ Ends → becomes_of (b ∷ []) ≡ Some bs
-    → fresh (fate (b ∷ [])) is_open b ≡ step_to (Outside [] false) (apart_from is_open bs)
-byte_goes is_open b bs h g = rw h (ended_by is_open (row_of (b ∷ [])) bs g)
+pub byte_goes : (by_delete : Bool) (is_open : Bool) (b : ℕ) (bs : List ℕ) → fate (b ∷ []) ≡ Ends → becomes_of by_delete (b ∷ []) ≡ Some bs
+    → fresh by_delete (fate (b ∷ [])) is_open b ≡ step_to (Outside [] false) (apart_from is_open bs)
+byte_goes by_delete is_open b bs h g = rw h (ended_by is_open (row_of by_delete (b ∷ [])) bs g)
 
 pub escape_apart : (is_open : Bool) (bs : List ℕ) → BeginsByEscape bs → apart_from is_open bs ≡ bs
 escape_apart is_open [] h = absurd (cc h)

@@ -16,6 +16,14 @@ pub data State : Type 0 where
 abbrev pub start : State
 start = Outside [] false
 
+-- a filter, which was told whether the terminal's own erase character is DELETE
+pub record Filtering : Type 0 where
+  pub erases_by_delete : Bool
+  pub state : State
+
+abbrev pub filtering : Bool → State → Filtering
+filtering erases_by_delete state = record { erases_by_delete = erases_by_delete; state = state }
+
 -- the state after bytes, and their output
 pub record Step : Type 0 where
   pub state : State
@@ -44,20 +52,22 @@ abbrev pub is_empty : List ℕ → Bool
 is_empty [] = true
 is_empty (b ∷ bs) = false
 
--- a byte where none waits
-abbrev pub fresh : Fate → Bool → ℕ → Step
-fresh Waits is_open b = step_to (Outside (b ∷ []) is_open) []
-fresh Ends is_open b = ended is_open (row_of (b ∷ []))
-fresh Breaks is_open b = step_to (Outside [] (is_open && is_within 0x20 0x3F b)) (b ∷ [])
+-- whether or not the terminal's own erase character is DELETE
+module _ (erases_by_delete : Bool) where
+  -- a byte where none waits
+  abbrev pub fresh : Fate → Bool → ℕ → Step
+  fresh Waits is_open b = step_to (Outside (b ∷ []) is_open) []
+  fresh Ends is_open b = ended is_open (row_of erases_by_delete (b ∷ []))
+  fresh Breaks is_open b = step_to (Outside [] (is_open && is_within 0x20 0x3F b)) (b ∷ [])
 
--- the byte breaks the sequence: the waiting bytes go out unchanged, and the byte is read as if none waited
-abbrev pub broken : List ℕ → Bool → ℕ → Step
-broken waiting is_open b = with_front waiting (fresh (fate (b ∷ [])) (is_open || not (is_empty waiting)) b)
+  -- the byte breaks the sequence: the waiting bytes go out unchanged, and the byte is read as if none waited
+  abbrev pub broken : List ℕ → Bool → ℕ → Step
+  broken waiting is_open b = with_front waiting (fresh (fate (b ∷ [])) (is_open || not (is_empty waiting)) b)
 
-abbrev pub step_by : Fate → List ℕ → Bool → ℕ → Step
-step_by Waits waiting is_open b = step_to (Outside (waiting ++ b ∷ []) is_open) []
-step_by Ends waiting is_open b = ended is_open (row_of (waiting ++ b ∷ []))
-step_by Breaks waiting is_open b = broken waiting is_open b
+  abbrev pub step_by : Fate → List ℕ → Bool → ℕ → Step
+  step_by Waits waiting is_open b = step_to (Outside (waiting ++ b ∷ []) is_open) []
+  step_by Ends waiting is_open b = ended is_open (row_of erases_by_delete (waiting ++ b ∷ []))
+  step_by Breaks waiting is_open b = broken waiting is_open b
 
 -- ---- within a paste
 
@@ -72,20 +82,21 @@ paste_step_by Breaks waiting after_return b = with_front (pasted_part waiting) (
 
 -- ---- a byte, and input
 
-abbrev pub step : State → ℕ → Step
-step (Outside waiting is_open) b = step_by (fate (waiting ++ b ∷ [])) waiting is_open b
-step (Within waiting after_return) b = paste_step_by (paste_fate (waiting ++ b ∷ [])) waiting after_return b
-
--- the output for bytes, one after another
-abbrev pub run : State → List ℕ → Step
-run s [] = step_to s []
-run s (b ∷ bs) = with_front (step s b).output (run (step s b).state bs)
-
 -- the output for the waiting bytes at the input's end
 abbrev pub at_end : State → List ℕ
 at_end (Outside waiting is_open) = waiting
 at_end (Within waiting after_return) = pasted_part waiting
 
--- the output for a whole input
-abbrev pub filtered : List ℕ → List ℕ
-filtered bs = let all = run start bs in all.output ++ at_end all.state
+module _ (erases_by_delete : Bool) where
+  abbrev pub step : State → ℕ → Step
+  step (Outside waiting is_open) b = step_by erases_by_delete (fate (waiting ++ b ∷ [])) waiting is_open b
+  step (Within waiting after_return) b = paste_step_by (paste_fate (waiting ++ b ∷ [])) waiting after_return b
+
+  -- the output for bytes, one after another
+  abbrev pub run : State → List ℕ → Step
+  run s [] = step_to s []
+  run s (b ∷ bs) = with_front (step s b).output (run (step s b).state bs)
+
+  -- the output for a whole input
+  abbrev pub filtered : List ℕ → List ℕ
+  filtered bs = let all = run start bs in all.output ++ at_end all.state

@@ -1,48 +1,32 @@
 -- Laws of the filter, for any input.
-use Rattle.std.specs.Prelude.{◌≡◌, ◌≤◌, ℕ, ◌*◌, Bool, true, false, not, ◌||◌, ◌==◌, List, [], ◌∷◌, ◌++◌, length, map}
+use Rattle.std.specs.Prelude.{◌≡◌, ◌≤◌, ℕ, ◌*◌, Bool, true, false, not, ◌||◌, ◌==◌, List, [], ◌∷◌, ◌++◌, length, map, Option, Some, None, if◌then◌else◌}
 use Rattle.std.specs.List.{list_all, list_any}
 use Rattle.std.specs.Str.{bytes_eq, chars, IsUtf8}
 use Rattle.bx_bytes.specs.Pattern.{Piece, matches_any}
 use Rattle.bx_keys.specs.Keys.{Decoding, decoding}
 use Rattle.bx_keys.specs.declared.key.Key.{Key}
 use Rattle.bx_keys.specs.declared.key.Key.TheVariants.{Insert}
-use Rattle.bx_input.specs.Table.{Row, control_rows, sequences, exact, paste_start, paste_end}
+use Rattle.bx_input.specs.Table.{Row, byte_rows, row_of, sequences, exact, paste_start, paste_end}
 use Rattle.bx_input.specs.Paste.{is_control_byte, kept_characters, pasted}
-use Rattle.bx_input.specs.Filter.{State, Outside, Within, Step, step_to, with_front, step, start, run, at_end, filtered, apart_from, is_empty}
-
--- input cut in two has the output of its first part, and then of its second
-abbrev pub ComesInPieces : Type 0
-ComesInPieces = (s : State) (bs more : List ℕ) →
-    let first : Step = run s bs in
-    run s (bs ++ more) ≡ with_front first.output (run first.state more)
+use Rattle.bx_input.specs.Filter as filter
+use Rattle.bx_input.specs.Filter.{State, Outside, Within, Step, step_to, with_front, start, at_end, apart_from, is_empty}
 
 abbrev pub waiting_in : State → List ℕ
 waiting_in (Outside waiting is_open) = waiting
 waiting_in (Within waiting after_return) = waiting
 
--- at most five bytes wait
-abbrev pub WaitsForFive : Type 0
-WaitsForFive = (bs : List ℕ) → length (waiting_in (run start bs).state) ≤ 5
-
--- a sequence of the table after input that ends outside a paste: the waiting bytes go out unchanged, and then the row's bytes
-abbrev pub BecomesRow : Row → Type 0
-BecomesRow r = (bs waiting : List ℕ) (is_open : Bool) → (run start bs).state ≡ Outside waiting is_open
-    → run start (bs ++ r.sequence) ≡ step_to start (filtered bs ++ apart_from (is_open || not (is_empty waiting)) r.becomes)
-
 -- no part of these bytes matches one of the patterns
 abbrev pub HasNone : List (List Piece) → List ℕ → Type 0
 HasNone patterns bs = (front middle back : List ℕ) → bs ≡ front ++ (middle ++ back) → matches_any patterns middle ≡ false
 
--- input with no sequence of the table and no start of a paste goes out unchanged
-abbrev pub OthersPass : Type 0
-OthersPass = (bs : List ℕ) → HasNone sequences bs → filtered bs ≡ bs
+-- an ESC waits, and makes a row of what comes
+abbrev pub longer_by : List ℕ → Option Row → Option Row
+longer_by waiting None = None
+longer_by waiting (Some r) = if bytes_eq waiting (0x1B ∷ []) then Some r else None
 
--- a paste after input that ends outside one, up to the first end of a paste
-abbrev pub PastesText : Type 0
-PastesText = (bs waiting : List ℕ) (is_open : Bool) (text : List ℕ) → (run start bs).state ≡ Outside waiting is_open
-    → HasNone (exact paste_end ∷ []) text
-    → run start (bs ++ (paste_start ++ (text ++ paste_end)))
-    ≡ step_to start (filtered bs ++ (apart_from (is_open || not (is_empty waiting)) [] ++ pasted text))
+abbrev pub row_behind : Row → Option Row → Row
+row_behind r None = r
+row_behind r (Some longer) = longer
 
 -- A paste in UTF-8 becomes UTF-8: its characters in order, except control characters other than TAB and new lines.
 abbrev pub PastesKeepCharacters : Type 0
@@ -55,45 +39,89 @@ is_text_byte b = (b == 0x09 || b == 0x0A) || not (is_control_byte b)
 abbrev pub IsText : List ℕ → Type 0
 IsText bs = list_all is_text_byte bs ≡ true
 
--- the output within a paste is text, however the paste is cut
-pub record PastesAreClean : Type 0 where
-  pub each_byte : (waiting : List ℕ) (after_return : Bool) (b : ℕ) → IsText (step (Within waiting after_return) b).output
-  pub input_ends : (waiting : List ℕ) (after_return : Bool) → IsText (at_end (Within waiting after_return))
-  pub whole : (text : List ℕ) → IsText (pasted text)
-
--- a key of one byte becomes five bytes
-abbrev pub GrowsFiveTimes : Type 0
-GrowsFiveTimes = (bs : List ℕ) → length (filtered bs) ≤ 5 * length bs
-
 -- a byte that is a row's whole sequence
 abbrev pub is_key_byte : ℕ → Bool
-is_key_byte b = list_any (λ (r : Row). bytes_eq r.sequence (b ∷ [])) control_rows
-
--- without such bytes, three bytes become at most five
-abbrev pub GrowsByTwoThirds : Type 0
-GrowsByTwoThirds = (bs : List ℕ) → list_all (λ b. not (is_key_byte b)) bs ≡ true → 3 * length (filtered bs) ≤ 5 * length bs
+is_key_byte b = list_any (λ (r : Row). bytes_eq r.sequence (b ∷ [])) (byte_rows false)
 
 -- the editor decodes the bytes of a row as the row's key
 abbrev pub HasKey : Row → Type 0
 HasKey r = decoding r.becomes ≡ record { keys = r.key ∷ []; rest = [] }
 
--- After any input that ends outside a paste, the row's sequence gives the editor one more key, the row's.
-abbrev pub AddsKey : Row → Type 0
-AddsKey r = (bs waiting : List ℕ) (is_open : Bool) → (run start bs).state ≡ Outside waiting is_open
-    → (decoding (filtered (bs ++ r.sequence))).keys ≡ (decoding (filtered bs)).keys ++ r.key ∷ []
-
 abbrev pub is_insert : Key → Bool
 is_insert (Insert c) = true
 is_insert _ = false
 
--- The editor's keys for a paste are those of its text after the bytes that wait. Each inserts a character, and does nothing
--- else. If the text is UTF-8, these are its characters in order.
-abbrev pub PastesInsert : Type 0
-PastesInsert = (bs waiting : List ℕ) (is_open : Bool) (text : List ℕ) → (run start bs).state ≡ Outside waiting is_open
-    → HasNone (exact paste_end ∷ []) text
-    → let before : Decoding = decoding (filtered bs) in
-    let sent : List ℕ = apart_from (is_open || not (is_empty waiting)) [] ++ pasted text in
-    let keys : List Key = (decoding (before.rest ++ sent)).keys in
-    ((decoding (filtered (bs ++ (paste_start ++ (text ++ paste_end))))).keys ≡ before.keys ++ keys)
-    × (list_all is_insert keys ≡ true)
-    × (IsUtf8 (pasted text) → keys ≡ map Insert (chars (pasted text)))
+-- whether or not the terminal's own erase character is DELETE
+module _ (erases_by_delete : Bool) where
+  abbrev run : State → List ℕ → Step
+  run = filter.run erases_by_delete
+
+  abbrev filtered : List ℕ → List ℕ
+  filtered = filter.filtered erases_by_delete
+
+  -- input cut in two has the output of its first part, and then of its second
+  abbrev pub ComesInPieces : Type 0
+  ComesInPieces = (s : State) (bs more : List ℕ) →
+      let first : Step = run s bs in
+      run s (bs ++ more) ≡ with_front first.output (run first.state more)
+
+  -- at most five bytes wait
+  abbrev pub WaitsForFive : Type 0
+  WaitsForFive = (bs : List ℕ) → length (waiting_in (run start bs).state) ≤ 5
+
+  -- the row of an ESC that waits and the sequence, where there is one: ESC and DELETE are one
+  abbrev pub longer_row : List ℕ → Row → Option Row
+  longer_row waiting r = longer_by waiting (row_of erases_by_delete (0x1B ∷ r.sequence))
+
+  abbrev pub became : List ℕ → List ℕ → Bool → Row → Option Row → List ℕ
+  became bs waiting is_open r None = filtered bs ++ apart_from (is_open || not (is_empty waiting)) r.becomes
+  became bs waiting is_open r (Some longer) = (run start bs).output ++ apart_from is_open longer.becomes
+
+  -- A sequence of the table after input that ends outside a paste: the waiting bytes go out unchanged, and then the row's bytes.
+  -- With an ESC that belongs to a longer row, the bytes of that row go out.
+  abbrev pub BecomesRow : Row → Type 0
+  BecomesRow r = (bs waiting : List ℕ) (is_open : Bool) → (run start bs).state ≡ Outside waiting is_open
+      → run start (bs ++ r.sequence) ≡ step_to start (became bs waiting is_open r (longer_row waiting r))
+
+  -- input with no sequence of the table and no start of a paste goes out unchanged
+  abbrev pub OthersPass : Type 0
+  OthersPass = (bs : List ℕ) → HasNone sequences bs → filtered bs ≡ bs
+
+  -- a paste after input that ends outside one, up to the first end of a paste
+  abbrev pub PastesText : Type 0
+  PastesText = (bs waiting : List ℕ) (is_open : Bool) (text : List ℕ) → (run start bs).state ≡ Outside waiting is_open
+      → HasNone (exact paste_end ∷ []) text
+      → run start (bs ++ (paste_start ++ (text ++ paste_end)))
+      ≡ step_to start (filtered bs ++ (apart_from (is_open || not (is_empty waiting)) [] ++ pasted text))
+
+  -- the output within a paste is text, however the paste is cut
+  pub record PastesAreClean : Type 0 where
+    pub each_byte : (waiting : List ℕ) (after_return : Bool) (b : ℕ) → IsText (filter.step erases_by_delete (Within waiting after_return) b).output
+    pub input_ends : (waiting : List ℕ) (after_return : Bool) → IsText (at_end (Within waiting after_return))
+    pub whole : (text : List ℕ) → IsText (pasted text)
+
+  -- a key of one byte becomes five bytes
+  abbrev pub GrowsFiveTimes : Type 0
+  GrowsFiveTimes = (bs : List ℕ) → length (filtered bs) ≤ 5 * length bs
+
+  -- without key bytes, three bytes become at most five
+  abbrev pub GrowsByTwoThirds : Type 0
+  GrowsByTwoThirds = (bs : List ℕ) → list_all (λ b. not (is_key_byte b)) bs ≡ true → 3 * length (filtered bs) ≤ 5 * length bs
+
+  -- After any input that ends outside a paste, the row's sequence gives the editor one more key, the row's. With an ESC that
+  -- belongs to a longer row, it is that row's.
+  abbrev pub AddsKey : Row → Type 0
+  AddsKey r = (bs waiting : List ℕ) (is_open : Bool) → (run start bs).state ≡ Outside waiting is_open
+      → (decoding (filtered (bs ++ r.sequence))).keys ≡ (decoding (filtered bs)).keys ++ (row_behind r (longer_row waiting r)).key ∷ []
+
+  -- The editor's keys for a paste are those of its text after the bytes that wait. Each inserts a character, and does nothing
+  -- else. If the text is UTF-8, these are its characters in order.
+  abbrev pub PastesInsert : Type 0
+  PastesInsert = (bs waiting : List ℕ) (is_open : Bool) (text : List ℕ) → (run start bs).state ≡ Outside waiting is_open
+      → HasNone (exact paste_end ∷ []) text
+      → let before : Decoding = decoding (filtered bs) in
+      let sent : List ℕ = apart_from (is_open || not (is_empty waiting)) [] ++ pasted text in
+      let keys : List Key = (decoding (before.rest ++ sent)).keys in
+      ((decoding (filtered (bs ++ (paste_start ++ (text ++ paste_end))))).keys ≡ before.keys ++ keys)
+      × (list_all is_insert keys ≡ true)
+      × (IsUtf8 (pasted text) → keys ≡ map Insert (chars (pasted text)))

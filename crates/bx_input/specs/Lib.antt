@@ -1,8 +1,9 @@
 pub mod Filter
-pub mod Held
+pub mod Models
 pub mod Laws
 pub mod Log
 pub mod Paste
+pub mod PasteTail
 pub mod Running
 pub mod Table
 pub mod Wire

@@ -1,12 +1,13 @@
 -- The sequences that terminals send for keys, and the bytes that the editor gets in their place.
-use Rattle.std.specs.Prelude.{ℕ, List, [], ◌∷◌, ◌++◌, map, find, codes, Option}
+use Rattle.std.specs.Prelude.{ℕ, Bool, false, List, [], ◌∷◌, ◌++◌, map, find, codes, Option, if◌then◌else◌}
 use Rattle.std.specs.Str.{bytes_eq}
 use Rattle.bx_bytes.specs.Fate.{fate_in}
 use Rattle.bx_bytes.specs.Pattern.{Piece, One}
 use Rattle.bx_bytes.specs.declared.fate.Fate.{Fate}
 use Rattle.bx_keys.specs.declared.key.Key.{Key}
-use Rattle.bx_keys.specs.declared.key.Key.TheVariants.{Insert, Delete, Up, Down, Right, Left, RowHome, RowEnd, Direction}
+use Rattle.bx_keys.specs.declared.key.Key.TheVariants.{Insert, Delete, Right, Left, RowHome, RowEnd, Direction}
 use Rattle.bx_keys.specs.declared.key.Key.TheVariants.{Mark, Copy, Cut, Put, Find, FindBack, WordLeft, WordRight, TextStart, TextEnd, Help}
+use Rattle.bx_keys.specs.declared.key.Key.TheVariants.{EraseWord, DeleteWord, FindNext, ErasePoint, NewLine, LineUp, LineDown, PageBack, PageOn}
 
 -- a sequence of a terminal, the bytes that it becomes, and the editor's key for these
 pub record Row : Type 0 where
@@ -23,11 +24,20 @@ csi bs = 0x1B ∷ 0x5B ∷ bs
 abbrev pub ss3 : List ℕ → List ℕ
 ss3 bs = 0x1B ∷ 0x4F ∷ bs
 
+-- Up, Down, Page Up and Page Down; the other arrows, Home and End come as the editor has them
+abbrev row_keys : List Row
+row_keys =
+    row (csi (codes "A")) (csi (codes "96~")) LineUp
+    ∷ row (csi (codes "B")) (csi (codes "97~")) LineDown
+    ∷ row (csi (codes "5~")) (csi (codes "98~")) PageBack
+    ∷ row (csi (codes "6~")) (csi (codes "99~")) PageOn
+    ∷ []
+
 -- arrows, Home and End in the application mode of xterm, tmux, screen, rxvt and the Linux console
 abbrev application_keys : List Row
 application_keys =
-    row (ss3 (codes "A")) (csi (codes "A")) Up
-    ∷ row (ss3 (codes "B")) (csi (codes "B")) Down
+    row (ss3 (codes "A")) (csi (codes "96~")) LineUp
+    ∷ row (ss3 (codes "B")) (csi (codes "97~")) LineDown
     ∷ row (ss3 (codes "C")) (csi (codes "C")) Right
     ∷ row (ss3 (codes "D")) (csi (codes "D")) Left
     ∷ row (ss3 (codes "H")) (csi (codes "H")) RowHome
@@ -41,8 +51,8 @@ rxvt_keys = row (csi (codes "7~")) (csi (codes "H")) RowHome ∷ row (csi (codes
 -- the same keys with Shift, as xterm, tmux and screen send them
 abbrev shifted_keys : List Row
 shifted_keys =
-    row (csi (codes "1;2A")) (csi (codes "A")) Up
-    ∷ row (csi (codes "1;2B")) (csi (codes "B")) Down
+    row (csi (codes "1;2A")) (csi (codes "96~")) LineUp
+    ∷ row (csi (codes "1;2B")) (csi (codes "97~")) LineDown
     ∷ row (csi (codes "1;2C")) (csi (codes "C")) Right
     ∷ row (csi (codes "1;2D")) (csi (codes "D")) Left
     ∷ row (csi (codes "1;2H")) (csi (codes "H")) RowHome
@@ -52,8 +62,8 @@ shifted_keys =
 -- the same keys with Shift, as rxvt sends them
 abbrev shifted_rxvt_keys : List Row
 shifted_rxvt_keys =
-    row (csi (codes "a")) (csi (codes "A")) Up
-    ∷ row (csi (codes "b")) (csi (codes "B")) Down
+    row (csi (codes "a")) (csi (codes "96~")) LineUp
+    ∷ row (csi (codes "b")) (csi (codes "97~")) LineDown
     ∷ row (csi (codes "c")) (csi (codes "C")) Right
     ∷ row (csi (codes "d")) (csi (codes "D")) Left
     ∷ row (csi (codes "7$")) (csi (codes "H")) RowHome
@@ -63,6 +73,21 @@ shifted_rxvt_keys =
 -- Delete of st outside its keypad mode
 abbrev delete_keys : List Row
 delete_keys = row (csi (codes "P")) (csi (codes "3~")) Delete ∷ []
+
+-- Delete with CTRL, of xterm, tmux and screen; of rxvt; of st
+abbrev delete_word_keys : List Row
+delete_word_keys =
+    row (csi (codes "3;5~")) (csi (codes "89~")) DeleteWord
+    ∷ row (csi (codes "3^")) (csi (codes "89~")) DeleteWord
+    ∷ row (csi (codes "M")) (csi (codes "89~")) DeleteWord
+    ∷ []
+
+-- the key that erases, with ALT
+abbrev erase_word_keys : List Row
+erase_word_keys =
+    row (0x1B ∷ 0x7F ∷ []) (csi (codes "88~")) EraseWord
+    ∷ row (0x1B ∷ 0x08 ∷ []) (csi (codes "88~")) EraseWord
+    ∷ []
 
 -- F2, of xterm, tmux and screen; of rxvt and PuTTY; of the Linux console
 abbrev direction_keys : List Row
@@ -98,9 +123,9 @@ help_keys =
 -- F3, of the same terminals
 abbrev find_keys : List Row
 find_keys =
-    row (ss3 (codes "R")) (csi (codes "70~")) Find
-    ∷ row (csi (codes "13~")) (csi (codes "70~")) Find
-    ∷ row (csi (codes "[C")) (csi (codes "70~")) Find
+    row (ss3 (codes "R")) (csi (codes "92~")) FindNext
+    ∷ row (csi (codes "13~")) (csi (codes "92~")) FindNext
+    ∷ row (csi (codes "[C")) (csi (codes "92~")) FindNext
     ∷ []
 
 -- Left and Right with CTRL, of xterm, tmux and screen; of rxvt; of terminals that leave out 1 and the semicolon
@@ -125,13 +150,16 @@ text_end_keys =
 
 abbrev pub escape_rows : List Row
 escape_rows =
-    application_keys
+    row_keys
+    ++ (application_keys
     ++ (rxvt_keys
     ++ (shifted_keys
     ++ (shifted_rxvt_keys
-    ++ (delete_keys ++ (direction_keys ++ (keypad_digits ++ (help_keys ++ (find_keys ++ (word_keys ++ text_end_keys)))))))))
+    ++ (delete_keys
+    ++ (delete_word_keys
+    ++ (erase_word_keys ++ (direction_keys ++ (keypad_digits ++ (help_keys ++ (find_keys ++ (word_keys ++ text_end_keys))))))))))))
 
--- CTRL with @ (or the space bar), C, R, V, W and X
+-- CTRL with @ (or the space bar), C, R, V, W and X, and Enter
 abbrev pub control_rows : List Row
 control_rows =
     row (0x00 ∷ []) (csi (codes "72~")) Mark
@@ -140,10 +168,22 @@ control_rows =
     ∷ row (0x16 ∷ []) (csi (codes "75~")) Put
     ∷ row (0x17 ∷ []) (csi (codes "70~")) Find
     ∷ row (0x18 ∷ []) (csi (codes "74~")) Cut
+    ∷ row (0x0D ∷ []) (csi (codes "95~")) NewLine
     ∷ []
 
-abbrev pub rows : List Row
-rows = escape_rows ++ control_rows
+-- The key that erases gives 7F or 08. Where the terminal's own erase character is 7F, 08 comes from another one, mostly that
+-- key with CTRL.
+abbrev pub erase_rows : Bool → List Row
+erase_rows erases_by_delete =
+    row (0x7F ∷ []) (csi (codes "94~")) ErasePoint
+    ∷ row (0x08 ∷ []) (csi (if erases_by_delete then codes "88~" else codes "94~")) (if erases_by_delete then EraseWord else ErasePoint)
+    ∷ []
+
+abbrev pub byte_rows : Bool → List Row
+byte_rows erases_by_delete = control_rows ++ erase_rows erases_by_delete
+
+abbrev pub rows : Bool → List Row
+rows erases_by_delete = escape_rows ++ byte_rows erases_by_delete
 
 -- the two marks that a terminal puts around a paste
 abbrev pub paste_start : List ℕ
@@ -156,12 +196,12 @@ paste_end = csi (codes "201~")
 abbrev pub exact : List ℕ → List Piece
 exact bs = map (λ b. One b b) bs
 
--- the sequences known outside a paste
+-- the sequences known outside a paste, the same for each erase character
 abbrev pub sequences : List (List Piece)
-sequences = exact paste_start ∷ map (λ (r : Row). exact r.sequence) rows
+sequences = exact paste_start ∷ map (λ (r : Row). exact r.sequence) (rows false)
 
 abbrev pub fate : List ℕ → Fate
 fate bs = fate_in sequences bs
 
-abbrev pub row_of : List ℕ → Option Row
-row_of bs = find (λ (r : Row). bytes_eq r.sequence bs) rows
+abbrev pub row_of : Bool → List ℕ → Option Row
+row_of erases_by_delete bs = find (λ (r : Row). bytes_eq r.sequence bs) (rows erases_by_delete)

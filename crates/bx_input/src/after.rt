@@ -1,12 +1,13 @@
 //! The state after the waiting bytes and one more.
 
-ghost use Rattle.std.specs.Prelude.{◌≡◌, ◌≢◌, ◌∷◌, [], ◌++◌, Some, None, IfSome};
+ghost use Rattle.std.specs.Prelude.{◌≡◌, ◌≢◌, Bool, ◌∷◌, [], ◌++◌, Some, None, IfSome};
 ghost use Rattle.bx_bytes.specs.declared.fate.Fate.TheVariants as fate_is;
 ghost use Rattle.bx_input.specs.Table.{fate};
-ghost use Rattle.bx_input.specs.Held.{becomes_of, begun, held_back, BeginsByEscape, Tells, TellsInPaste};
+ghost use Rattle.bx_input.specs.Models.{becomes_of, begun, BeginsByEscape, Tells, TellsInPaste};
+ghost use Rattle.bx_input.specs.PasteTail.{tail_bytes};
 
 use crate::beginning::Beginning;
-use crate::held::Held;
+use crate::paste_tail::PasteTail;
 
 /// The control byte ESC, with which each sequence begins.
 pub const ESC: u8 = 0x1B;
@@ -30,7 +31,7 @@ pub enum After {
 #[derive(Clone, Copy, PartialEq, Eq, Debug)]
 pub enum AfterInPaste {
     /// The bytes begin the paste's end, or a control character of C1.
-    Waits(Held),
+    Waits(PasteTail),
     /// They are a control character of C1.
     Drops,
     /// They are the paste's end.
@@ -40,100 +41,58 @@ pub enum AfterInPaste {
 }
 
 /// The state after the waiting bytes and one more, outside a paste.
-pub fn sequence_after(waiting: Beginning, byte: u8) -> After
-    ensures { Tells result (begun waiting ++ byte ∷ []) }
+pub fn sequence_after(erases_by_delete: bool, waiting: Beginning, byte: u8) -> After
+    ensures { Tells erases_by_delete result (begun waiting ++ byte ∷ []) }
 {
     match waiting {
-        Beginning::Nothing => after_nothing(byte),
-        Beginning::Escape => match byte {
-            b'O' => After::Waits(Beginning::SingleShift),
-            b'[' => After::Waits(Beginning::Csi),
-            _ => After::Breaks,
-        },
+        Beginning::Nothing => after_nothing(erases_by_delete, byte),
+        Beginning::Escape => after_escape(byte),
         Beginning::SingleShift => after_single_shift(byte),
         Beginning::Csi => after_csi(byte),
-        Beginning::One => match byte {
-            b'1' => After::Waits(Beginning::Eleven),
-            b'2' => After::Waits(Beginning::Twelve),
-            b'3' => After::Waits(Beginning::Thirteen),
-            b';' => After::Waits(Beginning::OneAnd),
-            _ => After::Breaks,
-        },
-        Beginning::Eleven => match byte {
-            b'~' => After::Becomes(b"\x1b[80~"),
-            _ => After::Breaks,
-        },
-        Beginning::Twelve => match byte {
-            b'~' => After::Becomes(b"\x1b[9~"),
-            _ => After::Breaks,
-        },
-        Beginning::Thirteen => match byte {
-            b'~' => After::Becomes(b"\x1b[70~"),
-            _ => After::Breaks,
-        },
-        Beginning::OneAnd => match byte {
-            b'2' => After::Waits(Beginning::Shifted),
-            b'5' => After::Waits(Beginning::Controlled),
-            _ => After::Breaks,
-        },
+        Beginning::One => after_one(byte),
+        Beginning::Eleven => after_eleven(byte),
+        Beginning::Twelve => after_twelve(byte),
+        Beginning::Thirteen => after_thirteen(byte),
+        Beginning::OneAnd => after_one_and(byte),
         Beginning::Shifted => after_shifted(byte),
         Beginning::Controlled => after_controlled(byte),
-        Beginning::Two => match byte {
-            b'0' => After::Waits(Beginning::Twenty),
-            _ => After::Breaks,
-        },
-        Beginning::Twenty => match byte {
-            b'0' => After::Waits(Beginning::TwoHundred),
-            _ => After::Breaks,
-        },
-        Beginning::TwoHundred => match byte {
-            b'~' => After::Pastes,
-            _ => After::Breaks,
-        },
-        Beginning::Five => match byte {
-            b'C' => After::Becomes(b"\x1b[77~"),
-            b'D' => After::Becomes(b"\x1b[76~"),
-            _ => After::Breaks,
-        },
-        Beginning::Seven => match byte {
-            b'~' | b'$' => After::Becomes(b"\x1b[H"),
-            b'^' => After::Becomes(b"\x1b[78~"),
-            _ => After::Breaks,
-        },
-        Beginning::Eight => match byte {
-            b'~' | b'$' => After::Becomes(b"\x1b[F"),
-            b'^' => After::Becomes(b"\x1b[79~"),
-            _ => After::Breaks,
-        },
-        Beginning::Bracket => match byte {
-            b'A' => After::Becomes(b"\x1b[80~"),
-            b'B' => After::Becomes(b"\x1b[9~"),
-            b'C' => After::Becomes(b"\x1b[70~"),
-            _ => After::Breaks,
-        },
+        Beginning::Two => after_two(byte),
+        Beginning::Twenty => after_twenty(byte),
+        Beginning::TwoHundred => after_two_hundred(byte),
+        Beginning::Three => after_three(byte),
+        Beginning::ThreeAnd => after_three_and(byte),
+        Beginning::ThreeControlled => after_three_controlled(byte),
+        Beginning::Five => after_five(byte),
+        Beginning::Six => after_six(byte),
+        Beginning::Seven => after_seven(byte),
+        Beginning::Eight => after_eight(byte),
+        Beginning::Bracket => after_bracket(byte),
     }
 }
 
-fn after_nothing(byte: u8) -> After
-    ensures { Tells result (byte ∷ []) }
+fn after_nothing(erases_by_delete: bool, byte: u8) -> After
+    ensures { Tells erases_by_delete result (byte ∷ []) }
 {
     if byte == ESC {
         return After::Waits(Beginning::Escape);
     }
-    match control_key(byte) {
+    match control_key(erases_by_delete, byte) {
         Some(key) => After::Becomes(key),
         None => After::Breaks,
     }
 }
 
 /// The bytes that a byte of the table becomes.
-pub fn control_key(byte: u8) -> Option<&'static [u8]>
-    ensures key { IfSome result (λ key. (fate (byte ∷ []) ≡ fate_is.Ends) × (becomes_of (byte ∷ []) ≡ Some key.now) × BeginsByEscape key.now) }
+pub fn control_key(erases_by_delete: bool, byte: u8) -> Option<&'static [u8]>
+    ensures key { IfSome result (λ key. (fate (byte ∷ []) ≡ fate_is.Ends) × (becomes_of erases_by_delete (byte ∷ []) ≡ Some key.now) × BeginsByEscape key.now) }
     ensures none { result ≡ None → byte ≢ 0x1B → fate (byte ∷ []) ≡ fate_is.Breaks }
 {
     match byte {
         0x00 => Some(b"\x1b[72~"),
         0x03 => Some(b"\x1b[73~"),
+        0x08 if erases_by_delete => Some(b"\x1b[88~"),
+        0x08 | 0x7F => Some(b"\x1b[94~"),
+        0x0D => Some(b"\x1b[95~"),
         0x12 => Some(b"\x1b[71~"),
         0x16 => Some(b"\x1b[75~"),
         0x17 => Some(b"\x1b[70~"),
@@ -143,18 +102,18 @@ pub fn control_key(byte: u8) -> Option<&'static [u8]>
 }
 
 fn after_single_shift(byte: u8) -> After
-    ensures { Tells result (0x1B ∷ 0x4F ∷ byte ∷ []) }
+    ensures { (erases_by_delete : Bool) → Tells erases_by_delete result (0x1B ∷ 0x4F ∷ byte ∷ []) }
 {
     match byte {
-        b'A' => After::Becomes(b"\x1b[A"),
-        b'B' => After::Becomes(b"\x1b[B"),
+        b'A' => After::Becomes(b"\x1b[96~"),
+        b'B' => After::Becomes(b"\x1b[97~"),
         b'C' => After::Becomes(b"\x1b[C"),
         b'D' => After::Becomes(b"\x1b[D"),
         b'H' => After::Becomes(b"\x1b[H"),
         b'F' => After::Becomes(b"\x1b[F"),
         b'P' => After::Becomes(b"\x1b[80~"),
         b'Q' => After::Becomes(b"\x1b[9~"),
-        b'R' => After::Becomes(b"\x1b[70~"),
+        b'R' => After::Becomes(b"\x1b[92~"),
         b'c' => After::Becomes(b"\x1b[77~"),
         b'd' => After::Becomes(b"\x1b[76~"),
         b'p' => After::Digit(b'0'),
@@ -172,19 +131,22 @@ fn after_single_shift(byte: u8) -> After
 }
 
 fn after_csi(byte: u8) -> After
-    ensures { Tells result (0x1B ∷ 0x5B ∷ byte ∷ []) }
+    ensures { (erases_by_delete : Bool) → Tells erases_by_delete result (0x1B ∷ 0x5B ∷ byte ∷ []) }
 {
     match byte {
         b'1' => After::Waits(Beginning::One),
         b'2' => After::Waits(Beginning::Two),
+        b'3' => After::Waits(Beginning::Three),
         b'5' => After::Waits(Beginning::Five),
+        b'6' => After::Waits(Beginning::Six),
         b'7' => After::Waits(Beginning::Seven),
         b'8' => After::Waits(Beginning::Eight),
         b'[' => After::Waits(Beginning::Bracket),
-        b'a' => After::Becomes(b"\x1b[A"),
-        b'b' => After::Becomes(b"\x1b[B"),
+        b'A' | b'a' => After::Becomes(b"\x1b[96~"),
+        b'B' | b'b' => After::Becomes(b"\x1b[97~"),
         b'c' => After::Becomes(b"\x1b[C"),
         b'd' => After::Becomes(b"\x1b[D"),
+        b'M' => After::Becomes(b"\x1b[89~"),
         b'P' => After::Becomes(b"\x1b[3~"),
         _ => After::Breaks,
     }
@@ -192,11 +154,11 @@ fn after_csi(byte: u8) -> After
 
 /// After CSI 1;2
 fn after_shifted(byte: u8) -> After
-    ensures { Tells result (0x1B ∷ 0x5B ∷ 0x31 ∷ 0x3B ∷ 0x32 ∷ byte ∷ []) }
+    ensures { (erases_by_delete : Bool) → Tells erases_by_delete result (0x1B ∷ 0x5B ∷ 0x31 ∷ 0x3B ∷ 0x32 ∷ byte ∷ []) }
 {
     match byte {
-        b'A' => After::Becomes(b"\x1b[A"),
-        b'B' => After::Becomes(b"\x1b[B"),
+        b'A' => After::Becomes(b"\x1b[96~"),
+        b'B' => After::Becomes(b"\x1b[97~"),
         b'C' => After::Becomes(b"\x1b[C"),
         b'D' => After::Becomes(b"\x1b[D"),
         b'H' => After::Becomes(b"\x1b[H"),
@@ -207,7 +169,7 @@ fn after_shifted(byte: u8) -> After
 
 /// After CSI 1;5
 fn after_controlled(byte: u8) -> After
-    ensures { Tells result (0x1B ∷ 0x5B ∷ 0x31 ∷ 0x3B ∷ 0x35 ∷ byte ∷ []) }
+    ensures { (erases_by_delete : Bool) → Tells erases_by_delete result (0x1B ∷ 0x5B ∷ 0x31 ∷ 0x3B ∷ 0x35 ∷ byte ∷ []) }
 {
     match byte {
         b'C' => After::Becomes(b"\x1b[77~"),
@@ -218,37 +180,220 @@ fn after_controlled(byte: u8) -> After
     }
 }
 
+/// After ESC
+fn after_escape(byte: u8) -> After
+    ensures { (erases_by_delete : Bool) → Tells erases_by_delete result (0x1B ∷ byte ∷ []) }
+{
+    match byte {
+        b'O' => After::Waits(Beginning::SingleShift),
+        b'[' => After::Waits(Beginning::Csi),
+        0x08 | 0x7F => After::Becomes(b"\x1b[88~"),
+        _ => After::Breaks,
+    }
+}
+
+/// After CSI 1
+fn after_one(byte: u8) -> After
+    ensures { (erases_by_delete : Bool) → Tells erases_by_delete result (0x1B ∷ 0x5B ∷ 0x31 ∷ byte ∷ []) }
+{
+    match byte {
+        b'1' => After::Waits(Beginning::Eleven),
+        b'2' => After::Waits(Beginning::Twelve),
+        b'3' => After::Waits(Beginning::Thirteen),
+        b';' => After::Waits(Beginning::OneAnd),
+        _ => After::Breaks,
+    }
+}
+
+/// After CSI 11
+fn after_eleven(byte: u8) -> After
+    ensures { (erases_by_delete : Bool) → Tells erases_by_delete result (0x1B ∷ 0x5B ∷ 0x31 ∷ 0x31 ∷ byte ∷ []) }
+{
+    match byte {
+        b'~' => After::Becomes(b"\x1b[80~"),
+        _ => After::Breaks,
+    }
+}
+
+/// After CSI 12
+fn after_twelve(byte: u8) -> After
+    ensures { (erases_by_delete : Bool) → Tells erases_by_delete result (0x1B ∷ 0x5B ∷ 0x31 ∷ 0x32 ∷ byte ∷ []) }
+{
+    match byte {
+        b'~' => After::Becomes(b"\x1b[9~"),
+        _ => After::Breaks,
+    }
+}
+
+/// After CSI 13
+fn after_thirteen(byte: u8) -> After
+    ensures { (erases_by_delete : Bool) → Tells erases_by_delete result (0x1B ∷ 0x5B ∷ 0x31 ∷ 0x33 ∷ byte ∷ []) }
+{
+    match byte {
+        b'~' => After::Becomes(b"\x1b[92~"),
+        _ => After::Breaks,
+    }
+}
+
+/// After CSI 1;
+fn after_one_and(byte: u8) -> After
+    ensures { (erases_by_delete : Bool) → Tells erases_by_delete result (0x1B ∷ 0x5B ∷ 0x31 ∷ 0x3B ∷ byte ∷ []) }
+{
+    match byte {
+        b'2' => After::Waits(Beginning::Shifted),
+        b'5' => After::Waits(Beginning::Controlled),
+        _ => After::Breaks,
+    }
+}
+
+/// After CSI 2
+fn after_two(byte: u8) -> After
+    ensures { (erases_by_delete : Bool) → Tells erases_by_delete result (0x1B ∷ 0x5B ∷ 0x32 ∷ byte ∷ []) }
+{
+    match byte {
+        b'0' => After::Waits(Beginning::Twenty),
+        _ => After::Breaks,
+    }
+}
+
+/// After CSI 20
+fn after_twenty(byte: u8) -> After
+    ensures { (erases_by_delete : Bool) → Tells erases_by_delete result (0x1B ∷ 0x5B ∷ 0x32 ∷ 0x30 ∷ byte ∷ []) }
+{
+    match byte {
+        b'0' => After::Waits(Beginning::TwoHundred),
+        _ => After::Breaks,
+    }
+}
+
+/// After CSI 200
+fn after_two_hundred(byte: u8) -> After
+    ensures { (erases_by_delete : Bool) → Tells erases_by_delete result (0x1B ∷ 0x5B ∷ 0x32 ∷ 0x30 ∷ 0x30 ∷ byte ∷ []) }
+{
+    match byte {
+        b'~' => After::Pastes,
+        _ => After::Breaks,
+    }
+}
+
+/// After CSI 3
+fn after_three(byte: u8) -> After
+    ensures { (erases_by_delete : Bool) → Tells erases_by_delete result (0x1B ∷ 0x5B ∷ 0x33 ∷ byte ∷ []) }
+{
+    match byte {
+        b';' => After::Waits(Beginning::ThreeAnd),
+        b'^' => After::Becomes(b"\x1b[89~"),
+        _ => After::Breaks,
+    }
+}
+
+/// After CSI 3;
+fn after_three_and(byte: u8) -> After
+    ensures { (erases_by_delete : Bool) → Tells erases_by_delete result (0x1B ∷ 0x5B ∷ 0x33 ∷ 0x3B ∷ byte ∷ []) }
+{
+    match byte {
+        b'5' => After::Waits(Beginning::ThreeControlled),
+        _ => After::Breaks,
+    }
+}
+
+/// After CSI 3;5
+fn after_three_controlled(byte: u8) -> After
+    ensures { (erases_by_delete : Bool) → Tells erases_by_delete result (0x1B ∷ 0x5B ∷ 0x33 ∷ 0x3B ∷ 0x35 ∷ byte ∷ []) }
+{
+    match byte {
+        b'~' => After::Becomes(b"\x1b[89~"),
+        _ => After::Breaks,
+    }
+}
+
+/// After CSI 5
+fn after_five(byte: u8) -> After
+    ensures { (erases_by_delete : Bool) → Tells erases_by_delete result (0x1B ∷ 0x5B ∷ 0x35 ∷ byte ∷ []) }
+{
+    match byte {
+        b'~' => After::Becomes(b"\x1b[98~"),
+        b'C' => After::Becomes(b"\x1b[77~"),
+        b'D' => After::Becomes(b"\x1b[76~"),
+        _ => After::Breaks,
+    }
+}
+
+/// After CSI 6
+fn after_six(byte: u8) -> After
+    ensures { (erases_by_delete : Bool) → Tells erases_by_delete result (0x1B ∷ 0x5B ∷ 0x36 ∷ byte ∷ []) }
+{
+    match byte {
+        b'~' => After::Becomes(b"\x1b[99~"),
+        _ => After::Breaks,
+    }
+}
+
+/// After CSI 7
+fn after_seven(byte: u8) -> After
+    ensures { (erases_by_delete : Bool) → Tells erases_by_delete result (0x1B ∷ 0x5B ∷ 0x37 ∷ byte ∷ []) }
+{
+    match byte {
+        b'~' | b'$' => After::Becomes(b"\x1b[H"),
+        b'^' => After::Becomes(b"\x1b[78~"),
+        _ => After::Breaks,
+    }
+}
+
+/// After CSI 8
+fn after_eight(byte: u8) -> After
+    ensures { (erases_by_delete : Bool) → Tells erases_by_delete result (0x1B ∷ 0x5B ∷ 0x38 ∷ byte ∷ []) }
+{
+    match byte {
+        b'~' | b'$' => After::Becomes(b"\x1b[F"),
+        b'^' => After::Becomes(b"\x1b[79~"),
+        _ => After::Breaks,
+    }
+}
+
+/// After CSI [
+fn after_bracket(byte: u8) -> After
+    ensures { (erases_by_delete : Bool) → Tells erases_by_delete result (0x1B ∷ 0x5B ∷ 0x5B ∷ byte ∷ []) }
+{
+    match byte {
+        b'A' => After::Becomes(b"\x1b[80~"),
+        b'B' => After::Becomes(b"\x1b[9~"),
+        b'C' => After::Becomes(b"\x1b[92~"),
+        _ => After::Breaks,
+    }
+}
+
 /// The state after the waiting bytes and one more, within a paste.
-pub fn paste_after(waiting: Held, byte: u8) -> AfterInPaste
-    ensures { TellsInPaste result (held_back waiting ++ byte ∷ []) }
+pub fn paste_after(waiting: PasteTail, byte: u8) -> AfterInPaste
+    ensures { TellsInPaste result (tail_bytes waiting ++ byte ∷ []) }
 {
     match waiting {
-        Held::Nothing => match byte {
-            0xC2 => AfterInPaste::Waits(Held::Lead),
-            ESC => AfterInPaste::Waits(Held::Escape),
+        PasteTail::Nothing => match byte {
+            0xC2 => AfterInPaste::Waits(PasteTail::Lead),
+            ESC => AfterInPaste::Waits(PasteTail::Escape),
             _ => AfterInPaste::Breaks,
         },
-        Held::Lead => match byte {
+        PasteTail::Lead => match byte {
             0x80..=0x9F => AfterInPaste::Drops,
             _ => AfterInPaste::Breaks,
         },
-        Held::Escape => match byte {
-            b'[' => AfterInPaste::Waits(Held::Csi),
+        PasteTail::Escape => match byte {
+            b'[' => AfterInPaste::Waits(PasteTail::Csi),
             _ => AfterInPaste::Breaks,
         },
-        Held::Csi => match byte {
-            b'2' => AfterInPaste::Waits(Held::Two),
+        PasteTail::Csi => match byte {
+            b'2' => AfterInPaste::Waits(PasteTail::Two),
             _ => AfterInPaste::Breaks,
         },
-        Held::Two => match byte {
-            b'0' => AfterInPaste::Waits(Held::Twenty),
+        PasteTail::Two => match byte {
+            b'0' => AfterInPaste::Waits(PasteTail::Twenty),
             _ => AfterInPaste::Breaks,
         },
-        Held::Twenty => match byte {
-            b'1' => AfterInPaste::Waits(Held::TwoHundredOne),
+        PasteTail::Twenty => match byte {
+            b'1' => AfterInPaste::Waits(PasteTail::TwoHundredOne),
             _ => AfterInPaste::Breaks,
         },
-        Held::TwoHundredOne => match byte {
+        PasteTail::TwoHundredOne => match byte {
             b'~' => AfterInPaste::EndsPaste,
             _ => AfterInPaste::Breaks,
         },

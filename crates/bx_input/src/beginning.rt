@@ -1,7 +1,7 @@
 //! The beginnings of the table's sequences.
 
 ghost use Rattle.std.specs.Prelude.{◌≡◌, ◌∷◌, [], ◌++◌};
-ghost use Rattle.bx_input.specs.Held.{begun};
+ghost use Rattle.bx_input.specs.Models.{begun};
 
 /// The bytes that wait outside a paste.
 #[derive(Clone, Copy, PartialEq, Eq, Debug)]
@@ -27,6 +27,14 @@ pub enum Beginning {
     Twenty,
     /// CSI 200
     TwoHundred,
+    /// CSI 3
+    Three,
+    /// CSI 3;
+    ThreeAnd,
+    /// CSI 3;5
+    ThreeControlled,
+    /// CSI 6
+    Six,
     /// CSI 7
     Seven,
     /// CSI 8
@@ -59,6 +67,10 @@ impl Beginning {
             Beginning::Two => b"\x1b[2",
             Beginning::Twenty => b"\x1b[20",
             Beginning::TwoHundred => b"\x1b[200",
+            Beginning::Three => b"\x1b[3",
+            Beginning::ThreeAnd => b"\x1b[3;",
+            Beginning::ThreeControlled => b"\x1b[3;5",
+            Beginning::Six => b"\x1b[6",
             Beginning::Seven => b"\x1b[7",
             Beginning::Eight => b"\x1b[8",
             Beginning::Bracket => b"\x1b[[",

@@ -2,35 +2,38 @@
 
 ghost use Rattle.std.specs.Prelude.{◌≡◌};
 ghost use Rattle.bx_input.specs.Filter as spec;
-ghost use Rattle.bx_input.specs.Held.{bytes_of};
+ghost use Rattle.bx_input.specs.Filter.{filtering};
+ghost use Rattle.bx_input.specs.Models.{bytes_of};
 
 use crate::beginning::Beginning;
 use crate::filter_state::FilterState;
 use crate::output::Output;
-use crate::step::{outside, within};
+use crate::step::step;
 use std::marker::Model;
 
 /// A filter between a terminal and the editor.
 #[derive(Drop, Debug)]
 pub struct Filter {
+    erases_by_delete: bool,
     state: FilterState,
 }
 
 impl Model for Filter {
-    ghost use Rattle.bx_input.specs.Filter.{State};
-    ghost use Rattle.bx_input.specs.Held.{state_of};
+    ghost use Rattle.bx_input.specs.Filter.{Filtering, filtering};
+    ghost use Rattle.bx_input.specs.Models.{state_of};
 
-    ghost Value = { State };
+    ghost Value = { Filtering };
 
-    ghost view = { λ f. state_of f.state };
+    ghost view = { λ f. filtering f.erases_by_delete (state_of f.state) };
 }
 
 impl Filter {
-    /// A filter at the start of its input.
-    pub fn new() -> Filter
-        ensures { result ≡ spec.start }
+    /// A filter at the start of its input. `erases_by_delete` says whether the terminal's own erase character is DELETE, 7F.
+    pub fn new(erases_by_delete: bool) -> Filter
+        ensures { result ≡ filtering erases_by_delete spec.start }
     {
         Filter {
+            erases_by_delete,
             state: FilterState::Outside {
                 waiting: Beginning::Nothing,
                 is_open: false,
@@ -40,30 +43,24 @@ impl Filter {
 
     /// Reads the next byte and returns its output.
     pub fn feed(&mut self, byte: u8) -> Output
-        ensures state { self.new ≡ (spec.step self.old byte).state }
-        ensures output { bytes_of result ≡ (spec.step self.old byte).output }
+        ensures state { self.new ≡ filtering self.old.erases_by_delete (spec.step self.old.erases_by_delete self.old.state byte).state }
+        ensures output { bytes_of result ≡ (spec.step self.old.erases_by_delete self.old.state byte).output }
     {
-        let (state, output) = match self.state {
-            FilterState::Outside { waiting, is_open } => outside(waiting, is_open, byte),
-            FilterState::Within {
-                waiting,
-                after_return,
-            } => within(waiting, after_return, byte),
-        };
+        let (state, output) = step(self.erases_by_delete, self.state, byte);
         self.state = state;
         output
     }
 
     /// Ends the input: returns the output of the bytes that still wait, and resets the filter.
     pub fn finish(&mut self) -> &'static [u8]
-        ensures state { self.new ≡ spec.start }
-        ensures output { result.now ≡ spec.at_end self.old }
+        ensures state { self.new ≡ filtering self.old.erases_by_delete spec.start }
+        ensures output { result.now ≡ spec.at_end self.old.state }
     {
         let rest = match self.state {
             FilterState::Outside { waiting, .. } => waiting.bytes(),
             FilterState::Within { waiting, .. } => waiting.text(),
         };
-        *self = Filter::new();
+        *self = Filter::new(self.erases_by_delete);
         rest
     }
 
@@ -71,6 +68,9 @@ impl Filter {
     pub(crate) fn copied(&self) -> Filter
         ensures { result ≡ self.now }
     {
-        Filter { state: self.state }
+        Filter {
+            erases_by_delete: self.erases_by_delete,
+            state: self.state,
+        }
     }
 }

@@ -1,5 +1,6 @@
-//! Laws of the filter, for any input. Each function's contract is a law; its body is empty.
+//! Laws of the filter, for any input and either erase character of the terminal. Each function's contract is a law; its body is empty.
 
+ghost use Rattle.std.specs.Prelude.{Bool};
 ghost use Rattle.std.specs.List.{AllByRecursion};
 ghost use Rattle.bx_input.specs.Laws.{AddsKey, BecomesRow, ComesInPieces, GrowsByTwoThirds, GrowsFiveTimes, HasKey, OthersPass, PastesAreClean, WaitsForFive};
 ghost use Rattle.bx_input.specs.Laws.{PastesInsert, PastesKeepCharacters, PastesText};
@@ -7,43 +8,43 @@ ghost use Rattle.bx_input.specs.Table.{rows};
 
 /// However input is cut, its output is the same.
 pub fn in_any_pieces()
-    ensures { ComesInPieces }
+    ensures { (erases_by_delete : Bool) → ComesInPieces erases_by_delete }
 {}
 
 /// At most five bytes wait.
 pub fn waits_for_five()
-    ensures { WaitsForFive }
+    ensures { (erases_by_delete : Bool) → WaitsForFive erases_by_delete }
 {}
 
 /// The output of a paste has no control byte except TAB and LF.
 pub fn pastes_are_clean()
-    ensures { PastesAreClean }
+    ensures { (erases_by_delete : Bool) → PastesAreClean erases_by_delete }
 {}
 
-/// A sequence of the table becomes the bytes of its row, except within a paste.
+/// A sequence of the table becomes the bytes of its row, except within a paste and behind an ESC of a longer row.
 pub fn rows_become()
-    ensures { AllByRecursion BecomesRow rows }
+    ensures { (erases_by_delete : Bool) → AllByRecursion (BecomesRow erases_by_delete) (rows erases_by_delete) }
 {}
 
 /// Input with no sequence of the table and no paste goes out unchanged.
 pub fn others_pass()
-    ensures { OthersPass }
+    ensures { (erases_by_delete : Bool) → OthersPass erases_by_delete }
 {}
 
 /// Output is at most five times as long as the input, and at most two thirds longer if no key comes as a single byte.
 pub fn grows_five_times()
-    ensures five_times { GrowsFiveTimes }
-    ensures two_thirds { GrowsByTwoThirds }
+    ensures five_times { (erases_by_delete : Bool) → GrowsFiveTimes erases_by_delete }
+    ensures two_thirds { (erases_by_delete : Bool) → GrowsByTwoThirds erases_by_delete }
 {}
 
 /// The editor decodes the bytes of each row as the key of the row.
 pub fn rows_have_keys()
-    ensures { AllByRecursion HasKey rows }
+    ensures { (erases_by_delete : Bool) → AllByRecursion HasKey (rows erases_by_delete) }
 {}
 
 /// A paste becomes its text, up to the first end of a paste.
 pub fn pastes_become_text()
-    ensures { PastesText }
+    ensures { (erases_by_delete : Bool) → PastesText erases_by_delete }
 {}
 
 /// The text of a paste in UTF-8 has the characters of the paste, except control characters other than TAB and new lines.
@@ -51,12 +52,13 @@ pub fn pastes_keep_characters()
     ensures { PastesKeepCharacters }
 {}
 
-/// After any input that ends outside a paste, a sequence of the table gives the editor the key of its row, and no other.
+/// After any input that ends outside a paste, a sequence of the table gives the editor one key and no other: that of its row, or of
+/// the longer row that an ESC before it makes.
 pub fn rows_add_keys()
-    ensures { AllByRecursion AddsKey rows }
+    ensures { (erases_by_delete : Bool) → AllByRecursion (AddsKey erases_by_delete) (rows erases_by_delete) }
 {}
 
 /// After any input that ends outside a paste, a paste only inserts: the characters of its text in order, if that is UTF-8.
 pub fn pastes_insert()
-    ensures { PastesInsert }
+    ensures { (erases_by_delete : Bool) → PastesInsert erases_by_delete }
 {}

@@ -1,9 +1,10 @@
 //! A filter between a terminal and the editor: turns the sequences that terminals send into those that the editor reads.
 //!
-//! Terminals send bytes that the editor has no key for: arrows in application mode, the Home and End of rxvt, keys with Shift
-//! or CTRL, the Delete of st, F1 to F3, the keypad's digits, and pastes. `specs/Table.antt` has the table. All else passes
-//! unchanged, broken sequences too. A paste becomes text: of its control bytes only TAB and LF are left, so it can neither save
-//! nor quit nor move, nor set a mark, cut or search.
+//! Terminals send bytes that the editor has no key for, or has an older one for than the key that they come from: arrows,
+//! Page Up and Page Down, the Home and End of rxvt, keys with Shift, ALT or CTRL, the keys that erase, Enter, the Delete of st,
+//! F1 to F3, the keypad's digits, and pastes. `specs/Table.antt` has the table. All else passes unchanged, broken sequences too.
+//! A paste becomes text: of its control bytes only TAB and LF are left, so it can neither save nor quit nor move nor erase, nor
+//! set a mark, cut or search.
 #![tactic(auto)]
 
 mod after;
@@ -11,10 +12,10 @@ mod beginning;
 mod fault;
 mod filter;
 mod filter_state;
-mod held;
 mod laws;
 mod output;
 mod over_reader;
+mod paste_tail;
 mod pipe;
 mod running;
 mod step;

@@ -14,40 +14,43 @@ use std::io::{Read, Write};
 const READS: u64 = 1_000_000_000_000;
 
 /// Filters all of the reader's input to its end: reads at most 256 bytes at a time, and writes their output in one write.
+/// `erases_by_delete` says whether the terminal's own erase character is DELETE, 7F.
 ///
 /// Errors: `ReadFault`, and `ReadLimit` after 1,000,000,000,000 reads: the output of all bytes read was written. `WriteFault`
 /// and `OutOfMemory`: a prefix of it was written, which lacks at most the output of the last read. The first fault ends the
 /// run.
 pub fn run<R: Read, W: Write>(
     alloc: Global,
+    erases_by_delete: bool,
     reader: &mut R,
     writer: &mut W,
 ) -> Result<(), FilterFault>
     ensures filtered { OnOk result ((bytes : List ℕ)
-        × IsFiltered (R.remaining reader.old) (R.remaining reader.new) (W.contents writer.old) (W.contents writer.new) bytes) }
+        × IsFiltered erases_by_delete (R.remaining reader.old) (R.remaining reader.new) (W.contents writer.old) (W.contents writer.new) bytes) }
     ensures front { OnErr result ((bytes : List ℕ)
-        × IsBrokenOff (R.remaining reader.old) (R.remaining reader.new) (W.contents writer.old) (W.contents writer.new) bytes) }
+        × IsBrokenOff erases_by_delete (R.remaining reader.old) (R.remaining reader.new) (W.contents writer.old) (W.contents writer.new) bytes) }
     ensures whole { IsErrOf result FilterFault.ReadFault ⊎ IsErrOf result FilterFault.ReadLimit → (bytes : List ℕ)
-        × HasPassed (R.remaining reader.old) (R.remaining reader.new) (W.contents writer.old) (W.contents writer.new) bytes (spec.run spec.start bytes).state }
+        × HasPassed erases_by_delete (R.remaining reader.old) (R.remaining reader.new) (W.contents writer.old) (W.contents writer.new) bytes (spec.run erases_by_delete spec.start bytes).state }
 {
     let mut pipe = Wired { reader, writer };
-    run_wired(alloc, &mut pipe)
+    run_wired(alloc, erases_by_delete, &mut pipe)
 }
 
 /// Filters all of the reader's input.
 fn run_wired<R: Read, W: Write>(
     alloc: Global,
+    erases_by_delete: bool,
     pipe: &mut Wired<'_, '_, R, W>,
 ) -> Result<(), FilterFault>
     ensures filtered { OnOk result ((bytes : List ℕ)
-        × IsFiltered (R.remaining pipe.old.reader.now) (R.remaining pipe.new.reader.now) (W.contents pipe.old.writer.now) (W.contents pipe.new.writer.now) bytes) }
+        × IsFiltered erases_by_delete (R.remaining pipe.old.reader.now) (R.remaining pipe.new.reader.now) (W.contents pipe.old.writer.now) (W.contents pipe.new.writer.now) bytes) }
     ensures front { OnErr result ((bytes : List ℕ)
-        × IsBrokenOff (R.remaining pipe.old.reader.now) (R.remaining pipe.new.reader.now) (W.contents pipe.old.writer.now) (W.contents pipe.new.writer.now) bytes) }
+        × IsBrokenOff erases_by_delete (R.remaining pipe.old.reader.now) (R.remaining pipe.new.reader.now) (W.contents pipe.old.writer.now) (W.contents pipe.new.writer.now) bytes) }
     ensures whole { IsErrOf result FilterFault.ReadFault ⊎ IsErrOf result FilterFault.ReadLimit → (bytes : List ℕ)
-        × HasPassed (R.remaining pipe.old.reader.now) (R.remaining pipe.new.reader.now) (W.contents pipe.old.writer.now) (W.contents pipe.new.writer.now) bytes
-        (spec.run spec.start bytes).state }
+        × HasPassed erases_by_delete (R.remaining pipe.old.reader.now) (R.remaining pipe.new.reader.now) (W.contents pipe.old.writer.now) (W.contents pipe.new.writer.now) bytes
+        (spec.run erases_by_delete spec.start bytes).state }
     ensures same_reader { pipe.new.reader.ghost_name ≡ pipe.old.reader.ghost_name }
     ensures same_writer { pipe.new.writer.ghost_name ≡ pipe.old.writer.ghost_name }
 {
-    run_pipe(READS, alloc, pipe)
+    run_pipe(READS, alloc, erases_by_delete, pipe)
 }

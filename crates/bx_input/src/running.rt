@@ -2,7 +2,8 @@
 
 ghost use Rattle.std.specs.Prelude.{◌≡◌, ◌++◌, List, OnOk, OnErr};
 ghost use Rattle.bx_input.specs.Filter as spec;
-ghost use Rattle.bx_input.specs.Held.{bytes_of};
+ghost use Rattle.bx_input.specs.Filter.{filtering};
+ghost use Rattle.bx_input.specs.Models.{bytes_of};
 ghost use Rattle.bx_input.specs.Log.{Action, DidAll, HasLogged, IsSending};
 
 use crate::fault::FilterFault;
@@ -14,8 +15,8 @@ use std::alloc::{AllocError, Global};
 impl Filter {
     /// Reads the bytes and appends their output. Running out of memory is an error and leaves the filter as it was.
     pub fn feed_all(&mut self, bytes: &[u8], out: &mut Vec<u8>) -> Result<(), AllocError>
-        ensures state { OnOk result (self.new ≡ (spec.run self.old bytes.now).state) }
-        ensures output { OnOk result (out.new.items ≡ out.old.items ++ (spec.run self.old bytes.now).output) }
+        ensures state { OnOk result (self.new ≡ filtering self.old.erases_by_delete (spec.run self.old.erases_by_delete self.old.state bytes.now).state) }
+        ensures output { OnOk result (out.new.items ≡ out.old.items ++ (spec.run self.old.erases_by_delete self.old.state bytes.now).output) }
         ensures err { OnErr result (self.new ≡ self.old) }
     {
         let mut filter = self.copied();
@@ -66,9 +67,9 @@ fn pass<P: Pipe>(
     bytes: &[u8],
     pipe: &mut P,
 ) -> Result<(), FilterFault>
-    ensures state { OnOk result (filter.new ≡ (spec.run filter.old bytes.now).state) }
+    ensures state { OnOk result (filter.new ≡ filtering filter.old.erases_by_delete (spec.run filter.old.erases_by_delete filter.old.state bytes.now).state) }
     ensures sent { (actions : List Action) × DidAll P.did pipe.old actions pipe.new
-        × IsSending result (spec.run filter.old bytes.now).output actions }
+        × IsSending result (spec.run filter.old.erases_by_delete filter.old.state bytes.now).output actions }
 {
     let mut out = Vec::new(alloc);
     match filter.feed_all(bytes, &mut out) {
@@ -82,10 +83,15 @@ fn pass<P: Pipe>(
 ///
 /// Errors: `ReadFault`, and `ReadLimit` after `limit` reads that each gave a byte: the output of all bytes read was written.
 /// `WriteFault`: a prefix of the output of the last read was written; `OutOfMemory`: nothing of it. The first fault ends the run.
-pub fn run_pipe<P: Pipe>(limit: u64, alloc: Global, pipe: &mut P) -> Result<(), FilterFault>
-    ensures logged { HasLogged P.did limit result pipe.old pipe.new }
+pub fn run_pipe<P: Pipe>(
+    limit: u64,
+    alloc: Global,
+    erases_by_delete: bool,
+    pipe: &mut P,
+) -> Result<(), FilterFault>
+    ensures logged { HasLogged erases_by_delete P.did limit result pipe.old pipe.new }
 {
-    let mut filter = Filter::new();
+    let mut filter = Filter::new(erases_by_delete);
     let mut buffer = [0; 256];
     'reads: for read in 0..limit {
         let Ok(count) = pipe.read(&mut buffer) else {

@@ -2,15 +2,16 @@
 
 ghost use Rattle.std.specs.Prelude.{◌≡◌, ◌≢◌, false, ◌∷◌, [], ◌++◌, Some, option_to_list};
 ghost use Rattle.bx_input.specs.Filter as spec;
-ghost use Rattle.bx_input.specs.Filter.{apart_from, broken, fresh_in_paste, with_front};
-ghost use Rattle.bx_input.specs.Held.{begun, held_back, bytes_of, state_of, Goes};
+ghost use Rattle.bx_input.specs.Filter.{apart_from, broken, fresh_in_paste, paste_step_by, with_front};
+ghost use Rattle.bx_input.specs.Models.{begun, bytes_of, state_of, Goes};
+ghost use Rattle.bx_input.specs.PasteTail.{tail_bytes};
 ghost use Rattle.bx_input.specs.Paste.{pasted_byte, pasted_part, paste_fate};
 
 use crate::after::{After, AfterInPaste, ESC, control_key, paste_after, sequence_after};
 use crate::beginning::Beginning;
 use crate::filter_state::FilterState;
-use crate::held::Held;
 use crate::output::Output;
+use crate::paste_tail::PasteTail;
 
 const NOTHING: Output = Output {
     before: b"",
@@ -23,11 +24,31 @@ const OUTSIDE: FilterState = FilterState::Outside {
     is_open: false,
 };
 
-/// Reads a byte outside a paste.
-pub fn outside(waiting: Beginning, is_open: bool, byte: u8) -> (FilterState, Output)
-    ensures { Goes result (spec.step (spec.Outside (begun waiting) is_open) byte) }
+/// Reads a byte.
+pub fn step(erases_by_delete: bool, state: FilterState, byte: u8) -> (FilterState, Output)
+    ensures { Goes result (spec.step erases_by_delete (state_of state) byte) }
 {
-    match sequence_after(waiting, byte) {
+    match state {
+        FilterState::Outside { waiting, is_open } => {
+            outside(erases_by_delete, waiting, is_open, byte)
+        }
+        FilterState::Within {
+            waiting,
+            after_return,
+        } => within(waiting, after_return, byte),
+    }
+}
+
+/// Reads a byte outside a paste.
+fn outside(
+    erases_by_delete: bool,
+    waiting: Beginning,
+    is_open: bool,
+    byte: u8,
+) -> (FilterState, Output)
+    ensures { Goes result (spec.step erases_by_delete (spec.Outside (begun waiting) is_open) byte) }
+{
+    match sequence_after(erases_by_delete, waiting, byte) {
         After::Waits(waiting) => (FilterState::Outside { waiting, is_open }, NOTHING),
         After::Becomes(bytes) => (
             OUTSIDE,
@@ -39,7 +60,7 @@ pub fn outside(waiting: Beginning, is_open: bool, byte: u8) -> (FilterState, Out
         ),
         After::Digit(digit) => (OUTSIDE, apart(is_open, Some(digit))),
         After::Pastes => (fresh_paste(false), apart(is_open, None)),
-        After::Breaks => broken_off(waiting, is_open, byte),
+        After::Breaks => broken_off(erases_by_delete, waiting, is_open, byte),
     }
 }
 
@@ -52,8 +73,13 @@ fn apart(is_open: bool, byte: Option<u8>) -> Output
 }
 
 /// Reads a byte that does not continue the waiting bytes' sequence.
-fn broken_off(waiting: Beginning, is_open: bool, byte: u8) -> (FilterState, Output)
-    ensures { Goes result (broken (begun waiting) is_open byte) }
+fn broken_off(
+    erases_by_delete: bool,
+    waiting: Beginning,
+    is_open: bool,
+    byte: u8,
+) -> (FilterState, Output)
+    ensures { Goes result (broken erases_by_delete (begun waiting) is_open byte) }
 {
     let was_open = is_open || waiting != Beginning::Nothing;
     let before = waiting.bytes();
@@ -64,7 +90,7 @@ fn broken_off(waiting: Beginning, is_open: bool, byte: u8) -> (FilterState, Outp
         };
         return (state, output(before, None));
     }
-    match control_key(byte) {
+    match control_key(erases_by_delete, byte) {
         Some(key) => (
             OUTSIDE,
             Output {
@@ -98,14 +124,14 @@ fn fresh_paste(after_return: bool) -> FilterState
     ensures { state_of result ≡ spec.Within [] after_return }
 {
     FilterState::Within {
-        waiting: Held::Nothing,
+        waiting: PasteTail::Nothing,
         after_return,
     }
 }
 
 /// Reads a byte within a paste.
-pub fn within(waiting: Held, after_return: bool, byte: u8) -> (FilterState, Output)
-    ensures { Goes result (spec.step (spec.Within (held_back waiting) after_return) byte) }
+fn within(waiting: PasteTail, after_return: bool, byte: u8) -> (FilterState, Output)
+    ensures { Goes result (paste_step_by (paste_fate (tail_bytes waiting ++ byte ∷ [])) (tail_bytes waiting) after_return byte) }
 {
     match paste_after(waiting, byte) {
         AfterInPaste::Waits(waiting) => (waits(waiting), NOTHING),
@@ -115,8 +141,8 @@ pub fn within(waiting: Held, after_return: bool, byte: u8) -> (FilterState, Outp
     }
 }
 
-fn waits(waiting: Held) -> FilterState
-    ensures { state_of result ≡ spec.Within (held_back waiting) false }
+fn waits(waiting: PasteTail) -> FilterState
+    ensures { state_of result ≡ spec.Within (tail_bytes waiting) false }
 {
     FilterState::Within {
         waiting,
@@ -125,12 +151,12 @@ fn waits(waiting: Held) -> FilterState
 }
 
 /// Reads a byte within a paste that does not continue the waiting bytes' sequence.
-fn broken_off_in_paste(waiting: Held, after_return: bool, byte: u8) -> (FilterState, Output)
-    ensures { Goes result (with_front (pasted_part (held_back waiting)) (fresh_in_paste (paste_fate (byte ∷ [])) after_return byte)) }
+fn broken_off_in_paste(waiting: PasteTail, after_return: bool, byte: u8) -> (FilterState, Output)
+    ensures { Goes result (with_front (pasted_part (tail_bytes waiting)) (fresh_in_paste (paste_fate (byte ∷ [])) after_return byte)) }
 {
     let before = waiting.text();
-    match paste_after(Held::Nothing, byte) {
-        AfterInPaste::Waits(held) => (waits(held), output(before, None)),
+    match paste_after(PasteTail::Nothing, byte) {
+        AfterInPaste::Waits(tail) => (waits(tail), output(before, None)),
         _ => {
             let byte_out = pasted(after_return, byte);
             (fresh_paste(byte == b'\r'), output(before, byte_out))

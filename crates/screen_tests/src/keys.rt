@@ -205,8 +205,24 @@ fn numbers_from_70_to_80_have_keys(rt: HostRuntime) -> Result<(), Fail> {
             (b"\x1B[72~\x1B[73~\x1B[74~\x1B[75~", "mark copy cut put"),
             (b"\x1B[76~\x1B[77~", "word_left word_right"),
             (b"\x1B[78~\x1B[79~\x1B[80~", "text_start text_end help"),
-            (b"\x1B[69~\x1B[81~\x1B[7~\x1B[070~", ""),
+            (b"\x1B[69~\x1B[7~\x1B[070~", ""),
             (b"\x1B[72;1~\x1B[72 ~\x1B[72^", ""),
+        ],
+    )
+}
+
+#[test]
+fn numbers_from_88_to_99_have_keys(rt: HostRuntime) -> Result<(), Fail> {
+    keys_are(
+        &rt,
+        rt.alloc(),
+        &[
+            (b"\x1B[88~\x1B[89~", "erase_word delete_word"),
+            (b"\x1B[92~\x1B[93~", "find_next cancel"),
+            (b"\x1B[94~\x1B[95~", "erase_point new_line"),
+            (b"\x1B[96~\x1B[97~", "line_up line_down"),
+            (b"\x1B[98~\x1B[99~", "page_back page_on"),
+            (b"\x1B[81~\x1B[87~\x1B[90~\x1B[91~\x1B[100~", ""),
         ],
     )
 }

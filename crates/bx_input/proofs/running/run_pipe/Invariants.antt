@@ -3,4 +3,4 @@ use Rattle.bx_input.proofs.Logged.{InTurns}
 use Rattle.bx_input.proofs.running.run_pipe.Given as goal
 
 abbrev pub invariant-reads : goal.invariant-reads
-invariant-reads g l = (turns : List (List ℕ)) × InTurns g.P.Pipe.did l.fn.pipe l.pipe turns l.filter × (length turns ≡ l.read)
+invariant-reads g l = (turns : List (List ℕ)) × InTurns l.fn.erases_by_delete g.P.Pipe.did l.fn.pipe l.pipe turns l.filter × (length turns ≡ l.read)

@@ -1,13 +1,13 @@
 use Rattle.std.proofs.Common.{◌∷◌, [], sym, ap, ◌∙◌, append-nil}
 use Rattle.bx_input.specs.Filter.{Step}
-use Rattle.bx_input.specs.Held.{begun}
+use Rattle.bx_input.specs.Models.{begun}
 use Rattle.bx_input.proofs.Rows.{row_goes, escape_apart}
 use Rattle.bx_input.proofs.step.outside.Goals as goal
 
 pub returns-in-Becomes : goal.returns-in-Becomes
 returns-in-Becomes c =
     let says = c.in-Becomes.ensures in
-    let goes = row_goes (begun c.args.waiting) c.args.is_open c.args.byte c.in-Becomes.bytes.now says.0 says.1 in (
+    let goes = row_goes c.args.erases_by_delete (begun c.args.waiting) c.args.is_open c.args.byte c.in-Becomes.bytes.now says.0 says.1 in (
       sym (ap (λ (s : Step). s.state) goes),
       append-nil c.in-Becomes.bytes.now
           ∙ sym (escape_apart c.args.is_open c.in-Becomes.bytes.now says.2)
@@ -17,5 +17,5 @@ returns-in-Becomes c =
 pub returns-in-Digit : goal.returns-in-Digit
 returns-in-Digit c =
     let says = c.in-Digit.ensures in
-    let goes = row_goes (begun c.args.waiting) c.args.is_open c.args.byte (c.in-Digit.digit ∷ []) says.0 says.1 in
+    let goes = row_goes c.args.erases_by_delete (begun c.args.waiting) c.args.is_open c.args.byte (c.in-Digit.digit ∷ []) says.0 says.1 in
     (sym (ap (λ (s : Step). s.state) goes), c.apart.ensures ∙ sym (ap (λ (s : Step). s.output) goes))

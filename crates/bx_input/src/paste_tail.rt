@@ -2,11 +2,11 @@
 
 ghost use Rattle.std.specs.Prelude.{◌≡◌};
 ghost use Rattle.bx_input.specs.Paste.{pasted_part};
-ghost use Rattle.bx_input.specs.Held.{held_back};
+ghost use Rattle.bx_input.specs.PasteTail.{tail_bytes};
 
 /// The beginnings of the paste's end, and of a control character of C1 in UTF-8.
 #[derive(Clone, Copy, PartialEq, Eq, Debug)]
-pub enum Held {
+pub enum PasteTail {
     Nothing,
     /// The byte C2.
     Lead,
@@ -22,18 +22,18 @@ pub enum Held {
     TwoHundredOne,
 }
 
-impl Held {
+impl PasteTail {
     /// These bytes as text, without ESC.
     pub fn text(self) -> &'static [u8]
-        ensures { result.now ≡ pasted_part (held_back self) }
+        ensures { result.now ≡ pasted_part (tail_bytes self) }
     {
         match self {
-            Held::Nothing | Held::Escape => b"",
-            Held::Lead => b"\xc2",
-            Held::Csi => b"[",
-            Held::Two => b"[2",
-            Held::Twenty => b"[20",
-            Held::TwoHundredOne => b"[201",
+            PasteTail::Nothing | PasteTail::Escape => b"",
+            PasteTail::Lead => b"\xc2",
+            PasteTail::Csi => b"[",
+            PasteTail::Two => b"[2",
+            PasteTail::Twenty => b"[20",
+            PasteTail::TwoHundredOne => b"[201",
         }
     }
 }

@@ -1,9 +1,10 @@
 -- The models of the filter's types.
-use Rattle.std.specs.Prelude.{◌≡◌, ◌≢◌, ℕ, true, false, slice_index, List, [], ◌∷◌, ◌++◌, codes, Option, Some, None, option_map, option_to_list}
+use Rattle.std.specs.Prelude.{◌≡◌, ◌≢◌, ℕ, Bool, true, false, slice_index, List, [], ◌∷◌, ◌++◌, codes, Option, Some, None, option_map, option_to_list}
 use Rattle.std.specs.Str.{bytes_eq}
 use Rattle.bx_bytes.specs.declared.fate.Fate.TheVariants.{Waits, Ends, Breaks}
 use Rattle.bx_input.specs.Table.{Row, csi, fate, row_of, paste_end}
 use Rattle.bx_input.specs.Paste.{paste_fate}
+use Rattle.bx_input.specs.PasteTail.{tail_bytes}
 use Rattle.bx_input.specs.Filter as spec
 use Rattle.bx_input.specs.Filter.{State, Step}
 use Rattle.bx_input.specs.declared.after.After.{After}
@@ -13,8 +14,6 @@ use Rattle.bx_input.specs.declared.after.AfterInPaste.TheVariants as after_in_pa
 use Rattle.bx_input.specs.declared.output.Output.{Output}
 use Rattle.bx_input.specs.declared.beginning.Beginning.{Beginning}
 use Rattle.bx_input.specs.declared.beginning.Beginning.TheVariants as beginning
-use Rattle.bx_input.specs.declared.held.Held.{Held}
-use Rattle.bx_input.specs.declared.held.Held.TheVariants as held
 use Rattle.bx_input.specs.declared.filter_state.FilterState.{FilterState}
 use Rattle.bx_input.specs.declared.filter_state.FilterState.TheVariants as state
 
@@ -37,43 +36,38 @@ begun beginning.Bracket = csi (codes "[")
 begun beginning.Eleven = csi (codes "11")
 begun beginning.Thirteen = csi (codes "13")
 begun beginning.Controlled = csi (codes "1;5")
+begun beginning.Three = csi (codes "3")
+begun beginning.ThreeAnd = csi (codes "3;")
+begun beginning.ThreeControlled = csi (codes "3;5")
 begun beginning.Five = csi (codes "5")
-
--- the bytes that wait within a paste
-abbrev pub held_back : Held → List ℕ
-held_back held.Nothing = []
-held_back held.Lead = 0xC2 ∷ []
-held_back held.Escape = 0x1B ∷ []
-held_back held.Csi = csi []
-held_back held.Two = csi (codes "2")
-held_back held.Twenty = csi (codes "20")
-held_back held.TwoHundredOne = csi (codes "201")
+begun beginning.Six = csi (codes "6")
 
 abbrev pub state_of : FilterState → State
 state_of (state.Outside waiting is_open) = spec.Outside (begun waiting) is_open
-state_of (state.Within waiting after_return) = spec.Within (held_back waiting) after_return
+state_of (state.Within waiting after_return) = spec.Within (tail_bytes waiting) after_return
 
 -- the bytes of an output
 abbrev pub bytes_of : Output → List ℕ
 bytes_of output = output.before.now ++ (output.key.now ++ option_to_list output.byte)
 
-abbrev pub becomes_of : List ℕ → Option (List ℕ)
-becomes_of read = option_map (λ (r : Row). r.becomes) (row_of read)
+abbrev pub becomes_of : Bool → List ℕ → Option (List ℕ)
+becomes_of erases_by_delete read = option_map (λ (r : Row). r.becomes) (row_of erases_by_delete read)
 
 abbrev pub BeginsByEscape : List ℕ → Type 0
 BeginsByEscape bs = slice_index bs 0 ≡ 0x1B
 
 -- `After` describes the bytes `read`: the ones that waited, and one more
-abbrev pub Tells : After → List ℕ → Type 0
-Tells (after.Waits beginning) read = (fate read ≡ Waits) × (begun beginning ≡ read)
-Tells (after.Becomes bytes) read = (fate read ≡ Ends) × (becomes_of read ≡ Some bytes.now) × BeginsByEscape bytes.now
-Tells (after.Digit digit) read = (fate read ≡ Ends) × (becomes_of read ≡ Some (digit ∷ [])) × (digit ≢ 0x1B)
-Tells after.Pastes read = (fate read ≡ Ends) × (row_of read ≡ None)
-Tells after.Breaks read = fate read ≡ Breaks
+abbrev pub Tells : Bool → After → List ℕ → Type 0
+Tells erases_by_delete (after.Waits beginning) read = (fate read ≡ Waits) × (begun beginning ≡ read)
+Tells erases_by_delete (after.Becomes bytes) read =
+    (fate read ≡ Ends) × (becomes_of erases_by_delete read ≡ Some bytes.now) × BeginsByEscape bytes.now
+Tells erases_by_delete (after.Digit digit) read = (fate read ≡ Ends) × (becomes_of erases_by_delete read ≡ Some (digit ∷ [])) × (digit ≢ 0x1B)
+Tells erases_by_delete after.Pastes read = (fate read ≡ Ends) × (row_of erases_by_delete read ≡ None)
+Tells erases_by_delete after.Breaks read = fate read ≡ Breaks
 
 -- the same within a paste
 abbrev pub TellsInPaste : AfterInPaste → List ℕ → Type 0
-TellsInPaste (after_in_paste.Waits held) read = (paste_fate read ≡ Waits) × (held_back held ≡ read)
+TellsInPaste (after_in_paste.Waits tail) read = (paste_fate read ≡ Waits) × (tail_bytes tail ≡ read)
 TellsInPaste after_in_paste.Drops read = (paste_fate read ≡ Ends) × (bytes_eq read paste_end ≡ false)
 TellsInPaste after_in_paste.EndsPaste read = (paste_fate read ≡ Ends) × (bytes_eq read paste_end ≡ true)
 TellsInPaste after_in_paste.Breaks read = paste_fate read ≡ Breaks
