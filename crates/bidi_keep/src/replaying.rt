@@ -87,8 +87,8 @@ fn bytes_of_file(around: Around<'_>, file: &str) -> Vec<u8> {
 }
 
 /// What FILE has, in the keeper's words.
-fn found_text(held: FileText) -> FoundText {
-    match held {
+fn found_text(content: FileText) -> FoundText {
+    match content {
         FileText::Same => FoundText::Same,
         FileText::Known => FoundText::Known,
         FileText::Foreign => FoundText::Foreign,

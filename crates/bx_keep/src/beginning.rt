@@ -151,11 +151,11 @@ impl Begun {
     }
 
     /// Notes in the session that its saves are written into FILE itself. Whether that can be.
-    fn note_place(&self, around: Around<'_>, edited: &Edited) -> bool {
+    fn note_in_place(&self, around: Around<'_>, edited: &Edited) -> bool {
         let path = edited.path().as_bytes();
         match &self.kept {
             Some(kept) if !self.is_waiting => {
-                kept.session.put(around.rt, Part::Place, path).is_ok()
+                kept.session.put(around.rt, Part::InPlace, path).is_ok()
             }
             _ => false,
         }
@@ -176,11 +176,11 @@ impl Begun {
             return Ok(());
         };
         let alloc = around.alloc();
-        if self.note_place(around, edited) {
+        if self.note_in_place(around, edited) {
             self.is_in_place = true;
         } else {
             self.give_up(around);
-            self.is_itself = is_forced && reason != Reason::Held;
+            self.is_itself = is_forced && reason != Reason::Protected;
         }
         if self.is_in_place || self.is_itself {
             let (file, told) = (Shown(edited.file()), reason.told());

@@ -41,16 +41,16 @@ struct AsRead<'a> {
     rt: &'a HostRuntime,
     path: &'a str,
     /// FILE, opened before the program started: a save that replaces FILE leaves its bytes in it.
-    held: Option<&'a File>,
+    handle: Option<&'a File>,
     look: Look,
 }
 
 impl AsRead<'_> {
-    /// The file that is held, if that is what the program read, else the one at FILE's path.
+    /// The file that was opened early, if that is what the program read, else the one at FILE's path.
     fn open(&self) -> io::Result<File> {
-        if let Some(held) = self.held {
-            if Look::of(&held.metadata()?) == self.look {
-                return held.try_clone();
+        if let Some(handle) = self.handle {
+            if Look::of(&handle.metadata()?) == self.look {
+                return handle.try_clone();
             }
         }
         open_plain(self.rt, self.path)
@@ -142,19 +142,19 @@ fn copy(
 }
 
 /// Opens FILE before the program starts, whose saves may replace it. None where the session has its text, or FILE cannot be read.
-pub fn hold(around: Around<'_>, edited: &Edited, begun: &Begun) -> Option<File> {
+pub fn open_early(around: Around<'_>, edited: &Edited, begun: &Begun) -> Option<File> {
     if begun.is_resumed {
         return None;
     }
     open_plain(around.rt, edited.path()).ok()
 }
 
-/// Keeps the text that the program read, as it told. FILE was held since before.
+/// Keeps the text that the program read, as it told. `handle` is what `open_early` gave.
 pub fn keep_text(
     around: Around<'_>,
     edited: &Edited,
     begun: &Begun,
-    held: Option<&File>,
+    handle: Option<&File>,
     look: Option<Look>,
 ) -> Text {
     let read = match look {
@@ -162,7 +162,7 @@ pub fn keep_text(
         Some(look) if !edited.is_closed => Some(AsRead {
             rt: around.rt,
             path: edited.path(),
-            held,
+            handle,
             look,
         }),
         _ => None,

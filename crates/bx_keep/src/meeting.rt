@@ -99,7 +99,7 @@ fn ask_what_to_do<H: Host, P: Replayer>(
     tell(host, alloc, line.as_str())?;
     let outcome = match ask_choice(host, alloc)? {
         Choice::Recover => taking.take(host, session)?,
-        Choice::Delete if session.drop_unless_held(around.rt) => Outcome::Opened,
+        Choice::Delete if session.drop_unless_locked(around.rt) => Outcome::Opened,
         Choice::Delete => Outcome::Missed,
         Choice::Later => Outcome::Opened,
     };

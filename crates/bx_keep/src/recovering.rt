@@ -238,7 +238,7 @@ fn store_session<H: Host, P: Replayer>(
         Ok(lock) => Some(lock),
         // a lock cannot be taken on a disk that is read-only, where no editor can run either
         Err(LockFault::Io(_)) => None,
-        Err(LockFault::Held | LockFault::Gone) => {
+        Err(LockFault::Locked | LockFault::Gone) => {
             let cause = "another start of the editor has that session by now";
             return Err(Stop::fault(alloc, cause));
         }

@@ -4,7 +4,7 @@ use crate::around::Around;
 use crate::beginning::Begun;
 use crate::checking::Edited;
 use crate::fault::Ended;
-use crate::keeping::{Text, fill, hold, keep_text};
+use crate::keeping::{Text, fill, keep_text, open_early};
 use crate::program_word::{ProgramWord, read_program_word};
 use crate::starting::{LOST, UNKEPT, title_of};
 use crate::stop::Stop;
@@ -27,7 +27,7 @@ pub struct Running<'a> {
     /// The text as it was opened.
     pub text: Text,
     /// FILE, opened before the program started; None once the session has its text.
-    held: Option<File>,
+    handle: Option<File>,
     /// FILE as the program read it; None if it was not there.
     pub look: Option<Look>,
     /// Why the program ended, as it told.
@@ -86,13 +86,13 @@ impl<'a> Running<'a> {
     pub fn new(around: Around<'a>, edited: &'a Edited, begun: Begun) -> Self {
         let trouble = first_trouble(&begun);
         let text = first_text(&begun);
-        let held = hold(around, edited, &begun);
+        let handle = open_early(around, edited, &begun);
         Running {
             around,
             edited,
             begun,
             text,
-            held,
+            handle,
             look: None,
             ended: None,
             is_journal_lost: false,
@@ -111,15 +111,15 @@ impl<'a> Running<'a> {
     /// Keeps the text that the program read, unless the session has its own.
     fn take_look(&mut self, look: Option<Look>) {
         self.look = look;
-        let held = self.held.take();
+        let handle = self.handle.take();
         if !self.begun.is_resumed {
-            self.text = keep_text(self.around, self.edited, &self.begun, held.as_ref(), look);
+            self.text = keep_text(self.around, self.edited, &self.begun, handle.as_ref(), look);
         }
     }
 
     /// Notes that FILE was changed while the program read it, so that it cannot be copied.
     fn lose_text(&mut self) {
-        self.held = None;
+        self.handle = None;
         if !self.begun.is_resumed {
             self.text = Text::Lost;
         }

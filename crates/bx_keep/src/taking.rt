@@ -102,7 +102,7 @@ impl<P: Replayer> Taking<'_, P> {
         let around = self.around;
         let lock = match session.lock(around.rt, Part::Path) {
             Ok(lock) => lock,
-            Err(LockFault::Held | LockFault::Gone) => return Ok(Outcome::Missed),
+            Err(LockFault::Locked | LockFault::Gone) => return Ok(Outcome::Missed),
             Err(LockFault::Io(error)) => return Err(self.unwritten(error.kind())?),
         };
         self.mend(host, &session)?;
@@ -187,7 +187,7 @@ impl<P: Replayer> Taking<'_, P> {
             }
             None => {}
         }
-        for part in [Part::Dropped, Part::Snapshot, Part::Cut, Part::Place] {
+        for part in [Part::Dropped, Part::Snapshot, Part::Cut, Part::InPlace] {
             self.written(session.erase(around.rt, part))?;
         }
         let process = around.process()?;

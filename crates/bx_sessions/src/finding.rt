@@ -74,7 +74,7 @@ impl Found {
             State::Unfinished => self.unfinished = Some(session),
             State::Empty => {
                 // one that another start holds by now stays
-                let _ = session.drop_unless_held(rt);
+                let _ = session.drop_unless_locked(rt);
             }
         }
     }

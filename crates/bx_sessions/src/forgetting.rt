@@ -57,7 +57,7 @@ pub fn forget_dropped(rt: &HostRuntime, sessions: &Sessions, except: &Session) -
     for session in sessions.all(rt)? {
         if session.path() != except.path() && session.has(rt, Part::Dropped) {
             // one that another start holds by now stays
-            let _ = session.drop_unless_held(rt);
+            let _ = session.drop_unless_locked(rt);
         }
     }
     Ok(())
@@ -81,7 +81,7 @@ fn forget_one(rt: &HostRuntime, session: &Session, state: State) -> Option<Forgo
         changed: session.changed(rt).ok(),
         was_dropped: state == State::Dropped,
     };
-    if session.drop_unless_held(rt) && state != State::Empty {
+    if session.drop_unless_locked(rt) && state != State::Empty {
         Some(forgotten)
     } else {
         None

@@ -17,7 +17,7 @@ const TRIES: u32 = 20;
 
 const PAUSE: u64 = 50;
 
-/// A lock on a session, held until it is dropped.
+/// A lock on a session, which is locked until this is dropped.
 #[derive(Drop)]
 pub struct Lock {
     file: File,
@@ -28,7 +28,7 @@ pub struct Lock {
 pub enum LockFault {
     /// An editor has it, for a second at least.
     #[error("another editor has the session")]
-    Held,
+    Locked,
     /// It was removed meanwhile, or is just being made.
     #[error("the session is gone")]
     Gone,
@@ -64,7 +64,7 @@ fn lock_file(rt: &HostRuntime, file: &File) -> Result<(), LockFault> {
             },
         }
     }
-    Err(LockFault::Held)
+    Err(LockFault::Locked)
 }
 
 impl Lock {
@@ -79,7 +79,7 @@ impl Lock {
 impl Session {
     /// Locks the session, if it has this part.
     ///
-    /// Errors: `Held` where an editor has it for a second; `Gone` where the part or the folder is not there; `Io`.
+    /// Errors: `Locked` where an editor has it for a second; `Gone` where the part or the folder is not there; `Io`.
     pub fn lock(&self, rt: &HostRuntime, part: Part) -> Result<Lock, LockFault> {
         if !self.is_there(rt) {
             return Err(LockFault::Gone);
@@ -110,7 +110,7 @@ impl Session {
     }
 
     /// Removes the session, unless an editor has it. Returns whether it was removed.
-    pub fn drop_unless_held(&self, rt: &HostRuntime) -> bool {
+    pub fn drop_unless_locked(&self, rt: &HostRuntime) -> bool {
         match self.lock(rt, Part::Path) {
             Ok(_lock) => self.remove(rt).is_ok(),
             Err(_) => false,

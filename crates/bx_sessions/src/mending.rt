@@ -35,10 +35,10 @@ pub struct Outcome {
 impl Session {
     /// Whether the session's saves go into this file, under any name.
     pub fn saves_into(&self, rt: &HostRuntime, target: &Target<'_>) -> bool {
-        let Ok(Some(place)) = self.path_in(rt, Part::Place) else {
+        let Ok(Some(path)) = self.path_in(rt, Part::InPlace) else {
             return false;
         };
-        if target.is_at(rt, place.as_str()) {
+        if target.is_at(rt, path.as_str()) {
             return true;
         }
         // its first name may be gone
@@ -172,7 +172,7 @@ fn has_mark_of(
 }
 
 /// Locks a session that has a mark, and repairs the file. None if another start has the session by now.
-fn mend_unless_held(
+fn mend_unless_locked(
     rt: &HostRuntime,
     sessions: &Sessions,
     session: &Session,
@@ -182,7 +182,7 @@ fn mend_unless_held(
     match session.lock(rt, Part::Mark) {
         Ok(_lock) => Ok(Some(mend(rt, sessions, session, target, here)?)),
         Err(LockFault::Io(error)) => Err(error),
-        Err(LockFault::Held | LockFault::Gone) => Ok(None),
+        Err(LockFault::Locked | LockFault::Gone) => Ok(None),
     }
 }
 
@@ -201,7 +201,7 @@ pub fn mend_all(
         if !has_mark_of(rt, sessions, &session, target, here)? {
             continue;
         }
-        if let Some(mended) = mend_unless_held(rt, sessions, &session, target, here)? {
+        if let Some(mended) = mend_unless_locked(rt, sessions, &session, target, here)? {
             let mark = session.path_of(Part::Mark)?;
             outcomes.push(Outcome { mended, mark })?;
             if mended == Mended::StillTorn {

@@ -92,7 +92,7 @@ pub fn begin(rt: &HostRuntime, sessions: &Sessions) -> Result<Kept, FolderFault>
             let _ = session.remove(rt);
             Err(match fault {
                 LockFault::Io(error) => FolderFault::Io(error),
-                LockFault::Held | LockFault::Gone => FolderFault::Gone,
+                LockFault::Locked | LockFault::Gone => FolderFault::Gone,
             })
         }
     }

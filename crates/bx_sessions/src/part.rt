@@ -37,8 +37,8 @@ pub enum Part {
     Mark,
     /// A mark that is not complete.
     MarkDraft,
-    /// The path of the FILE that saves are written into.
-    Place,
+    /// The path of the FILE that saves are written into, where they are made in place.
+    InPlace,
     /// The text of the last mark that was left.
     Save,
     /// FILE's device and inode as it was opened.
@@ -68,7 +68,7 @@ impl Part {
             Part::Snapshot => "snapshot",
             Part::Mark => "mark",
             Part::MarkDraft => "mark.bx",
-            Part::Place => "place",
+            Part::InPlace => "place",
             Part::Save => "save",
             Part::File => "file",
             Part::Secret => "secret",

@@ -11,7 +11,7 @@ use std::os::unix::fs::MetadataExt;
 #[derive(Clone, Copy, PartialEq, Eq, Debug)]
 pub enum Reason {
     /// It is in a folder where the user cannot replace it.
-    Held,
+    Protected,
     /// It is mounted by itself.
     Mounted,
     /// It has other names.
@@ -28,7 +28,7 @@ impl Reason {
     /// What is told of the file.
     pub fn told(self) -> &'static str {
         match self {
-            Reason::Held => "is in a folder where you cannot replace it",
+            Reason::Protected => "is in a folder where you cannot replace it",
             Reason::Mounted => "is mounted by itself",
             Reason::Linked => "has other names (hard links)",
             Reason::Listed => "has an access list",
@@ -40,7 +40,7 @@ impl Reason {
     /// What a rename would do.
     pub fn harm(self) -> &'static str {
         match self {
-            Reason::Held | Reason::Mounted => "no save can be made",
+            Reason::Protected | Reason::Mounted => "no save can be made",
             Reason::Linked => "a save would part it from them",
             Reason::Listed => "a save would drop it",
             Reason::Labelled => "a save may give it another",
@@ -55,7 +55,7 @@ fn reason_for(file: &Facts, names: u64, folder: &Facts) -> Option<Reason>
     ensures { IsNone result ↔ (is_replaceable file.now names folder.now ≡ true) }
 {
     if !folder.writable || file.is_held_by_folder {
-        Some(Reason::Held)
+        Some(Reason::Protected)
     } else if file.is_mount {
         Some(Reason::Mounted)
     } else if names > 1 {

@@ -16,7 +16,7 @@ fn mended(rt: &HostRuntime, test: &str, bytes: &str) -> Result<(Option<Mended>, 
     let path = format!(in rt.alloc(); "{top}/sessions")?;
     let sessions = Sessions::make(rt, path.as_str(), user_of(rt, top))?;
     let kept = new_session(rt, &sessions, file, &process)?;
-    kept.session.write_new(rt, Part::Place, file.as_bytes())?;
+    kept.session.write_new(rt, Part::InPlace, file.as_bytes())?;
     kept.session.write_new(rt, Part::Mark, b"hello")?;
     drop(kept);
     fs::write(rt, file, bytes)?;
