@@ -51,10 +51,9 @@ drop() { # NAME
 
 # Backspace takes the points off a letter one by one, and then the letter; Delete takes a letter with its points.
 check_points() {
-    printf 'ab \327\251\326\270\327\201\342\200\215 cd\n' >note
+    printf 'ab \327\251\326\270\327\201 cd\n' >note
     start 4 40 "$top/bidi-edit" note
     press 'behind a letter with points' "$(printf 'ab \327\251\326\270\327\201 cd|||- 1:5')" 4,0 C-f C-f C-f C-f
-    press 'a joiner erased' "$(printf 'ab \327\251\326\270\327\201 cd|||* 1:5')" 4,0 BSpace
     press 'a point erased' "$(printf 'ab \327\251\326\270 cd|||* 1:5')" 4,0 BSpace
     press 'the other point erased' 'ab ש cd|||* 1:5' 4,0 BSpace
     press 'the letter erased' 'ab  cd|||* 1:4' 3,0 BSpace
@@ -68,11 +67,11 @@ check_points() {
 check_erased_words() {
     printf 'one two, שלום עולם\nfour\n' >note
     start 5 40 "$top/bidi-edit" note
-    press 'a word erased by Alt' 'one two, םולש|four|||* 1:15' 9,0 End M-BSpace
+    press 'a word erased by Alt' 'one two, םולש|four|||* 1:15' 14,0 End M-BSpace
     press 'a word erased by Control' 'one two,|four|||* 1:10' 9,0 C-h
-    press 'what it was put back' 'one two, םולש|four|||* 1:15' 9,0 C-z
+    press 'the word back' 'one two, םולש|four|||* 1:15' 14,0 C-z
     press 'a word deleted' 'two, םולש|four|||* 1:1' 0,0 Home C-DC
-    press 'a line end deleted' 'two, םולש four|||| * 1:11' 5,0 End C-DC
+    press 'a line end deleted' 'two, םולש four||||* 1:11' 10,0 End C-DC
     drop 'words erased'
 }
 
@@ -114,14 +113,14 @@ check_found_again() {
     press 'F3 past the end' 'one two one two|||- 1:5 from the start' 4,0 F3
     press 'a region' 'one <tw>o one two|||- 1:7' 6,0 C-@ C-f C-f
     press 'F3 keeps the mark' 'one <two one >two|||- 1:13' 12,0 F3
-    press 'a search with a mark' 'one <two one two>|||- 1:16 find: o' 15,0 C-w o
+    press 'a search with a mark' 'one <two one tw>o|||- 1:15 find: o' 14,0 C-w o
     press 'the search given up by Escape, not the mark' 'one <two one >two|||- 1:13' 12,0 Escape
     press 'the mark taken off by Escape' 'one two one two|||- 1:13' 12,0 Escape
     press 'no region' 'one two one two|||- 1:13 line copied' 12,0 C-c
     drop 'found again'
 }
 
-# Enter begins a line with the text's line end, in a search it ends that.
+# Enter begins a line with the line end that the text has; a search it ends.
 check_new_line() {
     printf 'ab\r\ncd\nef' >note
     start 6 40 "$top/bidi-edit" note
