@@ -15,10 +15,12 @@ import sys
 
 # each letter is a unit of its own in any context
 LETTERS = "abcxyz ,.()0123456789" + "\u05d0\u05d1\u05d2\u05e9\u05dc" + "\u0627\u0628\u062a\u0645"
-BYTES = {"erase": b"\x7f", "delete": b"\x1b[3~", "back": b"\x02", "forward": b"\x06", "undo": b"\x1a", "redo": b"\x19",
+# as the filter of keys lets them through, so that the journal has these very bytes
+BYTES = {"erase": b"\x1b[94~", "delete": b"\x1b[3~", "back": b"\x02", "forward": b"\x06", "undo": b"\x1a", "redo": b"\x19",
          "save": b"\x13", "repaint": b"\x0c", "direction": b"\x1b[9~", "find": b"\x1b[70~", "find back": b"\x1b[71~",
          "mark": b"\x1b[72~", "copy": b"\x1b[73~", "cut": b"\x1b[74~", "put": b"\x1b[75~", "text start": b"\x1b[78~",
-         "text end": b"\x1b[79~", "help": b"\x1b[80~"}
+         "text end": b"\x1b[79~", "help": b"\x1b[80~", "erase word": b"\x1b[88~", "delete word": b"\x1b[89~",
+         "find next": b"\x1b[92~", "cancel": b"\x1b[93~"}
 NAMES = [*BYTES, "enter", "tab", "size", "quit"]
 # how keys1 end
 ENDS = ["no search", "in a search", "a search given up", "a search that a save ended"]
@@ -70,6 +72,9 @@ class Session:
             found = self.text.find(self.query, place)
             self.place = found if found >= 0 else self.text.find(self.query)
 
+    def look_on(self):
+        self.look_from(self.place + 1 if self.place < len(self.text) else 0)
+
     def look_back(self):
         if self.query and self.query in self.text:
             found = self.text.rfind(self.query, 0, self.place - 1 + len(self.query))
@@ -83,13 +88,13 @@ class Session:
         if name in ("erase", "delete"):
             self.place = self.origin
             self.look_for(self.kept_query()[:-1])
-        elif name == "find":
+        elif name in ("find", "find next"):
             self.search = "typed"
-            self.look_from(self.place + 1 if self.place < len(self.text) else 0)
+            self.look_on()
         elif name == "find back":
             self.search = "typed"
             self.look_back()
-        elif name == "copy":
+        elif name in ("copy", "cancel"):
             self.give_up()
         elif name != "repaint":
             self.search = None
@@ -102,6 +107,16 @@ class Session:
             return sorted((self.mark, self.place))
         return self.text.rfind("\n", 0, self.place) + 1, self.text.find("\n", self.place) + 1 or len(self.text)
 
+    def word_before(self):
+        """The last start of a word or line before the place, else the place."""
+        starts = [0, *(m.start() for m in re.finditer("[a-z0-9\u05d0-\u064a]+", self.text)), *(m.end() for m in re.finditer("\n", self.text))]
+        return max((at for at in starts if at < self.place), default=self.place)
+
+    def word_behind(self):
+        """The first start of a word or end of a line behind the place, else the place."""
+        stops = [len(self.text), *(m.start() for m in re.finditer("[a-z0-9\u05d0-\u064a]+|\n", self.text))]
+        return min((at for at in stops if at > self.place), default=self.place)
+
     def apply(self, name):
         if self.search and self.takes(name):
             return
@@ -110,6 +125,10 @@ class Session:
             self.edit(text[:at - 1] + text[at:], at - 1)
         elif name == "delete" and at < len(text):
             self.edit(text[:at] + text[at + 1:], at)
+        elif name == "erase word" and at > 0:
+            self.edit(text[:self.word_before()] + text[at:], self.word_before())
+        elif name == "delete word" and at < len(text):
+            self.edit(text[:at] + text[self.word_behind():], at)
         elif name == "back":
             self.place = max(0, at - 1)
         elif name == "forward":
@@ -124,8 +143,12 @@ class Session:
             self.text, self.place, self.changed, self.mark = step[2], step[3], True, None
         elif name == "save":
             self.changed = False
-        elif name in ("find", "find back"):
+        elif name == "find next" and self.query:
+            self.look_on()
+        elif name in ("find", "find back", "find next"):
             self.search, self.origin = "begun", at
+        elif name == "cancel":
+            self.mark = None
         elif name == "mark":
             self.mark = None if self.mark == at else at
         elif name in ("copy", "cut"):
@@ -145,7 +168,7 @@ class Session:
         self.typed(BYTES[name])
 
     def enter(self):
-        self.insert("\n", b"\r")
+        self.insert("\n", b"\x1b[95~")
 
     def quit(self):
         """Gives a search up, else asks, since the text is changed."""

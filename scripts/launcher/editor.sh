@@ -60,20 +60,21 @@ check_edit() {
 check_line_ends() {
     printf 'ab\r\ncd\r\nef' >note
     start 8 40 "$top/bidi-edit" note
-    type_keys x C-s
+    type_keys x Enter C-s
     sleep 0.5
     type_keys C-q
     finish 'breaks, alike' 0 50
     same 'breaks, alike: the words' "$(cat "$folder/errors")" ''
+    same 'breaks, what Enter puts in' "$(od -An -c note | tr -d ' \n')" 'x\r\nab\r\ncd\r\nef'
     start 8 40 "$top/bidi-edit" note
-    type_keys Enter C-s
+    type_keys C-j C-s
     sleep 0.5
     type_keys C-q
     finish 'breaks, mixed' 0 50
     same 'breaks, mixed: the words' "$(cat "$folder/errors")" \
         "bidi-edit: note has lines that end with LF among those with CR LF: perl -pi -e 's/\\r?\\n/\\r\\n/' makes them alike"
     perl -pi -e 's/\r?\n/\r\n/' note
-    same 'breaks, what it says' "$(od -An -c note | tr -d ' \n')" '\r\nxab\r\ncd\r\nef'
+    same 'breaks, what it says' "$(od -An -c note | tr -d ' \n')" '\r\nx\r\nab\r\ncd\r\nef'
     printf 'ab\ncd\r\n' >note
     start 8 40 "$top/bidi-edit" note
     type_keys Enter C-s
@@ -81,6 +82,7 @@ check_line_ends() {
     type_keys C-q
     finish 'breaks, mixed before' 0 50
     same 'breaks, mixed before: the words' "$(cat "$folder/errors")" ''
+    same 'breaks, mixed before: what Enter puts in' "$(od -An -c note | tr -d ' \n')" '\nab\ncd\r\n'
     rm -f note
 }
 

@@ -23,22 +23,28 @@ xterm, Home and End in application mode:\033OH\033OF:\033[H\033[F
 rxvt, Home and End:\033[7~\033[8~:\033[H\033[F
 the Linux console, Home and End:\033[1~\033[4~:\033[1~\033[4~
 tmux and screen, Home and End:\033[1~\033[4~:\033[1~\033[4~
-xterm, arrows:\033[A\033[B\033[C\033[D:\033[A\033[B\033[C\033[D
-xterm, arrows in application mode:\033OA\033OB\033OC\033OD:\033[A\033[B\033[C\033[D
-xterm, arrows with Shift:\033[1;2A\033[1;2B\033[1;2C\033[1;2D:\033[A\033[B\033[C\033[D
+xterm, arrows:\033[A\033[B\033[C\033[D:\033[96~\033[97~\033[C\033[D
+xterm, arrows in application mode:\033OA\033OB\033OC\033OD:\033[96~\033[97~\033[C\033[D
+xterm, arrows with Shift:\033[1;2A\033[1;2B\033[1;2C\033[1;2D:\033[96~\033[97~\033[C\033[D
+rxvt, arrows with Shift:\033[a\033[b\033[c\033[d:\033[96~\033[97~\033[C\033[D
+Page Up and Page Down:\033[5~\033[6~:\033[98~\033[99~
 xterm, Home and End with Shift:\033[1;2H\033[1;2F:\033[H\033[F
 xterm, F2:\033OQ:\033[9~
 rxvt, F2:\033[12~:\033[9~
 the Linux console, F2:\033[[B:\033[9~
 the keypad in application mode:\033Op\033Oq\033Or\033Os\033Ot\033Ou\033Ov\033Ow\033Ox\033Oy:0123456789
-xterm, F1 and F3:\033OP\033OR:\033[80~\033[70~
-rxvt, F1 and F3:\033[11~\033[13~:\033[80~\033[70~
-the Linux console, F1 and F3:\033[[A\033[[C:\033[80~\033[70~
+xterm, F1 and F3:\033OP\033OR:\033[80~\033[92~
+rxvt, F1 and F3:\033[11~\033[13~:\033[80~\033[92~
+the Linux console, F1 and F3:\033[[A\033[[C:\033[80~\033[92~
 xterm, Left and Right with Control:\033[1;5D\033[1;5C:\033[76~\033[77~
 rxvt, Left and Right with Control:\033Od\033Oc:\033[76~\033[77~
 an older xterm, Left and Right with Control:\033[5D\033[5C:\033[76~\033[77~
 xterm, Home and End with Control:\033[1;5H\033[1;5F:\033[78~\033[79~
 rxvt, Home and End with Control:\033[7^\033[8^:\033[78~\033[79~
+Backspace, alone and with Alt:\177\033\177\033\010:\033[94~\033[88~\033[88~
+Delete:\033[3~\033[P:\033[3~\033[3~
+xterm, rxvt and st, Delete with Control:\033[3;5~\033[3^\033[M:\033[89~\033[89~\033[89~
+Enter:a\rb:a\033[95~b
 Control and @, C, R, V, W, X:\000\003\022\026\027\030:\033[72~\033[73~\033[71~\033[75~\033[70~\033[74~
 Up and Down with Control, which the editor does not know:\033[1;5A\033[1;5B:\033[1;5A\033[1;5B
 Escape, and then a letter:\033a:\033a
@@ -79,7 +85,24 @@ check_cut_keys() {
     done
     type_keys C-q
     finish 'input, cut' 7 50
-    same 'input, keys that come byte by byte' "$(cat -v "$folder/record")" 'a^[[A^[[Db^[[93~c'
+    same 'input, keys that come byte by byte' "$(cat -v "$folder/record")" 'a^[[96~^[[Db^[[93~c'
+}
+
+# The byte 08 is Backspace with Control where the terminal's own erase character is 7F, as in tmux, and else Backspace.
+check_erase_character() {
+    for erase in '^?' '^H'; do
+        setup="stty erase '$erase'" cleanup="stty erase '^?'"
+        start 8 50 "$recorder" f
+        wait_for 50 test -e "$folder/record"
+        printf '\177\010\033\177\033\010' >"$folder/keys"
+        type_bytes "$folder/keys"
+        sleep 0.5
+        type_keys C-q
+        finish "input, erase $erase" 7 50
+        if [ "$erase" = '^?' ]; then wanted_keys='^[[94~^[[88~^[[88~^[[88~'; else wanted_keys='^[[94~^[[94~^[[88~^[[88~'; fi
+        same "input, erase $erase: Backspace" "$(cat -v "$folder/record")" "$wanted_keys"
+    done
+    setup='' cleanup=''
 }
 
 # Makes 1 MB of text with every byte value, and the text expected from it.
@@ -162,7 +185,7 @@ check_editor_input() {
     rm -f note
 }
 
-# An Escape that nothing follows takes no letter with it, and does nothing.
+# An Escape that nothing follows takes no letter with it. Without a search and a mark it does nothing.
 check_escape() {
     rm -f note
     start 8 40 "$top/bidi-edit" note
@@ -197,6 +220,7 @@ check_input() {
     has_filter || return 0
     check_terminal_keys
     check_cut_keys
+    check_erase_character
     check_big_paste
     check_marks
     has_editor || return 0

@@ -1,6 +1,7 @@
 # shellcheck shell=sh
-# shellcheck disable=SC2154 # variables shared with other parts
-# The keys for words, the text's ends, the mark, copies, searches and help, as terminals send them, and the screens that they make.
+# shellcheck disable=SC2034,SC2154 # variables shared with other parts
+# The keys for words, points, rows, the text's ends, the mark, copies, searches and help, as terminals send them, and the screens
+# that they make.
 
 # Types keys of tmux, and compares the rows of the screen and the cursor's column and row.
 press() { # NAME ROWS CURSOR KEY..
@@ -41,14 +42,110 @@ check_control_bytes() {
     rm -f note
 }
 
-# Lists terminals: a name, and what they send for F1, for F3, for Left and Right, and for Home and End with CTRL, in the notation
-# of printf; empty where a terminal sends the same as without CTRL.
+# Leaves a changed text, which is not saved.
+drop() { # NAME
+    type_keys C-q C-q
+    finish "keys, $1" 0 50
+    rm -f note
+}
+
+# Backspace takes the points off a letter one by one, and then the letter; Delete takes a letter with its points.
+check_points() {
+    printf 'ab \327\251\326\270\327\201 cd\n' >note
+    start 4 40 "$top/bidi-edit" note
+    press 'behind a letter with points' "$(printf 'ab \327\251\326\270\327\201 cd|||- 1:5')" 4,0 C-f C-f C-f C-f
+    press 'a point erased' "$(printf 'ab \327\251\326\270 cd|||* 1:5')" 4,0 BSpace
+    press 'the other point erased' 'ab ש cd|||* 1:5' 4,0 BSpace
+    press 'the letter erased' 'ab  cd|||* 1:4' 3,0 BSpace
+    press 'the letter back' 'ab ש cd|||* 1:5' 4,0 C-z
+    press 'a point back' "$(printf 'ab \327\251\326\270 cd|||* 1:5')" 4,0 C-z
+    press 'the letter deleted with its point' 'ab  cd|||* 1:4' 3,0 C-b DC
+    drop points
+}
+
+# Words erased where the terminal's own erase character is 7F: by Backspace with CTRL and with Alt, and by Delete with CTRL.
+check_erased_words() {
+    printf 'one two, שלום עולם\nfour\n' >note
+    start 5 40 "$top/bidi-edit" note
+    press 'a word erased by Alt' 'one two, םולש|four|||* 1:15' 14,0 End M-BSpace
+    press 'a word erased by Control' 'one two,|four|||* 1:10' 9,0 C-h
+    press 'the word back' 'one two, םולש|four|||* 1:15' 14,0 C-z
+    press 'a word deleted' 'two, םולש|four|||* 1:1' 0,0 Home C-DC
+    press 'a line end deleted' 'two, םולש four||||* 1:11' 10,0 End C-DC
+    drop 'words erased'
+}
+
+# Where it is 08, both bytes are Backspace, and Alt makes a word of it.
+check_other_erase_character() {
+    printf 'ab cd\n' >note
+    setup="stty erase '^H'" cleanup="stty erase '^?'"
+    start 4 40 "$top/bidi-edit" note
+    press 'erase ^H, its Backspace' 'ab c|||* 1:5' 4,0 End C-h
+    press 'erase ^H, the other byte' 'ab|||* 1:4' 3,0 BSpace
+    press 'erase ^H, a word erased by Alt' '|||* 1:1' 0,0 M-BSpace
+    drop 'erase ^H'
+    setup='' cleanup=''
+}
+
+# Up, Down, Page Up and Page Down keep the column of the first of them.
+check_columns() {
+    printf 'abcdef\nab\nabcdef\n' >note
+    start 6 40 "$top/bidi-edit" note
+    press 'a short row' 'abcdef|ab|abcdef|||- 2:3' 2,1 End Down
+    press 'the column behind it' 'abcdef|ab|abcdef|||- 3:7' 6,2 Down
+    press 'the column before it' 'abcdef|ab|abcdef|||- 1:7' 6,0 Up Up
+    press 'a window down' 'abcdef|ab|abcdef|||- 4:1' 0,3 NPage
+    press 'the column a window up' 'abcdef|ab|abcdef|||- 1:7' 6,0 PPage
+    press 'another key lets the column go' 'abcdef|ab|abcdef|||- 3:2' 1,2 Down Left Down
+    drop columns
+}
+
+# F3 goes on without a search, and Escape gives a search up, or takes the mark off.
+check_found_again() {
+    printf 'one two one two\n' >note
+    start 4 40 "$top/bidi-edit" note
+    press 'F3 without a query' 'one two one two|||- 1:1 find:' 0,0 F3
+    press 'a search by F3' 'one two one two|||- 1:5 find: tw' 4,0 t w
+    press 'F3 in a search' 'one two one two|||- 1:13 find: tw' 12,0 F3
+    press 'a search given up by Escape' 'one two one two|||- 1:1' 0,0 Escape
+    press 'F3' 'one two one two|||- 1:5' 4,0 F3
+    press 'F3 again' 'one two one two|||- 1:13' 12,0 F3
+    press 'F3 past the end' 'one two one two|||- 1:5 from the start' 4,0 F3
+    press 'a region' 'one <tw>o one two|||- 1:7' 6,0 C-@ C-f C-f
+    press 'F3 keeps the mark' 'one <two one >two|||- 1:13' 12,0 F3
+    press 'a search with a mark' 'one <two one tw>o|||- 1:15 find: o' 14,0 C-w o
+    press 'the search given up by Escape, not the mark' 'one <two one >two|||- 1:13' 12,0 Escape
+    press 'the mark taken off by Escape' 'one two one two|||- 1:13' 12,0 Escape
+    press 'no region' 'one two one two|||- 1:13 line copied' 12,0 C-c
+    drop 'found again'
+}
+
+# Enter begins a line with the line end that the text has; a search it ends.
+check_new_line() {
+    printf 'ab\r\ncd\nef' >note
+    start 6 40 "$top/bidi-edit" note
+    press 'a new line' 'a|b|cd|ef||* 2:1' 0,1 C-f Enter
+    press 'Enter in a search' 'a|b|cd|ef||* 4:1' 0,3 C-w e Enter
+    press 'a new line behind it' 'a|b|cd||ef|* 5:1' 0,4 Enter
+    press 'a new line erased as one' 'a|b|cd|ef||* 4:1' 0,3 BSpace
+    press 'and put back' 'a|b|cd||ef|* 5:1' 0,4 C-z
+    type_keys C-s
+    wait_for 30 shows saved
+    type_keys C-q
+    finish 'keys, a new line' 0 50
+    same 'keys, a new line: the saved file' "$(od -An -c note | tr -d ' \n')" 'a\r\nb\r\ncd\n\r\nef'
+    rm -f note
+}
+
+# Lists terminals: a name, and what they send for F1, for F3, for Left and Right, for Home and End, and for Delete with CTRL, in the
+# notation of printf; empty where a terminal sends the same as without CTRL, or nothing.
 terminal_sequences() {
     cat <<'TEXT'
-xterm|\033OP|\033OR|\033[1;5D|\033[1;5C|\033[1;5H|\033[1;5F
-urxvt|\033[11~|\033[13~|\033Od|\033Oc|\033[7^|\033[8^
-the Linux console|\033[[A|\033[[C||||
-an older xterm|\033[11~|\033[13~|\033[5D|\033[5C||
+xterm|\033OP|\033OR|\033[1;5D|\033[1;5C|\033[1;5H|\033[1;5F|\033[3;5~
+urxvt|\033[11~|\033[13~|\033Od|\033Oc|\033[7^|\033[8^|\033[3^
+the Linux console|\033[[A|\033[[C|||||
+an older xterm|\033[11~|\033[13~|\033[5D|\033[5C|||
+st|\033OP|\033OR|\033[1;5D|\033[1;5C|||\033[M
 TEXT
 }
 
@@ -61,7 +158,7 @@ send() { # NAME LAST CURSOR SEQUENCE
     same "keys, $sender, $1" "$(settled_screen person | sed '1s/.*|//' | paste -s -d ' ')" "$2 $3"
 }
 
-check_sequences() { # TERMINAL F1 F3 LEFT RIGHT HOME END
+check_sequences() { # TERMINAL F1 F3 LEFT RIGHT HOME END DELETE
     sender=$1
     printf 'one two\nשָׁלוֹם עולם' >note
     start 4 80 "$top/bidi-edit" note
@@ -75,18 +172,25 @@ check_sequences() { # TERMINAL F1 F3 LEFT RIGHT HOME END
     type_keys Up Home
     send F3 '- 1:1 find:' 0,0 "$3"
     send 'a word without points' '- 2:1 find: לש' 79,1 'של'
-    send 'F3 again' '- 2:1 from the start find: לש' 79,1 "$3"
-    type_keys C-q C-q
-    finish "keys, $sender" 0 50
-    rm -f note
+    send 'F3 in a search' '- 2:1 from the start find: לש' 79,1 "$3"
+    type_keys Enter
+    send 'F3 behind it' '- 2:1 from the start' 79,1 "$3"
+    send 'Control and Delete' '* 2:1' 79,1 "$8"
+    drop "$sender"
 }
 
 check_keys() {
     asked keys || return 0
     has_filter && has_editor || return 0
     check_control_bytes
+    check_points
+    check_erased_words
+    check_other_erase_character
+    check_columns
+    check_found_again
+    check_new_line
     terminal_sequences >"$folder/sequences"
-    while IFS='|' read -r name help find left right home end <&9; do
-        check_sequences "$name" "$help" "$find" "$left" "$right" "$home" "$end"
+    while IFS='|' read -r name help find left right home end delete <&9; do
+        check_sequences "$name" "$help" "$find" "$left" "$right" "$home" "$end" "$delete"
     done 9<"$folder/sequences"
 }

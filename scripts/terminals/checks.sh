@@ -46,7 +46,9 @@ check_terminal() { # KIND
         check_mark "$1"
         ! draws_clusters "$1" || check_clusters "$1"
         check_keys "$1"
+        check_lines "$1"
         ! sends_control "$1" || check_control_keys "$1"
+        ! sends_words "$1" || check_erased_words "$1"
         check_title "$1"
         ;;
     esac
@@ -186,15 +188,45 @@ check_keys() { # KIND
     same "$1, keys" "$(cat "$room/files/typed")" "$wanted"
 }
 
-# Moves by words, a mark, a cut, a put, a search by F3, and the text's ends, each followed by what shows it.
+# A column that is kept through a short row, a point erased, a new line with CR LF, F3 twice, and Escape in a search, each followed
+# by what shows it.
+check_lines() { # KIND
+    # the last line has a letter with two points
+    printf 'abcd\r\nx\r\nabcd e\327\251\326\270\327\201\r\n' >"$room/files/typed"
+    open_editor typed "$1-lines"
+    press End Down Down Y End BackSpace Z Return W
+    press F3 b Return F3 V F3 U ctrl+w d Escape
+    # a key right behind an Escape would belong to it
+    sleep 0.3
+    press T ctrl+s
+    sleep 0.5
+    leave_editor "$1, lines"
+    same "$1, lines" "$(od -An -c "$room/files/typed" | tr -d ' \n')" \
+        "$(printf 'aUTbcd\r\nx\r\naVbcdY e\327\251\326\270Z\r\nW\r\n' | od -An -c | tr -d ' \n')"
+}
+
+# Words erased by Backspace with Control and with Alt, and by Delete with Control.
+check_erased_words() { # KIND
+    printf 'one two three four\n' >"$room/files/typed"
+    open_editor typed "$1-words"
+    press End ctrl+BackSpace alt+BackSpace Home ctrl+Delete X ctrl+s
+    sleep 0.5
+    leave_editor "$1, words erased"
+    same "$1, words erased" "$(cat "$room/files/typed")" 'Xtwo '
+}
+
+# Moves by words, a mark, a cut, a put, a search by F3, the text's ends, and a mark that Escape takes off, so that the line is
+# copied, each followed by what shows it.
 check_control_keys() { # KIND
     printf 'ab cd\n' >"$room/files/typed"
     open_editor typed "$1-control"
     press ctrl+Right ctrl+space ctrl+Right ctrl+x ctrl+Left ctrl+v
-    press F3 b Return X ctrl+End Y ctrl+Home Z ctrl+s
+    press F3 b Return X ctrl+End Y ctrl+Home Z ctrl+space Right Escape
+    sleep 0.3
+    press ctrl+c ctrl+End ctrl+v ctrl+s
     sleep 0.5
     leave_editor "$1, keys with Control"
-    same "$1, keys with Control" "$(paste -s -d '|' "$room/files/typed")" 'ZcdaXb |Y'
+    same "$1, keys with Control" "$(paste -s -d '|' "$room/files/typed")" 'ZcdaXb |YZcdaXb '
 }
 
 check_title() { # KIND

@@ -120,6 +120,12 @@ sends_control() { # KIND
     return 1
 }
 
+# Whether it sends keys of their own for Backspace with Control and with Alt, and for Delete with Control.
+sends_words() { # KIND
+    case $1 in xterm | urxvt) return 0 ;; esac
+    return 1
+}
+
 # Whether it gives an old title back.
 keeps_title() { # KIND
     case $1 in xterm | vte | kitty | alacritty | mlterm | terminology) return 0 ;; esac

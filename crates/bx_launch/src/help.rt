@@ -22,13 +22,13 @@ opens what cannot be saved, -n keeps no session, --no-joining joins no letters.
 
   Left Right Up Down    move as the screen shows; Left, Right with Ctrl by words
   Ctrl-B Ctrl-F         move back, forward as the text is stored
-  Home End              to the row's start, end; with Ctrl to the text's
-  Page Up, Page Down    a window up, down (Backspace, Delete erase before, at)
+  Home End Page Up/Down to the row's start, end, with Ctrl the text's; a window
+  Backspace Delete      erase before (a point at a time), at; with Ctrl by words
   Ctrl-S Ctrl-Q         save; quit, twice where not all is saved
   Ctrl-Z Ctrl-Y Ctrl-L  undo, redo; paint the screen anew
   Ctrl-Space or Ctrl-@  mark where the region begins; it ends at the cursor
   Ctrl-X Ctrl-C Ctrl-V  cut, copy the region, or else the line; put it in
-  Ctrl-W or F3, Ctrl-R  find forward, backward; Enter ends it, Ctrl-Q goes back
+  Ctrl-W Ctrl-R F3      find forward, back, next; Enter ends it, Escape gives up
   F1, F2                show keys; direction: auto, ltr, rtl and auto again
 
 The last row: * where changes are not saved, else -; paragraph:place; a message.
