@@ -180,13 +180,13 @@ module _ (end : Slot) (no_columns : end.columns ≡ 0) where
   find-with-end column (suc n) true ss = ap (λ c. cond c (Some end) (find (covers column) ss)) (end-uncovered column)
   find-with-end column n false ss = refl
 
-  -- by the slot that covers a column
+  -- they are entered at the slot that covers a column
   entered-found : (column n : ℕ) (b : Bool) (ss : List Slot) (s : Slot) → find (covers column) ss ≡ Some s
       → entered n (with-end n b end ss) column ≡ Some s.offset
   entered-found column n b ss s is =
       ap (λ x. or_else (option_map offset_of x) (from-end n (map offset_of (with-end n b end ss)))) (find-with-end column n b ss ∙ is)
 
-  -- without one at the end
+  -- and where none does, at the end's
   last-first : (ss : List Slot) → first_in (reverse (map offset_of (ss ++ end ∷ []))) ≡ Some end.offset
   last-first ss = ap (λ os. first_in (reverse os)) (map-append offset_of ss (end ∷ [])) ∙ ap first_in (reverse-append (map offset_of ss) (end.offset ∷ []))
 
@@ -204,10 +204,6 @@ module _ (end : Slot) (no_columns : end.columns ≡ 0) where
   -- the slot of an offset is that of a unit, which covers its column, or the end's
   abbrev UnitOrEnd : Bool → List Slot → Slot → Type 0
   UnitOrEnd b ss t = (find (covers t.column) ss ≡ Some t) ⊎ ((b ≡ true) × (end ≡ t))
-
-  either-by : (t : Slot) (ss : List Slot) (c : Bool) → cond c (Some end) (find (covers t.column) ss) ≡ Some t → UnitOrEnd true ss t
-  either-by t ss true is = let same : end ≡ t = cc in inr (refl, same)
-  either-by t ss false is = inl is
 
   module _ (at : ℕ) (us : List (ℕ × ℕ)) (wide : Wide us) (o : ℕ) (t : Slot) where
     abbrev units : List Slot

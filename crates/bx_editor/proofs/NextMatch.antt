@@ -1,9 +1,7 @@
 -- FindNext leads to where Find and then Find lead, and no search is on behind it.
-use Rattle.std.proofs.Common.{◌≡◌, ℕ, Bool, false, List, [], ◌∷◌, length, refl, sym, ap, ◌∙◌, arith}
+use Rattle.std.proofs.Common.{◌≡◌, ℕ, false, List, [], ◌∷◌, length, refl, sym, ap, ◌∙◌, arith, ne_eqb}
 use Rattle.std.specs.Prelude.{◌≢◌, ◌==◌, None, if◌then◌else◌}
-use Rattle.std.proofs.lemmas.Bool.Decides.{nat_tests}
 use Rattle.bx_keys.specs.declared.key.Key.TheVariants.{Find, FindNext}
-use Rattle.bx_ucd.specs.Data.{Data}
 use Rattle.bx_editor.specs.declared.seek.Seek.TheVariants.{Off, Typed}
 use Rattle.bx_editor.specs.Editor.{Editor, without_message}
 use Rattle.bx_editor.specs.Goal.{without_goal}
@@ -13,7 +11,7 @@ use Rattle.bx_editor.specs.WorkLaws.{FindNextIsFindTwice}
 
 some-letters : (ls : List ℕ) → ls ≢ [] → (length ls == 0) ≡ false
 some-letters [] some = absurd (some refl)
-some-letters (l ∷ ls) some = refl
+some-letters (l ∷ ls) some = ne_eqb (length (l ∷ ls)) 0 (λ same. omega (arith, same))
 
 pub find-next-is-find-twice : FindNextIsFindTwice
 find-next-is-find-twice d e off some =

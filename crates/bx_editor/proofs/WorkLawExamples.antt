@@ -1,6 +1,6 @@
 -- Worked examples, each from a law alone.
 use Rattle.std.proofs.Common.{◌≡◌, ℕ, zero, suc, ◌+◌, ◌<◌, [], ◌∷◌, true, get_or, refl, sym, ap, subst, ◌∙◌, arith}
-use Rattle.std.specs.Prelude.{codes, None, Some}
+use Rattle.std.specs.Prelude.{codes, Some}
 use Rattle.std.specs.Fmt.{digits}
 use Rattle.unicode_segmentation.proofs.Computing.{unicode_segmentation}
 use Rattle.unicode_width.proofs.Computing.{unicode_width}
@@ -9,7 +9,7 @@ use Rattle.bx_paragraph.specs.declared.slot.Slot.{Slot}
 use Rattle.bx_paragraph.specs.Slots.{covers, row_slots}
 use Rattle.bx_editor.specs.declared.message.Message.TheVariants.{FromStart}
 use Rattle.bx_editor.specs.Editor.{Editor}
-use Rattle.bx_editor.specs.WorkLaws.{ErasePointLeavesBeginning, FindNextIsFindTwice, IsCovering, LineMovesGoBack, own_row}
+use Rattle.bx_editor.specs.WorkLaws.{ErasePointLeavesBeginning, FindNextIsFindTwice, LineMovesGoBack, own_row}
 use Rattle.bx_editor.proofs.Computed.{tables, start, after}
 
 -- ---- a point erased
@@ -68,10 +68,11 @@ two_up_and_down law =
 abbrev at_a_full_end : Editor
 at_a_full_end = after (start (codes "ab\nab") 3 2) (RowEnd ∷ [])
 
-the_slot_of_b : (i : ℕ) (s : Slot) → i < 3 → get_or (row_slots 2 (own_row tables at_a_full_end).row) i s ≡ s → covers 2 s ≡ true → s.offset ≡ 1
+the_slot_of_b : (i : ℕ) (s : Slot) → i < 3 → get_or (row_slots 2 (own_row tables at_a_full_end).row) i s ≡ s → covers 2 s ≡ true
+    → (own_row tables at_a_full_end).start + s.offset ≡ 1
 unfolding unicode_segmentation unicode_width digits
 the_slot_of_b zero s inside is covered = absurd (cc (subst (λ (t : Slot). covers 2 t ≡ true) (sym is) covered))
-the_slot_of_b (suc zero) s inside is covered = sym (ap (λ (t : Slot). t.offset) is)
+the_slot_of_b (suc zero) s inside is covered = sym (ap (λ (t : Slot). (own_row tables at_a_full_end).start + t.offset) is)
 the_slot_of_b (suc (suc zero)) s inside is covered = absurd (cc (subst (λ (t : Slot). covers 2 t ≡ true) (sym is) covered))
 the_slot_of_b (suc (suc (suc i))) s inside is covered = absurd (omega (arith, inside))
 
