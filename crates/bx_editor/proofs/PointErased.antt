@@ -1,6 +1,6 @@
 -- ErasePoint leaves all before the point, and all behind the place.
-use Rattle.std.proofs.Common.{◌≡◌, ℕ, zero, suc, ◌+◌, ◌-◌, ◌≤◌, Bool, true, false, List, [], ◌∷◌, ◌++◌, length, take, drop, slice_range, chars, IsUtf8, IsCharBoundary}
-use Rattle.std.proofs.Common.{refl, sym, ap, subst, ◌∙◌, arith, append-nil, length-append}
+use Rattle.std.proofs.Common.{◌≡◌, ℕ, zero, suc, ◌-◌, ◌≤◌, Bool, true, false, List, [], ◌∷◌, ◌++◌, length, take, drop, slice_range, chars, IsUtf8}
+use Rattle.std.proofs.Common.{refl, sym, ap, ◌∙◌, arith, append-nil, length-append}
 use Rattle.std.specs.Prelude.{◌==◌, encode_utf8, encode_utf8_all, None, if◌then◌else◌}
 use Rattle.std.proofs.lemmas.Bool.{eqb-true}
 use Rattle.std.proofs.lemmas.List.{take-append-drop}
@@ -14,7 +14,6 @@ use Rattle.bx_paragraph.proofs.Starts.{side-some}
 use Rattle.bx_view.specs.declared.moves.Logical.TheVariants.{Back}
 use Rattle.bx_view.specs.declared.moves.Move.TheVariants.{Logical}
 use Rattle.bx_view.specs.Moves.{step_logical}
-use Rattle.bx_view.specs.Places.{IsTextPlace}
 use Rattle.bx_view.proofs.KeptPlaces.{text-places-kept}
 use Rattle.bx_view.proofs.TextPlaces.{place-between}
 use Rattle.bx_editor.specs.declared.seek.Seek.TheVariants.{Off}
@@ -22,7 +21,7 @@ use Rattle.bx_editor.specs.Editor.{Editor, place_after, rows, without_message}
 use Rattle.bx_editor.specs.Erasing.{point_before}
 use Rattle.bx_editor.specs.Goal.{without_goal}
 use Rattle.bx_editor.specs.Keys.{after_any, after_key}
-use Rattle.bx_editor.specs.WorkLaws.{ErasePointLeavesBeginning, ErasesEnd}
+use Rattle.bx_editor.specs.WorkLaws.{ErasePointLeavesBeginning}
 use Rattle.bx_editor.proofs.StepOrder.{between-back}
 
 -- ---- where a point begins in a unit

@@ -1,7 +1,7 @@
 -- Moves from row to row in a kept column, there and back.
 use Rattle.std.proofs.Common.{◌≡◌, ◌≢◌, ◌⊎◌, ⊎_elim, ℕ, zero, suc, ◌+◌, ◌-◌, ◌<◌, ◌≤◌, Bool, true, false, List, [], ◌∷◌, ◌++◌, length, map, get_or, replicate}
 use Rattle.std.proofs.Common.{Option, Some, None, unwrap_or, IsUtf8, refl, sym, ap, subst, ◌∙◌, arith, eq-eqb, ne_eqb, ◌==◌}
-use Rattle.std.specs.Prelude.{Contains, IfSome, MatchOption, option_map}
+use Rattle.std.specs.Prelude.{Contains, IfSome, MatchOption}
 use Rattle.std.proofs.lemmas.Bool.{eqb-true}
 use Rattle.std.proofs.lemmas.List.Elements.{Contains-get_or}
 use Rattle.bx_rows.specs.RowPicture.{columns_used}
@@ -13,7 +13,7 @@ use Rattle.bx_ucd.specs.Data.{Data}
 use Rattle.bx_terms.specs.declared.base.Base.{Base}
 use Rattle.bx_paragraph.proofs.Starts.{side-some}
 use Rattle.bx_paragraph.specs.declared.slot.Slot.{Slot}
-use Rattle.bx_paragraph.specs.Slots.{column_of, covers, entry, row_slots, slot_offsets}
+use Rattle.bx_paragraph.specs.Slots.{column_of, entry, slot_offsets}
 use Rattle.bx_view.specs.declared.moves.Vertical.{Vertical}
 use Rattle.bx_view.specs.declared.moves.Vertical.TheVariants.{Up, Down}
 use Rattle.bx_view.specs.Cells.{HasOneSlot}
@@ -26,13 +26,12 @@ use Rattle.bx_view.proofs.OneSlot.{one-slot, row-slots}
 use Rattle.bx_view.proofs.RowFits.{fitting-from}
 use Rattle.bx_view.proofs.TextPlaces.{place-in-window}
 use Rattle.bx_paras.specs.Paragraphs.{paragraphs}
-use Rattle.bx_editor.specs.declared.seek.Seek.{Seek}
 use Rattle.bx_editor.specs.declared.seek.Seek.TheVariants.{Off}
 use Rattle.bx_editor.specs.Editor.{Editor, rows, without_message}
 use Rattle.bx_editor.specs.Goal.{goal_behind}
 use Rattle.bx_editor.specs.Keys.{after_any, after_key, after_keys}
 use Rattle.bx_editor.specs.Laws.{HasRows}
-use Rattle.bx_editor.specs.WorkLaws.{IsCovering, IsFullEnd, LeadsBack, LineMovesGoBack, own_row}
+use Rattle.bx_editor.specs.WorkLaws.{LeadsBack, LineMovesGoBack, own_row}
 use Rattle.bx_editor.proofs.EnteredAgain.{IsEnteredBy, IsFull, entered-again, entered-at-edge}
 use Rattle.bx_editor.proofs.UnitColumns.{rows-have-columns}
 
