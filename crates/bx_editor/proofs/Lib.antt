@@ -23,3 +23,9 @@ pub mod MarkTwice
 pub mod GivenUp
 pub mod LawExamples
 pub mod RegionLawExamples
+pub mod UnitColumns
+pub mod EnteredAgain
+pub mod ThereAndBack
+pub mod PointErased
+pub mod NextMatch
+pub mod WorkLawExamples

@@ -9,3 +9,4 @@ pub mod Opening
 pub mod Picture
 pub mod Status
 pub mod Laws
+pub mod WorkLaws

@@ -17,6 +17,7 @@ mod region;
 mod searching;
 pub mod seek;
 mod status;
+mod work_laws;
 
 pub use editor::Editor;
 pub use error::OpenError;
@@ -27,3 +28,4 @@ pub use laws::{
 };
 pub use message::Message;
 pub use seek::Seek;
+pub use work_laws::{erase_point_leaves_beginning, find_next_is_find_twice, line_moves_go_back};

@@ -1,0 +1,259 @@
+-- Moves from row to row in a kept column, there and back.
+use Rattle.std.proofs.Common.{◌≡◌, ◌≢◌, ◌⊎◌, ⊎_elim, ℕ, zero, suc, ◌+◌, ◌-◌, ◌<◌, ◌≤◌, Bool, true, false, List, [], ◌∷◌, ◌++◌, length, map, get_or, replicate}
+use Rattle.std.proofs.Common.{Option, Some, None, unwrap_or, IsUtf8, refl, sym, ap, subst, ◌∙◌, arith, eq-eqb, ne_eqb, ◌==◌}
+use Rattle.std.specs.Prelude.{Contains, IfSome, MatchOption}
+use Rattle.std.proofs.lemmas.Bool.{eqb-true}
+use Rattle.std.proofs.lemmas.List.Elements.{Contains-get_or}
+use Rattle.bx_rows.specs.RowPicture.{columns_used}
+use Rattle.std.proofs.lemmas.List.{get_or-map, length-map}
+use Rattle.std.proofs.lemmas.List.Sorted.{Contains-permutation}
+use Rattle.bx_keys.specs.declared.key.Key.{Key}
+use Rattle.bx_keys.specs.declared.key.Key.TheVariants.{LineDown, LineUp}
+use Rattle.bx_ucd.specs.Data.{Data}
+use Rattle.bx_terms.specs.declared.base.Base.{Base}
+use Rattle.bx_paragraph.proofs.Starts.{side-some}
+use Rattle.bx_paragraph.specs.declared.slot.Slot.{Slot}
+use Rattle.bx_paragraph.specs.Slots.{column_of, entry, slot_offsets}
+use Rattle.bx_view.specs.declared.moves.Vertical.{Vertical}
+use Rattle.bx_view.specs.declared.moves.Vertical.TheVariants.{Up, Down}
+use Rattle.bx_view.specs.Cells.{HasOneSlot}
+use Rattle.bx_view.specs.Moves.{entry_in, place_in, row_away, rows_away, to_row}
+use Rattle.bx_view.specs.Places.{IsTextPlace}
+use Rattle.bx_view.specs.TextRows.{IsPlace, TextRow, cell_of, no_text_row, places_of, row_at, row_of, slots, text_rows}
+use Rattle.bx_view.proofs.Entered.{row-entered}
+use Rattle.bx_view.proofs.KeptPlaces.{contains-counted, counted-contains, places-kept, rows-leveled}
+use Rattle.bx_view.proofs.OneSlot.{one-slot, row-slots}
+use Rattle.bx_view.proofs.RowFits.{fitting-from}
+use Rattle.bx_view.proofs.TextPlaces.{place-in-window}
+use Rattle.bx_paras.specs.Paragraphs.{paragraphs}
+use Rattle.bx_editor.specs.declared.seek.Seek.TheVariants.{Off}
+use Rattle.bx_editor.specs.Editor.{Editor, rows, without_message}
+use Rattle.bx_editor.specs.Goal.{goal_behind}
+use Rattle.bx_editor.specs.Keys.{after_any, after_key, after_keys}
+use Rattle.bx_editor.specs.Laws.{HasRows}
+use Rattle.bx_editor.specs.WorkLaws.{LeadsBack, LineMovesGoBack, own_row}
+use Rattle.bx_editor.proofs.EnteredAgain.{IsEnteredBy, IsFull, entered-again, entered-at-edge}
+use Rattle.bx_editor.proofs.UnitColumns.{rows-have-columns}
+
+-- ---- rows of a text that are entered in a column
+
+some-entry : (x : Option ℕ) (P Q : ℕ → Type 0) (place : ℕ) → MatchOption x ⊥ P → IfSome x Q
+    → (unwrap_or x place ≡ unwrap_or x 0) × P (unwrap_or x 0) × Q (unwrap_or x 0)
+some-entry None P Q place h k = absurd h
+some-entry (Some q) P Q place h k = (refl, h, k)
+
+module _ (says : Data) (base : Base) (w : ℕ) (some : 1 ≤ w) (text : List ℕ) (utf8 : IsUtf8 text) (column : ℕ) where
+  abbrev all : List TextRow
+  all = text_rows says base w text
+
+  -- where a row is entered
+  abbrev pub enter : ℕ → ℕ
+  enter k = unwrap_or (entry_in w (row_at all k) column) 0
+
+  entered-there : (k place : ℕ) → k < length all
+      → (unwrap_or (entry_in w (row_at all k) column) place ≡ enter k) × Contains (places_of (row_at all k)) (enter k) × IsPlace all (enter k)
+  entered-there k place within =
+      some-entry (entry_in w (row_at all k) column) (Contains (places_of (row_at all k))) (IsPlace all) place
+      (row-entered says base w some text utf8 k within column) ((places-kept says base w some text utf8).entry k column within)
+
+  -- it falls in that row
+  falls-by : (k : ℕ) → k < length all → (b : Bool) → (k == row_of all (enter k)) ≡ b → row_of all (enter k) ≡ k
+  falls-by k within true e = sym (eqb-true k (row_of all (enter k)) e)
+  falls-by k within false e =
+      let there = entered-there k 0 within in
+      let other : k ≢ row_of all (enter k) = λ same. (let is = eq-eqb k (row_of all (enter k)) same in absurd (cc)) in
+      let none = (one-slot says base w some text utf8 (enter k) there.2).elsewhere k within other in
+      let slot : Contains (slots w (row_at all k)) (enter k) =
+      Contains-permutation (places_of (row_at all k)) (slots w (row_at all k)) (enter k) (row-slots says base w some text utf8 k within) there.1 in
+      absurd (omega (arith, none, counted-contains (slots w (row_at all k)) (enter k) slot))
+
+  pub falls-there : (k : ℕ) → k < length all → row_of all (enter k) ≡ k
+  falls-there k within = falls-by k within (k == row_of all (enter k)) refl
+
+  -- one row down, one row up
+  to-other : (place j : ℕ) → j ≢ row_of all place → j < length all → to_row w all column place j ≡ enter j
+  to-other place j other within =
+      ap (λ t. elim t [ true ↦ place | false ↦ unwrap_or (entry_in w (row_at all j) column) place ]) (ne_eqb j (row_of all place) other)
+      ∙ (entered-there j place within).0
+
+  pub one-down : (place k : ℕ) → row_of all place ≡ k → k + 1 < length all → rows_away w all Down 1 column place ≡ enter (k + 1)
+  one-down place k at more =
+      let next : row_away (length all) Down 1 (row_of all place) ≡ k + 1 = omega (arith, at, more) in
+      ap (to_row w all column place) next ∙ to-other place (k + 1) (λ same. omega (arith, same, at)) more
+
+  pub one-up : (place k : ℕ) → row_of all place ≡ k → 1 ≤ k → k < length all → rows_away w all Up 1 column place ≡ enter (k - 1)
+  one-up place k at more within =
+      let next : row_away (length all) Up 1 (row_of all place) ≡ k - 1 = omega (arith, at) in
+      ap (to_row w all column place) next ∙ to-other place (k - 1) (λ same. omega (arith, same, at, more)) (omega (arith, within))
+
+-- ---- keys
+
+keys-append : (d : Data) (e : Editor) (xs ys : List Key) → after_keys d None e (xs ++ ys) ≡ after_keys d None (after_keys d None e xs) ys
+keys-append d e [] ys = refl
+keys-append d e (x ∷ xs) ys = keys-append d (after_key d None e x) xs ys
+
+-- a move by one row
+abbrev row_key : Vertical → Key
+row_key Up = LineUp
+row_key Down = LineDown
+
+module _ (d : Data) (e : Editor) (off : e.seek ≡ Off) (column : ℕ) where
+  -- at a place, with the column kept
+  abbrev kept-at : ℕ → Editor
+  kept-at place = record e { place = place; message = None; quit_before = false; goal = Some column }
+
+  key-moves : (way : Vertical) (place : ℕ) → after_key d None (kept-at place) (row_key way) ≡ kept-at (rows_away e.width (rows d e) way 1 column place)
+  key-moves Up place =
+      ap (λ s. let new = after_any d None false s (kept-at place) LineUp in record new { goal = goal_behind LineUp new.goal }) off
+  key-moves Down place =
+      ap (λ s. let new = after_any d None false s (kept-at place) LineDown in record new { goal = goal_behind LineDown new.goal }) off
+
+  -- the first one keeps the cursor's column
+  abbrev first-at : Vertical → Option ℕ → Editor
+  first-at way goal =
+      let c = unwrap_or goal (cell_of e.width (rows d e) e.place) in
+      record e { place = rows_away e.width (rows d e) way 1 c e.place; message = None; quit_before = false; goal = Some c }
+
+  first-key : (way : Vertical) → after_key d None e (row_key way) ≡ first-at way e.goal
+  first-key Up =
+      ap (λ s. let new = after_any d None e.quit_before s (without_message e) LineUp in record new { goal = goal_behind LineUp new.goal }) off
+  first-key Down =
+      ap (λ s. let new = after_any d None e.quit_before s (without_message e) LineDown in record new { goal = goal_behind LineDown new.goal }) off
+
+  keys-from : (way : Vertical) (keys : List Key) → e.goal ≡ None → column ≡ cell_of e.width (rows d e) e.place
+      → after_keys d None e (row_key way ∷ keys) ≡ after_keys d None (kept-at e.place) (row_key way ∷ keys)
+  keys-from way keys none is =
+      ap (λ new. after_keys d None new keys)
+      (first-key way ∙ ap (first-at way) none
+      ∙ ap (λ c. record e { place = rows_away e.width (rows d e) way 1 c e.place; message = None; quit_before = false; goal = Some c }) (sym is)
+      ∙ sym (key-moves way e.place))
+
+  module _ (some : 1 ≤ e.width) (utf8 : IsUtf8 e.content.text) where
+    abbrev at-row : ℕ → Editor
+    at-row k = kept-at (enter d e.base e.width some e.content.text utf8 column k)
+
+    goes-down : (m k place : ℕ) → row_of (rows d e) place ≡ k → k + suc m < length (rows d e)
+        → after_keys d None (kept-at place) (replicate (suc m) LineDown) ≡ at-row (k + suc m)
+    goes-down zero k place at more = key-moves Down place ∙ ap kept-at (one-down d e.base e.width some e.content.text utf8 column place k at more)
+    goes-down (suc m) k place at more =
+        let next : k + 1 < length (rows d e) = omega (arith, more) in
+        let there : k + 1 + suc m ≡ k + suc (suc m) = omega arith in
+        ap (λ new. after_keys d None new (replicate (suc m) LineDown))
+        (key-moves Down place ∙ ap kept-at (one-down d e.base e.width some e.content.text utf8 column place k at next))
+        ∙ goes-down m (k + 1) (enter d e.base e.width some e.content.text utf8 column (k + 1))
+        (falls-there d e.base e.width some e.content.text utf8 column (k + 1) next) (omega (arith, more)) ∙ ap at-row there
+
+    goes-up : (m k place : ℕ) → row_of (rows d e) place ≡ k → suc m ≤ k → k < length (rows d e)
+        → after_keys d None (kept-at place) (replicate (suc m) LineUp) ≡ at-row (k - suc m)
+    goes-up zero k place at more within =
+        key-moves Up place ∙ ap kept-at (one-up d e.base e.width some e.content.text utf8 column place k at more within)
+    goes-up (suc m) k place at more within =
+        let there : k - 1 - suc m ≡ k - suc (suc m) = omega arith in
+        let before : k - 1 < length (rows d e) = omega (arith, within) in
+        ap (λ new. after_keys d None new (replicate (suc m) LineUp))
+        (key-moves Up place ∙ ap kept-at (one-up d e.base e.width some e.content.text utf8 column place k at (omega (arith, more)) within))
+        ∙ goes-up m (k - 1) (enter d e.base e.width some e.content.text utf8 column (k - 1))
+        (falls-there d e.base e.width some e.content.text utf8 column (k - 1) before) (omega (arith, more)) before ∙ ap at-row there
+
+    there-and-back : (way other : Vertical) (m k : ℕ) → e.goal ≡ None → column ≡ cell_of e.width (rows d e) e.place
+        → after_keys d None (kept-at e.place) (replicate (suc m) (row_key way)) ≡ at-row k
+        → after_keys d None (at-row k) (replicate (suc m) (row_key other)) ≡ at-row (row_of (rows d e) e.place)
+        → after_keys d None e (replicate (suc m) (row_key way) ++ replicate (suc m) (row_key other)) ≡ at-row (row_of (rows d e) e.place)
+    there-and-back way other m k none is go back =
+        keys-append d e (replicate (suc m) (row_key way)) (replicate (suc m) (row_key other))
+        ∙ ap (λ new. after_keys d None new (replicate (suc m) (row_key other))) (keys-from way (replicate m (row_key way)) none is ∙ go) ∙ back
+
+-- ---- the place's own row
+
+from-moved : (start : ℕ) (os : List ℕ) (p : ℕ) → Contains (map (λ o. start + o) os) p → (o : ℕ) × (start + o ≡ p) × Contains os o
+from-moved start os p c =
+    let inside : c.0 < length os = omega (arith, c.1, length-map os (λ k. start + k)) in
+    (get_or os c.0 0, sym (get_or-map (λ k. start + k) os c.0 0 p inside) ∙ c.2, Contains-get_or os c.0 0 inside)
+
+module _ (d : Data) (e : Editor) (has : HasRows e) (place : IsTextPlace d e.content.text e.place) where
+  abbrev r : TextRow
+  r = own_row d e
+
+  abbrev k : ℕ
+  k = row_of (rows d e) e.place
+
+  some : 1 ≤ e.width
+  some = side-some e.width has.columns
+
+  one : HasOneSlot e.width (rows d e) e.place
+  one = one-slot d e.base e.width some e.content.text has.text e.place (place-in-window d e.base e.width some e.content.text has.text e.place place)
+
+  own-slot : (o : ℕ) × (r.start + o ≡ e.place) × Contains (slot_offsets e.width r.row) o
+  own-slot = from-moved r.start (slot_offsets e.width r.row) e.place (contains-counted (slots e.width r) e.place (omega (arith, one.once)))
+
+  abbrev o : ℕ
+  o = own-slot.0
+
+  abbrev column : ℕ
+  column = cell_of e.width (rows d e) e.place
+
+  column-is : column ≡ column_of e.width r.row o
+  column-is = let same : e.place - r.start ≡ o = omega (arith, own-slot.1) in ap (column_of e.width r.row) same
+
+  abbrev back-at : ℕ
+  back-at = enter d e.base e.width some e.content.text has.text column k
+
+  entered-at : (o' : ℕ) → entry e.width r.row column ≡ Some o' → back-at ≡ r.start + o'
+  entered-at o' is = ap (λ x. unwrap_or (place_in r x) 0) is
+
+  again : (entry e.width r.row column ≡ Some o) ⊎ IsFull e.width r.row o
+  again = subst (λ c. (entry e.width r.row c ≡ Some o) ⊎ IsFull e.width r.row o) (sym column-is)
+      (entered-again e.width some r.row (rows-leveled d e.base e.width e.content.text k no_text_row one.row)
+      (fitting-from d e.base e.width 0 (paragraphs d e.content.text) k no_text_row one.row)
+      (rows-have-columns d e.base e.width e.content.text has.text k no_text_row one.row) o own-slot.2)
+
+  at-edge : columns_used e.width r.row.units ≡ e.width → (s : Slot) × IsEnteredBy e.width r.row column s
+  at-edge full = subst (λ c. (s : Slot) × IsEnteredBy e.width r.row c s) (sym column-is)
+      (entered-at-edge e.width some r.row (rows-leveled d e.base e.width e.content.text k no_text_row one.row)
+      (fitting-from d e.base e.width 0 (paragraphs d e.content.text) k no_text_row one.row)
+      (rows-have-columns d e.base e.width e.content.text has.text k no_text_row one.row) o own-slot.2 full)
+
+  leads-back : (n : ℕ) (new : Editor) → new.place ≡ back-at → LeadsBack d e n new
+  leads-back n new is = record {
+    to_place =
+        λ not. ⊎_elim (λ there. is ∙ entered-at o there ∙ own-slot.1)
+        (λ full. absurd (not (record { last = full.last; at_end = sym own-slot.1 ∙ ap (λ x. r.start + x) full.at_end; full = full.full }))) again;
+    to_edge =
+        λ full more.
+        let s = at-edge full.full in
+        record { slot = s.0; is_slot = s.1.is_slot; place_is = is ∙ entered-at s.0.offset s.1.entry_is; covered = s.1.covered };
+  }
+
+  stays : LeadsBack d e 0 e
+  stays = record { to_place = λ not. refl; to_edge = λ full more. absurd (omega (arith, more)) }
+
+  module _ (off : e.seek ≡ Off) (none : e.goal ≡ None) where
+    down-and-up : (n : ℕ) → k + n < length (rows d e) → LeadsBack d e n (after_keys d None e (replicate n LineDown ++ replicate n LineUp))
+    down-and-up zero below = stays
+    down-and-up (suc m) below =
+        let new = after_keys d None e (replicate (suc m) LineDown ++ replicate (suc m) LineUp) in
+        let far = k + suc m in
+        let same : far - suc m ≡ k = omega arith in
+        leads-back (suc m) new
+        (ap (λ (x : Editor). x.place)
+        (there-and-back d e off column some has.text Down Up m far none refl (goes-down d e off column some has.text m k e.place refl below)
+        (goes-up d e off column some has.text m far (enter d e.base e.width some e.content.text has.text column far)
+        (falls-there d e.base e.width some e.content.text has.text column far below) (omega arith) below
+        ∙ ap (at-row d e off column some has.text) same)))
+
+    up-and-down : (n : ℕ) → n ≤ k → LeadsBack d e n (after_keys d None e (replicate n LineUp ++ replicate n LineDown))
+    up-and-down zero above = stays
+    up-and-down (suc m) above =
+        let new = after_keys d None e (replicate (suc m) LineUp ++ replicate (suc m) LineDown) in
+        let far = k - suc m in
+        let same : far + suc m ≡ k = omega (arith, above) in
+        let within : far < length (rows d e) = omega (arith, one.row) in
+        leads-back (suc m) new
+        (ap (λ (x : Editor). x.place)
+        (there-and-back d e off column some has.text Up Down m far none refl (goes-up d e off column some has.text m k e.place refl above one.row)
+        (goes-down d e off column some has.text m far (enter d e.base e.width some e.content.text has.text column far)
+        (falls-there d e.base e.width some e.content.text has.text column far within) (omega (arith, above, one.row))
+        ∙ ap (at-row d e off column some has.text) same)))
+
+pub line-moves-go-back : LineMovesGoBack
+line-moves-go-back d e n has off none place = record { below = down-and-up d e has place off none n; above = up-and-down d e has place off none n }
