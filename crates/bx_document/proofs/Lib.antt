@@ -18,8 +18,11 @@ pub mod ShownTop
 pub mod FoundOffsets
 pub mod LastPoints
 pub mod FirstSeparators
+pub mod UnitLevels
+pub mod PlaceLevels
 mod Examples
 pub mod TypedGlyphs
 pub mod TurnedExamples
 mod PlaceExamples
+mod LevelExamples
 pub mod WrappedPlace
