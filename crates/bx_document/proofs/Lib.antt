@@ -18,6 +18,7 @@ pub mod ShownTop
 pub mod FoundOffsets
 pub mod LastPoints
 pub mod FirstSeparators
+pub mod SeparatorsRead
 pub mod UnitLevels
 pub mod PlaceLevels
 mod Examples

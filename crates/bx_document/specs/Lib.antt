@@ -10,5 +10,6 @@ pub mod Past
 pub mod PlaceLevel
 pub mod Region
 pub mod RegionSlots
+pub mod SeparatorReads
 pub mod Shown
 pub mod Touched

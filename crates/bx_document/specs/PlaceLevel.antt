@@ -16,8 +16,10 @@ use Rattle.bx_view.specs.Standing.{body_at, count, start_at}
 abbrev pub level_from : ℕ → List (List ℕ) → List (Option ℕ) → ℕ → Option ℕ
 level_from start [] each at = None
 level_from start (u ∷ us) each at =
-    elim (start == at) [ true ↦ first_level (take (length (chars u)) each)
-    | false ↦ level_from (start + length u) us (drop (length (chars u)) each) at ]
+    elim (start == at) [
+      | true ↦ first_level (take (length (chars u)) each)
+      | false ↦ level_from (start + length u) us (drop (length (chars u)) each) at
+    ]
 
 -- the level of the unit that begins at an offset of a body, whose characters have the levels `each`
 abbrev pub unit_level : List ℕ → List (Option ℕ) → ℕ → Option ℕ
