@@ -26,3 +26,4 @@ pub mod TurnedExamples
 mod PlaceExamples
 mod LevelExamples
 pub mod WrappedPlace
+pub mod ReplacedPlace
