@@ -30,11 +30,12 @@ module _ (text : List ℕ) (start stop : ℕ) (utf8 : IsUtf8 text) (range : IsRa
   pub behind : (at : ℕ) → start < at → IsCharBoundary text (at + (stop - start)) ↔ IsCharBoundary left at
   behind at high =
       let old : start + (stop - start) + (at - start) ≡ at + (stop - start) = omega (arith, high) in
-      let new : start + 0 + (at - start) ≡ at = omega (arith, high) in
-      (λ b. subst (IsCharBoundary left) new
-      (new_bounds_after text change left leads (at - start) (subst (IsCharBoundary text) (sym old) b)),
-      λ b. subst (IsCharBoundary text) old
-      (old_bounds_after text change left leads (at - start) (subst (IsCharBoundary left) (sym new) b)))
+      let new : start + 0 + (at - start) ≡ at = omega (arith, high) in (
+        λ b. subst (IsCharBoundary left) new
+            (new_bounds_after text change left leads (at - start) (subst (IsCharBoundary text) (sym old) b)),
+        λ b. subst (IsCharBoundary text) old
+            (old_bounds_after text change left leads (at - start) (subst (IsCharBoundary left) (sym new) b)),
+      )
 
   -- as a test of the text tells it
   pub told-before : (at : ℕ) (b : Bool) → at ≤ start → IsTrue b ↔ IsCharBoundary text at → IsTrue b ↔ IsCharBoundary left at
