@@ -15,8 +15,6 @@ use Rattle.bx_editor.specs.declared.seek.Seek.{Seek}
 use Rattle.bx_editor.specs.declared.seek.Seek.TheVariants as seeks
 use Rattle.bx_editor.specs.declared.soft.Soft.{Soft}
 use Rattle.bx_editor.specs.declared.soft.Soft.TheVariants as softness
-use Rattle.bx_asking.specs.declared.question.Ask.{Ask}
-use Rattle.bx_asking.specs.declared.question.Ask.TheVariants as asks
 use Rattle.bx_runs.specs.declared.typing.Typing.{Typing}
 use Rattle.bx_runs.specs.declared.typing.Typing.TheVariants as typings
 use Rattle.bx_runs.specs.Runs.{edited}
@@ -38,9 +36,6 @@ pub record Editor : Type 0 where
   pub seek : Seek
   -- the place at which the latest search began
   pub origin : ℕ
-  pub ask : Ask
-  -- the answer to what is asked, as far as it is typed: at most 16 characters, in UTF-8
-  pub answer : List ℕ
   -- the lengths of the past at which runs of edits begin
   pub runs : List ℕ
   -- what the next edit may go on with
@@ -76,8 +71,6 @@ at_start text height width base = record {
   query = [];
   seek = seeks.Off;
   origin = 0;
-  ask = asks.Off;
-  answer = [];
   runs = [];
   typing = typings.Off;
   stored = Some 0;
