@@ -11,7 +11,9 @@ ghost use Rattle.bx_editor.specs.Search.{without_search};
 
 use crate::message::Message;
 use crate::seek::Seek;
+use crate::soft::Soft;
 use bx_document::Document;
+use bx_runs::{Runs, Typing};
 use bx_text::Slices;
 use bx_ucd::BidiData;
 use std::marker::Model;
@@ -23,10 +25,14 @@ pub struct Editor<D: BidiData + Drop> {
     pub(crate) document: Document<D>,
     pub(crate) place: usize,
     pub(crate) mark: Option<usize>,
+    pub(crate) soft: Soft,
     pub(crate) held: String,
     pub(crate) query: String,
     pub(crate) seek: Seek,
     pub(crate) origin: usize,
+    pub(crate) runs: Runs,
+    pub(crate) typing: Typing,
+    pub(crate) stored: Option<usize>,
     pub(crate) changed: bool,
     pub(crate) message: Option<Message>,
     pub(crate) quit_before: bool,
@@ -50,10 +56,14 @@ impl<D: BidiData + Drop> Model for Editor<D> {
         content = e.document.document.content;
         place = e.place;
         mark = e.mark;
+        soft = e.soft;
         held = string_bytes e.held;
         query = string_bytes e.query;
         seek = e.seek;
         origin = e.origin;
+        runs = e.runs.numbers;
+        typing = e.typing;
+        stored = e.stored;
         changed = e.changed;
         message = e.message;
         quit_before = e.quit_before;
