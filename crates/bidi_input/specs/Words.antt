@@ -2,7 +2,7 @@
 use Rattle.std.specs.Prelude.{ℕ, Bool, ◌&&◌, ◌||◌, ◌==◌, List, [], ◌∷◌, Option, Some, None, false, codes, bytes_eq, if◌then◌else◌}
 use Rattle.std.specs.Char.{is_ascii_hexdigit}
 
--- two hexadecimal digits: whether they are those of DELETE, 7F
+-- Reads two hexadecimal digits, and says whether they write 7F, the code of DELETE.
 abbrev pub erase_code : List ℕ → Option Bool
 erase_code (high ∷ low ∷ []) =
     if is_ascii_hexdigit high && is_ascii_hexdigit low then Some (high == 0x37 && (low == 0x66 || low == 0x46)) else None

@@ -15,7 +15,7 @@ pub fn erases_by_delete(words: &[String]) -> Option<bool>
     }
 }
 
-/// Whether a code of two hexadecimal digits is that of DELETE; `None` for any other text.
+/// Whether two hexadecimal digits write 7F, the code of DELETE. `None` for any other text.
 fn is_delete(code: &[u8]) -> Option<bool>
     ensures { result ≡ erase_code code.now }
 {

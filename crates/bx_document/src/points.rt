@@ -8,7 +8,7 @@ use crate::document::Document;
 use bx_terms::OutOfMemory;
 use bx_ucd::{BidiData, Class};
 
-/// Whether a class is NSM, that of nonspacing marks.
+/// Whether a class is NSM, the class of nonspacing marks.
 fn is_mark(class: Class) -> bool
     ensures { result ≡ is_mark class }
 {

@@ -201,7 +201,7 @@ module _ (end : Slot) (no_columns : end.columns ≡ 0) where
       ∙ end-first n ss
   entered-end column n false ss is none = absurd (cc)
 
-  -- the slot of an offset is that of a unit, which covers its column, or the end's
+  -- The slot `t` belongs to a unit, and is the first slot that covers its own column; or it is the paragraph's end.
   abbrev UnitOrEnd : Bool → List Slot → Slot → Type 0
   UnitOrEnd b ss t = (find (covers t.column) ss ≡ Some t) ⊎ ((b ≡ true) × (end ≡ t))
 
@@ -256,7 +256,7 @@ extents-wide w us some (k ∷ ks) below =
       extents-wide w us some ks (λ i d inside. below (suc i) d (omega (arith, inside))),
     )
 
--- the row fills the window, and the offset is that of its paragraph's end
+-- The row fills the window, and the offset `o` is the end of its paragraph.
 pub record IsFull (w : ℕ) (r : BodyRow) (o : ℕ) : Type 0 where
   pub last : r.is_last ≡ true
   pub at_end : o ≡ length r.body

@@ -1,4 +1,4 @@
--- Each unit of a row of a text has a column.
+-- Every unit takes at least one column in its row.
 use Rattle.std.proofs.Common.{◌≡◌, ℕ, zero, suc, ◌+◌, ◌-◌, ◌<◌, ◌≤◌, ◌&&◌, nat_lt, nat_le, Bool, true, false, List, [], ◌∷◌, map, take, drop}
 use Rattle.std.proofs.Common.{Option, chars, IsUtf8, sym, ap, subst, refl, ◌∙◌, arith, ltb-true}
 use Rattle.std.specs.Prelude.{⊤, All}

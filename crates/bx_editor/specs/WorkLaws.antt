@@ -44,14 +44,14 @@ FindNextIsFindTwice =
 abbrev pub own_row : Data → Editor → TextRow
 own_row d e = row_at (rows d e) (row_of (rows d e) e.place)
 
--- The place is the end of a paragraph whose last row fills the window. The end has no column of its own there: its cell is
--- that of the unit at the edge.
+-- The place is the end of a paragraph whose last row fills the window. No column is left for the end there, so the cursor
+-- stands on the unit at the edge.
 pub record IsFullEnd (w : ℕ) (r : TextRow) (place : ℕ) : Type 0 where
   pub last : r.row.is_last ≡ true
   pub at_end : place ≡ r.start + length r.row.body
   pub full : columns_used w r.row.units ≡ w
 
--- the place is that of a unit of the row, whose glyphs cover the column
+-- a unit of the row begins at the place, and its glyphs cover the column
 pub record IsCovering (w : ℕ) (r : TextRow) (column place : ℕ) : Type 0 where
   pub slot : Slot
   pub is_slot : Contains (row_slots w r.row) slot
