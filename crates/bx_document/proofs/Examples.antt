@@ -12,7 +12,7 @@ use Rattle.bx_view.specs.TextRows.{TextRow, row_at}
 use Rattle.bx_view.proofs.Computed.{rows}
 use Rattle.bx_document.specs.declared.edits.RegionEnd.TheVariants.{Start, Stop}
 use Rattle.bx_document.specs.declared.history.HistoryStep.TheVariants.{Undo, Redo}
-use Rattle.bx_document.specs.Document.{Document, after_exchange, after_wrap, at_opening, place_after}
+use Rattle.bx_document.specs.Document.{Document, after_replacement, after_wrap, at_opening, place_after}
 use Rattle.bx_document.specs.Drawing.{row_columns}
 use Rattle.bx_document.specs.History.{next_change, next_changes, stepped, stepped_times}
 use Rattle.bx_document.specs.Line.{line_of}
@@ -170,16 +170,22 @@ two_redone = refl
 -- ---- two edits at once
 
 -- x takes the place of ab
-a_letter_for_two : (after_exchange small (at_opening (codes "abc") 4 Auto) 0 2 (codes "x") 2).content
-    ≡ exchanged (opened (codes "abc")) 0 2 (codes "x") 2 0 1
+a_letter_for_two : (after_replacement small (at_opening (codes "abc") 4 Auto) 0 2 (codes "x") 2).content
+    ≡ exchanged (opened (codes "abc")) 0 2 0 (codes "x") 2 0 1
 unfolding unicode_segmentation unicode_width
 a_letter_for_two = refl
 
 -- e takes the place of a, and with it the mark that stood on a
-a_letter_for_one_with_a_mark : (after_exchange small (at_opening (0x61 ∷ 0xcc ∷ 0x81 ∷ []) 4 Auto) 0 1 (codes "e") 3).content
-    ≡ exchanged (opened (0x61 ∷ 0xcc ∷ 0x81 ∷ [])) 0 1 (codes "e") 3 0 3
+a_letter_for_one_with_a_mark : (after_replacement small (at_opening (0x61 ∷ 0xcc ∷ 0x81 ∷ []) 4 Auto) 0 1 (codes "e") 3).content
+    ≡ exchanged (opened (0x61 ∷ 0xcc ∷ 0x81 ∷ [])) 0 1 0 (codes "e") 3 0 3
 unfolding unicode_segmentation unicode_width
 a_letter_for_one_with_a_mark = refl
+
+-- without the separator the mark behind it stands on a, so x is put in behind the mark
+behind_a_mark_that_joins : (after_replacement small (at_opening (0x61 ∷ 0x0a ∷ 0xcc ∷ 0x81 ∷ []) 4 Auto) 1 2 (codes "x") 2).content
+    ≡ exchanged (opened (0x61 ∷ 0x0a ∷ 0xcc ∷ 0x81 ∷ [])) 1 2 3 (codes "x") 2 3 4
+unfolding unicode_segmentation unicode_width
+behind_a_mark_that_joins = refl
 
 -- brackets around b: the cursor stays at the same end of b
 wrapped_from_the_start : (after_wrap small (at_opening (codes "abc") 8 Auto) 1 2 (codes "(") (codes ")") 1 Start).content

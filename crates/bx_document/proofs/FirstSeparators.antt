@@ -24,7 +24,7 @@ abbrev pub is_cr_first : List ℕ → Bool
 is_cr_first s = (length s == 2) && (get_or s 0 0 == 13)
 
 -- the first of two bytes of a character is not CR
-no-cr : (c : ℕ) → (192 + c / 64 == 13) ≡ false
+pub no-cr : (c : ℕ) → (192 + c / 64 == 13) ≡ false
 no-cr c = grind (arith, nat_tests)
 
 character-at : (c : ℕ) (a b d : Bool) → nat_lt c 128 ≡ a → nat_lt c 2048 ≡ b → nat_lt c 65536 ≡ d

@@ -18,8 +18,13 @@ pub mod ShownTop
 pub mod FoundOffsets
 pub mod LastPoints
 pub mod FirstSeparators
+pub mod SeparatorsRead
+pub mod UnitLevels
+pub mod PlaceLevels
 mod Examples
 pub mod TypedGlyphs
 pub mod TurnedExamples
 mod PlaceExamples
+mod LevelExamples
 pub mod WrappedPlace
+pub mod ReplacedPlace

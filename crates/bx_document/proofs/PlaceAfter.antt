@@ -18,7 +18,7 @@ use Rattle.bx_paragraph.proofs.Starts.{side-some}
 use Rattle.bx_document.specs.Touched.{touched, touched_start}
 use Rattle.bx_document.proofs.TouchedPlace.{splice_utf8, touched_place}
 
-splice_bytes : (text : List ℕ) (start stop : ℕ) (new : List ℕ) → IsRange text start stop → length (splice text start stop new)
+pub splice_bytes : (text : List ℕ) (start stop : ℕ) (new : List ℕ) → IsRange text start stop → length (splice text start stop new)
     ≡ length text - (stop - start) + length new
 splice_bytes text start stop new range =
     let bounds : IsCharBoundary text stop = range.stop_bounds in

@@ -12,7 +12,6 @@ use Rattle.bx_text.specs.Edits.{Edit, Edited, change_back, change_of, edit_of, f
 use Rattle.bx_text.specs.Edits.{exchanged, inserted, redone, redone_in, removed, replaced, splice, undone, undone_in, wrapped}
 use Rattle.bx_text.specs.Times.{merged, next_redos, next_undos, redone_times, undone_times}
 use Rattle.bx_text.proofs.UndoneTimes.{no_redo, no_undo, nothing_redone, nothing_undone}
-use Rattle.bx_text.proofs.Versions.{splice_after, splice_before}
 use Rattle.bx_view.specs.Places.{IsTextPlace}
 use Rattle.bx_document.specs.declared.history.HistoryStep.{HistoryStep}
 use Rattle.bx_document.specs.declared.history.HistoryStep.TheVariants.{Undo, Redo}
@@ -172,31 +171,23 @@ keeps_edited {D} says inner now u start stop new before after same e h was is =
     (subst (λ (s : DocumentState D). IsTextPlace (says s.tables) s.document.content.text before) (sym same) was)
     (subst (λ (s : DocumentState D). IsTextPlace (says s.tables) (splice s.document.content.text start stop new) after) (sym same) is))
 
--- after bytes were exchanged
-pub exchanged_text : (text : List ℕ) (start stop : ℕ) (new : List ℕ) → start ≤ length text
-    → splice (splice text start stop []) start start new ≡ splice text start stop new
-exchanged_text text start stop new inside =
-    let mid = splice text start stop [] in
-    let e : start ≡ start + 0 = omega arith in
-    ap (λ xs. xs ++ new ++ drop start mid) (splice_before text [] start stop inside)
-    ∙ ap (λ xs. take start text ++ new ++ xs) (ap (λ n. drop n mid) e ∙ splice_after text [] start stop inside)
-
+-- after bytes were removed, and others inserted at the place after that
 pub keeps_exchanged : {D : Type 0} (says : D → Data) (inner now : DocumentState D) (u : Edited) (start stop : ℕ) (new : List ℕ) (place between after : ℕ)
-    → inner ≡ now → u ≡ exchanged inner.document.content start stop new place between after
-    → KeepsPlaces (says inner.tables) inner.document.content → start ≤ length now.document.content.text
+    → inner ≡ now → u ≡ exchanged inner.document.content start stop between new place between after
+    → KeepsPlaces (says inner.tables) inner.document.content
     → IsTextPlace (says now.tables) now.document.content.text place
     → IsTextPlace (says now.tables) (splice now.document.content.text start stop []) between
-    → IsTextPlace (says now.tables) (splice now.document.content.text start stop new) after → KeepsPlaces (says inner.tables) u
-keeps_exchanged {D} says inner now u start stop new place between after same e h inside was mid is =
+    → IsTextPlace (says now.tables) (splice (splice now.document.content.text start stop []) between between new) after → KeepsPlaces (says inner.tables) u
+keeps_exchanged {D} says inner now u start stop new place between after same e h was mid is =
     let t = inner.document.content in
     let by : Data = says inner.tables in
     let was' = subst (λ (s : DocumentState D). IsTextPlace (says s.tables) s.document.content.text place) (sym same) was in
     let mid' = subst (λ (s : DocumentState D). IsTextPlace (says s.tables) (splice s.document.content.text start stop []) between) (sym same) mid in
-    let is' = subst (λ (s : DocumentState D). IsTextPlace (says s.tables) (splice s.document.content.text start stop new) after) (sym same) is in
-    let within : start ≤ length t.text = subst (λ (s : DocumentState D). start ≤ length s.document.content.text) (sym same) inside in
+    let is' = subst (λ (s : DocumentState D). IsTextPlace (says s.tables)
+    (splice (splice s.document.content.text start stop []) between between new) after) (sym same) is in
     subst (KeepsPlaces by) (sym e)
-    (keeps_replaced by (removed t start stop place between) start start new between after (keeps_replaced by t start stop [] place between h was' mid') mid'
-    (subst (λ x. IsTextPlace by x after) (sym (exchanged_text t.text start stop new within)) is'))
+    (keeps_replaced by (removed t start stop place between) between between new between after (keeps_replaced by t start stop [] place between h was' mid')
+    mid' is')
 
 -- after bytes were wrapped
 pub keeps_wrapped : {D : Type 0} (says : D → Data) (inner now : DocumentState D) (u : Edited) (start stop : ℕ) (front back : List ℕ)

@@ -3,7 +3,7 @@ use Rattle.std.specs.Prelude.{ℕ, ◌+◌, List, [], length}
 use Rattle.bx_terms.specs.declared.base.Base.{Base}
 use Rattle.bx_document.specs.declared.edits.RegionEnd.{RegionEnd}
 use Rattle.bx_document.specs.declared.edits.RegionEnd.TheVariants.{Start, Stop}
-use Rattle.bx_text.specs.Edits.{Edited, exchanged, inserted, opened, removed, splice, wrapped}
+use Rattle.bx_text.specs.Edits.{Edited, inserted, opened, removed, splice, wrapped}
 use Rattle.bx_view.specs.Moves.{place_from}
 use Rattle.bx_view.specs.TextRows.{TextRow, text_rows}
 use Rattle.bx_ucd.specs.Data.{Data}
@@ -44,11 +44,20 @@ after_insertion d t place new = record t { content = inserted t.content place ne
 abbrev pub after_removal : Data → Document → ℕ → ℕ → ℕ → Document
 after_removal d t start stop place = record t { content = removed t.content start stop place (place_after d t start stop []) }
 
--- after the bytes from `start` to `stop` are removed and `new` is inserted in their place; the cursor was at `place`
-abbrev pub after_exchange : Data → Document → ℕ → ℕ → List ℕ → ℕ → Document
-after_exchange d t start stop new place = record t {
-  content = exchanged t.content start stop new place (place_after d t start stop []) (place_after d t start stop new);
-}
+-- the text without the bytes from `start` to `stop`, and with `new` inserted at the place that its removal leads to
+abbrev pub replaced_text : Data → Document → ℕ → ℕ → List ℕ → List ℕ
+replaced_text d t start stop new =
+    let between = place_after d t start stop [] in splice (splice t.content.text start stop []) between between new
+
+-- the place after it: the first one at or after the end of `new`
+abbrev pub place_after_replacement : Data → Document → ℕ → ℕ → List ℕ → ℕ
+place_after_replacement d t start stop new =
+    place_from (rows_of d t (replaced_text d t start stop new)) (place_after d t start stop [] + length new)
+
+-- after the bytes from `start` to `stop` are removed and then `new` is inserted at the place after that; the cursor was at
+-- `place`
+abbrev pub after_replacement : Data → Document → ℕ → ℕ → List ℕ → ℕ → Document
+after_replacement d t start stop new place = after_insertion d (after_removal d t start stop place) (place_after d t start stop []) new
 
 -- the text with `back` inserted behind the bytes from `start` to `stop`, and `front` before them
 abbrev pub wrapped_text : List ℕ → ℕ → ℕ → List ℕ → List ℕ → List ℕ

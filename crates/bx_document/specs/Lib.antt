@@ -7,7 +7,9 @@ pub mod FirstSeparator
 pub mod History
 pub mod Line
 pub mod Past
+pub mod PlaceLevel
 pub mod Region
 pub mod RegionSlots
+pub mod SeparatorReads
 pub mod Shown
 pub mod Touched

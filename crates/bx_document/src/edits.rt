@@ -3,7 +3,7 @@ ghost use Rattle.std.specs.Prelude.{◌≡◌, ℕ, List, [], ◌++◌, ◌+◌,
 ghost use Rattle.bx_paras.specs.Paragraphs.{lengths};
 ghost use Rattle.bx_text.specs.Edits.{IsRange, IsChange, fits, fits_both, largest_text, splice};
 ghost use Rattle.bx_view.specs.Places.{IsTextPlace};
-ghost use Rattle.bx_document.specs.Document.{after_exchange, after_insertion, after_removal, after_wrap, place_after, place_after_wrap, wrapped_end, wrapped_text};
+ghost use Rattle.bx_document.specs.Document.{after_insertion, after_removal, after_replacement, after_wrap, place_after, place_after_replacement, place_after_wrap, replaced_text, wrapped_end, wrapped_text};
 
 use crate::document::Document;
 use crate::touched::{place_after, place_inside};
@@ -80,6 +80,7 @@ impl<D: BidiData + Drop> Document<D> {
         ensures same { self.new ≡ self.old }
         ensures place { IfOk result (λ o. o ≡ place_after (D.data self.old.tables) self.old.document start stop new.now) }
         ensures text_place { IfOk result (IsTextPlace (D.data self.old.tables) (splice self.old.document.content.text start stop new.now)) }
+        ensures order { IfOk result (λ o. start + length new.now ≤ o) }
     {
         // proof only: the text is UTF-8, and the width is within its limits
         let _utf8 = self.text.len();
@@ -144,12 +145,41 @@ impl<D: BidiData + Drop> Document<D> {
         follow(&mut self.index, &self.text, &self.tables, &change);
         Ok(after)
     }
-    /// Removes the bytes from `start` to `stop`, inserts `new` in their place, and returns the new place; none, and no change,
-    /// if the text would exceed 16,777,216 bytes after both. These are two edits, of which undo takes back the insertion
-    /// first; the second one restores the cursor to `place`.
+
+    /// The place after a pending replacement, of which the removal of the bytes from `start` to `stop` leads to `between`.
+    ///
+    /// Errors: `OutOfMemory`.
+    fn place_after_both(
+        &mut self,
+        start: usize,
+        stop: usize,
+        between: usize,
+        new: &str,
+    ) -> Result<usize, OutOfMemory>
+        requires range { IsRange self.old.document.content.text start stop }
+        requires fits { fits self.old.document.content.text start stop new.now ≡ true }
+        requires between { between ≡ place_after (D.data self.old.tables) self.old.document start stop [] }
+        requires order { start ≤ between }
+        requires place { IsTextPlace (D.data self.old.tables) (splice self.old.document.content.text start stop []) between }
+        ensures same { self.new ≡ self.old }
+        ensures place { IfOk result (λ o. o ≡ place_after_replacement (D.data self.old.tables) self.old.document start stop new.now) }
+        ensures text_place { IfOk result (IsTextPlace (D.data self.old.tables) (replaced_text (D.data self.old.tables) self.old.document start stop new.now)) }
+    {
+        // proof only: the text is UTF-8 and within its limit
+        let _utf8 = self.text.len();
+        // The bytes behind the removed ones, up to the place between, stay in front of the new text.
+        let behind = stop + (between - start);
+        let whole = wrapped(self.alloc, &self.text, stop, behind, "", new)?;
+        let place = self.place_after(start, behind, whole.as_str())?;
+        Ok(place)
+    }
+
+    /// Removes the bytes from `start` to `stop`, then inserts `new` at the place after that, and returns the place after both;
+    /// none, and no change, if the text would exceed 16,777,216 bytes. These are two edits, of which undo takes back the
+    /// insertion first; the second one restores the cursor to `place`.
     ///
     /// Errors: `OutOfMemory`, and nothing has changed.
-    pub fn exchange(
+    pub fn replace(
         &mut self,
         start: usize,
         stop: usize,
@@ -162,9 +192,9 @@ impl<D: BidiData + Drop> Document<D> {
             ((fits self.old.document.content.text start stop new.now ≡ false) × (self.new ≡ self.old))
             (λ o. (fits self.old.document.content.text start stop new.now ≡ true)
             × (self.new ≡ record self.old {
-              document = after_exchange (D.data self.old.tables) self.old.document start stop new.now place;
+              document = after_replacement (D.data self.old.tables) self.old.document start stop new.now place;
             })
-            × (o ≡ place_after (D.data self.old.tables) self.old.document start stop new.now))) }
+            × (o ≡ place_after_replacement (D.data self.old.tables) self.old.document start stop new.now))) }
         ensures text_place { IfOk result (λ after. IfSome after (IsTextPlace (D.data self.new.tables) self.new.document.content.text)) }
         ensures err { OnErr result (self.new ≡ self.old) }
     {
@@ -173,9 +203,12 @@ impl<D: BidiData + Drop> Document<D> {
             return Ok(None);
         }
         let between = self.place_after(start, stop, "")?;
-        let after = self.place_after(start, stop, new)?;
-        self.index.ready(new.len())?;
-        let Ok(change) = self.text.exchange(start, stop, new, place, between, after) else {
+        let after = self.place_after_both(start, stop, between, new)?;
+        self.index.ready(between - start + new.len())?;
+        let Ok(change) = self
+            .text
+            .exchange(start, stop, between, new, place, between, after)
+        else {
             return Err(OutOfMemory);
         };
         follow(&mut self.index, &self.text, &self.tables, &change);

@@ -1,9 +1,96 @@
-//! The text's first separator.
-ghost use Rattle.std.specs.Prelude.{◌≡◌};
+//! The text's first separator, also without a part of the text.
+ghost use Rattle.std.specs.Prelude.{◌≡◌, ◌++◌, ◌∷◌, [], ℕ, List, chars, slice_range};
+ghost use Rattle.bx_text.specs.Edits.{IsRange, splice};
 ghost use Rattle.bx_document.specs.FirstSeparator.{has_crlf_first};
+ghost use Rattle.bx_ucd.specs.Data.{Data};
+ghost use Rattle.bx_document.specs.SeparatorReads.{crlf_from};
 
 use crate::document::Document;
+use bx_paras::separates;
+use bx_terms::first_char;
+use bx_text::Text;
 use bx_ucd::BidiData;
+
+/// What characters tell of the first separator of a text that begins with them.
+#[derive(Clone, Copy, PartialEq, Eq, Debug)]
+enum Seen {
+    /// None of them is a separator.
+    Nothing,
+    /// The first separator is the last of them, a CR.
+    Cr,
+    /// Whether the first separator is CR LF.
+    Known(bool),
+}
+
+/// Whether the first separator is CR LF where no more is to be read.
+fn is_crlf(seen: Seen) -> bool
+    ensures { (says : Data) → result ≡ crlf_from says seen [] }
+{
+    match seen {
+        Seen::Nothing | Seen::Cr => false,
+        Seen::Known(answer) => answer,
+    }
+}
+
+/// What is told once the character behind them is read too.
+fn after<D: BidiData>(seen: Seen, c: char, tables: &D) -> Seen
+    ensures { (rest : List ℕ) → crlf_from (D.data tables.now) seen (c ∷ rest) ≡ crlf_from (D.data tables.now) result rest }
+{
+    match seen {
+        Seen::Nothing => {
+            if !separates(tables, c) {
+                return Seen::Nothing;
+            }
+            if c == '\r' {
+                return Seen::Cr;
+            }
+            Seen::Known(false)
+        }
+        Seen::Cr => Seen::Known(c == '\n' && separates(tables, c)),
+        Seen::Known(answer) => Seen::Known(answer),
+    }
+}
+
+/// What is told once a part of the text behind them is read too.
+fn after_part<D: BidiData>(before: Seen, part: &str, tables: &D) -> Seen
+    ensures { (rest : List ℕ) → crlf_from (D.data tables.now) before (chars part.now ++ rest) ≡ crlf_from (D.data tables.now) result rest }
+{
+    let mut seen = before;
+    let mut left = part;
+    'chars: while let Some((c, behind)) = first_char(left) {
+        if let Seen::Known(answer) = seen {
+            return Seen::Known(answer);
+        }
+        seen = after(seen, c, tables);
+        left = behind;
+    }
+    seen
+}
+
+/// What is told once the text from `start` to `stop` is read too, piece by piece.
+fn after_range<D: BidiData>(
+    before: Seen,
+    text: &Text,
+    start: usize,
+    stop: usize,
+    tables: &D,
+) -> Seen
+    requires range { IsRange text.now.edited.text start stop }
+    ensures { (rest : List ℕ) → crlf_from (D.data tables.now) before (chars (slice_range text.now.edited.text start stop) ++ rest)
+        ≡ crlf_from (D.data tables.now) result rest }
+{
+    let mut seen = before;
+    let mut at = start;
+    'parts: while at < stop {
+        if let Seen::Known(answer) = seen {
+            return Seen::Known(answer);
+        }
+        let part = text.part_at(at, stop);
+        seen = after_part(seen, part, tables);
+        at += part.len();
+    }
+    seen
+}
 
 impl<D: BidiData + Drop> Document<D> {
     /// Whether the text's first separator is CR LF. No memory.
@@ -21,5 +108,16 @@ impl<D: BidiData + Drop> Document<D> {
             Some(separator) => separator.as_bytes()[0] == b'\r',
             None => false,
         }
+    }
+
+    /// Whether the first separator of the text without the bytes from `start` to `stop` is CR LF. It reads up to that
+    /// separator. No memory.
+    pub fn has_crlf_first_without(&self, start: usize, stop: usize) -> bool
+        requires range { IsRange self.now.document.content.text start stop }
+        ensures { result ≡ has_crlf_first (D.data self.now.tables) (splice self.now.document.content.text start stop []) }
+    {
+        let len = self.text.len();
+        let before = after_range(Seen::Nothing, &self.text, 0, start, &self.tables);
+        is_crlf(after_range(before, &self.text, stop, len, &self.tables))
     }
 }

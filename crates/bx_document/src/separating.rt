@@ -1,12 +1,19 @@
-//! The characters that separate paragraphs.
+//! The classes of characters, and those that separate paragraphs.
 ghost use Rattle.std.specs.Prelude.{◌≡◌};
 ghost use Rattle.bx_paras.specs.Paragraphs.{is_separator};
 
 use crate::document::Document;
 use bx_paras::separates;
-use bx_ucd::BidiData;
+use bx_ucd::{BidiData, Class};
 
 impl<D: BidiData + Drop> Document<D> {
+    /// A character's class (the property Bidi_Class). No memory.
+    pub fn class(&self, c: char) -> Class
+        ensures { result ≡ (D.data self.now.tables).class c }
+    {
+        self.tables.class(c)
+    }
+
     /// Whether a character separates paragraphs. No memory.
     pub fn separates(&self, c: char) -> bool
         ensures { result ≡ is_separator ((D.data self.now.tables).class c) }

@@ -13,3 +13,4 @@ pub mod UndoneTimes
 pub mod Examples
 pub mod Lent
 pub mod OneStep
+pub mod Without

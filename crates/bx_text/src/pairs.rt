@@ -1,11 +1,11 @@
 //! Two edits made together, which are two entries of the past.
 
-ghost use Rattle.std.specs.Prelude.{◌≡◌, [], ◌∷◌, ◌++◌, ◌+◌, ◌-◌, ◌≤◌, ◌<◌, ◌^◌, false, IfOk, IsErrOf, OnErr, OnOk, length, vec_len, vec_capacity, string_len, string_capacity, string_bytes};
-ghost use Rattle.std.specs.Str.{IsUtf8};
+ghost use Rattle.std.specs.Prelude.{◌≡◌, [], ◌∷◌, ◌++◌, ◌+◌, ◌-◌, ◌≤◌, ◌<◌, ◌^◌, ◌↔◌, false, IfOk, IsErrOf, IsTrue, OnErr, OnOk, length, vec_len, vec_capacity, string_len, string_capacity, string_bytes};
+ghost use Rattle.std.specs.Str.{IsCharBoundary, IsUtf8};
 ghost use Rattle.bx_pieces.specs.Pieces.{total, front, back, IsAddressable};
 ghost use Rattle.bx_text.specs.Buffers.{with_added};
-ghost use Rattle.bx_text.specs.Edits.{exchanged, fits, fits_both, largest_text, wrapped, IsChange, IsRange};
-ghost use Rattle.bx_text.specs.Replacements.{change_made, made, text_after};
+ghost use Rattle.bx_text.specs.Edits.{exchanged, fits, fits_both, largest_text, splice, wrapped, IsChange, IsRange};
+ghost use Rattle.bx_text.specs.Replacements.{change_inserted, change_made, change_removed, made, text_after};
 ghost use Rattle.bx_text.specs.Times.{merged};
 
 use crate::change::Change;
@@ -144,8 +144,23 @@ impl Text {
         Ok(merge(first.change(), second.change()))
     }
 
-    /// Removes the text between two character boundaries, and inserts `new` in its place: two edits, of which the second is
-    /// undone first. Empties the future. `before`, `between` and `after` are the places before, between and after them.
+    /// Whether an offset is a character boundary of the text without the bytes from `start` to `stop`.
+    fn is_boundary_without(&self, start: usize, stop: usize, at: usize) -> bool
+        requires range { IsRange self.now.edited.text start stop }
+        ensures { IsTrue result ↔ IsCharBoundary (splice self.now.edited.text start stop []) at }
+    {
+        if at <= start {
+            return self.is_boundary(at);
+        }
+        if at > self.len() - (stop - start) {
+            return false;
+        }
+        self.is_boundary(at + (stop - start))
+    }
+
+    /// Removes the text between two character boundaries, and inserts `new` at an offset `at` of the text without it: two
+    /// edits, of which the second is undone first. Empties the future. `before`, `between` and `after` are the places before,
+    /// between and after them.
     ///
     /// Errors, in this order, each leaving all unchanged: `NotABoundary`, also where `start > stop`; `TooLong` where the
     /// text would exceed 16,777,216 bytes after both; `OutOfMemory`.
@@ -153,24 +168,31 @@ impl Text {
         &mut self,
         start: usize,
         stop: usize,
+        at: usize,
         new: &str,
         before: usize,
         between: usize,
         after: usize,
     ) -> Result<Change, TextError>
-        ensures ok { OnOk result (self.new ≡ record { edited = exchanged self.old.edited start stop new.now before between after; room = None }) }
-        ensures change { IfOk result (λ c. c ≡ record { start = start; removed = stop - start; added = length new.now; place = after }) }
+        ensures ok { OnOk result (self.new ≡ record { edited = exchanged self.old.edited start stop at new.now before between after; room = None }) }
+        ensures change { IfOk result (λ c. c ≡ merged (change_removed start stop between) (change_inserted at (length new.now) after)) }
         ensures is_change { IfOk result (λ c. IsChange self.old.edited.text c self.new.edited.text) }
         ensures err { OnErr result (self.new ≡ self.old) }
 
         // Each error comes for its own cause alone.
-        ensures range { OnOk result (IsRange self.old.edited.text start stop) }
-        ensures not_a_boundary { IsErrOf result TextError.NotABoundary → ¬ (IsRange self.old.edited.text start stop) }
-        ensures boundary { ¬ (IsRange self.old.edited.text start stop) → IsErrOf result TextError.NotABoundary }
+        ensures range { OnOk result (IsRange self.old.edited.text start stop × IsCharBoundary (splice self.old.edited.text start stop []) at) }
+        ensures not_a_boundary { IsErrOf result TextError.NotABoundary
+            → ¬ (IsRange self.old.edited.text start stop × IsCharBoundary (splice self.old.edited.text start stop []) at) }
+        ensures boundary { ¬ (IsRange self.old.edited.text start stop × IsCharBoundary (splice self.old.edited.text start stop []) at)
+            → IsErrOf result TextError.NotABoundary }
         ensures too_long { IsErrOf result TextError.TooLong → fits self.old.edited.text start stop new.now ≡ false }
-        ensures short { IsRange self.old.edited.text start stop → fits self.old.edited.text start stop new.now ≡ false → IsErrOf result TextError.TooLong }
+        ensures short { IsRange self.old.edited.text start stop → IsCharBoundary (splice self.old.edited.text start stop []) at
+            → fits self.old.edited.text start stop new.now ≡ false → IsErrOf result TextError.TooLong }
     {
         if !self.is_range(start, stop) {
+            return Err(TextError::NotABoundary);
+        }
+        if !self.is_boundary_without(start, stop, at) {
             return Err(TextError::NotABoundary);
         }
         let kept = self.len() - (stop - start);
@@ -185,7 +207,7 @@ impl Text {
             after: between,
         };
         let insertion = Replacement {
-            start,
+            start: at,
             len: 0,
             text: new,
             before: between,

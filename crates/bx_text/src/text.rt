@@ -199,7 +199,7 @@ impl Text {
     }
 
     /// Whether an offset is the text's end or the first byte of a character.
-    fn is_boundary(&self, at: usize) -> bool
+    pub(crate) fn is_boundary(&self, at: usize) -> bool
         ensures { IsTrue result ↔ IsCharBoundary self.now.edited.text at }
     {
         at == self.len() || self.piece_at(at).is_some()

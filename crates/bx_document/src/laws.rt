@@ -1,0 +1,11 @@
+//! Laws of levels. The functions are empty: their contracts are the laws.
+ghost use Rattle.std.specs.Prelude.{ℕ, List, IsUtf8};
+ghost use Rattle.bx_terms.specs.declared.base.Base.{Base};
+ghost use Rattle.bx_ucd.specs.Data.{Data};
+ghost use Rattle.bx_document.specs.PlaceLevel.{UnitsHaveLevels};
+
+/// Each unit with a character that has a level has a level at the place where it begins, and its first such character gives
+/// it.
+pub fn units_have_levels()
+    ensures { (says : Data) (base : Base) (text : List ℕ) → IsUtf8 text → UnitsHaveLevels says base text }
+{}

@@ -1,0 +1,59 @@
+//! The embedding level of the unit at a place.
+ghost use Rattle.std.specs.Prelude.{◌≡◌, true, Contains, IfOk, IsCharBoundary};
+ghost use Rattle.unicode_segmentation.specs.Grapheme.{graphemes};
+ghost use Rattle.bx_rows.specs.RowLevels.{first_level};
+ghost use Rattle.bx_view.specs.Places.{IsTextPlace, boundaries};
+ghost use Rattle.bx_document.specs.PlaceLevel.{place_level, unit_level};
+
+use crate::document::Document;
+use bx_resolve::{Level, levels};
+use bx_rows::char_count;
+use bx_terms::OutOfMemory;
+use bx_ucd::BidiData;
+use unicode_segmentation::UnicodeSegmentation;
+
+/// The first level of some characters' levels; none if X9 removes them all.
+fn first_level(levels: &[Level]) -> Option<u8>
+    ensures { result ≡ first_level levels.now }
+{
+    for level in levels {
+        if let Some(first) = level.get() {
+            return Some(first);
+        }
+    }
+    None
+}
+
+/// The level of the unit that begins at an offset of a body, whose characters have the levels `each`; none if X9 removes all
+/// of its characters, and at the body's end.
+fn unit_level(body: &str, each: &[Level], at: usize) -> Option<u8>
+    requires bounds { IsCharBoundary body.now at }
+    requires place { Contains (boundaries 0 (graphemes true body.now)) at }
+    ensures { result ≡ unit_level body.now each.now at }
+{
+    let Some(unit) = body[at..].graphemes(true).next() else {
+        return None;
+    };
+    let ahead = char_count(&body[..at]);
+    let left = &each[ahead.min(each.len())..];
+    first_level(&left[..char_count(unit).min(left.len())])
+}
+
+impl<D: BidiData + Drop> Document<D> {
+    /// The embedding level of the unit that begins at a place, before rule L1 resets trailing blanks. None at a separator, at
+    /// the text's end, and where X9 removes all of the unit's characters. The place's paragraph is resolved anew.
+    ///
+    /// Errors: `OutOfMemory`.
+    pub fn level_at(&self, place: usize) -> Result<Option<u8>, OutOfMemory>
+        requires text_place { IsTextPlace (D.data self.now.tables) self.now.document.content.text place }
+        ensures { IfOk result (λ l. l ≡ place_level (D.data self.now.tables) self.now.document.base self.now.document.content.text place) }
+    {
+        // proof only: the text is UTF-8
+        let _utf8 = self.text.len();
+        let (_, (start, stop)) = self.index.span_at(place);
+        let copy = self.copy(start, stop)?;
+        let body = copy.as_str();
+        let levels = levels(self.alloc, body, &self.tables, self.layout.base())?;
+        Ok(unit_level(body, levels.each.as_slice(), place - start))
+    }
+}
