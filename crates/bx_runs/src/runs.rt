@@ -1,6 +1,6 @@
 //! The lengths of the past at which runs of edits begin.
 
-ghost use Rattle.std.specs.Prelude.{◌≡◌, ◌≤◌, [], true, false, take, drop, length, OnOk, OnErr};
+ghost use Rattle.std.specs.Prelude.{◌≡◌, ◌+◌, ◌-◌, ◌≤◌, [], true, false, take, drop, length, OnOk, OnErr};
 ghost use Rattle.bx_runs.specs.Runs.{above, below, edited, run_end, run_start, Rise};
 
 use bx_terms::OutOfMemory;
@@ -98,15 +98,15 @@ impl Runs {
         self.numbers[count - 1]
     }
 
-    /// The length of the past to which a redo of a run goes from the length `n`: the next at which a run begins, at most
-    /// `last`, the length that the past has once all is made again.
-    pub fn end_after(&self, n: usize, last: usize) -> usize
-        ensures { result ≡ run_end self.now.numbers n last }
+    /// How many edits a redo of a run makes again from the past's length `n`, where `left` edits can be made again: those up to
+    /// the next at which a run begins, or all.
+    pub fn redo_count(&self, n: usize, left: usize) -> usize
+        ensures { result ≡ run_end self.now.numbers n (n + left) - n }
     {
         let count = count_up_to(&self.numbers, n);
         if count == self.numbers.len() {
-            return last;
+            return left;
         }
-        last.min(self.numbers[count])
+        left.min(self.numbers[count].saturating_sub(n))
     }
 }

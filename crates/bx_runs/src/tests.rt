@@ -19,7 +19,7 @@ fn words_are_undone_and_redone(rt: HostRuntime) -> Result<(), Fail> {
     }
     assert_eq!(rt; typing, Typing::Word);
     assert_eq!(rt; (runs.start_before(5), runs.start_before(3)), (3, 0));
-    assert_eq!(rt; (runs.end_after(0, 5), runs.end_after(3, 5)), (3, 5));
+    assert_eq!(rt; (runs.redo_count(0, 5), runs.redo_count(3, 2)), (3, 2));
     Ok(())
 }
 
