@@ -1,10 +1,10 @@
 -- The editor's decoder behind the filter.
-use Rattle.std.proofs.Common.{◌≡◌, ◌≢◌, ℕ, ◌⊎◌, inl, inr, Bool, true, false, not, ◌&&◌, nat_eq, cond, List, [], ◌∷◌, ◌++◌, map, get_or, Option, Some, None}
+use Rattle.std.proofs.Common.{◌≡◌, ◌≢◌, ℕ, ◌⊎◌, inl, inr, Bool, true, false, not, ◌&&◌, nat_eq, cond, List, [], ◌∷◌, ◌++◌, drop, get_or, Option, Some, None}
 use Rattle.std.proofs.Common.{refl, ap, sym, ◌∙◌, append_assoc, subst, arith}
 use Rattle.std.specs.Prelude.{find}
 use Rattle.std.specs.List.{AllByRecursion, list_all}
-use Rattle.std.specs.Str.{bytes_eq, chars, IsUtf8}
-use Rattle.std.proofs.lemmas.Bool.{cases_Bool, cases_eq, and_parts, and_cases, or_parts, cond-true, cond-false}
+use Rattle.std.specs.Str.{bytes_eq}
+use Rattle.std.proofs.lemmas.Bool.{both_ways, cases_Bool, cases_eq, and_parts, and_cases, or_parts, cond-true, cond-false}
 use Rattle.std.proofs.lemmas.List.{append-nil}
 use Rattle.std.proofs.lemmas.Slice.Eq.{bytes_eq-Decides}
 use Rattle.bx_bytes.specs.Pattern.{is_within}
@@ -14,15 +14,16 @@ use Rattle.bx_bytes.specs.declared.fate.Fate.TheVariants.{Waits, Ends, Breaks}
 use Rattle.bx_keys.specs.Items.{items}
 use Rattle.bx_keys.specs.Keys.{Decoding, decoding, rest_after}
 use Rattle.bx_keys.specs.Waiting as editor
-use Rattle.bx_keys.specs.declared.key.Key.TheVariants.{Insert}
+use Rattle.bx_keys.specs.declared.key.Key.{Key}
+use Rattle.bx_keys.specs.declared.key.Key.TheVariants.{PasteStart, PasteEnd}
 use Rattle.bx_keys.proofs.Cuts.{in_pieces, rest_waits}
 use Rattle.bx_keys.proofs.Feeding.{waits_decoding, feeds_waiting, feeds_end, feeds_break, feeds_alone}
 use Rattle.bx_input.specs.Filter as filter
 use Rattle.bx_input.specs.Table as table
-use Rattle.bx_input.specs.Table.{Row, sequences, fate, paste_start, paste_end}
+use Rattle.bx_input.specs.Table.{Row, keys_of, sequences, fate, paste_start, paste_end, start_told, end_told}
 use Rattle.bx_input.specs.Paste.{pasted, paste_fate}
-use Rattle.bx_input.specs.Filter.{State, Outside, Within, Step, step_to, paste_step_by, fresh_in_paste, ended, start, at_end, apart_from, is_empty}
-use Rattle.bx_input.specs.Laws.{became, longer_by, longer_row, row_behind, is_text_byte, IsText, is_insert, HasKey, AddsKey, BecomesRow, PastesInsert}
+use Rattle.bx_input.specs.Filter.{State, Outside, Within, Step, step_to, ended_in_paste, paste_step_by, fresh_in_paste, ended, start, at_end, apart_from, is_empty}
+use Rattle.bx_input.specs.Laws.{became, longer_by, longer_row, row_behind, is_text_byte, IsText, HasKeys, AddsKeys, BecomesRow, PastesInsert}
 use Rattle.bx_input.proofs.Clean.{pastes_clean}
 use Rattle.bx_input.proofs.Decoding.{IsFree, IsOutside, anew, anew_in_text, after_can, alone_free, sequence_over, still_free, text_inserts, text_not_escape}
 use Rattle.bx_input.proofs.Firsts.{lacks_after_first, breaks_at}
@@ -133,9 +134,12 @@ sent_anew : (is_open : Bool) (rest bs : List ℕ) → starts_anew bs ≡ true �
 sent_anew is_open rest [] s w free = absurd (cc s)
 sent_anew is_open rest (b ∷ bs) s w free = sent_by (nat_eq b 0x1B) is_open rest b bs refl s w free
 
-opened_free : (is_open : Bool) (rest : List ℕ) → editor.fate rest ≡ Waits → (is_open ≡ false → IsFree rest) → IsFree (left rest (apart_from is_open []))
-opened_free true rest w free = subst IsFree (sym (ap (λ (d : Decoding). d.rest) (anew rest 0x18 [] refl w))) nothing_free
-opened_free false rest w free = subst IsFree (sym (left_none rest w)) (free refl)
+-- a paste's marks begin anew too, and nothing waits behind them
+start_leaves : (rest : List ℕ) → editor.fate rest ≡ Waits → left rest start_told ≡ []
+start_leaves rest w = ap (λ (d : Decoding). d.rest) (anew rest 0x1B (drop 1 start_told) refl w)
+
+end_leaves : (rest : List ℕ) → editor.fate rest ≡ Waits → left rest end_told ≡ []
+end_leaves rest w = ap (λ (d : Decoding). d.rest) (anew rest 0x1B (drop 1 end_told) refl w)
 
 abbrev is_whole : Row → Bool
 is_whole r = starts_anew r.becomes && is_empty (decoding r.becomes).rest
@@ -190,7 +194,7 @@ module _ (by_delete : Bool) where
 
   ended_follows : (is_open : Bool) (read : List ℕ) (o : Option Row) (rest : List ℕ) → row_of read ≡ o → editor.fate rest ≡ Waits
       → (is_open ≡ false → IsFree rest) → Follows (ended is_open o).state (left rest (ended is_open o).output)
-  ended_follows is_open read None rest h w free = opened_free is_open rest w free
+  ended_follows is_open read None rest h w free = subst IsFree (sym (start_leaves rest w)) nothing_free
   ended_follows is_open read (Some r) rest h w free =
       let is = found (λ (x : Row). bytes_eq x.sequence read) is_whole rows r (all_whole by_delete) h in
       subst (FollowsOutside [] false) (sym (row_leaves is_open r rest is.fits w free)) (nothing_follows false)
@@ -311,7 +315,7 @@ module _ (by_delete : Bool) where
   free_follows : (rest : List ℕ) → IsFree rest → FollowsOutside [] false rest
   free_follows rest free = record { closed = λ e. free; not_bare = λ e s. free (ap (λ xs. get_or xs 0 0) s) }
 
-  after_end_follows : (t : Bool) (rest : List ℕ) → IsFree rest → Follows (cond t start (Within [] false)) rest
+  after_end_follows : (t : Bool) (rest : List ℕ) → IsFree rest → Follows (ended_in_paste t).state rest
   after_end_follows true rest free = free_follows rest free
   after_end_follows false rest free = free
 
@@ -326,12 +330,26 @@ module _ (by_delete : Bool) where
   within_follows Ends waiting after_return b rest free = after_end_follows (bytes_eq (waiting ++ b ∷ []) paste_end) rest free
   within_follows Breaks waiting after_return b rest free = fresh_follows (paste_fate (b ∷ [])) after_return b rest free
 
+  step_free : (waiting : List ℕ) (after_return : Bool) (b : ℕ) (rest : List ℕ) → editor.fate rest ≡ Waits → IsFree rest
+      → IsFree (left rest (step (Within waiting after_return) b).output)
+  step_free waiting after_return b rest w free =
+      let clean = pastes_clean by_delete in
+      let read : List ℕ = waiting ++ b ∷ [] in
+      elim (cases_Bool (bytes_eq read paste_end)) [
+        | inl end ↦ (
+            let went = clean.last_byte waiting after_return b ((bytes_eq-Decides read paste_end).0 end) in
+            subst IsFree (sym (ap (λ (x : Step). left rest x.output) went ∙ end_leaves rest w)) nothing_free)
+        | inr other ↦ (
+            let is_other : read ≢ paste_end = λ same. both_ways (bytes_eq read paste_end) other (ap (λ xs. bytes_eq xs paste_end) same) in
+            text_free rest (step (Within waiting after_return) b).output w free (clean.each_byte waiting after_return b is_other))
+      ]
+
   step_follows : (s : State) (b : ℕ) (rest : List ℕ) → IsSound s → editor.fate rest ≡ Waits → Follows s rest
       → Follows (step s b).state (left rest (step s b).output)
   step_follows (Outside waiting is_open) b rest s w f = outside_follows (fate (waiting ++ b ∷ [])) waiting is_open b rest refl s w f
   step_follows (Within waiting after_return) b rest s w f =
       within_follows (paste_fate (waiting ++ b ∷ [])) waiting after_return b (left rest (step (Within waiting after_return) b).output)
-      (text_free rest (step (Within waiting after_return) b).output w f ((pastes_clean by_delete).each_byte waiting after_return b))
+      (step_free waiting after_return b rest w f)
 
   run_follows : (s : State) (bs rest : List ℕ) → IsSound s → editor.fate rest ≡ Waits → Follows s rest → Follows (run s bs).state (left rest (run s bs).output)
   run_follows s [] rest h w f = subst (Follows s) (sym (left_none rest w)) f
@@ -354,15 +372,15 @@ module _ (by_delete : Bool) where
       (escape_closed waiting is_open (decoding all.output).rest (rest_waits all.output) f c)
 
   pub record IsAlike (r : Row) : Type 0 where
-    pub has_key : HasKey r
+    pub has_keys : HasKeys r
     pub is_anew : starts_anew r.becomes ≡ true
 
   -- a row's bytes behind bytes that went out
   sent_key : (r : Row) (is_open : Bool) (sent : List ℕ) → IsAlike r → (is_open ≡ false → IsFree (decoding sent).rest)
-      → (decoding (sent ++ apart_from is_open r.becomes)).keys ≡ (decoding sent).keys ++ r.key ∷ []
+      → (decoding (sent ++ apart_from is_open r.becomes)).keys ≡ (decoding sent).keys ++ keys_of r
   sent_key r is_open sent is free =
-      let here : decoding ((decoding sent).rest ++ apart_from is_open r.becomes) ≡ record { keys = r.key ∷ []; rest = [] } =
-      sent_anew is_open (decoding sent).rest r.becomes is.is_anew (rest_waits sent) free ∙ is.has_key in
+      let here : decoding ((decoding sent).rest ++ apart_from is_open r.becomes) ≡ record { keys = keys_of r; rest = [] } =
+      sent_anew is_open (decoding sent).rest r.becomes is.is_anew (rest_waits sent) free ∙ is.has_keys in
       ap (λ (d : Decoding). d.keys) (in_pieces sent (apart_from is_open r.becomes)) ∙ ap (λ (d : Decoding). (decoding sent).keys ++ d.keys) here
 
   -- an ESC has no key
@@ -375,7 +393,7 @@ module _ (by_delete : Bool) where
   -- the row that an ESC makes longer, if there is one
   adds_by : (o : Option Row) (r : Row) (bs waiting : List ℕ) (is_open : Bool) → IsAlike r → ((q : Row) → o ≡ Some q → IsAlike q × (waiting ≡ 0x1B ∷ []))
       → (run start bs).state ≡ Outside waiting is_open → run start (bs ++ r.sequence) ≡ step_to start (became by_delete bs waiting is_open r o)
-      → (decoding (filtered (bs ++ r.sequence))).keys ≡ (decoding (filtered bs)).keys ++ (row_behind r o).key ∷ []
+      → (decoding (filtered (bs ++ r.sequence))).keys ≡ (decoding (filtered bs)).keys ++ keys_of (row_behind r o)
   adds_by None r bs waiting is_open is longer at becoming =
       let opened : Bool = is_open_after waiting is_open in
       let out : filtered (bs ++ r.sequence) ≡ filtered bs ++ apart_from opened r.becomes =
@@ -391,7 +409,7 @@ module _ (by_delete : Bool) where
       subst (λ s. Follows s (decoding all.output).rest) at (run_follows start bs [] refl refl (nothing_follows false)) in
       ap (λ xs. (decoding xs).keys) out
       ∙ sent_key q is_open all.output says.0 f.closed
-      ∙ ap (λ keys. keys ++ q.key ∷ []) (sym (ap (λ xs. (decoding xs).keys) before ∙ escape_key all.output))
+      ∙ ap (λ keys. keys ++ keys_of q) (sym (ap (λ xs. (decoding xs).keys) before ∙ escape_key all.output))
 
   -- what is true of all rows is so of one that is found
   of_found : (P : Row → Type 0) (p : Row → Bool) (rs : List Row) (q : Row) → AllByRecursion P rs → find p rs ≡ Some q → P q
@@ -403,7 +421,7 @@ module _ (by_delete : Bool) where
 
   row_alike : (read : List ℕ) (q : Row) → row_of read ≡ Some q → IsAlike q
   row_alike read q h = record {
-    has_key = of_found HasKey (λ (x : Row). bytes_eq x.sequence read) rows q (rows_have_keys by_delete) h;
+    has_keys = of_found HasKeys (λ (x : Row). bytes_eq x.sequence read) rows q (rows_have_keys by_delete) h;
     is_anew = (found (λ (x : Row). bytes_eq x.sequence read) is_anew rows q (all_anew by_delete) h).fits;
   }
 
@@ -416,47 +434,44 @@ module _ (by_delete : Bool) where
     | inr other ↦ absurd (let no : None ≡ Some q = sym (cond-false (bytes_eq waiting (0x1B ∷ [])) (Some r) None other) ∙ is in cc no)
   ]
 
-  adds_key : (r : Row) → BecomesRow by_delete r → IsAlike r → AddsKey by_delete r
-  adds_key r becomes is bs waiting is_open at =
+  adds_keys : (r : Row) → BecomesRow by_delete r → IsAlike r → AddsKeys by_delete r
+  adds_keys r becomes is bs waiting is_open at =
       let read : List ℕ = 0x1B ∷ r.sequence in
       adds_by (longer_row by_delete waiting r) r bs waiting is_open is (λ q e. longer_says (row_of read) waiting read q refl e) at
       (becomes bs waiting is_open at)
 
-  all_add : (rs : List Row) → AllByRecursion (BecomesRow by_delete) rs → AllByRecursion HasKey rs → list_all is_anew rs ≡ true
-      → AllByRecursion (AddsKey by_delete) rs
+  all_add : (rs : List Row) → AllByRecursion (BecomesRow by_delete) rs → AllByRecursion HasKeys rs → list_all is_anew rs ≡ true
+      → AllByRecursion (AddsKeys by_delete) rs
   all_add [] b k a = tt
   all_add (r ∷ rs) b k a =
       let parts = and_parts (is_anew r) (list_all is_anew rs) a in
-      (adds_key r b.0 (record { has_key = k.0; is_anew = parts.0 }), all_add rs b.1 k.1 parts.1)
+      (adds_keys r b.0 (record { has_keys = k.0; is_anew = parts.0 }), all_add rs b.1 k.1 parts.1)
 
-  pub rows_add_keys : AllByRecursion (AddsKey by_delete) rows
+  pub rows_add_keys : AllByRecursion (AddsKeys by_delete) rows
   rows_add_keys = all_add rows (rows_become by_delete) (rows_have_keys by_delete) (all_anew by_delete)
 
-  -- a CAN ends what is open, and behind it the text begins anew
-  opened_text : (rest text : List ℕ) → editor.fate rest ≡ Waits → decoding (rest ++ (apart_from true [] ++ text)) ≡ decoding text
-  opened_text rest text w = anew rest 0x18 text refl w ∙ after_can text
-
-  opened_inserts : (opened : Bool) (rest text : List ℕ) → editor.fate rest ≡ Waits → (opened ≡ false → IsFree rest) → IsText text
-      → list_all is_insert (decoding (rest ++ (apart_from opened [] ++ text))).keys ≡ true
-  opened_inserts true rest text w free t =
-      ap (λ (d : Decoding). list_all is_insert d.keys) (opened_text rest text w) ∙ text_inserts [] text refl nothing_free t
-  opened_inserts false rest text w free t = text_inserts rest text w (free refl) t
-
-  opened_characters : (opened : Bool) (rest text : List ℕ) → editor.fate rest ≡ Waits → (opened ≡ false → IsFree rest) → IsText text → IsUtf8 text
-      → (decoding (rest ++ (apart_from opened [] ++ text))).keys ≡ map Insert (chars text)
-  opened_characters true rest text w free t u =
-      ap (λ (d : Decoding). d.keys) (opened_text rest text w) ∙ utf8_inserts [] text u t refl nothing_free
-  opened_characters false rest text w free t u = utf8_inserts rest text u t w (free refl)
+  -- the keys of a paste's marks and the bytes between them
+  told_keys : (sent text : List ℕ) → (decoding (sent ++ (start_told ++ (text ++ end_told)))).keys
+      ≡ (decoding sent).keys ++ PasteStart ∷ ((decoding text).keys ++ PasteEnd ∷ [])
+  told_keys sent text =
+      let behind : List ℕ = text ++ end_told in
+      let last : decoding ((decoding text).rest ++ end_told) ≡ record { keys = PasteEnd ∷ []; rest = [] } =
+      anew (decoding text).rest 0x1B (drop 1 end_told) refl (rest_waits text) in
+      let text_keys : (decoding behind).keys ≡ (decoding text).keys ++ PasteEnd ∷ [] =
+      ap (λ (d : Decoding). d.keys) (in_pieces text end_told) ∙ ap (λ (d : Decoding). (decoding text).keys ++ d.keys) last in
+      let all_keys : (decoding (start_told ++ behind)).keys ≡ PasteStart ∷ ((decoding text).keys ++ PasteEnd ∷ []) =
+      ap (λ (d : Decoding). d.keys) (in_pieces start_told behind) ∙ ap (λ (keys : List Key). PasteStart ∷ keys) text_keys in
+      ap (λ (d : Decoding). d.keys) (in_pieces sent (start_told ++ behind))
+      ∙ ap (λ (d : Decoding). (decoding sent).keys ++ d.keys) (anew (decoding sent).rest 0x1B (drop 1 start_told ++ behind) refl (rest_waits sent))
+      ∙ ap (λ (keys : List Key). (decoding sent).keys ++ keys) all_keys
 
   pub pastes_insert : PastesInsert by_delete
   pastes_insert bs waiting is_open text at none =
-      let opened : Bool = is_open_after waiting is_open in
-      let sent : List ℕ = apart_from opened [] ++ pasted text in
-      let waits = rest_waits (filtered bs) in
-      let free = closed_before bs waiting is_open at in
+      let sent : List ℕ = start_told ++ (pasted text ++ end_told) in
       let out : filtered (bs ++ (paste_start ++ (text ++ paste_end))) ≡ filtered bs ++ sent =
-      ap (λ (x : Step). x.output ++ at_end x.state) (pastes_text by_delete bs waiting is_open text at none) ∙ append-nil (filtered bs ++ sent) in (
-        ap (λ xs. (decoding xs).keys) out ∙ ap (λ (d : Decoding). d.keys) (in_pieces (filtered bs) sent),
-        opened_inserts opened (decoding (filtered bs)).rest (pasted text) waits free ((pastes_clean by_delete).whole text),
-        opened_characters opened (decoding (filtered bs)).rest (pasted text) waits free ((pastes_clean by_delete).whole text),
+      ap (λ (x : Step). x.output ++ at_end x.state) (pastes_text by_delete bs waiting is_open text at none) ∙ append-nil (filtered bs ++ sent) in
+      let clean : IsText (pasted text) = (pastes_clean by_delete).whole text in (
+        ap (λ xs. (decoding xs).keys) out ∙ told_keys (filtered bs) (pasted text),
+        text_inserts [] (pasted text) refl nothing_free clean,
+        λ u. utf8_inserts [] (pasted text) u clean refl nothing_free,
       )

@@ -4,7 +4,8 @@ use Rattle.std.specs.Prelude.{codes}
 use Rattle.bx_keys.specs.Keys.{decoding}
 use Rattle.bx_keys.specs.declared.key.Key.{Key}
 use Rattle.bx_keys.specs.declared.key.Key.TheVariants.{Insert, Mark, Copy, Cut, Put, Find, FindBack, WordLeft, WordRight, TextStart, TextEnd, Help, Notice}
-use Rattle.bx_keys.specs.declared.key.Key.TheVariants.{EraseWord, DeleteWord, FindNext, Cancel, ErasePoint, NewLine, LineUp, LineDown, PageBack, PageOn, Right, Left, Delete}
+use Rattle.bx_keys.specs.declared.key.Key.TheVariants.{EraseWord, DeleteWord, FindNext, Cancel, ErasePoint, NewLine, LineUp, LineDown, PageBack, PageOn, Right, Left, RowHome, RowEnd, Delete}
+use Rattle.bx_keys.specs.declared.key.Key.TheVariants.{Select, UndoRun, RedoRun, PasteStart, PasteEnd}
 use Rattle.bx_keys.specs.declared.notice.Notice.TheVariants.{NoSpace, InPlace}
 use Rattle.bx_input.specs.Table.{Row, rows, paste_start, paste_end}
 use Rattle.bx_input.specs.Filter as filter
@@ -23,7 +24,13 @@ keys = keys_where false
 pub control_characters : keys (0x00 ∷ 0x03 ∷ 0x12 ∷ 0x16 ∷ 0x17 ∷ 0x18 ∷ []) ≡ Mark ∷ Copy ∷ FindBack ∷ Put ∷ Find ∷ Cut ∷ []
 control_characters = refl
 
-pub others_go_through : filtered (codes "\u{13}\u{11}\u{1a}\u{19}\u{2}\u{6}") ≡ codes "\u{13}\u{11}\u{1a}\u{19}\u{2}\u{6}"
+pub runs_back_and_again : filtered (codes "\u{19}\u{1a}") ≡ codes "\u{1b}[83~\u{1b}[82~"
+runs_back_and_again = refl
+
+pub keys_of_runs : keys (codes "\u{19}\u{1a}") ≡ RedoRun ∷ UndoRun ∷ []
+keys_of_runs = refl
+
+pub others_go_through : filtered (codes "\u{13}\u{11}\u{2}\u{6}") ≡ codes "\u{13}\u{11}\u{2}\u{6}"
 others_go_through = refl
 
 pub erase_keys : keys (0x7F ∷ 0x08 ∷ 0x0D ∷ 0x0A ∷ []) ≡ ErasePoint ∷ ErasePoint ∷ NewLine ∷ Insert 0x0A ∷ []
@@ -46,8 +53,30 @@ pub rows_and_pages : keys (codes "\u{1b}[A\u{1b}[B\u{1b}[C\u{1b}[D\u{1b}OA\u{1b}
     ≡ LineUp ∷ LineDown ∷ Right ∷ Left ∷ LineUp ∷ LineDown ∷ Right ∷ Left ∷ PageBack ∷ PageOn ∷ []
 rows_and_pages = refl
 
-pub rows_with_shift : keys (codes "\u{1b}[1;2A\u{1b}[1;2B\u{1b}[a\u{1b}[b\u{1b}[1;2C") ≡ LineUp ∷ LineDown ∷ LineUp ∷ LineDown ∷ Right ∷ []
+-- Shift begins or extends a selection, and then moves
+pub shift_and_up : filtered (codes "\u{1b}[1;2A") ≡ codes "\u{1b}[81~\u{1b}[96~"
+shift_and_up = refl
+
+pub rows_with_shift : keys (codes "\u{1b}[1;2A\u{1b}[1;2B\u{1b}[a\u{1b}[b") ≡ Select ∷ LineUp ∷ Select ∷ LineDown ∷ Select ∷ LineUp ∷ Select ∷ LineDown ∷ []
 rows_with_shift = refl
+
+pub steps_with_shift : keys (codes "\u{1b}[1;2C\u{1b}[1;2D\u{1b}[c\u{1b}[d") ≡ Select ∷ Right ∷ Select ∷ Left ∷ Select ∷ Right ∷ Select ∷ Left ∷ []
+steps_with_shift = refl
+
+pub starts_with_shift : keys (codes "\u{1b}[1;2H\u{1b}[7$\u{1b}[2J") ≡ Select ∷ RowHome ∷ Select ∷ RowHome ∷ Select ∷ RowHome ∷ []
+starts_with_shift = refl
+
+pub ends_with_shift : keys (codes "\u{1b}[1;2F\u{1b}[8$\u{1b}[2K") ≡ Select ∷ RowEnd ∷ Select ∷ RowEnd ∷ Select ∷ RowEnd ∷ []
+ends_with_shift = refl
+
+pub home_of_two_terminals : filtered (codes "\u{1b}[2J\u{1b}[7$") ≡ codes "\u{1b}[81~\u{1b}[H\u{1b}[81~\u{1b}[H"
+home_of_two_terminals = refl
+
+pub words_with_shift : filtered (codes "\u{1b}[1;6C\u{1b}[1;6D") ≡ codes "\u{1b}[81~\u{1b}[77~\u{1b}[81~\u{1b}[76~"
+words_with_shift = refl
+
+pub texts_with_shift : keys (codes "\u{1b}[1;6H\u{1b}[1;6F") ≡ Select ∷ TextStart ∷ Select ∷ TextEnd ∷ []
+texts_with_shift = refl
 
 pub cancel_goes_through : keys (codes "\u{1b}[93~") ≡ Cancel ∷ []
 cancel_goes_through = refl
@@ -74,16 +103,38 @@ pub no_row : filtered (codes "\u{1b}[1;5A\u{1b}OS") ≡ codes "\u{1b}[1;5A\u{1b}
 no_row = refl
 
 -- a paste only inserts, and behind it CTRL-W is a key
-pub in_a_paste : filtered (paste_start ++ (codes "a\u{17}\u{3}\u{18}" ++ (0x00 ∷ codes "b\r\nc" ++ paste_end)) ++ 0x17 ∷ []) ≡ codes "ab\nc\u{1b}[70~"
+pub in_a_paste : filtered (paste_start ++ (codes "a\u{17}\u{3}\u{18}" ++ (0x00 ∷ codes "b\r\nc" ++ paste_end)) ++ 0x17 ∷ [])
+    ≡ codes "\u{1b}[90~ab\nc\u{1b}[91~\u{1b}[70~"
 in_a_paste = refl
 
 -- a paste neither erases nor cancels
-pub no_erase_in_a_paste : filtered (paste_start ++ (codes "a\u{7f}\u{8}\r\nb" ++ paste_end) ++ codes "\u{8}") ≡ codes "a\nb\u{1b}[94~"
+pub no_erase_in_a_paste : filtered (paste_start ++ (codes "a\u{7f}\u{8}\r\nb" ++ paste_end) ++ codes "\u{8}")
+    ≡ codes "\u{1b}[90~a\nb\u{1b}[91~\u{1b}[94~"
 no_erase_in_a_paste = refl
 
-pub no_cancel_in_a_paste : keys (paste_start ++ (codes "a\u{1b}[93~" ++ paste_end))
-    ≡ Insert 0x61 ∷ Insert 0x5B ∷ Insert 0x39 ∷ Insert 0x33 ∷ Insert 0x7E ∷ []
+pub no_cancel_in_a_paste : keys (paste_start ++ (codes "a\u{1b}[93~b" ++ paste_end))
+    ≡ PasteStart ∷ Insert 0x61 ∷ Insert 0x5B ∷ Insert 0x39 ∷ Insert 0x33 ∷ Insert 0x7E ∷ Insert 0x62 ∷ PasteEnd ∷ []
 no_cancel_in_a_paste = refl
+
+-- nor does it tell an end of itself
+pub no_end_in_a_paste : keys (paste_start ++ (codes "\u{1b}[91~" ++ paste_end))
+    ≡ PasteStart ∷ Insert 0x5B ∷ Insert 0x39 ∷ Insert 0x31 ∷ Insert 0x7E ∷ PasteEnd ∷ []
+no_end_in_a_paste = refl
+
+-- a sequence that breaks off before it goes out, and gives no key
+pub paste_behind_broken : filtered (codes "\u{1b}[1;5" ++ (paste_start ++ (codes "a" ++ paste_end))) ≡ codes "\u{1b}[1;5\u{1b}[90~a\u{1b}[91~"
+paste_behind_broken = refl
+
+pub keys_behind_broken : keys (codes "\u{1b}[1;5" ++ (paste_start ++ (codes "a" ++ paste_end))) ≡ PasteStart ∷ Insert 0x61 ∷ PasteEnd ∷ []
+keys_behind_broken = refl
+
+-- the end of the input ends no paste
+pub no_end_of_a_paste : filtered (paste_start ++ codes "ab\u{1b}[20") ≡ codes "\u{1b}[90~ab[20"
+no_end_of_a_paste = refl
+
+-- a character that breaks off in a paste swallows no end of it
+pub half_a_character_in_a_paste : keys (paste_start ++ ((0xC3 ∷ []) ++ paste_end)) ≡ PasteStart ∷ PasteEnd ∷ []
+half_a_character_in_a_paste = refl
 
 pub lines_behind_broken : keys (codes "\u{1b}[1;5\r\u{1b}[1;5\u{8}\u{1b}\r") ++ keys (0xC3 ∷ 0x7F ∷ []) ≡ NewLine ∷ ErasePoint ∷ NewLine ∷ ErasePoint ∷ []
 lines_behind_broken = refl

@@ -1,5 +1,5 @@
 -- A row that follows from each law alone, and from the contract of a run.
-use Rattle.std.proofs.Common.{◌≡◌, ◌≢◌, ℕ, ◌≤◌, inl, inr, Bool, true, false, not, List, [], ◌∷◌, ◌++◌, length, length-append, take}
+use Rattle.std.proofs.Common.{◌≡◌, ◌≢◌, ℕ, ◌≤◌, inl, inr, Bool, true, false, not, ◌&&◌, List, [], ◌∷◌, ◌++◌, length, length-append, take}
 use Rattle.std.proofs.Common.{Option, Some, None, refl, ap, sym, ◌∙◌, subst, arith}
 use Rattle.std.specs.Prelude.{codes, unwrap_or}
 use Rattle.std.specs.List.{AllByRecursion, list_all}
@@ -10,13 +10,13 @@ use Rattle.std.proofs.lemmas.List.Folds.{list_all-append}
 use lib.Utf8.{encode}
 use Rattle.bx_bytes.specs.Pattern.{Piece, One, Many, is_within, matches, matches_any}
 use Rattle.bx_keys.specs.Keys.{decoding}
-use Rattle.bx_keys.specs.declared.key.Key.TheVariants.{Insert, EraseWord, ErasePoint, LineUp}
+use Rattle.bx_keys.specs.declared.key.Key.TheVariants.{Insert, EraseWord, ErasePoint, LineUp, Left, Select, PasteStart, PasteEnd}
 use Rattle.bx_input.specs.Table.{Row, rows, row_of, sequences, exact, paste_start, paste_end}
 use Rattle.bx_input.specs.Paste.{kept_characters, pasted}
 use Rattle.bx_input.specs.Filter as filter
 use Rattle.bx_input.specs.Filter.{State, Outside, Within, Step, step_to, start, at_end}
-use Rattle.bx_input.specs.Laws.{ComesInPieces, WaitsForFive, waiting_in, BecomesRow, HasNone, OthersPass, PastesText, IsText, PastesAreClean, GrowsFiveTimes, GrowsByTwoThirds}
-use Rattle.bx_input.specs.Laws.{HasKey, AddsKey, PastesInsert, PastesKeepCharacters}
+use Rattle.bx_input.specs.Laws.{ComesInPieces, WaitsForFive, waiting_in, BecomesRow, HasNone, OthersPass, PastesText, IsText, PastesAreClean, GrowsFiveTimes, GrowsByTenThirds}
+use Rattle.bx_input.specs.Laws.{HasKeys, AddsKeys, has_short, HasNoShort, GrowsByTwoThirds, PastesInsert, PastesKeepCharacters}
 use Rattle.bx_input.specs.Running.{HasPassed, IsBrokenOff, IsFiltered, IsOneReadLate}
 
 -- ---- bytes with which no sequence begins
@@ -51,6 +51,37 @@ no_sequence ps bs e n front middle back cut =
     let within = and_parts (list_all test middle) (list_all test back) (sym (list_all-append test middle back) ∙ behind.1) in
     none_in ps middle e within.0
 
+-- ---- bytes of which no part is a short row's
+
+abbrev all_fronts : (List ℕ → Bool) → List ℕ → Bool
+all_fronts p [] = p []
+all_fronts p (b ∷ bs) = p [] && all_fronts (λ xs. p (b ∷ xs)) bs
+
+abbrev all_parts : (List ℕ → Bool) → List ℕ → Bool
+all_parts p [] = p []
+all_parts p (b ∷ bs) = all_fronts p (b ∷ bs) && all_parts p bs
+
+at_front : (p : List ℕ → Bool) (middle back : List ℕ) → all_fronts p (middle ++ back) ≡ true → p middle ≡ true
+at_front p [] [] h = h
+at_front p [] (b ∷ back) h = (and_parts (p []) (all_fronts (λ xs. p (b ∷ xs)) back) h).0
+at_front p (m ∷ middle) back h = at_front (λ xs. p (m ∷ xs)) middle back (and_parts (p []) (all_fronts (λ xs. p (m ∷ xs)) (middle ++ back)) h).1
+
+fronts_of : (p : List ℕ → Bool) (bs : List ℕ) → all_parts p bs ≡ true → all_fronts p bs ≡ true
+fronts_of p [] h = h
+fronts_of p (b ∷ bs) h = (and_parts (all_fronts p (b ∷ bs)) (all_parts p bs) h).0
+
+at_part : (p : List ℕ → Bool) (front middle back : List ℕ) → all_parts p (front ++ (middle ++ back)) ≡ true → p middle ≡ true
+at_part p [] middle back h = at_front p middle back (fronts_of p (middle ++ back) h)
+at_part p (b ∷ front) middle back h =
+    at_part p front middle back (and_parts (all_fronts p (b ∷ (front ++ (middle ++ back)))) (all_parts p (front ++ (middle ++ back))) h).1
+
+abbrev is_long : List ℕ → Bool
+is_long bs = not (has_short (row_of false bs))
+
+no_short : (bs : List ℕ) → all_parts is_long bs ≡ true → HasNoShort false bs
+no_short bs h front middle back e =
+    not-true (has_short (row_of false middle)) (at_part is_long front middle back (ap (all_parts is_long) (sym e) ∙ h))
+
 -- ---- the filter
 
 -- where the terminal's own erase character is another than DELETE
@@ -62,7 +93,7 @@ filtered = filter.filtered false
 
 -- Shift and Up, of which the letter comes later
 pub of_in_any_pieces : ComesInPieces false → (bs : List ℕ) → (run start bs).state ≡ Outside (codes "\u{1b}[1;2") false
-    → (run start (bs ++ codes "A")).output ≡ (run start bs).output ++ codes "\u{1b}[96~"
+    → (run start (bs ++ codes "A")).output ≡ (run start bs).output ++ codes "\u{1b}[81~\u{1b}[96~"
 of_in_any_pieces law bs e =
     ap (λ (x : Step). x.output) (law start bs (codes "A")) ∙ ap (λ s. (run start bs).output ++ (run s (codes "A")).output) e
 
@@ -71,8 +102,13 @@ pub of_waits_for_five : WaitsForFive false → (bs : List ℕ) → (run start bs
 of_waits_for_five law bs e = let short : 6 ≤ 5 = subst (λ s. length (waiting_in s) ≤ 5) e (law bs) in omega (arith, short)
 
 -- a paste does not save: CTRL-S does not go out
-pub of_clean_byte : PastesAreClean false → (waiting : List ℕ) (after_return : Bool) (b : ℕ) → (filter.step false (Within waiting after_return) b).output ≢ 0x13 ∷ []
-of_clean_byte law waiting after_return b e = both_ways _ refl (subst IsText e (law.each_byte waiting after_return b))
+pub of_clean_byte : PastesAreClean false → (waiting : List ℕ) (after_return : Bool) (b : ℕ) → waiting ++ b ∷ [] ≢ paste_end
+    → (filter.step false (Within waiting after_return) b).output ≢ 0x13 ∷ []
+of_clean_byte law waiting after_return b other e = both_ways _ refl (subst IsText e (law.each_byte waiting after_return b other))
+
+-- its last byte gives PasteEnd
+pub of_clean_last : PastesAreClean false → (after_return : Bool) → filter.step false (Within (codes "\u{1b}[201") after_return) 0x7E ≡ step_to start (codes "\u{1b}[91~")
+of_clean_last law after_return = law.last_byte (codes "\u{1b}[201") after_return 0x7E refl
 
 -- a mark that is incomplete at the input's end goes out without its ESC
 pub of_clean_end : PastesAreClean false → (waiting : List ℕ) (after_return : Bool) → at_end (Within waiting after_return) ≢ codes "\u{1b}[20"
@@ -81,9 +117,12 @@ of_clean_end law waiting after_return e = both_ways _ refl (subst IsText e (law.
 pub of_clean_text : PastesAreClean false → (text : List ℕ) → pasted text ≢ codes "a\u{11}"
 of_clean_text law text e = both_ways _ refl (subst IsText e (law.whole text))
 
--- the row of a byte
+-- the row of a sequence, and of a byte
+abbrev row_by : List ℕ → Row
+row_by bs = unwrap_or (row_of false bs) (record { sequence = []; becomes = []; selects = false; key = ErasePoint })
+
 abbrev row_at : ℕ → Row
-row_at b = unwrap_or (row_of false (b ∷ [])) (record { sequence = []; becomes = []; key = ErasePoint })
+row_at b = row_by (b ∷ [])
 
 -- Up
 pub of_rows_become : AllByRecursion (BecomesRow false) (rows false) → (bs : List ℕ) → (run start bs).state ≡ start
@@ -112,28 +151,37 @@ of_others_pass_text law = of_others_pass law (codes "a\u{11}\u{13}\n") refl
 pub of_grows_five_times : GrowsFiveTimes false → length (filtered (codes "\u{17}")) ≤ 5
 of_grows_five_times law = law (codes "\u{17}")
 
+-- Shift and Up in three bytes
+pub of_grows_by_ten_thirds : GrowsByTenThirds false → length (filtered (codes "\u{1b}[a")) ≤ 10
+of_grows_by_ten_thirds law = omega (arith, law (codes "\u{1b}[a") refl)
+
 -- Up in three bytes
 pub of_grows_by_two_thirds : GrowsByTwoThirds false → length (filtered (codes "\u{1b}[A")) ≤ 5
-of_grows_by_two_thirds law = omega (arith, law (codes "\u{1b}[A") refl)
+of_grows_by_two_thirds law = omega (arith, law (codes "\u{1b}[A") (no_short (codes "\u{1b}[A") refl))
 
-pub of_rows_have_keys : AllByRecursion HasKey (rows false) → decoding (codes "\u{1b}[96~") ≡ record { keys = LineUp ∷ []; rest = [] }
+pub of_rows_have_keys : AllByRecursion HasKeys (rows false) → decoding (codes "\u{1b}[96~") ≡ record { keys = LineUp ∷ []; rest = [] }
 of_rows_have_keys law = law.0
 
-pub of_rows_add_keys : AllByRecursion (AddsKey false) (rows false) → (bs : List ℕ) → (run start bs).state ≡ start
+pub of_rows_add_keys : AllByRecursion (AddsKeys false) (rows false) → (bs : List ℕ) → (run start bs).state ≡ start
     → (decoding (filtered (bs ++ codes "\u{1b}[A"))).keys ≡ (decoding (filtered bs)).keys ++ LineUp ∷ []
 of_rows_add_keys law bs e = law.0 bs [] false e
 
+-- Shift and Left, of rxvt
+pub of_rows_add_two : AddsKeys false (row_by (codes "\u{1b}[d")) → (bs : List ℕ) → (run start bs).state ≡ start
+    → (decoding (filtered (bs ++ codes "\u{1b}[d"))).keys ≡ (decoding (filtered bs)).keys ++ Select ∷ Left ∷ []
+of_rows_add_two law bs e = law bs [] false e
+
 -- DELETE alone, and behind an ESC
-pub of_rows_add_point : AddsKey false (row_at 0x7F) → (bs : List ℕ) → (run start bs).state ≡ start
+pub of_rows_add_point : AddsKeys false (row_at 0x7F) → (bs : List ℕ) → (run start bs).state ≡ start
     → (decoding (filtered (bs ++ 0x7F ∷ []))).keys ≡ (decoding (filtered bs)).keys ++ ErasePoint ∷ []
 of_rows_add_point law bs e = law bs [] false e
 
-pub of_rows_add_word : AddsKey false (row_at 0x7F) → (bs : List ℕ) → (run start bs).state ≡ Outside (0x1B ∷ []) false
+pub of_rows_add_word : AddsKeys false (row_at 0x7F) → (bs : List ℕ) → (run start bs).state ≡ Outside (0x1B ∷ []) false
     → (decoding (filtered (bs ++ 0x7F ∷ []))).keys ≡ (decoding (filtered bs)).keys ++ EraseWord ∷ []
 of_rows_add_word law bs e = law bs (0x1B ∷ []) false e
 
 -- a paste with CR LF, CTRL-S and a control character of C1
-pub of_pastes_become_text : PastesText false → run start (paste_start ++ (codes "a\r\n\u{13}bÂ\u{85}" ++ paste_end)) ≡ step_to start (codes "a\nb")
+pub of_pastes_become_text : PastesText false → run start (paste_start ++ (codes "a\r\n\u{13}bÂ\u{85}" ++ paste_end)) ≡ step_to start (codes "\u{1b}[90~a\nb\u{1b}[91~")
 of_pastes_become_text law = law [] [] false (codes "a\r\n\u{13}bÂ\u{85}") refl (no_sequence (exact paste_end ∷ []) (codes "a\r\n\u{13}bÂ\u{85}") refl refl)
 
 -- a, CR LF, NEXT LINE of C1 and a letter of two bytes
@@ -142,11 +190,11 @@ pub of_pastes_keep_characters : PastesKeepCharacters → (text : List ℕ) → I
 of_pastes_keep_characters law text u e = (law text u).1 ∙ ap kept_characters e
 
 pub of_pastes_insert : PastesInsert false
-    → (decoding (filtered (paste_start ++ (codes "a\r\n\u{13}b" ++ paste_end)))).keys ≡ Insert 0x61 ∷ Insert 0x0A ∷ Insert 0x62 ∷ []
+    → (decoding (filtered (paste_start ++ (codes "a\r\n\u{13}b" ++ paste_end)))).keys ≡ PasteStart ∷ Insert 0x61 ∷ Insert 0x0A ∷ Insert 0x62 ∷ PasteEnd ∷ []
 unfolding chars encode
 of_pastes_insert law =
     let is = law [] [] false (codes "a\r\n\u{13}b") refl (no_sequence (exact paste_end ∷ []) (codes "a\r\n\u{13}b") refl refl) in
-    is.0 ∙ is.2 (0x61 ∷ 0x0A ∷ 0x62 ∷ [], (refl, refl))
+    is.0 ∙ ap (λ keys. PasteStart ∷ (keys ++ PasteEnd ∷ [])) (is.2 (0x61 ∷ 0x0A ∷ 0x62 ∷ [], (refl, refl)))
 
 -- ---- a run
 

@@ -1,5 +1,5 @@
 -- A paste is the text that its definition says.
-use Rattle.std.proofs.Common.{◌≡◌, ℕ, ◌⊎◌, inl, inr, Bool, true, false, nat_eq, cond, List, [], ◌∷◌, ◌++◌, drop, refl, ap, sym, ◌∙◌, append_assoc, subst, arith}
+use Rattle.std.proofs.Common.{◌≡◌, ℕ, ◌⊎◌, inl, inr, Bool, true, false, nat_eq, List, [], ◌∷◌, ◌++◌, drop, refl, ap, sym, ◌∙◌, append_assoc, subst, arith}
 use Rattle.std.specs.Str.{bytes_eq}
 use Rattle.std.proofs.lemmas.Bool.{cases_eq, both_ways, false≢true, cond-true, cond-false}
 use Rattle.std.proofs.lemmas.Bool.Decides.{nat_tests}
@@ -9,15 +9,15 @@ use Rattle.bx_bytes.specs.Pattern.{matches_any}
 use Rattle.bx_bytes.specs.declared.fate.Fate.{Fate}
 use Rattle.bx_bytes.specs.declared.fate.Fate.TheVariants.{Waits, Ends, Breaks}
 use Rattle.bx_input.specs.Filter as filter
-use Rattle.bx_input.specs.Table.{exact, paste_start, paste_end}
+use Rattle.bx_input.specs.Table.{exact, paste_start, paste_end, start_told, end_told}
 use Rattle.bx_input.specs.Paste.{is_c1, pasted_byte, pasted_after, pasted, pasted_part, paste_fate, paste_sequences}
-use Rattle.bx_input.specs.Filter.{State, Within, Step, step_to, with_front, paste_step_by, fresh_in_paste, start, apart_from}
+use Rattle.bx_input.specs.Filter.{State, Within, Step, step_to, with_front, ended_in_paste, paste_step_by, fresh_in_paste, start}
 use Rattle.bx_input.specs.PasteTail.{tail_bytes}
 use Rattle.bx_input.specs.Laws.{HasNone, PastesText}
 use Rattle.bx_input.specs.declared.paste_tail.PasteTail.{PasteTail}
 use Rattle.bx_input.specs.declared.paste_tail.PasteTail.TheVariants as tail
 use Rattle.bx_input.proofs.Firsts.{waits_says, any_fewer, breaks_at}
-use Rattle.bx_input.proofs.Passing.{none_behind, whole_sequence, is_open_after}
+use Rattle.bx_input.proofs.Passing.{none_behind, whole_sequence}
 use Rattle.bx_input.proofs.Runs.{in_pieces}
 use Rattle.bx_input.proofs.States.{IsSound, run_sound}
 
@@ -202,15 +202,17 @@ module _ (by_delete : Bool) where
   is_end bs h = let e : bs ≡ paste_end = same_bytes bs paste_end h in rw e refl
 
   ends_by : (t : Bool) (w : List ℕ) (r : Bool) (b : ℕ) (bs : List ℕ) → bytes_eq (w ++ b ∷ []) paste_end ≡ t → IsTail w → paste_fate (w ++ b ∷ []) ≡ Ends
-      → HasNone (exact paste_end ∷ []) (w ++ b ∷ bs) → Goes bs → IsPasted (run (cond t start (Within [] false)) bs) (pasted_after r (w ++ b ∷ bs))
+      → HasNone (exact paste_end ∷ []) (w ++ b ∷ bs) → Goes bs
+      → IsPasted (with_front (ended_in_paste t).output (run (ended_in_paste t).state bs)) (pasted_after r (w ++ b ∷ bs))
   ends_by true w r b bs t is h none rest =
       absurd (both_ways (matches_any (exact paste_end ∷ []) (w ++ b ∷ [])) (none [] (w ++ b ∷ []) bs (sym (append_assoc w (b ∷ []) bs)))
       (is_end (w ++ b ∷ []) t))
   ends_by false w r b bs t is h none rest =
       let back : tail_bytes is.0 ≡ w = is.1 in
       let says = c1_tail is.0 b (ap (λ x. paste_fate (x ++ b ∷ [])) back ∙ h) (ap (λ x. bytes_eq (x ++ b ∷ []) paste_end) back ∙ t) in
-      subst (IsPasted (run (Within [] false) bs)) (c1_text w b bs r (sym back ∙ says.0, says.1))
-      (rest [] false (refl, λ e. refl) (none_behind (exact paste_end ∷ []) (b ∷ []) bs (none_behind (exact paste_end ∷ []) w (b ∷ bs) none)))
+      let none_left : HasNone (exact paste_end ∷ []) bs = none_behind (exact paste_end ∷ []) (b ∷ []) bs (none_behind (exact paste_end ∷ []) w (b ∷ bs) none) in
+      subst (IsPasted (with_front [] (run (Within [] false) bs))) (c1_text w b bs r (sym back ∙ says.0, says.1))
+      (in_front [] (run (Within [] false) bs) (pasted_after false bs) (rest [] false (refl, λ e. refl) none_left))
 
   way_by : (f : Fate) (w : List ℕ) (r : Bool) (b : ℕ) (bs : List ℕ) → paste_fate (w ++ b ∷ []) ≡ f → IsSound (Within w r)
       → HasNone (exact paste_end ∷ []) (w ++ b ∷ bs) → Goes bs
@@ -221,8 +223,7 @@ module _ (by_delete : Bool) where
       (in_front [] (run (Within (w ++ b ∷ []) false) bs) (pasted_after false ((w ++ b ∷ []) ++ bs))
       (rest (w ++ b ∷ []) false (h, λ e. absurd (false≢true e)) (subst (HasNone (exact paste_end ∷ [])) (sym joined) none)))
   way_by Ends w r b bs h sound none rest =
-      in_front [] (run (cond (bytes_eq (w ++ b ∷ []) paste_end) start (Within [] false)) bs) (pasted_after r (w ++ b ∷ bs))
-      (ends_by (bytes_eq (w ++ b ∷ []) paste_end) w r b bs refl (is_tail w sound.0) h none rest)
+      ends_by (bytes_eq (w ++ b ∷ []) paste_end) w r b bs refl (is_tail w sound.0) h none rest
   way_by Breaks w r b bs h sound none rest =
       let is : IsTail w = is_tail w sound.0 in
       let fresh : Step = fresh_in_paste (paste_fate (b ∷ [])) r b in
@@ -259,11 +260,11 @@ module _ (by_delete : Bool) where
       ap (λ f. paste_step_by f (x ∷ xs) r 0x1B) breaks
       ∙ ap (step_to (Within (0x1B ∷ []) false)) (append-nil (pasted_part (x ∷ xs)))
 
-  end_goes : (w : List ℕ) (r : Bool) → paste_fate w ≡ Waits → run (Within w r) paste_end ≡ step_to start (pasted_part w)
+  end_goes : (w : List ℕ) (r : Bool) → paste_fate w ≡ Waits → run (Within w r) paste_end ≡ step_to start (pasted_part w ++ end_told)
   end_goes w r h =
-      ap (λ (x : Step). with_front x.output (run x.state (drop 1 paste_end))) (at_escape w r h) ∙ ap (step_to start) (append-nil (pasted_part w))
+      ap (λ (x : Step). with_front x.output (run x.state (drop 1 paste_end))) (at_escape w r h)
 
-  pub text_and_end : (text : List ℕ) → HasNone (exact paste_end ∷ []) text → run (Within [] false) (text ++ paste_end) ≡ step_to start (pasted text)
+  pub text_and_end : (text : List ℕ) → HasNone (exact paste_end ∷ []) text → run (Within [] false) (text ++ paste_end) ≡ step_to start (pasted text ++ end_told)
   text_and_end text none =
       let s : Step = run (Within [] false) text in
       let is : IsPasted s (pasted text) = text_goes text [] false (refl, λ e. refl) none in
@@ -271,15 +272,14 @@ module _ (by_delete : Bool) where
       in_pieces by_delete (Within [] false) text paste_end
       ∙ ap (λ x. with_front s.output (run x paste_end)) is.is_state
       ∙ ap (with_front s.output) (end_goes is.waiting is.after_return sound.0)
-      ∙ ap (step_to start) is.is_text
+      ∙ ap (step_to start) (sym (append_assoc s.output (pasted_part is.waiting) end_told) ∙ ap (λ xs. xs ++ end_told) is.is_text)
 
   pub pastes_text : PastesText by_delete
   pastes_text bs waiting is_open text at none =
-      let opened : List ℕ = apart_from (is_open_after waiting is_open) [] in
-      let first : run start (bs ++ paste_start) ≡ step_to (Within [] false) (filtered bs ++ opened) =
-      whole_sequence by_delete (λ o. step_to (Within [] false) (apart_from o [])) (drop 1 paste_start) bs waiting is_open (refl, refl) at in
+      let first : run start (bs ++ paste_start) ≡ step_to (Within [] false) (filtered bs ++ start_told) =
+      whole_sequence by_delete (λ o. step_to (Within [] false) start_told) (drop 1 paste_start) bs waiting is_open (refl, refl) at in
       ap (run start) (sym (append_assoc bs paste_start (text ++ paste_end)))
       ∙ in_pieces by_delete start (bs ++ paste_start) (text ++ paste_end)
       ∙ ap (λ (x : Step). with_front x.output (run x.state (text ++ paste_end))) first
-      ∙ ap (with_front (filtered bs ++ opened)) (text_and_end text none)
-      ∙ ap (step_to start) (append_assoc (filtered bs) opened (pasted text))
+      ∙ ap (with_front (filtered bs ++ start_told)) (text_and_end text none)
+      ∙ ap (step_to start) (append_assoc (filtered bs) start_told (pasted text ++ end_told))

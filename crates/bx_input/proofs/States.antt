@@ -1,5 +1,5 @@
 -- The waiting bytes, in any state of the filter.
-use Rattle.std.proofs.Common.{◌≡◌, ℕ, ◌≤◌, Bool, true, false, List, [], ◌∷◌, ◌++◌, length, Option, Some, None, cond, refl, arith}
+use Rattle.std.proofs.Common.{◌≡◌, ℕ, ◌≤◌, Bool, true, false, List, [], ◌∷◌, ◌++◌, length, Option, Some, None, refl, arith}
 use Rattle.std.specs.Str.{bytes_eq}
 use Rattle.std.proofs.lemmas.Bool.{false≢true}
 use Rattle.bx_bytes.specs.declared.fate.Fate.{Fate}
@@ -8,7 +8,7 @@ use Rattle.bx_input.specs.Filter as filter
 use Rattle.bx_input.specs.Table as table
 use Rattle.bx_input.specs.Table.{Row, sequences, fate, paste_end}
 use Rattle.bx_input.specs.Paste.{paste_fate, paste_sequences}
-use Rattle.bx_input.specs.Filter.{Step, State, Outside, Within, paste_step_by, fresh_in_paste, ended, start}
+use Rattle.bx_input.specs.Filter.{Step, State, Outside, Within, ended_in_paste, paste_step_by, fresh_in_paste, ended, start}
 use Rattle.bx_input.specs.Laws.{waiting_in, WaitsForFive}
 use Rattle.bx_input.proofs.Firsts.{waits_says, any_fewer}
 
@@ -55,7 +55,7 @@ module _ (by_delete : Bool) where
   outside_sound Ends waiting is_open b h = ended_sound is_open (row_of (waiting ++ b ∷ []))
   outside_sound Breaks waiting is_open b h = broken_sound waiting is_open b
 
-  after_end_sound : (t : Bool) → IsSound (cond t start (Within [] false))
+  after_end_sound : (t : Bool) → IsSound (ended_in_paste t).state
   after_end_sound true = refl
   after_end_sound false = (refl, λ e. refl)
 

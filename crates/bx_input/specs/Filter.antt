@@ -4,7 +4,7 @@ use Rattle.std.specs.Str.{bytes_eq}
 use Rattle.bx_bytes.specs.Pattern.{is_within}
 use Rattle.bx_bytes.specs.declared.fate.Fate.{Fate}
 use Rattle.bx_bytes.specs.declared.fate.Fate.TheVariants.{Waits, Ends, Breaks}
-use Rattle.bx_input.specs.Table.{Row, fate, row_of, paste_end}
+use Rattle.bx_input.specs.Table.{Row, fate, row_of, paste_end, start_told, end_told}
 use Rattle.bx_input.specs.Paste.{pasted_byte, pasted_part, paste_fate}
 
 -- The waiting bytes begin a sequence that the filter knows. Outside a paste, a sequence that went out unchanged may still be
@@ -45,7 +45,7 @@ apart_from is_open (b ∷ bs) = if is_open && not (b == 0x1B) then 0x18 ∷ b �
 
 -- a known sequence is whole: the bytes of its row go out, or a paste starts
 abbrev pub ended : Bool → Option Row → Step
-ended is_open None = step_to (Within [] false) (apart_from is_open [])
+ended is_open None = step_to (Within [] false) start_told
 ended is_open (Some r) = step_to (Outside [] false) (apart_from is_open r.becomes)
 
 abbrev pub is_empty : List ℕ → Bool
@@ -75,9 +75,13 @@ abbrev pub fresh_in_paste : Fate → Bool → ℕ → Step
 fresh_in_paste Waits after_return b = step_to (Within (b ∷ []) false) []
 fresh_in_paste _ after_return b = step_to (Within [] (b == 0x0D)) (pasted_byte after_return b)
 
+-- a sequence within a paste is whole: the paste's end, or a control character of C1
+abbrev pub ended_in_paste : Bool → Step
+ended_in_paste is_end = if is_end then step_to start end_told else step_to (Within [] false) []
+
 abbrev pub paste_step_by : Fate → List ℕ → Bool → ℕ → Step
 paste_step_by Waits waiting after_return b = step_to (Within (waiting ++ b ∷ []) false) []
-paste_step_by Ends waiting after_return b = step_to (if bytes_eq (waiting ++ b ∷ []) paste_end then start else Within [] false) []
+paste_step_by Ends waiting after_return b = ended_in_paste (bytes_eq (waiting ++ b ∷ []) paste_end)
 paste_step_by Breaks waiting after_return b = with_front (pasted_part waiting) (fresh_in_paste (paste_fate (b ∷ [])) after_return b)
 
 -- ---- a byte, and input

@@ -1,12 +1,12 @@
 -- Laws of the filter, for any input.
-use Rattle.std.specs.Prelude.{◌≡◌, ◌≤◌, ℕ, ◌*◌, Bool, true, false, not, ◌||◌, ◌==◌, List, [], ◌∷◌, ◌++◌, length, map, Option, Some, None, if◌then◌else◌}
+use Rattle.std.specs.Prelude.{◌≡◌, ◌≢◌, ◌≤◌, ℕ, ◌*◌, Bool, true, false, not, ◌&&◌, ◌||◌, ◌==◌, nat_le, List, [], ◌∷◌, ◌++◌, length, map, Option, Some, None, if◌then◌else◌}
 use Rattle.std.specs.List.{list_all, list_any}
 use Rattle.std.specs.Str.{bytes_eq, chars, IsUtf8}
 use Rattle.bx_bytes.specs.Pattern.{Piece, matches_any}
-use Rattle.bx_keys.specs.Keys.{Decoding, decoding}
+use Rattle.bx_keys.specs.Keys.{decoding}
 use Rattle.bx_keys.specs.declared.key.Key.{Key}
-use Rattle.bx_keys.specs.declared.key.Key.TheVariants.{Insert}
-use Rattle.bx_input.specs.Table.{Row, byte_rows, row_of, sequences, exact, paste_start, paste_end}
+use Rattle.bx_keys.specs.declared.key.Key.TheVariants.{Insert, PasteStart, PasteEnd}
+use Rattle.bx_input.specs.Table.{Row, keys_of, byte_rows, row_of, sequences, exact, paste_start, paste_end, start_told, end_told}
 use Rattle.bx_input.specs.Paste.{is_control_byte, kept_characters, pasted}
 use Rattle.bx_input.specs.Filter as filter
 use Rattle.bx_input.specs.Filter.{State, Outside, Within, Step, step_to, with_front, start, at_end, apart_from, is_empty}
@@ -43,9 +43,17 @@ IsText bs = list_all is_text_byte bs ≡ true
 abbrev pub is_key_byte : ℕ → Bool
 is_key_byte b = list_any (λ (r : Row). bytes_eq r.sequence (b ∷ [])) (byte_rows false)
 
--- the editor decodes the bytes of a row as the row's key
-abbrev pub HasKey : Row → Type 0
-HasKey r = decoding r.becomes ≡ record { keys = r.key ∷ []; rest = [] }
+-- the editor decodes the bytes of a row as the row's keys
+abbrev pub HasKeys : Row → Type 0
+HasKeys r = decoding r.becomes ≡ record { keys = keys_of r; rest = [] }
+
+-- keys of one or two bytes, and selections of three or four, which give more than five thirds of their bytes
+abbrev pub is_short : Row → Bool
+is_short r = nat_le (length r.sequence) 2 || (r.selects && nat_le (length r.sequence) 4)
+
+abbrev pub has_short : Option Row → Bool
+has_short None = false
+has_short (Some r) = is_short r
 
 abbrev pub is_insert : Key → Bool
 is_insert (Insert c) = true
@@ -87,16 +95,19 @@ module _ (erases_by_delete : Bool) where
   abbrev pub OthersPass : Type 0
   OthersPass = (bs : List ℕ) → HasNone sequences bs → filtered bs ≡ bs
 
-  -- a paste after input that ends outside one, up to the first end of a paste
+  -- a paste after input that ends outside one, up to the first end of a paste: PasteStart, the text and PasteEnd
   abbrev pub PastesText : Type 0
   PastesText = (bs waiting : List ℕ) (is_open : Bool) (text : List ℕ) → (run start bs).state ≡ Outside waiting is_open
       → HasNone (exact paste_end ∷ []) text
       → run start (bs ++ (paste_start ++ (text ++ paste_end)))
-      ≡ step_to start (filtered bs ++ (apart_from (is_open || not (is_empty waiting)) [] ++ pasted text))
+      ≡ step_to start (filtered bs ++ (start_told ++ (pasted text ++ end_told)))
 
-  -- the output within a paste is text, however the paste is cut
+  -- The output within a paste is text, however the paste is cut. The byte that ends the paste gives PasteEnd alone.
   pub record PastesAreClean : Type 0 where
-    pub each_byte : (waiting : List ℕ) (after_return : Bool) (b : ℕ) → IsText (filter.step erases_by_delete (Within waiting after_return) b).output
+    pub each_byte : (waiting : List ℕ) (after_return : Bool) (b : ℕ) → waiting ++ b ∷ [] ≢ paste_end
+        → IsText (filter.step erases_by_delete (Within waiting after_return) b).output
+    pub last_byte : (waiting : List ℕ) (after_return : Bool) (b : ℕ) → waiting ++ b ∷ [] ≡ paste_end
+        → filter.step erases_by_delete (Within waiting after_return) b ≡ step_to start end_told
     pub input_ends : (waiting : List ℕ) (after_return : Bool) → IsText (at_end (Within waiting after_return))
     pub whole : (text : List ℕ) → IsText (pasted text)
 
@@ -104,24 +115,30 @@ module _ (erases_by_delete : Bool) where
   abbrev pub GrowsFiveTimes : Type 0
   GrowsFiveTimes = (bs : List ℕ) → length (filtered bs) ≤ 5 * length bs
 
-  -- without key bytes, three bytes become at most five
+  -- without key bytes, three bytes become at most ten
+  abbrev pub GrowsByTenThirds : Type 0
+  GrowsByTenThirds = (bs : List ℕ) → list_all (λ b. not (is_key_byte b)) bs ≡ true → 3 * length (filtered bs) ≤ 10 * length bs
+
+  -- no part of these bytes is the sequence of a short row
+  abbrev pub HasNoShort : List ℕ → Type 0
+  HasNoShort bs = (front middle back : List ℕ) → bs ≡ front ++ (middle ++ back) → has_short (row_of erases_by_delete middle) ≡ false
+
+  -- without short rows, three bytes become at most five
   abbrev pub GrowsByTwoThirds : Type 0
-  GrowsByTwoThirds = (bs : List ℕ) → list_all (λ b. not (is_key_byte b)) bs ≡ true → 3 * length (filtered bs) ≤ 5 * length bs
+  GrowsByTwoThirds = (bs : List ℕ) → HasNoShort bs → 3 * length (filtered bs) ≤ 5 * length bs
 
-  -- After any input that ends outside a paste, the row's sequence gives the editor one more key, the row's. With an ESC that
-  -- belongs to a longer row, it is that row's.
-  abbrev pub AddsKey : Row → Type 0
-  AddsKey r = (bs waiting : List ℕ) (is_open : Bool) → (run start bs).state ≡ Outside waiting is_open
-      → (decoding (filtered (bs ++ r.sequence))).keys ≡ (decoding (filtered bs)).keys ++ (row_behind r (longer_row waiting r)).key ∷ []
+  -- After any input that ends outside a paste, the row's sequence gives the editor the row's keys and no other: one, or Select
+  -- and one. With an ESC that belongs to a longer row, they are that row's.
+  abbrev pub AddsKeys : Row → Type 0
+  AddsKeys r = (bs waiting : List ℕ) (is_open : Bool) → (run start bs).state ≡ Outside waiting is_open
+      → (decoding (filtered (bs ++ r.sequence))).keys ≡ (decoding (filtered bs)).keys ++ keys_of (row_behind r (longer_row waiting r))
 
-  -- The editor's keys for a paste are those of its text after the bytes that wait. Each inserts a character, and does nothing
-  -- else. If the text is UTF-8, these are its characters in order.
+  -- The editor's keys for a paste are PasteStart, those of its text, and PasteEnd, whatever bytes wait. Each of the text inserts
+  -- a character, and does nothing else. If the text is UTF-8, these are its characters in order.
   abbrev pub PastesInsert : Type 0
   PastesInsert = (bs waiting : List ℕ) (is_open : Bool) (text : List ℕ) → (run start bs).state ≡ Outside waiting is_open
       → HasNone (exact paste_end ∷ []) text
-      → let before : Decoding = decoding (filtered bs) in
-      let sent : List ℕ = apart_from (is_open || not (is_empty waiting)) [] ++ pasted text in
-      let keys : List Key = (decoding (before.rest ++ sent)).keys in
-      ((decoding (filtered (bs ++ (paste_start ++ (text ++ paste_end))))).keys ≡ before.keys ++ keys)
+      → let keys : List Key = (decoding (pasted text)).keys in
+      ((decoding (filtered (bs ++ (paste_start ++ (text ++ paste_end))))).keys ≡ (decoding (filtered bs)).keys ++ PasteStart ∷ (keys ++ PasteEnd ∷ []))
       × (list_all is_insert keys ≡ true)
       × (IsUtf8 (pasted text) → keys ≡ map Insert (chars (pasted text)))

@@ -9,8 +9,8 @@ use Rattle.bx_input.specs.Filter as spec
 use Rattle.bx_input.specs.Filter.{State, Step}
 use Rattle.bx_input.specs.declared.after.After.{After}
 use Rattle.bx_input.specs.declared.after.After.TheVariants as after
-use Rattle.bx_input.specs.declared.after.AfterInPaste.{AfterInPaste}
-use Rattle.bx_input.specs.declared.after.AfterInPaste.TheVariants as after_in_paste
+use Rattle.bx_input.specs.declared.in_paste.AfterInPaste.{AfterInPaste}
+use Rattle.bx_input.specs.declared.in_paste.AfterInPaste.TheVariants as after_in_paste
 use Rattle.bx_input.specs.declared.output.Output.{Output}
 use Rattle.bx_input.specs.declared.beginning.Beginning.{Beginning}
 use Rattle.bx_input.specs.declared.beginning.Beginning.TheVariants as beginning
@@ -36,6 +36,7 @@ begun beginning.Bracket = csi (codes "[")
 begun beginning.Eleven = csi (codes "11")
 begun beginning.Thirteen = csi (codes "13")
 begun beginning.Controlled = csi (codes "1;5")
+begun beginning.ShiftControlled = csi (codes "1;6")
 begun beginning.Three = csi (codes "3")
 begun beginning.ThreeAnd = csi (codes "3;")
 begun beginning.ThreeControlled = csi (codes "3;5")

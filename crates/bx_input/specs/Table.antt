@@ -1,5 +1,5 @@
 -- The sequences that terminals send for keys, and the bytes that the editor gets in their place.
-use Rattle.std.specs.Prelude.{ℕ, Bool, false, List, [], ◌∷◌, ◌++◌, map, find, codes, Option, if◌then◌else◌}
+use Rattle.std.specs.Prelude.{ℕ, Bool, true, false, List, [], ◌∷◌, ◌++◌, map, find, codes, Option, if◌then◌else◌}
 use Rattle.std.specs.Str.{bytes_eq}
 use Rattle.bx_bytes.specs.Fate.{fate_in}
 use Rattle.bx_bytes.specs.Pattern.{Piece, One}
@@ -8,18 +8,27 @@ use Rattle.bx_keys.specs.declared.key.Key.{Key}
 use Rattle.bx_keys.specs.declared.key.Key.TheVariants.{Insert, Delete, Right, Left, RowHome, RowEnd, Direction}
 use Rattle.bx_keys.specs.declared.key.Key.TheVariants.{Mark, Copy, Cut, Put, Find, FindBack, WordLeft, WordRight, TextStart, TextEnd, Help}
 use Rattle.bx_keys.specs.declared.key.Key.TheVariants.{EraseWord, DeleteWord, FindNext, ErasePoint, NewLine, LineUp, LineDown, PageBack, PageOn}
+use Rattle.bx_keys.specs.declared.key.Key.TheVariants.{Select, UndoRun, RedoRun}
 
--- a sequence of a terminal, the bytes that it becomes, and the editor's key for these
+-- a sequence of a terminal, the bytes that it becomes, and the editor's keys for these: one, or Select and one
 pub record Row : Type 0 where
   pub sequence : List ℕ
   pub becomes : List ℕ
+  pub selects : Bool
   pub key : Key
 
-abbrev row : List ℕ → List ℕ → Key → Row
-row sequence becomes key = record { sequence = sequence; becomes = becomes; key = key }
+abbrev pub keys_of : Row → List Key
+keys_of r = if r.selects then Select ∷ r.key ∷ [] else r.key ∷ []
 
 abbrev pub csi : List ℕ → List ℕ
 csi bs = 0x1B ∷ 0x5B ∷ bs
+
+abbrev row : List ℕ → List ℕ → Key → Row
+row sequence becomes key = record { sequence = sequence; becomes = becomes; selects = false; key = key }
+
+-- Select, and then the key
+abbrev selecting_row : List ℕ → List ℕ → Key → Row
+selecting_row sequence becomes key = record { sequence = sequence; becomes = csi (codes "81~") ++ becomes; selects = true; key = key }
 
 abbrev pub ss3 : List ℕ → List ℕ
 ss3 bs = 0x1B ∷ 0x4F ∷ bs
@@ -51,23 +60,36 @@ rxvt_keys = row (csi (codes "7~")) (csi (codes "H")) RowHome ∷ row (csi (codes
 -- the same keys with Shift, as xterm, tmux and screen send them
 abbrev shifted_keys : List Row
 shifted_keys =
-    row (csi (codes "1;2A")) (csi (codes "96~")) LineUp
-    ∷ row (csi (codes "1;2B")) (csi (codes "97~")) LineDown
-    ∷ row (csi (codes "1;2C")) (csi (codes "C")) Right
-    ∷ row (csi (codes "1;2D")) (csi (codes "D")) Left
-    ∷ row (csi (codes "1;2H")) (csi (codes "H")) RowHome
-    ∷ row (csi (codes "1;2F")) (csi (codes "F")) RowEnd
+    selecting_row (csi (codes "1;2A")) (csi (codes "96~")) LineUp
+    ∷ selecting_row (csi (codes "1;2B")) (csi (codes "97~")) LineDown
+    ∷ selecting_row (csi (codes "1;2C")) (csi (codes "C")) Right
+    ∷ selecting_row (csi (codes "1;2D")) (csi (codes "D")) Left
+    ∷ selecting_row (csi (codes "1;2H")) (csi (codes "H")) RowHome
+    ∷ selecting_row (csi (codes "1;2F")) (csi (codes "F")) RowEnd
     ∷ []
 
 -- the same keys with Shift, as rxvt sends them
 abbrev shifted_rxvt_keys : List Row
 shifted_rxvt_keys =
-    row (csi (codes "a")) (csi (codes "96~")) LineUp
-    ∷ row (csi (codes "b")) (csi (codes "97~")) LineDown
-    ∷ row (csi (codes "c")) (csi (codes "C")) Right
-    ∷ row (csi (codes "d")) (csi (codes "D")) Left
-    ∷ row (csi (codes "7$")) (csi (codes "H")) RowHome
-    ∷ row (csi (codes "8$")) (csi (codes "F")) RowEnd
+    selecting_row (csi (codes "a")) (csi (codes "96~")) LineUp
+    ∷ selecting_row (csi (codes "b")) (csi (codes "97~")) LineDown
+    ∷ selecting_row (csi (codes "c")) (csi (codes "C")) Right
+    ∷ selecting_row (csi (codes "d")) (csi (codes "D")) Left
+    ∷ selecting_row (csi (codes "7$")) (csi (codes "H")) RowHome
+    ∷ selecting_row (csi (codes "8$")) (csi (codes "F")) RowEnd
+    ∷ []
+
+-- Home and End with Shift, of st
+abbrev shifted_st_keys : List Row
+shifted_st_keys = selecting_row (csi (codes "2J")) (csi (codes "H")) RowHome ∷ selecting_row (csi (codes "2K")) (csi (codes "F")) RowEnd ∷ []
+
+-- Left, Right, Home and End with Shift and CTRL, of xterm, tmux and screen
+abbrev shifted_control_keys : List Row
+shifted_control_keys =
+    selecting_row (csi (codes "1;6D")) (csi (codes "76~")) WordLeft
+    ∷ selecting_row (csi (codes "1;6C")) (csi (codes "77~")) WordRight
+    ∷ selecting_row (csi (codes "1;6H")) (csi (codes "78~")) TextStart
+    ∷ selecting_row (csi (codes "1;6F")) (csi (codes "79~")) TextEnd
     ∷ []
 
 -- Delete of st outside its keypad mode
@@ -148,18 +170,20 @@ text_end_keys =
     ∷ row (csi (codes "8^")) (csi (codes "79~")) TextEnd
     ∷ []
 
+abbrev selecting_rows : List Row
+selecting_rows = shifted_keys ++ (shifted_rxvt_keys ++ (shifted_st_keys ++ shifted_control_keys))
+
 abbrev pub escape_rows : List Row
 escape_rows =
     row_keys
     ++ (application_keys
     ++ (rxvt_keys
-    ++ (shifted_keys
-    ++ (shifted_rxvt_keys
+    ++ (selecting_rows
     ++ (delete_keys
     ++ (delete_word_keys
-    ++ (erase_word_keys ++ (direction_keys ++ (keypad_digits ++ (help_keys ++ (find_keys ++ (word_keys ++ text_end_keys))))))))))))
+    ++ (erase_word_keys ++ (direction_keys ++ (keypad_digits ++ (help_keys ++ (find_keys ++ (word_keys ++ text_end_keys)))))))))))
 
--- CTRL with @ (or the space bar), C, R, V, W and X, and Enter
+-- CTRL with @ (or the space bar), C, R, V, W, X, Y and Z, and Enter
 abbrev pub control_rows : List Row
 control_rows =
     row (0x00 ∷ []) (csi (codes "72~")) Mark
@@ -168,6 +192,8 @@ control_rows =
     ∷ row (0x16 ∷ []) (csi (codes "75~")) Put
     ∷ row (0x17 ∷ []) (csi (codes "70~")) Find
     ∷ row (0x18 ∷ []) (csi (codes "74~")) Cut
+    ∷ row (0x19 ∷ []) (csi (codes "83~")) RedoRun
+    ∷ row (0x1A ∷ []) (csi (codes "82~")) UndoRun
     ∷ row (0x0D ∷ []) (csi (codes "95~")) NewLine
     ∷ []
 
@@ -191,6 +217,13 @@ paste_start = csi (codes "200~")
 
 abbrev pub paste_end : List ℕ
 paste_end = csi (codes "201~")
+
+-- what they become: the editor's PasteStart and PasteEnd
+abbrev pub start_told : List ℕ
+start_told = csi (codes "90~")
+
+abbrev pub end_told : List ℕ
+end_told = csi (codes "91~")
 
 -- these bytes and no others
 abbrev pub exact : List ℕ → List Piece

@@ -1,13 +1,11 @@
-//! The state after the waiting bytes and one more.
+//! The state after the waiting bytes and one more, outside a paste.
 
 ghost use Rattle.std.specs.Prelude.{◌≡◌, ◌≢◌, Bool, ◌∷◌, [], ◌++◌, Some, None, IfSome};
 ghost use Rattle.bx_bytes.specs.declared.fate.Fate.TheVariants as fate_is;
 ghost use Rattle.bx_input.specs.Table.{fate};
-ghost use Rattle.bx_input.specs.Models.{becomes_of, begun, BeginsByEscape, Tells, TellsInPaste};
-ghost use Rattle.bx_input.specs.PasteTail.{tail_bytes};
+ghost use Rattle.bx_input.specs.Models.{becomes_of, begun, BeginsByEscape, Tells};
 
 use crate::beginning::Beginning;
-use crate::paste_tail::PasteTail;
 
 /// The control byte ESC, with which each sequence begins.
 pub const ESC: u8 = 0x1B;
@@ -27,20 +25,7 @@ pub enum After {
     Breaks,
 }
 
-/// The state after a byte within a paste.
-#[derive(Clone, Copy, PartialEq, Eq, Debug)]
-pub enum AfterInPaste {
-    /// The bytes begin the paste's end, or a control character of C1.
-    Waits(PasteTail),
-    /// They are a control character of C1.
-    Drops,
-    /// They are the paste's end.
-    EndsPaste,
-    /// They begin no known sequence.
-    Breaks,
-}
-
-/// The state after the waiting bytes and one more, outside a paste.
+/// The state after the waiting bytes and one more.
 pub fn sequence_after(erases_by_delete: bool, waiting: Beginning, byte: u8) -> After
     ensures { Tells erases_by_delete result (begun waiting ++ byte ∷ []) }
 {
@@ -56,6 +41,7 @@ pub fn sequence_after(erases_by_delete: bool, waiting: Beginning, byte: u8) -> A
         Beginning::OneAnd => after_one_and(byte),
         Beginning::Shifted => after_shifted(byte),
         Beginning::Controlled => after_controlled(byte),
+        Beginning::ShiftControlled => after_shift_controlled(byte),
         Beginning::Two => after_two(byte),
         Beginning::Twenty => after_twenty(byte),
         Beginning::TwoHundred => after_two_hundred(byte),
@@ -97,6 +83,8 @@ pub fn control_key(erases_by_delete: bool, byte: u8) -> Option<&'static [u8]>
         0x16 => Some(b"\x1b[75~"),
         0x17 => Some(b"\x1b[70~"),
         0x18 => Some(b"\x1b[74~"),
+        0x19 => Some(b"\x1b[83~"),
+        0x1A => Some(b"\x1b[82~"),
         _ => None,
     }
 }
@@ -142,10 +130,12 @@ fn after_csi(byte: u8) -> After
         b'7' => After::Waits(Beginning::Seven),
         b'8' => After::Waits(Beginning::Eight),
         b'[' => After::Waits(Beginning::Bracket),
-        b'A' | b'a' => After::Becomes(b"\x1b[96~"),
-        b'B' | b'b' => After::Becomes(b"\x1b[97~"),
-        b'c' => After::Becomes(b"\x1b[C"),
-        b'd' => After::Becomes(b"\x1b[D"),
+        b'A' => After::Becomes(b"\x1b[96~"),
+        b'B' => After::Becomes(b"\x1b[97~"),
+        b'a' => After::Becomes(b"\x1b[81~\x1b[96~"),
+        b'b' => After::Becomes(b"\x1b[81~\x1b[97~"),
+        b'c' => After::Becomes(b"\x1b[81~\x1b[C"),
+        b'd' => After::Becomes(b"\x1b[81~\x1b[D"),
         b'M' => After::Becomes(b"\x1b[89~"),
         b'P' => After::Becomes(b"\x1b[3~"),
         _ => After::Breaks,
@@ -157,12 +147,12 @@ fn after_shifted(byte: u8) -> After
     ensures { (erases_by_delete : Bool) → Tells erases_by_delete result (0x1B ∷ 0x5B ∷ 0x31 ∷ 0x3B ∷ 0x32 ∷ byte ∷ []) }
 {
     match byte {
-        b'A' => After::Becomes(b"\x1b[96~"),
-        b'B' => After::Becomes(b"\x1b[97~"),
-        b'C' => After::Becomes(b"\x1b[C"),
-        b'D' => After::Becomes(b"\x1b[D"),
-        b'H' => After::Becomes(b"\x1b[H"),
-        b'F' => After::Becomes(b"\x1b[F"),
+        b'A' => After::Becomes(b"\x1b[81~\x1b[96~"),
+        b'B' => After::Becomes(b"\x1b[81~\x1b[97~"),
+        b'C' => After::Becomes(b"\x1b[81~\x1b[C"),
+        b'D' => After::Becomes(b"\x1b[81~\x1b[D"),
+        b'H' => After::Becomes(b"\x1b[81~\x1b[H"),
+        b'F' => After::Becomes(b"\x1b[81~\x1b[F"),
         _ => After::Breaks,
     }
 }
@@ -176,6 +166,19 @@ fn after_controlled(byte: u8) -> After
         b'D' => After::Becomes(b"\x1b[76~"),
         b'H' => After::Becomes(b"\x1b[78~"),
         b'F' => After::Becomes(b"\x1b[79~"),
+        _ => After::Breaks,
+    }
+}
+
+/// After CSI 1;6
+fn after_shift_controlled(byte: u8) -> After
+    ensures { (erases_by_delete : Bool) → Tells erases_by_delete result (0x1B ∷ 0x5B ∷ 0x31 ∷ 0x3B ∷ 0x36 ∷ byte ∷ []) }
+{
+    match byte {
+        b'C' => After::Becomes(b"\x1b[81~\x1b[77~"),
+        b'D' => After::Becomes(b"\x1b[81~\x1b[76~"),
+        b'H' => After::Becomes(b"\x1b[81~\x1b[78~"),
+        b'F' => After::Becomes(b"\x1b[81~\x1b[79~"),
         _ => After::Breaks,
     }
 }
@@ -242,6 +245,7 @@ fn after_one_and(byte: u8) -> After
     match byte {
         b'2' => After::Waits(Beginning::Shifted),
         b'5' => After::Waits(Beginning::Controlled),
+        b'6' => After::Waits(Beginning::ShiftControlled),
         _ => After::Breaks,
     }
 }
@@ -252,6 +256,8 @@ fn after_two(byte: u8) -> After
 {
     match byte {
         b'0' => After::Waits(Beginning::Twenty),
+        b'J' => After::Becomes(b"\x1b[81~\x1b[H"),
+        b'K' => After::Becomes(b"\x1b[81~\x1b[F"),
         _ => After::Breaks,
     }
 }
@@ -334,7 +340,8 @@ fn after_seven(byte: u8) -> After
     ensures { (erases_by_delete : Bool) → Tells erases_by_delete result (0x1B ∷ 0x5B ∷ 0x37 ∷ byte ∷ []) }
 {
     match byte {
-        b'~' | b'$' => After::Becomes(b"\x1b[H"),
+        b'~' => After::Becomes(b"\x1b[H"),
+        b'$' => After::Becomes(b"\x1b[81~\x1b[H"),
         b'^' => After::Becomes(b"\x1b[78~"),
         _ => After::Breaks,
     }
@@ -345,7 +352,8 @@ fn after_eight(byte: u8) -> After
     ensures { (erases_by_delete : Bool) → Tells erases_by_delete result (0x1B ∷ 0x5B ∷ 0x38 ∷ byte ∷ []) }
 {
     match byte {
-        b'~' | b'$' => After::Becomes(b"\x1b[F"),
+        b'~' => After::Becomes(b"\x1b[F"),
+        b'$' => After::Becomes(b"\x1b[81~\x1b[F"),
         b'^' => After::Becomes(b"\x1b[79~"),
         _ => After::Breaks,
     }
@@ -360,42 +368,5 @@ fn after_bracket(byte: u8) -> After
         b'B' => After::Becomes(b"\x1b[9~"),
         b'C' => After::Becomes(b"\x1b[92~"),
         _ => After::Breaks,
-    }
-}
-
-/// The state after the waiting bytes and one more, within a paste.
-pub fn paste_after(waiting: PasteTail, byte: u8) -> AfterInPaste
-    ensures { TellsInPaste result (tail_bytes waiting ++ byte ∷ []) }
-{
-    match waiting {
-        PasteTail::Nothing => match byte {
-            0xC2 => AfterInPaste::Waits(PasteTail::Lead),
-            ESC => AfterInPaste::Waits(PasteTail::Escape),
-            _ => AfterInPaste::Breaks,
-        },
-        PasteTail::Lead => match byte {
-            0x80..=0x9F => AfterInPaste::Drops,
-            _ => AfterInPaste::Breaks,
-        },
-        PasteTail::Escape => match byte {
-            b'[' => AfterInPaste::Waits(PasteTail::Csi),
-            _ => AfterInPaste::Breaks,
-        },
-        PasteTail::Csi => match byte {
-            b'2' => AfterInPaste::Waits(PasteTail::Two),
-            _ => AfterInPaste::Breaks,
-        },
-        PasteTail::Two => match byte {
-            b'0' => AfterInPaste::Waits(PasteTail::Twenty),
-            _ => AfterInPaste::Breaks,
-        },
-        PasteTail::Twenty => match byte {
-            b'1' => AfterInPaste::Waits(PasteTail::TwoHundredOne),
-            _ => AfterInPaste::Breaks,
-        },
-        PasteTail::TwoHundredOne => match byte {
-            b'~' => AfterInPaste::EndsPaste,
-            _ => AfterInPaste::Breaks,
-        },
     }
 }

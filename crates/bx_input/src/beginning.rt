@@ -47,6 +47,8 @@ pub enum Beginning {
     Thirteen,
     /// CSI 1;5
     Controlled,
+    /// CSI 1;6
+    ShiftControlled,
     /// CSI 5
     Five,
 }
@@ -77,6 +79,7 @@ impl Beginning {
             Beginning::Eleven => b"\x1b[11",
             Beginning::Thirteen => b"\x1b[13",
             Beginning::Controlled => b"\x1b[1;5",
+            Beginning::ShiftControlled => b"\x1b[1;6",
             Beginning::Five => b"\x1b[5",
         }
     }

@@ -7,9 +7,10 @@ ghost use Rattle.bx_input.specs.Models.{begun, bytes_of, state_of, Goes};
 ghost use Rattle.bx_input.specs.PasteTail.{tail_bytes};
 ghost use Rattle.bx_input.specs.Paste.{pasted_byte, pasted_part, paste_fate};
 
-use crate::after::{After, AfterInPaste, ESC, control_key, paste_after, sequence_after};
+use crate::after::{After, ESC, control_key, sequence_after};
 use crate::beginning::Beginning;
 use crate::filter_state::FilterState;
+use crate::in_paste::{AfterInPaste, paste_after};
 use crate::output::Output;
 use crate::paste_tail::PasteTail;
 
@@ -50,26 +51,19 @@ fn outside(
 {
     match sequence_after(erases_by_delete, waiting, byte) {
         After::Waits(waiting) => (FilterState::Outside { waiting, is_open }, NOTHING),
-        After::Becomes(bytes) => (
-            OUTSIDE,
-            Output {
-                before: b"",
-                key: bytes,
-                byte: None,
-            },
-        ),
-        After::Digit(digit) => (OUTSIDE, apart(is_open, Some(digit))),
-        After::Pastes => (fresh_paste(false), apart(is_open, None)),
+        After::Becomes(bytes) => (OUTSIDE, keys(bytes)),
+        After::Digit(digit) => (OUTSIDE, apart(is_open, digit)),
+        After::Pastes => (fresh_paste(false), keys(b"\x1b[90~")),
         After::Breaks => broken_off(erases_by_delete, waiting, is_open, byte),
     }
 }
 
-/// Sends a digit or nothing, after a CAN if a sequence is open, which would take the digit.
-fn apart(is_open: bool, byte: Option<u8>) -> Output
-    requires { byte ≢ Some 0x1B }
-    ensures { bytes_of result ≡ apart_from is_open (option_to_list byte) }
+/// Sends a digit, after a CAN if a sequence is open, which would take it.
+fn apart(is_open: bool, digit: u8) -> Output
+    requires { digit ≢ 0x1B }
+    ensures { bytes_of result ≡ apart_from is_open (digit ∷ []) }
 {
-    output(if is_open { b"\x18" } else { b"" }, byte)
+    output(if is_open { b"\x18" } else { b"" }, Some(digit))
 }
 
 /// Reads a byte that does not continue the waiting bytes' sequence.
@@ -109,6 +103,17 @@ fn broken_off(
     }
 }
 
+/// The output of these sequences of keys alone.
+fn keys(bytes: &'static [u8]) -> Output
+    ensures { bytes_of result ≡ bytes.now }
+{
+    Output {
+        before: b"",
+        key: bytes,
+        byte: None,
+    }
+}
+
 /// The output of these bytes, and perhaps one more.
 fn output(before: &'static [u8], byte: Option<u8>) -> Output
     ensures { bytes_of result ≡ before.now ++ option_to_list byte }
@@ -136,7 +141,7 @@ fn within(waiting: PasteTail, after_return: bool, byte: u8) -> (FilterState, Out
     match paste_after(waiting, byte) {
         AfterInPaste::Waits(waiting) => (waits(waiting), NOTHING),
         AfterInPaste::Drops => (fresh_paste(false), NOTHING),
-        AfterInPaste::EndsPaste => (OUTSIDE, NOTHING),
+        AfterInPaste::EndsPaste => (OUTSIDE, keys(b"\x1b[91~")),
         AfterInPaste::Breaks => broken_off_in_paste(waiting, after_return, byte),
     }
 }

@@ -15,6 +15,7 @@ use Rattle.bx_keys.specs.declared.key.Key.TheVariants.{Insert, Erase, Delete, Up
 use Rattle.bx_keys.specs.declared.key.Key.TheVariants.{Direction, Size, Notice}
 use Rattle.bx_keys.specs.declared.key.Key.TheVariants.{Mark, Copy, Cut, Put, Find, FindBack, WordLeft, WordRight, TextStart, TextEnd, Help}
 use Rattle.bx_keys.specs.declared.key.Key.TheVariants.{EraseWord, DeleteWord, FindNext, Cancel, ErasePoint, NewLine, LineUp, LineDown, PageBack, PageOn}
+use Rattle.bx_keys.specs.declared.key.Key.TheVariants.{Select, UndoRun, RedoRun, PasteStart, PasteEnd}
 use Rattle.bx_keys.specs.declared.notice.Notice.TheVariants.{NoSpace, InPlace}
 
 abbrev keys : List ℕ → List Key
@@ -46,8 +47,12 @@ lines_and_pages = refl
 pub notices : keys (codes "\u{1b}[>1~\u{1b}[>9~\u{1b}[>0~\u{1b}[>10~\u{1b}[>1") ≡ Notice NoSpace ∷ Notice InPlace ∷ []
 notices = refl
 
--- the numbers from 81 to 99 that have no key
-pub free_numbers : keys (codes "\u{1b}[81~\u{1b}[82~\u{1b}[83~\u{1b}[84~\u{1b}[85~\u{1b}[86~\u{1b}[87~\u{1b}[90~\u{1b}[91~") ≡ []
+pub selections_runs_and_pastes : keys (codes "\u{1b}[81~\u{1b}[82~\u{1b}[83~\u{1b}[90~\u{1b}[91~")
+    ≡ Select ∷ UndoRun ∷ RedoRun ∷ PasteStart ∷ PasteEnd ∷ []
+selections_runs_and_pastes = refl
+
+-- the numbers from 80 to 99 that have no key
+pub free_numbers : keys (codes "\u{1b}[84~\u{1b}[85~\u{1b}[86~\u{1b}[87~") ≡ []
 free_numbers = refl
 
 -- other numbers, other finals, and bytes between

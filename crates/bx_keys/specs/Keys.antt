@@ -12,6 +12,7 @@ use Rattle.bx_keys.specs.declared.key.Key.TheVariants.{Insert, Erase, Delete, Ba
 use Rattle.bx_keys.specs.declared.key.Key.TheVariants.{Quit, Undo, Redo, Repaint, Direction, Size, Notice}
 use Rattle.bx_keys.specs.declared.key.Key.TheVariants.{Mark, Copy, Cut, Put, Find, FindBack, WordLeft, WordRight, TextStart, TextEnd, Help}
 use Rattle.bx_keys.specs.declared.key.Key.TheVariants.{EraseWord, DeleteWord, FindNext, Cancel, ErasePoint, NewLine, LineUp, LineDown, PageBack, PageOn}
+use Rattle.bx_keys.specs.declared.key.Key.TheVariants.{Select, UndoRun, RedoRun, PasteStart, PasteEnd}
 use Rattle.bx_keys.specs.declared.notice.Notice.TheVariants as notices
 
 -- ---- the key of an item
@@ -41,8 +42,13 @@ sequence_keys =
     ∷ (codes "78~", TextStart)
     ∷ (codes "79~", TextEnd)
     ∷ (codes "80~", Help)
+    ∷ (codes "81~", Select)
+    ∷ (codes "82~", UndoRun)
+    ∷ (codes "83~", RedoRun)
     ∷ (codes "88~", EraseWord)
     ∷ (codes "89~", DeleteWord)
+    ∷ (codes "90~", PasteStart)
+    ∷ (codes "91~", PasteEnd)
     ∷ (codes "92~", FindNext)
     ∷ (codes "93~", Cancel)
     ∷ (codes "94~", ErasePoint)

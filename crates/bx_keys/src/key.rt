@@ -79,6 +79,16 @@ pub enum Key {
     PageBack,
     /// A screen of rows down, in the column of the first of such moves.
     PageOn,
+    /// Begins a selection at the place, or goes on with one, so that the next move keeps the mark.
+    Select,
+    /// Takes back all edits since the latest run of typing began.
+    UndoRun,
+    /// Makes again what the latest UndoRun took back.
+    RedoRun,
+    /// A paste begins. It changes nothing that is seen.
+    PasteStart,
+    /// A paste ends. It changes nothing that is seen.
+    PasteEnd,
     /// The window's size in rows and columns, each from 1 to 500.
     Size(u16, u16),
     /// Shows a notice of the host in the status row.

@@ -162,6 +162,9 @@ fn eighties_key(ones: u8) -> Option<Key>
 {
     match ones {
         b'0' => Some(Key::Help),
+        b'1' => Some(Key::Select),
+        b'2' => Some(Key::UndoRun),
+        b'3' => Some(Key::RedoRun),
         b'8' => Some(Key::EraseWord),
         b'9' => Some(Key::DeleteWord),
         _ => None,
@@ -174,6 +177,8 @@ fn nineties_key(ones: u8) -> Option<Key>
     ensures sides { IfSome result HasSides }
 {
     match ones {
+        b'0' => Some(Key::PasteStart),
+        b'1' => Some(Key::PasteEnd),
         b'2' => Some(Key::FindNext),
         b'3' => Some(Key::Cancel),
         b'4' => Some(Key::ErasePoint),

@@ -55,6 +55,11 @@ fn name_of(key: Key) -> &'static str {
         Key::LineDown => "line_down",
         Key::PageBack => "page_back",
         Key::PageOn => "page_on",
+        Key::Select => "select",
+        Key::UndoRun => "undo_run",
+        Key::RedoRun => "redo_run",
+        Key::PasteStart => "paste_start",
+        Key::PasteEnd => "paste_end",
         Key::Notice(_) => "notice",
     }
 }
@@ -212,17 +217,19 @@ fn numbers_from_70_to_80_have_keys(rt: HostRuntime) -> Result<(), Fail> {
 }
 
 #[test]
-fn numbers_from_88_to_99_have_keys(rt: HostRuntime) -> Result<(), Fail> {
+fn numbers_from_81_to_99_have_keys(rt: HostRuntime) -> Result<(), Fail> {
     keys_are(
         &rt,
         rt.alloc(),
         &[
+            (b"\x1B[81~\x1B[82~\x1B[83~", "select undo_run redo_run"),
             (b"\x1B[88~\x1B[89~", "erase_word delete_word"),
+            (b"\x1B[90~\x1B[91~", "paste_start paste_end"),
             (b"\x1B[92~\x1B[93~", "find_next cancel"),
             (b"\x1B[94~\x1B[95~", "erase_point new_line"),
             (b"\x1B[96~\x1B[97~", "line_up line_down"),
             (b"\x1B[98~\x1B[99~", "page_back page_on"),
-            (b"\x1B[81~\x1B[87~\x1B[90~\x1B[91~\x1B[100~", ""),
+            (b"\x1B[84~\x1B[87~\x1B[100~", ""),
         ],
     )
 }

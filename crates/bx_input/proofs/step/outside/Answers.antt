@@ -1,4 +1,4 @@
-use Rattle.std.proofs.Common.{◌∷◌, [], sym, ap, ◌∙◌, append-nil}
+use Rattle.std.proofs.Common.{◌∷◌, [], sym, ap, ◌∙◌}
 use Rattle.bx_input.specs.Filter.{Step}
 use Rattle.bx_input.specs.Models.{begun}
 use Rattle.bx_input.proofs.Rows.{row_goes, escape_apart}
@@ -9,7 +9,7 @@ returns-in-Becomes c =
     let says = c.in-Becomes.ensures in
     let goes = row_goes c.args.erases_by_delete (begun c.args.waiting) c.args.is_open c.args.byte c.in-Becomes.bytes.now says.0 says.1 in (
       sym (ap (λ (s : Step). s.state) goes),
-      append-nil c.in-Becomes.bytes.now
+      c.keys.ensures
           ∙ sym (escape_apart c.args.is_open c.in-Becomes.bytes.now says.2)
           ∙ sym (ap (λ (s : Step). s.output) goes),
     )
