@@ -10,6 +10,7 @@ use Rattle.bx_store.specs.declared.cause.SaveCause.{SaveCause}
 use Rattle.bx_store.specs.declared.cause.SaveCause.TheVariants.{NoSpace}
 use Rattle.bx_editor.specs.declared.message.Message.TheVariants.{NothingToUndo, NothingToRedo, Unsaved}
 use Rattle.bx_editor.specs.Editor.{Editor}
+use Rattle.bx_runs.specs.declared.typing.Typing.TheVariants.{Off}
 use Rattle.bx_editor.specs.Keys.{after_key}
 use Rattle.bx_editor.proofs.Computed.{tables, start, after, letters, shown, ascii_columns}
 
@@ -78,7 +79,7 @@ unfolding unicode_segmentation unicode_width digits
 erase_at_the_start_does_nothing = refl
 
 pub an_edit_empties_the_future : after (start (codes "ab") 2 30) (letters (codes "x") ++ (Undo ∷ Insert 0x79 ∷ Redo ∷ []))
-    ≡ record (after (start (codes "ab") 2 30) (letters (codes "x") ++ (Undo ∷ Insert 0x79 ∷ []))) { message = Some NothingToRedo }
+    ≡ record (after (start (codes "ab") 2 30) (letters (codes "x") ++ (Undo ∷ Insert 0x79 ∷ []))) { typing = Off; message = Some NothingToRedo }
 unfolding unicode_segmentation unicode_width digits
 an_edit_empties_the_future = refl
 

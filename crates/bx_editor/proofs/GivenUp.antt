@@ -2,20 +2,18 @@
 use Rattle.std.proofs.Common.{◌≡◌, Bool, true, false, List, [], ◌∷◌, refl, sym, ap, subst, ◌∙◌, inl, inr, if◌then◌else◌}
 use Rattle.std.specs.Prelude.{◌≢◌, ◌==◌, Option, None}
 use Rattle.bx_keys.specs.declared.key.Key.{Key}
-use Rattle.bx_keys.specs.declared.key.Key.TheVariants.{Insert, Erase, Delete, Back, Forward, Up, Down, Right, Left, RowHome, RowEnd, PageUp, PageDown, Save}
-use Rattle.bx_keys.specs.declared.key.Key.TheVariants.{Quit, Undo, Redo, Repaint, Direction, Size, Mark, Copy, Cut, Put}
-use Rattle.bx_keys.specs.declared.key.Key.TheVariants.{Find, FindBack, WordLeft, WordRight, TextStart, TextEnd, Help, Notice}
-use Rattle.bx_keys.specs.declared.key.Key.TheVariants.{EraseWord, DeleteWord, ErasePoint, NewLine, FindNext, Cancel, LineUp, LineDown, PageBack, PageOn}
+use Rattle.bx_keys.specs.declared.key.Key.TheVariants.{Quit, Copy, Find, FindBack, Cancel}
 use Rattle.bx_store.specs.declared.store.StoreFault.{StoreFault}
 use Rattle.bx_ucd.specs.Data.{Data}
 use Rattle.bx_editor.specs.declared.seek.Seek.{Seek}
 use Rattle.bx_editor.specs.declared.seek.Seek.TheVariants.{Off, Begun, Typed}
-use Rattle.bx_editor.specs.Editor.{Editor, without_message}
-use Rattle.bx_editor.specs.Goal.{without_goal}
-use Rattle.bx_editor.specs.Keys.{after_any, after_key, after_seeking}
+use Rattle.bx_editor.specs.Editor.{Editor, cleared}
+use Rattle.bx_editor.specs.Effects.{Before, before}
+use Rattle.bx_editor.specs.Keys.{Answer, Letter, Shortens, GoesBack, Next, Previous, Stays, Ends, after_any, after_key, answer_of, answered}
 use Rattle.bx_editor.specs.Laws.{after_typing, BeginsSearch, GivesUp, GivingUpGoesBack, IsGivenUp, StaysOn}
 use Rattle.bx_editor.specs.Search.{after_beginning, after_giving_up, is_no_letter, kept, lengthened, search_from, with_query, without_search}
-use Rattle.bx_editor.proofs.InSearch.{each-key}
+use Rattle.bx_editor.specs.Selecting.{unselected}
+use Rattle.bx_editor.proofs.InSearch.{behind, each-key}
 
 -- the new editor has the text and the mark of the old one, and the place where its search began
 record KeepsSearch (e new : Editor) : Type 0 where
@@ -32,66 +30,33 @@ letter-keeps e longer true plain keeps on = absurd (on refl)
 letter-keeps e longer false true keeps on = record { origin_is = refl; mark_is = refl; content_is = refl }
 letter-keeps e longer false false keeps on = keeps
 
-seeking-keeps : (d : Data) (fault : Option StoreFault) (again : Bool) (e : Editor) (key : Key) → (after_seeking d fault again e key).seek ≢ Off
-    → KeepsSearch e (after_seeking d fault again e key)
-seeking-keeps d fault again e (Insert c) on =
+answered-keeps : (d : Data) (fault : Option StoreFault) (was : Before) (e : Editor) (key : Key) (answer : Answer)
+    → (answered d fault was e key answer).seek ≢ Off → KeepsSearch e (answered d fault was e key answer)
+answered-keeps d fault was e key (Letter c) on =
     let longer : Editor = search_from d e.place (with_query e (lengthened (kept e.seek e.query) c)) in
-    letter-keeps e longer (c == 0xA) (is_no_letter d c) (record { origin_is = refl; mark_is = refl; content_is = refl }) on
-seeking-keeps d fault again e Erase on = record { origin_is = refl; mark_is = refl; content_is = refl }
-seeking-keeps d fault again e Delete on = record { origin_is = refl; mark_is = refl; content_is = refl }
-seeking-keeps d fault again e ErasePoint on = record { origin_is = refl; mark_is = refl; content_is = refl }
-seeking-keeps d fault again e FindNext on = record { origin_is = refl; mark_is = refl; content_is = refl }
-seeking-keeps d fault again e Find on = record { origin_is = refl; mark_is = refl; content_is = refl }
-seeking-keeps d fault again e FindBack on = record { origin_is = refl; mark_is = refl; content_is = refl }
-seeking-keeps d fault again e Repaint on = record { origin_is = refl; mark_is = refl; content_is = refl }
-seeking-keeps d fault again e Quit on = absurd (on refl)
-seeking-keeps d fault again e Copy on = absurd (on refl)
-seeking-keeps d fault again e Back on = absurd (on refl)
-seeking-keeps d fault again e Forward on = absurd (on refl)
-seeking-keeps d fault again e Up on = absurd (on refl)
-seeking-keeps d fault again e Down on = absurd (on refl)
-seeking-keeps d fault again e Right on = absurd (on refl)
-seeking-keeps d fault again e Left on = absurd (on refl)
-seeking-keeps d fault again e RowHome on = absurd (on refl)
-seeking-keeps d fault again e RowEnd on = absurd (on refl)
-seeking-keeps d fault again e PageUp on = absurd (on refl)
-seeking-keeps d fault again e PageDown on = absurd (on refl)
-seeking-keeps d fault again e Save on = absurd (on refl)
-seeking-keeps d fault again e Undo on = absurd (on refl)
-seeking-keeps d fault again e Redo on = absurd (on refl)
-seeking-keeps d fault again e Direction on = absurd (on refl)
-seeking-keeps d fault again e Mark on = absurd (on refl)
-seeking-keeps d fault again e Cut on = absurd (on refl)
-seeking-keeps d fault again e Put on = absurd (on refl)
-seeking-keeps d fault again e WordLeft on = absurd (on refl)
-seeking-keeps d fault again e WordRight on = absurd (on refl)
-seeking-keeps d fault again e TextStart on = absurd (on refl)
-seeking-keeps d fault again e TextEnd on = absurd (on refl)
-seeking-keeps d fault again e Help on = absurd (on refl)
-seeking-keeps d fault again e EraseWord on = absurd (on refl)
-seeking-keeps d fault again e DeleteWord on = absurd (on refl)
-seeking-keeps d fault again e NewLine on = absurd (on refl)
-seeking-keeps d fault again e Cancel on = absurd (on refl)
-seeking-keeps d fault again e LineUp on = absurd (on refl)
-seeking-keeps d fault again e LineDown on = absurd (on refl)
-seeking-keeps d fault again e PageBack on = absurd (on refl)
-seeking-keeps d fault again e PageOn on = absurd (on refl)
-seeking-keeps d fault again e (Size height width) on = absurd (on refl)
-seeking-keeps d fault again e (Notice notice) on = absurd (on refl)
+    let keeps = letter-keeps e longer (c == 0xA) (is_no_letter d c) (record { origin_is = refl; mark_is = refl; content_is = refl }) on in
+    record { origin_is = keeps.origin_is; mark_is = keeps.mark_is; content_is = keeps.content_is }
+answered-keeps d fault was e key Shortens on = record { origin_is = refl; mark_is = refl; content_is = refl }
+answered-keeps d fault was e key GoesBack on = absurd (on refl)
+answered-keeps d fault was e key Next on = record { origin_is = refl; mark_is = refl; content_is = refl }
+answered-keeps d fault was e key Previous on = record { origin_is = refl; mark_is = refl; content_is = refl }
+answered-keeps d fault was e key Stays on = record { origin_is = refl; mark_is = refl; content_is = refl }
+answered-keeps d fault was e key Ends on = absurd (on refl)
 
-any-keeps : (d : Data) (fault : Option StoreFault) (again : Bool) (seek : Seek) (e : Editor) (key : Key) → seek ≢ Off → (after_any d fault again seek e key).seek ≢ Off
-    → KeepsSearch e (after_any d fault again seek e key)
-any-keeps d fault again Off e key was on = absurd (was refl)
-any-keeps d fault again Begun e key was on = seeking-keeps d fault again e key on
-any-keeps d fault again Typed e key was on = seeking-keeps d fault again e key on
+any-keeps : (d : Data) (fault : Option StoreFault) (was : Before) (seek : Seek) (e : Editor) (key : Key) → seek ≢ Off → (after_any d fault was seek e key).seek ≢ Off
+    → KeepsSearch e (after_any d fault was seek e key)
+any-keeps d fault was Off e key sought on = absurd (sought refl)
+any-keeps d fault was Begun e key sought on = answered-keeps d fault was e key (answer_of key) on
+any-keeps d fault was Typed e key sought on = answered-keeps d fault was e key (answer_of key) on
 
 key-keeps : (d : Data) (fault : Option StoreFault) (e : Editor) (key : Key) → e.seek ≢ Off → (after_key d fault e key).seek ≢ Off
     → KeepsSearch e (after_key d fault e key)
-key-keeps d fault e key was =
+key-keeps d fault e key sought =
     each-key d fault e (λ k new. new.seek ≢ Off → KeepsSearch e new) (λ height width on. record { origin_is = refl; mark_is = refl; content_is = refl })
     (λ notice on. record { origin_is = refl; mark_is = refl; content_is = refl })
+    (λ on. record { origin_is = refl; mark_is = refl; content_is = refl }, λ on. record { origin_is = refl; mark_is = refl; content_is = refl })
     (λ k other on.
-    let keeps = any-keeps d fault e.quit_before e.seek (without_message e) k was on in
+    let keeps = any-keeps d fault (before e) e.seek (cleared e) k sought on in
     record { origin_is = keeps.origin_is; mark_is = keeps.mark_is; content_is = keeps.content_is })
     key
 
@@ -122,39 +87,39 @@ typing-keeps d e (key ∷ typed) on =
 same-key : (d : Data) (e : Editor) (key other : Key) (new : Editor) → key ≡ other → after_key d None e other ≡ new → after_key d None e key ≡ new
 same-key d e key other new is done = subst (λ k. after_key d None e k ≡ new) (sym is) done
 
-find-begins : (d : Data) (e : Editor) → e.seek ≡ Off → after_key d None e Find ≡ without_goal (after_beginning (without_message e))
-find-begins d e off = ap (λ s. without_goal (after_any d None e.quit_before s (without_message e) Find)) off
+find-begins : (d : Data) (e : Editor) → e.seek ≡ Off → after_key d None e Find ≡ behind (after_beginning (unselected (cleared e)))
+find-begins d e off = ap (λ s. behind (after_any d None (before e) s (cleared e) Find)) off
 
-find-back-begins : (d : Data) (e : Editor) → e.seek ≡ Off → after_key d None e FindBack ≡ without_goal (after_beginning (without_message e))
-find-back-begins d e off = ap (λ s. without_goal (after_any d None e.quit_before s (without_message e) FindBack)) off
+find-back-begins : (d : Data) (e : Editor) → e.seek ≡ Off → after_key d None e FindBack ≡ behind (after_beginning (unselected (cleared e)))
+find-back-begins d e off = ap (λ s. behind (after_any d None (before e) s (cleared e) FindBack)) off
 
-begin-is : (d : Data) (e : Editor) (begin : Key) → e.seek ≡ Off → BeginsSearch begin → after_key d None e begin ≡ without_goal (after_beginning (without_message e))
-begin-is d e begin off (inl is) = same-key d e begin Find (without_goal (after_beginning (without_message e))) is (find-begins d e off)
-begin-is d e begin off (inr is) = same-key d e begin FindBack (without_goal (after_beginning (without_message e))) is (find-back-begins d e off)
+begin-is : (d : Data) (e : Editor) (begin : Key) → e.seek ≡ Off → BeginsSearch begin → after_key d None e begin ≡ behind (after_beginning (unselected (cleared e)))
+begin-is d e begin off (inl is) = same-key d e begin Find (behind (after_beginning (unselected (cleared e)))) is (find-begins d e off)
+begin-is d e begin off (inr is) = same-key d e begin FindBack (behind (after_beginning (unselected (cleared e)))) is (find-back-begins d e off)
 
-quit-any : (d : Data) (again : Bool) (seek : Seek) (e : Editor) → seek ≢ Off → after_any d None again seek e Quit ≡ after_giving_up e
-quit-any d again Off e on = absurd (on refl)
-quit-any d again Begun e on = refl
-quit-any d again Typed e on = refl
+quit-any : (d : Data) (was : Before) (seek : Seek) (e : Editor) → seek ≢ Off → after_any d None was seek e Quit ≡ after_giving_up e
+quit-any d was Off e on = absurd (on refl)
+quit-any d was Begun e on = refl
+quit-any d was Typed e on = refl
 
-copy-any : (d : Data) (again : Bool) (seek : Seek) (e : Editor) → seek ≢ Off → after_any d None again seek e Copy ≡ after_giving_up e
-copy-any d again Off e on = absurd (on refl)
-copy-any d again Begun e on = refl
-copy-any d again Typed e on = refl
+copy-any : (d : Data) (was : Before) (seek : Seek) (e : Editor) → seek ≢ Off → after_any d None was seek e Copy ≡ after_giving_up e
+copy-any d was Off e on = absurd (on refl)
+copy-any d was Begun e on = refl
+copy-any d was Typed e on = refl
 
-cancel-any : (d : Data) (again : Bool) (seek : Seek) (e : Editor) → seek ≢ Off → after_any d None again seek e Cancel ≡ after_giving_up e
-cancel-any d again Off e on = absurd (on refl)
-cancel-any d again Begun e on = refl
-cancel-any d again Typed e on = refl
+cancel-any : (d : Data) (was : Before) (seek : Seek) (e : Editor) → seek ≢ Off → after_any d None was seek e Cancel ≡ after_giving_up e
+cancel-any d was Off e on = absurd (on refl)
+cancel-any d was Begun e on = refl
+cancel-any d was Typed e on = refl
 
-give-is : (d : Data) (e : Editor) (give : Key) → e.seek ≢ Off → GivesUp give → after_key d None e give ≡ without_goal (after_giving_up (without_message e))
+give-is : (d : Data) (e : Editor) (give : Key) → e.seek ≢ Off → GivesUp give → after_key d None e give ≡ behind (after_giving_up (cleared e))
 give-is d e give on (inl is) =
-    same-key d e give Quit (without_goal (after_giving_up (without_message e))) is (ap without_goal (quit-any d e.quit_before e.seek (without_message e) on))
+    same-key d e give Quit (behind (after_giving_up (cleared e))) is (ap behind (quit-any d (before e) e.seek (cleared e) on))
 give-is d e give on (inr (inl is)) =
-    same-key d e give Copy (without_goal (after_giving_up (without_message e))) is (ap without_goal (copy-any d e.quit_before e.seek (without_message e) on))
+    same-key d e give Copy (behind (after_giving_up (cleared e))) is (ap behind (copy-any d (before e) e.seek (cleared e) on))
 give-is d e give on (inr (inr is)) =
-    same-key d e give Cancel (without_goal (after_giving_up (without_message e))) is
-    (ap without_goal (cancel-any d e.quit_before e.seek (without_message e) on))
+    same-key d e give Cancel (behind (after_giving_up (cleared e))) is
+    (ap behind (cancel-any d (before e) e.seek (cleared e) on))
 
 pub giving-up-goes-back : GivingUpGoesBack
 giving-up-goes-back d e begin give typed off begins gives on =

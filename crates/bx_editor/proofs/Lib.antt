@@ -29,3 +29,16 @@ pub mod ThereAndBack
 pub mod PointErased
 pub mod NextMatch
 pub mod WorkLawExamples
+pub mod TwoEdits
+pub mod RunSteps
+pub mod HeldApart
+pub mod ManySteps
+pub mod Chains
+pub mod RunKeys
+pub mod StoredText
+pub mod MirroredRuns
+pub mod OneRun
+pub mod MovedMarks
+pub mod GivenWay
+pub mod RunLawExamples
+pub mod SelectionLawExamples

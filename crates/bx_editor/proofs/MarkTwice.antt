@@ -8,12 +8,17 @@ use Rattle.bx_editor.specs.declared.message.Message.{Message}
 use Rattle.bx_editor.specs.declared.message.Message.TheVariants.{MarkOff, MarkSet}
 use Rattle.bx_editor.specs.declared.seek.Seek.{Seek}
 use Rattle.bx_editor.specs.declared.seek.Seek.TheVariants.{Off, Begun, Typed}
-use Rattle.bx_editor.specs.Editor.{Editor, with_place, without_message}
-use Rattle.bx_editor.specs.Goal.{without_goal}
+use Rattle.bx_editor.specs.declared.soft.Soft.{Soft}
+use Rattle.bx_editor.specs.declared.soft.Soft.TheVariants as softness
+use Rattle.bx_runs.specs.declared.typing.Typing.TheVariants as typings
+use Rattle.bx_editor.specs.Editor.{Editor, cleared, with_place}
+use Rattle.bx_editor.specs.Effects.{Before, before}
 use Rattle.bx_editor.specs.Keys.{after_any, after_key, after_keys}
-use Rattle.bx_editor.specs.Laws.{GoesToBothEnds, MarkTwiceIsNothing}
+use Rattle.bx_editor.specs.Laws.{GoesToBothEnds, MarkTwiceIsNothing, hard_mark, only_at}
 use Rattle.bx_editor.specs.Region.{after_mark, is_at_mark}
 use Rattle.bx_editor.specs.Search.{without_search}
+use Rattle.bx_editor.specs.Selecting.{aged, mark_left, soft_left, unselected}
+use Rattle.bx_editor.proofs.InSearch.{behind}
 
 -- ---- Mark
 
@@ -21,18 +26,26 @@ either-off : (b : Bool) (p q : Editor) → p.seek ≡ Off → q.seek ≡ Off →
 either-off true p q h k = ap (λ s. record p { seek = s }) h
 either-off false p q h k = ap (λ s. record q { seek = s }) k
 
-mark-any : (d : Data) (again : Bool) (seek : Seek) (e : Editor) → e.seek ≡ seek → after_any d None again seek e Mark ≡ without_search (after_mark e)
-mark-any d again Off e is =
-    either-off (is_at_mark e.mark e.place) (record e { mark = None; message = Some MarkOff }) (record e { mark = Some e.place; message = Some MarkSet }) is is
-mark-any d again Begun e is = refl
-mark-any d again Typed e is = refl
+mark-any : (d : Data) (was : Before) (seek : Seek) (e : Editor) → e.seek ≡ seek → after_any d None was seek e Mark ≡ without_search (after_mark e)
+mark-any d was Off e is =
+    either-off (is_at_mark e.mark e.place) (record e { mark = None; soft = softness.Off; message = Some MarkOff }) (record e { mark = Some e.place; soft = softness.Off; message = Some MarkSet }) is is
+mark-any d was Begun e is = refl
+mark-any d was Typed e is = refl
 
-mark-is : (d : Data) (e : Editor) → after_key d None e Mark ≡ without_goal (without_search (after_mark (without_message e)))
-mark-is d e = ap without_goal (mark-any d e.quit_before e.seek (without_message e) refl)
+mark-is : (d : Data) (e : Editor) → after_key d None e Mark ≡ behind (without_search (after_mark (cleared e)))
+mark-is d e = ap behind (mark-any d (before e) e.seek (cleared e) refl)
 
--- once the message is cleared, the search is over and no column is kept, with a mark and a message
+-- once the message is cleared, the search and a selection are over and no column is kept, with a mark and a message
 abbrev marked : Editor → Option ℕ → Option Message → Editor
-marked e mark message = record e { mark = mark; seek = Off; message = message; quit_before = false; goal = None }
+marked e mark message = record e {
+  mark = mark;
+  soft = softness.Off;
+  seek = Off;
+  typing = typings.Off;
+  message = message;
+  quit_before = false;
+  goal = None;
+}
 
 at-itself : (place : ℕ) → (place == place) ≡ true
 at-itself place = grind (arith, nat_tests)
@@ -40,14 +53,14 @@ at-itself place = grind (arith, nat_tests)
 -- what Mark leaves, by whether the mark is at the place
 abbrev left : Editor → Bool → Editor
 left e there =
-    let was = without_message e in
-    without_goal (without_search (if there then record was { mark = None; message = Some MarkOff } else record was { mark = Some e.place; message = Some MarkSet }))
+    let was = cleared e in
+    behind (without_search (if there then record was { mark = None; soft = softness.Off; message = Some MarkOff } else record was { mark = Some e.place; soft = softness.Off; message = Some MarkSet }))
 
-mark-there : (e : Editor) → is_at_mark e.mark e.place ≡ true → without_goal (without_search (after_mark (without_message e))) ≡ marked e None (Some MarkOff)
+mark-there : (e : Editor) → is_at_mark e.mark e.place ≡ true → behind (without_search (after_mark (cleared e))) ≡ marked e None (Some MarkOff)
 mark-there e is = ap (left e) is
 
 mark-not-there : (e : Editor) → is_at_mark e.mark e.place ≡ false
-    → without_goal (without_search (after_mark (without_message e))) ≡ marked e (Some e.place) (Some MarkSet)
+    → behind (without_search (after_mark (cleared e))) ≡ marked e (Some e.place) (Some MarkSet)
 mark-not-there e is = ap (left e) is
 
 twice-there : (d : Data) (e : Editor) → is_at_mark e.mark e.place ≡ true
@@ -84,22 +97,47 @@ mark-twice-is-nothing d e =
 
 -- ---- the text's ends
 
-end-any : (d : Data) (again : Bool) (seek : Seek) (e : Editor) → e.seek ≡ seek
-    → after_any d None again seek e TextEnd ≡ without_search (with_place e (length e.content.text))
-end-any d again Off e is = ap (λ s. record (with_place e (length e.content.text)) { seek = s }) is
-end-any d again Begun e is = refl
-end-any d again Typed e is = refl
+end-any : (d : Data) (was : Before) (seek : Seek) (e : Editor) → e.seek ≡ seek
+    → after_any d None was seek e TextEnd ≡ without_search (with_place (unselected e) (length e.content.text))
+end-any d was Off e is = ap (λ s. record (with_place (unselected e) (length e.content.text)) { seek = s }) is
+end-any d was Begun e is = refl
+end-any d was Typed e is = refl
 
-start-any : (d : Data) (again : Bool) (seek : Seek) (e : Editor) → e.seek ≡ seek
-    → after_any d None again seek e TextStart ≡ without_search (with_place e 0)
-start-any d again Off e is = ap (λ s. record (with_place e 0) { seek = s }) is
-start-any d again Begun e is = refl
-start-any d again Typed e is = refl
+start-any : (d : Data) (was : Before) (seek : Seek) (e : Editor) → e.seek ≡ seek
+    → after_any d None was seek e TextStart ≡ without_search (with_place (unselected e) 0)
+start-any d was Off e is = ap (λ s. record (with_place (unselected e) 0) { seek = s }) is
+start-any d was Begun e is = refl
+start-any d was Typed e is = refl
+
+-- two moves leave no mark of a selection
+no-mark : (soft : Soft) (mark : Option ℕ) → mark_left (aged (soft_left soft)) (mark_left soft mark) ≡ hard_mark soft mark
+no-mark softness.Off mark = refl
+no-mark softness.Fresh mark = refl
+no-mark softness.Old mark = refl
+
+no-selection : (soft : Soft) → aged (soft_left (aged (soft_left soft))) ≡ softness.Off
+no-selection softness.Off = refl
+no-selection softness.Fresh = refl
+no-selection softness.Old = refl
+
+abbrev at : ℕ → Editor → Option ℕ → Soft → Editor
+at place e mark soft = record e {
+  place = place;
+  mark = mark;
+  soft = soft;
+  seek = Off;
+  typing = typings.Off;
+  message = None;
+  quit_before = false;
+  goal = None;
+}
 
 pub goes-to-both-ends : GoesToBothEnds
 goes-to-both-ends d e =
-    let was = without_message e in
+    let was = cleared e in
+    let left : (place : ℕ) → at place e (mark_left (aged (soft_left e.soft)) (mark_left e.soft e.mark)) (aged (soft_left (aged (soft_left e.soft)))) ≡ only_at place e =
+    λ place. ap₂ (at place e) (no-mark e.soft e.mark) (no-selection e.soft) in
     record {
-      start = ap (λ new. after_key d None (without_goal new) TextStart) (end-any d e.quit_before e.seek was refl);
-      end = ap (λ new. after_key d None (without_goal new) TextEnd) (start-any d e.quit_before e.seek was refl);
+      start = ap (λ new. after_key d None (behind new) TextStart) (end-any d (before e) e.seek was refl) ∙ left 0;
+      end = ap (λ new. after_key d None (behind new) TextEnd) (start-any d (before e) e.seek was refl) ∙ left (length e.content.text);
     }

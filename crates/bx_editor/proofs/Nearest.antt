@@ -1,5 +1,5 @@
 -- Find and FindBack go to the nearest match.
-use Rattle.std.proofs.Common.{◌≡◌, ◌⊎◌, inl, inr, ℕ, Bool, length, Option, Some, None, refl, ap}
+use Rattle.std.proofs.Common.{◌≡◌, ◌⊎◌, inl, inr, ℕ, length, Option, Some, None, refl, ap}
 use Rattle.std.specs.Prelude.{MatchOption, unwrap_or}
 use Rattle.bx_ucd.specs.Data.{Data}
 use Rattle.bx_find.specs.Laws.{IsFirst, IsLast}
@@ -10,7 +10,8 @@ use Rattle.bx_editor.specs.declared.matches.Landing.{Landing}
 use Rattle.bx_editor.specs.declared.message.Message.TheVariants.{FromEnd, FromStart}
 use Rattle.bx_editor.specs.declared.seek.Seek.{Seek}
 use Rattle.bx_editor.specs.declared.seek.Seek.TheVariants.{Off, Begun, Typed}
-use Rattle.bx_editor.specs.Editor.{Editor, rows, without_message}
+use Rattle.bx_editor.specs.Editor.{Editor, rows, cleared}
+use Rattle.bx_editor.specs.Effects.{Before, before}
 use Rattle.bx_editor.specs.Keys.{after_any}
 use Rattle.bx_editor.specs.Search.{after_find, after_find_back, backward, forward, landed, match_or, next_or_start, not_found, sought}
 use Rattle.bx_editor.specs.Laws.{FindBackGoesToPrevious, FindGoesToNext, NoneBefore, NoneFrom, Stayed, WentTo}
@@ -18,7 +19,7 @@ use Rattle.bx_editor.proofs.Sought.{backward-some, forward-some}
 
 -- in a search
 abbrev typed : Editor → Editor
-typed e = record (without_message e) { seek = Typed }
+typed e = record (cleared e) { seek = Typed }
 
 abbrev GoesNext : Data → Editor → Editor → Type 0
 GoesNext d e new =
@@ -49,24 +50,24 @@ previous-of d e l None (Some at) none last is = inr (inl (none, (at, last, (ap (
 previous-of d e l None None none nowhere is = inr (inr (nowhere, (ap (λ m. unwrap_or m.place e.place) is, ap (λ m. m.message) is)))
 
 -- whichever state the search is in
-on-find : (d : Data) (e : Editor) (again : Bool) (seek : Seek) (P : Editor → Type 0) → (seek ≡ Off → ⊥) → P (after_find d (without_message e))
-    → P (after_any d None again seek (without_message e) Find)
-on-find d e again Off P on h = absurd (on refl)
-on-find d e again Begun P on h = h
-on-find d e again Typed P on h = h
+on-find : (d : Data) (e : Editor) (was : Before) (seek : Seek) (P : Editor → Type 0) → (seek ≡ Off → ⊥) → P (after_find d (cleared e))
+    → P (after_any d None was seek (cleared e) Find)
+on-find d e was Off P on h = absurd (on refl)
+on-find d e was Begun P on h = h
+on-find d e was Typed P on h = h
 
-on-find-back : (d : Data) (e : Editor) (again : Bool) (seek : Seek) (P : Editor → Type 0) → (seek ≡ Off → ⊥) → P (after_find_back d (without_message e))
-    → P (after_any d None again seek (without_message e) FindBack)
-on-find-back d e again Off P on h = absurd (on refl)
-on-find-back d e again Begun P on h = h
-on-find-back d e again Typed P on h = h
+on-find-back : (d : Data) (e : Editor) (was : Before) (seek : Seek) (P : Editor → Type 0) → (seek ≡ Off → ⊥) → P (after_find_back d (cleared e))
+    → P (after_any d None was seek (cleared e) FindBack)
+on-find-back d e was Off P on h = absurd (on refl)
+on-find-back d e was Begun P on h = h
+on-find-back d e was Typed P on h = h
 
 pub find-goes-to-next : FindGoesToNext
 find-goes-to-next d e seeks =
     let ls = sought d e in
     let text = e.content.text in
     let x = next_or_start d e in
-    on-find d e e.quit_before e.seek (GoesNext d e) seeks.on
+    on-find d e (before e) e.seek (GoesNext d e) seeks.on
     (next-of d e (forward d (rows d e) text x ls) (first_from d ls text x) (first_from d ls text 0) (first_is d ls text x seeks.text)
     (first_is d ls text 0 seeks.text) (forward-some d (rows d e) text x ls seeks.letters))
 
@@ -75,6 +76,6 @@ find-back-goes-to-previous d e seeks =
     let ls = sought d e in
     let text = e.content.text in
     let n = length text in
-    on-find-back d e e.quit_before e.seek (GoesBack d e) seeks.on
+    on-find-back d e (before e) e.seek (GoesBack d e) seeks.on
     (previous-of d e (backward d (rows d e) text e.place ls) (last_before d ls text e.place) (last_before d ls text n)
     (last_is d ls text e.place seeks.text) (last_is d ls text n seeks.text) (backward-some d (rows d e) text e.place ls seeks.letters))

@@ -3,26 +3,37 @@ use Rattle.std.proofs.Common.{◌≡◌, ℕ, false, List, [], ◌∷◌, length
 use Rattle.std.specs.Prelude.{◌≢◌, ◌==◌, None, if◌then◌else◌}
 use Rattle.bx_keys.specs.declared.key.Key.TheVariants.{Find, FindNext}
 use Rattle.bx_editor.specs.declared.seek.Seek.TheVariants.{Off, Typed}
-use Rattle.bx_editor.specs.Editor.{Editor, without_message}
-use Rattle.bx_editor.specs.Goal.{without_goal}
+use Rattle.bx_editor.specs.declared.soft.Soft.{Soft}
+use Rattle.bx_editor.specs.declared.soft.Soft.TheVariants as softness
+use Rattle.bx_editor.specs.Editor.{Editor, cleared}
+use Rattle.bx_editor.specs.Effects.{before}
 use Rattle.bx_editor.specs.Keys.{after_any, after_key, after_keys}
 use Rattle.bx_editor.specs.Search.{after_beginning, next_or_start, search_from, sought}
+use Rattle.bx_editor.specs.Selecting.{aged, soft_left, unselected}
+use Rattle.bx_editor.proofs.InSearch.{behind}
 use Rattle.bx_editor.specs.WorkLaws.{FindNextIsFindTwice}
 
 some-letters : (ls : List ℕ) → ls ≢ [] → (length ls == 0) ≡ false
 some-letters [] some = absurd (some refl)
 some-letters (l ∷ ls) some = ne_eqb (length (l ∷ ls)) 0 (λ same. omega (arith, same))
 
+aged-twice : (soft : Soft) → aged (aged soft) ≡ aged soft
+aged-twice softness.Off = refl
+aged-twice softness.Fresh = refl
+aged-twice softness.Old = refl
+
 pub find-next-is-find-twice : FindNextIsFindTwice
 find-next-is-find-twice d e off some =
-    let was = without_message e in
+    let was = unselected (cleared e) in
     let gone = search_from d (next_or_start d was) was in
-    let pressed : after_key d None e FindNext ≡ without_goal gone =
-    ap (λ s. without_goal (after_any d None e.quit_before s was FindNext)) off
-    ∙ ap (λ b. without_goal (if b then after_beginning was else gone)) (some-letters (sought d e) some) in
-    let begun : after_key d None e Find ≡ without_goal (after_beginning was) =
-    ap (λ s. without_goal (after_any d None e.quit_before s was Find)) off in
-    let twice : after_keys d None e (Find ∷ Find ∷ []) ≡ record gone { seek = Typed; origin = e.place; goal = None } =
+    let pressed : after_key d None e FindNext ≡ behind gone =
+    ap (λ s. behind (after_any d None (before e) s (cleared e) FindNext)) off
+    ∙ ap (λ b. behind (if b then after_beginning was else gone)) (some-letters (sought d e) some) in
+    let begun : after_key d None e Find ≡ behind (after_beginning was) =
+    ap (λ s. behind (after_any d None (before e) s (cleared e) Find)) off in
+    let twice : after_keys d None e (Find ∷ Find ∷ [])
+    ≡ record gone { seek = Typed; origin = e.place; goal = None; soft = aged (aged (soft_left e.soft)) } =
     ap (λ new. after_key d None new Find) begun in
-    pressed ∙ ap (λ s. record gone { seek = s; goal = None }) off
+    pressed ∙ ap (λ s. record gone { seek = s; goal = None; soft = aged (soft_left e.soft) }) off
+    ∙ ap (λ s. record gone { seek = Off; goal = None; soft = s }) (sym (aged-twice (soft_left e.soft)))
     ∙ sym (ap (λ (new : Editor). record new { seek = Off; origin = e.origin }) twice)

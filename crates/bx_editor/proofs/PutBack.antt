@@ -1,5 +1,5 @@
 -- Putting back what was copied or cut.
-use Rattle.std.proofs.Common.{◌≡◌, ℕ, ◌+◌, ◌-◌, ◌<◌, ◌≤◌, Bool, true, false, nat_le, List, [], ◌∷◌, ◌++◌, length, take, drop, slice_range, Some, None}
+use Rattle.std.proofs.Common.{◌≡◌, ℕ, ◌+◌, ◌-◌, ◌<◌, ◌≤◌, true, false, nat_le, List, [], ◌∷◌, ◌++◌, length, take, drop, slice_range, Some, None}
 use Rattle.std.proofs.Common.{refl, sym, ap, ap₂, subst, ◌∙◌, arith, append_assoc, length-append, length-drop, ⊎_elim}
 use Rattle.std.specs.Prelude.{◌==◌, if◌then◌else◌, unwrap_or}
 use Rattle.std.proofs.lemmas.Bool.{cases_lt, le-leb}
@@ -7,15 +7,19 @@ use Rattle.std.proofs.lemmas.Bool.Decides.{nat_tests}
 use Rattle.std.proofs.lemmas.List.{append-nil, drop-drop, drop_at, length-take-le, take-append-drop, take_at}
 use Rattle.bx_terms.specs.Sizes.{largest_text}
 use Rattle.bx_keys.specs.declared.key.Key.TheVariants.{Copy, Cut, Put}
-use Rattle.bx_text.specs.Edits.{fits, inserted, removed, splice}
+use Rattle.bx_text.specs.Edits.{fits, splice}
 use Rattle.bx_editor.specs.declared.message.Message.TheVariants.{Copied, LineCopied, NothingToCopy, NothingToPut, TextFull}
 use Rattle.bx_ucd.specs.Data.{Data}
 use Rattle.bx_editor.specs.declared.seek.Seek.{Seek}
 use Rattle.bx_editor.specs.declared.seek.Seek.TheVariants.{Off, Begun, Typed}
-use Rattle.bx_editor.specs.Editor.{Editor, after_insertion, place_after, without_message}
-use Rattle.bx_editor.specs.Goal.{without_goal}
+use Rattle.bx_editor.specs.Editor.{Editor, cleared, place_after, with_insertion, with_removal}
+use Rattle.bx_editor.specs.declared.soft.Soft.TheVariants as softness
+use Rattle.bx_editor.specs.Effects.{Before, before}
+use Rattle.bx_editor.specs.Putting.{after_put, put_in, with_selection_replaced}
+use Rattle.bx_editor.specs.Selecting.{is_selection}
+use Rattle.bx_editor.proofs.InSearch.{behind as left_behind}
 use Rattle.bx_editor.specs.Keys.{after_any, after_key, after_keys}
-use Rattle.bx_editor.specs.Region.{after_copy, after_cut, after_put, bytes_in, is_empty, line, region, taken}
+use Rattle.bx_editor.specs.Region.{after_copy, after_cut, bytes_in, is_empty, line, region, taken}
 use Rattle.bx_editor.specs.Search.{without_search}
 use Rattle.bx_editor.specs.Laws.{CopyPutsTwice, HasPut, IsPart, PutRestoresCut, twice}
 
@@ -68,15 +72,18 @@ is-some : (held : List ℕ) → 0 < length held → (length held == 0) ≡ false
 is-some held more = grind (arith, nat_tests)
 
 -- Put inserts held bytes that have room
-put-has : (d : Data) (e : Editor) (text : List ℕ) (offset : ℕ) → 0 < length e.held → fits e.content.text e.place e.place e.held ≡ true
+put-has : (d : Data) (e : Editor) (text : List ℕ) (offset : ℕ) → is_selection e ≡ false → 0 < length e.held → fits e.content.text e.place e.place e.held ≡ true
     → splice e.content.text e.place e.place e.held ≡ text → e.place + length e.held ≡ offset → HasPut d e text offset (after_put d e)
-put-has d e text offset some room same at =
-    let after = place_after d e (splice e.content.text e.place e.place e.held) (e.place + length e.held) in
+put-has d e text offset alone some room same at =
     let none : Editor = record e { message = Some NothingToPut } in
     let full : Editor = record e { message = Some TextFull } in
-    let done : Editor = record e { content = inserted e.content e.place e.held e.place after; place = after; mark = None; seek = Off; changed = true } in
+    let in_place = with_selection_replaced d e e.held in
+    let done = with_insertion d e e.held false in
     let is : after_put d e ≡ done =
-    ap (λ b. if b then none else after_insertion d e e.held) (is-some e.held some) ∙ ap (λ b. if b then done else full) room in
+    ap (λ b. if b then none else put_in d e e.held false) (is-some e.held some)
+    ∙ ap (λ b. let part = if b then region e else (e.place, e.place) in
+    if fits e.content.text part.0 part.1 e.held then (if b then in_place else done) else full) alone
+    ∙ ap (λ b. if b then done else full) room in
     subst (HasPut d e text offset) (sym is) (record { text_is = same; place_is = ap₂ (place_after d e) same at; mark_is = refl })
 
 has-room : (text : List ℕ) (place : ℕ) (new : List ℕ) → length text + length new ≤ largest_text → fits text place place new ≡ true
@@ -95,11 +102,11 @@ copy-puts-twice d e off is fit =
     let a = (region e).0 in
     let b = (region e).1 in
     let r = bytes_in e (region e) in
-    let was = without_message e in
-    let none : Editor = record was { mark = None; message = Some NothingToCopy } in
-    let one : Editor = record was { mark = None; held = bytes_in e (line d e); message = Some LineCopied } in
-    let copy : Editor = record was { mark = None; held = r; message = Some Copied } in
-    let held = without_goal copy in
+    let was = cleared e in
+    let none : Editor = record was { mark = None; soft = softness.Off; message = Some NothingToCopy } in
+    let one : Editor = record was { mark = None; soft = softness.Off; held = bytes_in e (line d e); message = Some LineCopied } in
+    let copy : Editor = record was { mark = None; soft = softness.Off; held = r; message = Some Copied } in
+    let held = left_behind copy in
     let order : a ≤ b = omega (arith, is.some) in
     let long : length r ≡ b - a = part-length text a b order is.inside in
     let twice-is : (k : ℕ) → k ≡ a → splice text k k r ≡ twice e (region e) =
@@ -122,23 +129,23 @@ copy-puts-twice d e off is fit =
       length-drop b text,
     ) in
     let copied : after_key d None e Copy ≡ held =
-    ap (λ s. without_goal (after_any d None e.quit_before s was Copy)) off
-    ∙ ap (λ x. without_goal (if x then (if is_empty (line d e) then none else one) else copy)) (is-there e (region e) is) in
-    let pressed : after_keys d None e (Copy ∷ Put ∷ []) ≡ without_goal (after_put d (without_message held)) =
-    ap (λ new. after_key d None new Put) copied ∙ ap (λ s. without_goal (after_any d None held.quit_before s (without_message held) Put)) off in
+    ap (λ s. left_behind (after_any d None (before e) s was Copy)) off
+    ∙ ap (λ x. left_behind (if x then (if is_empty (line d e) then none else one) else copy)) (is-there e (region e) is) in
+    let pressed : after_keys d None e (Copy ∷ Put ∷ []) ≡ left_behind (after_put d (cleared held)) =
+    ap (λ new. after_key d None new Put) copied ∙ ap (λ s. left_behind (after_any d None (before held) s (cleared held) Put)) off in
     let room = has-room text e.place r (omega (arith, size, fit)) in
-    let done = put-has d (without_message held) (twice e (region e)) (e.place + length r) (omega (arith, long, is.some)) room put refl in
+    let done = put-has d (cleared held) (twice e (region e)) (e.place + length r) refl (omega (arith, long, is.some)) room put refl in
     subst (HasPut d e (twice e (region e)) (e.place + length r)) (sym pressed)
     (record { text_is = done.text_is; place_is = done.place_is; mark_is = done.mark_is })
 
 -- ---- Cut and Put
 
 -- a Cut that removes something ends a search
-cut-any : (d : Data) (again : Bool) (seek : Seek) (e cut : Editor) → after_cut d e ≡ cut → cut ≡ without_search cut
-    → after_any d None again seek e Cut ≡ cut
-cut-any d again Off e cut is over = is
-cut-any d again Begun e cut is over = ap without_search is ∙ sym over
-cut-any d again Typed e cut is over = ap without_search is ∙ sym over
+cut-any : (d : Data) (was : Before) (seek : Seek) (e cut : Editor) → after_cut d e ≡ cut → cut ≡ without_search cut
+    → after_any d None was seek e Cut ≡ cut
+cut-any d was Off e cut is over = is
+cut-any d was Begun e cut is over = ap without_search is ∙ sym over
+cut-any d was Typed e cut is over = ap without_search is ∙ sym over
 
 pub put-restores-cut : PutRestoresCut
 put-restores-cut d e is short there =
@@ -146,17 +153,17 @@ put-restores-cut d e is short there =
     let a = (taken d e).0 in
     let b = (taken d e).1 in
     let r = bytes_in e (taken d e) in
-    let was = without_message e in
+    let was = cleared e in
     let after = place_after d was (splice text a b []) a in
-    let without : Editor = record was { content = removed e.content a b e.place after; place = after; mark = None; seek = Off; changed = true } in
+    let without = with_removal d was a b false in
     let taken-out : Editor = record without { held = r } in
-    let cut = without_goal taken-out in
+    let cut = left_behind taken-out in
     let order : a ≤ b = omega (arith, is.some) in
     let long : length r ≡ b - a = part-length text a b order is.inside in
     let same : after_key d None e Cut ≡ cut =
-    ap without_goal
-    (cut-any d e.quit_before e.seek was taken-out
-    (ap (λ x. if x then after_copy d was else record (if x then was else without) { held = r }) (is-there e (taken d e) is)) refl) in
+    ap left_behind
+    (cut-any d (before e) e.seek was taken-out
+    (ap (λ x. if x then after_copy d was else record without { held = r }) (is-there e (taken d e) is)) refl) in
     let at : after ≡ a = sym (ap (λ (c : Editor). c.place) same) ∙ there in
     let size : length (splice text a b []) + length r ≡ length text =
     omega (
@@ -169,9 +176,9 @@ put-restores-cut d e is short there =
       length-append (take a text) (drop b text),
       length-drop b text,
     ) in
-    let pressed : after_keys d None e (Cut ∷ Put ∷ []) ≡ without_goal (after_put d (without_message cut)) = ap (λ c. after_key d None c Put) same in
+    let pressed : after_keys d None e (Cut ∷ Put ∷ []) ≡ left_behind (after_put d (cleared cut)) = ap (λ c. after_key d None c Put) same in
     let put : splice (splice text a b []) after after r ≡ text =
     ap (λ k. splice (splice text a b []) k k r) at ∙ back text a b order is.inside in
     let room = has-room (splice text a b []) after r (omega (arith, size, short)) in
-    let done = put-has d (without_message cut) text b (omega (arith, long, is.some)) room put (omega (arith, at, long, order)) in
+    let done = put-has d (cleared cut) text b refl (omega (arith, long, is.some)) room put (omega (arith, at, long, order)) in
     subst (HasPut d e text b) (sym pressed) (record { text_is = done.text_is; place_is = done.place_is; mark_is = done.mark_is })

@@ -10,9 +10,11 @@ use Rattle.bx_keys.specs.declared.key.Key.{Key}
 use Rattle.bx_keys.specs.declared.key.Key.TheVariants.{Insert, Erase, Forward, Size, Quit, Mark, Copy, Cut, Put, Find, FindBack, TextStart, TextEnd}
 use Rattle.bx_store.specs.declared.store.StoreFault.{StoreFault}
 use Rattle.bx_text.specs.Edits.{Edited}
+use Rattle.bx_editor.specs.declared.soft.Soft.TheVariants as softness
+use Rattle.bx_editor.specs.Selecting.{mark_left}
 use Rattle.bx_editor.specs.Editor.{Editor}
 use Rattle.bx_editor.specs.Keys.{after_key, after_keys}
-use Rattle.bx_editor.specs.Laws.{after_typing, CopyPutsTwice, GivingUpGoesBack, GoesToBothEnds, IsGivenUp, MarkTwiceIsNothing, PutRestoresCut, StaysOn}
+use Rattle.bx_editor.specs.Laws.{hard_mark, after_typing, CopyPutsTwice, GivingUpGoesBack, GoesToBothEnds, IsGivenUp, MarkTwiceIsNothing, PutRestoresCut, StaysOn}
 use Rattle.bx_editor.proofs.Computed.{tables, start, after}
 
 -- text, place and mark
@@ -107,8 +109,8 @@ module _ (law : GoesToBothEnds) (d : Data) (e : Editor) where
   at_the_end : (after_keys d None e (TextStart ∷ TextEnd ∷ [])).place ≡ length e.content.text
   at_the_end = ap (λ (x : Editor). x.place) (law d e).end
 
-  the_mark_stays : (after_keys d None e (TextEnd ∷ TextStart ∷ [])).mark ≡ e.mark
-  the_mark_stays = ap (λ (x : Editor). x.mark) (law d e).start
+  a_hard_mark_stays : e.soft ≡ softness.Off → (after_keys d None e (TextEnd ∷ TextStart ∷ [])).mark ≡ e.mark
+  a_hard_mark_stays hard = ap (λ (x : Editor). x.mark) (law d e).start ∙ ap (λ s. hard_mark s e.mark) hard
 
 -- ---- a search that is given up
 
@@ -132,18 +134,19 @@ unfolding unicode_segmentation unicode_width digits
 stays_on_after_find_back = ((λ e. cc e), ((λ e. cc e), ((λ e. cc e), ((λ e. cc e), ((λ e. cc e), λ e. cc e)))))
 
 -- text, place and mark of an editor that gave a search up are those of another
-given_up_now : (e new : Editor) → IsGivenUp e new → now new ≡ now e
-given_up_now e new is =
-    same_now new e.content.text e.place e.mark (ap (λ (t : Edited). t.text) is.content_is) is.place_is is.mark_is
+given_up_now : (e new : Editor) → e.soft ≡ softness.Off → IsGivenUp e new → now new ≡ now e
+given_up_now e new hard is =
+    same_now new e.content.text e.place e.mark (ap (λ (t : Edited). t.text) is.content_is) is.place_is
+    (is.mark_is ∙ ap (λ s. mark_left s e.mark) hard)
 
 pub quit_goes_back : GivingUpGoesBack → now (given_up_by Find Quit) ≡ (codes "abcc", 1, Some 1)
 unfolding unicode_segmentation unicode_width digits
 quit_goes_back law =
-    given_up_now marked_at_1 (given_up_by Find Quit)
+    given_up_now marked_at_1 (given_up_by Find Quit) refl
     (law tables marked_at_1 Find Quit in_search refl (inl refl) (inl refl) stays_on_after_find)
 
 pub copy_goes_back : GivingUpGoesBack → now (given_up_by FindBack Copy) ≡ (codes "abcc", 1, Some 1)
 unfolding unicode_segmentation unicode_width digits
 copy_goes_back law =
-    given_up_now marked_at_1 (given_up_by FindBack Copy)
+    given_up_now marked_at_1 (given_up_by FindBack Copy) refl
     (law tables marked_at_1 FindBack Copy in_search refl (inr refl) (inr (inl refl)) stays_on_after_find_back)

@@ -27,9 +27,12 @@ use Rattle.bx_view.proofs.RowFits.{fitting-from}
 use Rattle.bx_view.proofs.TextPlaces.{place-in-window}
 use Rattle.bx_paras.specs.Paragraphs.{paragraphs}
 use Rattle.bx_editor.specs.declared.seek.Seek.TheVariants.{Off}
-use Rattle.bx_editor.specs.Editor.{Editor, rows, without_message}
-use Rattle.bx_editor.specs.Goal.{goal_behind}
-use Rattle.bx_editor.specs.Keys.{after_any, after_key, after_keys}
+use Rattle.bx_editor.specs.declared.soft.Soft.{Soft}
+use Rattle.bx_runs.specs.declared.typing.Typing.TheVariants as typings
+use Rattle.bx_editor.specs.Editor.{Editor, cleared, rows}
+use Rattle.bx_editor.specs.Effects.{before}
+use Rattle.bx_editor.specs.Keys.{after_any, after_key, after_keys, as_left}
+use Rattle.bx_editor.specs.Selecting.{aged, mark_left, soft_left}
 use Rattle.bx_editor.specs.Laws.{HasRows}
 use Rattle.bx_editor.specs.WorkLaws.{LeadsBack, LineMovesGoBack, own_row}
 use Rattle.bx_editor.proofs.EnteredAgain.{IsEnteredBy, IsFull, entered-again, entered-at-edge}
@@ -97,71 +100,95 @@ abbrev row_key : Vertical → Key
 row_key Up = LineUp
 row_key Down = LineDown
 
+-- the mark and its softness, and what a move makes of them
+abbrev Marks : Type 0
+Marks = Option ℕ × Soft
+
+abbrev left : Marks → Marks
+left m = (mark_left m.1 m.0, aged (soft_left m.1))
+
+abbrev left_after : ℕ → Marks → Marks
+left_after zero m = m
+left_after (suc n) m = left_after n (left m)
+
 module _ (d : Data) (e : Editor) (off : e.seek ≡ Off) (column : ℕ) where
   -- at a place, with the column kept
-  abbrev kept-at : ℕ → Editor
-  kept-at place = record e { place = place; message = None; quit_before = false; goal = Some column }
+  abbrev kept-at : Marks → ℕ → Editor
+  kept-at m place = record e { place = place; mark = m.0; soft = m.1; typing = typings.Off; message = None; quit_before = false; goal = Some column }
 
-  key-moves : (way : Vertical) (place : ℕ) → after_key d None (kept-at place) (row_key way) ≡ kept-at (rows_away e.width (rows d e) way 1 column place)
-  key-moves Up place =
-      ap (λ s. let new = after_any d None false s (kept-at place) LineUp in record new { goal = goal_behind LineUp new.goal }) off
-  key-moves Down place =
-      ap (λ s. let new = after_any d None false s (kept-at place) LineDown in record new { goal = goal_behind LineDown new.goal }) off
+  key-moves : (way : Vertical) (m : Marks) (place : ℕ)
+      → after_key d None (kept-at m place) (row_key way) ≡ kept-at (left m) (rows_away e.width (rows d e) way 1 column place)
+  key-moves Up m place =
+      ap (λ s. as_left LineUp (after_any d None (record { again = false; typing = typings.Off }) s (kept-at m place) LineUp)) off
+  key-moves Down m place =
+      ap (λ s. as_left LineDown (after_any d None (record { again = false; typing = typings.Off }) s (kept-at m place) LineDown)) off
 
   -- the first one keeps the cursor's column
   abbrev first-at : Vertical → Option ℕ → Editor
   first-at way goal =
       let c = unwrap_or goal (cell_of e.width (rows d e) e.place) in
-      record e { place = rows_away e.width (rows d e) way 1 c e.place; message = None; quit_before = false; goal = Some c }
+      let m = left (e.mark, e.soft) in
+      record e {
+        place = rows_away e.width (rows d e) way 1 c e.place;
+        mark = m.0;
+        soft = m.1;
+        typing = typings.Off;
+        message = None;
+        quit_before = false;
+        goal = Some c;
+      }
 
   first-key : (way : Vertical) → after_key d None e (row_key way) ≡ first-at way e.goal
-  first-key Up =
-      ap (λ s. let new = after_any d None e.quit_before s (without_message e) LineUp in record new { goal = goal_behind LineUp new.goal }) off
-  first-key Down =
-      ap (λ s. let new = after_any d None e.quit_before s (without_message e) LineDown in record new { goal = goal_behind LineDown new.goal }) off
+  first-key Up = ap (λ s. as_left LineUp (after_any d None (before e) s (cleared e) LineUp)) off
+  first-key Down = ap (λ s. as_left LineDown (after_any d None (before e) s (cleared e) LineDown)) off
+
+  -- the marks at first
+  abbrev own : Marks
+  own = (e.mark, e.soft)
 
   keys-from : (way : Vertical) (keys : List Key) → e.goal ≡ None → column ≡ cell_of e.width (rows d e) e.place
-      → after_keys d None e (row_key way ∷ keys) ≡ after_keys d None (kept-at e.place) (row_key way ∷ keys)
+      → after_keys d None e (row_key way ∷ keys) ≡ after_keys d None (kept-at own e.place) (row_key way ∷ keys)
   keys-from way keys none is =
       ap (λ new. after_keys d None new keys)
       (first-key way ∙ ap (first-at way) none
-      ∙ ap (λ c. record e { place = rows_away e.width (rows d e) way 1 c e.place; message = None; quit_before = false; goal = Some c }) (sym is)
-      ∙ sym (key-moves way e.place))
+      ∙ ap (λ c. first-at way (Some c)) (sym is)
+      ∙ sym (key-moves way own e.place))
 
   module _ (some : 1 ≤ e.width) (utf8 : IsUtf8 e.content.text) where
-    abbrev at-row : ℕ → Editor
-    at-row k = kept-at (enter d e.base e.width some e.content.text utf8 column k)
+    abbrev at-row : Marks → ℕ → Editor
+    at-row m k = kept-at m (enter d e.base e.width some e.content.text utf8 column k)
 
-    goes-down : (m k place : ℕ) → row_of (rows d e) place ≡ k → k + suc m < length (rows d e)
-        → after_keys d None (kept-at place) (replicate (suc m) LineDown) ≡ at-row (k + suc m)
-    goes-down zero k place at more = key-moves Down place ∙ ap kept-at (one-down d e.base e.width some e.content.text utf8 column place k at more)
-    goes-down (suc m) k place at more =
+    goes-down : (n k place : ℕ) (m : Marks) → row_of (rows d e) place ≡ k → k + suc n < length (rows d e)
+        → after_keys d None (kept-at m place) (replicate (suc n) LineDown) ≡ at-row (left_after (suc n) m) (k + suc n)
+    goes-down zero k place m at more =
+        key-moves Down m place ∙ ap (kept-at (left m)) (one-down d e.base e.width some e.content.text utf8 column place k at more)
+    goes-down (suc n) k place m at more =
         let next : k + 1 < length (rows d e) = omega (arith, more) in
-        let there : k + 1 + suc m ≡ k + suc (suc m) = omega arith in
-        ap (λ new. after_keys d None new (replicate (suc m) LineDown))
-        (key-moves Down place ∙ ap kept-at (one-down d e.base e.width some e.content.text utf8 column place k at next))
-        ∙ goes-down m (k + 1) (enter d e.base e.width some e.content.text utf8 column (k + 1))
-        (falls-there d e.base e.width some e.content.text utf8 column (k + 1) next) (omega (arith, more)) ∙ ap at-row there
+        let there : k + 1 + suc n ≡ k + suc (suc n) = omega arith in
+        ap (λ new. after_keys d None new (replicate (suc n) LineDown))
+        (key-moves Down m place ∙ ap (kept-at (left m)) (one-down d e.base e.width some e.content.text utf8 column place k at next))
+        ∙ goes-down n (k + 1) (enter d e.base e.width some e.content.text utf8 column (k + 1)) (left m)
+        (falls-there d e.base e.width some e.content.text utf8 column (k + 1) next) (omega (arith, more)) ∙ ap (at-row (left_after (suc (suc n)) m)) there
 
-    goes-up : (m k place : ℕ) → row_of (rows d e) place ≡ k → suc m ≤ k → k < length (rows d e)
-        → after_keys d None (kept-at place) (replicate (suc m) LineUp) ≡ at-row (k - suc m)
-    goes-up zero k place at more within =
-        key-moves Up place ∙ ap kept-at (one-up d e.base e.width some e.content.text utf8 column place k at more within)
-    goes-up (suc m) k place at more within =
-        let there : k - 1 - suc m ≡ k - suc (suc m) = omega arith in
-        let before : k - 1 < length (rows d e) = omega (arith, within) in
-        ap (λ new. after_keys d None new (replicate (suc m) LineUp))
-        (key-moves Up place ∙ ap kept-at (one-up d e.base e.width some e.content.text utf8 column place k at (omega (arith, more)) within))
-        ∙ goes-up m (k - 1) (enter d e.base e.width some e.content.text utf8 column (k - 1))
-        (falls-there d e.base e.width some e.content.text utf8 column (k - 1) before) (omega (arith, more)) before ∙ ap at-row there
+    goes-up : (n k place : ℕ) (m : Marks) → row_of (rows d e) place ≡ k → suc n ≤ k → k < length (rows d e)
+        → after_keys d None (kept-at m place) (replicate (suc n) LineUp) ≡ at-row (left_after (suc n) m) (k - suc n)
+    goes-up zero k place m at more within =
+        key-moves Up m place ∙ ap (kept-at (left m)) (one-up d e.base e.width some e.content.text utf8 column place k at more within)
+    goes-up (suc n) k place m at more within =
+        let there : k - 1 - suc n ≡ k - suc (suc n) = omega arith in
+        let lower : k - 1 < length (rows d e) = omega (arith, within) in
+        ap (λ new. after_keys d None new (replicate (suc n) LineUp))
+        (key-moves Up m place ∙ ap (kept-at (left m)) (one-up d e.base e.width some e.content.text utf8 column place k at (omega (arith, more)) within))
+        ∙ goes-up n (k - 1) (enter d e.base e.width some e.content.text utf8 column (k - 1)) (left m)
+        (falls-there d e.base e.width some e.content.text utf8 column (k - 1) lower) (omega (arith, more)) lower ∙ ap (at-row (left_after (suc (suc n)) m)) there
 
-    there-and-back : (way other : Vertical) (m k : ℕ) → e.goal ≡ None → column ≡ cell_of e.width (rows d e) e.place
-        → after_keys d None (kept-at e.place) (replicate (suc m) (row_key way)) ≡ at-row k
-        → after_keys d None (at-row k) (replicate (suc m) (row_key other)) ≡ at-row (row_of (rows d e) e.place)
-        → after_keys d None e (replicate (suc m) (row_key way) ++ replicate (suc m) (row_key other)) ≡ at-row (row_of (rows d e) e.place)
-    there-and-back way other m k none is go back =
-        keys-append d e (replicate (suc m) (row_key way)) (replicate (suc m) (row_key other))
-        ∙ ap (λ new. after_keys d None new (replicate (suc m) (row_key other))) (keys-from way (replicate m (row_key way)) none is ∙ go) ∙ back
+    there-and-back : (way other : Vertical) (n k : ℕ) (m m' : Marks) → e.goal ≡ None → column ≡ cell_of e.width (rows d e) e.place
+        → after_keys d None (kept-at own e.place) (replicate (suc n) (row_key way)) ≡ at-row m k
+        → after_keys d None (at-row m k) (replicate (suc n) (row_key other)) ≡ at-row m' (row_of (rows d e) e.place)
+        → after_keys d None e (replicate (suc n) (row_key way) ++ replicate (suc n) (row_key other)) ≡ at-row m' (row_of (rows d e) e.place)
+    there-and-back way other n k m m' none is go back =
+        keys-append d e (replicate (suc n) (row_key way)) (replicate (suc n) (row_key other))
+        ∙ ap (λ new. after_keys d None new (replicate (suc n) (row_key other))) (keys-from way (replicate n (row_key way)) none is ∙ go) ∙ back
 
 -- ---- the place's own row
 
@@ -234,12 +261,15 @@ module _ (d : Data) (e : Editor) (has : HasRows e) (place : IsTextPlace d e.cont
         let new = after_keys d None e (replicate (suc m) LineDown ++ replicate (suc m) LineUp) in
         let far = k + suc m in
         let same : far - suc m ≡ k = omega arith in
+        let first = left_after (suc m) (e.mark, e.soft) in
+        let last = left_after (suc m) first in
         leads-back (suc m) new
         (ap (λ (x : Editor). x.place)
-        (there-and-back d e off column some has.text Down Up m far none refl (goes-down d e off column some has.text m k e.place refl below)
-        (goes-up d e off column some has.text m far (enter d e.base e.width some e.content.text has.text column far)
+        (there-and-back d e off column some has.text Down Up m far first last none refl
+        (goes-down d e off column some has.text m k e.place (e.mark, e.soft) refl below)
+        (goes-up d e off column some has.text m far (enter d e.base e.width some e.content.text has.text column far) first
         (falls-there d e.base e.width some e.content.text has.text column far below) (omega arith) below
-        ∙ ap (at-row d e off column some has.text) same)))
+        ∙ ap (at-row d e off column some has.text last) same)))
 
     up-and-down : (n : ℕ) → n ≤ k → LeadsBack d e n (after_keys d None e (replicate n LineUp ++ replicate n LineDown))
     up-and-down zero above = stays
@@ -248,12 +278,15 @@ module _ (d : Data) (e : Editor) (has : HasRows e) (place : IsTextPlace d e.cont
         let far = k - suc m in
         let same : far + suc m ≡ k = omega (arith, above) in
         let within : far < length (rows d e) = omega (arith, one.row) in
+        let first = left_after (suc m) (e.mark, e.soft) in
+        let last = left_after (suc m) first in
         leads-back (suc m) new
         (ap (λ (x : Editor). x.place)
-        (there-and-back d e off column some has.text Up Down m far none refl (goes-up d e off column some has.text m k e.place refl above one.row)
-        (goes-down d e off column some has.text m far (enter d e.base e.width some e.content.text has.text column far)
+        (there-and-back d e off column some has.text Up Down m far first last none refl
+        (goes-up d e off column some has.text m k e.place (e.mark, e.soft) refl above one.row)
+        (goes-down d e off column some has.text m far (enter d e.base e.width some e.content.text has.text column far) first
         (falls-there d e.base e.width some e.content.text has.text column far within) (omega (arith, above, one.row))
-        ∙ ap (at-row d e off column some has.text) same)))
+        ∙ ap (at-row d e off column some has.text last) same)))
 
 pub line-moves-go-back : LineMovesGoBack
 line-moves-go-back d e n has off none place = record { below = down-and-up d e has place off none n; above = up-and-down d e has place off none n }

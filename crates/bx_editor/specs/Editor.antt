@@ -1,10 +1,10 @@
 -- The editor's state, and its changes. Offsets and places count bytes of the text.
-use Rattle.std.specs.Prelude.{ℕ, ◌+◌, ◌-◌, Bool, true, false, not, ◌||◌, nat_le, ◌==◌, List, [], ◌∷◌, length, Option, Some, None, if◌then◌else◌}
+use Rattle.std.specs.Prelude.{ℕ, ◌+◌, ◌-◌, Bool, true, false, not, ◌||◌, nat_le, nat_lt, List, [], ◌∷◌, length, Option, Some, None, if◌then◌else◌}
 use Rattle.bx_terms.specs.declared.base.Base.{Base}
 use Rattle.bx_terms.specs.declared.base.Base.TheVariants.{Auto, Ltr, Rtl}
 use Rattle.bx_keys.specs.declared.notice.Notice.{Notice}
 use Rattle.bx_store.specs.declared.store.StoreFault.{StoreFault}
-use Rattle.bx_text.specs.Edits.{Edited, Edit, opened, inserted, removed, splice, fits, undone, redone}
+use Rattle.bx_text.specs.Edits.{Edited, Edit, opened, inserted, removed, splice, undone, redone}
 use Rattle.bx_view.specs.TextRows.{TextRow, text_rows}
 use Rattle.bx_view.specs.Moves.{place_from}
 use Rattle.bx_document.specs.declared.history.HistoryStep.{HistoryStep}
@@ -13,6 +13,11 @@ use Rattle.bx_editor.specs.declared.message.Message.{Message}
 use Rattle.bx_editor.specs.declared.message.Message.TheVariants as messages
 use Rattle.bx_editor.specs.declared.seek.Seek.{Seek}
 use Rattle.bx_editor.specs.declared.seek.Seek.TheVariants as seeks
+use Rattle.bx_editor.specs.declared.soft.Soft.{Soft}
+use Rattle.bx_editor.specs.declared.soft.Soft.TheVariants as softness
+use Rattle.bx_runs.specs.declared.typing.Typing.{Typing}
+use Rattle.bx_runs.specs.declared.typing.Typing.TheVariants as typings
+use Rattle.bx_runs.specs.Runs.{edited}
 use Rattle.bx_ucd.specs.Data.{Data}
 
 pub record Editor : Type 0 where
@@ -22,6 +27,8 @@ pub record Editor : Type 0 where
   pub place : ℕ
   -- the mark's place: the region lies between it and the cursor's place
   pub mark : Option ℕ
+  -- whether the mark was set by a selection, and a key was pressed since
+  pub soft : Soft
   -- the text copied or cut last, in UTF-8
   pub held : List ℕ
   -- the query of the search, or of the latest one: at most 64 characters, in UTF-8
@@ -29,7 +36,13 @@ pub record Editor : Type 0 where
   pub seek : Seek
   -- the place at which the latest search began
   pub origin : ℕ
-  -- there was an edit since the opening or the last save
+  -- the lengths of the past at which runs of edits begin
+  pub runs : List ℕ
+  -- what the next edit may go on with
+  pub typing : Typing
+  -- the length of the past at which the text is the one that was stored or opened last; none if no undo or redo leads there
+  pub stored : Option ℕ
+  -- there was an edit since the opening or the last save, or the text is not the one that was stored
   pub changed : Bool
   pub message : Option Message
   -- the last key of the user was Quit
@@ -53,10 +66,14 @@ at_start text height width base = record {
   content = opened text;
   place = 0;
   mark = None;
+  soft = softness.Off;
   held = [];
   query = [];
   seek = seeks.Off;
   origin = 0;
+  runs = [];
+  typing = typings.Off;
+  stored = Some 0;
   changed = false;
   message = None;
   quit_before = false;
@@ -81,36 +98,57 @@ text_height height = if nat_le 2 height then height - 1 else 1
 
 -- ---- edits: each that changes the text removes the mark and ends the search
 
+-- an edit made at a smaller length of the past loses the text that was stored
+abbrev pub stored_behind : ℕ → Option ℕ → Option ℕ
+stored_behind n None = None
+stored_behind n (Some stored) = if nat_lt n stored then None else Some stored
+
+-- the text, with its past and future, once it was edited at the place `place`; the edit goes on with the run before, or begins one
+abbrev pub with_edit : Editor → Edited → ℕ → Bool → Editor
+with_edit e content place goes_on =
+    let n = length e.content.past in
+    record e {
+      content = content;
+      place = place;
+      mark = None;
+      soft = softness.Off;
+      seek = seeks.Off;
+      runs = edited e.runs n goes_on;
+      stored = stored_behind n e.stored;
+      changed = true;
+    }
+
 -- the first place of a new text at or after an offset
 abbrev pub place_after : Data → Editor → List ℕ → ℕ → ℕ
 place_after d e text offset = place_from (rows_of d e text) offset
 
--- bytes are inserted at the place, unless the text would be too long; the cursor goes to the first place at or after their end
-abbrev pub after_insertion : Data → Editor → List ℕ → Editor
-after_insertion d e new =
-    if fits e.content.text e.place e.place new
-    then (let after = place_after d e (splice e.content.text e.place e.place new) (e.place + length new) in
-    record e { content = inserted e.content e.place new e.place after; place = after; mark = None; seek = seeks.Off; changed = true })
-    else record e { message = Some messages.TextFull }
+-- bytes are inserted at the place; the cursor goes to the first place at or after their end
+abbrev pub with_insertion : Data → Editor → List ℕ → Bool → Editor
+with_insertion d e new goes_on =
+    let after = place_after d e (splice e.content.text e.place e.place new) (e.place + length new) in
+    with_edit e (inserted e.content e.place new e.place after) after goes_on
 
--- the bytes from `start` to `stop` are removed; if there are none, nothing changes
-abbrev pub after_removal : Data → Editor → ℕ → ℕ → Editor
-after_removal d e start stop =
-    if start == stop
-    then e
-    else
+-- the bytes from `start` to `stop` are removed
+abbrev pub with_removal : Data → Editor → ℕ → ℕ → Bool → Editor
+with_removal d e start stop goes_on =
     let after = place_after d e (splice e.content.text start stop []) start in
-    record e { content = removed e.content start stop e.place after; place = after; mark = None; seek = seeks.Off; changed = true }
+    with_edit e (removed e.content start stop e.place after) after goes_on
+
+-- ---- undo and redo
+
+-- the text after undoing or redoing, with the cursor at this place
+abbrev pub with_step : Editor → Edited → ℕ → Bool → Editor
+with_step e content place changed = record e { content = content; place = place; mark = None; soft = softness.Off; seek = seeks.Off; changed = changed }
 
 -- the latest edit is undone, and the cursor returns to its place before it
 abbrev pub after_undo : Editor → List Edit → Editor
 after_undo e [] = record e { message = Some messages.NothingToUndo }
-after_undo e (edit ∷ past) = record e { content = undone e.content; place = edit.before.place; mark = None; seek = seeks.Off; changed = true }
+after_undo e (edit ∷ past) = with_step e (undone e.content) edit.before.place true
 
 -- the next edit is redone, and the cursor goes to its place after it
 abbrev pub after_redo : Editor → List Edit → Editor
 after_redo e [] = record e { message = Some messages.NothingToRedo }
-after_redo e (edit ∷ future) = record e { content = redone e.content; place = edit.after.place; mark = None; seek = seeks.Off; changed = true }
+after_redo e (edit ∷ future) = with_step e (redone e.content) edit.after.place true
 
 abbrev pub after_step : HistoryStep → Editor → Editor
 after_step steps.Undo e = after_undo e e.content.past
@@ -125,7 +163,7 @@ nothing_left steps.Redo = messages.NothingToRedo
 
 -- a save succeeded, or failed with this fault, whose cause is told
 abbrev pub after_save : Editor → Option StoreFault → Editor
-after_save e None = record e { changed = false; message = Some messages.Saved }
+after_save e None = record e { stored = Some (length e.content.past); changed = false; message = Some messages.Saved }
 after_save e (Some fault) = record e { message = Some (messages.SaveFailed fault.cause) }
 
 -- the session ends if there are no unsaved changes or the key before was Quit too
@@ -153,10 +191,14 @@ with_size e height width = record e { height = height; width = width }
 abbrev pub with_place : Editor → ℕ → Editor
 with_place e place = record e { place = place }
 
+-- what the next edit may go on with
+abbrev pub with_typing : Editor → Typing → Editor
+with_typing e typing = record e { typing = typing }
+
 -- a notice is the message, and all else stays
 abbrev pub with_notice : Editor → Notice → Editor
 with_notice e notice = record e { message = Some (messages.Notice notice) }
 
--- the message is cleared, and an earlier Quit is forgotten
-abbrev pub without_message : Editor → Editor
-without_message e = record e { message = None; quit_before = false }
+-- what a key that the user presses finds: no message, no earlier Quit, and nothing that the next edit goes on with
+abbrev pub cleared : Editor → Editor
+cleared e = record e { message = None; quit_before = false; typing = typings.Off }

@@ -1,39 +1,46 @@
--- What the keys that erase words and points remove, and what a new line is.
-use Rattle.std.specs.Prelude.{ℕ, ◌+◌, Bool, true, false, List, [], ◌∷◌, slice_range, if◌then◌else◌}
+-- What the keys that erase and delete remove.
+use Rattle.std.specs.Prelude.{ℕ, ◌+◌, ◌==◌, Bool, true, false, slice_range, if◌then◌else◌}
 use Rattle.bx_ucd.specs.Data.{Data}
-use Rattle.bx_document.specs.FirstSeparator.{has_crlf_first}
 use Rattle.bx_document.specs.Points.{point_start}
+use Rattle.bx_runs.specs.declared.typing.Removal.{Removal}
+use Rattle.bx_runs.specs.declared.typing.Typing.{Typing}
+use Rattle.bx_runs.specs.Typing.{after_removal, goes_on_removing}
 use Rattle.bx_view.specs.Moves.{step_logical}
-use Rattle.bx_view.specs.Words.{step_word}
 use Rattle.bx_view.specs.declared.moves.Logical.TheVariants.{Back, Forward}
 use Rattle.bx_view.specs.declared.moves.Move.{Move}
 use Rattle.bx_view.specs.declared.moves.Move.TheVariants.{Logical, Word}
-use Rattle.bx_editor.specs.Editor.{Editor, after_insertion, after_removal, rows}
+use Rattle.bx_editor.specs.Editor.{Editor, rows, with_removal}
+use Rattle.bx_editor.specs.Region.{region}
+use Rattle.bx_editor.specs.Selecting.{is_selection}
 
--- EraseWord removes all from the word stop before the place; DeleteWord all up to the word stop after it
-abbrev pub after_erasing_word : Data → Editor → Editor
-after_erasing_word d e = after_removal d e (step_word d e.content.text Back e.place) e.place
+-- the bytes from `start` to `stop` are removed; if there are none, nothing changes
+abbrev pub after_removing : Data → Editor → ℕ → ℕ → Bool → Editor
+after_removing d e start stop goes_on = if start == stop then e else with_removal d e start stop goes_on
 
-abbrev pub after_deleting_word : Data → Editor → Editor
-after_deleting_word d e = after_removal d e e.place (step_word d e.content.text Forward e.place)
+-- a selection is removed in place of what a key removes
+abbrev pub or_selection : Data → Editor → Editor → Editor
+or_selection d e other = if is_selection e then with_removal d e ((region e).0) ((region e).1) false else other
+
+-- A removal that goes on with removals of its like: `typing` says what the key before left. Where nothing is removed, nothing
+-- goes on.
+abbrev pub removed_on : Data → Typing → Removal → Editor → ℕ → ℕ → Editor
+removed_on d typing how e start stop =
+    if start == stop
+    then e
+    else record (with_removal d e start stop (goes_on_removing typing how)) { typing = after_removal how }
+
+abbrev pub after_erasing : Data → Typing → Removal → Editor → ℕ → ℕ → Editor
+after_erasing d typing how e start stop = or_selection d e (removed_on d typing how e start stop)
+
+-- words are removed by themselves
+abbrev pub after_erasing_word : Data → Editor → ℕ → ℕ → Editor
+after_erasing_word d e start stop = or_selection d e (after_removing d e start stop false)
 
 -- where the last point of the unit before the place begins; the unit's start, if its last character is no point
 abbrev pub point_before : Data → Editor → ℕ
 point_before d e =
     let unit = step_logical (rows d e) Back e.place in
     unit + point_start d (slice_range e.content.text unit e.place)
-
--- ErasePoint removes from there to the place
-abbrev pub after_erasing_point : Data → Editor → Editor
-after_erasing_point d e = after_removal d e (point_before d e) e.place
-
--- the line end that a text has: CR LF if its first separator is that, else LF
-abbrev pub line_end : Data → List ℕ → List ℕ
-line_end d text = if has_crlf_first d text then 0xD ∷ 0xA ∷ [] else 0xA ∷ []
-
--- NewLine inserts the text's line end
-abbrev pub after_new_line : Data → Editor → Editor
-after_new_line d e = after_insertion d e (line_end d e.content.text)
 
 -- ---- the moves by which the code removes: none leads past the place
 

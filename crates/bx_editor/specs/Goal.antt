@@ -1,7 +1,7 @@
 -- The column that moves from row to row keep: the cursor's column before the first of them.
 use Rattle.std.specs.Prelude.{ℕ, Option, Some, None, unwrap_or}
 use Rattle.bx_keys.specs.declared.key.Key.{Key}
-use Rattle.bx_keys.specs.declared.key.Key.TheVariants.{LineUp, LineDown, PageBack, PageOn, Repaint}
+use Rattle.bx_keys.specs.declared.key.Key.TheVariants.{LineUp, LineDown, PageBack, PageOn, Repaint, Select}
 use Rattle.bx_ucd.specs.Data.{Data}
 use Rattle.bx_view.specs.declared.moves.Vertical.{Vertical}
 use Rattle.bx_view.specs.Moves.{rows_away}
@@ -22,11 +22,12 @@ after_row_move d e way n =
 abbrev pub without_goal : Editor → Editor
 without_goal e = record e { goal = None }
 
--- a key that the user presses leaves the kept column if it is such a move, or Repaint; any other forgets it
+-- a key that the user presses leaves the kept column if it is such a move, Select or Repaint; any other forgets it
 abbrev pub goal_behind : Key → Option ℕ → Option ℕ
 goal_behind LineUp goal = goal
 goal_behind LineDown goal = goal
 goal_behind PageBack goal = goal
 goal_behind PageOn goal = goal
 goal_behind Repaint goal = goal
+goal_behind Select goal = goal
 goal_behind _ goal = None

@@ -12,10 +12,14 @@ use Rattle.bx_view.specs.Moves.{place_at}
 use Rattle.bx_editor.specs.declared.message.Message.{Message}
 use Rattle.bx_editor.specs.declared.message.Message.TheVariants.{FromStart, FromEnd, NotFound}
 use Rattle.bx_editor.specs.declared.seek.Seek.TheVariants.{Off}
+use Rattle.bx_editor.specs.declared.soft.Soft.{Soft}
+use Rattle.bx_editor.specs.declared.soft.Soft.TheVariants as softness
+use Rattle.bx_runs.specs.declared.typing.Typing.TheVariants as typings
 use Rattle.bx_editor.specs.Editor.{Editor, at_start, place_after, rows}
 use Rattle.bx_editor.specs.Keys.{after_key, after_keys}
 use Rattle.bx_editor.specs.Region.{bytes_in, region, taken}
 use Rattle.bx_editor.specs.Search.{next_or_start, sought}
+use Rattle.bx_editor.specs.Selecting.{mark_left}
 use Rattle.bx_editor.specs.Picture.{next_top}
 
 -- ---- the top
@@ -118,24 +122,41 @@ PutRestoresCut =
     → HasPut d e e.content.text ((taken d e).1) (after_keys d None e (Cut ∷ Put ∷ []))
 
 -- Mark twice at one place changes nothing but the message, if the mark was there or nowhere; a mark elsewhere is gone. A
--- search ends, and an earlier Quit and a kept column are forgotten.
+-- search and a selection end, nothing goes on, and an earlier Quit and a kept column are forgotten.
 pub record AreTwoMarks (e new : Editor) : Type 0 where
   pub here : (e.mark ≡ None) ⊎ (e.mark ≡ Some e.place)
-      → new ≡ record e { seek = Off; message = new.message; quit_before = false; goal = None }
+      → new ≡ record e { soft = softness.Off; seek = Off; typing = typings.Off; message = new.message; quit_before = false; goal = None }
   pub elsewhere : (mark : ℕ) → e.mark ≡ Some mark → mark ≢ e.place
-      → new ≡ record e { mark = None; seek = Off; message = new.message; quit_before = false; goal = None }
+      → new ≡ record e { mark = None; soft = softness.Off; seek = Off; typing = typings.Off; message = new.message; quit_before = false; goal = None }
 
 abbrev pub MarkTwiceIsNothing : Type 0
 MarkTwiceIsNothing = (d : Data) (e : Editor) → AreTwoMarks e (after_keys d None e (Mark ∷ Mark ∷ []))
 
 -- ---- the text's ends
 
--- TextEnd then TextStart leads to the text's start, TextStart then TextEnd to its end; all else stays, but a search ends, and
--- the message, an earlier Quit and a kept column are gone
+-- the mark, unless it is a selection's
+abbrev pub hard_mark : Soft → Option ℕ → Option ℕ
+hard_mark softness.Off mark = mark
+hard_mark soft mark = None
+
+-- the cursor is at this place, a search and a selection have ended, nothing goes on, and the message, an earlier Quit and a kept
+-- column are gone
+abbrev pub only_at : ℕ → Editor → Editor
+only_at place e = record e {
+  place = place;
+  mark = hard_mark e.soft e.mark;
+  soft = softness.Off;
+  seek = Off;
+  typing = typings.Off;
+  message = None;
+  quit_before = false;
+  goal = None;
+}
+
+-- TextEnd then TextStart leads to the text's start, TextStart then TextEnd to its end, and all else stays
 pub record ReachesBothEnds (d : Data) (e : Editor) : Type 0 where
-  pub start : after_keys d None e (TextEnd ∷ TextStart ∷ []) ≡ record e { place = 0; seek = Off; message = None; quit_before = false; goal = None }
-  pub end : after_keys d None e (TextStart ∷ TextEnd ∷ [])
-      ≡ record e { place = length e.content.text; seek = Off; message = None; quit_before = false; goal = None }
+  pub start : after_keys d None e (TextEnd ∷ TextStart ∷ []) ≡ only_at 0 e
+  pub end : after_keys d None e (TextStart ∷ TextEnd ∷ []) ≡ only_at (length e.content.text) e
 
 abbrev pub GoesToBothEnds : Type 0
 GoesToBothEnds = (d : Data) (e : Editor) → ReachesBothEnds d e
@@ -191,14 +212,14 @@ abbrev pub StaysOn : Data → Editor → List (Key × Option StoreFault) → Typ
 StaysOn d e [] = e.seek ≢ Off
 StaysOn d e (key ∷ typed) = (e.seek ≢ Off) × StaysOn d (after_key d key.1 e key.0) typed
 
--- no search is on; place, mark and text with its past and future are as in `e`
+-- no search is on; place and text with its past and future are as in `e`, and so is the mark, unless it is an old selection's
 pub record IsGivenUp (e new : Editor) : Type 0 where
   pub seek_is : new.seek ≡ Off
   pub place_is : new.place ≡ e.place
-  pub mark_is : new.mark ≡ e.mark
+  pub mark_is : new.mark ≡ mark_left e.soft e.mark
   pub content_is : new.content ≡ e.content
 
--- giving a search up puts place and mark back as they were when it began, whatever was typed in it
+-- giving a search up puts the place back where it was when the search began, whatever was typed in it
 abbrev pub GivingUpGoesBack : Type 0
 GivingUpGoesBack =
     (d : Data) (e : Editor) (begin give : Key) (typed : List (Key × Option StoreFault)) → e.seek ≡ Off → BeginsSearch begin → GivesUp give

@@ -1,9 +1,10 @@
--- The region between the mark and the cursor's place, and the keys that mark, copy, cut and put.
-use Rattle.std.specs.Prelude.{ℕ, ◌==◌, min, max, Bool, false, List, length, slice_range, Option, Some, None, unwrap_or, if◌then◌else◌}
+-- The region between the mark and the cursor's place, and the keys that mark, copy and cut.
+use Rattle.std.specs.Prelude.{ℕ, ◌==◌, min, max, Bool, false, List, slice_range, Option, Some, None, unwrap_or, if◌then◌else◌}
 use Rattle.bx_ucd.specs.Data.{Data}
 use Rattle.bx_document.specs.Line as lines
-use Rattle.bx_editor.specs.declared.message.Message.TheVariants.{Copied, LineCopied, MarkOff, MarkSet, NothingToCopy, NothingToPut}
-use Rattle.bx_editor.specs.Editor.{Editor, after_insertion, after_removal}
+use Rattle.bx_editor.specs.declared.message.Message.TheVariants.{Copied, LineCopied, MarkOff, MarkSet, NothingToCopy}
+use Rattle.bx_editor.specs.declared.soft.Soft.TheVariants.{Off}
+use Rattle.bx_editor.specs.Editor.{Editor, with_removal}
 
 -- ---- parts of the text, from one offset to another
 
@@ -34,28 +35,24 @@ is_at_mark (Some mark) place = mark == place
 -- Mark sets the mark at the place, or removes it if it is there already
 abbrev pub after_mark : Editor → Editor
 after_mark e =
-    if is_at_mark e.mark e.place then record e { mark = None; message = Some MarkOff } else record e { mark = Some e.place; message = Some MarkSet }
+    if is_at_mark e.mark e.place then record e { mark = None; soft = Off; message = Some MarkOff } else record e { mark = Some e.place; soft = Off; message = Some MarkSet }
 
 -- Cancel removes the mark
 abbrev pub without_mark : Editor → Editor
-without_mark e = record e { mark = None }
+without_mark e = record e { mark = None; soft = Off }
 
 -- Copy holds the region, or the line if the region is empty; if both are empty, the held text stays
 abbrev pub after_copy : Data → Editor → Editor
 after_copy d e =
     if is_empty (region e)
     then (if is_empty (line d e)
-    then record e { mark = None; message = Some NothingToCopy }
-    else record e { mark = None; held = bytes_in e (line d e); message = Some LineCopied })
-    else record e { mark = None; held = bytes_in e (region e); message = Some Copied }
+    then record e { mark = None; soft = Off; message = Some NothingToCopy }
+    else record e { mark = None; soft = Off; held = bytes_in e (line d e); message = Some LineCopied })
+    else record e { mark = None; soft = Off; held = bytes_in e (region e); message = Some Copied }
 
 -- Cut holds the same part, and removes it from the text
 abbrev pub after_cut : Data → Editor → Editor
 after_cut d e =
     if is_empty (taken d e)
     then after_copy d e
-    else record (after_removal d e ((taken d e).0) ((taken d e).1)) { held = bytes_in e (taken d e) }
-
--- Put inserts the held text at the place
-abbrev pub after_put : Data → Editor → Editor
-after_put d e = if length e.held == 0 then record e { message = Some NothingToPut } else after_insertion d e e.held
+    else record (with_removal d e ((taken d e).0) ((taken d e).1) false) { held = bytes_in e (taken d e) }

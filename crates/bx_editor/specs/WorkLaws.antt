@@ -1,5 +1,5 @@
 -- Laws of ErasePoint, FindNext, and the moves that keep their column.
-use Rattle.std.specs.Prelude.{◌≡◌, ◌≢◌, ℕ, ◌+◌, ◌<◌, ◌≤◌, true, [], ◌∷◌, ◌++◌, length, take, drop, replicate, None, Contains}
+use Rattle.std.specs.Prelude.{◌≡◌, ◌≢◌, ℕ, ◌+◌, ◌<◌, ◌≤◌, true, false, [], ◌∷◌, ◌++◌, length, take, drop, replicate, None, Contains}
 use Rattle.bx_keys.specs.declared.key.Key.TheVariants.{ErasePoint, Find, FindNext, LineDown, LineUp}
 use Rattle.bx_ucd.specs.Data.{Data}
 use Rattle.bx_rows.specs.RowPicture.{columns_used}
@@ -15,6 +15,7 @@ use Rattle.bx_editor.specs.Erasing.{point_before}
 use Rattle.bx_editor.specs.Keys.{after_key, after_keys}
 use Rattle.bx_editor.specs.Laws.{HasRows}
 use Rattle.bx_editor.specs.Search.{sought}
+use Rattle.bx_editor.specs.Selecting.{is_selection}
 
 -- ---- a point erased
 
@@ -24,10 +25,10 @@ pub record ErasesEnd (d : Data) (e new : Editor) : Type 0 where
   pub in_unit : step_logical (rows d e) Back e.place ≤ point_before d e
   pub before_place : point_before d e ≤ e.place
 
--- outside a search ErasePoint leaves all before the point, and all behind the place
+-- outside a search and without a selection ErasePoint leaves all before the point, and all behind the place
 abbrev pub ErasePointLeavesBeginning : Type 0
 ErasePointLeavesBeginning =
-    (d : Data) (e : Editor) → HasRows e → e.seek ≡ Off → IsTextPlace d e.content.text e.place → ErasesEnd d e (after_key d None e ErasePoint)
+    (d : Data) (e : Editor) → HasRows e → e.seek ≡ Off → is_selection e ≡ false → IsTextPlace d e.content.text e.place → ErasesEnd d e (after_key d None e ErasePoint)
 
 -- ---- the next match
 

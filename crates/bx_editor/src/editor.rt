@@ -1,17 +1,18 @@
 //! The editor.
-ghost use Rattle.std.specs.Prelude.{◌≡◌, ℕ, List, true};
+ghost use Rattle.std.specs.Prelude.{◌≡◌, ℕ, List, true, None};
 ghost use Rattle.std.specs.Borrow.{Bor};
 ghost use Rattle.std.specs.Iterator.{Drains};
 ghost use Rattle.bx_terms.specs.Sizes.{is_side};
 ghost use Rattle.bx_text.specs.Slices.{joined, lends};
 ghost use Rattle.bx_grid.specs.Picture.{is_size};
 ghost use Rattle.bx_editor.specs.Editor.{with_size};
-ghost use Rattle.bx_editor.specs.Goal.{without_goal};
 ghost use Rattle.bx_editor.specs.Search.{without_search};
 
 use crate::message::Message;
 use crate::seek::Seek;
+use crate::soft::Soft;
 use bx_document::Document;
+use bx_runs::{Runs, Typing};
 use bx_text::Slices;
 use bx_ucd::BidiData;
 use std::marker::Model;
@@ -23,10 +24,14 @@ pub struct Editor<D: BidiData + Drop> {
     pub(crate) document: Document<D>,
     pub(crate) place: usize,
     pub(crate) mark: Option<usize>,
+    pub(crate) soft: Soft,
     pub(crate) held: String,
     pub(crate) query: String,
     pub(crate) seek: Seek,
     pub(crate) origin: usize,
+    pub(crate) runs: Runs,
+    pub(crate) typing: Typing,
+    pub(crate) stored: Option<usize>,
     pub(crate) changed: bool,
     pub(crate) message: Option<Message>,
     pub(crate) quit_before: bool,
@@ -50,10 +55,14 @@ impl<D: BidiData + Drop> Model for Editor<D> {
         content = e.document.document.content;
         place = e.place;
         mark = e.mark;
+        soft = e.soft;
         held = string_bytes e.held;
         query = string_bytes e.query;
         seek = e.seek;
         origin = e.origin;
+        runs = e.runs.numbers;
+        typing = e.typing;
+        stored = e.stored;
         changed = e.changed;
         message = e.message;
         quit_before = e.quit_before;
@@ -82,10 +91,11 @@ impl<D: BidiData + Drop> Editor<D> {
         self.height = height;
     }
 
-    /// Counts the text as changed since the last save. No memory.
+    /// Counts the text as changed since the last save, and no undo as leading to the stored text. No memory.
     pub fn count_as_changed(&mut self)
-        ensures { self.new ≡ record self.old { editor = record self.old.editor { changed = true } } }
+        ensures { self.new ≡ record self.old { editor = record self.old.editor { stored = None; changed = true } } }
     {
+        self.stored = None;
         self.changed = true;
     }
 
@@ -163,16 +173,9 @@ impl<D: BidiData + Drop> Editor<D> {
     }
 
     /// Ends the search, if one is on. The cursor stays. No memory.
-    pub fn leave_search(&mut self)
+    pub(crate) fn leave_search(&mut self)
         ensures { self.new ≡ record self.old { editor = without_search self.old.editor } }
     {
         self.seek = Seek::Off;
-    }
-
-    /// Forgets the column that moves from row to row keep. No memory.
-    pub fn forget_goal(&mut self)
-        ensures { self.new ≡ record self.old { editor = without_goal self.old.editor } }
-    {
-        self.goal = None;
     }
 }

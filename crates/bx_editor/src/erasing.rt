@@ -1,64 +1,202 @@
-//! The keys that erase a unit, a word or a point.
-ghost use Rattle.std.specs.Prelude.{◌≡◌, true, OnErr, OnOk};
-ghost use Rattle.bx_view.specs.Moves.{moved};
-ghost use Rattle.bx_editor.specs.Editor.{after_removal, rows, without_message};
-ghost use Rattle.bx_editor.specs.Erasing.{after_erasing_point, goes_back, goes_on};
+//! The keys that remove a unit, a word or a point, or the selection.
+ghost use Rattle.std.specs.Prelude.{◌≡◌, true, false, IfOk, OnErr, OnOk};
+ghost use Rattle.bx_text.specs.Edits.{IsRange};
+ghost use Rattle.bx_view.specs.Moves.{moved, step_logical};
+ghost use Rattle.bx_view.specs.Words.{step_word};
+ghost use Rattle.bx_editor.specs.Editor.{cleared, rows, with_removal};
+ghost use Rattle.bx_editor.specs.Erasing.{after_erasing, after_erasing_word, after_removing, goes_back, goes_on, point_before, removed_on};
+ghost use Rattle.bx_editor.specs.Region.{region};
+ghost use Rattle.bx_runs.specs.declared.typing.Removal.{Removal};
 
+use crate::editing::{settle, stored_behind};
 use crate::editor::Editor;
+use bx_runs::Removal;
 use bx_terms::OutOfMemory;
 use bx_ucd::BidiData;
 use bx_view::{Logical, Move};
 
 impl<D: BidiData + Drop> Editor<D> {
-    /// Removes all from where a move back leads up to the place. Where it leads nowhere, nothing.
-    pub(crate) fn erase(&mut self, back: Move) -> Result<(), OutOfMemory>
+    /// Removes the bytes from `start` to `stop`, as an edit that goes on with the run before or begins one.
+    pub(crate) fn remove(
+        &mut self,
+        start: usize,
+        stop: usize,
+        goes_on: bool,
+    ) -> Result<(), OutOfMemory>
+        requires range { IsRange self.old.editor.content.text start stop }
+        ensures ok { OnOk result (self.new ≡ record self.old {
+          editor = with_removal (D.data self.old.tables) (cleared self.old.editor) start stop goes_on;
+        }) }
+        ensures err { OnErr result (self.new ≡ self.old) }
+    {
+        self.runs.reserve()?;
+        let n = self.document.past_len();
+        let place = self.document.remove(start, stop, self.place)?;
+        self.runs.edited(n, goes_on);
+        self.stored = stored_behind(n, self.stored);
+        settle(
+            &mut self.place,
+            &mut self.mark,
+            &mut self.soft,
+            &mut self.seek,
+            place,
+        );
+        self.changed = true;
+        self.clear();
+        Ok(())
+    }
+
+    /// Removes the bytes from `start` to `stop` as a removal that goes on with removals of its like. If there are none, only
+    /// clears the message.
+    fn remove_on(&mut self, how: Removal, start: usize, stop: usize) -> Result<(), OutOfMemory>
+        requires range { IsRange self.old.editor.content.text start stop }
+        ensures ok { OnOk result (self.new ≡ record self.old {
+          editor = removed_on (D.data self.old.tables) self.old.editor.typing how (cleared self.old.editor) start stop;
+        }) }
+        ensures err { OnErr result (self.new ≡ self.old) }
+    {
+        if start == stop {
+            self.clear();
+            return Ok(());
+        }
+        let goes_on = self.typing.goes_on_removing(how);
+        self.remove(start, stop, goes_on)?;
+        self.typing = how.typing();
+        Ok(())
+    }
+
+    /// Removes the bytes from `start` to `stop` by themselves. If there are none, only clears the message.
+    fn remove_alone(&mut self, start: usize, stop: usize) -> Result<(), OutOfMemory>
+        requires range { IsRange self.old.editor.content.text start stop }
+        ensures ok { OnOk result (self.new ≡ record self.old {
+          editor = after_removing (D.data self.old.tables) (cleared self.old.editor) start stop false;
+        }) }
+        ensures err { OnErr result (self.new ≡ self.old) }
+    {
+        if start == stop {
+            self.clear();
+            return Ok(());
+        }
+        self.remove(start, stop, false)
+    }
+
+    /// Removes the selection.
+    fn remove_selection(&mut self) -> Result<(), OutOfMemory>
+        ensures ok { OnOk result (self.new ≡ record self.old {
+          editor = with_removal (D.data self.old.tables) (cleared self.old.editor) ((region self.old.editor).0) ((region self.old.editor).1) false;
+        }) }
+        ensures err { OnErr result (self.new ≡ self.old) }
+    {
+        let (start, stop) = self.region();
+        self.remove(start, stop, false)
+    }
+
+    /// Where a move back from the place leads.
+    ///
+    /// Errors: `OutOfMemory`.
+    fn back_by(&mut self, back: Move) -> Result<usize, OutOfMemory>
         requires back { goes_back back ≡ true }
-        ensures ok { OnOk result (self.new ≡ record self.old {
-          editor = after_removal (D.data self.old.tables) (without_message self.old.editor)
-              (moved (D.data self.old.tables) self.old.editor.content.text self.old.editor.width (rows (D.data self.old.tables) self.old.editor)
-              back self.old.editor.place) self.old.editor.place;
-        }) }
-        ensures err { OnErr result (self.new ≡ self.old) }
+        ensures same { self.new ≡ self.old }
+        ensures place { IfOk result (λ p. p ≡ moved (D.data self.old.tables) self.old.editor.content.text self.old.editor.width
+            (rows (D.data self.old.tables) self.old.editor) back self.old.editor.place) }
+        ensures range { IfOk result (λ p. IsRange self.old.editor.content.text p self.old.editor.place) }
     {
         // proof only: the text is UTF-8
         let _utf8 = self.document.len();
-        let place = self.place;
-        let start = self.document.moved(back, place)?;
-        self.remove(start, place)?;
-        Ok(())
+        let place = self.document.moved(back, self.place)?;
+        Ok(place)
     }
 
-    /// Removes all from the place up to where a move forward leads. Where it leads nowhere, nothing.
-    pub(crate) fn delete(&mut self, on: Move) -> Result<(), OutOfMemory>
+    /// Where a move forward from the place leads.
+    ///
+    /// Errors: `OutOfMemory`.
+    fn on_by(&mut self, on: Move) -> Result<usize, OutOfMemory>
         requires on { goes_on on ≡ true }
-        ensures ok { OnOk result (self.new ≡ record self.old {
-          editor = after_removal (D.data self.old.tables) (without_message self.old.editor) self.old.editor.place
-              (moved (D.data self.old.tables) self.old.editor.content.text self.old.editor.width (rows (D.data self.old.tables) self.old.editor)
-              on self.old.editor.place);
-        }) }
-        ensures err { OnErr result (self.new ≡ self.old) }
+        ensures same { self.new ≡ self.old }
+        ensures place { IfOk result (λ p. p ≡ moved (D.data self.old.tables) self.old.editor.content.text self.old.editor.width
+            (rows (D.data self.old.tables) self.old.editor) on self.old.editor.place) }
+        ensures range { IfOk result (λ p. IsRange self.old.editor.content.text self.old.editor.place p) }
     {
         // proof only: the text is UTF-8
         let _utf8 = self.document.len();
-        let place = self.place;
-        let stop = self.document.moved(on, place)?;
-        self.remove(place, stop)?;
-        Ok(())
+        let place = self.document.moved(on, self.place)?;
+        Ok(place)
     }
 
-    /// Removes the last point of the unit before the place; if its last character is no point, the unit.
+    /// Removes the unit before the place, or the selection.
+    pub(crate) fn erase(&mut self) -> Result<(), OutOfMemory>
+        ensures ok { OnOk result (self.new ≡ record self.old {
+          editor = after_erasing (D.data self.old.tables) self.old.editor.typing Removal.Erase (cleared self.old.editor)
+              (step_logical (rows (D.data self.old.tables) self.old.editor) Logical.Back self.old.editor.place) self.old.editor.place;
+        }) }
+        ensures err { OnErr result (self.new ≡ self.old) }
+    {
+        if self.is_selection() {
+            return self.remove_selection();
+        }
+        let start = self.back_by(Move::Logical(Logical::Back))?;
+        self.remove_on(Removal::Erase, start, self.place)
+    }
+
+    /// Removes the last point of the unit before the place; if its last character is no point, the unit. A selection is removed
+    /// in its place.
     pub(crate) fn erase_point(&mut self) -> Result<(), OutOfMemory>
         ensures ok { OnOk result (self.new ≡ record self.old {
-          editor = after_erasing_point (D.data self.old.tables) (without_message self.old.editor);
+          editor = after_erasing (D.data self.old.tables) self.old.editor.typing Removal.Erase (cleared self.old.editor)
+              (point_before (D.data self.old.tables) self.old.editor) self.old.editor.place;
         }) }
         ensures err { OnErr result (self.new ≡ self.old) }
     {
-        // proof only: the text is UTF-8
-        let _utf8 = self.document.len();
-        let place = self.place;
-        let unit = self.document.moved(Move::Logical(Logical::Back), place)?;
-        let start = self.document.start_of_point(unit, place)?;
-        self.remove(start, place)?;
-        Ok(())
+        if self.is_selection() {
+            return self.remove_selection();
+        }
+        let unit = self.back_by(Move::Logical(Logical::Back))?;
+        let start = self.document.start_of_point(unit, self.place)?;
+        self.remove_on(Removal::Erase, start, self.place)
+    }
+
+    /// Removes the unit after the place, or the selection.
+    pub(crate) fn delete(&mut self) -> Result<(), OutOfMemory>
+        ensures ok { OnOk result (self.new ≡ record self.old {
+          editor = after_erasing (D.data self.old.tables) self.old.editor.typing Removal.Delete (cleared self.old.editor) self.old.editor.place
+              (step_logical (rows (D.data self.old.tables) self.old.editor) Logical.Forward self.old.editor.place);
+        }) }
+        ensures err { OnErr result (self.new ≡ self.old) }
+    {
+        if self.is_selection() {
+            return self.remove_selection();
+        }
+        let stop = self.on_by(Move::Logical(Logical::Forward))?;
+        self.remove_on(Removal::Delete, self.place, stop)
+    }
+
+    /// Removes all from the word stop before the place, or the selection.
+    pub(crate) fn erase_word(&mut self) -> Result<(), OutOfMemory>
+        ensures ok { OnOk result (self.new ≡ record self.old {
+          editor = after_erasing_word (D.data self.old.tables) (cleared self.old.editor)
+              (step_word (D.data self.old.tables) self.old.editor.content.text Logical.Back self.old.editor.place) self.old.editor.place;
+        }) }
+        ensures err { OnErr result (self.new ≡ self.old) }
+    {
+        if self.is_selection() {
+            return self.remove_selection();
+        }
+        let start = self.back_by(Move::Word(Logical::Back))?;
+        self.remove_alone(start, self.place)
+    }
+
+    /// Removes all up to the word stop after the place, or the selection.
+    pub(crate) fn delete_word(&mut self) -> Result<(), OutOfMemory>
+        ensures ok { OnOk result (self.new ≡ record self.old {
+          editor = after_erasing_word (D.data self.old.tables) (cleared self.old.editor) self.old.editor.place
+              (step_word (D.data self.old.tables) self.old.editor.content.text Logical.Forward self.old.editor.place);
+        }) }
+        ensures err { OnErr result (self.new ≡ self.old) }
+    {
+        if self.is_selection() {
+            return self.remove_selection();
+        }
+        let stop = self.on_by(Move::Word(Logical::Forward))?;
+        self.remove_alone(self.place, stop)
     }
 }

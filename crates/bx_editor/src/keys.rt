@@ -1,16 +1,21 @@
 //! The effect of each key.
 ghost use Rattle.std.specs.Prelude.{◌≡◌, None, Some, true, false, OnErr, OnOk};
 ghost use Rattle.bx_view.specs.Places.{IsTextPlace};
-ghost use Rattle.bx_editor.specs.Editor.{after_quit, next_base, with_base, without_message};
+ghost use Rattle.bx_editor.specs.Editor.{after_quit, cleared, next_base, with_base, with_typing};
+ghost use Rattle.bx_editor.specs.Effects.{before};
 ghost use Rattle.bx_editor.specs.Keys.{after_any, after_key, after_pressing, after_seeking, is_edit_or_move, is_save, is_size_key, is_told_key};
-ghost use Rattle.bx_editor.specs.Search.{without_search};
+ghost use Rattle.bx_editor.specs.Putting.{only_paste};
+ghost use Rattle.bx_editor.specs.Search.{after_letter, without_search};
 
 use crate::editor::Editor;
 use crate::message::Message;
 use crate::moving::goal_behind;
+use crate::putting::only_paste;
 use crate::seek::Seek;
+use crate::selecting::{aged, soft_behind};
 use bx_document::HistoryStep;
 use bx_keys::Key;
+use bx_runs::Typing;
 use bx_store::StoreFault;
 use bx_terms::{Base, OutOfMemory};
 use bx_ucd::BidiData;
@@ -28,29 +33,38 @@ fn next_base(base: Base) -> Base
 }
 
 impl<D: BidiData + Drop> Editor<D> {
-    /// Clears the message, and forgets an earlier Quit.
-    pub(crate) fn forget(&mut self)
-        ensures { self.new ≡ record self.old { editor = without_message self.old.editor } }
+    /// Clears the message and forgets an earlier Quit, but what is typed goes on.
+    fn rest(&mut self)
+        ensures { self.new ≡ record self.old { editor = with_typing (cleared self.old.editor) self.old.editor.typing } }
     {
         self.message = None;
         self.quit_before = false;
     }
 
+    /// Clears the message, forgets an earlier Quit, and ends what is typed.
+    pub(crate) fn clear(&mut self)
+        ensures { self.new ≡ record self.old { editor = cleared self.old.editor } }
+    {
+        self.rest();
+        self.typing = Typing::Off;
+    }
+
     /// Sets the message of a key other than Quit, and forgets an earlier Quit.
     pub(crate) fn tell(&mut self, message: Message)
-        ensures { self.new ≡ record self.old { editor = record (without_message self.old.editor) { message = Some message } } }
+        ensures { self.new ≡ record self.old { editor = record (cleared self.old.editor) { message = Some message } } }
     {
+        self.clear();
         self.message = Some(message);
-        self.quit_before = false;
     }
 
     /// Ends the editor if there are no unsaved changes or the key before was Quit too; otherwise sets a message.
     fn quit(&mut self)
-        ensures { self.new ≡ record self.old { editor = after_quit (without_message self.old.editor) self.old.editor.quit_before } }
+        ensures { self.new ≡ record self.old { editor = after_quit (cleared self.old.editor) self.old.editor.quit_before } }
     {
-        if !self.changed || self.quit_before {
+        let again = self.quit_before;
+        self.clear();
+        if !self.changed || again {
             self.ended = true;
-            self.message = None;
         } else {
             self.message = Some(Message::Unsaved);
         }
@@ -59,7 +73,7 @@ impl<D: BidiData + Drop> Editor<D> {
 
     /// Switches the paragraphs to the next base direction.
     fn turn_direction(&mut self)
-        ensures { self.new ≡ record self.old { editor = with_base (without_message self.old.editor) (next_base self.old.editor.base) } }
+        ensures { self.new ≡ record self.old { editor = with_base (cleared self.old.editor) (next_base self.old.editor.base) } }
     {
         let base = next_base(self.document.base());
         self.document.set_base(base);
@@ -72,6 +86,7 @@ impl<D: BidiData + Drop> Editor<D> {
     {
         match fault {
             None => {
+                self.stored = Some(self.document.past_len());
                 self.changed = false;
                 self.tell(Message::Saved);
             }
@@ -79,6 +94,7 @@ impl<D: BidiData + Drop> Editor<D> {
         }
         self.leave_search();
         self.goal = None;
+        self.soft = aged(self.soft);
     }
 
     /// Applies a key other than Save and Size.
@@ -92,12 +108,16 @@ impl<D: BidiData + Drop> Editor<D> {
         ensures err { OnErr result (self.new ≡ self.old) }
         ensures edits { OnErr result (is_edit_or_move key ≡ true) }
     {
-        if let Key::Notice(notice) = key {
-            self.message = Some(Message::Notice(notice));
-            return Ok(());
+        match key {
+            Key::Notice(notice) => self.message = Some(Message::Notice(notice)),
+            Key::PasteStart => self.typing = Typing::Paste,
+            Key::PasteEnd => self.typing = Typing::Off,
+            _ => {
+                self.press_any(key)?;
+                self.goal = goal_behind(key, self.goal);
+                self.soft = soft_behind(key, self.soft);
+            }
         }
-        self.press_any(key)?;
-        self.goal = goal_behind(key, self.goal);
         Ok(())
     }
 
@@ -106,7 +126,7 @@ impl<D: BidiData + Drop> Editor<D> {
         requires no_save { is_save key ≡ false }
         requires typed { is_told_key key ≡ false }
         ensures ok { OnOk result (self.new.editor
-            ≡ after_any (D.data self.old.tables) None self.old.editor.quit_before self.old.editor.seek (without_message self.old.editor) key) }
+            ≡ after_any (D.data self.old.tables) None (before self.old.editor) self.old.editor.seek (cleared self.old.editor) key) }
         ensures tables { self.new.tables ≡ self.old.tables }
         ensures err { OnErr result (self.new ≡ self.old) }
         ensures edits { OnErr result (is_edit_or_move key ≡ true) }
@@ -122,7 +142,7 @@ impl<D: BidiData + Drop> Editor<D> {
         requires no_save { is_save key ≡ false }
         requires typed { is_told_key key ≡ false }
         ensures ok { OnOk result (self.new.editor
-            ≡ after_pressing (D.data self.old.tables) None self.old.editor.quit_before (without_message self.old.editor) key) }
+            ≡ after_pressing (D.data self.old.tables) None (before self.old.editor) (cleared self.old.editor) key) }
         ensures tables { self.new.tables ≡ self.old.tables }
         ensures err { OnErr result (self.new ≡ self.old) }
         ensures edits { OnErr result (is_edit_or_move key ≡ true) }
@@ -130,10 +150,10 @@ impl<D: BidiData + Drop> Editor<D> {
         let page = self.page();
         match key {
             Key::Insert(c) => self.insert(c),
-            Key::Erase => self.erase(Move::Logical(Logical::Back)),
-            Key::Delete => self.delete(Move::Logical(Logical::Forward)),
-            Key::EraseWord => self.erase(Move::Word(Logical::Back)),
-            Key::DeleteWord => self.delete(Move::Word(Logical::Forward)),
+            Key::Erase => self.erase(),
+            Key::Delete => self.delete(),
+            Key::EraseWord => self.erase_word(),
+            Key::DeleteWord => self.delete_word(),
             Key::ErasePoint => self.erase_point(),
             Key::NewLine => self.new_line(),
             Key::Back => self.moved(Move::Logical(Logical::Back)),
@@ -157,11 +177,17 @@ impl<D: BidiData + Drop> Editor<D> {
             Key::FindNext => self.go_to_next(),
             Key::Undo => self.step(HistoryStep::Undo),
             Key::Redo => self.step(HistoryStep::Redo),
+            Key::UndoRun => self.step_run(HistoryStep::Undo),
+            Key::RedoRun => self.step_run(HistoryStep::Redo),
             Key::Copy => self.copy(),
             Key::Cut => self.cut(),
             Key::Put => self.put(),
             Key::Mark => {
                 self.turn_mark();
+                Ok(())
+            }
+            Key::Select => {
+                self.select();
                 Ok(())
             }
             Key::Cancel => {
@@ -185,11 +211,26 @@ impl<D: BidiData + Drop> Editor<D> {
                 Ok(())
             }
             Key::Repaint => {
-                self.forget();
+                self.rest();
                 Ok(())
             }
             Key::Save | Key::Size(..) | Key::Notice(_) => unreachable!(),
+            Key::PasteStart | Key::PasteEnd => unreachable!(),
         }
+    }
+
+    /// Applies a character that is typed in a search; a paste goes on behind it.
+    fn answer(&mut self, c: char) -> Result<(), OutOfMemory>
+        requires origin { IsTextPlace (D.data self.old.tables) self.old.editor.content.text self.old.editor.origin }
+        ensures ok { OnOk result (self.new ≡ record self.old {
+          editor = with_typing (after_letter (D.data self.old.tables) (cleared self.old.editor) c) (only_paste self.old.editor.typing);
+        }) }
+        ensures err { OnErr result (self.new ≡ self.old) }
+    {
+        let typing = self.typing;
+        self.type_letter(c)?;
+        self.typing = only_paste(typing);
+        Ok(())
     }
 
     /// Applies a key in a search.
@@ -198,18 +239,15 @@ impl<D: BidiData + Drop> Editor<D> {
         requires typed { is_told_key key ≡ false }
         requires origin { IsTextPlace (D.data self.old.tables) self.old.editor.content.text self.old.editor.origin }
         ensures ok { OnOk result (self.new.editor
-            ≡ after_seeking (D.data self.old.tables) None self.old.editor.quit_before (without_message self.old.editor) key) }
+            ≡ after_seeking (D.data self.old.tables) None (before self.old.editor) (cleared self.old.editor) key) }
         ensures tables { self.new.tables ≡ self.old.tables }
         ensures err { OnErr result (self.new ≡ self.old) }
         ensures edits { OnErr result (is_edit_or_move key ≡ true) }
     {
         match key {
-            Key::Insert(c) => self.type_letter(c),
+            Key::Insert(c) => self.answer(c),
+            Key::NewLine => self.answer('\n'),
             Key::Erase | Key::Delete | Key::ErasePoint => self.shorten(),
-            Key::NewLine => {
-                self.end_search();
-                Ok(())
-            }
             Key::Find | Key::FindNext => self.find_next(),
             Key::FindBack => self.find_previous(),
             Key::Quit | Key::Copy | Key::Cancel => {
@@ -217,7 +255,7 @@ impl<D: BidiData + Drop> Editor<D> {
                 Ok(())
             }
             Key::Repaint => {
-                self.forget();
+                self.rest();
                 Ok(())
             }
             _ => self.press_last(key),
@@ -229,7 +267,7 @@ impl<D: BidiData + Drop> Editor<D> {
         requires no_save { is_save key ≡ false }
         requires typed { is_told_key key ≡ false }
         ensures ok { OnOk result (self.new.editor
-            ≡ without_search (after_pressing (D.data self.old.tables) None self.old.editor.quit_before (without_message self.old.editor) key)) }
+            ≡ without_search (after_pressing (D.data self.old.tables) None (before self.old.editor) (cleared self.old.editor) key)) }
         ensures tables { self.new.tables ≡ self.old.tables }
         ensures err { OnErr result (self.new ≡ self.old) }
         ensures edits { OnErr result (is_edit_or_move key ≡ true) }

@@ -12,10 +12,17 @@ pub mod message;
 mod moving;
 mod opening;
 mod picture;
+mod putting;
 mod query;
 mod region;
+mod replay;
+mod run_laws;
+mod runs;
 mod searching;
 pub mod seek;
+mod selecting;
+mod selection_laws;
+pub mod soft;
 mod status;
 mod work_laws;
 
@@ -27,5 +34,14 @@ pub use laws::{
     undo_gives_back,
 };
 pub use message::Message;
+pub use run_laws::{
+    paste_is_a_run, redo_run_mirrors_undo_run, run_keys_are_steps, unchanged_is_stored,
+    word_is_a_run,
+};
 pub use seek::Seek;
+pub use selection_laws::{
+    move_takes_selection_off, paste_marks_are_unseen, seeking_takes_selection_off,
+    selection_comes_back, selection_gives_way, selection_is_removed,
+};
+pub use soft::Soft;
 pub use work_laws::{erase_point_leaves_beginning, find_next_is_find_twice, line_moves_go_back};

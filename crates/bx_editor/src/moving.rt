@@ -2,8 +2,9 @@
 ghost use Rattle.std.specs.Prelude.{◌≡◌, IfOk, OnErr, OnOk};
 ghost use Rattle.bx_view.specs.Moves.{moved, place_from};
 ghost use Rattle.bx_view.specs.Places.{IsTextPlace};
-ghost use Rattle.bx_editor.specs.Editor.{rows, text_height, with_place, without_message};
+ghost use Rattle.bx_editor.specs.Editor.{rows, text_height, with_place, cleared};
 ghost use Rattle.bx_editor.specs.Goal.{after_row_move, goal_behind, goal_column};
+ghost use Rattle.bx_editor.specs.Selecting.{unselected};
 
 use crate::editor::Editor;
 use crate::picture::text_height;
@@ -12,12 +13,13 @@ use bx_terms::OutOfMemory;
 use bx_ucd::BidiData;
 use bx_view::{Move, Vertical};
 
-/// The kept column behind a key that the user pressed: kept by moves from row to row and by Repaint.
+/// The kept column behind a key that the user pressed: kept by moves from row to row, by Select and by Repaint.
 pub(crate) fn goal_behind(key: Key, goal: Option<u16>) -> Option<u16>
     ensures { result ≡ goal_behind key goal }
 {
     match key {
-        Key::LineUp | Key::LineDown | Key::PageBack | Key::PageOn | Key::Repaint => goal,
+        Key::LineUp | Key::LineDown | Key::PageBack | Key::PageOn => goal,
+        Key::Select | Key::Repaint => goal,
         _ => None,
     }
 }
@@ -26,10 +28,10 @@ impl<D: BidiData + Drop> Editor<D> {
     /// Moves the cursor to a place, and clears the message.
     fn set_place(&mut self, place: usize)
         requires text_place { IsTextPlace (D.data self.old.tables) self.old.editor.content.text place }
-        ensures { self.new ≡ record self.old { editor = with_place (without_message self.old.editor) place } }
+        ensures { self.new ≡ record self.old { editor = with_place (cleared self.old.editor) place } }
     {
         self.place = place;
-        self.forget();
+        self.clear();
     }
 
     /// Moves the cursor to the first place at or after an offset, in bytes from 0, or to the text's end for an offset past
@@ -38,7 +40,7 @@ impl<D: BidiData + Drop> Editor<D> {
     /// Errors: `OutOfMemory`, and nothing has changed.
     pub fn go_to(&mut self, offset: usize) -> Result<(), OutOfMemory>
         ensures ok { OnOk result (self.new ≡ record self.old {
-          editor = with_place (without_message self.old.editor)
+          editor = with_place (cleared self.old.editor)
               (place_from (rows (D.data self.old.tables) self.old.editor) offset);
         }) }
         ensures err { OnErr result (self.new ≡ self.old) }
@@ -55,16 +57,17 @@ impl<D: BidiData + Drop> Editor<D> {
         usize::from(text_height(self.height))
     }
 
-    /// Applies a move to the cursor.
+    /// Applies a move to the cursor, which takes an old selection off.
     pub(crate) fn moved(&mut self, m: Move) -> Result<(), OutOfMemory>
         ensures ok { OnOk result (self.new ≡ record self.old {
-          editor = with_place (without_message self.old.editor)
+          editor = with_place (unselected (cleared self.old.editor))
               (moved (D.data self.old.tables) self.old.editor.content.text self.old.editor.width (rows (D.data self.old.tables) self.old.editor) m self.old.editor.place);
         }) }
         ensures err { OnErr result (self.new ≡ self.old) }
     {
         let place = self.document.moved(m, self.place)?;
         self.set_place(place);
+        self.unselect();
         Ok(())
     }
 
@@ -84,7 +87,7 @@ impl<D: BidiData + Drop> Editor<D> {
     /// Goes up or down by `n` rows in the kept column, which becomes the cursor's if none is kept.
     pub(crate) fn move_by_rows(&mut self, way: Vertical, n: usize) -> Result<(), OutOfMemory>
         ensures ok { OnOk result (self.new ≡ record self.old {
-          editor = after_row_move (D.data self.old.tables) (without_message self.old.editor) way n;
+          editor = after_row_move (D.data self.old.tables) (unselected (cleared self.old.editor)) way n;
         }) }
         ensures err { OnErr result (self.new ≡ self.old) }
     {

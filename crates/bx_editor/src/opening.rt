@@ -8,7 +8,9 @@ ghost use Rattle.bx_editor.specs.Opening.{Causes, IsLongestUtf8};
 use crate::editor::Editor;
 use crate::error::OpenError;
 use crate::seek::Seek;
+use crate::soft::Soft;
 use bx_document::Document;
+use bx_runs::{Runs, Typing};
 use bx_terms::{Base, LARGEST_TEXT, is_side};
 use bx_ucd::BidiData;
 use simdutf8::compat::from_utf8;
@@ -61,10 +63,14 @@ impl<D: BidiData + Drop> Editor<D> {
                 document,
                 place: 0,
                 mark: None,
+                soft: Soft::Off,
                 held: String::new(alloc),
                 query: String::new(alloc),
                 seek: Seek::Off,
                 origin: 0,
+                runs: Runs::new(alloc),
+                typing: Typing::Off,
+                stored: Some(0),
                 changed: false,
                 message: None,
                 quit_before: false,

@@ -1,12 +1,12 @@
-//! The mark, and the keys that copy, cut and put.
+//! The mark, and the keys that copy and cut.
 ghost use Rattle.std.specs.Prelude.{◌≡◌, OnErr, OnOk, Some, None, slice_range};
 ghost use Rattle.bx_text.specs.Edits.{IsRange};
-ghost use Rattle.bx_editor.specs.Editor.{without_message};
-ghost use Rattle.bx_editor.specs.Region.{after_copy, after_cut, after_mark, after_put, is_at_mark, region, taken, without_mark};
+ghost use Rattle.bx_editor.specs.Editor.{cleared};
+ghost use Rattle.bx_editor.specs.Region.{after_copy, after_cut, after_mark, is_at_mark, region, taken, without_mark};
 
-use crate::editing::settle;
 use crate::editor::Editor;
 use crate::message::Message;
+use crate::soft::Soft;
 use bx_terms::OutOfMemory;
 use bx_ucd::BidiData;
 
@@ -23,7 +23,7 @@ fn is_at_mark(mark: Option<usize>, place: usize) -> bool
 impl<D: BidiData + Drop> Editor<D> {
     /// Marks the place, or removes the mark if it is there already.
     pub(crate) fn turn_mark(&mut self)
-        ensures { self.new ≡ record self.old { editor = after_mark (without_message self.old.editor) } }
+        ensures { self.new ≡ record self.old { editor = after_mark (cleared self.old.editor) } }
     {
         if is_at_mark(self.mark, self.place) {
             self.mark = None;
@@ -32,14 +32,16 @@ impl<D: BidiData + Drop> Editor<D> {
             self.mark = Some(self.place);
             self.tell(Message::MarkSet);
         }
+        self.soft = Soft::Off;
     }
 
     /// Removes the mark.
     pub(crate) fn remove_mark(&mut self)
-        ensures { self.new ≡ record self.old { editor = without_mark (without_message self.old.editor) } }
+        ensures { self.new ≡ record self.old { editor = without_mark (cleared self.old.editor) } }
     {
         self.mark = None;
-        self.forget();
+        self.soft = Soft::Off;
+        self.clear();
     }
 
     /// The offsets of the region's start and end: the mark and the place in order. Equal if there is no mark.
@@ -69,8 +71,9 @@ impl<D: BidiData + Drop> Editor<D> {
     fn hold(&mut self, start: usize, stop: usize, message: Message) -> Result<(), OutOfMemory>
         requires range { IsRange self.old.editor.content.text start stop }
         ensures ok { OnOk result (self.new ≡ record self.old {
-          editor = record (without_message self.old.editor) {
+          editor = record (cleared self.old.editor) {
             mark = None;
+            soft = Soft.Off;
             held = slice_range self.old.editor.content.text start stop;
             message = Some message;
           };
@@ -79,6 +82,7 @@ impl<D: BidiData + Drop> Editor<D> {
     {
         self.held = self.document.copy(start, stop)?;
         self.mark = None;
+        self.soft = Soft::Off;
         self.tell(message);
         Ok(())
     }
@@ -86,7 +90,7 @@ impl<D: BidiData + Drop> Editor<D> {
     /// Copies the region, or the line if the region is empty; if both are, sets a message instead.
     pub(crate) fn copy(&mut self) -> Result<(), OutOfMemory>
         ensures ok { OnOk result (self.new ≡ record self.old {
-          editor = after_copy (D.data self.old.tables) (without_message self.old.editor);
+          editor = after_copy (D.data self.old.tables) (cleared self.old.editor);
         }) }
         ensures err { OnErr result (self.new ≡ self.old) }
     {
@@ -99,6 +103,7 @@ impl<D: BidiData + Drop> Editor<D> {
             return self.hold(start, stop, Message::LineCopied);
         }
         self.mark = None;
+        self.soft = Soft::Off;
         self.tell(Message::NothingToCopy);
         Ok(())
     }
@@ -106,7 +111,7 @@ impl<D: BidiData + Drop> Editor<D> {
     /// Copies the same text as Copy, and removes it.
     pub(crate) fn cut(&mut self) -> Result<(), OutOfMemory>
         ensures ok { OnOk result (self.new ≡ record self.old {
-          editor = after_cut (D.data self.old.tables) (without_message self.old.editor);
+          editor = after_cut (D.data self.old.tables) (cleared self.old.editor);
         }) }
         ensures err { OnErr result (self.new ≡ self.old) }
     {
@@ -115,28 +120,8 @@ impl<D: BidiData + Drop> Editor<D> {
             return self.copy();
         }
         let held = self.document.copy(start, stop)?;
-        self.remove(start, stop)?;
+        self.remove(start, stop, false)?;
         self.held = held;
-        Ok(())
-    }
-
-    /// Inserts the held text at the place; if nothing is held or the text is full, sets a message instead.
-    pub(crate) fn put(&mut self) -> Result<(), OutOfMemory>
-        ensures ok { OnOk result (self.new ≡ record self.old {
-          editor = after_put (D.data self.old.tables) (without_message self.old.editor);
-        }) }
-        ensures err { OnErr result (self.new ≡ self.old) }
-    {
-        if self.held.is_empty() {
-            self.tell(Message::NothingToPut);
-            return Ok(());
-        }
-        let Some(place) = self.document.insert(self.place, self.held.as_str())? else {
-            self.tell(Message::TextFull);
-            return Ok(());
-        };
-        settle(&mut self.place, &mut self.mark, &mut self.seek, place);
-        self.finish_edit();
         Ok(())
     }
 }

@@ -1,40 +1,43 @@
 //! The keys of a search.
 ghost use Rattle.std.specs.Prelude.{◌≡◌, IfOk, IfSome, OnErr, OnOk};
 ghost use Rattle.bx_view.specs.Places.{IsTextPlace};
-ghost use Rattle.bx_editor.specs.Editor.{without_message};
+ghost use Rattle.bx_editor.specs.Editor.{cleared};
 ghost use Rattle.bx_editor.specs.Search.{after_beginning, after_find, after_find_back, after_find_next, after_giving_up, after_letter, after_shortening};
 ghost use Rattle.bx_editor.specs.Search.{landed, next_or_start, without_search};
+ghost use Rattle.bx_editor.specs.Selecting.{unselected};
 
 use crate::editor::Editor;
 use crate::matches::{Landing, backward, forward, has_letters};
 use crate::query::{kept, lengthened, shortened};
 use crate::seek::Seek;
+use bx_runs::Typing;
 use bx_terms::OutOfMemory;
 use bx_ucd::BidiData;
 use bx_view::{Logical, Move};
 
 impl<D: BidiData + Drop> Editor<D> {
-    /// Begins a search at the place, with the query of the latest one.
+    /// Begins a search at the place, with the query of the latest one. An old selection is taken off.
     pub(crate) fn begin_search(&mut self)
-        ensures { self.new ≡ record self.old { editor = after_beginning (without_message self.old.editor) } }
+        ensures { self.new ≡ record self.old { editor = after_beginning (unselected (cleared self.old.editor)) } }
     {
+        self.unselect();
         self.origin = self.place;
         self.seek = Seek::Begun;
-        self.forget();
+        self.clear();
     }
 
     /// Ends the search.
     pub(crate) fn end_search(&mut self)
-        ensures { self.new ≡ record self.old { editor = without_search (without_message self.old.editor) } }
+        ensures { self.new ≡ record self.old { editor = without_search (cleared self.old.editor) } }
     {
         self.leave_search();
-        self.forget();
+        self.clear();
     }
 
     /// Ends the search, and returns to where it began.
     pub(crate) fn give_up(&mut self)
         requires origin { IsTextPlace (D.data self.old.tables) self.old.editor.content.text self.old.editor.origin }
-        ensures { self.new ≡ record self.old { editor = after_giving_up (without_message self.old.editor) } }
+        ensures { self.new ≡ record self.old { editor = after_giving_up (cleared self.old.editor) } }
     {
         self.place = self.origin;
         self.end_search();
@@ -43,18 +46,19 @@ impl<D: BidiData + Drop> Editor<D> {
     /// Moves the cursor to where a match is, and sets the message. No memory.
     fn settle_at(&mut self, landing: Landing)
         requires place { IfSome landing.place (IsTextPlace (D.data self.old.tables) self.old.editor.content.text) }
-        ensures { self.new ≡ record self.old { editor = landed (without_message self.old.editor) landing } }
+        ensures { self.new ≡ record self.old { editor = landed (cleared self.old.editor) landing } }
     {
         self.place = landing.place.unwrap_or(self.place);
         self.message = landing.message;
         self.quit_before = false;
+        self.typing = Typing::Off;
     }
 
     /// Moves the cursor to where a search led, and sets its message.
     fn land(&mut self, landing: Landing)
         requires origin { IsTextPlace (D.data self.old.tables) self.old.editor.content.text self.old.editor.origin }
         requires place { IfSome landing.place (IsTextPlace (D.data self.old.tables) self.old.editor.content.text) }
-        ensures { self.new ≡ record self.old { editor = landed (record (without_message self.old.editor) { seek = Seek.Typed }) landing } }
+        ensures { self.new ≡ record self.old { editor = landed (record (cleared self.old.editor) { seek = Seek.Typed }) landing } }
     {
         self.settle_at(landing);
         self.seek = Seek::Typed;
@@ -65,7 +69,7 @@ impl<D: BidiData + Drop> Editor<D> {
     pub(crate) fn type_letter(&mut self, c: char) -> Result<(), OutOfMemory>
         requires origin { IsTextPlace (D.data self.old.tables) self.old.editor.content.text self.old.editor.origin }
         ensures ok { OnOk result (self.new ≡ record self.old {
-          editor = after_letter (D.data self.old.tables) (without_message self.old.editor) c;
+          editor = after_letter (D.data self.old.tables) (cleared self.old.editor) c;
         }) }
         ensures err { OnErr result (self.new ≡ self.old) }
     {
@@ -74,7 +78,7 @@ impl<D: BidiData + Drop> Editor<D> {
             return Ok(());
         }
         if c == '\t' || self.document.separates(c) {
-            self.forget();
+            self.clear();
             return Ok(());
         }
         let kept = kept(self.seek, self.query.as_str());
@@ -89,7 +93,7 @@ impl<D: BidiData + Drop> Editor<D> {
     pub(crate) fn shorten(&mut self) -> Result<(), OutOfMemory>
         requires origin { IsTextPlace (D.data self.old.tables) self.old.editor.content.text self.old.editor.origin }
         ensures ok { OnOk result (self.new ≡ record self.old {
-          editor = after_shortening (D.data self.old.tables) (without_message self.old.editor);
+          editor = after_shortening (D.data self.old.tables) (cleared self.old.editor);
         }) }
         ensures err { OnErr result (self.new ≡ self.old) }
     {
@@ -123,7 +127,7 @@ impl<D: BidiData + Drop> Editor<D> {
     pub(crate) fn find_next(&mut self) -> Result<(), OutOfMemory>
         requires origin { IsTextPlace (D.data self.old.tables) self.old.editor.content.text self.old.editor.origin }
         ensures ok { OnOk result (self.new ≡ record self.old {
-          editor = after_find (D.data self.old.tables) (without_message self.old.editor);
+          editor = after_find (D.data self.old.tables) (cleared self.old.editor);
         }) }
         ensures err { OnErr result (self.new ≡ self.old) }
     {
@@ -133,10 +137,10 @@ impl<D: BidiData + Drop> Editor<D> {
         Ok(())
     }
 
-    /// Goes to the next match, and no search is on. If the query has no letters, begins a search.
+    /// Goes to the next match, and no search is on. If the query has no letters, begins a search. An old selection is taken off.
     pub(crate) fn go_to_next(&mut self) -> Result<(), OutOfMemory>
         ensures ok { OnOk result (self.new ≡ record self.old {
-          editor = after_find_next (D.data self.old.tables) (without_message self.old.editor);
+          editor = after_find_next (D.data self.old.tables) (unselected (cleared self.old.editor));
         }) }
         ensures err { OnErr result (self.new ≡ self.old) }
     {
@@ -147,6 +151,7 @@ impl<D: BidiData + Drop> Editor<D> {
         let next = self.next_or_start()?;
         let landing = forward(&mut self.document, self.query.as_str(), next)?;
         self.settle_at(landing);
+        self.unselect();
         Ok(())
     }
 
@@ -154,7 +159,7 @@ impl<D: BidiData + Drop> Editor<D> {
     pub(crate) fn find_previous(&mut self) -> Result<(), OutOfMemory>
         requires origin { IsTextPlace (D.data self.old.tables) self.old.editor.content.text self.old.editor.origin }
         ensures ok { OnOk result (self.new ≡ record self.old {
-          editor = after_find_back (D.data self.old.tables) (without_message self.old.editor);
+          editor = after_find_back (D.data self.old.tables) (cleared self.old.editor);
         }) }
         ensures err { OnErr result (self.new ≡ self.old) }
     {

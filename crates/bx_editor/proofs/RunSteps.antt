@@ -1,0 +1,37 @@
+-- Where no step is made the text stays; behind a run's steps the past has the length that the run leads to.
+use Rattle.std.proofs.Common.{◌≡◌, ℕ, length, refl, ap}
+use Rattle.std.specs.Prelude.{Option, Some, None, is_some}
+use Rattle.std.specs.Option.{option_map}
+use Rattle.bx_text.specs.declared.change.Change.{Change}
+use Rattle.bx_text.specs.Edits.{Edited}
+use Rattle.bx_text.proofs.UndoneTimes.{nothing_redone, nothing_undone}
+use Rattle.bx_document.specs.History.{next_changes, stepped_times}
+use Rattle.bx_document.specs.declared.history.HistoryStep.{HistoryStep}
+use Rattle.bx_document.specs.declared.history.HistoryStep.TheVariants.{Undo, Redo}
+use Rattle.bx_editor.specs.Editor.{Editor, cleared, nothing_left, with_step}
+use Rattle.bx_editor.specs.Runs.{by_run, is_changed_at, run_length}
+use Rattle.bx_editor.proofs.StoredText.{run-ends}
+
+pub no-step : (step : HistoryStep) (n : ℕ) (t : Edited) → next_changes step n t ≡ None → stepped_times step n t ≡ t
+no-step Undo n t none = nothing_undone n t.text t.past t.future (ap (λ c. is_some c) none)
+no-step Redo n t none = nothing_redone n t.text t.past t.future (ap (λ c. is_some c) none)
+
+pub none-mapped : (change : Option Change) → option_map (λ (c : Change). c.place) change ≡ None → change ≡ None
+none-mapped None is = refl
+none-mapped (Some change) is = absurd (cc is)
+
+pub cleared-length : (step : HistoryStep) (e : Editor) → run_length step (cleared e) ≡ run_length step e
+cleared-length Undo e = refl
+cleared-length Redo e = refl
+
+-- what a run's steps leave, by the length of the past behind them
+abbrev pub by_length : HistoryStep → Editor → Option Change → Editor
+by_length step e None = record e { message = Some (nothing_left step) }
+by_length step e (Some change) =
+    let content = stepped_times step (run_length step e) e.content in
+    with_step e content change.place (is_changed_at (length content.past) e.stored)
+
+pub by-length-is : (step : HistoryStep) (e : Editor) (change : Option Change) → by_length step e change ≡ by_run step e change
+by-length-is step e None = refl
+by-length-is step e (Some change) =
+    ap (λ n. with_step e (stepped_times step (run_length step e) e.content) change.place (is_changed_at n e.stored)) (run-ends step e)

@@ -1,0 +1,78 @@
+use Rattle.std.proofs.Common.{rules, ◌≡◌, ◌≤◌, true, length, chars, string_bytes, IfSome, sym, ap, ap₂, subst, ◌∙◌}
+use Rattle.std.specs.Prelude.{None, Some}
+use Rattle.bx_terms.specs.Sizes.{is_side}
+use Rattle.bx_document.specs.Document.{DocumentState}
+use Rattle.bx_document.specs.History.{next_changes}
+use Rattle.bx_view.specs.Places.{IsTextPlace}
+use Rattle.bx_editor.specs.declared.message.Message.{Message}
+use Rattle.bx_editor.specs.Editor.{Editor, EditorState, cleared}
+use Rattle.bx_editor.specs.Origin.{BeganAt}
+use Rattle.bx_editor.specs.Runs.{by_run, run_length}
+use Rattle.bx_editor.proofs.RunSteps.{by-length-is, cleared-length, no-step, none-mapped}
+use Rattle.bx_editor.proofs.editor.Editor.step_run.Goals as goal
+
+pub invariant_of-self-in_default : goal.invariant_of-self-in_default
+invariant_of-self-in_default g c =
+    let i = c.self.inside in
+    let t : DocumentState g.row.D.Denot = i.document in
+    let n = c.run_length-count.result in
+    let none = none-mapped (next_changes c.args.step n t.document.content) (sym c.in_ok-place.ensures.place ∙ c.in_default.is) in
+    let same : c.step_times.new.self ≡ t =
+    c.in_ok-place.ensures.ok ∙ ap (λ x. record t { document = record t.document { content = x } }) (no-step c.args.step n t.document.content none) in
+    subst (λ (x : DocumentState g.row.D.Denot). IsTextPlace (g.D.BidiData.data x.tables) x.document.content.text i.place
+    × (is_side i.height ≡ true)
+    × IfSome i.mark (IsTextPlace (g.D.BidiData.data x.tables) x.document.content.text)
+    × (length (chars (string_bytes i.query)) ≤ 64)
+    × BeganAt (g.D.BidiData.data x.tables) x.document.content.text i.seek i.origin) (sym same) c.self.invariant
+
+pub returns-in_default-clause-ok : goal.returns-in_default-clause-ok
+returns-in_default-clause-ok g c =
+    let i = c.self.inside in
+    let t : DocumentState g.row.D.Denot = i.document in
+    let now : EditorState g.row.D.Denot = c.args.self.now in
+    let n = c.run_length-count.result in
+    let none = none-mapped (next_changes c.args.step n t.document.content) (sym c.in_ok-place.ensures.place ∙ c.in_default.is) in
+    let same : c.step_times.new.self ≡ t =
+    c.in_ok-place.ensures.ok ∙ ap (λ x. record t { document = record t.document { content = x } }) (no-step c.args.step n t.document.content none) in
+    let left : next_changes c.args.step (run_length c.args.step (cleared now.editor)) now.editor.content ≡ None =
+    ap (λ m. next_changes c.args.step m now.editor.content) (cleared-length c.args.step now.editor) ∙
+    sym (ap₂ (λ m x. next_changes c.args.step m x) c.run_length-count.ensures (ap (λ (s : EditorState g.row.D.Denot). s.editor.content) c.self.view_is))
+    ∙ none in
+    let told : Message → EditorState g.row.D.Denot → EditorState g.row.D.Denot =
+    λ m s. record s { editor = record (cleared s.editor) { message = Some m } } in
+    c.tell.ensures
+    ∙ ap (λ (x : DocumentState g.row.D.Denot). told c.nothing_left.result (record {
+      tables = x.tables;
+      editor = record {
+        content = x.document.content;
+        place = i.place;
+        mark = i.mark;
+        soft = i.soft;
+        held = string_bytes i.held;
+        query = string_bytes i.query;
+        seek = i.seek;
+        origin = i.origin;
+        runs = i.runs.numbers;
+        typing = i.typing;
+        stored = i.stored;
+        changed = i.changed;
+        message = i.message;
+        quit_before = i.quit_before;
+        ended = i.ended;
+        base = x.document.base;
+        goal = i.goal;
+        height = i.height;
+        width = x.document.w;
+      };
+    })) same
+    ∙ ap (told c.nothing_left.result) c.self.view_is
+    ∙ ap (λ m. told m now) c.nothing_left.ensures
+    ∙ ap (λ x. record now { editor = by_run c.args.step (cleared now.editor) x }) (sym left)
+
+pub returns-clause-ok : goal.returns-clause-ok
+returns-clause-ok g c =
+    let now : EditorState g.row.D.Denot = c.args.self.now in
+    let was = cleared now.editor in
+    search rules
+    ∙ ap (λ (e : Editor). (let s : EditorState g.row.D.Denot = record { tables = now.tables; editor = e } in s))
+    (by-length-is c.args.step was (next_changes c.args.step (run_length c.args.step was) was.content))

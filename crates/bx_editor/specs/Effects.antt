@@ -1,0 +1,77 @@
+-- What keys do outside a search, in kinds: each key has one.
+use Rattle.std.specs.Prelude.{ℕ, Bool, Option}
+use Rattle.bx_store.specs.declared.store.StoreFault.{StoreFault}
+use Rattle.bx_ucd.specs.Data.{Data}
+use Rattle.bx_document.specs.declared.history.HistoryStep.{HistoryStep}
+use Rattle.bx_runs.specs.declared.typing.Removal.{Removal}
+use Rattle.bx_runs.specs.declared.typing.Typing.{Typing}
+use Rattle.bx_view.specs.declared.moves.Vertical.{Vertical}
+use Rattle.bx_editor.specs.Editor.{Editor, after_help, after_quit, after_save, after_step, next_base, with_base, with_place, with_typing}
+use Rattle.bx_editor.specs.Erasing.{after_erasing, after_erasing_word}
+use Rattle.bx_editor.specs.Goal.{after_row_move}
+use Rattle.bx_editor.specs.Putting.{after_character, after_new_line, after_put}
+use Rattle.bx_editor.specs.Region.{after_copy, after_cut, after_mark, without_mark}
+use Rattle.bx_editor.specs.Runs.{after_run_step}
+use Rattle.bx_editor.specs.Search.{after_beginning, after_find_next}
+use Rattle.bx_editor.specs.Selecting.{after_select, unselected}
+
+pub data Effect : Type 0 where
+  -- a character is typed; a line is begun; the held text is put in
+  Types : ℕ → Effect
+  BeginsLine : Effect
+  Puts : Effect
+  -- the bytes from one offset to another are removed: by removals that go on with their like, or by themselves
+  Removes : Removal → ℕ → ℕ → Effect
+  RemovesWord : ℕ → ℕ → Effect
+  -- one edit, or a run of edits, is undone or redone
+  Steps : HistoryStep → Effect
+  StepsRun : HistoryStep → Effect
+  -- the cursor goes to a place, or by rows in the kept column
+  Goes : ℕ → Effect
+  GoesByRows : Vertical → ℕ → Effect
+  Marks : Effect
+  Selects : Effect
+  Unmarks : Effect
+  Copies : Effect
+  Cuts : Effect
+  -- a search begins, or the next match is sought
+  Seeks : Effect
+  SeeksNext : Effect
+  Saves : Effect
+  Quits : Effect
+  Turns : Effect
+  Helps : Effect
+  -- nothing; what is typed goes on
+  Rests : Effect
+
+-- what the key before left: whether it was Quit, and what the next edit may go on with
+pub record Before : Type 0 where
+  pub again : Bool
+  pub typing : Typing
+
+abbrev pub before : Editor → Before
+before e = record { again = e.quit_before; typing = e.typing }
+
+-- the effect on an editor whose message is cleared. `fault`: why a Save failed, None if it succeeded
+abbrev pub by : Data → Option StoreFault → Before → Editor → Effect → Editor
+by d fault was e (Types c) = after_character d was.typing e c
+by d fault was e BeginsLine = after_new_line d was.typing e
+by d fault was e Puts = after_put d e
+by d fault was e (Removes how start stop) = after_erasing d was.typing how e start stop
+by d fault was e (RemovesWord start stop) = after_erasing_word d e start stop
+by d fault was e (Steps step) = after_step step e
+by d fault was e (StepsRun step) = after_run_step step e
+by d fault was e (Goes place) = with_place (unselected e) place
+by d fault was e (GoesByRows way n) = after_row_move d (unselected e) way n
+by d fault was e Marks = after_mark e
+by d fault was e Selects = after_select e
+by d fault was e Unmarks = without_mark e
+by d fault was e Copies = after_copy d e
+by d fault was e Cuts = after_cut d e
+by d fault was e Seeks = after_beginning (unselected e)
+by d fault was e SeeksNext = after_find_next d (unselected e)
+by d fault was e Saves = after_save e fault
+by d fault was e Quits = after_quit e was.again
+by d fault was e Turns = with_base e (next_base e.base)
+by d fault was e Helps = after_help e
+by d fault was e Rests = with_typing e was.typing

@@ -1,0 +1,175 @@
+//! The keys that type and put in.
+ghost use Rattle.std.specs.Prelude.{◌≡◌, if◌then◌else◌, IfOk, OnErr, OnOk, encode_utf8};
+ghost use Rattle.bx_text.specs.Edits.{fits};
+ghost use Rattle.bx_editor.specs.Editor.{cleared, with_insertion};
+ghost use Rattle.bx_editor.specs.Putting.{after_character, after_new_line, after_put, has_room, is_paste, only_paste, put_in, typed, with_selection_replaced};
+ghost use Rattle.bx_editor.specs.Region.{region};
+
+use crate::editing::{settle, stored_behind};
+use crate::editor::Editor;
+use crate::message::Message;
+use bx_runs::{Kind, Typing};
+use bx_terms::OutOfMemory;
+use bx_ucd::BidiData;
+use std::mem;
+
+/// Whether a paste is read.
+fn is_paste(typing: Typing) -> bool
+    ensures { result ≡ is_paste typing }
+{
+    matches!(typing, Typing::Paste | Typing::Pasting)
+}
+
+/// What goes on where nothing was put into the text: only a paste.
+pub(crate) fn only_paste(typing: Typing) -> Typing
+    ensures { result ≡ only_paste typing }
+{
+    match typing {
+        Typing::Paste | Typing::Pasting => typing,
+        _ => Typing::Off,
+    }
+}
+
+impl<D: BidiData + Drop> Editor<D> {
+    /// Inserts bytes at the place, as an edit that goes on with the run before or begins one. Returns whether there was room.
+    fn insert_text(&mut self, new: &str, goes_on: bool) -> Result<bool, OutOfMemory>
+        ensures room { IfOk result (λ room. room ≡ fits self.old.editor.content.text self.old.editor.place self.old.editor.place new.now) }
+        ensures ok { IfOk result (λ room. self.new ≡ record self.old {
+          editor = if room then with_insertion (D.data self.old.tables) self.old.editor new.now goes_on else self.old.editor;
+        }) }
+        ensures err { OnErr result (self.new ≡ self.old) }
+    {
+        self.runs.reserve()?;
+        let n = self.document.past_len();
+        let Some(place) = self.document.insert(self.place, new)? else {
+            return Ok(false);
+        };
+        self.runs.edited(n, goes_on);
+        self.stored = stored_behind(n, self.stored);
+        settle(
+            &mut self.place,
+            &mut self.mark,
+            &mut self.soft,
+            &mut self.seek,
+            place,
+        );
+        self.changed = true;
+        Ok(true)
+    }
+
+    /// Puts bytes in place of the region, as two edits of one run. Returns whether there was room.
+    fn replace_region(&mut self, new: &str) -> Result<bool, OutOfMemory>
+        ensures room { IfOk result (λ room. room ≡ fits self.old.editor.content.text (region self.old.editor).0 (region self.old.editor).1 new.now) }
+        ensures ok { IfOk result (λ room. self.new ≡ record self.old {
+          editor = if room then with_selection_replaced (D.data self.old.tables) self.old.editor new.now else self.old.editor;
+        }) }
+        ensures err { OnErr result (self.new ≡ self.old) }
+    {
+        let (start, stop) = self.region();
+        self.runs.reserve()?;
+        let n = self.document.past_len();
+        let Some(place) = self.document.replace(start, stop, new, self.place)? else {
+            return Ok(false);
+        };
+        // The second edit goes on with the first one's run: it changes neither the runs nor what is stored once more.
+        self.runs.edited(n, false);
+        self.stored = stored_behind(n, self.stored);
+        settle(
+            &mut self.place,
+            &mut self.mark,
+            &mut self.soft,
+            &mut self.seek,
+            place,
+        );
+        self.changed = true;
+        Ok(true)
+    }
+
+    /// Puts bytes in, in place of the selection if there is one; without room, sets a message. Returns whether there was room.
+    fn put_in(&mut self, new: &str, goes_on: bool) -> Result<bool, OutOfMemory>
+        ensures room { IfOk result (λ room. room ≡ has_room self.old.editor new.now) }
+        ensures ok { OnOk result (self.new ≡ record self.old {
+          editor = put_in (D.data self.old.tables) (cleared self.old.editor) new.now goes_on;
+        }) }
+        ensures err { OnErr result (self.new ≡ self.old) }
+    {
+        let room = if self.is_selection() {
+            self.replace_region(new)?
+        } else {
+            self.insert_text(new, goes_on)?
+        };
+        self.clear();
+        if !room {
+            self.message = Some(Message::TextFull);
+        }
+        Ok(room)
+    }
+
+    /// Types bytes of a kind.
+    fn type_text(&mut self, new: &str, kind: Kind) -> Result<(), OutOfMemory>
+        ensures ok { OnOk result (self.new ≡ record self.old {
+          editor = typed (D.data self.old.tables) self.old.editor.typing (cleared self.old.editor) new.now kind;
+        }) }
+        ensures err { OnErr result (self.new ≡ self.old) }
+    {
+        let typing = self.typing;
+        let room = self.put_in(new, typing.goes_on(kind))?;
+        self.typing = if room {
+            typing.after_insertion(kind)
+        } else {
+            only_paste(typing)
+        };
+        Ok(())
+    }
+
+    /// Types the line end of the text without the part that gives way.
+    pub(crate) fn new_line(&mut self) -> Result<(), OutOfMemory>
+        ensures ok { OnOk result (self.new ≡ record self.old {
+          editor = after_new_line (D.data self.old.tables) self.old.editor.typing (cleared self.old.editor);
+        }) }
+        ensures err { OnErr result (self.new ≡ self.old) }
+    {
+        let (start, stop) = self.region();
+        let is_crlf = if self.is_selection() {
+            self.document.has_crlf_first_without(start, stop)
+        } else {
+            self.document.has_crlf_first()
+        };
+        self.type_text(if is_crlf { "\r\n" } else { "\n" }, Kind::Separator)
+    }
+
+    /// Types a character; LF in a paste is a new line.
+    pub(crate) fn insert(&mut self, c: char) -> Result<(), OutOfMemory>
+        ensures ok { OnOk result (self.new ≡ record self.old {
+          editor = after_character (D.data self.old.tables) self.old.editor.typing (cleared self.old.editor) c;
+        }) }
+        ensures err { OnErr result (self.new ≡ self.old) }
+    {
+        if c == '\n' && is_paste(self.typing) {
+            return self.new_line();
+        }
+        let kind = Kind::of(self.document.class(c));
+        let mut buffer = [0; 4];
+        let new = c.encode_utf8(&mut buffer);
+        self.type_text(new, kind)
+    }
+
+    /// Puts the held text in; if nothing is held or the text is full, sets a message instead.
+    pub(crate) fn put(&mut self) -> Result<(), OutOfMemory>
+        ensures ok { OnOk result (self.new ≡ record self.old {
+          editor = after_put (D.data self.old.tables) (cleared self.old.editor);
+        }) }
+        ensures err { OnErr result (self.new ≡ self.old) }
+    {
+        if self.held.is_empty() {
+            self.tell(Message::NothingToPut);
+            return Ok(());
+        }
+        let empty = String::new(*self.held.allocator());
+        let held = mem::replace(&mut self.held, empty);
+        let put = self.put_in(held.as_str(), false);
+        self.held = held;
+        put?;
+        Ok(())
+    }
+}

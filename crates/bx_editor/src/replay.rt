@@ -1,0 +1,44 @@
+//! What a replay does in place of keys of a journal that save or quit, and its end.
+ghost use Rattle.std.specs.Prelude.{◌≡◌};
+ghost use Rattle.bx_editor.specs.Replay.{after_passed_quit, after_passed_save, at_replay_end};
+
+use crate::editor::Editor;
+use crate::seek::Seek;
+use crate::selecting::aged;
+use bx_runs::Typing;
+use bx_ucd::BidiData;
+
+impl<D: BidiData + Drop> Editor<D> {
+    /// Passes over a Quit of a journal, outside a search: it ends what any key ends. No memory.
+    pub fn pass_quit(&mut self)
+        ensures { self.new ≡ record self.old { editor = after_passed_quit self.old.editor } }
+    {
+        self.typing = Typing::Off;
+        self.soft = aged(self.soft);
+        self.goal = None;
+    }
+
+    /// Passes over a Save of a journal: it ends a search and what any key ends. No undo counts as leading to the stored text, since
+    /// a journal does not tell whether the save succeeded. No memory.
+    pub fn pass_save(&mut self)
+        ensures { self.new ≡ record self.old { editor = after_passed_save self.old.editor } }
+    {
+        self.pass_quit();
+        self.seek = Seek::Off;
+        self.stored = None;
+    }
+
+    /// Ends a replay: no search is on, the next edit begins a run, and the text is the stored one unless it counts as changed. No
+    /// memory.
+    pub fn end_replay(&mut self)
+        ensures { self.new ≡ record self.old { editor = at_replay_end self.old.editor } }
+    {
+        self.seek = Seek::Off;
+        self.typing = Typing::Off;
+        self.stored = if self.changed {
+            None
+        } else {
+            Some(self.document.past_len())
+        };
+    }
+}
