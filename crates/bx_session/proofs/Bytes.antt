@@ -1,6 +1,6 @@
 -- The session after a byte and after a told size, from the contracts of the calls within.
 use Rattle.std.proofs.Common.{◌≡◌, ℕ, Bool, true, false, List, [], drop, Option, Some, None, Result, Ok, Err, refl, sym, ap, subst, ◌∙◌, if◌then◌else◌}
-use Rattle.std.specs.Prelude.{not, ◌||◌, OnOk, OnErr}
+use Rattle.std.specs.Prelude.{not, ◌||◌, ◌&&◌, is_some, OnOk, OnErr}
 use Rattle.bx_terms.specs.declared.base.Base.{Base}
 use Rattle.bx_grid.specs.Picture.{PictureState, is_size}
 use Rattle.bx_keys.specs.declared.key.Key.{Key}
@@ -70,6 +70,27 @@ asks_where_not_idle false asks e h = refl
 
 pub is_not_idle : (s : Session) (b : ℕ) (asks : Bool) → asks ≡ not (is_idle s b) → asks ≡ true → is_idle s b ≡ false
 is_not_idle s b asks e h = asks_where_not_idle (is_idle s b) asks e h
+
+asks_unless_idle : (idle asks : Bool) → asks ≡ not idle → asks ≡ false → idle ≡ true
+asks_unless_idle true asks e h = refl
+asks_unless_idle false asks e h = absurd (let g = sym e ∙ h in cc g)
+
+where_idle : (owed : Bool) (key : Option Key) (d : Data) (fault : Option StoreFault) (spent painted : Session) (idle : Bool)
+    → (not (is_some key) && not owed) ≡ idle → idle ≡ true → session_after_any d fault spent key ≡ (if idle then spent else painted)
+where_idle owed key d fault spent painted false e h = absurd (cc h)
+where_idle owed None d fault spent painted true e h = refl
+where_idle owed (Some key) d fault spent painted true e h = absurd (cc e)
+
+-- a byte that completes no key is spent alone
+pub idle_is : {D : Type 0} (says : D → Data) (fault : Option StoreFault) (old new : SessionState D) (b : ℕ) (asks : Bool)
+    → asks ≡ not (is_idle old.session b) → asks ≡ false → new ≡ record old { session = unpainted_after_byte (says old.tables) fault old.session b }
+    → new.session ≡ after_byte (says old.tables) fault old.session b
+idle_is {D} says fault old new b asks is unasked e =
+    let s = old.session in
+    ap (λ (x : SessionState D). x.session) e
+    ∙ where_idle s.painting_owed (key_of_byte s b) (says old.tables) fault (after_spending s b)
+    (with_painting (says old.tables) (unpainted_after_byte (says old.tables) fault s b)) (is_idle s b) refl
+    (asks_unless_idle (is_idle s b) asks is unasked)
 
 pub owing_is : {D : Type 0} (says : D → Data) (fault : Option StoreFault) (old mid new : SessionState D) (b : ℕ) (result : Result Status Refused)
     → is_idle old.session b ≡ false → mid ≡ record old { session = unpainted_after_byte (says old.tables) fault old.session b }

@@ -1,6 +1,6 @@
 -- A journal's bytes restore the session.
 use Rattle.std.proofs.Common.{◌≡◌, ◌≢◌, ℕ, Bool, true, false, List, [], ◌∷◌, ◌++◌, Option, Some, None, Result, Err, length}
-use Rattle.std.proofs.Common.{refl, sym, ap, subst, ◌∙◌, ◌⊎◌, inl, inr, not, ◌&&◌, if◌then◌else◌, arith}
+use Rattle.std.proofs.Common.{refl, sym, ap, subst, ◌∙◌, ◌⊎◌, inl, inr, not, if◌then◌else◌, arith}
 use Rattle.std.specs.Prelude.{◌||◌, IfSome, option_map, option_to_list}
 use Rattle.std.specs.Io.KnownBytes.{Appends}
 use Rattle.std.proofs.lemmas.List.{append-nil}
@@ -9,11 +9,14 @@ use Rattle.bx_terms.specs.declared.base.Base.{Base}
 use Rattle.bx_keys.specs.declared.key.Key.{Key}
 use Rattle.bx_keys.specs.declared.key.Key.TheVariants.{Quit}
 use Rattle.bx_keys.specs.Keys.{key_after}
-use Rattle.bx_text.specs.Edits.{Edited, opened}
+use Rattle.bx_text.specs.Edits.{Edit}
 use Rattle.bx_store.specs.declared.store.StoreFault.{StoreFault}
 use Rattle.bx_ucd.specs.Data.{Data}
 use Rattle.bx_editor.specs.declared.message.Message.TheVariants.{Unsaved}
-use Rattle.bx_editor.specs.Editor.{Editor, after_save, without_message}
+use Rattle.bx_editor.specs.Editor.{Editor, after_save, cleared}
+use Rattle.bx_editor.specs.Effects.{before}
+use Rattle.bx_editor.specs.Replay as replay
+use Rattle.bx_editor.specs.Replay.{after_passed_save}
 use Rattle.bx_editor.specs.declared.seek.Seek.{Seek}
 use Rattle.bx_editor.specs.declared.seek.Seek.TheVariants.{Off, Begun, Typed}
 use Rattle.bx_editor.specs.Keys.{after_any, after_key, is_save}
@@ -27,146 +30,153 @@ use Rattle.bx_session.specs.declared.journal.Backlog.TheVariants.{Empty}
 use Rattle.bx_session.specs.Beginning.{Beginning, after_going_to, at_offset, begun, changed_if}
 use Rattle.bx_session.specs.Journal.{HasKept, RecorderState, is_lost, waiting}
 use Rattle.bx_session.specs.Laws.{after_replaying}
-use Rattle.bx_session.specs.Parts.{is_quit}
-use Rattle.bx_session.specs.Recovery.{HasAll, HasBack, HasBackMidway, IsKnown, JournalsGiveBack, RefusesNoKey}
+use Rattle.bx_session.specs.Recovery.{HasAll, HasBack, HasBackMidway, IsKnown, IsSettled, JournalsGiveBack, RefusesNoKey}
 use Rattle.bx_session.specs.Running.{ByteAnswer, FeedsAll, bytes_of}
 use Rattle.bx_session.specs.Saving.{StoreAfter, StoreState, Feeds, is_save_key}
 use Rattle.bx_session.specs.Session.{Session, after_all_replayed, after_replay, after_replayed, at_opening, at_replay_end}
-use Rattle.bx_session.proofs.Recovered.{Follows, Lasting, all_follow, byte_follows, byte_leaves, editor_after, ended_back, follows, has_back}
-use Rattle.bx_session.proofs.Replayed.{Edits, Steps, applies, each-replayed, key_steps, replayed_steps}
+use Rattle.bx_session.proofs.Alike.{Work, work, after_deeds, key_alike}
+use Rattle.bx_session.proofs.Deeds.{Knows, Tells, Traces, deeds_know, deeds_tell, deeds_trace, knows_text, traced_text}
+use Rattle.bx_session.proofs.Lasting.{Lasting, lasting, having, not_saving}
+use Rattle.bx_session.proofs.Recovered.{Follows, all_follow, byte_follows, byte_leaves, editor_after, ended_back, follows, has_back}
+use Rattle.bx_session.proofs.Replayed.{applies, each-replayed, quit_works}
+use Rattle.bx_session.proofs.Versions.{version, version_here}
 
-unlike : (b : Bool) → b ≡ false → b ≡ true → ⊥
-unlike b off on = let both : false ≡ true = sym off ∙ on in cc both
+-- ---- a replay counts as unchanged only with the opened text and no past
 
--- ---- a replay that counts as unchanged
+save_traces : (first : List ℕ) (e : Editor) → Traces first (work e) → Traces first (work (after_passed_save e))
+save_traces first e h = record { chain = h.chain; first_is = h.first_is; stored = inl refl; unchanged = h.unchanged }
 
--- an unchanged editor has the text of the one before, which was unchanged
-settled : (e new : Editor) → Edits e new → new.changed ≡ false → (new.content ≡ e.content) × (e.changed ≡ false)
-settled e new edits is = elim edits [
-  | inl same ↦ (same.0, sym same.1 ∙ is)
-  | inr edited ↦ absurd (unlike new.changed is edited.0)
-]
+key_traces : (d : Data) (first : List ℕ) (e : Editor) (key : Key) → Traces first (work e) → Traces first (work (after_replayed d e.seek e key))
+key_traces d first e key h =
+    each-replayed d e.seek e (λ k new. Traces first (work new)) (save_traces first e h) (subst (Traces first) (sym (quit_works d e.seek e refl)) h)
+    (λ k other. (let alike = key_alike d None e e k other in
+    subst (Traces first) (sym alike.first) (deeds_trace first alike.deeds (work e) h))) key
 
-any_steps : (d : Data) (e : Editor) (key : Option Key) → Steps e (after_all_replayed d e (option_to_list key))
-any_steps d e None = record { goes_on = refl; edits = inl (refl, refl) }
-any_steps d e (Some key) = replayed_steps d e key
+any_traces : (d : Data) (first : List ℕ) (e : Editor) (key : Option Key) → Traces first (work e)
+    → Traces first (work (after_all_replayed d e (option_to_list key)))
+any_traces d first e None h = h
+any_traces d first e (Some key) h = key_traces d first e key h
 
-record Replays (old new : Session) : Type 0 where
+record Replays (first : List ℕ) (new : Session) : Type 0 where
   pub goes_on : new.editor.ended ≡ false
-  pub unchanged : new.editor.changed ≡ false → (new.editor.content ≡ old.editor.content) × (old.editor.changed ≡ false)
+  pub traces : Traces first (work new.editor)
 
-replays : (d : Data) (s : Session) (bs : List ℕ) → s.editor.ended ≡ false → Replays s (after_replaying d s bs)
-replays d s [] h = record { goes_on = h; unchanged = λ is. (refl, is) }
-replays d s (b ∷ bs) h =
-    let each = applies d s b h in
-    let steps = any_steps d s.editor (key_after s.rest b) in
-    let more = replays d (after_replay d s b) bs each.goes_on in
-    record {
-      goes_on = more.goes_on;
-      unchanged = λ is.
-          let rest = more.unchanged is in
-          let first = settled s.editor (after_all_replayed d s.editor (option_to_list (key_after s.rest b))) steps.edits
-          (sym (ap (λ (e : Editor). e.changed) each.editor) ∙ rest.1) in
-          (rest.0 ∙ ap (λ (e : Editor). e.content) each.editor ∙ first.0, first.1);
-    }
+replays : (d : Data) (first : List ℕ) (s : Session) (bs : List ℕ) → Replays first s → Replays first (after_replaying d s bs)
+replays d first s [] h = h
+replays d first s (b ∷ bs) h =
+    let each = applies d s b h.goes_on in
+    replays d first (after_replay d s b) bs (record {
+      goes_on = each.goes_on;
+      traces = subst (λ (e : Editor). Traces first (work e)) (sym each.editor) (any_traces d first s.editor (key_after s.rest b) h.traces);
+    })
 
 replaying_more : (d : Data) (s : Session) (bs more : List ℕ) → after_replaying d s (bs ++ more) ≡ after_replaying d (after_replaying d s bs) more
 replaying_more d s [] more = refl
 replaying_more d s (b ∷ bs) more = replaying_more d (after_replay d s b) bs more
 
--- ---- a key of the session
+-- ---- a Quit in a session
 
--- a Quit leaves the text
-quits : (d : Data) (fault : Option StoreFault) (again : Bool) (seek : Seek) (e : Editor) → Edits e (after_any d fault again seek (without_message e) Quit)
-quits d fault again Off e = by_end (not e.changed || again) where
-  by_end : (ends : Bool) → Edits e (if ends then record (without_message e) { quit_before = true; ended = true } else record (without_message e) { quit_before = true; message = Some Unsaved })
-  by_end true = inl (refl, refl)
-  by_end false = inl (refl, refl)
-quits d fault again Begun e = inl (refl, refl)
-quits d fault again Typed e = inl (refl, refl)
-
-saves : (e : Editor) (fault : Option StoreFault) → ((without_search (after_save (without_message e) fault)).changed ≡ false) ⊎ Edits e (without_search (after_save (without_message e) fault))
-saves e None = inl refl
-saves e (Some fault) = inr (inl (refl, refl))
-
--- a key edits, or leaves the text, or is a Save
-had_steps : (d : Data) (fault : Option StoreFault) (e : Editor) (key : Key) → ((after_key d fault e key).changed ≡ false) ⊎ Edits e (after_key d fault e key)
-had_steps d fault e key =
-    each-replayed d e.seek e (λ k new. ((after_key d fault e k).changed ≡ false) ⊎ Edits e (after_key d fault e k))
-    (subst (λ (x : Editor). (x.changed ≡ false) ⊎ Edits e x) (sym (save-ends d fault e)) (saves e fault))
-    (inr (quits d fault e.quit_before e.seek e)) (λ k other. inr (key_steps d fault e k other).edits) key
-
--- ---- a replay counts as changed where the session does
-
-same_past : (e f e' f' : Editor) → e.content ≡ f.content → e'.content ≡ f'.content → f'.content ≡ f.content
-    → length e'.content.past ≡ length e.content.past
-same_past e f e' f' was is same = ap (λ (t : Edited). length t.past) (is ∙ same ∙ sym was)
-
-tells_more : (e f e' f' : Editor) → (e'.changed ≡ false) ⊎ Edits e e' → Edits f f' → e.content ≡ f.content → e'.content ≡ f'.content
-    → (e.changed ≡ true → f.changed ≡ true) → e'.changed ≡ true → f'.changed ≡ true
-tells_more e f e' f' had edits was is told h = elim had [
-  | inl saved ↦ absurd (unlike e'.changed saved h)
-  | inr stepped ↦ elim edits [
-    | inr edited ↦ edited.0
-    | inl same ↦ elim stepped [
-      | inl kept ↦ same.1 ∙ told (sym kept.1 ∙ h)
-      | inr changed ↦ absurd (changed.1 (same_past e f e' f' was is same.0))
-    ]
-  ]
-]
-
-any_tells : (d : Data) (fault : Option StoreFault) (e f : Editor) (key : Option Key) → e.content ≡ f.content
-    → (editor_after d fault e key).content ≡ (after_all_replayed d f (option_to_list key)).content → (e.changed ≡ true → f.changed ≡ true)
-    → (editor_after d fault e key).changed ≡ true → (after_all_replayed d f (option_to_list key)).changed ≡ true
-any_tells d fault e f None was is told = told
-any_tells d fault e f (Some key) was is told =
-    tells_more e f (after_key d fault e key) (after_replayed d f.seek f key) (had_steps d fault e key) (replayed_steps d f key).edits was is told
+-- it changes at most whether the session has ended
+quit_leaves : (d : Data) (fault : Option StoreFault) (seek : Seek) (e : Editor)
+    → (ended : Bool) × (work (after_any d fault (before e) seek (cleared e) Quit) ≡ record (work e) { ended = ended })
+quit_leaves d fault Off e = by_end (not e.changed || e.quit_before) where
+  by_end : (ends : Bool) → (ended : Bool)
+      × (work (if ends then record (cleared e) { quit_before = true; ended = true } else record (cleared e) { quit_before = true; message = Some Unsaved })
+      ≡ record (work e) { ended = ended })
+  by_end true = (true, refl)
+  by_end false = (e.ended, refl)
+quit_leaves d fault Begun e = (e.ended, refl)
+quit_leaves d fault Typed e = (e.ended, refl)
 
 -- ---- a session that counts as unchanged has a known text
 
-carried : (text : List ℕ) (store : StoreState) (e new : Editor) → Edits e new → IsKnown text store e → IsKnown text store new
-carried text store e new edits known is =
-    let before = settled e new edits is in
-    let same : new.content.text ≡ e.content.text = ap (λ (t : Edited). t.text) before.0 in
-    elim (known before.1) [
-      | inl first ↦ inl (same ∙ first)
-      | inr stored ↦ inr (subst (λ xs. IfSome store.contents (λ bytes. bytes ≡ xs)) (sym same) stored)
-    ]
+-- the opened text, or what a store has
+abbrev IsOf : List ℕ → Option (List ℕ) → List ℕ → Type 0
+IsOf first contents text = (text ≡ first) ⊎ IfSome contents (λ stored. stored ≡ text)
+
+abbrev IsKnownIn : List ℕ → StoreState → List ℕ → Type 0
+IsKnownIn first store text = IsOf first store.contents text
+
+ended_knows : (P : List ℕ → Type 0) (w : Work) (ended : Bool) → Knows P w → Knows P (record w { ended = ended })
+ended_knows P w ended h = record { chain = h.chain; stored = h.stored; unchanged = h.unchanged }
 
 holds_text : (contents : Option (List ℕ)) (text : List ℕ) → IfSome (option_map (λ _. text) contents) (λ bytes. bytes ≡ text)
 holds_text None text = tt
 holds_text (Some bytes) text = refl
 
-after_saving : (fault : Option StoreFault) (text : List ℕ) (store store' : StoreState) (e : Editor) → StoreAfter true fault e.content.text store store'
-    → IsKnown text store e → IsKnown text store' (without_search (after_save (without_message e) fault))
-after_saving None text store store' e stores known is =
-    inr (subst (λ (s : StoreState). IfSome s.contents (λ bytes. bytes ≡ e.content.text)) (sym stores) (holds_text store.contents e.content.text))
-after_saving (Some fault) text store store' e stores known is =
-    subst (λ (contents : Option (List ℕ)). (e.content.text ≡ text) ⊎ IfSome contents (λ bytes. bytes ≡ e.content.text)) (sym stores.0) (known is)
+after_saving : (fault : Option StoreFault) (first : List ℕ) (store store' : StoreState) (e : Editor) → StoreAfter true fault e.content.text store store'
+    → Knows (IsKnownIn first store) (work e) → Knows (IsKnownIn first store') (work (without_search (after_save (cleared e) fault)))
+after_saving None first store store' e stores h = record {
+  chain = h.chain;
+  stored = subst (IsKnownIn first store') (sym (version_here e.content))
+      (inr (subst (λ (s : StoreState). IfSome s.contents (λ bytes. bytes ≡ e.content.text)) (sym stores) (holds_text store.contents e.content.text)));
+  unchanged = λ is. refl;
+}
+after_saving (Some fault) first store store' e stores h =
+    subst (λ (contents : Option (List ℕ)). Knows (IsOf first contents) (work e)) (sym stores.0) h
 
-stays : (save : Bool) (fault : Option StoreFault) (text : List ℕ) (store store' : StoreState) (e new : Editor) (was : List ℕ) → save ≡ false → StoreAfter save fault was store store'
-    → Edits e new → IsKnown text store e → IsKnown text store' new
-stays true fault text store store' e new was other stores edits known = absurd (cc other)
-stays false fault text store store' e new was other stores edits known =
-    subst (λ (s : StoreState). IsKnown text s new) (sym stores) (carried text store e new edits known)
+stays : (save : Bool) (fault : Option StoreFault) (first : List ℕ) (store store' : StoreState) (w : Work) (was : List ℕ) → save ≡ false
+    → StoreAfter save fault was store store' → Knows (IsKnownIn first store) w → Knows (IsKnownIn first store') w
+stays true fault first store store' w was other stores h = absurd (cc other)
+stays false fault first store store' w was other stores h = subst (λ (s : StoreState). Knows (IsKnownIn first s) w) (sym stores) h
 
-not_left : (a b : Bool) → (not a && not b) ≡ true → a ≡ false
-not_left true b h = absurd (cc h)
-not_left false b h = refl
+quit_knows : (d : Data) (fault : Option StoreFault) (P : List ℕ → Type 0) (e : Editor) → Knows P (work e) → Knows P (work (after_key d fault e Quit))
+quit_knows d fault P e h =
+    let leaves = quit_leaves d fault e.seek e in subst (Knows P) (sym leaves.1) (ended_knows P (work e) leaves.0 h)
 
-key_known : (d : Data) (fault : Option StoreFault) (text : List ℕ) (store store' : StoreState) (e : Editor) (key : Key)
-    → StoreAfter (is_save key) fault e.content.text store store' → IsKnown text store e → IsKnown text store' (after_key d fault e key)
-key_known d fault text store store' e key =
-    each-replayed d e.seek e (λ k new. StoreAfter (is_save k) fault e.content.text store store' → IsKnown text store e → IsKnown text store' (after_key d fault e k))
-    (λ stores known. subst (IsKnown text store') (sym (save-ends d fault e)) (after_saving fault text store store' e stores known))
-    (λ stores known. stays false fault text store store' e (after_key d fault e Quit) e.content.text refl stores (quits d fault e.quit_before e.seek e) known)
-    (λ k other stores known. stays (is_save k) fault text store store' e (after_key d fault e k) e.content.text (not_left (is_save k) (is_quit (Some k)) other)
-    stores (key_steps d fault e k other).edits known) key
+key_knows : (d : Data) (fault : Option StoreFault) (first : List ℕ) (store store' : StoreState) (e : Editor) (key : Key)
+    → StoreAfter (is_save key) fault e.content.text store store' → Knows (IsKnownIn first store) (work e)
+    → Knows (IsKnownIn first store') (work (after_key d fault e key))
+key_knows d fault first store store' e key =
+    let P = IsKnownIn first store' in
+    each-replayed d e.seek e (λ k new. StoreAfter (is_save k) fault e.content.text store store' → Knows (IsKnownIn first store) (work e)
+    → Knows P (work (after_key d fault e k)))
+    (λ stores h. subst (Knows P) (sym (ap work (save-ends d fault e))) (after_saving fault first store store' e stores h))
+    (λ stores h. quit_knows d fault P e (stays false fault first store store' (work e) e.content.text refl stores h))
+    (λ k other stores h. (let alike = key_alike d fault e e k other in
+    subst (Knows P) (sym alike.first) (deeds_know P alike.deeds (work e)
+    (stays (is_save k) fault first store store' (work e) e.content.text (not_saving k other) stores h)))) key
 
-any_known : (d : Data) (fault : Option StoreFault) (text : List ℕ) (store store' : StoreState) (e : Editor) (key : Option Key)
-    → StoreAfter (is_save_key key) fault e.content.text store store' → IsKnown text store e → IsKnown text store' (editor_after d fault e key)
-any_known d fault text store store' e None stores known = subst (λ (s : StoreState). IsKnown text s e) (sym stores) known
-any_known d fault text store store' e (Some key) stores known = key_known d fault text store store' e key stores known
+any_knows : (d : Data) (fault : Option StoreFault) (first : List ℕ) (store store' : StoreState) (e : Editor) (key : Option Key)
+    → StoreAfter (is_save_key key) fault e.content.text store store' → Knows (IsKnownIn first store) (work e)
+    → Knows (IsKnownIn first store') (work (editor_after d fault e key))
+any_knows d fault first store store' e None stores h = stays false fault first store store' (work e) e.content.text refl stores h
+any_knows d fault first store store' e (Some key) stores h = key_knows d fault first store store' e key stores h
+
+-- ---- a replay counts as changed where the session does
+
+ended_tells : (w r : Work) (ended : Bool) → Tells w r → Tells (record w { ended = ended }) r
+ended_tells w r ended h = record { content = h.content; runs = h.runs; stored = h.stored; changed = h.changed }
+
+save_tells : (fault : Option StoreFault) (e f : Editor) → Tells (work e) (work f)
+    → Tells (work (without_search (after_save (cleared e) fault))) (work (after_passed_save f))
+save_tells None e f h = record { content = h.content; runs = h.runs; stored = inl refl; changed = λ is. absurd (cc is) }
+save_tells (Some fault) e f h = record { content = h.content; runs = h.runs; stored = inl refl; changed = h.changed }
+
+quit_tells : (d : Data) (fault : Option StoreFault) (e f : Editor) → let g = having (lasting e) f in
+    Tells (work e) (work g) → Tells (work (after_key d fault e Quit)) (work (after_replayed d e.seek g Quit))
+quit_tells d fault e f h =
+    let g = having (lasting e) f in
+    let leaves = quit_leaves d fault e.seek e in
+    subst (λ (w : Work). Tells w (work (after_replayed d e.seek g Quit))) (sym leaves.1)
+    (subst (Tells (record (work e) { ended = leaves.0 })) (sym (quit_works d e.seek g refl)) (ended_tells (work e) (work g) leaves.0 h))
+
+like_tells : (d : Data) (fault : Option StoreFault) (e f : Editor) (key : Key) → let g = having (lasting e) f in
+    Tells (work e) (work g) → Tells (work (after_key d fault e key)) (work (after_replayed d e.seek g key))
+like_tells d fault e f key h =
+    let g = having (lasting e) f in
+    each-replayed d e.seek g (λ k new. Tells (work (after_key d fault e k)) (work new))
+    (subst (λ (w : Work). Tells w (work (after_passed_save g))) (sym (ap work (save-ends d fault e))) (save_tells fault e g h)) (quit_tells d fault e f h)
+    (λ k other. (let alike = key_alike d fault e f k other in
+    subst (λ (w : Work). Tells w (work (after_key d None g k))) (sym alike.first)
+    (subst (Tells (after_deeds alike.deeds (work e))) (sym alike.other) (deeds_tell alike.deeds (work e) (work g) h)))) key
+
+any_tells : (d : Data) (fault : Option StoreFault) (e f : Editor) (key : Option Key) → lasting e ≡ lasting f → Tells (work e) (work f)
+    → Tells (work (editor_after d fault e key)) (work (after_all_replayed d f (option_to_list key)))
+any_tells d fault e f None same h = h
+any_tells d fault e f (Some key) same h =
+    subst (λ (l : Lasting). Tells (work e) (work (having l f)) → Tells (work (after_key d fault e key)) (work (after_replayed d l.seek (having l f) key))) same
+    (like_tells d fault e f key) h
 
 key_here : (ended : Bool) (key : Option Key) → ended ≡ false → (if ended then None else key) ≡ key
 key_here true key h = absurd (cc h)
@@ -174,69 +184,72 @@ key_here false key h = refl
 
 -- ---- all bytes
 
-record Tells (text : List ℕ) (store : StoreState) (s r : Session) : Type 0 where
-  pub changed : s.editor.changed ≡ true → r.editor.changed ≡ true
-  pub known : IsKnown text store s.editor
+record Agrees (first : List ℕ) (store : StoreState) (s r : Session) : Type 0 where
+  pub tells : Tells (work s.editor) (work r.editor)
+  pub knows : Knows (IsKnownIn first store) (work s.editor)
 
-same_content : (s r : Session) → Follows s r → s.editor.content ≡ r.editor.content
-same_content s r h = ap (λ (l : Lasting). l.content) h.lasts
-
-byte_tells : (d : Data) (text : List ℕ) (s r : Session) (store store' : StoreState) (b : ℕ) (a : Result Status Refused) (new : Session) → Follows s r
-    → Tells text store s r → s.editor.ended ≡ false → a ≢ Err refused.Edit → Feeds d s store b a new store' → Tells text store' new (after_replay d r b)
-byte_tells d text s r store store' b a new before told runs some feeds =
+byte_agrees : (d : Data) (first : List ℕ) (s r : Session) (store store' : StoreState) (b : ℕ) (a : Result Status Refused) (new : Session) → Follows s r
+    → Agrees first store s r → s.editor.ended ≡ false → a ≢ Err refused.Edit → Feeds d s store b a new store' → Agrees first store' new (after_replay d r b)
+byte_agrees d first s r store store' b a new before h runs some feeds =
     let key = key_after s.rest b in
     let leaves = byte_leaves d feeds.0 s b a new runs some feeds.2 in
     let each = applies d r b before.goes_on in
     let same : (after_replay d r b).editor ≡ after_all_replayed d r.editor (option_to_list key) =
     each.editor ∙ ap (λ rest. after_all_replayed d r.editor (option_to_list (key_after rest b))) (sym before.rest_is) in
-    let after = byte_follows d s r store store' b a new before runs some feeds in
-    let is : (editor_after d feeds.0 s.editor key).content ≡ (after_all_replayed d r.editor (option_to_list key)).content =
-    ap (λ (e : Editor). e.content) (sym leaves.editor) ∙ same_content new (after_replay d r b) after ∙ ap (λ (e : Editor). e.content) same in
-    record {
-      changed = λ h. ap (λ (e : Editor). e.changed) same
-          ∙ any_tells d feeds.0 s.editor r.editor key (same_content s r before) is told.changed (ap (λ (e : Editor). e.changed) (sym leaves.editor) ∙ h);
-      known = subst (IsKnown text store') (sym leaves.editor)
-          (any_known d feeds.0 text store store' s.editor key
-          (subst (λ k. StoreAfter (is_save_key k) feeds.0 s.editor.content.text store store') (key_here s.editor.ended key runs) feeds.1) told.known);
+    let stores = subst (λ k. StoreAfter (is_save_key k) feeds.0 s.editor.content.text store store') (key_here s.editor.ended key runs) feeds.1 in record {
+      tells = subst (λ (e : Editor). Tells (work new.editor) (work e)) (sym same)
+          (subst (λ (e : Editor). Tells (work e) (work (after_all_replayed d r.editor (option_to_list key)))) (sym leaves.editor)
+          (any_tells d feeds.0 s.editor r.editor key before.lasts h.tells));
+      knows = subst (λ (e : Editor). Knows (IsKnownIn first store') (work e)) (sym leaves.editor)
+          (any_knows d feeds.0 first store store' s.editor key stores h.knows);
     }
 
-all_tell : (d : Data) (text : List ℕ) (s r : Session) (store store' : StoreState) (answered : List ByteAnswer) (new : Session) → Follows s r
-    → Tells text store s r → FeedsAll d s store answered new store' → RefusesNoKey answered → Tells text store' new (after_replaying d r (bytes_of answered))
-all_tell d text s r store store' [] new before told feeds none =
-    subst (λ (x : StoreState). Tells text x new r) (sym feeds.1) (subst (λ (x : Session). Tells text store x r) (sym feeds.0) told)
-all_tell d text s r store store' (a ∷ answered) new before told feeds none =
+all_agree : (d : Data) (first : List ℕ) (s r : Session) (store store' : StoreState) (answered : List ByteAnswer) (new : Session) → Follows s r
+    → Agrees first store s r → FeedsAll d s store answered new store' → RefusesNoKey answered
+    → Agrees first store' new (after_replaying d r (bytes_of answered))
+all_agree d first s r store store' [] new before h feeds none =
+    subst (λ (x : StoreState). Agrees first x new r) (sym feeds.1) (subst (λ (x : Session). Agrees first store x r) (sym feeds.0) h)
+all_agree d first s r store store' (a ∷ answered) new before h feeds none =
     let some = none 0 a (omega arith) in
-    all_tell d text feeds.0 (after_replay d r a.0) feeds.1 store' answered new
+    all_agree d first feeds.0 (after_replay d r a.0) feeds.1 store' answered new
     (byte_follows d s r store feeds.1 a.0 a.1 feeds.0 before feeds.2 some feeds.3)
-    (byte_tells d text s r store feeds.1 a.0 a.1 feeds.0 before told feeds.2 some feeds.3)
+    (byte_agrees d first s r store feeds.1 a.0 a.1 feeds.0 before h feeds.2 some feeds.3)
     feeds.5 (All-tail (λ (x : ByteAnswer). x.1 ≢ Err refused.Edit) a answered none)
 
 -- ---- the start
 
-record Starts (text : List ℕ) (s : Session) : Type 0 where
-  pub running : s.editor.ended ≡ false
-  pub content : s.editor.content ≡ opened text
+starts_at : (d : Data) (text : List ℕ) (height width : ℕ) (base : Base) (offset : Option ℕ) (unsaved : Bool)
+    → Replays text (changed_if unsaved (after_going_to d (at_opening d text height width base) offset))
+starts_at d text height width base None true = record {
+  goes_on = refl;
+  traces = record { chain = record { past = tt; future = tt }; first_is = refl; stored = inl refl; unchanged = λ is. refl };
+}
+starts_at d text height width base None false = record {
+  goes_on = refl;
+  traces = record { chain = record { past = tt; future = tt }; first_is = refl; stored = inr refl; unchanged = λ is. refl };
+}
+starts_at d text height width base (Some offset) true = record {
+  goes_on = refl;
+  traces = record { chain = record { past = tt; future = tt }; first_is = refl; stored = inl refl; unchanged = λ is. refl };
+}
+starts_at d text height width base (Some offset) false = record {
+  goes_on = refl;
+  traces = record { chain = record { past = tt; future = tt }; first_is = refl; stored = inr refl; unchanged = λ is. refl };
+}
 
-went : (d : Data) (text : List ℕ) (height width : ℕ) (base : Base) (offset : Option ℕ)
-    → Starts text (after_going_to d (at_opening d text height width base) offset)
-went d text height width base None = record { running = refl; content = refl }
-went d text height width base (Some offset) = record { running = refl; content = refl }
+starts : (d : Data) (b : Beginning) → Replays b.text (at_offset d b)
+starts d b = starts_at d b.text b.height b.width b.base b.offset b.unsaved
 
-counted : (text : List ℕ) (unsaved : Bool) (s : Session) → Starts text s → Starts text (changed_if unsaved s)
-counted text true s h = record { running = h.running; content = h.content }
-counted text false s h = h
-
-starts : (d : Data) (b : Beginning) → Starts b.text (at_offset d b)
-starts d b = counted b.text b.unsaved _ (went d b.text b.height b.width b.base b.offset)
-
--- where a journal ends outside a search, the painted session agrees with the replayed one
-begins_alike : (d : Data) (b : Beginning) → (after_replaying d (at_offset d b) b.journal).editor.seek ≡ Off
+-- where a journal leaves the editor settled, the painted session agrees with the replayed one
+begins_alike : (d : Data) (b : Beginning) → IsSettled (after_replaying d (at_offset d b) b.journal).editor
     → HasBackMidway (begun d b) (after_replaying d (at_offset d b) b.journal)
-begins_alike d b off = record {
+begins_alike d b settled = record {
   parts = record {
     content = refl;
+    runs = refl;
     place = refl;
     mark = refl;
+    soft = refl;
     held = refl;
     query = refl;
     base = refl;
@@ -244,11 +257,31 @@ begins_alike d b off = record {
     height = refl;
     width = refl;
     rest = refl;
-    goes_on = (replays d (at_offset d b) b.journal (starts d b).running).goes_on;
+    goes_on = (replays d b.text (at_offset d b) b.journal (starts d b)).goes_on;
   };
-  seek = off;
+  seek = settled.seek;
   origin = refl;
+  typing = settled.typing;
 }
+
+begins_telling : (first : List ℕ) (e : Editor) → Traces first (work e) → IsSettled e → Tells (work (replay.at_replay_end e)) (work e)
+begins_telling first e traces settled = record { content = refl; runs = refl; stored = by_change e.changed refl traces.stored; changed = λ h. h } where
+  by_change : (changed : Bool) → e.changed ≡ changed → (e.stored ≡ None) ⊎ (e.stored ≡ Some 0)
+      → (e.stored ≡ None) ⊎ (e.stored ≡ (if changed then None else Some (length e.content.past)))
+  by_change true is stored = inl (settled.stored is)
+  by_change false is (inl none) = inl none
+  by_change false is (inr zero) = inr (zero ∙ ap (λ (past : List Edit). Some (length past)) (sym (traces.unchanged is)))
+
+begins_knowing : (first : List ℕ) (store : StoreState) (e : Editor) → Traces first (work e) → Knows (IsKnownIn first store) (work (replay.at_replay_end e))
+begins_knowing first store e traces = record {
+  chain = traces.chain;
+  stored = by_change e.changed refl;
+  unchanged = λ is. ap (λ changed. if changed then None else Some (length e.content.past)) is;
+} where
+  by_change : (changed : Bool) → e.changed ≡ changed
+      → IfSome (if changed then None else Some (length e.content.past)) (λ k. IsKnownIn first store (version k e.content))
+  by_change true is = tt
+  by_change false is = subst (IsKnownIn first store) (sym (version_here e.content)) (inl (traced_text first (work e) traces is))
 
 -- ---- the journal's bytes
 
@@ -278,8 +311,10 @@ journal_is contents failures old new before bytes all kept had has =
 unsent : (all new replayed : Session) → new ≡ record all { pending = new.pending } → HasBack all replayed → HasBack new replayed
 unsent all new replayed is h = subst (λ (x : Session). HasBack x replayed) (sym is) (record {
   content = h.content;
+  runs = h.runs;
   place = h.place;
   mark = h.mark;
+  soft = h.soft;
   held = h.held;
   query = h.query;
   base = h.base;
@@ -290,8 +325,11 @@ unsent all new replayed is h = subst (λ (x : Session). HasBack x replayed) (sym
   goes_on = h.goes_on;
 })
 
+known_text : (first : List ℕ) (store : StoreState) (e : Editor) → Knows (IsKnownIn first store) (work e) → IsKnown first store e
+known_text first store e h is = knows_text (IsKnownIn first store) (work e) h is
+
 pub journals_give_back : {J : Type 0} (contents : J → Option (List ℕ)) (failures : J → ℕ) → JournalsGiveBack contents failures
-journals_give_back contents failures d b new store store' reader reader' writer writer' journal journal' bytes run had off has none =
+journals_give_back contents failures d b new store store' reader reader' writer writer' journal journal' bytes run had settled has none =
     let opened_at = at_offset d b in
     let replayed = after_replaying d opened_at b.journal in
     let answered = run.0 in
@@ -301,19 +339,19 @@ journals_give_back contents failures d b new store store' reader reader' writer 
     let is : bytes ≡ b.journal ++ bytes_of answered = journal_is contents failures journal journal' b.journal (bytes_of answered) bytes run.5 had has in
     let whole : after_replaying d opened_at bytes ≡ end = ap (after_replaying d opened_at) is ∙ replaying_more d opened_at b.journal (bytes_of answered) in
     let same : new.editor ≡ all.editor = ap (λ (x : Session). x.editor) ran.session in
-    let starts_alike = follows (begun d b) replayed (begins_alike d b off) in
-    let through = replays d opened_at b.journal (starts d b).running in
-    let on = replays d opened_at bytes (starts d b).running in
-    let first : Tells b.text store (begun d b) replayed = record {
-      changed = λ h. h;
-      known = λ h. inl (ap (λ (t : Edited). t.text) ((through.unchanged h).0 ∙ (starts d b).content));
+    let starts_alike = follows (begun d b) replayed (begins_alike d b settled) in
+    let through = replays d b.text opened_at b.journal (starts d b) in
+    let on = replays d b.text opened_at bytes (starts d b) in
+    let first : Agrees b.text store (begun d b) replayed = record {
+      tells = begins_telling b.text replayed.editor through.traces settled;
+      knows = begins_knowing b.text store replayed.editor through.traces;
     } in
-    let told = all_tell d b.text (begun d b) replayed store store' answered all starts_alike first ran.feeds none in
+    let agree = all_agree d b.text (begun d b) replayed store store' answered all starts_alike first ran.feeds none in
     let back = ended_back all end (has_back all end (all_follow d (begun d b) replayed store store' answered all starts_alike ran.feeds none)) in (
       unsent all new (at_replay_end (after_replaying d opened_at bytes)) ran.session (subst (λ (x : Session). HasBack all (at_replay_end x)) (sym whole) back),
       record {
-        changed = λ h. ap (λ (x : Session). x.editor.changed) whole ∙ told.changed (sym (ap (λ (e : Editor). e.changed) same) ∙ h);
-        unchanged = λ h. (on.unchanged h).0 ∙ (starts d b).content;
-        known = subst (IsKnown b.text store') (sym same) told.known;
+        changed = λ h. ap (λ (x : Session). x.editor.changed) whole ∙ agree.tells.changed (sym (ap (λ (e : Editor). e.changed) same) ∙ h);
+        unchanged = λ h. (traced_text b.text (work (after_replaying d opened_at bytes).editor) on.traces h, on.traces.unchanged h);
+        known = subst (IsKnown b.text store') (sym same) (known_text b.text store' all.editor agree.knows);
       },
     )

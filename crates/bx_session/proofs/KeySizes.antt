@@ -1,25 +1,35 @@
 -- A key keeps the window's size, unless it tells one.
 use Rattle.std.proofs.Common.{◌≡◌, ℕ, Bool, true, false, List, [], ◌∷◌, Option, Some, None, refl, sym, subst, ◌∙◌, if◌then◌else◌}
-use Rattle.std.specs.Prelude.{not, ◌||◌, ◌==◌, encode_utf8, length}
-use Rattle.bx_text.specs.Edits.{Edit, fits}
+use Rattle.std.specs.Prelude.{not, ◌||◌, ◌&&◌, ◌==◌, encode_utf8, length}
+use Rattle.bx_text.specs.declared.change.Change.{Change}
+use Rattle.bx_text.specs.Edits.{Edit, splice}
 use Rattle.bx_keys.specs.declared.key.Key.{Key}
-use Rattle.bx_keys.specs.declared.key.Key.TheVariants.{Insert, Erase, Delete, Back, Forward, Up, Down, Right, Left, RowHome, RowEnd, PageUp, PageDown}
-use Rattle.bx_keys.specs.declared.key.Key.TheVariants.{Save, Quit, Undo, Redo, Repaint, Direction, Size, Mark, Copy, Cut, Put}
-use Rattle.bx_keys.specs.declared.key.Key.TheVariants.{Find, FindBack, WordLeft, WordRight, TextStart, TextEnd, Help, Notice}
-use Rattle.bx_keys.specs.declared.key.Key.TheVariants.{EraseWord, DeleteWord, ErasePoint, NewLine, FindNext, Cancel, LineUp, LineDown, PageBack, PageOn}
-use Rattle.bx_view.specs.declared.moves.Logical.TheVariants as logical
-use Rattle.bx_view.specs.Moves.{step_logical}
-use Rattle.bx_view.specs.Words.{step_word}
+use Rattle.bx_keys.specs.declared.key.Key.TheVariants.{Size}
 use Rattle.bx_grid.specs.Picture.{PictureState}
 use Rattle.bx_store.specs.declared.store.StoreFault.{StoreFault}
 use Rattle.bx_ucd.specs.Data.{Data}
-use Rattle.bx_editor.specs.Editor.{Editor, rows, after_insertion, after_removal, after_undo, after_redo, after_save, after_quit, without_message}
+use Rattle.bx_document.specs.History.{next_changes}
+use Rattle.bx_document.specs.declared.history.HistoryStep.{HistoryStep}
+use Rattle.bx_document.specs.declared.history.HistoryStep.TheVariants as history
+use Rattle.bx_runs.specs.declared.typing.Kind.{Kind}
+use Rattle.bx_runs.specs.declared.typing.Kind.TheVariants.{Separator}
+use Rattle.bx_runs.specs.declared.typing.Removal.{Removal}
+use Rattle.bx_runs.specs.declared.typing.Typing.{Typing}
+use Rattle.bx_runs.specs.Typing.{goes_on, kind_of}
 use Rattle.bx_editor.specs.declared.seek.Seek.{Seek}
 use Rattle.bx_editor.specs.declared.seek.Seek.TheVariants.{Off, Begun, Typed}
-use Rattle.bx_editor.specs.Erasing.{line_end, point_before}
-use Rattle.bx_editor.specs.Keys.{after_any, after_key, after_pressing, after_seeking, asks_for_whole}
+use Rattle.bx_editor.specs.declared.soft.Soft.{Soft}
+use Rattle.bx_editor.specs.declared.soft.Soft.TheVariants as softness
+use Rattle.bx_editor.specs.Editor.{Editor, after_quit, after_redo, after_save, after_step, after_undo, cleared}
+use Rattle.bx_editor.specs.Effects.{Effect, Types, BeginsLine, Puts, Removes, RemovesWord, Steps, StepsRun, Goes, GoesByRows, Marks, Selects}
+use Rattle.bx_editor.specs.Effects.{Unmarks, Copies, Cuts, Seeks, SeeksNext, Saves, Quits, Turns, Helps, Rests, Before, before, by}
+use Rattle.bx_editor.specs.Erasing.{after_erasing, after_erasing_word, after_removing, or_selection, removed_on}
+use Rattle.bx_editor.specs.Keys.{Answer, Letter, Shortens, GoesBack, Next, Previous, Stays, Ends, after_any, after_key, answer_of, answered, asks_for_whole, effect_of, is_size_key}
+use Rattle.bx_editor.specs.Putting.{after_character, after_new_line, after_put, has_room, is_paste, line_end, put_in, typed, yielding}
+use Rattle.bx_editor.specs.Region.{after_copy, after_cut, after_mark, is_at_mark, is_empty, line, region, taken}
+use Rattle.bx_editor.specs.Runs.{by_run, run_length}
 use Rattle.bx_editor.specs.Search.{after_letter, is_no_letter, sought}
-use Rattle.bx_editor.specs.Region.{after_copy, after_cut, after_mark, after_put, is_at_mark, is_empty, line, region, taken}
+use Rattle.bx_editor.specs.Selecting.{is_selection, selecting, unselected}
 use Rattle.bx_editor.proofs.InSearch.{each-key}
 use Rattle.bx_session.specs.Painting.{FitsEditor}
 
@@ -30,11 +40,33 @@ size_if : (g : Bool) (e a b : Editor) → SameSize e a → SameSize e b → Same
 size_if true e a b x y = x
 size_if false e a b x y = y
 
-insertion_size : (d : Data) (e : Editor) (new : List ℕ) → SameSize e (after_insertion d e new)
-insertion_size d e new = size_if (fits e.content.text e.place e.place new) e _ _ (refl, refl) (refl, refl)
+-- ---- edits
 
-removal_size : (d : Data) (e : Editor) (start stop : ℕ) → SameSize e (after_removal d e start stop)
-removal_size d e start stop = size_if (start == stop) e _ _ (refl, refl) (refl, refl)
+put_in_size : (d : Data) (e : Editor) (new : List ℕ) (on : Bool) → SameSize e (put_in d e new on)
+put_in_size d e new on = size_if (has_room e new) e _ _ (size_if (is_selection e) e _ _ (refl, refl) (refl, refl)) (refl, refl)
+
+typed_size : (d : Data) (typing : Typing) (e : Editor) (new : List ℕ) (kind : Kind) → SameSize e (typed d typing e new kind)
+typed_size d typing e new kind = put_in_size d e new (goes_on typing kind)
+
+new_line_size : (d : Data) (typing : Typing) (e : Editor) → SameSize e (after_new_line d typing e)
+new_line_size d typing e = let part = yielding e in typed_size d typing e (line_end d (splice e.content.text part.0 part.1 [])) Separator
+
+character_size : (d : Data) (typing : Typing) (e : Editor) (c : ℕ) → SameSize e (after_character d typing e c)
+character_size d typing e c =
+    size_if ((c == 0xA) && is_paste typing) e _ _ (new_line_size d typing e) (typed_size d typing e (encode_utf8 c) (kind_of (d.class c)))
+
+put_size : (d : Data) (e : Editor) → SameSize e (after_put d e)
+put_size d e = size_if (length e.held == 0) e _ _ (refl, refl) (put_in_size d e e.held false)
+
+selection_size : (d : Data) (e other : Editor) → SameSize e other → SameSize e (or_selection d e other)
+selection_size d e other h = size_if (is_selection e) e _ _ (refl, refl) h
+
+erasing_size : (d : Data) (typing : Typing) (how : Removal) (e : Editor) (start stop : ℕ) → SameSize e (after_erasing d typing how e start stop)
+erasing_size d typing how e start stop =
+    selection_size d e (removed_on d typing how e start stop) (size_if (start == stop) e _ _ (refl, refl) (refl, refl))
+
+word_size : (d : Data) (e : Editor) (start stop : ℕ) → SameSize e (after_erasing_word d e start stop)
+word_size d e start stop = selection_size d e (after_removing d e start stop false) (size_if (start == stop) e _ _ (refl, refl) (refl, refl))
 
 undo_size : (e : Editor) (past : List Edit) → SameSize e (after_undo e past)
 undo_size e [] = (refl, refl)
@@ -43,6 +75,22 @@ undo_size e (edit ∷ past) = (refl, refl)
 redo_size : (e : Editor) (future : List Edit) → SameSize e (after_redo e future)
 redo_size e [] = (refl, refl)
 redo_size e (edit ∷ future) = (refl, refl)
+
+step_size : (step : HistoryStep) (e : Editor) → SameSize e (after_step step e)
+step_size history.Undo e = undo_size e e.content.past
+step_size history.Redo e = redo_size e e.content.future
+
+run_size : (step : HistoryStep) (e : Editor) (change : Option Change) → SameSize e (by_run step e change)
+run_size step e None = (refl, refl)
+run_size step e (Some change) = (refl, refl)
+
+-- ---- the other effects
+
+select_size : (e : Editor) (mark : Option ℕ) (soft : Soft) → SameSize e (selecting e mark soft)
+select_size e None soft = (refl, refl)
+select_size e (Some mark) softness.Off = (refl, refl)
+select_size e (Some mark) softness.Fresh = (refl, refl)
+select_size e (Some mark) softness.Old = (refl, refl)
 
 save_size : (e : Editor) (fault : Option StoreFault) → SameSize e (after_save e fault)
 save_size e None = (refl, refl)
@@ -58,111 +106,59 @@ copy_size : (d : Data) (e : Editor) → SameSize e (after_copy d e)
 copy_size d e = size_if (is_empty (region e)) e _ _ (size_if (is_empty (line d e)) e _ _ (refl, refl) (refl, refl)) (refl, refl)
 
 cut_size : (d : Data) (e : Editor) → SameSize e (after_cut d e)
-cut_size d e = size_if (is_empty (taken d e)) e _ _ (copy_size d e) (removal_size d e ((taken d e).0) ((taken d e).1))
+cut_size d e = size_if (is_empty (taken d e)) e _ _ (copy_size d e) (refl, refl)
 
-put_size : (d : Data) (e : Editor) → SameSize e (after_put d e)
-put_size d e = size_if (length e.held == 0) e _ _ (refl, refl) (insertion_size d e e.held)
+-- ---- a key
 
-pressing_size : (d : Data) (fault : Option StoreFault) (again : Bool) (e : Editor) (key : Key) → SameSize e (after_pressing d fault again e key)
-pressing_size d fault again e (Insert ch) = insertion_size d e (encode_utf8 ch)
-pressing_size d fault again e Erase = removal_size d e (step_logical (rows d e) logical.Back e.place) e.place
-pressing_size d fault again e Delete = removal_size d e e.place (step_logical (rows d e) logical.Forward e.place)
-pressing_size d fault again e Back = (refl, refl)
-pressing_size d fault again e Forward = (refl, refl)
-pressing_size d fault again e Up = (refl, refl)
-pressing_size d fault again e Down = (refl, refl)
-pressing_size d fault again e Right = (refl, refl)
-pressing_size d fault again e Left = (refl, refl)
-pressing_size d fault again e RowHome = (refl, refl)
-pressing_size d fault again e RowEnd = (refl, refl)
-pressing_size d fault again e PageUp = (refl, refl)
-pressing_size d fault again e PageDown = (refl, refl)
-pressing_size d fault again e Save = save_size e fault
-pressing_size d fault again e Quit = quit_size e again
-pressing_size d fault again e Undo = undo_size e e.content.past
-pressing_size d fault again e Redo = redo_size e e.content.future
-pressing_size d fault again e Repaint = (refl, refl)
-pressing_size d fault again e Direction = (refl, refl)
-pressing_size d fault again e Mark = mark_size e
-pressing_size d fault again e Copy = copy_size d e
-pressing_size d fault again e Cut = cut_size d e
-pressing_size d fault again e Put = put_size d e
-pressing_size d fault again e Find = (refl, refl)
-pressing_size d fault again e FindBack = (refl, refl)
-pressing_size d fault again e WordLeft = (refl, refl)
-pressing_size d fault again e WordRight = (refl, refl)
-pressing_size d fault again e TextStart = (refl, refl)
-pressing_size d fault again e TextEnd = (refl, refl)
-pressing_size d fault again e Help = (refl, refl)
-pressing_size d fault again e EraseWord = removal_size d e (step_word d e.content.text logical.Back e.place) e.place
-pressing_size d fault again e DeleteWord = removal_size d e e.place (step_word d e.content.text logical.Forward e.place)
-pressing_size d fault again e ErasePoint = removal_size d e (point_before d e) e.place
-pressing_size d fault again e NewLine = insertion_size d e (line_end d e.content.text)
-pressing_size d fault again e FindNext = size_if (length (sought d e) == 0) e _ _ (refl, refl) (refl, refl)
-pressing_size d fault again e Cancel = (refl, refl)
-pressing_size d fault again e LineUp = (refl, refl)
-pressing_size d fault again e LineDown = (refl, refl)
-pressing_size d fault again e PageBack = (refl, refl)
-pressing_size d fault again e PageOn = (refl, refl)
-pressing_size d fault again e (Size height width) = (refl, refl)
-pressing_size d fault again e (Notice notice) = (refl, refl)
+by_size : (d : Data) (fault : Option StoreFault) (was : Before) (e : Editor) (effect : Effect) → SameSize e (by d fault was e effect)
+by_size d fault was e (Types c) = character_size d was.typing e c
+by_size d fault was e BeginsLine = new_line_size d was.typing e
+by_size d fault was e Puts = put_size d e
+by_size d fault was e (Removes how start stop) = erasing_size d was.typing how e start stop
+by_size d fault was e (RemovesWord start stop) = word_size d e start stop
+by_size d fault was e (Steps step) = step_size step e
+by_size d fault was e (StepsRun step) = run_size step e (next_changes step (run_length step e) e.content)
+by_size d fault was e (Goes place) = (refl, refl)
+by_size d fault was e (GoesByRows way n) = (refl, refl)
+by_size d fault was e Marks = mark_size e
+by_size d fault was e Selects = select_size e e.mark e.soft
+by_size d fault was e Unmarks = (refl, refl)
+by_size d fault was e Copies = copy_size d e
+by_size d fault was e Cuts = cut_size d e
+by_size d fault was e Seeks = (refl, refl)
+by_size d fault was e SeeksNext = size_if (length (sought d (unselected e)) == 0) e _ _ (refl, refl) (refl, refl)
+by_size d fault was e Saves = save_size e fault
+by_size d fault was e Quits = quit_size e was.again
+by_size d fault was e Turns = (refl, refl)
+by_size d fault was e Helps = (refl, refl)
+by_size d fault was e Rests = (refl, refl)
 
 letter_size : (d : Data) (e : Editor) (c : ℕ) → SameSize e (after_letter d e c)
 letter_size d e c = size_if (c == 0xA) e _ _ (refl, refl) (size_if (is_no_letter d c) e _ _ (refl, refl) (refl, refl))
 
-seeking_size : (d : Data) (fault : Option StoreFault) (again : Bool) (e : Editor) (key : Key) → SameSize e (after_seeking d fault again e key)
-seeking_size d fault again e (Insert c) = letter_size d e c
-seeking_size d fault again e Erase = (refl, refl)
-seeking_size d fault again e Delete = (refl, refl)
-seeking_size d fault again e Back = pressing_size d fault again e Back
-seeking_size d fault again e Forward = pressing_size d fault again e Forward
-seeking_size d fault again e Up = pressing_size d fault again e Up
-seeking_size d fault again e Down = pressing_size d fault again e Down
-seeking_size d fault again e Right = pressing_size d fault again e Right
-seeking_size d fault again e Left = pressing_size d fault again e Left
-seeking_size d fault again e RowHome = pressing_size d fault again e RowHome
-seeking_size d fault again e RowEnd = pressing_size d fault again e RowEnd
-seeking_size d fault again e PageUp = pressing_size d fault again e PageUp
-seeking_size d fault again e PageDown = pressing_size d fault again e PageDown
-seeking_size d fault again e Save = pressing_size d fault again e Save
-seeking_size d fault again e Quit = (refl, refl)
-seeking_size d fault again e Undo = pressing_size d fault again e Undo
-seeking_size d fault again e Redo = pressing_size d fault again e Redo
-seeking_size d fault again e Repaint = (refl, refl)
-seeking_size d fault again e Direction = pressing_size d fault again e Direction
-seeking_size d fault again e Mark = pressing_size d fault again e Mark
-seeking_size d fault again e Copy = (refl, refl)
-seeking_size d fault again e Cut = pressing_size d fault again e Cut
-seeking_size d fault again e Put = pressing_size d fault again e Put
-seeking_size d fault again e Find = (refl, refl)
-seeking_size d fault again e FindBack = (refl, refl)
-seeking_size d fault again e WordLeft = pressing_size d fault again e WordLeft
-seeking_size d fault again e WordRight = pressing_size d fault again e WordRight
-seeking_size d fault again e TextStart = pressing_size d fault again e TextStart
-seeking_size d fault again e TextEnd = pressing_size d fault again e TextEnd
-seeking_size d fault again e Help = pressing_size d fault again e Help
-seeking_size d fault again e EraseWord = pressing_size d fault again e EraseWord
-seeking_size d fault again e DeleteWord = pressing_size d fault again e DeleteWord
-seeking_size d fault again e ErasePoint = (refl, refl)
-seeking_size d fault again e NewLine = (refl, refl)
-seeking_size d fault again e FindNext = (refl, refl)
-seeking_size d fault again e Cancel = (refl, refl)
-seeking_size d fault again e LineUp = pressing_size d fault again e LineUp
-seeking_size d fault again e LineDown = pressing_size d fault again e LineDown
-seeking_size d fault again e PageBack = pressing_size d fault again e PageBack
-seeking_size d fault again e PageOn = pressing_size d fault again e PageOn
-seeking_size d fault again e (Size height width) = pressing_size d fault again e (Size height width)
-seeking_size d fault again e (Notice notice) = pressing_size d fault again e (Notice notice)
+answered_size : (d : Data) (fault : Option StoreFault) (was : Before) (e : Editor) (key : Key) (answer : Answer)
+    → SameSize e (answered d fault was e key answer)
+answered_size d fault was e key (Letter c) = letter_size d e c
+answered_size d fault was e key Shortens = (refl, refl)
+answered_size d fault was e key GoesBack = (refl, refl)
+answered_size d fault was e key Next = (refl, refl)
+answered_size d fault was e key Previous = (refl, refl)
+answered_size d fault was e key Stays = (refl, refl)
+answered_size d fault was e key Ends = by_size d fault was e (effect_of d e key)
 
-pub any_size : (d : Data) (fault : Option StoreFault) (again : Bool) (seek : Seek) (e : Editor) (key : Key) → SameSize e (after_any d fault again seek e key)
-any_size d fault again Off e key = pressing_size d fault again e key
-any_size d fault again Begun e key = seeking_size d fault again e key
-any_size d fault again Typed e key = seeking_size d fault again e key
+any_size : (d : Data) (fault : Option StoreFault) (was : Before) (seek : Seek) (e : Editor) (key : Key) → SameSize e (after_any d fault was seek e key)
+any_size d fault was Off e key = by_size d fault was e (effect_of d e key)
+any_size d fault was Begun e key = answered_size d fault was e key (answer_of key)
+any_size d fault was Typed e key = answered_size d fault was e key (answer_of key)
 
-key_size : (d : Data) (fault : Option StoreFault) (e : Editor) (key : Key) → asks_for_whole key ≡ false → SameSize e (after_key d fault e key)
-key_size d fault e =
-    each-key d fault e (λ k new. asks_for_whole k ≡ false → SameSize e new) (λ height width told. absurd (cc told)) (λ notice told. (refl, refl))
-    (λ k other told. any_size d fault e.quit_before e.seek (without_message e) k)
+key_size : (d : Data) (fault : Option StoreFault) (e : Editor) (P : Key → Type 0) → ((height width : ℕ) → P (Size height width) → ⊥) → (key : Key) → P key
+    → SameSize e (after_key d fault e key)
+key_size d fault e P none =
+    each-key d fault e (λ k new. P k → SameSize e new) (λ height width told. absurd (none height width told)) (λ notice told. (refl, refl))
+    (λ told. (refl, refl), λ told. (refl, refl)) (λ k other told. any_size d fault (before e) e.seek (cleared e) k)
+
+pub other_size : (d : Data) (fault : Option StoreFault) (e : Editor) (key : Key) → is_size_key key ≡ false → SameSize e (after_key d fault e key)
+other_size d fault e = key_size d fault e (λ key. is_size_key key ≡ false) (λ height width told. cc told)
 
 fits_still : (painted : Option PictureState) (e new : Editor) → SameSize e new → FitsEditor painted e → FitsEditor painted new
 fits_still None e new same was = tt
@@ -172,4 +168,4 @@ fits_still (Some p) e new same was = (was.0 ∙ sym same.0, was.1 ∙ sym same.1
 pub still_fits : (d : Data) (fault : Option StoreFault) (painted : Option PictureState) (e new : Editor) (key : Key) → asks_for_whole key ≡ false
     → new ≡ after_key d fault e key → FitsEditor painted e → FitsEditor painted new
 still_fits d fault painted e new key told is was =
-    fits_still painted e new (subst (SameSize e) (sym is) (key_size d fault e key told)) was
+    fits_still painted e new (subst (SameSize e) (sym is) (key_size d fault e (λ k. asks_for_whole k ≡ false) (λ height width sized. cc sized) key told)) was

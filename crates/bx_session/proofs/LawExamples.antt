@@ -11,7 +11,6 @@ use Rattle.bx_terms.specs.declared.base.Base.TheVariants.{Auto}
 use Rattle.bx_keys.specs.declared.key.Key.TheVariants.{Insert, Up}
 use Rattle.bx_store.specs.Stores.{no_faults}
 use Rattle.bx_text.specs.Edits.{Edited}
-use Rattle.bx_text.specs.Edits.{opened as opened_text}
 use Rattle.bx_editor.specs.Editor.{Editor}
 use Rattle.bx_editor.specs.Laws.{HasRows}
 use Rattle.bx_editor.proofs.Computed.{tables, ascii_columns}
@@ -20,10 +19,10 @@ use Rattle.bx_session.specs.declared.error.Refused.TheVariants.{Edit, Paint}
 use Rattle.bx_session.specs.declared.status.Status.{Status}
 use Rattle.bx_session.specs.declared.journal.Backlog.TheVariants.{Empty, Waiting}
 use Rattle.bx_session.specs.Anew.{AlwaysStaysPainted}
-use Rattle.bx_session.specs.Beginning.{Beginning, begun, unpainted_at}
+use Rattle.bx_session.specs.Beginning.{Beginning, at_offset, begun, unpainted_at}
 use Rattle.bx_session.specs.Journal.{RecorderState, RunsRecorded}
 use Rattle.bx_session.specs.Laws.{AlwaysShowsState, HasKeysOfInput, ReplaysKeys, after_journal, after_replaying, keys_from}
-use Rattle.bx_session.specs.Recovery.{HasAll, HasBack, HasBackMidway, JournalsGiveBack, RefusesNoKey, RecoveryGivesBack}
+use Rattle.bx_session.specs.Recovery.{HasAll, HasBack, HasBackMidway, IsSettled, JournalsGiveBack, RefusesNoKey, RecoveryGivesBack}
 use Rattle.bx_session.specs.Running.{ByteAnswer, FeedsAll, bytes_of}
 use Rattle.bx_session.specs.Saving.{StoreState}
 use Rattle.bx_session.specs.Session.{Session, after_byte, after_sending, owing_after_byte, with_painting}
@@ -150,8 +149,10 @@ a_recovered_session_goes_on law store store' b new feeds none =
     let replayed = after_replaying tables (start (codes "x") 1 5) (0x61 ∷ []) in
     let parts : HasBack (with_painting tables replayed) replayed = record {
       content = refl;
+      runs = refl;
       place = refl;
       mark = refl;
+      soft = refl;
       held = refl;
       query = refl;
       base = refl;
@@ -161,7 +162,7 @@ a_recovered_session_goes_on law store store' b new feeds none =
       rest = refl;
       goes_on = refl;
     } in
-    let same : HasBackMidway (with_painting tables replayed) replayed = record { parts = parts; seek = refl; origin = refl } in
+    let same : HasBackMidway (with_painting tables replayed) replayed = record { parts = parts; seek = refl; origin = refl; typing = refl } in
     ap (λ (t : Edited). t.text)
     (sym (law.keeps_up tables (with_painting tables replayed) replayed store store' ((0x62, b) ∷ []) new same feeds none).parts.content)
 
@@ -174,6 +175,10 @@ over_ab = record { text = codes "ab"; height = 1; width = 5; base = Auto; offset
 abbrev replay_of : List ℕ → Session
 replay_of bytes = unpainted_at tables (record over_ab { journal = bytes })
 
+-- before any key
+settled : IsSettled (after_replaying tables (at_offset tables over_ab) over_ab.journal).editor
+settled = record { seek = refl; typing = refl; stored = λ h. absurd (cc h) }
+
 module _ {J : Type 0} (contents : J → Option (List ℕ)) (failures : J → ℕ) (law : JournalsGiveBack contents failures) (new : Session)
     (store store' : StoreState) (writer writer' : Option (List ℕ)) (journal journal' : RecorderState J) where
   abbrev Ran : Option (List ℕ) → Option (List ℕ) → Type 0
@@ -184,16 +189,20 @@ module _ {J : Type 0} (contents : J → Option (List ℕ)) (failures : J → ℕ
       → HasAll contents journal' (0x78 ∷ 0x13 ∷ 0x79 ∷ []) → RefusesNoKey run.0 → new.editor.content.text ≡ codes "xyab"
   unfolding unicode_segmentation unicode_width digits
   a_killed_session_comes_back reader reader' run had has none =
-      let given = law tables over_ab new store store' reader reader' writer writer' journal journal' (0x78 ∷ 0x13 ∷ 0x79 ∷ []) run had refl has none in
+      let given = law tables over_ab new store store' reader reader' writer writer' journal journal' (0x78 ∷ 0x13 ∷ 0x79 ∷ []) run had settled has none in
       ap (λ (t : Edited). t.text) (sym given.0.content)
 
   -- Forward: no key edited
   pub an_unedited_text_is_the_opened_one : (reader reader' : Option (List ℕ)) (run : Ran reader reader') → HasAll contents journal []
-      → HasAll contents journal' (0x06 ∷ []) → RefusesNoKey run.0 → (new.editor.content ≡ opened_text (codes "ab")) × (new.editor.changed ≢ true)
+      → HasAll contents journal' (0x06 ∷ []) → RefusesNoKey run.0 → (new.editor.content.text ≡ codes "ab") × (new.editor.content.past ≡ []) × (new.editor.changed ≢ true)
   unfolding unicode_segmentation unicode_width digits
   an_unedited_text_is_the_opened_one reader reader' run had has none =
-      let given = law tables over_ab new store store' reader reader' writer writer' journal journal' (0x06 ∷ []) run had refl has none in
-      (sym given.0.content ∙ given.1.unchanged refl, λ h. absurd (let both : false ≡ true = given.1.changed h in cc both))
+      let given = law tables over_ab new store store' reader reader' writer writer' journal journal' (0x06 ∷ []) run had settled has none in
+      let unchanged = given.1.unchanged refl in (
+        ap (λ (t : Edited). t.text) (sym given.0.content) ∙ unchanged.0,
+        ap (λ (t : Edited). t.past) (sym given.0.content) ∙ unchanged.1,
+        λ h. absurd (let both : false ≡ true = given.1.changed h in cc both),
+      )
 
   -- of x, Quit, Quit and z, all read at once, z was dropped
   pub what_follows_the_end_does_not_come_back : (run : Ran (Some (0x78 ∷ 0x11 ∷ 0x11 ∷ 0x7a ∷ [])) (Some [])) → run.1 ≡ 0x7a ∷ [] → (bytes : List ℕ)
@@ -206,7 +215,7 @@ module _ {J : Type 0} (contents : J → Option (List ℕ)) (failures : J → ℕ
       (ap (λ xs. bytes_of run.0 ++ xs) (sym dropped) ∙ sym (append-nil (bytes_of run.0 ++ run.1)) ∙ sym run.4.reads) in
       let is : bytes ≡ 0x78 ∷ 0x11 ∷ 0x11 ∷ [] = journal_is contents failures journal journal' [] (bytes_of run.0) bytes run.5 had has ∙ fed in
       let text : (replay_of bytes).editor.content.text ≡ codes "xab" = ap (λ xs. (replay_of xs).editor.content.text) is in
-      let given = law tables over_ab new store store' (Some (0x78 ∷ 0x11 ∷ 0x11 ∷ 0x7a ∷ [])) (Some []) writer writer' journal journal' bytes run had refl has none in
+      let given = law tables over_ab new store store' (Some (0x78 ∷ 0x11 ∷ 0x11 ∷ 0x7a ∷ [])) (Some []) writer writer' journal journal' bytes run had settled has none in
       (ap (λ (t : Edited). t.text) (sym given.0.content) ∙ text, text)
 
 -- while bytes wait, the law says nothing

@@ -1,3 +1,7 @@
+pub mod Lasting
+pub mod Alike
+pub mod Versions
+pub mod Deeds
 pub mod Applied
 pub mod Bytes
 pub mod Computed
@@ -19,5 +23,6 @@ pub mod QuitParts
 pub mod GivenBack
 pub mod LawExamples
 pub mod ReplayExamples
+pub mod PasteExamples
 mod ClauseExamples
 mod LogExamples

@@ -9,7 +9,7 @@ use Rattle.bx_keys.specs.Keys.{key_after, rest_after}
 use Rattle.bx_keys.specs.Waiting.{head_of}
 use Rattle.bx_store.specs.declared.store.StoreFault.{StoreFault}
 use Rattle.bx_ucd.specs.Data.{Data}
-use Rattle.bx_editor.specs.Editor.{Editor, after_save, without_message}
+use Rattle.bx_editor.specs.Editor.{Editor, after_save, cleared}
 use Rattle.bx_editor.specs.Keys.{after_key}
 use Rattle.bx_editor.specs.Search.{without_search}
 use Rattle.bx_editor.proofs.InSearch.{save-ends}
@@ -26,24 +26,24 @@ use Rattle.bx_session.specs.Session.{Session}
 use Rattle.bx_session.proofs.Logged.{appends_more, did_more}
 use Rattle.bx_session.proofs.Turns.{FeedsAll-append}
 use Rattle.bx_session.proofs.Recovered.{Leaves, byte_leaves, editor_after}
-use Rattle.bx_session.proofs.Replayed.{each-replayed, key_steps}
+use Rattle.bx_session.proofs.Replayed.{each-replayed, other_goes_on}
 
 -- ---- only a Quit ends a session
 
-save_goes_on : (e : Editor) (fault : Option StoreFault) → e.ended ≡ false → (without_search (after_save (without_message e) fault)).ended ≡ false
+save_goes_on : (e : Editor) (fault : Option StoreFault) → e.ended ≡ false → (without_search (after_save (cleared e) fault)).ended ≡ false
 save_goes_on e None h = h
 save_goes_on e (Some fault) h = h
 
 -- any key but Quit
-other_goes_on : (d : Data) (fault : Option StoreFault) (e : Editor) (key : Key) → is_quit (Some key) ≡ false → e.ended ≡ false → (after_key d fault e key).ended ≡ false
-other_goes_on d fault e key =
+key_goes_on : (d : Data) (fault : Option StoreFault) (e : Editor) (key : Key) → is_quit (Some key) ≡ false → e.ended ≡ false → (after_key d fault e key).ended ≡ false
+key_goes_on d fault e key =
     each-replayed d e.seek e (λ k new. is_quit (Some k) ≡ false → e.ended ≡ false → (after_key d fault e k).ended ≡ false)
     (λ other h. ap (λ (x : Editor). x.ended) (save-ends d fault e) ∙ save_goes_on e fault h) (λ other h. absurd (cc other))
-    (λ k other small h. (key_steps d fault e k other).goes_on ∙ h) key
+    (λ k other small h. other_goes_on d fault e k other ∙ h) key
 
 any_goes_on : (d : Data) (fault : Option StoreFault) (e : Editor) (key : Option Key) → is_quit key ≡ false → e.ended ≡ false → (editor_after d fault e key).ended ≡ false
 any_goes_on d fault e None other h = h
-any_goes_on d fault e (Some key) other h = other_goes_on d fault e key other h
+any_goes_on d fault e (Some key) other h = key_goes_on d fault e key other h
 
 -- a session after a byte that completes no Quit
 record GoesOn (rest : List ℕ) (new : Session) : Type 0 where

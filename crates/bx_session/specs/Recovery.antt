@@ -1,9 +1,10 @@
 -- Recovery: the replay of a session's bytes.
-use Rattle.std.specs.Prelude.{◌≡◌, ◌≢◌, ◌⊎◌, ℕ, true, false, List, All, Err, Option, Some, IfSome}
+use Rattle.std.specs.Prelude.{◌≡◌, ◌≢◌, ◌⊎◌, ℕ, true, false, List, [], All, Err, Option, Some, None, IfSome}
 use Rattle.bx_terms.specs.declared.base.Base.{Base}
 use Rattle.bx_keys.specs.Keys.{decoding}
-use Rattle.bx_text.specs.Edits.{opened}
+use Rattle.bx_keys.specs.declared.key.Key.TheVariants.{Save}
 use Rattle.bx_ucd.specs.Data.{Data}
+use Rattle.bx_runs.specs.declared.typing.Typing.TheVariants as typings
 use Rattle.bx_editor.specs.Editor.{Editor, at_start}
 use Rattle.bx_editor.specs.declared.seek.Seek.TheVariants.{Off}
 use Rattle.bx_session.specs.declared.error.Refused.TheVariants as refused
@@ -13,18 +14,20 @@ use Rattle.bx_session.specs.Journal.{RecorderState, RunsRecorded}
 use Rattle.bx_session.specs.Laws.{after_journal, after_replaying}
 use Rattle.bx_session.specs.Running.{ByteAnswer, FeedsAll, bytes_of}
 use Rattle.bx_session.specs.Saving.{StoreState}
-use Rattle.bx_session.specs.Session.{Session, after_all_replayed, at_opening, at_replay_end}
+use Rattle.bx_session.specs.Session.{Session, after_all_replayed, after_replay, at_opening, at_replay_end, key_of_byte}
 
 -- no key was refused because memory ran out
 abbrev pub RefusesNoKey : List ByteAnswer → Type 0
 RefusesNoKey answered = All (λ (a : ByteAnswer). a.1 ≢ Err refused.Edit) answered
 
--- a replayed session has the other's text with its past and future, cursor's place, mark, held bytes, query, direction, kept
--- column, window and unfinished input; and it has not ended
+-- a replayed session has the other's text with its past and future, its runs, cursor's place, mark, softness, held bytes, query,
+-- direction, kept column, window and unfinished input; and it has not ended
 pub record HasBack (had replayed : Session) : Type 0 where
   pub content : replayed.editor.content ≡ had.editor.content
+  pub runs : replayed.editor.runs ≡ had.editor.runs
   pub place : replayed.editor.place ≡ had.editor.place
   pub mark : replayed.editor.mark ≡ had.editor.mark
+  pub soft : replayed.editor.soft ≡ had.editor.soft
   pub held : replayed.editor.held ≡ had.editor.held
   pub query : replayed.editor.query ≡ had.editor.query
   pub base : replayed.editor.base ≡ had.editor.base
@@ -34,11 +37,19 @@ pub record HasBack (had replayed : Session) : Type 0 where
   pub rest : replayed.rest ≡ had.rest
   pub goes_on : replayed.editor.ended ≡ false
 
--- in the middle of a replay, or of a search, also the state of the search
+-- in the middle of a replay also the state of the search, and what the next edit may go on with
 pub record HasBackMidway (had replayed : Session) : Type 0 where
   pub parts : HasBack had replayed
   pub seek : replayed.editor.seek ≡ had.editor.seek
   pub origin : replayed.editor.origin ≡ had.editor.origin
+  pub typing : replayed.editor.typing ≡ had.editor.typing
+
+-- The end of a replay changes at most which text counts as stored, and only where the text counts as unchanged: no search is on,
+-- the next edit begins a run, and no undo leads from a changed text to a stored one.
+pub record IsSettled (e : Editor) : Type 0 where
+  pub seek : e.seek ≡ Off
+  pub typing : e.typing ≡ typings.Off
+  pub stored : e.changed ≡ true → e.stored ≡ None
 
 -- the state after a replay of a session's bytes
 pub record RecoveryGivesBack : Type 0 where
@@ -47,12 +58,15 @@ pub record RecoveryGivesBack : Type 0 where
       (new : Session) → FeedsAll d (at_opening d text height width base) store answered new store' → RefusesNoKey answered
       → HasBack new (after_journal d (at_opening d text height width base) (bytes_of answered))
   -- the same from any start at which the two sessions agree, in a search too: such a start comes after the cursor was sent to
-  -- a line, or after a recovery from a journal that ends outside a search
+  -- a line, or after a recovery from a journal that leaves the editor settled
   pub keeps_up : (d : Data) (old replayed : Session) (store store' : StoreState) (answered : List ByteAnswer) (new : Session)
       → HasBackMidway old replayed → FeedsAll d old store answered new store' → RefusesNoKey answered
       → HasBackMidway new (after_replaying d replayed (bytes_of answered))
   -- the end of the replay ends a search and changes none of these parts
   pub ends : (new replayed : Session) → HasBackMidway new replayed → HasBack new (at_replay_end replayed)
+  -- before any key of a journal the editor is settled, and so it is behind each Save
+  pub settled_first : (d : Data) (b : Beginning) → IsSettled (at_offset d b).editor
+  pub save_settles : (d : Data) (s : Session) (byte : ℕ) → key_of_byte s byte ≡ Some Save → IsSettled (after_replay d s byte).editor
   -- in every case they apply all their keys as a replay does, even those that the session refused
   pub applies_all : (d : Data) (text : List ℕ) (height width : ℕ) (base : Base) (bytes : List ℕ)
       → (after_replaying d (at_opening d text height width base) bytes).editor
@@ -70,19 +84,19 @@ abbrev pub IsKnown : List ℕ → StoreState → Editor → Type 0
 IsKnown text store e = e.changed ≡ false → (e.content.text ≡ text) ⊎ IfSome store.contents (λ stored. stored ≡ e.content.text)
 
 -- Whether a session counts as changed, and its replay over this text: the replay counts as changed wherever the session does. It
--- counts as unchanged only if no key edited, and then has the opened text, with no past and no future.
+-- counts as unchanged only with the opened text and no past: no key edited, or an undo of a run led back.
 pub record TellsChanges (text : List ℕ) (store : StoreState) (had replayed : Session) : Type 0 where
   pub changed : had.editor.changed ≡ true → replayed.editor.changed ≡ true
-  pub unchanged : replayed.editor.changed ≡ false → replayed.editor.content ≡ opened text
+  pub unchanged : replayed.editor.changed ≡ false → (replayed.editor.content.text ≡ text) × (replayed.editor.content.past ≡ [])
   pub known : IsKnown text store had.editor
 
--- A run from this start, whose journal had the bytes that were replayed, and then has `bytes`. If none is missing and no key was
--- refused, their replay over the opened text restores the session, whatever was typed behind its end.
+-- A run from this start, whose journal had the bytes that were replayed and left the editor settled, and then has `bytes`. If none
+-- is missing and no key was refused, their replay over the opened text restores the session, whatever was typed behind its end.
 abbrev pub JournalsGiveBack : {J : Type 0} → (J → Option (List ℕ)) → (J → ℕ) → Type 0
 JournalsGiveBack {J} contents failures =
     (d : Data) (b : Beginning) (new : Session) (store store' : StoreState) (reader reader' writer writer' : Option (List ℕ))
     (journal journal' : RecorderState J) (bytes : List ℕ)
     (run : RunsRecorded contents failures d (begun d b) new store store' reader reader' writer writer' journal journal')
-    → HasAll contents journal b.journal → (after_replaying d (at_offset d b) b.journal).editor.seek ≡ Off → HasAll contents journal' bytes
+    → HasAll contents journal b.journal → IsSettled (after_replaying d (at_offset d b) b.journal).editor → HasAll contents journal' bytes
     → RefusesNoKey run.0
     → HasBack new (unpainted_at d (record b { journal = bytes })) × TellsChanges b.text store' new (unpainted_at d (record b { journal = bytes }))

@@ -9,12 +9,12 @@ use Rattle.bx_paint.specs.Painting.{whole_bytes, changes_bytes}
 use Rattle.bx_store.specs.declared.store.StoreFault.{StoreFault}
 use Rattle.bx_ucd.specs.Data.{Data}
 use Rattle.bx_view.specs.Moves.{place_from}
-use Rattle.bx_editor.specs.Editor.{Editor, at_start, rows, with_place, with_size, without_message}
+use Rattle.bx_editor.specs.Editor.{Editor, at_start, cleared, rows, with_place, with_size}
 use Rattle.bx_editor.specs.declared.seek.Seek.{Seek}
 use Rattle.bx_editor.specs.declared.seek.Seek.TheVariants.{Off}
-use Rattle.bx_editor.specs.Goal.{without_goal}
-use Rattle.bx_editor.specs.Search.{without_search}
 use Rattle.bx_editor.specs.Keys.{after_key, asks_for_whole}
+use Rattle.bx_editor.specs.Replay.{after_passed_quit, after_passed_save}
+use Rattle.bx_editor.specs.Replay as replay
 use Rattle.bx_editor.specs.Picture.{picture, next_top}
 use Rattle.bx_session.specs.declared.status.Status.{Status}
 use Rattle.bx_session.specs.declared.status.Status.TheVariants.{Running, Ended}
@@ -128,10 +128,11 @@ status_of s = if s.editor.ended then Ended else Running
 
 -- ---- a byte of a journal
 
--- the effect of a key in a replay: a Save only ends a search; a Quit gives up a search, and outside one does nothing
+-- The effect of a key in a replay. A Save and a Quit end what any key ends, and a Save a search too; a Quit gives up a search.
+-- Neither stores a text, nor ends the session.
 abbrev pub after_replayed : Data → Seek → Editor → Key → Editor
-after_replayed d seek e Save = without_goal (without_search e)
-after_replayed d Off e Quit = without_goal e
+after_replayed d seek e Save = after_passed_save e
+after_replayed d Off e Quit = after_passed_quit e
 after_replayed d seek e key = after_key d None e key
 
 -- keys in sequence
@@ -141,8 +142,8 @@ after_all_replayed d e (key ∷ keys) = after_all_replayed d (after_replayed d e
 
 -- the session after such a key
 abbrev pub session_after_replayed : Data → Seek → Session → Key → Session
-session_after_replayed d seek s Save = record s { editor = without_goal (without_search s.editor) }
-session_after_replayed d Off s Quit = record s { editor = without_goal s.editor }
+session_after_replayed d seek s Save = record s { editor = after_passed_save s.editor }
+session_after_replayed d Off s Quit = record s { editor = after_passed_quit s.editor }
 session_after_replayed d seek s key = session_after_key d None s key
 
 abbrev pub after_replayed_key : Data → Session → Option Key → Session
@@ -158,9 +159,9 @@ abbrev pub after_replaying : Data → Session → List ℕ → Session
 after_replaying d s [] = s
 after_replaying d s (b ∷ bs) = after_replaying d (after_replay d s b) bs
 
--- the end of a replay: no search is on, the cursor stays, and a painting is owed
+-- the end of a replay, after which a painting is owed
 abbrev pub at_replay_end : Session → Session
-at_replay_end s = with_painting_owed (record s { editor = without_search s.editor })
+at_replay_end s = with_painting_owed (record s { editor = replay.at_replay_end s.editor })
 
 -- the session after a whole journal
 abbrev pub after_journal : Data → Session → List ℕ → Session
@@ -171,11 +172,11 @@ after_journal d s bytes = at_replay_end (after_replaying d s bytes)
 -- the cursor goes to the first place at or after an offset, or to the last place, and a painting is owed
 abbrev pub after_going : Data → Session → ℕ → Session
 after_going d s offset =
-    with_painting_owed (record s { editor = with_place (without_message s.editor) (place_from (rows d s.editor) offset) })
+    with_painting_owed (record s { editor = with_place (cleared s.editor) (place_from (rows d s.editor) offset) })
 
--- the text counts as changed, and a painting is owed
+-- the text counts as changed, no undo leads to a stored one, and a painting is owed
 abbrev pub as_changed : Session → Session
-as_changed s = with_painting_owed (record s { editor = record s.editor { changed = true } })
+as_changed s = with_painting_owed (record s { editor = record s.editor { stored = None; changed = true } })
 
 -- ---- a told size
 

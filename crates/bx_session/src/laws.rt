@@ -22,14 +22,14 @@ pub fn keys_are_those_of_input()
     ensures { HasKeysOfInput }
 {}
 
-/// A replay of bytes applies their keys in order. A Save only ends a search, and a Quit only gives one up.
+/// A replay of bytes applies their keys in order. A Save stores nothing, and a Quit does not end the session.
 pub fn replays_apply_keys()
     ensures { ReplaysKeys }
 {}
 
-/// A session's bytes, replayed over its opened text, restore text, history, place, mark, held bytes, query, direction, window and
-/// unfinished input, wherever it saved and even if it quit. A key that the session refused when memory ran out is applied by
-/// the replay.
+/// A session's bytes, replayed over its opened text, restore text, history, runs, place, mark and its softness, held bytes, query,
+/// direction, window and unfinished input, wherever it saved and even if it quit. A key that the session refused when memory ran
+/// out is applied by the replay.
 pub fn recovery_gives_back()
     ensures { RecoveryGivesBack }
 {}

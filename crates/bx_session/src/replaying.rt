@@ -16,8 +16,8 @@ use bx_store::{Store, StoreFault};
 use bx_ucd::BidiData;
 
 impl<D: BidiData + Drop> Session<D> {
-    /// Applies a key of a journal. A Save only ends a search; a Quit gives up a search, and outside one does nothing more. Like any
-    /// key, each forgets the kept column.
+    /// Applies a key of a journal. A Save and a Quit end what any key ends, and a Save a search too; a Quit gives up a search.
+    /// Neither stores a text, nor ends the session.
     ///
     /// Errors: `Edit` if memory runs out, only for a key that edits, moves, copies or finds; nothing has changed.
     fn press_again(&mut self, key: Key) -> Result<(), Refused>
@@ -31,20 +31,19 @@ impl<D: BidiData + Drop> Session<D> {
     {
         match (key, self.editor.seek()) {
             (Key::Save, _) => {
-                self.editor.leave_search();
-                self.editor.forget_goal();
+                self.editor.pass_save();
                 Ok(())
             }
             (Key::Quit, Seek::Off) => {
-                self.editor.forget_goal();
+                self.editor.pass_quit();
                 Ok(())
             }
             _ => self.press(key, None),
         }
     }
 
-    /// Decodes a byte of a journal and applies the key that it completes, without painting. A Save only ends a search, and a
-    /// Quit only gives one up. Call [`Session::end_replay`] after the last byte.
+    /// Decodes a byte of a journal and applies the key that it completes, without painting. A Save stores nothing, and a Quit
+    /// does not end the session. Call [`Session::end_replay`] after the last byte.
     ///
     /// Errors: `Edit` if memory runs out for the key: its bytes are consumed, and nothing else has changed.
     pub fn replay(&mut self, byte: u8) -> Result<(), Refused>
@@ -60,12 +59,12 @@ impl<D: BidiData + Drop> Session<D> {
         Ok(())
     }
 
-    /// Ends a replay: ends a search, and leaves the cursor where it is. Paints nothing; call [`Session::paint`] afterwards.
-    /// Allocates nothing.
+    /// Ends a replay: no search is on, the next edit begins a run, and the cursor stays. The text is the stored one unless it
+    /// counts as changed. Paints nothing; call [`Session::paint`] afterwards. Allocates nothing.
     pub fn end_replay(&mut self)
         ensures { self.new ≡ record self.old { session = at_replay_end self.old.session } }
     {
-        self.editor.leave_search();
+        self.editor.end_replay();
         self.painting_owed = true;
     }
 

@@ -1,12 +1,9 @@
 -- A session that begins a run is in step with its terminal: the painting that it owed made it so.
 use Rattle.std.proofs.Common.{◌≡◌, ℕ, Bool, true, false, List, [], ◌∷◌, Option, Some, None}
 use Rattle.std.proofs.Common.{refl, sym, ap, subst, ◌∙◌, if◌then◌else◌}
-use Rattle.std.specs.Prelude.{IfSome, ◌==◌}
+use Rattle.std.specs.Prelude.{IfSome, ◌==◌, ◌&&◌}
 use Rattle.bx_keys.specs.declared.key.Key.{Key}
-use Rattle.bx_keys.specs.declared.key.Key.TheVariants.{Insert, Erase, Delete, Back, Forward, Up, Down, Right, Left, RowHome, RowEnd, PageUp, PageDown}
-use Rattle.bx_keys.specs.declared.key.Key.TheVariants.{Save, Quit, Undo, Redo, Repaint, Direction, Size, Mark, Copy, Cut, Put}
-use Rattle.bx_keys.specs.declared.key.Key.TheVariants.{Find, FindBack, WordLeft, WordRight, TextStart, TextEnd, Help, Notice}
-use Rattle.bx_keys.specs.declared.key.Key.TheVariants.{EraseWord, DeleteWord, ErasePoint, NewLine, FindNext, Cancel, LineUp, LineDown, PageBack, PageOn}
+use Rattle.bx_keys.specs.declared.key.Key.TheVariants.{Quit}
 use Rattle.bx_keys.specs.Keys.{rest_after}
 use Rattle.bx_keys.specs.Waiting.{head_of}
 use Rattle.bx_grid.specs.Picture.{PictureState, IsIdle, Shows}
@@ -15,15 +12,15 @@ use Rattle.bx_ucd.specs.Data.{Data}
 use Rattle.bx_editor.specs.Editor.{Editor}
 use Rattle.bx_editor.specs.declared.seek.Seek.{Seek}
 use Rattle.bx_editor.specs.declared.seek.Seek.TheVariants.{Off, Begun, Typed}
-use Rattle.bx_editor.specs.Goal.{without_goal}
-use Rattle.bx_editor.specs.Search.{without_search}
+use Rattle.bx_editor.specs.Replay.{after_passed_quit, after_passed_save}
+use Rattle.bx_editor.specs.Replay as replay
 use Rattle.bx_session.specs.Session.{Session, after_all_replayed, at_opening, at_replay_end, after_replay, after_replayed_key, after_spending, key_of_byte, session_after_key, session_after_replayed}
 use Rattle.bx_session.specs.Painting.{QueuesPicture}
 use Rattle.bx_session.specs.Laws.{keys_from, after_journal, after_replaying}
 use Rattle.bx_session.specs.Beginning.{Beginning, IsBegun, after_going_to, changed_if, at_offset, unpainted_at, begun}
 use Rattle.bx_session.proofs.Input.{keys_of_input}
 use Rattle.bx_session.proofs.Pictures.{picture_height, picture_width}
-use Rattle.bx_session.proofs.Replayed.{replays_keys, rest_from, replayed_rest}
+use Rattle.bx_session.proofs.Replayed.{each-session, replays_keys, rest_from, replayed_rest}
 use Rattle.bx_world.specs.Showing.{FitsWindow, IsInStep, picture_of}
 use Rattle.bx_world.specs.Runs.{begins_at}
 use Rattle.bx_world.specs.Laws.{BeginsWithKeys}
@@ -91,57 +88,23 @@ key_stays d t s key = record {
       (key_fits d None t.height t.width (fits t.height t.width s.editor) s.editor key refl ∙ on);
 }
 
-save_stays : (t : Terminal) (s : Session) → StaysKnown t s (record s { editor = without_goal (without_search s.editor) })
-save_stays t s = record { pending = refl; known = known_at (fits t.height t.width s.editor) s.known }
+-- a key that is passed over
+passed_stays : (t : Terminal) (s : Session) (e : Editor) → e.height ≡ s.editor.height → e.width ≡ s.editor.width → StaysKnown t s (record s { editor = e })
+passed_stays t s e height width = record {
+  pending = refl;
+  known = λ on. known_at (fits t.height t.width s.editor) s.known
+      (ap (λ h. (t.height == h) && (t.width == s.editor.width)) (sym height) ∙ ap (λ w. (t.height == e.height) && (t.width == w)) (sym width) ∙ on);
+}
 
-quit_stays : (t : Terminal) (s : Session) → StaysKnown t s (record s { editor = without_goal s.editor })
-quit_stays t s = record { pending = refl; known = known_at (fits t.height t.width s.editor) s.known }
+quit_stays : (d : Data) (t : Terminal) (seek : Seek) (s : Session) → StaysKnown t s (session_after_replayed d seek s Quit)
+quit_stays d t Off s = passed_stays t s (after_passed_quit s.editor) refl refl
+quit_stays d t Begun s = key_stays d t s Quit
+quit_stays d t Typed s = key_stays d t s Quit
 
 replayed_stays : (d : Data) (t : Terminal) (seek : Seek) (s : Session) (key : Key) → StaysKnown t s (session_after_replayed d seek s key)
-replayed_stays d t seek s (Insert c) = key_stays d t s (Insert c)
-replayed_stays d t seek s Erase = key_stays d t s Erase
-replayed_stays d t seek s Delete = key_stays d t s Delete
-replayed_stays d t seek s Back = key_stays d t s Back
-replayed_stays d t seek s Forward = key_stays d t s Forward
-replayed_stays d t seek s Up = key_stays d t s Up
-replayed_stays d t seek s Down = key_stays d t s Down
-replayed_stays d t seek s Right = key_stays d t s Right
-replayed_stays d t seek s Left = key_stays d t s Left
-replayed_stays d t seek s RowHome = key_stays d t s RowHome
-replayed_stays d t seek s RowEnd = key_stays d t s RowEnd
-replayed_stays d t seek s PageUp = key_stays d t s PageUp
-replayed_stays d t seek s PageDown = key_stays d t s PageDown
-replayed_stays d t seek s Save = save_stays t s
-replayed_stays d t Off s Quit = quit_stays t s
-replayed_stays d t Begun s Quit = key_stays d t s Quit
-replayed_stays d t Typed s Quit = key_stays d t s Quit
-replayed_stays d t seek s Undo = key_stays d t s Undo
-replayed_stays d t seek s Redo = key_stays d t s Redo
-replayed_stays d t seek s Repaint = key_stays d t s Repaint
-replayed_stays d t seek s Direction = key_stays d t s Direction
-replayed_stays d t seek s Mark = key_stays d t s Mark
-replayed_stays d t seek s Copy = key_stays d t s Copy
-replayed_stays d t seek s Cut = key_stays d t s Cut
-replayed_stays d t seek s Put = key_stays d t s Put
-replayed_stays d t seek s Find = key_stays d t s Find
-replayed_stays d t seek s FindBack = key_stays d t s FindBack
-replayed_stays d t seek s WordLeft = key_stays d t s WordLeft
-replayed_stays d t seek s WordRight = key_stays d t s WordRight
-replayed_stays d t seek s TextStart = key_stays d t s TextStart
-replayed_stays d t seek s TextEnd = key_stays d t s TextEnd
-replayed_stays d t seek s Help = key_stays d t s Help
-replayed_stays d t seek s EraseWord = key_stays d t s EraseWord
-replayed_stays d t seek s DeleteWord = key_stays d t s DeleteWord
-replayed_stays d t seek s ErasePoint = key_stays d t s ErasePoint
-replayed_stays d t seek s NewLine = key_stays d t s NewLine
-replayed_stays d t seek s FindNext = key_stays d t s FindNext
-replayed_stays d t seek s Cancel = key_stays d t s Cancel
-replayed_stays d t seek s LineUp = key_stays d t s LineUp
-replayed_stays d t seek s LineDown = key_stays d t s LineDown
-replayed_stays d t seek s PageBack = key_stays d t s PageBack
-replayed_stays d t seek s PageOn = key_stays d t s PageOn
-replayed_stays d t seek s (Size height width) = key_stays d t s (Size height width)
-replayed_stays d t seek s (Notice notice) = key_stays d t s (Notice notice)
+replayed_stays d t seek s =
+    each-session d seek s (λ key new. StaysKnown t s new) (passed_stays t s (after_passed_save s.editor) refl refl) (quit_stays d t seek s)
+    (λ key other. key_stays d t s key)
 
 any_stays : (d : Data) (t : Terminal) (s : Session) (key : Option Key) → StaysKnown t s (after_replayed_key d s key)
 any_stays d t s None = stays_at t s
@@ -224,6 +187,6 @@ begun_rest d b =
 
 pub begins_with_keys : BeginsWithKeys
 begins_with_keys d b =
-    ap without_search
+    ap replay.at_replay_end
     (replays_keys d (at_offset d b) b.journal (offset_goes_on d b)
     ∙ ap (after_all_replayed d (at_offset d b).editor) (ap (λ rest. keys_from rest b.journal) (offset_rest d b) ∙ keys_of_input b.journal))

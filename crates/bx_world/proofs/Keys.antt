@@ -7,15 +7,16 @@ use Rattle.bx_keys.specs.declared.key.Key.TheVariants.{Insert, Erase, Delete, Ba
 use Rattle.bx_keys.specs.declared.key.Key.TheVariants.{Save, Quit, Undo, Redo, Repaint, Direction, Size, Mark, Copy, Cut, Put}
 use Rattle.bx_keys.specs.declared.key.Key.TheVariants.{Find, FindBack, WordLeft, WordRight, TextStart, TextEnd, Help, Notice}
 use Rattle.bx_keys.specs.declared.key.Key.TheVariants.{EraseWord, DeleteWord, ErasePoint, NewLine, FindNext, Cancel, LineUp, LineDown, PageBack, PageOn}
+use Rattle.bx_keys.specs.declared.key.Key.TheVariants.{Select, UndoRun, RedoRun, PasteStart, PasteEnd}
 use Rattle.bx_keys.specs.Keys.{rest_after}
 use Rattle.bx_keys.specs.Waiting.{head_of}
 use Rattle.bx_grid.specs.Picture.{PictureState}
 use Rattle.bx_store.specs.declared.store.StoreFault.{StoreFault}
 use Rattle.bx_ucd.specs.Data.{Data}
-use Rattle.bx_editor.specs.Editor.{Editor, without_message}
+use Rattle.bx_editor.specs.Editor.{Editor}
 use Rattle.bx_editor.specs.Keys.{after_key, asks_for_whole}
 use Rattle.bx_session.specs.Session.{Session, session_after_key, session_after_any, after_spending, key_of_byte, unpainted_after_byte}
-use Rattle.bx_session.proofs.KeySizes.{SameSize, any_size}
+use Rattle.bx_session.proofs.KeySizes.{SameSize, other_size}
 use Rattle.bx_world.specs.World.{World, told_after, told_after_key, is_window}
 use Rattle.bx_world.specs.Showing.{FitsWindow}
 
@@ -29,46 +30,51 @@ abbrev pub IsTelling : Key → Type 0
 IsTelling key = (height : ℕ) × (width : ℕ) × (key ≡ Size height width)
 
 pub kind_of_key : (d : Data) (fault : Option StoreFault) (e : Editor) (key : Key) → IsOther d fault e key ⊎ IsTelling key
-kind_of_key d fault e (Insert ch) = inl (any_size d fault e.quit_before e.seek (without_message e) (Insert ch), λ h w t. refl)
-kind_of_key d fault e Erase = inl (any_size d fault e.quit_before e.seek (without_message e) Erase, λ h w t. refl)
-kind_of_key d fault e Delete = inl (any_size d fault e.quit_before e.seek (without_message e) Delete, λ h w t. refl)
-kind_of_key d fault e Back = inl (any_size d fault e.quit_before e.seek (without_message e) Back, λ h w t. refl)
-kind_of_key d fault e Forward = inl (any_size d fault e.quit_before e.seek (without_message e) Forward, λ h w t. refl)
-kind_of_key d fault e Up = inl (any_size d fault e.quit_before e.seek (without_message e) Up, λ h w t. refl)
-kind_of_key d fault e Down = inl (any_size d fault e.quit_before e.seek (without_message e) Down, λ h w t. refl)
-kind_of_key d fault e Right = inl (any_size d fault e.quit_before e.seek (without_message e) Right, λ h w t. refl)
-kind_of_key d fault e Left = inl (any_size d fault e.quit_before e.seek (without_message e) Left, λ h w t. refl)
-kind_of_key d fault e RowHome = inl (any_size d fault e.quit_before e.seek (without_message e) RowHome, λ h w t. refl)
-kind_of_key d fault e RowEnd = inl (any_size d fault e.quit_before e.seek (without_message e) RowEnd, λ h w t. refl)
-kind_of_key d fault e PageUp = inl (any_size d fault e.quit_before e.seek (without_message e) PageUp, λ h w t. refl)
-kind_of_key d fault e PageDown = inl (any_size d fault e.quit_before e.seek (without_message e) PageDown, λ h w t. refl)
-kind_of_key d fault e Save = inl (any_size d fault e.quit_before e.seek (without_message e) Save, λ h w t. refl)
-kind_of_key d fault e Quit = inl (any_size d fault e.quit_before e.seek (without_message e) Quit, λ h w t. refl)
-kind_of_key d fault e Undo = inl (any_size d fault e.quit_before e.seek (without_message e) Undo, λ h w t. refl)
-kind_of_key d fault e Redo = inl (any_size d fault e.quit_before e.seek (without_message e) Redo, λ h w t. refl)
-kind_of_key d fault e Repaint = inl (any_size d fault e.quit_before e.seek (without_message e) Repaint, λ h w t. refl)
-kind_of_key d fault e Direction = inl (any_size d fault e.quit_before e.seek (without_message e) Direction, λ h w t. refl)
-kind_of_key d fault e Mark = inl (any_size d fault e.quit_before e.seek (without_message e) Mark, λ h w t. refl)
-kind_of_key d fault e Copy = inl (any_size d fault e.quit_before e.seek (without_message e) Copy, λ h w t. refl)
-kind_of_key d fault e Cut = inl (any_size d fault e.quit_before e.seek (without_message e) Cut, λ h w t. refl)
-kind_of_key d fault e Put = inl (any_size d fault e.quit_before e.seek (without_message e) Put, λ h w t. refl)
-kind_of_key d fault e Find = inl (any_size d fault e.quit_before e.seek (without_message e) Find, λ h w t. refl)
-kind_of_key d fault e FindBack = inl (any_size d fault e.quit_before e.seek (without_message e) FindBack, λ h w t. refl)
-kind_of_key d fault e WordLeft = inl (any_size d fault e.quit_before e.seek (without_message e) WordLeft, λ h w t. refl)
-kind_of_key d fault e WordRight = inl (any_size d fault e.quit_before e.seek (without_message e) WordRight, λ h w t. refl)
-kind_of_key d fault e TextStart = inl (any_size d fault e.quit_before e.seek (without_message e) TextStart, λ h w t. refl)
-kind_of_key d fault e TextEnd = inl (any_size d fault e.quit_before e.seek (without_message e) TextEnd, λ h w t. refl)
-kind_of_key d fault e Help = inl (any_size d fault e.quit_before e.seek (without_message e) Help, λ h w t. refl)
-kind_of_key d fault e EraseWord = inl (any_size d fault e.quit_before e.seek (without_message e) EraseWord, λ h w t. refl)
-kind_of_key d fault e DeleteWord = inl (any_size d fault e.quit_before e.seek (without_message e) DeleteWord, λ h w t. refl)
-kind_of_key d fault e ErasePoint = inl (any_size d fault e.quit_before e.seek (without_message e) ErasePoint, λ h w t. refl)
-kind_of_key d fault e NewLine = inl (any_size d fault e.quit_before e.seek (without_message e) NewLine, λ h w t. refl)
-kind_of_key d fault e FindNext = inl (any_size d fault e.quit_before e.seek (without_message e) FindNext, λ h w t. refl)
-kind_of_key d fault e Cancel = inl (any_size d fault e.quit_before e.seek (without_message e) Cancel, λ h w t. refl)
-kind_of_key d fault e LineUp = inl (any_size d fault e.quit_before e.seek (without_message e) LineUp, λ h w t. refl)
-kind_of_key d fault e LineDown = inl (any_size d fault e.quit_before e.seek (without_message e) LineDown, λ h w t. refl)
-kind_of_key d fault e PageBack = inl (any_size d fault e.quit_before e.seek (without_message e) PageBack, λ h w t. refl)
-kind_of_key d fault e PageOn = inl (any_size d fault e.quit_before e.seek (without_message e) PageOn, λ h w t. refl)
+kind_of_key d fault e (Insert ch) = inl (other_size d fault e (Insert ch) refl, λ h w t. refl)
+kind_of_key d fault e Erase = inl (other_size d fault e Erase refl, λ h w t. refl)
+kind_of_key d fault e Delete = inl (other_size d fault e Delete refl, λ h w t. refl)
+kind_of_key d fault e Back = inl (other_size d fault e Back refl, λ h w t. refl)
+kind_of_key d fault e Forward = inl (other_size d fault e Forward refl, λ h w t. refl)
+kind_of_key d fault e Up = inl (other_size d fault e Up refl, λ h w t. refl)
+kind_of_key d fault e Down = inl (other_size d fault e Down refl, λ h w t. refl)
+kind_of_key d fault e Right = inl (other_size d fault e Right refl, λ h w t. refl)
+kind_of_key d fault e Left = inl (other_size d fault e Left refl, λ h w t. refl)
+kind_of_key d fault e RowHome = inl (other_size d fault e RowHome refl, λ h w t. refl)
+kind_of_key d fault e RowEnd = inl (other_size d fault e RowEnd refl, λ h w t. refl)
+kind_of_key d fault e PageUp = inl (other_size d fault e PageUp refl, λ h w t. refl)
+kind_of_key d fault e PageDown = inl (other_size d fault e PageDown refl, λ h w t. refl)
+kind_of_key d fault e Save = inl (other_size d fault e Save refl, λ h w t. refl)
+kind_of_key d fault e Quit = inl (other_size d fault e Quit refl, λ h w t. refl)
+kind_of_key d fault e Undo = inl (other_size d fault e Undo refl, λ h w t. refl)
+kind_of_key d fault e Redo = inl (other_size d fault e Redo refl, λ h w t. refl)
+kind_of_key d fault e Repaint = inl (other_size d fault e Repaint refl, λ h w t. refl)
+kind_of_key d fault e Direction = inl (other_size d fault e Direction refl, λ h w t. refl)
+kind_of_key d fault e Mark = inl (other_size d fault e Mark refl, λ h w t. refl)
+kind_of_key d fault e Copy = inl (other_size d fault e Copy refl, λ h w t. refl)
+kind_of_key d fault e Cut = inl (other_size d fault e Cut refl, λ h w t. refl)
+kind_of_key d fault e Put = inl (other_size d fault e Put refl, λ h w t. refl)
+kind_of_key d fault e Find = inl (other_size d fault e Find refl, λ h w t. refl)
+kind_of_key d fault e FindBack = inl (other_size d fault e FindBack refl, λ h w t. refl)
+kind_of_key d fault e WordLeft = inl (other_size d fault e WordLeft refl, λ h w t. refl)
+kind_of_key d fault e WordRight = inl (other_size d fault e WordRight refl, λ h w t. refl)
+kind_of_key d fault e TextStart = inl (other_size d fault e TextStart refl, λ h w t. refl)
+kind_of_key d fault e TextEnd = inl (other_size d fault e TextEnd refl, λ h w t. refl)
+kind_of_key d fault e Help = inl (other_size d fault e Help refl, λ h w t. refl)
+kind_of_key d fault e EraseWord = inl (other_size d fault e EraseWord refl, λ h w t. refl)
+kind_of_key d fault e DeleteWord = inl (other_size d fault e DeleteWord refl, λ h w t. refl)
+kind_of_key d fault e ErasePoint = inl (other_size d fault e ErasePoint refl, λ h w t. refl)
+kind_of_key d fault e NewLine = inl (other_size d fault e NewLine refl, λ h w t. refl)
+kind_of_key d fault e FindNext = inl (other_size d fault e FindNext refl, λ h w t. refl)
+kind_of_key d fault e Cancel = inl (other_size d fault e Cancel refl, λ h w t. refl)
+kind_of_key d fault e LineUp = inl (other_size d fault e LineUp refl, λ h w t. refl)
+kind_of_key d fault e LineDown = inl (other_size d fault e LineDown refl, λ h w t. refl)
+kind_of_key d fault e PageBack = inl (other_size d fault e PageBack refl, λ h w t. refl)
+kind_of_key d fault e PageOn = inl (other_size d fault e PageOn refl, λ h w t. refl)
+kind_of_key d fault e Select = inl (other_size d fault e Select refl, λ h w t. refl)
+kind_of_key d fault e UndoRun = inl (other_size d fault e UndoRun refl, λ h w t. refl)
+kind_of_key d fault e RedoRun = inl (other_size d fault e RedoRun refl, λ h w t. refl)
+kind_of_key d fault e PasteStart = inl (other_size d fault e PasteStart refl, λ h w t. refl)
+kind_of_key d fault e PasteEnd = inl (other_size d fault e PasteEnd refl, λ h w t. refl)
 kind_of_key d fault e (Size height width) = inr (height, width, refl)
 kind_of_key d fault e (Notice notice) = inl ((refl, refl), λ h w t. refl)
 

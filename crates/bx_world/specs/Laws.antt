@@ -4,7 +4,7 @@ use Rattle.bx_keys.specs.Keys.{decoding}
 use Rattle.bx_grid.specs.Picture.{IsIdle, Shows}
 use Rattle.bx_grid.specs.Terminal.{Terminal, reads}
 use Rattle.bx_ucd.specs.Data.{Data}
-use Rattle.bx_editor.specs.Search.{without_search}
+use Rattle.bx_editor.specs.Replay.{at_replay_end}
 use Rattle.bx_editor.specs.Picture.{picture}
 use Rattle.bx_session.specs.Session.{Session, after_all_replayed}
 use Rattle.bx_session.specs.Saving.{StoreState}
@@ -44,10 +44,10 @@ RunsArePlays =
 
 -- ---- a run from its start
 
--- a session restored from a journal starts as the replay of the journal's keys leaves it, with no search on
+-- a session restored from a journal starts as the replay of the journal's keys and its end leave it
 abbrev pub BeginsWithKeys : Type 0
 BeginsWithKeys = (d : Data) (b : Beginning)
-    → (unpainted_at d b).editor ≡ without_search (after_all_replayed d (at_offset d b).editor (decoding b.journal).keys)
+    → (unpainted_at d b).editor ≡ at_replay_end (after_all_replayed d (at_offset d b).editor (decoding b.journal).keys)
 
 -- The headline for a run in a window whose size changes meanwhile: for any first content of the terminal, and any steps of
 -- the window and the terminal between the steps of the run.

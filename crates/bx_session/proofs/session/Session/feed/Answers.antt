@@ -1,7 +1,7 @@
 use Rattle.std.proofs.Common.{rules, ◌≡◌, Err}
 use Rattle.bx_ucd.specs.Data.{Data}
 use Rattle.bx_session.specs.declared.error.Refused.TheVariants.{Paint}
-use Rattle.bx_session.proofs.Bytes.{is_not_idle, after_byte_is, byte_paints, owing_is}
+use Rattle.bx_session.proofs.Bytes.{is_not_idle, after_byte_is, byte_paints, idle_is, owing_is}
 use Rattle.bx_session.proofs.session.Session.feed.Goals as goal
 
 pub returns-clause-after_byte : goal.returns-clause-after_byte
@@ -15,6 +15,18 @@ returns-clause-after_byte g c =
             (is_not_idle c.args.self.now.session c.args.byte c.in_ok-enter.field-0 c.in_ok-enter.ensures.asks c.if-not-branch.false) h.2
             c.in_ok-paint.ensures.ok,
         c.status-2.ensures,
+      ),
+    )
+
+pub returns-then-not-branch-clause-after_byte : goal.returns-then-not-branch-clause-after_byte
+returns-then-not-branch-clause-after_byte g c =
+    let says : g.row.D.Denot → Data = g.D.BidiData.data in
+    let h = c.in_ok-enter.ensures.after_byte in (
+      h.0,
+      h.1,
+      (
+        idle_is says h.0 c.args.self.now c.enter.new.self c.args.byte c.in_ok-enter.field-0 c.in_ok-enter.ensures.asks c.if-not-branch.true h.2,
+        c.status.ensures,
       ),
     )
 
