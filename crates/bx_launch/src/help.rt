@@ -25,8 +25,8 @@ opens what cannot be saved, -n keeps no session, --no-joining joins no letters.
   Home End Page Up/Down to the row's start, end, with Ctrl the text's; a window
   Backspace Delete      erase before (a point at a time), at; with Ctrl by words
   Ctrl-S Ctrl-Q         save; quit, twice where not all is saved
-  Ctrl-Z Ctrl-Y Ctrl-L  undo, redo; paint the screen anew
-  Ctrl-Space or Ctrl-@  mark where the region begins; it ends at the cursor
+  Ctrl-Z Ctrl-Y Ctrl-L  undo, redo a typed word, a paste; paint the screen anew
+  Ctrl-Space or Ctrl-@  mark where a region begins, or select: Shift with a move
   Ctrl-X Ctrl-C Ctrl-V  cut, copy the region, or else the line; put it in
   Ctrl-W Ctrl-R F3      find forward, back, next; Enter ends it, Escape gives up
   F1, F2                show keys; direction: auto, ltr, rtl and auto again
