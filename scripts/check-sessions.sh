@@ -86,7 +86,7 @@ run_sessions() { # FOLDER
         cat "$scratch/differences"
         [ ! -f "$session/notes" ] || sed 's/^/    /' "$session/notes"
     done <"$scratch/list"
-    [ "$later" = 0 ] || echo "skipped $later sessions for a later editor, which are marked so or have keys that this one lacks"
+    [ "$later" = 0 ] || echo "skipped $later sessions for a later editor, which have keys or searches that this one lacks"
     echo "$agreed of $((agreed + differing)) sessions agree"
     [ "$differing" = 0 ] && [ "$agreed" -gt 0 ]
 }

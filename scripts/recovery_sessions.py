@@ -3,8 +3,8 @@
 The keys are random, and none of them depends on rows. Each session is a folder of FOLDER: `file` is the text; `keys1` are keys
 after which the last row is `row`; `keys2` are more keys; `ends` has, for each count of bytes that ends a key, the text in
 hexadecimal; `how` has the signal, its target, and the seconds after `keys2`. When `keys1` are recovered, the last row is `back`,
-and the keys `more` make the text `made`, which shows place, mark, held text and undo history. The bytes `torn` begin a key;
-recovered with them, the letters `typed` make the text `kept` and the last row `seen`.
+and the keys `more` make the text `made`, which shows place, mark, selection, held text, undo history and its runs. The bytes
+`torn` begin a key; recovered with them, the letters `typed` make the text `kept` and the last row `seen`.
 """
 
 import copy
@@ -16,14 +16,20 @@ import sys
 # each letter is a unit of its own in any context
 LETTERS = "abcxyz ,.()0123456789" + "\u05d0\u05d1\u05d2\u05e9\u05dc" + "\u0627\u0628\u062a\u0645"
 # as the filter of keys lets them through, so that the journal has these very bytes
-BYTES = {"erase": b"\x1b[94~", "delete": b"\x1b[3~", "back": b"\x02", "forward": b"\x06", "undo": b"\x1a", "redo": b"\x19",
-         "save": b"\x13", "repaint": b"\x0c", "direction": b"\x1b[9~", "find": b"\x1b[70~", "find back": b"\x1b[71~",
-         "mark": b"\x1b[72~", "copy": b"\x1b[73~", "cut": b"\x1b[74~", "put": b"\x1b[75~", "text start": b"\x1b[78~",
-         "text end": b"\x1b[79~", "help": b"\x1b[80~", "erase word": b"\x1b[88~", "delete word": b"\x1b[89~",
+BYTES = {"erase": b"\x1b[94~", "delete": b"\x1b[3~", "back": b"\x02", "forward": b"\x06", "undo run": b"\x1b[82~",
+         "redo run": b"\x1b[83~", "save": b"\x13", "repaint": b"\x0c", "direction": b"\x1b[9~", "find": b"\x1b[70~",
+         "find back": b"\x1b[71~", "mark": b"\x1b[72~", "copy": b"\x1b[73~", "cut": b"\x1b[74~", "put": b"\x1b[75~",
+         "text start": b"\x1b[78~", "text end": b"\x1b[79~", "help": b"\x1b[80~", "select": b"\x1b[81~",
+         "erase word": b"\x1b[88~", "delete word": b"\x1b[89~", "paste start": b"\x1b[90~", "paste end": b"\x1b[91~",
          "find next": b"\x1b[92~", "cancel": b"\x1b[93~"}
-NAMES = [*BYTES, "enter", "tab", "size", "quit"]
+MOVES = ["back", "forward", "text start", "text end"]
+NAMES = [*BYTES, "select", "undo run", "redo run", "enter", "tab", "size", "quit"]
+# what is typed, and the kind of the next letter, which goes on with it
+GOES_ON = [("word", "word"), ("word", "blanks"), ("blanks", "blanks")]
 # how keys1 end
-ENDS = ["no search", "in a search", "a search given up", "a search that a save ended"]
+ENDS = ["no search", "in a search", "a search given up", "a search that a save ended", "in a paste", "a selection", "between runs"]
+# the ends without a search
+PARTS = {"in a paste": "begin_paste", "a selection": "make_selection", "between runs": "type_runs"}
 # the first bytes of a character or a sequence
 TORN = [b"", b"\xd7", b"\xe2\x80", b"\x1b", b"\x1b[", b"\x1b[7", b"\x1b[8;24;"]
 # the program ignores HUP under the host
@@ -36,23 +42,67 @@ class Session:
     def __init__(self, text):
         self.text, self.place, self.changed = text, 0, False
         self.past, self.future = [], []
-        self.mark, self.held = None, ""
+        # the lengths of the past at which runs begin, and at which the text is the stored one
+        self.runs, self.stored = set(), 0
+        # what is typed: no, word, blanks, erasing, deleting, or of a paste paste (nothing yet) or pasting
+        self.typing = "no"
+        # a mark that Select set is soft: fresh until the next key, and then old
+        self.mark, self.soft, self.held = None, "no", ""
         # a search is None, begun or typed
         self.search, self.query, self.origin = None, "", 0
         self.keys, self.ends = b"", {0: text}
 
-    def edit(self, text, place):
+    def edit(self, text, place, goes_on=False):
+        length = len(self.past)
+        self.runs = {run for run in self.runs if run < length} | (set() if goes_on else {length})
+        if self.stored is not None and length < self.stored:
+            self.stored = None
         self.past.append((self.text, self.place, text, place))
-        self.text, self.place, self.changed, self.future, self.mark = text, place, True, [], None
+        self.future = []
+        self.now(text, place, True)
+
+    def now(self, text, place, changed):
+        self.text, self.place, self.changed, self.mark, self.soft = text, place, changed, None, "no"
+
+    def remove(self, start, end, goes_on=False):
+        self.edit(self.text[:start] + self.text[end:], start, goes_on)
+
+    def put_in(self, new, goes_on=False):
+        """Puts a text at the place, or in place of the selection, as an edit of the same run."""
+        if self.is_selection():
+            self.remove(*self.region())
+            goes_on = True
+        self.edit(self.text[:self.place] + new + self.text[self.place:], self.place + len(new), goes_on)
 
     def insert(self, letter, byte=None):
+        was, self.typing = self.typing, "no"
+        is_paste = was in ("paste", "pasting")
+        kind = "no" if letter == "\n" else "blanks" if letter in " \t" else "word"
         if self.search is None:
-            self.edit(self.text[:self.place] + letter + self.text[self.place:], self.place + 1)
-        elif letter == "\n":
-            self.search = None
-        elif letter != "\t":
-            self.look_for(self.kept_query() + letter)
+            self.put_in(letter, was == "pasting" or (was, kind) in GOES_ON)
+            self.typing = "pasting" if is_paste else kind
+        else:
+            self.typing = was if is_paste else "no"
+            if letter == "\n":
+                self.search = None
+            elif letter != "\t":
+                self.look_for(self.kept_query() + letter)
+        self.age()
         self.typed(byte or letter.encode())
+
+    def age(self):
+        if self.soft == "fresh":
+            self.soft = "old"
+
+    def unselect(self):
+        if self.soft == "old":
+            self.mark, self.soft = None, "no"
+
+    def region(self):
+        return sorted((self.mark, self.place))
+
+    def is_selection(self):
+        return self.soft != "no" and self.mark != self.place
 
     def typed(self, keys):
         self.keys += keys
@@ -104,7 +154,7 @@ class Session:
     def taken(self):
         """What Copy and Cut take: the region, else the line."""
         if self.mark is not None and self.mark != self.place:
-            return sorted((self.mark, self.place))
+            return self.region()
         return self.text.rfind("\n", 0, self.place) + 1, self.text.find("\n", self.place) + 1 or len(self.text)
 
     def word_before(self):
@@ -117,54 +167,87 @@ class Session:
         stops = [len(self.text), *(m.start() for m in re.finditer("[a-z0-9\u05d0-\u064a]+|\n", self.text))]
         return min((at for at in stops if at > self.place), default=self.place)
 
-    def apply(self, name):
+    def erase(self, name, was):
+        """A selection is all that a key removes; letters removed one after another are of one run."""
+        at = self.place
+        start, end = {"erase": (at - 1, at), "delete": (at, at + 1), "erase word": (self.word_before(), at),
+                      "delete word": (at, self.word_behind())}[name]
+        if self.is_selection():
+            self.remove(*self.region())
+        elif 0 <= start < end <= len(self.text):
+            typing = {"erase": "erasing", "delete": "deleting"}.get(name, "no")
+            self.remove(start, end, typing == was != "no")
+            self.typing = typing
+
+    def step_run(self, from_steps, to_steps, side):
+        """Takes edits back, or makes them again, up to where a run begins."""
+        while from_steps:
+            step = from_steps.pop()
+            to_steps.append(step)
+            self.now(step[side], step[side + 1], len(self.past) != self.stored)
+            if len(self.past) in self.runs:
+                break
+
+    def move(self, name):
+        self.unselect()
+        end = len(self.text)
+        self.place = {"back": max(0, self.place - 1), "forward": min(end, self.place + 1), "text start": 0, "text end": end}[name]
+
+    def find(self, name):
+        self.unselect()
+        if name == "find next" and self.query:
+            self.look_on()
+        else:
+            self.search, self.origin = "begun", self.place
+
+    def take(self, name):
+        start, end = self.taken()
+        self.held, self.mark, self.soft = self.text[start:end] or self.held, None, "no"
+        if name == "cut" and start < end:
+            self.remove(start, end)
+
+    def select(self):
+        if self.mark is None:
+            self.mark, self.soft = self.place, "fresh"
+        elif self.soft == "old":
+            self.soft = "fresh"
+
+    def apply(self, name, was):
         if self.search and self.takes(name):
             return
-        text, at = self.text, self.place
-        if name == "erase" and at > 0:
-            self.edit(text[:at - 1] + text[at:], at - 1)
-        elif name == "delete" and at < len(text):
-            self.edit(text[:at] + text[at + 1:], at)
-        elif name == "erase word" and at > 0:
-            self.edit(text[:self.word_before()] + text[at:], self.word_before())
-        elif name == "delete word" and at < len(text):
-            self.edit(text[:at] + text[self.word_behind():], at)
-        elif name == "back":
-            self.place = max(0, at - 1)
-        elif name == "forward":
-            self.place = min(len(text), at + 1)
-        elif name == "undo" and self.past:
-            step = self.past.pop()
-            self.future.append(step)
-            self.text, self.place, self.changed, self.mark = step[0], step[1], True, None
-        elif name == "redo" and self.future:
-            step = self.future.pop()
-            self.past.append(step)
-            self.text, self.place, self.changed, self.mark = step[2], step[3], True, None
+        if name in ("erase", "delete", "erase word", "delete word"):
+            self.erase(name, was)
+        elif name in MOVES:
+            self.move(name)
+        elif name == "undo run":
+            self.step_run(self.past, self.future, 0)
+        elif name == "redo run":
+            self.step_run(self.future, self.past, 2)
         elif name == "save":
-            self.changed = False
-        elif name == "find next" and self.query:
-            self.look_on()
+            self.changed, self.stored = False, len(self.past)
         elif name in ("find", "find back", "find next"):
-            self.search, self.origin = "begun", at
+            self.find(name)
+        elif name == "select":
+            self.select()
         elif name == "cancel":
-            self.mark = None
+            self.mark, self.soft = None, "no"
         elif name == "mark":
-            self.mark = None if self.mark == at else at
+            self.mark, self.soft = None if self.mark == self.place else self.place, "no"
         elif name in ("copy", "cut"):
-            start, end = self.taken()
-            self.held, self.mark = text[start:end] or self.held, None
-            if name == "cut" and start < end:
-                self.edit(text[:start] + text[end:], start)
+            self.take(name)
         elif name == "put" and self.held:
-            self.edit(text[:at] + self.held + text[at:], at + len(self.held))
-        elif name == "text start":
-            self.place = 0
-        elif name == "text end":
-            self.place = len(text)
+            self.put_in(self.held)
 
     def key(self, name):
-        self.apply(name)
+        if name in ("paste start", "paste end"):
+            self.typing = "paste" if name == "paste start" else "no"
+        else:
+            was, self.typing = self.typing, "no"
+            self.apply(name, was)
+            if name == "repaint":
+                self.typing = was
+            elif name != "select":
+                self.age()
         self.typed(BYTES[name])
 
     def enter(self):
@@ -174,6 +257,8 @@ class Session:
         """Gives a search up, else asks, since the text is changed."""
         if self.search:
             self.give_up()
+        self.typing = "no"
+        self.age()
         self.typed(b"\x11")
 
     def press(self):
@@ -212,6 +297,9 @@ class Session:
         self.insert("q")
         if end == "no search":
             return
+        if end in PARTS:
+            getattr(self, PARTS[end])()
+            return
         self.search_ahead()
         if end == "in a search":
             return
@@ -221,6 +309,25 @@ class Session:
             self.key("save")
         self.insert(random.choice(LETTERS))
 
+    def begin_paste(self):
+        self.key("paste start")
+        for _ in range(random.randint(0, 20)):
+            self.insert(random.choice(LETTERS + "\n\t"))
+
+    def make_selection(self):
+        for _ in range(random.randint(1, 5)):
+            self.key("select")
+            self.key(random.choice(MOVES))
+
+    def type_runs(self):
+        """Types words, and takes some runs of them back, so that some are before the place in the history and some behind it."""
+        for letter in random.sample(LETTERS, 9) + [" ", "x"]:
+            self.insert(letter)
+        for _ in range(random.randint(0, 2)):
+            self.key("undo run")
+        if not self.changed:
+            self.key("redo run")
+
     def row(self):
         lines = self.text[:self.place].split("\n")
         row = "%s %d:%d" % ("*" if self.changed else "-", len(lines), len(lines[-1]) + 1)
@@ -229,9 +336,10 @@ class Session:
         return row + " find: " + (self.query if self.query < "\u05d0" else self.query[::-1])
 
     def recovered(self):
-        """The session after its recovery, which ends a search where it stands."""
+        """The session after its recovery, which ends a search where it stands, and a run."""
         session = copy.deepcopy(self)
-        session.search, session.keys = None, b""
+        session.search, session.typing, session.keys = None, "no", b""
+        session.stored = None if session.changed else len(session.past)
         return session
 
 
@@ -251,7 +359,8 @@ def files_of(number):
     files["typed"], files["kept"], files["seen"] = recovered.keys, recovered.text, recovered.row()
     recovered = session.recovered()
     files["row"], files["back"] = session.row(), recovered.row()
-    for name in random.choice([("insert", "put"), ("cut", "insert"), ("undo", "insert")]):
+    for name in random.choice([("insert", "put"), ("cut", "insert"), ("undo run", "insert"), ("insert", "undo run", "undo run"),
+                               ("redo run", "insert")]):
         if name == "insert":
             recovered.insert("z")
         else:

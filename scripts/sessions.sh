@@ -1,8 +1,8 @@
 # shellcheck shell=sh
 # Recorded sessions. Each is a folder whose name is a number: `args` has the program's words, one a line, `keys` the input, and
 # `file` the edited file, if it exists. `want.stdout`, `want.stderr`, `want.status` and `want.file` have the expected output,
-# status and final `file`. An empty file `later` marks one that needs more than this editor has. The tables are in the folder
-# `tables` beside the sessions.
+# status and final `file`. An empty file `later` marks one whose searches find letters as a later editor does, or that replaces. The
+# tables are in the folder `tables` beside the sessions.
 
 # Prints the folder of the sessions: SESSIONS itself, or a folder in SCRATCH with SESSIONS unpacked, if it is a tar archive.
 sessions_of() { # SESSIONS SCRATCH
@@ -21,10 +21,15 @@ list_sessions() { # FOLDER
     find "$1" -mindepth 1 -maxdepth 1 -type d -name '[0-9]*' | sort
 }
 
-# Whether a session is for a later editor: it is marked so, or its keys have a sequence for which this one has no key yet (selecting,
-# runs of edits, going to a line, replacing, characters by name, telling, and the ends of a paste).
+# Whether a session's keys have a sequence with one of these numbers.
+has_keys() { # SESSION NUMBERS
+    grep -q -a -E "$(printf '\033')\[($2)~" "$1/keys"
+}
+
+# Whether a session is for a later editor: this one has no key yet to go to a line, replace, name a character or tell what stands
+# here, and a marked session that searches may find letters that this one takes for others.
 is_later() { # SESSION
-    [ -e "$1/later" ] || grep -q -a -E "$(printf '\033')\[(8[1-7]|9[01])~" "$1/keys"
+    has_keys "$1" '8[4-7]' || { [ -e "$1/later" ] && has_keys "$1" '7[01]|92'; }
 }
 
 # Makes a new folder for a session to run in.

@@ -25,10 +25,14 @@ the Linux console, Home and End:\033[1~\033[4~:\033[1~\033[4~
 tmux and screen, Home and End:\033[1~\033[4~:\033[1~\033[4~
 xterm, arrows:\033[A\033[B\033[C\033[D:\033[96~\033[97~\033[C\033[D
 xterm, arrows in application mode:\033OA\033OB\033OC\033OD:\033[96~\033[97~\033[C\033[D
-xterm, arrows with Shift:\033[1;2A\033[1;2B\033[1;2C\033[1;2D:\033[96~\033[97~\033[C\033[D
-rxvt, arrows with Shift:\033[a\033[b\033[c\033[d:\033[96~\033[97~\033[C\033[D
+xterm, arrows with Shift:\033[1;2A\033[1;2B\033[1;2C\033[1;2D:\033[81~\033[96~\033[81~\033[97~\033[81~\033[C\033[81~\033[D
+rxvt, arrows with Shift:\033[a\033[b\033[c\033[d:\033[81~\033[96~\033[81~\033[97~\033[81~\033[C\033[81~\033[D
 Page Up and Page Down:\033[5~\033[6~:\033[98~\033[99~
-xterm, Home and End with Shift:\033[1;2H\033[1;2F:\033[H\033[F
+xterm, Home and End with Shift:\033[1;2H\033[1;2F:\033[81~\033[H\033[81~\033[F
+rxvt, Home and End with Shift:\033[7$\033[8$:\033[81~\033[H\033[81~\033[F
+st, Home with Shift, and the like for End:\033[2J\033[2K:\033[81~\033[H\033[81~\033[F
+xterm, Left and Right with Shift and Control:\033[1;6D\033[1;6C:\033[81~\033[76~\033[81~\033[77~
+xterm, Home and End with Shift and Control:\033[1;6H\033[1;6F:\033[81~\033[78~\033[81~\033[79~
 xterm, F2:\033OQ:\033[9~
 rxvt, F2:\033[12~:\033[9~
 the Linux console, F2:\033[[B:\033[9~
@@ -46,6 +50,7 @@ Delete:\033[3~\033[P:\033[3~\033[3~
 xterm, rxvt and st, Delete with Control:\033[3;5~\033[3^\033[M:\033[89~\033[89~\033[89~
 Enter:a\rb:a\033[95~b
 Control and @, C, R, V, W, X:\000\003\022\026\027\030:\033[72~\033[73~\033[71~\033[75~\033[70~\033[74~
+Control and Y, Z:\031\032:\033[83~\033[82~
 Up and Down with Control, which the editor does not know:\033[1;5A\033[1;5B:\033[1;5A\033[1;5B
 Escape, and then a letter:\033a:\033a
 Escape, and then a digit of the keypad:\033\033Oq:\033\0301
@@ -85,7 +90,7 @@ check_cut_keys() {
     done
     type_keys C-q
     finish 'input, cut' 7 50
-    same 'input, keys that come byte by byte' "$(cat -v "$folder/record")" 'a^[[96~^[[Db^[[93~c'
+    same 'input, keys that come byte by byte' "$(cat -v "$folder/record")" 'a^[[96~^[[81~^[[Db^[[93~c'
 }
 
 # The byte 08 is Backspace with Control where the terminal's own erase character is 7F, as in tmux, and else Backspace.
@@ -133,7 +138,11 @@ make_big_paste() {
         cat "$folder/tricks" "$folder/cycle"
         printf '\033[201~'
     } >"$folder/big"
-    cat "$folder/tricks_pasted" "$folder/cycle_pasted" >"$folder/big_pasted"
+    {
+        printf '\033[90~'
+        cat "$folder/tricks_pasted" "$folder/cycle_pasted"
+        printf '\033[91~'
+    } >"$folder/big_pasted"
 }
 
 check_big_paste() {
@@ -163,7 +172,7 @@ check_marks() {
     sleep 0.3
     type_keys C-q
     finish 'input, marks' 7 50
-    same 'input, a paste of tmux' "$(cat -v "$folder/record")" "$(printf 'one\ntwo')"
+    same 'input, a paste of tmux' "$(cat -v "$folder/record")" "$(printf '^[[90~one\ntwo^[[91~')"
     has 'input, pastes asked for' "$(written)" '^[[?2004h'
     has 'input, and given back' "$(written)" '^[[?2004l^[[0m'
 }

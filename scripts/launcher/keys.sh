@@ -1,13 +1,13 @@
 # shellcheck shell=sh
 # shellcheck disable=SC2034,SC2154 # variables shared with other parts
-# The keys for words, points, rows, the text's ends, the mark, copies, searches and help, as terminals send them, and the screens
-# that they make.
+# The keys for words, points, rows, the text's ends, runs, selections, the mark, copies, searches and help, as terminals send them,
+# and the screens that they make.
 
 # Types keys of tmux, and compares the rows of the screen and the cursor's column and row.
-press() { # NAME ROWS CURSOR KEY..
+press() { # NAME ROWS CURSOR [KEY..]
     name="keys, $1" wanted_screen=$(printf '%s\n%s' "$2" "$3")
     shift 3
-    type_keys "$@"
+    [ $# = 0 ] || type_keys "$@"
     same "$name" "$(settled_screen person)" "$wanted_screen"
 }
 
@@ -49,7 +49,7 @@ drop() { # NAME
     rm -f note
 }
 
-# Backspace takes the points off a letter one by one, and then the letter; Delete takes a letter with its points.
+# Backspace takes the points off a letter one by one, and then the letter, all of one run; Delete takes a letter with its points.
 check_points() {
     printf 'ab \327\251\326\270\327\201 cd\n' >note
     start 4 40 "$top/bidi-edit" note
@@ -57,10 +57,66 @@ check_points() {
     press 'a point erased' "$(printf 'ab \327\251\326\270 cd|||* 1:5')" 4,0 BSpace
     press 'the other point erased' 'ab ש cd|||* 1:5' 4,0 BSpace
     press 'the letter erased' 'ab  cd|||* 1:4' 3,0 BSpace
-    press 'the letter back' 'ab ש cd|||* 1:5' 4,0 C-z
-    press 'a point back' "$(printf 'ab \327\251\326\270 cd|||* 1:5')" 4,0 C-z
-    press 'the letter deleted with its point' 'ab  cd|||* 1:4' 3,0 C-b DC
+    press 'the letter and its points back' "$(printf 'ab \327\251\326\270\327\201 cd|||- 1:5')" 4,0 C-z
+    press 'all three erased again' 'ab  cd|||* 1:4' 3,0 C-y
+    press 'the letter deleted with its points' 'ab  cd|||* 1:4' 3,0 C-z C-b DC
     drop points
+}
+
+# CTRL with Z takes back a word and the blanks behind it, and letters erased in a row; CTRL with Y makes them again. A text that is
+# as it was opened is not changed.
+check_runs() {
+    printf 'ab\n' >note
+    start 4 40 "$top/bidi-edit" note
+    press 'words' 'ab one לש|||* 1:10' 9,0 End Space o n e Space ש ל
+    press 'a word taken back' 'ab one|||* 1:8' 7,0 C-z
+    press 'the word before it taken back' 'ab|||* 1:4' 3,0 C-z
+    press 'all taken back' 'ab|||- 1:3' 2,0 C-z
+    press 'nothing to take back' 'ab|||- 1:3 nothing to undo' 2,0 C-z
+    press 'words made again' 'ab one|||* 1:8' 7,0 C-y C-y
+    press 'letters erased in a row' 'ab o|||* 1:5' 4,0 BSpace BSpace BSpace
+    press 'letters back' 'ab one|||* 1:8' 7,0 C-z
+    press 'a run that moves end' 'ab one x|||* 1:9' 8,0 x C-b C-f y C-z
+    drop runs
+}
+
+# Shift selects; what is typed or put takes the place of a selection, and Delete removes it.
+check_selections() {
+    printf 'abcd שלום ef\ngh\n' >note
+    start 4 40 "$top/bidi-edit" note
+    press 'letters selected' '<ab>cd םולש ef|gh||- 1:3' 2,0 S-Right S-Right
+    press 'a letter in their place' 'xcd םולש ef|gh||* 1:2' 1,0 x
+    press 'both taken back' 'abcd םולש ef|gh||- 1:3' 2,0 C-z
+    press 'up to the next word' 'ab<cd >םולש ef|gh||- 1:6' 8,0 C-S-Right
+    press 'a word more' 'ab<cd םולש >ef|gh||- 1:11' 10,0 C-S-Right
+    press 'a move ends it' 'abcd םולש ef|gh||- 1:1' 0,0 Home
+    press 'two rows' 'a<bcd םולש ef|g>h||- 2:2' 1,1 Right S-Down
+    press 'two rows deleted' 'ah|||* 1:2' 1,0 DC
+    press 'a copy' 'ah|||* 1:1 copied' 0,0 End S-Home C-c
+    press 'a selection ended by Escape' 'ah|||* 1:3' 2,0 S-End Escape
+    press 'no letter gives way' 'ahx|||* 1:4' 3,0 x
+    press 'the copy in place of a letter' 'ahah|||* 1:5' 4,0 S-Left C-v
+    press 'the letter back' 'ahx|||* 1:3' 2,0 C-z
+    drop selections
+}
+
+# A paste is taken back and made again at once, and has the line ends of the text.
+check_pasted() {
+    printf 'ab\r\ncd\r\n' >note
+    start 6 40 "$top/bidi-edit" note
+    type_keys End
+    printf 'one two\nthree' >"$folder/keys"
+    terminal load-buffer -b bytes "$folder/keys"
+    terminal paste-buffer -d -p -b bytes -t person
+    press 'a paste' 'abone two|three|cd|||* 2:6' 5,1
+    press 'a paste taken back' 'ab|cd||||- 1:3' 2,0 C-z
+    press 'a paste made again' 'abone two|three|cd|||* 2:6' 5,1 C-y
+    type_keys C-s
+    wait_for 30 shows saved
+    type_keys C-q
+    finish 'keys, a paste' 0 50
+    same 'keys, a paste: the saved file' "$(od -An -c note | tr -d ' \n')" 'abonetwo\r\nthree\r\ncd\r\n'
+    rm -f note
 }
 
 # Words erased where the terminal's own erase character is 7F: by Backspace with CTRL and with Alt, and by Delete with CTRL.
@@ -184,6 +240,9 @@ check_keys() {
     has_filter && has_editor || return 0
     check_control_bytes
     check_points
+    check_runs
+    check_selections
+    check_pasted
     check_erased_words
     check_other_erase_character
     check_columns

@@ -67,7 +67,7 @@ idle_behind_keys() { # STEPS
         for (k = 1; k <= NF; k++) {
             printf "%s%s", (k > 1 ? " " : ""), $k
             if ($k == "B1b" || $k == "Bcc") is_open = 1
-            else if ($k ~ /^B/ && is_open && $k != "B5b" && $k != "B33") is_open = 0
+            else if ($k ~ /^B/ && is_open && $k != "B5b" && $k !~ /^B3[0-9]$/) is_open = 0
             if ($k ~ /^[BT]/ && !is_open) printf " B00"
         }
         print ""
@@ -102,6 +102,9 @@ check_all_scenes() {
     check_scenes 'a save between CR LF' 3 10 610d0a62 "B1b B5b B46 B1b B5b B33 B7e B13 $rest"
     check_scenes 'a mark, undo and redo' 2 10 65 "B1b B5b B46 Bcc B81 B7f B1a B19 $rest"
     check_scenes 'changes' 1 5 6162 "B78 B1b B5b B46 B7f B1b B5b B43 $rest"
+    check_scenes 'a selection replaced' 2 10 616263 "B1b B5b B38 B31 B7e B06 B78 $rest"
+    check_scenes 'a run undone and redone' 1 5 61 "B78 B79 B1b B5b B38 B32 B7e B1b B5b B38 B33 B7e $rest"
+    check_scenes 'a paste' 3 10 610d0a "B1b B5b B39 B30 B7e B78 B0a B1b B5b B39 B31 B7e $rest"
     check_scenes 'down' 3 4 310a320a33 "B1b B5b B42 B1b B5b B42 $rest"
 }
 

@@ -38,7 +38,10 @@ check_terminal() { # KIND
     fi
     case $1 in
     kitty_as_it_is) check_note "$1" 'force_ltr yes' .config/kitty/kitty.conf ;;
-    qterminal) check_note "$1" enabledBidiSupport=false .config/qterminal.org/qterminal.ini ;;
+    qterminal)
+        check_note "$1" enabledBidiSupport=false .config/qterminal.org/qterminal.ini
+        check_changes "$1"
+        ;;
     *_tmux) check_in_tmux "$1" ;;
     *)
         check_rows "$1"
@@ -46,6 +49,7 @@ check_terminal() { # KIND
         check_mark "$1"
         ! draws_clusters "$1" || check_clusters "$1"
         check_keys "$1"
+        check_changes "$1"
         check_lines "$1"
         ! sends_control "$1" || check_control_keys "$1"
         ! sends_words "$1" || check_erased_words "$1"
@@ -174,18 +178,78 @@ check_text() { # KIND
 }
 
 check_keys() { # KIND
-    wanted=bXcde
     cp "$room/opened" "$room/files/typed"
     open_editor typed "$1-keys"
-    press End e Home Delete Right X
-    if sends_shift "$1"; then
-        wanted=TbSXcdUeV
-        press shift+Left S shift+Home T shift+End V shift+Left shift+Left U
-    fi
-    press ctrl+s
+    press End e Home Delete Right X ctrl+s
     sleep 0.5
     leave_editor "$1, keys"
-    same "$1, keys" "$(cat "$room/files/typed")" "$wanted"
+    same "$1, keys" "$(cat "$room/files/typed")" bXcde
+}
+
+check_changes() { # KIND
+    check_runs "$1"
+    ! sends_shift "$1" || check_selecting "$1"
+    ! sends_control_shift "$1" || check_selected_words "$1"
+    check_paste "$1"
+}
+
+# Words that are taken back and made again, and letters erased in a row that come back at once. A last letter is taken back, so
+# that the text is the saved one and the editor ends without a question.
+check_runs() { # KIND
+    printf 'ab\n' >"$room/files/typed"
+    open_editor typed "$1-runs"
+    press End space o n e space t w o ctrl+z ctrl+z ctrl+y X BackSpace BackSpace BackSpace ctrl+z ctrl+s Y ctrl+z
+    sleep 0.5
+    leave_editor "$1, runs"
+    same "$1, runs" "$(cat "$room/files/typed")" 'ab one X'
+}
+
+# Selections with Shift that letters, Delete, a move without Shift and Escape end, each followed by what shows it.
+check_selecting() { # KIND
+    printf 'abcd efgh\nijkl mnop\nqrst\n' >"$room/files/typed"
+    open_editor typed "$1-selecting"
+    press End shift+Left shift+Left X shift+Home Y Down Home shift+Down Delete shift+Right shift+Right Right Z shift+Up V
+    wanted=YUVt
+    if sends_shift_end "$1"; then
+        wanted=YVUW
+        press shift+End W
+    fi
+    press shift+Left Escape
+    sleep 0.3
+    press U ctrl+s
+    sleep 0.5
+    leave_editor "$1, selecting"
+    same "$1, selecting" "$(cat "$room/files/typed")" "$wanted"
+}
+
+# Selections with Control and Shift, by words and to the text's ends.
+check_selected_words() { # KIND
+    printf 'one two three\nfour five\nsix\n' >"$room/files/typed"
+    open_editor typed "$1-selected-words"
+    press End ctrl+shift+Home T Down Home ctrl+shift+Right X space End ctrl+shift+Left Y Down Home ctrl+shift+End V ctrl+s
+    sleep 0.5
+    leave_editor "$1, selected words"
+    same "$1, selected words" "$(paste -s -d '|' "$room/files/typed")" 'T|X Y|V'
+}
+
+# A paste takes the place of a selection and has the line ends of the text; a second one is taken back at once.
+check_paste() { # KIND
+    if ! command -v xclip >/dev/null; then
+        skip "$1, a paste" 'there is no xclip'
+        return
+    fi
+    for selection in primary clipboard; do printf 'x y\nz' | xclip -selection "$selection" >/dev/null 2>&1; done
+    printf 'ab\r\ncd\r\n' >"$room/files/typed"
+    open_editor typed "$1-paste"
+    press End shift+Home
+    for _ in one two; do
+        press shift+Insert
+        sleep 0.5
+    done
+    press ctrl+z ctrl+s
+    sleep 0.5
+    leave_editor "$1, a paste"
+    same "$1, a paste" "$(od -An -c "$room/files/typed" | tr -d ' \n')" 'xy\r\nz\r\ncd\r\n'
 }
 
 # A column that is kept through a short row, a point erased, a new line with CR LF, F3 twice, and Escape in a search, each followed

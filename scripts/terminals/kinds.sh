@@ -6,7 +6,10 @@ start_xterm() {
     exec xterm -fa FreeMono -fs 12 -geometry 60x10+0+0 -xrm "XTerm*printerCommand: cat >'$room/read'" -xrm 'XTerm*printAttributes: 0' \
         -e sh "$room/shell"
 }
-start_urxvt() { exec urxvt -fn xft:FreeMono:size=12 -geometry 60x10+0+0 --print-pipe "cat >'$room/read'" -e sh "$room/shell"; }
+# it asks before a paste of lines unless it is told not to
+start_urxvt() {
+    exec urxvt -fn xft:FreeMono:size=12 -geometry 60x10+0+0 -pe -confirm-paste --print-pipe "cat >'$room/read'" -e sh "$room/shell"
+}
 start_st() { exec st -f FreeMono:size=12 -g 60x10+0+0 -e sh "$room/shell"; }
 start_mlterm() {
     mkdir -p "$HOME/.mlterm"
@@ -108,9 +111,19 @@ prints_screen() { # KIND
     return 1
 }
 
-# Whether it sends keys with Shift, and takes none for itself.
+# Whether it sends all arrows with Shift. terminology takes two for itself.
 sends_shift() { # KIND
-    case $1 in xterm | urxvt) return 0 ;; esac
+    [ "$1" != terminology ]
+}
+
+# Whether it sends a key of its own for End with Shift.
+sends_shift_end() { # KIND
+    [ "$1" != st ]
+}
+
+# Whether it sends keys of their own for Left, Right, Home and End with Control and Shift.
+sends_control_shift() { # KIND
+    case $1 in xterm | alacritty | qterminal | vte | konsole | mlterm) return 0 ;; esac
     return 1
 }
 
