@@ -31,7 +31,8 @@ pub struct Document<D: BidiData + Drop> {
 impl<D: BidiData + Drop> Model for Document<D> {
     ghost use Rattle.std.specs.Prelude.{◌≡◌};
     ghost use Rattle.bx_paras.specs.Paragraphs.{lengths};
-    ghost use Rattle.bx_view.specs.Holding.{IsViewBy};
+    ghost use Rattle.bx_view.specs.Numbers.{paragraph_number};
+ghost use Rattle.bx_view.specs.Holding.{IsViewBy};
     ghost use Rattle.bx_document.specs.Cache.{AreDrawnBy};
     ghost use Rattle.bx_document.specs.Document.{DocumentState};
     ghost use Rattle.bx_document.specs.Past.{KeepsPlaces};
@@ -96,6 +97,21 @@ impl<D: BidiData + Drop> Document<D> {
         ensures joined { (slices : List (Bor (List ℕ))) → Drains lends result slices → joined slices ≡ self.now.document.content.text }
     {
         self.text.pieces()
+    }
+
+    /// The tables. No memory.
+    pub fn tables(&self) -> &D
+        ensures { result.now ≡ self.now.tables }
+    {
+        &self.tables
+    }
+
+    /// The number, from 0, of the paragraph in which an offset lies. No memory.
+    pub fn paragraph_at(&self, offset: usize) -> usize
+        ensures { result ≡ paragraph_number (D.data self.now.tables) self.now.document.content.text offset }
+    {
+        let (number, _) = self.index.span_at(offset);
+        number
     }
 
     /// The base direction of the paragraphs. No memory.
