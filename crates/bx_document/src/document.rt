@@ -5,6 +5,7 @@ ghost use Rattle.bx_text.specs.Slices.{joined, lends};
 ghost use Rattle.std.specs.Prelude.{◌≡◌, ℕ, ◌≤◌, ◌<◌, ◌↔◌, List, true, IfOk, IsErrOf, IsUtf8, OnOk, length, string_bytes};
 ghost use Rattle.bx_terms.specs.Sizes.{is_side};
 ghost use Rattle.bx_text.specs.Edits.{largest_text};
+ghost use Rattle.bx_view.specs.Numbers.{paragraph_number};
 ghost use Rattle.bx_document.specs.Document.{at_opening};
 
 use crate::error::DocumentError;
@@ -96,6 +97,21 @@ impl<D: BidiData + Drop> Document<D> {
         ensures joined { (slices : List (Bor (List ℕ))) → Drains lends result slices → joined slices ≡ self.now.document.content.text }
     {
         self.text.pieces()
+    }
+
+    /// The tables. No memory.
+    pub fn tables(&self) -> &D
+        ensures { result.now ≡ self.now.tables }
+    {
+        &self.tables
+    }
+
+    /// The number, from 0, of the paragraph in which an offset in bytes lies. No memory.
+    pub fn paragraph_at(&self, offset: usize) -> usize
+        ensures { result ≡ paragraph_number (D.data self.now.tables) self.now.document.content.text offset }
+    {
+        let (number, _) = self.index.span_at(offset);
+        number
     }
 
     /// The base direction of the paragraphs. No memory.

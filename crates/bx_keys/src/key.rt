@@ -85,6 +85,12 @@ pub enum Key {
     UndoRun,
     /// Makes again what the latest UndoRun took back.
     RedoRun,
+    /// Asks for a line.
+    GoTo,
+    /// Asks for the name of a character.
+    Name,
+    /// Tells what stands at the place.
+    Tell,
     /// A paste begins. It changes nothing that is seen.
     PasteStart,
     /// A paste ends. It changes nothing that is seen.
