@@ -5,6 +5,11 @@ pub mod Search
 pub mod Goal
 pub mod Erasing
 pub mod Putting
+pub mod Wrapping
+pub mod Asking
+pub mod Answers
+pub mod Telling
+pub mod Prompts
 pub mod Runs
 pub mod Origin
 pub mod Effects
@@ -17,3 +22,4 @@ pub mod Laws
 pub mod WorkLaws
 pub mod RunLaws
 pub mod SelectionLaws
+pub mod AskingLaws

@@ -1,9 +1,10 @@
 //! The effect of each key.
 ghost use Rattle.std.specs.Prelude.{◌≡◌, None, Some, true, false, OnErr, OnOk};
 ghost use Rattle.bx_view.specs.Places.{IsTextPlace};
-ghost use Rattle.bx_editor.specs.Editor.{after_quit, cleared, next_base, with_base, with_typing};
+ghost use Rattle.bx_editor.specs.Asking.{without_ask};
+ghost use Rattle.bx_editor.specs.Editor.{after_help, after_quit, cleared, next_base, with_base, with_typing};
 ghost use Rattle.bx_editor.specs.Effects.{before};
-ghost use Rattle.bx_editor.specs.Keys.{after_any, after_key, after_pressing, after_seeking, is_edit_or_move, is_save, is_size_key, is_told_key};
+ghost use Rattle.bx_editor.specs.Keys.{after_any, after_asking, after_key, after_pressing, after_seeking, is_edit_or_move, is_save, is_size_key, is_told_key};
 ghost use Rattle.bx_editor.specs.Putting.{only_paste};
 ghost use Rattle.bx_editor.specs.Search.{after_letter, without_search};
 
@@ -13,6 +14,7 @@ use crate::moving::goal_behind;
 use crate::putting::only_paste;
 use crate::seek::Seek;
 use crate::selecting::{aged, soft_behind};
+use bx_asking::Ask;
 use bx_document::HistoryStep;
 use bx_keys::Key;
 use bx_runs::Typing;
@@ -34,7 +36,7 @@ fn next_base(base: Base) -> Base
 
 impl<D: BidiData + Drop> Editor<D> {
     /// Clears the message and forgets an earlier Quit, but what is typed goes on.
-    fn rest(&mut self)
+    pub(crate) fn rest(&mut self)
         ensures { self.new ≡ record self.old { editor = with_typing (cleared self.old.editor) self.old.editor.typing } }
     {
         self.message = None;
@@ -71,6 +73,17 @@ impl<D: BidiData + Drop> Editor<D> {
         self.quit_before = true;
     }
 
+    /// Lists the control keys, or the others, if the message listed the first ones.
+    fn help(&mut self)
+        ensures { self.new ≡ record self.old { editor = after_help (cleared self.old.editor) self.old.editor.message } }
+    {
+        let message = match self.message {
+            Some(Message::Help) => Message::MoreHelp,
+            _ => Message::Help,
+        };
+        self.tell(message);
+    }
+
     /// Switches the paragraphs to the next base direction.
     fn turn_direction(&mut self)
         ensures { self.new ≡ record self.old { editor = with_base (cleared self.old.editor) (next_base self.old.editor.base) } }
@@ -80,7 +93,7 @@ impl<D: BidiData + Drop> Editor<D> {
         self.tell(Message::Direction(base));
     }
 
-    /// Reports the end of a Save, with its fault if it failed, and ends a search. No memory.
+    /// Reports the end of a Save, with its fault if it failed, and ends a search or a question. No memory.
     pub fn finish_save(&mut self, fault: Option<StoreFault>)
         ensures { self.new ≡ record self.old { editor = after_key (D.data self.old.tables) fault self.old.editor Key.Save } }
     {
@@ -92,7 +105,10 @@ impl<D: BidiData + Drop> Editor<D> {
             }
             Some(fault) => self.tell(Message::SaveFailed(fault.cause)),
         }
-        self.leave_search();
+        match self.ask {
+            Ask::Off => self.leave_search(),
+            Ask::Line | Ask::Name | Ask::Code => self.leave_question(),
+        }
         self.goal = None;
         self.soft = aged(self.soft);
     }
@@ -126,14 +142,15 @@ impl<D: BidiData + Drop> Editor<D> {
         requires no_save { is_save key ≡ false }
         requires typed { is_told_key key ≡ false }
         ensures ok { OnOk result (self.new.editor
-            ≡ after_any (D.data self.old.tables) None (before self.old.editor) self.old.editor.seek (cleared self.old.editor) key) }
+            ≡ after_any (D.data self.old.tables) None (before self.old.editor) self.old.editor.ask self.old.editor.seek (cleared self.old.editor) key) }
         ensures tables { self.new.tables ≡ self.old.tables }
         ensures err { OnErr result (self.new ≡ self.old) }
         ensures edits { OnErr result (is_edit_or_move key ≡ true) }
     {
-        match self.seek {
-            Seek::Off => self.press(key),
-            Seek::Begun | Seek::Typed => self.press_in_search(key),
+        match (self.ask, self.seek) {
+            (Ask::Off, Seek::Off) => self.press(key),
+            (Ask::Off, Seek::Begun | Seek::Typed) => self.press_in_search(key),
+            (Ask::Line | Ask::Name | Ask::Code, _) => self.press_in_question(key),
         }
     }
 
@@ -195,7 +212,20 @@ impl<D: BidiData + Drop> Editor<D> {
                 Ok(())
             }
             Key::Help => {
-                self.tell(Message::Help);
+                self.help();
+                Ok(())
+            }
+            Key::GoTo => {
+                self.unselect();
+                self.begin_question(Ask::Line);
+                Ok(())
+            }
+            Key::Name => {
+                self.begin_question(Ask::Name);
+                Ok(())
+            }
+            Key::Tell => {
+                self.tell(Message::Told);
                 Ok(())
             }
             Key::Quit => {
@@ -275,5 +305,53 @@ impl<D: BidiData + Drop> Editor<D> {
         self.press(key)?;
         self.leave_search();
         Ok(())
+    }
+
+    /// Applies a key in a question.
+    fn press_in_question(&mut self, key: Key) -> Result<(), OutOfMemory>
+        requires no_save { is_save key ≡ false }
+        requires typed { is_told_key key ≡ false }
+        ensures ok { OnOk result (self.new.editor
+            ≡ after_asking (D.data self.old.tables) None (before self.old.editor) (cleared self.old.editor) key) }
+        ensures tables { self.new.tables ≡ self.old.tables }
+        ensures err { OnErr result (self.new ≡ self.old) }
+        ensures edits { OnErr result (is_edit_or_move key ≡ true) }
+    {
+        match key {
+            Key::Insert(c) => self.answer_question(c),
+            Key::NewLine => self.answer_question('\n'),
+            Key::Erase | Key::Delete | Key::ErasePoint => self.shorten_answer(),
+            Key::Quit | Key::Copy | Key::Cancel => {
+                self.leave_question();
+                self.clear();
+                Ok(())
+            }
+            Key::Repaint => {
+                self.rest();
+                Ok(())
+            }
+            _ => self.press_without_question(key),
+        }
+    }
+
+    /// Ends the question, and applies a key with its usual effect. A refused key leaves the question.
+    fn press_without_question(&mut self, key: Key) -> Result<(), OutOfMemory>
+        requires no_save { is_save key ≡ false }
+        requires typed { is_told_key key ≡ false }
+        ensures ok { OnOk result (self.new.editor
+            ≡ after_pressing (D.data self.old.tables) None (before self.old.editor) (without_ask (cleared self.old.editor)) key) }
+        ensures tables { self.new.tables ≡ self.old.tables }
+        ensures err { OnErr result (self.new ≡ self.old) }
+        ensures edits { OnErr result (is_edit_or_move key ≡ true) }
+    {
+        let ask = self.ask;
+        self.leave_question();
+        match self.press(key) {
+            Ok(()) => Ok(()),
+            Err(refused) => {
+                self.ask = ask;
+                Err(refused)
+            }
+        }
     }
 }
