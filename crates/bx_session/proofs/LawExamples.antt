@@ -102,7 +102,10 @@ of_x bs = owing bs (start (codes "x") 1 5)
 abbrev storing : List ℕ → StoreState
 storing text = record { contents = Some text; faults = no_faults }
 
-is_fed : FeedsAll tables (of_x []) (storing []) (unpainted (0x61 ∷ 0x13 ∷ 0x62 ∷ 0x1a ∷ [])) (of_x (0x61 ∷ 0x13 ∷ 0x62 ∷ 0x1a ∷ [])) (storing (codes "ax"))
+abbrev input : List ℕ
+input = 0x61 ∷ 0x13 ∷ 0x62 ∷ 0x1a ∷ []
+
+is_fed : FeedsAll tables (start (codes "x") 1 5) (storing []) (unpainted input) (of_x input) (storing (codes "ax"))
 unfolding unicode_segmentation unicode_width digits
 is_fed = (
   of_x (0x61 ∷ []),
@@ -127,13 +130,23 @@ is_fed = (
   ),
 )
 
-pub its_replay_gives_the_text_back : RecoveryGivesBack
-    → (after_journal tables (start (codes "x") 1 5) (0x61 ∷ 0x13 ∷ 0x62 ∷ 0x1a ∷ [])).editor.content.text ≡ codes "ax"
+has_text : (of_x input).editor.content.text ≡ codes "ax"
 unfolding unicode_segmentation unicode_width digits
+has_text = refl
+
+-- the replay of what a session was fed has its text
+replays_to : RecoveryGivesBack → (store store' : StoreState) (answered : List ByteAnswer) (new : Session)
+    → FeedsAll tables (start (codes "x") 1 5) store answered new store' → RefusesNoKey answered
+    → (after_journal tables (start (codes "x") 1 5) (bytes_of answered)).editor.content.text ≡ new.editor.content.text
+replays_to law store store' answered new feeds none =
+    ap (λ (t : Edited). t.text) (law.gives_back tables (codes "x") 1 5 Auto store store' answered new feeds none).content
+
+pub its_replay_gives_the_text_back : RecoveryGivesBack → (after_journal tables (start (codes "x") 1 5) input).editor.content.text ≡ codes "ax"
 its_replay_gives_the_text_back law =
-    let input = 0x61 ∷ 0x13 ∷ 0x62 ∷ 0x1a ∷ [] in
-    let back = law.gives_back tables (codes "x") 1 5 Auto (storing []) (storing (codes "ax")) (unpainted input) (of_x input) is_fed (none_refused input) in
-    ap (λ (t : Edited). t.text) back.content
+    let fed_them : bytes_of (unpainted input) ≡ input = refl in
+    ap (λ bytes. (after_journal tables (start (codes "x") 1 5) bytes).editor.content.text) (sym fed_them)
+    ∙ replays_to law (storing []) (storing (codes "ax")) (unpainted input) (of_x input) is_fed (none_refused input)
+    ∙ has_text
 
 -- where the session refused b when memory ran out, its replay has abx
 pub a_refused_key_is_applied : RecoveryGivesBack → (after_replaying tables (start (codes "x") 1 5) (0x61 ∷ 0x62 ∷ [])).editor.content.text ≡ codes "abx"
@@ -162,7 +175,15 @@ a_recovered_session_goes_on law store store' b new feeds none =
       rest = refl;
       goes_on = refl;
     } in
-    let same : HasBackMidway (with_painting tables replayed) replayed = record { parts = parts; seek = refl; origin = refl; typing = refl } in
+    let same : HasBackMidway (with_painting tables replayed) replayed = record {
+      parts = parts;
+      seek = refl;
+      origin = refl;
+      ask = refl;
+      answer = refl;
+      one = λ asked. refl;
+      typing = refl;
+    } in
     ap (λ (t : Edited). t.text)
     (sym (law.keeps_up tables (with_painting tables replayed) replayed store store' ((0x62, b) ∷ []) new same feeds none).parts.content)
 
@@ -177,7 +198,7 @@ replay_of bytes = unpainted_at tables (record over_ab { journal = bytes })
 
 -- before any key
 settled : IsSettled (after_replaying tables (at_offset tables over_ab) over_ab.journal).editor
-settled = record { seek = refl; typing = refl; stored = λ h. absurd (cc h) }
+settled = record { seek = refl; ask = refl; typing = refl; stored = λ h. absurd (cc h) }
 
 module _ {J : Type 0} (contents : J → Option (List ℕ)) (failures : J → ℕ) (law : JournalsGiveBack contents failures) (new : Session)
     (store store' : StoreState) (writer writer' : Option (List ℕ)) (journal journal' : RecorderState J) where
