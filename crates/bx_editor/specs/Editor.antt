@@ -2,6 +2,8 @@
 use Rattle.std.specs.Prelude.{ℕ, ◌+◌, ◌-◌, Bool, true, false, not, ◌||◌, nat_le, nat_lt, List, [], ◌∷◌, length, Option, Some, None, if◌then◌else◌}
 use Rattle.bx_terms.specs.declared.base.Base.{Base}
 use Rattle.bx_terms.specs.declared.base.Base.TheVariants.{Auto, Ltr, Rtl}
+use Rattle.bx_asking.specs.declared.question.Ask.{Ask}
+use Rattle.bx_asking.specs.declared.question.Ask.TheVariants as asks
 use Rattle.bx_keys.specs.declared.notice.Notice.{Notice}
 use Rattle.bx_store.specs.declared.store.StoreFault.{StoreFault}
 use Rattle.bx_text.specs.Edits.{Edited, Edit, opened, inserted, removed, splice, undone, redone}
@@ -36,6 +38,9 @@ pub record Editor : Type 0 where
   pub seek : Seek
   -- the place at which the latest search began
   pub origin : ℕ
+  -- what the user is asked, and the answer as far as it is typed, in UTF-8
+  pub ask : Ask
+  pub answer : List ℕ
   -- the lengths of the past at which runs of edits begin
   pub runs : List ℕ
   -- what the next edit may go on with
@@ -71,6 +76,8 @@ at_start text height width base = record {
   query = [];
   seek = seeks.Off;
   origin = 0;
+  ask = asks.Off;
+  answer = [];
   runs = [];
   typing = typings.Off;
   stored = Some 0;
@@ -181,9 +188,13 @@ next_base Rtl = Auto
 abbrev pub with_base : Editor → Base → Editor
 with_base e base = record e { base = base; message = Some (messages.Direction base) }
 
--- the control keys are listed
-abbrev pub after_help : Editor → Editor
-after_help e = record e { message = Some messages.Help }
+-- the control keys are listed, or the others, if the message before listed the first ones
+abbrev pub help_behind : Option Message → Message
+help_behind (Some messages.Help) = messages.MoreHelp
+help_behind _ = messages.Help
+
+abbrev pub after_help : Editor → Option Message → Editor
+after_help e told = record e { message = Some (help_behind told) }
 
 abbrev pub with_size : Editor → ℕ → ℕ → Editor
 with_size e height width = record e { height = height; width = width }

@@ -6,6 +6,10 @@ use Rattle.bx_document.specs.declared.history.HistoryStep.{HistoryStep}
 use Rattle.bx_runs.specs.declared.typing.Removal.{Removal}
 use Rattle.bx_runs.specs.declared.typing.Typing.{Typing}
 use Rattle.bx_view.specs.declared.moves.Vertical.{Vertical}
+use Rattle.bx_asking.specs.declared.question.Ask.TheVariants.{Line, Name}
+use Rattle.bx_editor.specs.declared.message.Message.{Message}
+use Rattle.bx_editor.specs.declared.message.Message.TheVariants.{Told}
+use Rattle.bx_editor.specs.Asking.{asking}
 use Rattle.bx_editor.specs.Editor.{Editor, after_help, after_quit, after_save, after_step, next_base, with_base, with_place, with_typing}
 use Rattle.bx_editor.specs.Erasing.{after_erasing, after_erasing_word}
 use Rattle.bx_editor.specs.Goal.{after_row_move}
@@ -41,16 +45,21 @@ pub data Effect : Type 0 where
   Quits : Effect
   Turns : Effect
   Helps : Effect
+  -- a line is asked for, or a character's name; what stands at the place is told
+  AsksLine : Effect
+  AsksName : Effect
+  Tells : Effect
   -- nothing; what is typed goes on
   Rests : Effect
 
--- what the key before left: whether it was Quit, and what the next edit may go on with
+-- what the key before left: whether it was Quit, its message, and what the next edit may go on with
 pub record Before : Type 0 where
   pub again : Bool
+  pub message : Option Message
   pub typing : Typing
 
 abbrev pub before : Editor → Before
-before e = record { again = e.quit_before; typing = e.typing }
+before e = record { again = e.quit_before; message = e.message; typing = e.typing }
 
 -- the effect on an editor whose message is cleared. `fault`: why a Save failed, None if it succeeded
 abbrev pub by : Data → Option StoreFault → Before → Editor → Effect → Editor
@@ -73,5 +82,8 @@ by d fault was e SeeksNext = after_find_next d (unselected e)
 by d fault was e Saves = after_save e fault
 by d fault was e Quits = after_quit e was.again
 by d fault was e Turns = with_base e (next_base e.base)
-by d fault was e Helps = after_help e
+by d fault was e Helps = after_help e was.message
+by d fault was e AsksLine = asking (unselected e) Line
+by d fault was e AsksName = asking e Name
+by d fault was e Tells = record e { message = Some Told }
 by d fault was e Rests = with_typing e was.typing

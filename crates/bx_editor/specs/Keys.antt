@@ -5,7 +5,7 @@ use Rattle.bx_keys.specs.declared.key.Key.TheVariants.{Insert, Erase, Delete, Ba
 use Rattle.bx_keys.specs.declared.key.Key.TheVariants.{Save, Quit, Undo, Redo, Repaint, Direction, Size, Mark, Copy, Cut, Put}
 use Rattle.bx_keys.specs.declared.key.Key.TheVariants.{Find, FindBack, WordLeft, WordRight, TextStart, TextEnd, Help, Notice}
 use Rattle.bx_keys.specs.declared.key.Key.TheVariants.{EraseWord, DeleteWord, ErasePoint, NewLine, FindNext, Cancel, LineUp, LineDown, PageBack, PageOn}
-use Rattle.bx_keys.specs.declared.key.Key.TheVariants.{Select, UndoRun, RedoRun, PasteStart, PasteEnd}
+use Rattle.bx_keys.specs.declared.key.Key.TheVariants.{Select, UndoRun, RedoRun, GoTo, Name, Tell, PasteStart, PasteEnd}
 use Rattle.bx_store.specs.declared.store.StoreFault.{StoreFault}
 use Rattle.bx_document.specs.declared.history.HistoryStep.TheVariants as steps
 use Rattle.bx_paragraph.specs.declared.moves.Visual.TheVariants as visual
@@ -18,9 +18,12 @@ use Rattle.bx_view.specs.Words.{step_word}
 use Rattle.bx_ucd.specs.Data.{Data}
 use Rattle.bx_editor.specs.declared.seek.Seek.{Seek}
 use Rattle.bx_editor.specs.declared.seek.Seek.TheVariants.{Off}
+use Rattle.bx_asking.specs.declared.question.Ask.{Ask}
+use Rattle.bx_asking.specs.declared.question.Ask.TheVariants as asks
+use Rattle.bx_editor.specs.Asking.{after_answer_letter, after_shorter_answer, without_ask}
 use Rattle.bx_editor.specs.Editor.{Editor, cleared, rows, text_height, with_notice, with_size, with_typing}
 use Rattle.bx_editor.specs.Effects.{Effect, Types, BeginsLine, Puts, Removes, RemovesWord, Steps, StepsRun, Goes, GoesByRows, Marks, Selects}
-use Rattle.bx_editor.specs.Effects.{Unmarks, Copies, Cuts, Seeks, SeeksNext, Saves, Quits, Turns, Helps, Rests, Before, before, by}
+use Rattle.bx_editor.specs.Effects.{Unmarks, Copies, Cuts, Seeks, SeeksNext, Saves, Quits, Turns, Helps, AsksLine, AsksName, Tells, Rests, Before, before, by}
 use Rattle.bx_editor.specs.Erasing.{point_before}
 use Rattle.bx_editor.specs.Goal.{goal_behind}
 use Rattle.bx_editor.specs.Putting.{only_paste}
@@ -72,6 +75,9 @@ effect_of d e Save = Saves
 effect_of d e Quit = Quits
 effect_of d e Direction = Turns
 effect_of d e Help = Helps
+effect_of d e GoTo = AsksLine
+effect_of d e Name = AsksName
+effect_of d e Tell = Tells
 effect_of d e _ = Rests
 
 abbrev pub after_pressing : Data → Option StoreFault → Before → Editor → Key → Editor
@@ -116,11 +122,24 @@ answered d fault was e key Ends = without_search (after_pressing d fault was e k
 abbrev pub after_seeking : Data → Option StoreFault → Before → Editor → Key → Editor
 after_seeking d fault was e key = answered d fault was e key (answer_of key)
 
+-- ---- in a question: a key answers it, or ends it and does what it always does
+
+abbrev pub answered_question : Data → Option StoreFault → Before → Editor → Key → Answer → Editor
+answered_question d fault was e key (Letter c) = after_answer_letter d was.typing e.ask e c
+answered_question d fault was e key Shortens = after_shorter_answer e.ask e
+answered_question d fault was e key GoesBack = without_ask e
+answered_question d fault was e key Stays = with_typing e was.typing
+answered_question d fault was e key _ = after_pressing d fault was (without_ask e) key
+
+abbrev pub after_asking : Data → Option StoreFault → Before → Editor → Key → Editor
+after_asking d fault was e key = answered_question d fault was e key (answer_of key)
+
 -- ---- any key
 
-abbrev pub after_any : Data → Option StoreFault → Before → Seek → Editor → Key → Editor
-after_any d fault was Off e key = after_pressing d fault was e key
-after_any d fault was _ e key = after_seeking d fault was e key
+abbrev pub after_any : Data → Option StoreFault → Before → Ask → Seek → Editor → Key → Editor
+after_any d fault was asks.Off Off e key = after_pressing d fault was e key
+after_any d fault was asks.Off _ e key = after_seeking d fault was e key
+after_any d fault was _ _ e key = after_asking d fault was e key
 
 -- with the kept column and the selection that a key leaves
 abbrev pub as_left : Key → Editor → Editor
@@ -128,7 +147,7 @@ as_left key e = record e { goal = goal_behind key e.goal; soft = soft_behind key
 
 -- a key that the user presses
 abbrev pub after_user : Data → Option StoreFault → Editor → Key → Editor
-after_user d fault e key = as_left key (after_any d fault (before e) e.seek (cleared e) key)
+after_user d fault e key = as_left key (after_any d fault (before e) e.ask e.seek (cleared e) key)
 
 -- any key
 abbrev pub after_key : Data → Option StoreFault → Editor → Key → Editor

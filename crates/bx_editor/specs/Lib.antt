@@ -5,6 +5,10 @@ pub mod Search
 pub mod Goal
 pub mod Erasing
 pub mod Putting
+pub mod Wrapping
+pub mod Asking
+pub mod Answers
+pub mod Telling
 pub mod Runs
 pub mod Origin
 pub mod Effects

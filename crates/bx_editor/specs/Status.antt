@@ -1,5 +1,7 @@
--- The status row: whether there are unsaved changes, the cursor's position, a message, and the query of a search.
+-- The status row: whether there are unsaved changes, the cursor's position, a message, and the query of a search or the prompt of a
+-- question.
 use Rattle.std.specs.Prelude.{ℕ, ◌+◌, nat_le, Bool, List, [], ◌++◌, Option, Some, None, codes, decimal, if◌then◌else◌}
+use Rattle.std.specs.Option.{option_map}
 use Rattle.bx_terms.specs.declared.base.Base.TheVariants.{Auto, Ltr, Rtl}
 use Rattle.bx_keys.specs.declared.notice.Notice as told
 use Rattle.bx_keys.specs.declared.notice.Notice.TheVariants as notices
@@ -8,14 +10,17 @@ use Rattle.bx_store.specs.Causes.{cause_text}
 pub use Rattle.bx_view.specs.Numbers.{paragraph_number, unit_number}
 use Rattle.bx_grid.specs.Columns.{Col}
 use Rattle.bx_rows.specs.RowPicture.{Glyph}
-pub use Rattle.bx_document.specs.QueryRow.{glyph_row, letter_glyphs, query_glyphs}
+pub use Rattle.bx_document.specs.QueryRow.{glyph_row, letter_glyphs, query_glyphs, typed_glyphs}
 use Rattle.bx_editor.specs.declared.message.Message.{Message}
 use Rattle.bx_editor.specs.declared.message.Message.TheVariants.{Saved, SaveFailed, TextFull, NothingToUndo, NothingToRedo, Unsaved, Direction, MarkSet, MarkOff}
-use Rattle.bx_editor.specs.declared.message.Message.TheVariants.{Copied, LineCopied, NothingToCopy, NothingToPut, FromStart, FromEnd, NotFound, Help, Notice}
+use Rattle.bx_editor.specs.declared.message.Message.TheVariants.{Copied, LineCopied, NothingToCopy, NothingToPut, FromStart, FromEnd, NotFound, Help, MoreHelp, MoreThanOneLine, NoSuchCharacter, Told, Notice}
 use Rattle.bx_editor.specs.declared.seek.Seek.{Seek}
 use Rattle.bx_editor.specs.declared.seek.Seek.TheVariants.{Off, Begun, Typed}
 use Rattle.bx_ucd.specs.Data.{Data}
+use Rattle.bx_asking.specs.declared.question.Ask.{Ask}
+use Rattle.bx_asking.specs.declared.question.Ask.TheVariants as asks
 use Rattle.bx_editor.specs.Editor.{Editor}
+use Rattle.bx_editor.specs.Telling.{told_at_place}
 
 -- a failed save: the message has a colon and the cause, if the store tells one
 abbrev pub failed_text : Option SaveCause → List ℕ
@@ -53,21 +58,31 @@ message_text FromStart = codes "from the start"
 message_text FromEnd = codes "from the end"
 message_text NotFound = codes "not found"
 message_text Help = codes "^S save ^Q quit ^Z undo ^W find ^@ mark ^X cut ^C copy ^V put F2 turn"
+message_text MoreHelp = codes "^G line ^K insert ^T tell ^Y redo ^R back ^L paint"
+message_text MoreThanOneLine = codes "more than one line"
+message_text NoSuchCharacter = codes "no such character"
 message_text (Notice notice) = notice_text notice
+message_text Told = []
 
-abbrev pub message_part : Option Message → List ℕ
+-- what stands at the cursor's place is read from the state
+abbrev pub shown_text : List ℕ → Message → List ℕ
+shown_text told Told = told
+shown_text told message = message_text message
+
+abbrev pub message_part : Option (List ℕ) → List ℕ
 message_part None = []
-message_part (Some message) = codes " " ++ message_text message
+message_part (Some text) = codes " " ++ text
 
--- a star if there are unsaved changes, the numbers of a paragraph and of a unit in it, both from 1, and a message
-abbrev pub status_line : Bool → ℕ → ℕ → Option Message → List ℕ
+-- a star if there are unsaved changes, the numbers of a paragraph and of a unit in it, both from 1, and a message's text
+abbrev pub status_line : Bool → ℕ → ℕ → Option (List ℕ) → List ℕ
 status_line changed paragraph unit message =
     (if changed then codes "* " else codes "- ") ++ (decimal paragraph ++ (codes ":" ++ (decimal unit ++ message_part message)))
 
 -- an editor's status line, with the numbers of the cursor's place
 abbrev pub status_text : Data → Editor → List ℕ
 status_text d e =
-    status_line e.changed (paragraph_number d e.content.text e.place + 1) (unit_number d e.content.text e.place) e.message
+    status_line e.changed (paragraph_number d e.content.text e.place + 1) (unit_number d e.content.text e.place)
+    (option_map (shown_text (told_at_place d e)) e.message)
 
 -- in a search, the query follows the text
 abbrev pub search_glyphs : Data → Seek → List ℕ → List Glyph
@@ -75,9 +90,16 @@ search_glyphs d Off query = []
 search_glyphs d Begun query = letter_glyphs (codes " find: ") ++ query_glyphs d query
 search_glyphs d Typed query = letter_glyphs (codes " find: ") ++ query_glyphs d query
 
+-- the prompt of a question, and the answer as it was typed; without a question, the query of a search
+abbrev pub prompt_glyphs : Data → Editor → Ask → List Glyph
+prompt_glyphs d e asks.Off = search_glyphs d e.seek e.query
+prompt_glyphs d e asks.Line = letter_glyphs (codes " line: ") ++ typed_glyphs e.answer
+prompt_glyphs d e asks.Name = letter_glyphs (codes " insert: ")
+prompt_glyphs d e asks.Code = letter_glyphs (codes " insert: U+") ++ typed_glyphs e.answer
+
 -- the glyphs of an editor's status row from left to right
 abbrev pub status_glyphs : Data → Editor → List Glyph
-status_glyphs d e = letter_glyphs (status_text d e) ++ search_glyphs d e.seek e.query
+status_glyphs d e = letter_glyphs (status_text d e) ++ prompt_glyphs d e e.ask
 
 -- the status row of a window of more than one row
 abbrev pub status_columns : Data → Editor → List Col

@@ -11,6 +11,7 @@ ghost use Rattle.bx_editor.specs.Search.{without_search};
 use crate::message::Message;
 use crate::seek::Seek;
 use crate::soft::Soft;
+use bx_asking::Ask;
 use bx_document::Document;
 use bx_runs::{Runs, Typing};
 use bx_text::Slices;
@@ -29,6 +30,8 @@ pub struct Editor<D: BidiData + Drop> {
     pub(crate) query: String,
     pub(crate) seek: Seek,
     pub(crate) origin: usize,
+    pub(crate) ask: Ask,
+    pub(crate) answer: String,
     pub(crate) runs: Runs,
     pub(crate) typing: Typing,
     pub(crate) stored: Option<usize>,
@@ -44,6 +47,7 @@ impl<D: BidiData + Drop> Model for Editor<D> {
     ghost use Rattle.std.specs.Prelude.{◌≡◌, ◌≤◌, true, IfSome, chars, length, string_bytes};
     ghost use Rattle.bx_terms.specs.Sizes.{is_side};
     ghost use Rattle.bx_view.specs.Places.{IsTextPlace};
+    ghost use Rattle.bx_editor.specs.Answers.{IsAnswer};
     ghost use Rattle.bx_editor.specs.Editor.{EditorState};
     ghost use Rattle.bx_editor.specs.Origin.{BeganAt};
 
@@ -60,6 +64,8 @@ impl<D: BidiData + Drop> Model for Editor<D> {
         query = string_bytes e.query;
         seek = e.seek;
         origin = e.origin;
+        ask = e.ask;
+        answer = string_bytes e.answer;
         runs = e.runs.numbers;
         typing = e.typing;
         stored = e.stored;
@@ -78,6 +84,7 @@ impl<D: BidiData + Drop> Model for Editor<D> {
         × (is_side e.height ≡ true)
         × IfSome e.mark (IsTextPlace (D.data e.document.tables) e.document.document.content.text)
         × (length (chars (string_bytes e.query)) ≤ 64)
+        × IsAnswer e.ask (string_bytes e.answer)
         × BeganAt (D.data e.document.tables) e.document.document.content.text e.seek e.origin };
 }
 

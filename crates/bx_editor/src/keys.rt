@@ -13,6 +13,7 @@ use crate::moving::goal_behind;
 use crate::putting::only_paste;
 use crate::seek::Seek;
 use crate::selecting::{aged, soft_behind};
+use bx_asking::Ask;
 use bx_document::HistoryStep;
 use bx_keys::Key;
 use bx_runs::Typing;
@@ -69,6 +70,17 @@ impl<D: BidiData + Drop> Editor<D> {
             self.message = Some(Message::Unsaved);
         }
         self.quit_before = true;
+    }
+
+    /// Lists the control keys, or the others, if the message listed the first ones.
+    fn help(&mut self)
+        ensures { self.new ≡ record self.old { editor = after_help (cleared self.old.editor) self.old.editor.message } }
+    {
+        let message = match self.message {
+            Some(Message::Help) => Message::MoreHelp,
+            _ => Message::Help,
+        };
+        self.tell(message);
     }
 
     /// Switches the paragraphs to the next base direction.
@@ -131,9 +143,10 @@ impl<D: BidiData + Drop> Editor<D> {
         ensures err { OnErr result (self.new ≡ self.old) }
         ensures edits { OnErr result (is_edit_or_move key ≡ true) }
     {
-        match self.seek {
-            Seek::Off => self.press(key),
-            Seek::Begun | Seek::Typed => self.press_in_search(key),
+        match (self.ask, self.seek) {
+            (Ask::Off, Seek::Off) => self.press(key),
+            (Ask::Off, Seek::Begun | Seek::Typed) => self.press_in_search(key),
+            (Ask::Line | Ask::Name | Ask::Code, _) => self.press_in_question(key),
         }
     }
 
@@ -195,7 +208,20 @@ impl<D: BidiData + Drop> Editor<D> {
                 Ok(())
             }
             Key::Help => {
-                self.tell(Message::Help);
+                self.help();
+                Ok(())
+            }
+            Key::GoTo => {
+                self.unselect();
+                self.begin_question(Ask::Line);
+                Ok(())
+            }
+            Key::Name => {
+                self.begin_question(Ask::Name);
+                Ok(())
+            }
+            Key::Tell => {
+                self.tell(Message::Told);
                 Ok(())
             }
             Key::Quit => {
@@ -275,5 +301,51 @@ impl<D: BidiData + Drop> Editor<D> {
         self.press(key)?;
         self.leave_search();
         Ok(())
+    }
+
+    /// Applies a key in a question.
+    fn press_in_question(&mut self, key: Key) -> Result<(), OutOfMemory>
+        requires no_save { is_save key ≡ false }
+        requires typed { is_told_key key ≡ false }
+        ensures ok { OnOk result (self.new.editor
+            ≡ after_asking (D.data self.old.tables) None (before self.old.editor) (cleared self.old.editor) key) }
+        ensures tables { self.new.tables ≡ self.old.tables }
+        ensures err { OnErr result (self.new ≡ self.old) }
+        ensures edits { OnErr result (is_edit_or_move key ≡ true) }
+    {
+        match key {
+            Key::Insert(c) => self.answer_question(c),
+            Key::NewLine => self.answer_question('\n'),
+            Key::Erase | Key::Delete | Key::ErasePoint => self.shorten_answer(),
+            Key::Quit | Key::Copy | Key::Cancel => {
+                self.leave_question();
+                self.clear();
+                Ok(())
+            }
+            Key::Repaint => {
+                self.rest();
+                Ok(())
+            }
+            _ => self.press_without_question(key),
+        }
+    }
+
+    /// Ends the question, and applies a key with its usual effect. A refused key leaves the question.
+    fn press_without_question(&mut self, key: Key) -> Result<(), OutOfMemory>
+        requires no_save { is_save key ≡ false }
+        requires typed { is_told_key key ≡ false }
+        ensures ok { OnOk result (self.new.editor
+            ≡ after_pressing (D.data self.old.tables) None (before self.old.editor) (without_ask (cleared self.old.editor)) key) }
+        ensures tables { self.new.tables ≡ self.old.tables }
+        ensures err { OnErr result (self.new ≡ self.old) }
+        ensures edits { OnErr result (is_edit_or_move key ≡ true) }
+    {
+        let ask = self.ask;
+        self.leave_question();
+        let pressed = self.press(key);
+        if pressed.is_err() {
+            self.ask = ask;
+        }
+        pressed
     }
 }

@@ -1,6 +1,7 @@
 //! The editor: a text, the cursor's place, the effect of keys on them, and the picture of the window.
 #![tactic(auto)]
 
+mod asking;
 mod editing;
 mod editor;
 mod erasing;
@@ -24,7 +25,9 @@ mod selecting;
 mod selection_laws;
 pub mod soft;
 mod status;
+mod telling;
 mod work_laws;
+mod wrapping;
 
 pub use editor::Editor;
 pub use error::OpenError;

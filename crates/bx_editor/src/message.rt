@@ -36,6 +36,14 @@ pub enum Message {
     NotFound,
     /// The control keys.
     Help,
+    /// The other control keys.
+    MoreHelp,
+    /// The region spans lines, and is not put between two characters.
+    MoreThanOneLine,
+    /// The answer writes no character's code.
+    NoSuchCharacter,
+    /// What stands at the cursor's place: the state tells it, and not the message.
+    Told,
     /// What the host tells.
     Notice(Notice),
 }
@@ -103,6 +111,10 @@ impl Message {
             Message::Help => {
                 "^S save ^Q quit ^Z undo ^W find ^@ mark ^X cut ^C copy ^V put F2 turn"
             }
+            Message::MoreHelp => "^G line ^K insert ^T tell ^Y redo ^R back ^L paint",
+            Message::MoreThanOneLine => "more than one line",
+            Message::NoSuchCharacter => "no such character",
+            Message::Told => "",
             Message::Notice(notice) => notice_text(notice),
         }
     }

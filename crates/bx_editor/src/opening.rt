@@ -9,6 +9,7 @@ use crate::editor::Editor;
 use crate::error::OpenError;
 use crate::seek::Seek;
 use crate::soft::Soft;
+use bx_asking::Ask;
 use bx_document::Document;
 use bx_runs::{Runs, Typing};
 use bx_terms::{Base, LARGEST_TEXT, is_side};
@@ -68,6 +69,8 @@ impl<D: BidiData + Drop> Editor<D> {
                 query: String::new(alloc),
                 seek: Seek::Off,
                 origin: 0,
+                ask: Ask::Off,
+                answer: String::new(alloc),
                 runs: Runs::new(alloc),
                 typing: Typing::Off,
                 stored: Some(0),

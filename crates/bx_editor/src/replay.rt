@@ -5,6 +5,7 @@ ghost use Rattle.bx_editor.specs.Replay.{after_passed_quit, after_passed_save, a
 use crate::editor::Editor;
 use crate::seek::Seek;
 use crate::selecting::aged;
+use bx_asking::Ask;
 use bx_runs::Typing;
 use bx_ucd::BidiData;
 
@@ -25,6 +26,7 @@ impl<D: BidiData + Drop> Editor<D> {
     {
         self.pass_quit();
         self.seek = Seek::Off;
+        self.ask = Ask::Off;
         self.stored = None;
     }
 
@@ -34,6 +36,7 @@ impl<D: BidiData + Drop> Editor<D> {
         ensures { self.new ≡ record self.old { editor = at_replay_end self.old.editor } }
     {
         self.seek = Seek::Off;
+        self.ask = Ask::Off;
         self.typing = Typing::Off;
         self.stored = if self.changed {
             None

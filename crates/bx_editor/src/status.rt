@@ -3,7 +3,6 @@ ghost use Rattle.std.specs.Prelude.{◌≡◌, ◌++◌, true, IfOk, codes, leng
 ghost use Rattle.bx_terms.specs.Characters.{are_ascii_printable};
 ghost use Rattle.bx_editor.specs.Status.{glyph_row, letter_glyphs, query_glyphs, search_glyphs, status_line};
 
-use crate::message::Message;
 use crate::seek::Seek;
 use bx_document::Document;
 use bx_grid::OwnedRow;
@@ -18,9 +17,9 @@ fn write_line(
     changed: bool,
     paragraph: usize,
     unit: usize,
-    message: Option<Message>,
+    message: Option<&str>,
 ) -> Result<String, AllocError>
-    ensures { IfOk result (λ t. string_bytes t ≡ status_line changed paragraph unit message) }
+    ensures { IfOk result (λ t. string_bytes t ≡ status_line changed paragraph unit (option_map (λ m. m.now) message)) }
 {
     let mut line = String::from_str(alloc, if changed { "* " } else { "- " })?;
     let mut number = Buffer::new();
@@ -30,7 +29,7 @@ fn write_line(
     line.push_str(number.format(unit))?;
     if let Some(message) = message {
         line.push_str(" ")?;
-        line.push_str(message.text())?;
+        line.push_str(message)?;
     }
     Ok(line)
 }
@@ -44,9 +43,10 @@ pub(crate) fn status_line(
     changed: bool,
     paragraph: usize,
     unit: usize,
-    message: Option<Message>,
+    message: Option<&str>,
 ) -> Result<String, AllocError>
-    ensures line { IfOk result (λ t. string_bytes t ≡ status_line changed paragraph unit message) }
+    requires printable { IfSome message (λ m. are_ascii_printable m.now ≡ true) }
+    ensures line { IfOk result (λ t. string_bytes t ≡ status_line changed paragraph unit (option_map (λ m. m.now) message)) }
     ensures printable { IfOk result (λ t. are_ascii_printable (string_bytes t) ≡ true) }
 {
     let line = write_line(alloc, changed, paragraph, unit, message)?;
@@ -67,6 +67,26 @@ fn draw_search<D: BidiData + Drop>(
     let mut line = line;
     line.push_str(" find: ")?;
     let row = document.draw_query(line.as_str(), query)?;
+    Ok(row)
+}
+
+/// Draws a status row whose text has the prompt of a question and its answer after it.
+fn draw_question<D: BidiData + Drop>(
+    document: &Document<D>,
+    line: String,
+    prompt: &str,
+    answer: &str,
+) -> Result<OwnedRow, OutOfMemory>
+    requires line { are_ascii_printable (string_bytes line) ≡ true }
+    requires prompt { are_ascii_printable prompt.now ≡ true }
+    requires narrow { All IsNarrow (chars answer.now) }
+    ensures row { IfOk result (λ row. row ≡ glyph_row document.now.document.w
+        (letter_glyphs (string_bytes line) ++ (letter_glyphs prompt.now ++ typed_glyphs answer.now))) }
+    ensures filled { IfOk result (λ row. length row ≡ document.now.document.w) }
+{
+    let mut line = line;
+    line.push_str(prompt)?;
+    let row = document.draw_typed(line.as_str(), answer)?;
     Ok(row)
 }
 

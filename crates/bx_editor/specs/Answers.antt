@@ -1,0 +1,16 @@
+-- An answer while it is typed: short, and of characters that a terminal shows in one column.
+use Rattle.std.specs.Prelude.{ℕ, ◌≤◌, List, All, length, chars}
+use Rattle.bx_asking.specs.declared.question.Ask.{Ask}
+use Rattle.bx_asking.specs.declared.question.Ask.TheVariants.{Off, Line, Name, Code}
+use Rattle.bx_document.specs.QueryRow.{IsNarrow}
+use Rattle.bx_editor.specs.Asking.{longest_code, longest_line}
+
+-- the most characters that an answer has
+abbrev pub limit_of : Ask → ℕ
+limit_of Name = 0
+limit_of Code = longest_code
+limit_of _ = longest_line
+
+pub record IsAnswer (ask : Ask) (answer : List ℕ) : Type 0 where
+  pub short : length (chars answer) ≤ limit_of ask
+  pub narrow : All IsNarrow (chars answer)

@@ -1,0 +1,204 @@
+//! The keys that ask, and what answers a question: a line, and a character by name or by code.
+ghost use Rattle.std.specs.Prelude.{◌≡◌, ◌≤◌, Option, chars, length, string_bytes, OnErr, OnOk};
+ghost use Rattle.bx_asking.specs.declared.question.Ask.{Ask};
+ghost use Rattle.bx_editor.specs.Asking.{after_answer_letter, after_code, after_code_letter, after_going, after_line_letter, after_name_letter, after_named, after_shorter_answer, asking, with_character, without_ask};
+ghost use Rattle.bx_editor.specs.Editor.{cleared, with_typing};
+ghost use Rattle.bx_editor.specs.Putting.{only_paste};
+
+use crate::editor::Editor;
+use crate::message::Message;
+use crate::putting::{is_paste, only_paste};
+use bx_asking::{Ask, asked, asks_code, closing, coded, is_code_letter, is_line_letter, lengthened, named, shortened};
+use bx_runs::{Kind, Typing};
+use bx_terms::OutOfMemory;
+use bx_ucd::BidiData;
+
+/// The most characters of the answer to the question for a line.
+const LONGEST_LINE: usize = 16;
+
+/// The most digits of a code.
+const LONGEST_CODE: usize = 6;
+
+impl<D: BidiData + Drop> Editor<D> {
+    /// Asks, with an empty answer. No memory.
+    pub(crate) fn begin_question(&mut self, ask: Ask)
+        ensures { self.new ≡ record self.old { editor = asking (cleared self.old.editor) ask } }
+    {
+        self.ask = ask;
+        self.answer = String::new(*self.answer.allocator());
+        self.clear();
+    }
+
+    /// Ends the question, if there is one. No memory.
+    pub(crate) fn leave_question(&mut self)
+        ensures { self.new ≡ record self.old { editor = without_ask self.old.editor } }
+    {
+        self.ask = Ask::Off;
+    }
+
+    /// Appends a character to the answer, unless it has its limit.
+    fn lengthen(&mut self, c: char, limit: usize) -> Result<(), OutOfMemory>
+    {
+        let answer = lengthened(*self.answer.allocator(), self.answer.as_str(), c, limit)?;
+        self.answer = answer;
+        self.clear();
+        Ok(())
+    }
+
+    /// Goes to the line and unit that the answer names.
+    fn go(&mut self) -> Result<(), OutOfMemory>
+        ensures ok { OnOk result (self.new ≡ record self.old { editor = after_going (D.data self.old.tables) (cleared self.old.editor) }) }
+        ensures err { OnErr result (self.new ≡ self.old) }
+    {
+        if let Some(target) = asked(self.answer.as_str()) {
+            let own = self.document.paragraph_at(self.place);
+            let paragraph = target.paragraph.unwrap_or(own + 1);
+            self.place = self.document.place_of(paragraph, target.unit)?;
+        }
+        self.leave_question();
+        self.clear();
+        Ok(())
+    }
+
+    /// Takes a character of the answer to the question for a line; a paste's line end answers nothing.
+    fn answer_line(&mut self, c: char) -> Result<(), OutOfMemory>
+        ensures ok { OnOk result (self.new ≡ record self.old {
+          editor = with_typing (after_line_letter (D.data self.old.tables) self.old.editor.typing (cleared self.old.editor) c)
+              (only_paste self.old.editor.typing);
+        }) }
+        ensures err { OnErr result (self.new ≡ self.old) }
+    {
+        let typing = self.typing;
+        if c == '\n' && !is_paste(typing) {
+            self.go()?;
+        } else if is_line_letter(c) {
+            self.lengthen(c, LONGEST_LINE)?;
+        } else {
+            self.clear();
+        }
+        self.typing = only_paste(typing);
+        Ok(())
+    }
+
+    /// Puts a character in as Insert does, but in no selection's place.
+    fn put_character(&mut self, c: char) -> Result<(), OutOfMemory>
+        ensures ok { OnOk result (self.new ≡ record self.old {
+          editor = with_character (D.data self.old.tables) (cleared self.old.editor) c;
+        }) }
+        ensures err { OnErr result (self.new ≡ self.old) }
+    {
+        let mut buffer = [0; 4];
+        let new = c.encode_utf8(&mut buffer);
+        let kind = Kind::of(self.document.class(c));
+        let room = self.insert_text(new, false)?;
+        self.clear();
+        if room {
+            self.typing = Typing::Off.after_insertion(kind);
+        } else {
+            self.message = Some(Message::TextFull);
+        }
+        Ok(())
+    }
+
+    /// Puts the character that a letter names in, around the region if it begins what another character ends.
+    fn put_named(&mut self, letter: char, c: char) -> Result<(), OutOfMemory>
+        ensures ok { OnOk result (self.new ≡ record self.old {
+          editor = after_named (D.data self.old.tables) (cleared self.old.editor) c (closing letter);
+        }) }
+        ensures err { OnErr result (self.new ≡ self.old) }
+    {
+        let (start, stop) = self.region();
+        match closing(letter) {
+            Some(closer) if start != stop => self.wrap(c, closer),
+            _ => self.put_character(c),
+        }
+    }
+
+    /// Takes a letter that names a character; a paste answers nothing.
+    fn answer_name(&mut self, letter: char) -> Result<(), OutOfMemory>
+        ensures ok { OnOk result (self.new ≡ record self.old {
+          editor = after_answer_letter (D.data self.old.tables) self.old.editor.typing Ask.Name (cleared self.old.editor) letter;
+        }) }
+        ensures err { OnErr result (self.new ≡ self.old) }
+    {
+        if is_paste(self.typing) {
+            self.rest();
+            return Ok(());
+        }
+        if let Some(c) = named(letter) {
+            self.put_named(letter, c)?;
+            self.leave_question();
+            return Ok(());
+        }
+        self.clear();
+        if asks_code(letter) {
+            self.ask = Ask::Code;
+        } else if letter == '\n' {
+            self.leave_question();
+        }
+        Ok(())
+    }
+
+    /// Takes a digit of a code, or its end; a paste answers nothing.
+    fn answer_code(&mut self, letter: char) -> Result<(), OutOfMemory>
+        ensures ok { OnOk result (self.new ≡ record self.old {
+          editor = after_answer_letter (D.data self.old.tables) self.old.editor.typing Ask.Code (cleared self.old.editor) letter;
+        }) }
+        ensures err { OnErr result (self.new ≡ self.old) }
+    {
+        if is_paste(self.typing) {
+            self.rest();
+            return Ok(());
+        }
+        if letter == '\n' {
+            match coded(self.answer.as_str()) {
+                Some(c) => self.put_character(c)?,
+                None => self.tell(Message::NoSuchCharacter),
+            }
+            self.leave_question();
+            return Ok(());
+        }
+        if is_code_letter(letter) {
+            return self.lengthen(letter, LONGEST_CODE);
+        }
+        self.clear();
+        Ok(())
+    }
+
+    /// Takes a typed character as part of the answer.
+    pub(crate) fn answer_question(&mut self, c: char) -> Result<(), OutOfMemory>
+        ensures ok { OnOk result (self.new ≡ record self.old {
+          editor = after_answer_letter (D.data self.old.tables) self.old.editor.typing self.old.editor.ask (cleared self.old.editor) c;
+        }) }
+        ensures err { OnErr result (self.new ≡ self.old) }
+    {
+        match self.ask {
+            Ask::Off => {
+                self.clear();
+                Ok(())
+            }
+            Ask::Line => self.answer_line(c),
+            Ask::Name => self.answer_name(c),
+            Ask::Code => self.answer_code(c),
+        }
+    }
+
+    /// Removes the answer's last character; an empty code becomes the question for a name again.
+    pub(crate) fn shorten_answer(&mut self) -> Result<(), OutOfMemory>
+        ensures ok { OnOk result (self.new ≡ record self.old {
+          editor = after_shorter_answer self.old.editor.ask (cleared self.old.editor);
+        }) }
+        ensures err { OnErr result (self.new ≡ self.old) }
+    {
+        match self.ask {
+            Ask::Off | Ask::Name => {}
+            Ask::Code if self.answer.is_empty() => self.ask = Ask::Name,
+            Ask::Line | Ask::Code => {
+                let answer = shortened(*self.answer.allocator(), self.answer.as_str())?;
+                self.answer = answer;
+            }
+        }
+        self.clear();
+        Ok(())
+    }
+}

@@ -1,0 +1,74 @@
+//! The region between two characters that isolate, embed or override it.
+ghost use Rattle.std.specs.Prelude.{◌≡◌, OnErr, OnOk};
+ghost use Rattle.bx_editor.specs.Editor.{cleared};
+ghost use Rattle.bx_editor.specs.Wrapping.{after_wrapping, cursor_end, spans_lines};
+
+use crate::editing::{settle, stored_behind};
+use crate::editor::Editor;
+use crate::message::Message;
+use bx_document::RegionEnd;
+use bx_terms::OutOfMemory;
+use bx_ucd::BidiData;
+
+impl<D: BidiData + Drop> Editor<D> {
+    /// Whether the region has a separator of paragraphs.
+    ///
+    /// Errors: `OutOfMemory`.
+    fn spans_lines(&self) -> Result<bool, OutOfMemory>
+        ensures { IfOk result (λ spans. spans ≡ spans_lines (D.data self.now.tables) self.now.editor) }
+    {
+        let (start, stop) = self.region();
+        let region = self.document.copy(start, stop)?;
+        let document = &self.document;
+        Ok(region.as_str().chars().any(|c| document.separates(c)))
+    }
+
+    /// The end of the region at which the cursor stands.
+    fn cursor_end(&self) -> RegionEnd
+        ensures { result ≡ cursor_end self.now.editor }
+    {
+        let (start, _) = self.region();
+        if self.place == start {
+            RegionEnd::Start
+        } else {
+            RegionEnd::Stop
+        }
+    }
+
+    /// Puts `opener` before the region and `closer` behind it, as two edits of one run; if the region spans lines or the text is
+    /// full, sets a message instead.
+    pub(crate) fn wrap(&mut self, opener: char, closer: char) -> Result<(), OutOfMemory>
+        ensures ok { OnOk result (self.new ≡ record self.old {
+          editor = after_wrapping (D.data self.old.tables) (cleared self.old.editor) opener closer;
+        }) }
+        ensures err { OnErr result (self.new ≡ self.old) }
+    {
+        if self.spans_lines()? {
+            self.tell(Message::MoreThanOneLine);
+            return Ok(());
+        }
+        let (start, stop) = self.region();
+        let end = self.cursor_end();
+        let (mut front, mut back) = ([0; 4], [0; 4]);
+        let front = opener.encode_utf8(&mut front);
+        let back = closer.encode_utf8(&mut back);
+        self.runs.reserve()?;
+        let n = self.document.past_len();
+        let Some(place) = self.document.wrap(start, stop, front, back, self.place, end)? else {
+            self.tell(Message::TextFull);
+            return Ok(());
+        };
+        self.runs.edited(n, false);
+        self.stored = stored_behind(n, self.stored);
+        settle(
+            &mut self.place,
+            &mut self.mark,
+            &mut self.soft,
+            &mut self.seek,
+            place,
+        );
+        self.changed = true;
+        self.clear();
+        Ok(())
+    }
+}
