@@ -38,6 +38,12 @@ impl<D: BidiData + Drop> Editor<D> {
 
     /// Appends a character to the answer, unless it has its limit.
     fn lengthen(&mut self, c: char, limit: usize) -> Result<(), OutOfMemory>
+        requires limit { limit ≡ limit_of self.old.editor.ask }
+        requires narrow { IsNarrow c }
+        ensures ok { OnOk result (self.new ≡ record self.old {
+          editor = with_answer (cleared self.old.editor) (lengthened limit self.old.editor.answer c);
+        }) }
+        ensures err { OnErr result (self.new ≡ self.old) }
     {
         let answer = lengthened(*self.answer.allocator(), self.answer.as_str(), c, limit)?;
         self.answer = answer;

@@ -92,7 +92,7 @@ impl<D: BidiData + Drop> Editor<D> {
         self.tell(Message::Direction(base));
     }
 
-    /// Reports the end of a Save, with its fault if it failed, and ends a search. No memory.
+    /// Reports the end of a Save, with its fault if it failed, and ends a search or a question. No memory.
     pub fn finish_save(&mut self, fault: Option<StoreFault>)
         ensures { self.new ≡ record self.old { editor = after_key (D.data self.old.tables) fault self.old.editor Key.Save } }
     {
@@ -104,7 +104,10 @@ impl<D: BidiData + Drop> Editor<D> {
             }
             Some(fault) => self.tell(Message::SaveFailed(fault.cause)),
         }
-        self.leave_search();
+        match self.ask {
+            Ask::Off => self.leave_search(),
+            Ask::Line | Ask::Name | Ask::Code => self.leave_question(),
+        }
         self.goal = None;
         self.soft = aged(self.soft);
     }
