@@ -1,9 +1,10 @@
 //! The effect of each key.
 ghost use Rattle.std.specs.Prelude.{◌≡◌, None, Some, true, false, OnErr, OnOk};
 ghost use Rattle.bx_view.specs.Places.{IsTextPlace};
-ghost use Rattle.bx_editor.specs.Editor.{after_quit, cleared, next_base, with_base, with_typing};
+ghost use Rattle.bx_editor.specs.Asking.{without_ask};
+ghost use Rattle.bx_editor.specs.Editor.{after_help, after_quit, cleared, next_base, with_base, with_typing};
 ghost use Rattle.bx_editor.specs.Effects.{before};
-ghost use Rattle.bx_editor.specs.Keys.{after_any, after_key, after_pressing, after_seeking, is_edit_or_move, is_save, is_size_key, is_told_key};
+ghost use Rattle.bx_editor.specs.Keys.{after_any, after_asking, after_key, after_pressing, after_seeking, is_edit_or_move, is_save, is_size_key, is_told_key};
 ghost use Rattle.bx_editor.specs.Putting.{only_paste};
 ghost use Rattle.bx_editor.specs.Search.{after_letter, without_search};
 
@@ -35,7 +36,7 @@ fn next_base(base: Base) -> Base
 
 impl<D: BidiData + Drop> Editor<D> {
     /// Clears the message and forgets an earlier Quit, but what is typed goes on.
-    fn rest(&mut self)
+    pub(crate) fn rest(&mut self)
         ensures { self.new ≡ record self.old { editor = with_typing (cleared self.old.editor) self.old.editor.typing } }
     {
         self.message = None;
