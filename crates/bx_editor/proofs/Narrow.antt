@@ -4,7 +4,7 @@ use Rattle.std.proofs.Common.{List, [], ◌∷◌, All, IsUtf8, chars, length, t
 use Rattle.std.specs.Prelude.{if◌then◌else◌}
 use Rattle.std.proofs.lemmas.Bool.Decides.{nat_tests, leb_tells}
 use Rattle.std.proofs.lemmas.Bool.{and_parts, cases_Bool, eqb-true, leb-true, or_cases}
-use Rattle.std.proofs.lemmas.List.Elements.{All-append, All-one, All-take}
+use Rattle.std.proofs.lemmas.List.Elements.{All-push, All-take}
 use Rattle.std.proofs.lemmas.Str.{encode_ascii}
 use Rattle.unicode_segmentation.proofs.Computing.{unicode_segmentation}
 use Rattle.unicode_width.proofs.Computing.{unicode_width}
@@ -42,6 +42,7 @@ all_from start zero = true
 all_from start (suc n) = is_narrow start && all_from (suc start) n
 
 among : (start n c : ℕ) → all_from start n ≡ true → start ≤ c → c < start + n → is_narrow c ≡ true
+unfolding all_from
 among start zero c h low high = absurd (omega (arith, low, high))
 among start (suc n) c h low high =
     let both = and_parts (is_narrow start) (all_from (suc start) n) h in
@@ -56,11 +57,11 @@ narrow-by c h =
     record { one = both.0; columns = eqb-true (run_width (encode_utf8 c)) 1 both.1 }
 
 arabic : all_from 0x660 10 ≡ true
-unfolding unicode_segmentation unicode_width
+unfolding all_from unicode_segmentation unicode_width
 arabic = refl
 
 extended : all_from 0x6F0 10 ≡ true
-unfolding unicode_segmentation unicode_width
+unfolding all_from unicode_segmentation unicode_width
 extended = refl
 
 -- ---- the letters of an answer
@@ -100,7 +101,7 @@ narrow-code c h = narrow-ascii c (grind (arith, nat_tests, h))
 pub narrow-longer : (limit : ℕ) (answer : List ℕ) (c : ℕ) → IsUtf8 answer → IsUtf8 (encode_utf8 c) → All IsNarrow (chars answer) → IsNarrow c
     → All IsNarrow (chars (lengthened limit answer c))
 narrow-longer limit answer c u v all one = elim (cases_Bool (nat_lt (length (chars answer)) limit)) as (λ _. All IsNarrow (chars (lengthened limit answer c))) [
-  | inl t ↦ rw t (subst (All IsNarrow) (sym (one_more answer c u v)) (All-append IsNarrow (chars answer) (c ∷ []) all (All-one IsNarrow c one)))
+  | inl t ↦ rw t (subst (All IsNarrow) (sym (one_more answer c u v)) (All-push IsNarrow (chars answer) c all one))
   | inr f ↦ rw f all
 ]
 
