@@ -11,6 +11,8 @@ pub mod Parts
 pub mod Shown
 pub mod Narrow
 pub mod AnswersKept
+pub mod QuestionLeft
+pub mod ToldHere
 pub mod StatusRow
 pub mod TopOnce
 pub mod OnItsCell
