@@ -16,6 +16,7 @@ pub mod Begin
 pub mod Queries
 pub mod Sought
 pub mod InSearch
+pub mod Questions
 pub mod Nearest
 pub mod TakenBack
 pub mod PutBack

@@ -22,7 +22,7 @@ use Rattle.bx_editor.specs.declared.soft.Soft.{Soft}
 use Rattle.bx_editor.specs.declared.soft.Soft.TheVariants as softness
 use Rattle.bx_editor.specs.Editor.{Editor, after_redo, after_step, after_undo, cleared, place_after, stored_behind, with_insertion, with_removal, with_typing}
 use Rattle.bx_editor.specs.Effects.{Effect, Types, BeginsLine, Puts, Removes, RemovesWord, Steps, StepsRun, Goes, GoesByRows, Marks, Selects}
-use Rattle.bx_editor.specs.Effects.{Unmarks, Copies, Cuts, Seeks, SeeksNext, Saves, Quits, Turns, Helps, Rests, before, by}
+use Rattle.bx_editor.specs.Effects.{Unmarks, Copies, Cuts, Seeks, SeeksNext, Saves, Quits, Turns, Helps, AsksLine, AsksName, Tells, Rests, before, by}
 use Rattle.bx_editor.specs.Erasing.{after_erasing, after_erasing_word, after_removing, or_selection, removed_on}
 use Rattle.bx_editor.specs.Goal.{goal_behind}
 use Rattle.bx_editor.specs.Keys.{Answer, Letter, Shortens, GoesBack, Next, Previous, Stays, Ends, after_any, after_key, after_user, answer_of, answered, effect_of}
@@ -295,6 +295,9 @@ by_alike d fault again again' typing e f Saves s q = absurd (cc s)
 by_alike d fault again again' typing e f Quits s q = absurd (cc q)
 by_alike d fault again again' typing e f Turns s q = record { lasts = refl; deeds = []; first = refl; other = refl }
 by_alike d fault again again' typing e f Helps s q = record { lasts = refl; deeds = []; first = refl; other = refl }
+by_alike d fault again again' typing e f AsksLine s q = record { lasts = refl; deeds = []; first = refl; other = refl }
+by_alike d fault again again' typing e f AsksName s q = record { lasts = refl; deeds = []; first = refl; other = refl }
+by_alike d fault again again' typing e f Tells s q = record { lasts = refl; deeds = []; first = refl; other = refl }
 by_alike d fault again again' typing e f Rests s q = record { lasts = refl; deeds = []; first = refl; other = refl }
 
 pressed_alike : (d : Data) (fault : Option StoreFault) (again again' : Bool) (typing : Typing) (e f : Editor) (key : Key) → is_other key ≡ true

@@ -7,7 +7,7 @@ use Rattle.bx_editor.specs.declared.seek.Seek.{Seek}
 use Rattle.bx_editor.specs.declared.seek.Seek.TheVariants.{Off, Begun, Typed}
 use Rattle.bx_editor.specs.Editor.{Editor, EditorState, after_save, cleared}
 use Rattle.bx_editor.specs.Effects.{Effect, Types, BeginsLine, Puts, Removes, RemovesWord, Steps, StepsRun, Goes, GoesByRows, Marks, Selects}
-use Rattle.bx_editor.specs.Effects.{Unmarks, Copies, Cuts, Seeks, SeeksNext, Saves, Quits, Turns, Helps, Rests, Before, before, by}
+use Rattle.bx_editor.specs.Effects.{Unmarks, Copies, Cuts, Seeks, SeeksNext, Saves, Quits, Turns, Helps, AsksLine, AsksName, Tells, Rests, Before, before, by}
 use Rattle.bx_editor.specs.Goal.{goal_behind}
 use Rattle.bx_editor.specs.Keys.{Answer, Letter, Shortens, GoesBack, Next, Previous, Stays, Ends, after_any, after_key, answer_of, answered, effect_of, is_save}
 use Rattle.bx_editor.specs.Search.{without_search}
@@ -39,6 +39,9 @@ by_alike d fault was e Saves other = absurd (cc other)
 by_alike d fault was e Quits other = refl
 by_alike d fault was e Turns other = refl
 by_alike d fault was e Helps other = refl
+by_alike d fault was e AsksLine other = refl
+by_alike d fault was e AsksName other = refl
+by_alike d fault was e Tells other = refl
 by_alike d fault was e Rests other = refl
 
 pressed_alike : (d : Data) (fault : Option StoreFault) (was : Before) (e : Editor) (key : Key) → is_save key ≡ false
@@ -97,6 +100,9 @@ by_ended d fault was e Saves = save_ended e fault
 by_ended d fault was e Quits = refl
 by_ended d fault was e Turns = refl
 by_ended d fault was e Helps = refl
+by_ended d fault was e AsksLine = refl
+by_ended d fault was e AsksName = refl
+by_ended d fault was e Tells = refl
 by_ended d fault was e Rests = refl
 
 answered_ended : (d : Data) (fault : Option StoreFault) (was : Before) (e : Editor) (key : Key) (answer : Answer)

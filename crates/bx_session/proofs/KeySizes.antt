@@ -22,7 +22,7 @@ use Rattle.bx_editor.specs.declared.soft.Soft.{Soft}
 use Rattle.bx_editor.specs.declared.soft.Soft.TheVariants as softness
 use Rattle.bx_editor.specs.Editor.{Editor, after_quit, after_redo, after_save, after_step, after_undo, cleared}
 use Rattle.bx_editor.specs.Effects.{Effect, Types, BeginsLine, Puts, Removes, RemovesWord, Steps, StepsRun, Goes, GoesByRows, Marks, Selects}
-use Rattle.bx_editor.specs.Effects.{Unmarks, Copies, Cuts, Seeks, SeeksNext, Saves, Quits, Turns, Helps, Rests, Before, before, by}
+use Rattle.bx_editor.specs.Effects.{Unmarks, Copies, Cuts, Seeks, SeeksNext, Saves, Quits, Turns, Helps, AsksLine, AsksName, Tells, Rests, Before, before, by}
 use Rattle.bx_editor.specs.Erasing.{after_erasing, after_erasing_word, after_removing, or_selection, removed_on}
 use Rattle.bx_editor.specs.Keys.{Answer, Letter, Shortens, GoesBack, Next, Previous, Stays, Ends, after_any, after_key, answer_of, answered, asks_for_whole, effect_of, is_size_key}
 use Rattle.bx_editor.specs.Putting.{after_character, after_new_line, after_put, has_room, is_paste, line_end, put_in, typed, yielding}
@@ -131,6 +131,9 @@ by_size d fault was e Saves = save_size e fault
 by_size d fault was e Quits = quit_size e was.again
 by_size d fault was e Turns = (refl, refl)
 by_size d fault was e Helps = (refl, refl)
+by_size d fault was e AsksLine = (refl, refl)
+by_size d fault was e AsksName = (refl, refl)
+by_size d fault was e Tells = (refl, refl)
 by_size d fault was e Rests = (refl, refl)
 
 letter_size : (d : Data) (e : Editor) (c : ℕ) → SameSize e (after_letter d e c)
