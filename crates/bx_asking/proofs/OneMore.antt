@@ -16,7 +16,7 @@ past-all (c ∷ cs) rest bs u e =
 alone : (c : ℕ) → IsUtf8 (encode_utf8 c) → chars (encode_utf8 c) ≡ c ∷ []
 alone c u = chars_past_char (encode_utf8 c) [] c u (sym (append-nil (encode_utf8 c))) ∙ ap (λ (t : List ℕ). c ∷ t) chars-nil
 
-one_more : (q : List ℕ) (c : ℕ) → IsUtf8 q → IsUtf8 (encode_utf8 c) → chars (q ++ encode_utf8 c) ≡ chars q ++ c ∷ []
+pub one_more : (q : List ℕ) (c : ℕ) → IsUtf8 q → IsUtf8 (encode_utf8 c) → chars (q ++ encode_utf8 c) ≡ chars q ++ c ∷ []
 one_more q c utf8 one = chars-append q (encode_utf8 c) utf8 ∙ ap (λ xs. chars q ++ xs) (alone c one)
 
 -- the characters after a text that ends between characters

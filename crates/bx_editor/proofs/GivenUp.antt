@@ -14,7 +14,7 @@ use Rattle.bx_editor.specs.Editor.{Editor, cleared}
 use Rattle.bx_editor.specs.Effects.{Before, before}
 use Rattle.bx_editor.specs.Keys.{Answer, Letter, Shortens, GoesBack, Next, Previous, Stays, Ends, after_any, after_key, answer_of, answered}
 use Rattle.bx_editor.specs.Laws.{after_typing, BeginsSearch, GivesUp, GivingUpGoesBack, IsGivenUp, StaysOn}
-use Rattle.bx_editor.specs.Search.{after_beginning, after_giving_up, is_no_letter, kept, lengthened, search_from, with_query, without_search}
+use Rattle.bx_editor.specs.Search.{after_beginning, after_giving_up, is_no_letter, kept, lengthened, longest_query, search_from, with_query, without_search}
 use Rattle.bx_editor.specs.Selecting.{unselected}
 use Rattle.bx_editor.proofs.InSearch.{behind, each-key}
 
@@ -37,7 +37,7 @@ letter-keeps e longer false false keeps on = keeps
 answered-keeps : (d : Data) (fault : Option StoreFault) (was : Before) (e : Editor) (key : Key) (answer : Answer)
     → (answered d fault was e key answer).seek ≢ Off → KeepsSearch e (answered d fault was e key answer)
 answered-keeps d fault was e key (Letter c) on =
-    let longer : Editor = search_from d e.place (with_query e (lengthened (kept e.seek e.query) c)) in
+    let longer : Editor = search_from d e.place (with_query e (lengthened longest_query (kept e.seek e.query) c)) in
     let keeps = letter-keeps e longer (c == 0xA) (is_no_letter d c) (record { origin_is = refl; mark_is = refl; content_is = refl; ask_is = refl }) on in
     record { origin_is = keeps.origin_is; mark_is = keeps.mark_is; content_is = keeps.content_is; ask_is = keeps.ask_is }
 answered-keeps d fault was e key Shortens on = record { origin_is = refl; mark_is = refl; content_is = refl; ask_is = refl }

@@ -9,6 +9,7 @@ pub mod StatusExamples
 pub mod StepOrder
 pub mod Parts
 pub mod Shown
+pub mod Narrow
 pub mod StatusRow
 pub mod TopOnce
 pub mod OnItsCell

@@ -1,48 +1,6 @@
--- A query with one more character, and without its last one.
-use Rattle.std.proofs.Common.{◌≡◌, ℕ, ◌+◌, ◌-◌, ◌≤◌, List, [], ◌∷◌, ◌++◌, length, take, Option}
-use Rattle.std.proofs.Common.{Some, None, chars, encode_utf8, IsUtf8, refl, sym, ap, ap₂, ◌∙◌, arith, length-append}
-use Rattle.std.specs.Prelude.{encode_utf8_all, IfNone, IfSome}
-use Rattle.std.proofs.lemmas.Str.{chars-append, chars-nil, encodes-chars}
-use Rattle.std.proofs.lemmas.List.{take_at}
-use Rattle.bx_cells.proofs.Rest.{IsUtf8-past_all}
-use Rattle.unicode_segmentation.proofs.TextLemmas.{chars-encode_utf8}
-use Rattle.bx_editor.specs.Search.{shortened}
-
-one_more : (q : List ℕ) (c : ℕ) → IsUtf8 q → IsUtf8 (encode_utf8 c) → chars (q ++ encode_utf8 c) ≡ chars q ++ c ∷ []
-one_more q c utf8 one = chars-append q (encode_utf8 c) utf8 ∙ ap (λ xs. chars q ++ xs) (chars-encode_utf8 c one)
-
--- the characters after a text that ends between characters
-behind : (old new : List ℕ) (c : ℕ) → IsUtf8 old → IsUtf8 new → old ≡ new ++ encode_utf8 c → IsUtf8 (encode_utf8 c)
-behind old new c all utf8 e = IsUtf8-past_all (chars new) (encode_utf8 c) old all (e ∙ ap (λ t. t ++ encode_utf8 c) (sym (encodes-chars new utf8)))
-
-pub longer_by_one : (old new : List ℕ) (c : ℕ) → IsUtf8 old → IsUtf8 new → old ≡ new ++ encode_utf8 c → length (chars old) ≡ length (chars new) + 1
-longer_by_one old new c all utf8 e =
-    ap (λ t. length (chars t)) e ∙ ap length (one_more new c utf8 (behind old new c all utf8 e)) ∙ length-append (chars new) (c ∷ [])
-
-pub shorter-is : (old new : List ℕ) (c : ℕ) → IsUtf8 old → IsUtf8 new → old ≡ new ++ encode_utf8 c → new ≡ shortened old
-shorter-is old new c all utf8 e =
-    let cs : chars old ≡ chars new ++ c ∷ [] = ap chars e ∙ one_more new c utf8 (behind old new c all utf8 e) in
-    let n : length (chars old) - 1 ≡ length (chars new) = omega (arith, ap length cs, length-append (chars new) (c ∷ [])) in
-    sym (ap₂ (λ k xs. encode_utf8_all (take k xs)) n cs ∙ ap encode_utf8_all (take_at (chars new) (c ∷ []) (length (chars new)) refl) ∙ encodes-chars new utf8)
-
-empty : (t : List ℕ) → length t ≡ 0 → t ≡ []
-empty [] e = refl
-empty (b ∷ bs) e = absurd (omega (arith, e))
-
-none-is : (old new : List ℕ) → length old ≡ 0 → length new ≤ length old → new ≡ shortened old
-none-is old new none shorter =
-    empty new (omega (arith, none, shorter)) ∙ sym (ap shortened (empty old none) ∙ ap (λ cs. encode_utf8_all (take (length cs - 1) cs)) chars-nil)
-
--- the last character leaves, if there is one; m and n are the lengths
-pub popped : (last : Option ℕ) (old new : List ℕ) (m n : ℕ) → IsUtf8 old → IsUtf8 new → m ≡ length old → n ≡ length new
-    → IfSome last (λ c. old ≡ new ++ encode_utf8 c) → IfNone last (m ≡ 0) → n ≤ m → (new ≡ shortened old) × (length (chars new) ≤ length (chars old))
-popped None old new m n all utf8 was is some none shorter =
-    let all-none : length old ≡ 0 = omega (arith, was, none) in
-    let fewer : length new ≤ length old = omega (arith, was, is, shorter) in
-    let gone : length new ≡ 0 = omega (arith, all-none, fewer) in
-    (none-is old new all-none fewer, omega (arith, ap (λ t. length (chars t)) (empty new gone ∙ sym (empty old all-none))))
-popped (Some c) old new m n all utf8 was is some none shorter =
-    (shorter-is old new c all utf8 some, omega (arith, longer_by_one old new c all utf8 some))
+-- A query at a search's beginning.
+use Rattle.std.proofs.Common.{◌≡◌, ◌≤◌, ℕ, List, [], length, chars, ap, arith}
+use Rattle.std.proofs.lemmas.Str.{chars-nil}
 
 pub few-at-start : (q : List ℕ) → q ≡ [] → length (chars q) ≤ 64
 few-at-start q none = omega (arith, ap (λ t. length (chars t)) none, ap length chars-nil)

@@ -15,15 +15,17 @@ use Rattle.bx_store.specs.declared.cause.SaveCause.TheVariants as causes
 use Rattle.bx_grid.specs.Columns.{Col}
 use Rattle.bx_grid.specs.Picture.{GridState}
 use Rattle.bx_rows.specs.RowPicture.{Glyph, glyph}
+use Rattle.bx_asking.specs.declared.question.Ask.{Ask}
+use Rattle.bx_asking.specs.declared.question.Ask.TheVariants as asks
 use Rattle.bx_document.specs.Drawing.{with_rows}
 use Rattle.bx_editor.specs.declared.message.Message.{Message}
 use Rattle.bx_editor.specs.declared.message.Message.TheVariants.{Saved, SaveFailed, TextFull, NothingToUndo, NothingToRedo, Unsaved, Direction, MarkSet, MarkOff}
-use Rattle.bx_editor.specs.declared.message.Message.TheVariants.{Copied, LineCopied, NothingToCopy, NothingToPut, FromStart, FromEnd, NotFound, Help, Notice}
-use Rattle.bx_editor.specs.Status.{failed_text, letter_glyphs, message_part, message_text, notice_text, status_line}
+use Rattle.bx_editor.specs.declared.message.Message.TheVariants.{Copied, LineCopied, NothingToCopy, NothingToPut, FromStart, FromEnd, NotFound, Help, MoreHelp, MoreThanOneLine, NoSuchCharacter, Told, Notice}
+use Rattle.bx_editor.specs.Status.{failed_text, letter_glyphs, message_text, notice_text, prompt_text, status_line}
 
 -- ---- all its characters are from SPACE to TILDE
 
-printable-append : (xs ys : List ℕ) → are_ascii_printable xs ≡ true → are_ascii_printable ys ≡ true → are_ascii_printable (xs ++ ys) ≡ true
+pub printable-append : (xs ys : List ℕ) → are_ascii_printable xs ≡ true → are_ascii_printable ys ≡ true → are_ascii_printable (xs ++ ys) ≡ true
 printable-append xs ys h k = list_all-append is_ascii_printable xs ys ∙ ap₂ (λ a b. a && b) h k
 
 digit : (n : ℕ) → n < 10 → are_ascii_printable ((48 + n) ∷ []) ≡ true
@@ -60,7 +62,7 @@ notice-printable notices.Recovered = refl
 notice-printable notices.RecoveredAside = refl
 notice-printable notices.InPlace = refl
 
-message-printable : (m : Message) → are_ascii_printable (message_text m) ≡ true
+pub message-printable : (m : Message) → are_ascii_printable (message_text m) ≡ true
 message-printable Saved = refl
 message-printable (SaveFailed cause) = failed-printable cause
 message-printable TextFull = refl
@@ -80,35 +82,37 @@ message-printable FromStart = refl
 message-printable FromEnd = refl
 message-printable NotFound = refl
 message-printable Help = refl
+message-printable MoreHelp = refl
+message-printable MoreThanOneLine = refl
+message-printable NoSuchCharacter = refl
+message-printable Told = refl
 message-printable (Notice notice) = notice-printable notice
-
-part-printable : (message : Option Message) → are_ascii_printable (message_part message) ≡ true
-part-printable None = refl
-part-printable (Some m) = message-printable m
 
 mark-printable : (changed : Bool) → are_ascii_printable (if changed then codes "* " else codes "- ") ≡ true
 mark-printable true = refl
 mark-printable false = refl
 
-pub status-printable : (changed : Bool) (paragraph unit : ℕ) (message : Option Message) → paragraph < 2 ^ 64 → unit < 2 ^ 64
-    → are_ascii_printable (status_line changed paragraph unit message) ≡ true
-status-printable changed paragraph unit message h k =
-    let behind = decimal unit ++ message_part message in
-    printable-append (if changed then codes "* " else codes "- ") (decimal paragraph ++ (codes ":" ++ behind)) (mark-printable changed)
-    (printable-append (decimal paragraph) (codes ":" ++ behind) (decimal-printable paragraph h)
-    (printable-append (codes ":") behind refl
-    (printable-append (decimal unit) (message_part message) (decimal-printable unit k) (part-printable message))))
+pub status-printable : (changed : Bool) (paragraph unit : ℕ) → paragraph < 2 ^ 64 → unit < 2 ^ 64
+    → are_ascii_printable (status_line changed paragraph unit) ≡ true
+status-printable changed paragraph unit h k =
+    let behind = codes ":" ++ decimal unit in
+    printable-append (if changed then codes "* " else codes "- ") (decimal paragraph ++ behind) (mark-printable changed)
+    (printable-append (decimal paragraph) behind (decimal-printable paragraph h)
+    (printable-append (codes ":") (decimal unit) refl (decimal-printable unit k)))
 
--- ---- the query after them
+-- ---- a prompt behind it
 
-pub sought-printable : (line : List ℕ) → are_ascii_printable line ≡ true → are_ascii_printable (line ++ codes " find: ") ≡ true
-sought-printable line h = printable-append line (codes " find: ") h refl
+pub prompt-printable : (ask : Ask) → are_ascii_printable (prompt_text ask) ≡ true
+prompt-printable asks.Off = refl
+prompt-printable asks.Line = refl
+prompt-printable asks.Name = refl
+prompt-printable asks.Code = refl
 
-pub sought-glyphs : (line : List ℕ) (query : List Glyph)
-    → letter_glyphs (line ++ codes " find: ") ++ query ≡ letter_glyphs line ++ (letter_glyphs (codes " find: ") ++ query)
-sought-glyphs line query =
-    ap (λ gs. gs ++ query) (map-append (λ b. glyph (b ∷ []) 1 false) line (codes " find: "))
-    ∙ append_assoc (letter_glyphs line) (letter_glyphs (codes " find: ")) query
+pub prompted-glyphs : (line prompt : List ℕ) (typed : List Glyph)
+    → letter_glyphs (line ++ prompt) ++ typed ≡ letter_glyphs line ++ (letter_glyphs prompt ++ typed)
+prompted-glyphs line prompt typed =
+    ap (λ gs. gs ++ typed) (map-append (λ b. glyph (b ∷ []) 1 false) line prompt)
+    ∙ append_assoc (letter_glyphs line) (letter_glyphs prompt) typed
 
 -- ---- the columns in a grid
 

@@ -43,7 +43,7 @@ use Rattle.bx_editor.specs.Putting.{after_character, after_new_line, after_put, 
 use Rattle.bx_editor.specs.Region.{after_copy, after_cut, bytes_in, is_at_mark, is_empty, line, region, taken}
 use Rattle.bx_editor.specs.RunLaws.{stored_last, UnchangedIsStored}
 use Rattle.bx_editor.specs.Runs.{by_run, is_changed_at, run_goal, run_length}
-use Rattle.bx_editor.specs.Search.{after_beginning, after_letter, is_no_letter, kept, lengthened, next_or_start, search_from, sought, with_query, without_search}
+use Rattle.bx_editor.specs.Search.{after_beginning, after_letter, is_no_letter, kept, lengthened, longest_query, next_or_start, search_from, sought, with_query, without_search}
 use Rattle.bx_editor.specs.Selecting.{is_selection, selecting, unselected}
 use Rattle.bx_editor.proofs.Chains.{Chain, opened-chain, redone-chain, replaced-chain, stored-chain, undone-chain}
 use Rattle.bx_editor.specs.Wrapping.{with_wrap}
@@ -232,7 +232,7 @@ effect s d fault was e Rests h = h
 
 letter : (s : List ℕ) (d : Data) (e : Editor) (c : ℕ) → Has s e → Has s (after_letter d e c)
 letter s d e c h =
-    let longer : Editor = search_from d e.place (with_query e (lengthened (kept e.seek e.query) c)) in
+    let longer : Editor = search_from d e.place (with_query e (lengthened longest_query (kept e.seek e.query) c)) in
     either (c == 0xA) s (without_search e) (if is_no_letter d c then e else longer) h (either (is_no_letter d c) s e longer h h)
 
 abbrev is_end : Answer → Bool

@@ -33,7 +33,7 @@ use Rattle.bx_editor.specs.Keys.{Answer, Letter, Shortens, GoesBack, Next, Previ
 use Rattle.bx_editor.specs.Putting.{after_character, after_new_line, after_put, has_room, is_paste, line_end, put_in, typed, yielding}
 use Rattle.bx_editor.specs.Region.{after_copy, after_cut, after_mark, bytes_in, is_at_mark, is_empty, line, region, taken}
 use Rattle.bx_editor.specs.Runs.{by_run, run_length}
-use Rattle.bx_editor.specs.Search.{after_beginning, after_letter, is_no_letter, kept, lengthened, next_or_start, search_from, sought, with_query, without_search}
+use Rattle.bx_editor.specs.Search.{after_beginning, after_letter, is_no_letter, kept, lengthened, longest_query, next_or_start, search_from, sought, with_query, without_search}
 use Rattle.bx_editor.specs.Selecting.{is_selection, selecting, unselected}
 use Rattle.bx_editor.specs.Laws.{after_typing, IsBackAt, IsUnmarkedAt, mark_behind, UndoGivesBack, RedoMirrorsUndo}
 use Rattle.bx_editor.proofs.InSearch.{behind, each-key}
@@ -232,7 +232,7 @@ by_has d fault was first e Rests h = h
 
 letter_has : (first : List ℕ) (d : Data) (e : Editor) (c : ℕ) → HasVersions first e.content → HasVersions first (after_letter d e c).content
 letter_has first d e c h =
-    let longer : Editor = search_from d e.place (with_query e (lengthened (kept e.seek e.query) c)) in
+    let longer : Editor = search_from d e.place (with_query e (lengthened longest_query (kept e.seek e.query) c)) in
     either_has (c == 0xA) first (without_search e) (if is_no_letter d c then e else longer) h (either_has (is_no_letter d c) first e longer h h)
 
 answered_has : (d : Data) (fault : Option StoreFault) (was : Before) (first : List ℕ) (e : Editor) (key : Key) (answer : Answer)

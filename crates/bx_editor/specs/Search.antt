@@ -1,8 +1,9 @@
 -- The keys of a search. Offsets and places count bytes of the text.
-use Rattle.std.specs.Prelude.{ℕ, ◌-◌, ◌==◌, ◌||◌, nat_lt, Bool, List, [], ◌∷◌, ◌++◌, length, take, find, chars, encode_utf8, encode_utf8_all}
+use Rattle.std.specs.Prelude.{ℕ, ◌==◌, ◌||◌, nat_lt, Bool, List, [], ◌∷◌, length, find, chars}
 use Rattle.std.specs.Prelude.{Option, Some, None, unwrap_or, if◌then◌else◌}
 use Rattle.bx_ucd.specs.Data.{Data}
 use Rattle.bx_paras.specs.Paragraphs.{is_separator}
+pub use Rattle.bx_asking.specs.Answers.{lengthened, shortened}
 use Rattle.bx_find.specs.Letters.{letters}
 use Rattle.bx_find.specs.Matches.{first_from, last_before}
 use Rattle.bx_view.specs.Moves.{place_at}
@@ -25,17 +26,9 @@ abbrev pub kept : Seek → List ℕ → List ℕ
 kept Begun query = []
 kept _ query = query
 
--- the query with one more character, if it has fewer than 64
-abbrev pub lengthened : List ℕ → ℕ → List ℕ
-lengthened query c = if nat_lt (length (chars query)) 64 then query ++ encode_utf8 c else query
-
--- all characters but the last
-abbrev pub but_last : List ℕ → List ℕ
-but_last cs = take (length cs - 1) cs
-
--- the query without its last character, if it has one
-abbrev pub shortened : List ℕ → List ℕ
-shortened query = encode_utf8_all (but_last (chars query))
+-- the most characters that a query has
+abbrev pub longest_query : ℕ
+longest_query = 64
 
 -- no query contains a tab, or a character that separates paragraphs
 abbrev pub is_no_letter : Data → ℕ → Bool
@@ -100,7 +93,7 @@ abbrev pub after_letter : Data → Editor → ℕ → Editor
 after_letter d e c =
     if c == 0xA
     then without_search e
-    else if is_no_letter d c then e else search_from d e.place (with_query e (lengthened (kept e.seek e.query) c))
+    else if is_no_letter d c then e else search_from d e.place (with_query e (lengthened longest_query (kept e.seek e.query) c))
 
 -- the query loses its last character, and is sought from where the search began
 abbrev pub after_shortening : Data → Editor → Editor

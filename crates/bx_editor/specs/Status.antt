@@ -1,7 +1,6 @@
 -- The status row: whether there are unsaved changes, the cursor's position, a message, and the query of a search or the prompt of a
 -- question.
 use Rattle.std.specs.Prelude.{ℕ, ◌+◌, nat_le, Bool, List, [], ◌++◌, Option, Some, None, codes, decimal, if◌then◌else◌}
-use Rattle.std.specs.Option.{option_map}
 use Rattle.bx_terms.specs.declared.base.Base.TheVariants.{Auto, Ltr, Rtl}
 use Rattle.bx_keys.specs.declared.notice.Notice as told
 use Rattle.bx_keys.specs.declared.notice.Notice.TheVariants as notices
@@ -69,20 +68,20 @@ abbrev pub shown_text : List ℕ → Message → List ℕ
 shown_text told Told = told
 shown_text told message = message_text message
 
-abbrev pub message_part : Option (List ℕ) → List ℕ
-message_part None = []
-message_part (Some text) = codes " " ++ text
+abbrev pub message_part : List ℕ → Option Message → List ℕ
+message_part told None = []
+message_part told (Some message) = codes " " ++ shown_text told message
 
--- a star if there are unsaved changes, the numbers of a paragraph and of a unit in it, both from 1, and a message's text
-abbrev pub status_line : Bool → ℕ → ℕ → Option (List ℕ) → List ℕ
-status_line changed paragraph unit message =
-    (if changed then codes "* " else codes "- ") ++ (decimal paragraph ++ (codes ":" ++ (decimal unit ++ message_part message)))
+-- a star if there are unsaved changes, and the numbers of a paragraph and of a unit in it, both from 1
+abbrev pub status_line : Bool → ℕ → ℕ → List ℕ
+status_line changed paragraph unit =
+    (if changed then codes "* " else codes "- ") ++ (decimal paragraph ++ (codes ":" ++ decimal unit))
 
--- an editor's status line, with the numbers of the cursor's place
+-- an editor's status line, with the numbers of the cursor's place, and its message
 abbrev pub status_text : Data → Editor → List ℕ
 status_text d e =
     status_line e.changed (paragraph_number d e.content.text e.place + 1) (unit_number d e.content.text e.place)
-    (option_map (shown_text (told_at_place d e)) e.message)
+    ++ message_part (told_at_place d e) e.message
 
 -- in a search, the query follows the text
 abbrev pub search_glyphs : Data → Seek → List ℕ → List Glyph
@@ -90,12 +89,16 @@ search_glyphs d Off query = []
 search_glyphs d Begun query = letter_glyphs (codes " find: ") ++ query_glyphs d query
 search_glyphs d Typed query = letter_glyphs (codes " find: ") ++ query_glyphs d query
 
+abbrev pub prompt_text : Ask → List ℕ
+prompt_text asks.Off = []
+prompt_text asks.Line = codes " line: "
+prompt_text asks.Name = codes " insert: "
+prompt_text asks.Code = codes " insert: U+"
+
 -- the prompt of a question, and the answer as it was typed; without a question, the query of a search
 abbrev pub prompt_glyphs : Data → Editor → Ask → List Glyph
 prompt_glyphs d e asks.Off = search_glyphs d e.seek e.query
-prompt_glyphs d e asks.Line = letter_glyphs (codes " line: ") ++ typed_glyphs e.answer
-prompt_glyphs d e asks.Name = letter_glyphs (codes " insert: ")
-prompt_glyphs d e asks.Code = letter_glyphs (codes " insert: U+") ++ typed_glyphs e.answer
+prompt_glyphs d e ask = letter_glyphs (prompt_text ask) ++ typed_glyphs e.answer
 
 -- the glyphs of an editor's status row from left to right
 abbrev pub status_glyphs : Data → Editor → List Glyph

@@ -1,7 +1,10 @@
 //! The keys that ask, and what answers a question: a line, and a character by name or by code.
-ghost use Rattle.std.specs.Prelude.{◌≡◌, ◌≤◌, Option, chars, length, string_bytes, OnErr, OnOk};
-ghost use Rattle.bx_asking.specs.declared.question.Ask.{Ask};
-ghost use Rattle.bx_editor.specs.Asking.{after_answer_letter, after_code, after_code_letter, after_going, after_line_letter, after_name_letter, after_named, after_shorter_answer, asking, with_character, without_ask};
+ghost use Rattle.std.specs.Prelude.{◌≡◌, OnErr, OnOk};
+ghost use Rattle.bx_asking.specs.Answers.{lengthened};
+ghost use Rattle.bx_asking.specs.Names.{closing};
+ghost use Rattle.bx_document.specs.QueryRow.{IsNarrow};
+ghost use Rattle.bx_editor.specs.Answers.{limit_of};
+ghost use Rattle.bx_editor.specs.Asking.{after_answer_letter, after_going, after_line_letter, after_named, after_shorter_answer, asking, with_answer, with_character, without_ask};
 ghost use Rattle.bx_editor.specs.Editor.{cleared, with_typing};
 ghost use Rattle.bx_editor.specs.Putting.{only_paste};
 
@@ -38,6 +41,12 @@ impl<D: BidiData + Drop> Editor<D> {
 
     /// Appends a character to the answer, unless it has its limit.
     fn lengthen(&mut self, c: char, limit: usize) -> Result<(), OutOfMemory>
+        requires limit { limit ≡ limit_of self.old.editor.ask }
+        requires narrow { IsNarrow c }
+        ensures ok { OnOk result (self.new ≡ record self.old {
+          editor = with_answer (cleared self.old.editor) (lengthened limit self.old.editor.answer c);
+        }) }
+        ensures err { OnErr result (self.new ≡ self.old) }
     {
         let answer = lengthened(*self.answer.allocator(), self.answer.as_str(), c, limit)?;
         self.answer = answer;

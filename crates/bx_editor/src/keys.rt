@@ -1,9 +1,10 @@
 //! The effect of each key.
 ghost use Rattle.std.specs.Prelude.{◌≡◌, None, Some, true, false, OnErr, OnOk};
 ghost use Rattle.bx_view.specs.Places.{IsTextPlace};
-ghost use Rattle.bx_editor.specs.Editor.{after_quit, cleared, next_base, with_base, with_typing};
+ghost use Rattle.bx_editor.specs.Asking.{without_ask};
+ghost use Rattle.bx_editor.specs.Editor.{after_help, after_quit, cleared, next_base, with_base, with_typing};
 ghost use Rattle.bx_editor.specs.Effects.{before};
-ghost use Rattle.bx_editor.specs.Keys.{after_any, after_key, after_pressing, after_seeking, is_edit_or_move, is_save, is_size_key, is_told_key};
+ghost use Rattle.bx_editor.specs.Keys.{after_any, after_asking, after_key, after_pressing, after_seeking, is_edit_or_move, is_save, is_size_key, is_told_key};
 ghost use Rattle.bx_editor.specs.Putting.{only_paste};
 ghost use Rattle.bx_editor.specs.Search.{after_letter, without_search};
 
@@ -35,7 +36,7 @@ fn next_base(base: Base) -> Base
 
 impl<D: BidiData + Drop> Editor<D> {
     /// Clears the message and forgets an earlier Quit, but what is typed goes on.
-    fn rest(&mut self)
+    pub(crate) fn rest(&mut self)
         ensures { self.new ≡ record self.old { editor = with_typing (cleared self.old.editor) self.old.editor.typing } }
     {
         self.message = None;
@@ -92,7 +93,7 @@ impl<D: BidiData + Drop> Editor<D> {
         self.tell(Message::Direction(base));
     }
 
-    /// Reports the end of a Save, with its fault if it failed, and ends a search. No memory.
+    /// Reports the end of a Save, with its fault if it failed, and ends a search or a question. No memory.
     pub fn finish_save(&mut self, fault: Option<StoreFault>)
         ensures { self.new ≡ record self.old { editor = after_key (D.data self.old.tables) fault self.old.editor Key.Save } }
     {
@@ -104,7 +105,10 @@ impl<D: BidiData + Drop> Editor<D> {
             }
             Some(fault) => self.tell(Message::SaveFailed(fault.cause)),
         }
-        self.leave_search();
+        match self.ask {
+            Ask::Off => self.leave_search(),
+            Ask::Line | Ask::Name | Ask::Code => self.leave_question(),
+        }
         self.goal = None;
         self.soft = aged(self.soft);
     }
@@ -138,7 +142,7 @@ impl<D: BidiData + Drop> Editor<D> {
         requires no_save { is_save key ≡ false }
         requires typed { is_told_key key ≡ false }
         ensures ok { OnOk result (self.new.editor
-            ≡ after_any (D.data self.old.tables) None (before self.old.editor) self.old.editor.seek (cleared self.old.editor) key) }
+            ≡ after_any (D.data self.old.tables) None (before self.old.editor) self.old.editor.ask self.old.editor.seek (cleared self.old.editor) key) }
         ensures tables { self.new.tables ≡ self.old.tables }
         ensures err { OnErr result (self.new ≡ self.old) }
         ensures edits { OnErr result (is_edit_or_move key ≡ true) }

@@ -7,7 +7,7 @@ ghost use Rattle.bx_editor.specs.Picture.{StandsOnItsCell, next_top, picture};
 ghost use Rattle.bx_editor.specs.Status.{status_columns};
 
 use crate::editor::Editor;
-use crate::status::{draw_status, status_line};
+use crate::status::status_line;
 use bx_grid::{Cell, Grid, Picture};
 use bx_terms::OutOfMemory;
 use bx_ucd::BidiData;
@@ -25,22 +25,24 @@ pub(crate) fn text_height(height: u16) -> u16
 }
 
 impl<D: BidiData + Drop> Editor<D> {
-    /// Draws the status row below the text rows, with the query while a search is on. A window of a single row has none.
+    /// Draws the status row below the text rows, with the prompt of a question or of a search. A window of a single row has
+    /// none.
     ///
     /// Errors: `OutOfMemory`.
     fn put_status(
-        &self,
+        &mut self,
         alloc: Global,
         page: &mut Grid,
         position: Position,
     ) -> Result<(), OutOfMemory>
-        requires height { page.old.height ≡ self.now.editor.height }
-        requires width { page.old.width ≡ self.now.editor.width }
-        requires position { IsPosition (D.data self.now.tables) self.now.editor.width self.now.editor.content.text
-            (rows (D.data self.now.tables) self.now.editor) self.now.editor.place position }
+        requires height { page.old.height ≡ self.old.editor.height }
+        requires width { page.old.width ≡ self.old.editor.width }
+        requires position { IsPosition (D.data self.old.tables) self.old.editor.width self.old.editor.content.text
+            (rows (D.data self.old.tables) self.old.editor) self.old.editor.place position }
+        ensures same { self.new ≡ self.old }
         ensures status { OnOk result (page.new ≡ record page.old {
-          columns = take (text_height self.now.editor.height * self.now.editor.width) page.old.columns
-              ++ status_columns (D.data self.now.tables) self.now.editor;
+          columns = take (text_height self.old.editor.height * self.old.editor.width) page.old.columns
+              ++ status_columns (D.data self.old.tables) self.old.editor;
         }) }
     {
         // proof only: the number of the page's columns
@@ -53,8 +55,9 @@ impl<D: BidiData + Drop> Editor<D> {
             unit,
             ..
         } = position;
-        let line = status_line(alloc, self.changed, paragraph, unit, self.message)?;
-        let row = draw_status(&self.document, line, self.seek, self.query.as_str())?;
+        let mut line = status_line(alloc, self.changed, paragraph, unit)?;
+        self.write_message(&mut line)?;
+        let row = self.draw_status(line)?;
         page.put_row(self.height - 1, &row)?;
         Ok(())
     }

@@ -14,7 +14,7 @@ use bx_ucd::BidiData;
 use std::mem;
 
 /// Whether a paste is read.
-fn is_paste(typing: Typing) -> bool
+pub(crate) fn is_paste(typing: Typing) -> bool
     ensures { result ≡ is_paste typing }
 {
     matches!(typing, Typing::Paste | Typing::Pasting)
@@ -32,7 +32,7 @@ pub(crate) fn only_paste(typing: Typing) -> Typing
 
 impl<D: BidiData + Drop> Editor<D> {
     /// Inserts bytes at the place, as an edit that goes on with the run before or begins one. Returns whether there was room.
-    fn insert_text(&mut self, new: &str, goes_on: bool) -> Result<bool, OutOfMemory>
+    pub(crate) fn insert_text(&mut self, new: &str, goes_on: bool) -> Result<bool, OutOfMemory>
         ensures room { IfOk result (λ room. room ≡ fits self.old.editor.content.text self.old.editor.place self.old.editor.place new.now) }
         ensures ok { IfOk result (λ room. self.new ≡ record self.old {
           editor = if room then with_insertion (D.data self.old.tables) self.old.editor new.now goes_on else self.old.editor;

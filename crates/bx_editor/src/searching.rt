@@ -8,8 +8,9 @@ ghost use Rattle.bx_editor.specs.Selecting.{unselected};
 
 use crate::editor::Editor;
 use crate::matches::{Landing, backward, forward, has_letters};
-use crate::query::{kept, lengthened, shortened};
+use crate::query::{LONGEST_QUERY, kept};
 use crate::seek::Seek;
+use bx_asking::{lengthened, shortened};
 use bx_runs::Typing;
 use bx_terms::OutOfMemory;
 use bx_ucd::BidiData;
@@ -82,7 +83,7 @@ impl<D: BidiData + Drop> Editor<D> {
             return Ok(());
         }
         let kept = kept(self.seek, self.query.as_str());
-        let query = lengthened(*self.query.allocator(), kept, c)?;
+        let query = lengthened(*self.query.allocator(), kept, c, LONGEST_QUERY)?;
         let landing = forward(&mut self.document, query.as_str(), self.place)?;
         self.query = query;
         self.land(landing);

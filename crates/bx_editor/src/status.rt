@@ -1,9 +1,12 @@
 //! The status row.
-ghost use Rattle.std.specs.Prelude.{◌≡◌, ◌++◌, true, IfOk, codes, length, string_bytes};
+ghost use Rattle.std.specs.Prelude.{◌≡◌, ◌++◌, true, All, IfOk, chars, length, string_bytes};
 ghost use Rattle.bx_terms.specs.Characters.{are_ascii_printable};
-ghost use Rattle.bx_editor.specs.Status.{glyph_row, letter_glyphs, query_glyphs, search_glyphs, status_line};
+ghost use Rattle.bx_document.specs.QueryRow.{IsNarrow};
+ghost use Rattle.bx_editor.specs.Status.{glyph_row, letter_glyphs, prompt_glyphs, prompt_text, search_glyphs, status_line, typed_glyphs};
 
+use crate::editor::Editor;
 use crate::seek::Seek;
+use bx_asking::Ask;
 use bx_document::Document;
 use bx_grid::OwnedRow;
 use bx_terms::OutOfMemory;
@@ -11,15 +14,14 @@ use bx_ucd::BidiData;
 use itoa::Buffer;
 use std::alloc::{AllocError, Global};
 
-/// Writes the text of the status row.
+/// Writes the text of the status row, but no message.
 fn write_line(
     alloc: Global,
     changed: bool,
     paragraph: usize,
     unit: usize,
-    message: Option<&str>,
 ) -> Result<String, AllocError>
-    ensures { IfOk result (λ t. string_bytes t ≡ status_line changed paragraph unit (option_map (λ m. m.now) message)) }
+    ensures { IfOk result (λ t. string_bytes t ≡ status_line changed paragraph unit) }
 {
     let mut line = String::from_str(alloc, if changed { "* " } else { "- " })?;
     let mut number = Buffer::new();
@@ -27,15 +29,11 @@ fn write_line(
     line.push_str(":")?;
     let mut number = Buffer::new();
     line.push_str(number.format(unit))?;
-    if let Some(message) = message {
-        line.push_str(" ")?;
-        line.push_str(message)?;
-    }
     Ok(line)
 }
 
-/// The text of the status row: a star if there are unsaved changes, else a hyphen; the numbers of the cursor's paragraph
-/// and of its unit in the paragraph, both from 1; and a message.
+/// The text of the status row without a message: a star if there are unsaved changes, else a hyphen; the numbers of the
+/// cursor's paragraph and of its unit in the paragraph, both from 1.
 ///
 /// Errors: `AllocError`.
 pub(crate) fn status_line(
@@ -43,57 +41,16 @@ pub(crate) fn status_line(
     changed: bool,
     paragraph: usize,
     unit: usize,
-    message: Option<&str>,
 ) -> Result<String, AllocError>
-    requires printable { IfSome message (λ m. are_ascii_printable m.now ≡ true) }
-    ensures line { IfOk result (λ t. string_bytes t ≡ status_line changed paragraph unit (option_map (λ m. m.now) message)) }
+    ensures line { IfOk result (λ t. string_bytes t ≡ status_line changed paragraph unit) }
     ensures printable { IfOk result (λ t. are_ascii_printable (string_bytes t) ≡ true) }
 {
-    let line = write_line(alloc, changed, paragraph, unit, message)?;
+    let line = write_line(alloc, changed, paragraph, unit)?;
     Ok(line)
 }
 
-/// Draws a status row whose text has a query after it.
+/// Draws a status row whose text has a query after it, while a search is on.
 fn draw_search<D: BidiData + Drop>(
-    document: &Document<D>,
-    line: String,
-    query: &str,
-) -> Result<OwnedRow, OutOfMemory>
-    requires { are_ascii_printable (string_bytes line) ≡ true }
-    ensures row { IfOk result (λ row. row ≡ glyph_row document.now.document.w
-        (letter_glyphs (string_bytes line) ++ (letter_glyphs (codes " find: ") ++ query_glyphs (D.data document.now.tables) query.now))) }
-    ensures filled { IfOk result (λ row. length row ≡ document.now.document.w) }
-{
-    let mut line = line;
-    line.push_str(" find: ")?;
-    let row = document.draw_query(line.as_str(), query)?;
-    Ok(row)
-}
-
-/// Draws a status row whose text has the prompt of a question and its answer after it.
-fn draw_question<D: BidiData + Drop>(
-    document: &Document<D>,
-    line: String,
-    prompt: &str,
-    answer: &str,
-) -> Result<OwnedRow, OutOfMemory>
-    requires line { are_ascii_printable (string_bytes line) ≡ true }
-    requires prompt { are_ascii_printable prompt.now ≡ true }
-    requires narrow { All IsNarrow (chars answer.now) }
-    ensures row { IfOk result (λ row. row ≡ glyph_row document.now.document.w
-        (letter_glyphs (string_bytes line) ++ (letter_glyphs prompt.now ++ typed_glyphs answer.now))) }
-    ensures filled { IfOk result (λ row. length row ≡ document.now.document.w) }
-{
-    let mut line = line;
-    line.push_str(prompt)?;
-    let row = document.draw_typed(line.as_str(), answer)?;
-    Ok(row)
-}
-
-/// Draws the status row: its text, and while a search is on the query.
-///
-/// Errors: `OutOfMemory`.
-pub(crate) fn draw_status<D: BidiData + Drop>(
     document: &Document<D>,
     line: String,
     seek: Seek,
@@ -104,8 +61,61 @@ pub(crate) fn draw_status<D: BidiData + Drop>(
         (letter_glyphs (string_bytes line) ++ search_glyphs (D.data document.now.tables) seek query.now)) }
     ensures filled { IfOk result (λ row. length row ≡ document.now.document.w) }
 {
-    match seek {
-        Seek::Off => document.draw_text(line.as_str()),
-        Seek::Begun | Seek::Typed => draw_search(document, line, query),
+    if seek == Seek::Off {
+        return document.draw_text(line.as_str());
+    }
+    let mut line = line;
+    line.push_str(" find: ")?;
+    let row = document.draw_query(line.as_str(), query)?;
+    Ok(row)
+}
+
+fn prompt_text(ask: Ask) -> &'static str
+    ensures text { result.now ≡ prompt_text ask }
+    ensures printable { are_ascii_printable result.now ≡ true }
+{
+    match ask {
+        Ask::Off => "",
+        Ask::Line => " line: ",
+        Ask::Name => " insert: ",
+        Ask::Code => " insert: U+",
+    }
+}
+
+/// Draws a status row whose text has the prompt of a question and its answer after it.
+fn draw_question<D: BidiData + Drop>(
+    document: &Document<D>,
+    line: String,
+    ask: Ask,
+    answer: &str,
+) -> Result<OwnedRow, OutOfMemory>
+    requires line { are_ascii_printable (string_bytes line) ≡ true }
+    requires narrow { All IsNarrow (chars answer.now) }
+    ensures row { IfOk result (λ row. row ≡ glyph_row document.now.document.w
+        (letter_glyphs (string_bytes line) ++ (letter_glyphs (prompt_text ask) ++ typed_glyphs answer.now))) }
+    ensures filled { IfOk result (λ row. length row ≡ document.now.document.w) }
+{
+    let mut line = line;
+    line.push_str(prompt_text(ask))?;
+    let row = document.draw_typed(line.as_str(), answer)?;
+    Ok(row)
+}
+
+impl<D: BidiData + Drop> Editor<D> {
+    /// Draws the status row: its text, and the prompt of a question and the answer, or the query while a search is on.
+    ///
+    /// Errors: `OutOfMemory`.
+    pub(crate) fn draw_status(&self, line: String) -> Result<OwnedRow, OutOfMemory>
+        requires { are_ascii_printable (string_bytes line) ≡ true }
+        ensures row { IfOk result (λ row. row ≡ glyph_row self.now.editor.width
+            (letter_glyphs (string_bytes line) ++ prompt_glyphs (D.data self.now.tables) self.now.editor self.now.editor.ask)) }
+        ensures filled { IfOk result (λ row. length row ≡ self.now.editor.width) }
+    {
+        match self.ask {
+            Ask::Off => draw_search(&self.document, line, self.seek, self.query.as_str()),
+            Ask::Line | Ask::Name | Ask::Code => {
+                draw_question(&self.document, line, self.ask, self.answer.as_str())
+            }
+        }
     }
 }

@@ -1,8 +1,11 @@
-//! What stands at the cursor's place.
-ghost use Rattle.std.specs.Prelude.{◌≡◌, ◌++◌, IfOk, string_bytes};
+//! What stands at the cursor's place, and the message of the status row.
+ghost use Rattle.std.specs.Prelude.{◌≡◌, ◌++◌, true, IfOk, string_bytes};
+ghost use Rattle.bx_terms.specs.Characters.{are_ascii_printable};
+ghost use Rattle.bx_editor.specs.Status.{message_part};
 ghost use Rattle.bx_editor.specs.Telling.{told_at_place};
 
 use crate::editor::Editor;
+use crate::message::Message;
 use bx_asking::write_told;
 use bx_terms::OutOfMemory;
 use bx_ucd::BidiData;
@@ -12,19 +15,41 @@ impl<D: BidiData + Drop> Editor<D> {
     /// Writes the characters of the unit at the place with their classes, and its level; at the text's end, that.
     ///
     /// Errors: `OutOfMemory`, and a part is written.
-    pub(crate) fn write_told(&mut self, line: &mut String) -> Result<(), OutOfMemory>
+    fn write_told(&mut self, line: &mut String) -> Result<(), OutOfMemory>
         ensures same { self.new ≡ self.old }
         ensures told { IfOk result (λ _. string_bytes line.new ≡ string_bytes line.old ++ told_at_place (D.data self.old.tables) self.old.editor) }
+        ensures printable { IfOk result (λ _. are_ascii_printable (told_at_place (D.data self.old.tables) self.old.editor) ≡ true) }
     {
         let place = self.place;
         if place == self.document.len() {
             line.push_str("end of text")?;
             return Ok(());
         }
-        let stop = self.document.moved(Move::Logical(Logical::Forward), place)?;
+        let stop = self.on_by(Move::Logical(Logical::Forward))?;
         let unit = self.document.copy(place, stop)?;
         let level = self.document.level_at(place)?;
         write_told(line, self.document.tables(), unit.as_str(), level)?;
+        Ok(())
+    }
+
+    /// Writes the message behind a blank, if there is one.
+    ///
+    /// Errors: `OutOfMemory`, and a part is written.
+    pub(crate) fn write_message(&mut self, line: &mut String) -> Result<(), OutOfMemory>
+        ensures same { self.new ≡ self.old }
+        ensures message { IfOk result (λ _. string_bytes line.new ≡ string_bytes line.old
+            ++ message_part (told_at_place (D.data self.old.tables) self.old.editor) self.old.editor.message) }
+        ensures printable { IfOk result (λ _. are_ascii_printable
+            (message_part (told_at_place (D.data self.old.tables) self.old.editor) self.old.editor.message) ≡ true) }
+    {
+        let Some(message) = self.message else {
+            return Ok(());
+        };
+        line.push_str(" ")?;
+        if message == Message::Told {
+            return self.write_told(line);
+        }
+        line.push_str(message.text())?;
         Ok(())
     }
 }

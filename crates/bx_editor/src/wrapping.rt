@@ -1,5 +1,5 @@
 //! The region between two characters that isolate, embed or override it.
-ghost use Rattle.std.specs.Prelude.{◌≡◌, OnErr, OnOk};
+ghost use Rattle.std.specs.Prelude.{◌≡◌, IfOk, OnErr, OnOk};
 ghost use Rattle.bx_editor.specs.Editor.{cleared};
 ghost use Rattle.bx_editor.specs.Wrapping.{after_wrapping, cursor_end, spans_lines};
 

@@ -29,7 +29,7 @@ use Rattle.bx_editor.specs.Keys.{Answer, Letter, Shortens, GoesBack, Next, Previ
 use Rattle.bx_editor.specs.Putting.{after_character, after_new_line, after_put, has_room, is_paste, line_end, only_paste, put_in, typed, with_selection_replaced, yielding}
 use Rattle.bx_editor.specs.Region.{after_copy, after_cut, after_mark, bytes_in, is_at_mark, is_empty, line, region, taken}
 use Rattle.bx_editor.specs.Runs.{by_run, is_changed_at, run_length}
-use Rattle.bx_editor.specs.Search.{after_beginning, after_letter, is_no_letter, kept, lengthened, next_or_start, search_from, sought, with_query, without_search}
+use Rattle.bx_editor.specs.Search.{after_beginning, after_letter, is_no_letter, kept, lengthened, longest_query, next_or_start, search_from, sought, with_query, without_search}
 use Rattle.bx_editor.specs.Selecting.{is_selection, selecting, soft_behind, unselected}
 use Rattle.bx_editor.proofs.InSearch.{any-key, each-key}
 use Rattle.bx_session.proofs.Lasting.{Lasting, lasting, having, effect_is, is_other, is_quitting, is_saving, not_quitting, not_saving}
@@ -316,7 +316,7 @@ pressed_alike d fault again again' typing e f key other =
 letter_alike : (d : Data) (e f : Editor) (c : ℕ) → Alike e (after_letter d e c) (having (lasting e) f) (after_letter d (having (lasting e) f) c)
 letter_alike d e f c =
     let g = having (lasting e) f in
-    let longer : Editor → Editor = λ x. search_from d x.place (with_query x (lengthened (kept x.seek x.query) c)) in
+    let longer : Editor → Editor = λ x. search_from d x.place (with_query x (lengthened longest_query (kept x.seek x.query) c)) in
     either_alike (c == 0xA) e (without_search e) (if is_no_letter d c then e else longer e) g (without_search g) (if is_no_letter d c then g else longer g)
     (idle e (without_search e) g (without_search g) refl refl refl)
     (either_alike (is_no_letter d c) e e (longer e) g g (longer g) (idle e e g g refl refl refl) (idle e (longer e) g (longer g) refl refl refl))

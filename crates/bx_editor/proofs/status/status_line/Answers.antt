@@ -6,4 +6,4 @@ use Rattle.bx_editor.proofs.status.status_line.Goals as goal
 pub returns-clause-printable : goal.returns-clause-printable
 returns-clause-printable c =
     ap are_ascii_printable c.in_ok-line.ensures
-    ∙ status-printable c.args.changed c.args.paragraph c.args.unit c.args.message c.ranges.paragraph.fits c.ranges.unit.fits
+    ∙ status-printable c.args.changed c.args.paragraph c.args.unit c.ranges.paragraph.fits c.ranges.unit.fits

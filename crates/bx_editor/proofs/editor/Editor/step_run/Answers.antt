@@ -6,6 +6,7 @@ use Rattle.bx_document.specs.History.{next_changes}
 use Rattle.bx_view.specs.Places.{IsTextPlace}
 use Rattle.bx_editor.specs.declared.message.Message.{Message}
 use Rattle.bx_editor.specs.Editor.{Editor, EditorState, cleared}
+use Rattle.bx_editor.specs.Answers.{IsAnswer}
 use Rattle.bx_editor.specs.Origin.{BeganAt}
 use Rattle.bx_editor.specs.Runs.{by_run, run_length}
 use Rattle.bx_editor.proofs.RunSteps.{by-length-is, cleared-length, no-step, none-mapped}
@@ -23,6 +24,7 @@ invariant_of-self-in_default g c =
     × (is_side i.height ≡ true)
     × IfSome i.mark (IsTextPlace (g.D.BidiData.data x.tables) x.document.content.text)
     × (length (chars (string_bytes i.query)) ≤ 64)
+    × IsAnswer i.ask (string_bytes i.answer)
     × BeganAt (g.D.BidiData.data x.tables) x.document.content.text i.seek i.origin) (sym same) c.self.invariant
 
 pub returns-in_default-clause-ok : goal.returns-in_default-clause-ok
@@ -52,6 +54,8 @@ returns-in_default-clause-ok g c =
         query = string_bytes i.query;
         seek = i.seek;
         origin = i.origin;
+        ask = i.ask;
+        answer = string_bytes i.answer;
         runs = i.runs.numbers;
         typing = i.typing;
         stored = i.stored;
