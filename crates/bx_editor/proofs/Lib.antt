@@ -18,6 +18,7 @@ pub mod Queries
 pub mod Sought
 pub mod InSearch
 pub mod Questions
+pub mod OnePrompt
 pub mod Nearest
 pub mod TakenBack
 pub mod PutBack

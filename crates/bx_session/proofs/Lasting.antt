@@ -9,6 +9,7 @@ use Rattle.bx_keys.specs.declared.key.Key.TheVariants.{Select, UndoRun, RedoRun,
 use Rattle.bx_terms.specs.declared.base.Base.{Base}
 use Rattle.bx_text.specs.Edits.{Edited}
 use Rattle.bx_ucd.specs.Data.{Data}
+use Rattle.bx_asking.specs.declared.question.Ask.{Ask}
 use Rattle.bx_runs.specs.declared.typing.Typing.{Typing}
 use Rattle.bx_editor.specs.declared.seek.Seek.{Seek}
 use Rattle.bx_editor.specs.declared.soft.Soft.{Soft}
@@ -30,6 +31,8 @@ pub record Lasting : Type 0 where
   pub query : List ℕ
   pub seek : Seek
   pub origin : ℕ
+  pub ask : Ask
+  pub answer : List ℕ
   pub typing : Typing
   pub base : Base
   pub goal : Option ℕ
@@ -47,6 +50,8 @@ lasting e = record {
   query = e.query;
   seek = e.seek;
   origin = e.origin;
+  ask = e.ask;
+  answer = e.answer;
   typing = e.typing;
   base = e.base;
   goal = e.goal;
@@ -66,6 +71,8 @@ having l e = record e {
   query = l.query;
   seek = l.seek;
   origin = l.origin;
+  ask = l.ask;
+  answer = l.answer;
   typing = l.typing;
   base = l.base;
   goal = l.goal;
