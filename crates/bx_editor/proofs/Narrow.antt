@@ -74,15 +74,15 @@ narrow-divider c h = elim (or_cases (c == 0x3A) (c == 0x2C) h) as (λ _. IsNarro
 other-digit : (c : ℕ) → is_within 0x30 0x39 c ≡ false → is_within 0x660 0x669 c ≡ false → is_line_letter c ≡ true → IsNarrow c
 other-digit c ascii arabic-indic h = elim (cases_Bool (is_within 0x6F0 0x6F9 c)) as (λ _. IsNarrow c) [
   | inl t ↦ (let range = and_parts (nat_le 0x6F0 c) (nat_le c 0x6F9) t in
-    narrow-by c (among 0x6F0 10 c extended (leb-true 0x6F0 c range.0) (omega (arith, leb-true c 0x6F9 range.1))))
+      narrow-by c (among 0x6F0 10 c extended (leb-true 0x6F0 c range.0) (omega (arith, leb-true c 0x6F9 range.1))))
   | inr f ↦ (let none : is_digit c ≡ false = rw (ascii, arabic-indic, f) refl in
-    narrow-divider c (sym (ap (λ b. b || is_divider c) none) ∙ h))
+      narrow-divider c (sym (ap (λ b. b || is_divider c) none) ∙ h))
 ]
 
 not-ascii : (c : ℕ) → is_within 0x30 0x39 c ≡ false → is_line_letter c ≡ true → IsNarrow c
 not-ascii c ascii h = elim (cases_Bool (is_within 0x660 0x669 c)) as (λ _. IsNarrow c) [
   | inl t ↦ (let range = and_parts (nat_le 0x660 c) (nat_le c 0x669) t in
-    narrow-by c (among 0x660 10 c arabic (leb-true 0x660 c range.0) (omega (arith, leb-true c 0x669 range.1))))
+      narrow-by c (among 0x660 10 c arabic (leb-true 0x660 c range.0) (omega (arith, leb-true c 0x669 range.1))))
   | inr f ↦ other-digit c ascii f h
 ]
 

@@ -11,7 +11,10 @@ ghost use Rattle.bx_editor.specs.Putting.{only_paste};
 use crate::editor::Editor;
 use crate::message::Message;
 use crate::putting::{is_paste, only_paste};
-use bx_asking::{Ask, asked, asks_code, closing, coded, is_code_letter, is_line_letter, lengthened, named, shortened};
+use bx_asking::{
+    Ask, asked, asks_code, closing, coded, is_code_letter, is_line_letter, lengthened, named,
+    shortened,
+};
 use bx_runs::{Kind, Typing};
 use bx_terms::OutOfMemory;
 use bx_ucd::BidiData;
