@@ -34,7 +34,8 @@ use Rattle.bx_session.specs.Recovery.{HasAll, HasBack, HasBackMidway, IsKnown, I
 use Rattle.bx_session.specs.Running.{ByteAnswer, FeedsAll, bytes_of}
 use Rattle.bx_session.specs.Saving.{StoreAfter, StoreState, Feeds, is_save_key}
 use Rattle.bx_session.specs.Session.{Session, after_all_replayed, after_replay, after_replayed, at_opening, at_replay_end}
-use Rattle.bx_session.proofs.Alike.{Work, work, after_deeds, key_alike}
+use Rattle.bx_session.proofs.Alike.{Work, work, after_deeds}
+use Rattle.bx_session.proofs.KeysAlike.{key_alike}
 use Rattle.bx_session.proofs.Deeds.{Knows, Tells, Traces, deeds_know, deeds_tell, deeds_trace, knows_text, traced_text}
 use Rattle.bx_session.proofs.Lasting.{Lasting, lasting, having, not_saving}
 use Rattle.bx_session.proofs.Recovered.{Follows, all_follow, byte_follows, byte_leaves, editor_after, ended_back, follows, has_back}

@@ -34,7 +34,7 @@ use Rattle.bx_session.specs.Running.{ByteAnswer, FeedsAll, bytes_of}
 use Rattle.bx_session.specs.Saving.{StoreState, AfterByte, Feeds}
 use Rattle.bx_session.specs.Session.{Session, after_all_replayed, at_opening, at_replay_end, after_spending, after_replay, after_replayed, after_replayed_key, is_idle, key_of_byte}
 use Rattle.bx_session.specs.Session.{session_after_any, with_painting, with_painting_owed}
-use Rattle.bx_session.proofs.Alike.{key_alike}
+use Rattle.bx_session.proofs.KeysAlike.{key_alike}
 use Rattle.bx_session.proofs.Input.{keys_of_input}
 use Rattle.bx_session.proofs.Lasting.{Lasting, lasting, having}
 use Rattle.bx_session.proofs.Replayed.{applies, each-replayed, replays_keys}

@@ -22,7 +22,8 @@ use Rattle.bx_editor.specs.Keys.{after_any, after_key}
 use Rattle.bx_editor.specs.Replay.{after_passed_save}
 use Rattle.bx_session.specs.Laws.{keys_from, after_replaying, ReplaysKeys}
 use Rattle.bx_session.specs.Session.{Session, after_all_replayed, after_replay, after_replayed, after_replayed_key, session_after_key, session_after_replayed, with_painting_owed}
-use Rattle.bx_session.proofs.Alike.{Work, work, key_alike}
+use Rattle.bx_session.proofs.Alike.{Work, work}
+use Rattle.bx_session.proofs.KeysAlike.{key_alike}
 use Rattle.bx_session.proofs.Deeds.{deeds_go_on}
 use Rattle.bx_session.proofs.Lasting.{is_other}
 
