@@ -40,11 +40,14 @@ with_answer e answer = record e { answer = answer }
 
 -- ---- a line
 
--- to the place of the numbers; without a first number, in the place's own paragraph
+-- the place of the numbers; without a first number, in the place's own paragraph
+abbrev pub target_place : Data → Editor → Target → ℕ
+target_place d e target =
+    place_of d e.content.text (unwrap_or target.paragraph (paragraph_number d e.content.text e.place + 1)) target.unit
+
 abbrev pub gone_to : Data → Editor → Option Target → Editor
 gone_to d e None = e
-gone_to d e (Some target) =
-    with_place e (place_of d e.content.text (unwrap_or target.paragraph (paragraph_number d e.content.text e.place + 1)) target.unit)
+gone_to d e (Some target) = with_place e (target_place d e target)
 
 -- the question is answered
 abbrev pub after_going : Data → Editor → Editor
