@@ -116,30 +116,30 @@ free e new same unasked asked = absurd (asked (same ∙ unasked))
 
 effect : (d : Data) (fault : Option StoreFault) (was : Before) (e : Editor) (one : Effect) → e.ask ≡ asks.Off → e.seek ≡ Off
     → HasOnePrompt (by d fault was e one)
-effect d fault was e (Types c) unasked unsought = free e _ (character d was.typing e c) unasked
-effect d fault was e BeginsLine unasked unsought = free e _ (new-line d was.typing e) unasked
-effect d fault was e Puts unasked unsought = free e _ (put d e) unasked
-effect d fault was e (Removes how start stop) unasked unsought = free e _ (erasing d was.typing how e start stop) unasked
-effect d fault was e (RemovesWord start stop) unasked unsought = free e _ (word d e start stop) unasked
-effect d fault was e (Steps way) unasked unsought = free e _ (step way e) unasked
-effect d fault was e (StepsRun way) unasked unsought = free e _ (run way e (next_changes way (run_length way e) e.content)) unasked
-effect d fault was e (Goes place) unasked unsought = free e _ refl unasked
-effect d fault was e (GoesByRows way n) unasked unsought = free e _ refl unasked
-effect d fault was e Marks unasked unsought = free e _ (mark e) unasked
-effect d fault was e Selects unasked unsought = free e _ (select e e.mark e.soft) unasked
-effect d fault was e Unmarks unasked unsought = free e _ refl unasked
-effect d fault was e Copies unasked unsought = free e _ (copy d e) unasked
-effect d fault was e Cuts unasked unsought = free e _ (cut d e) unasked
-effect d fault was e Seeks unasked unsought = free e _ refl unasked
-effect d fault was e SeeksNext unasked unsought = free e _ (either (length (sought d (unselected e)) == 0) e _ _ refl refl) unasked
-effect d fault was e Saves unasked unsought = free e _ (save e fault) unasked
-effect d fault was e Quits unasked unsought = free e _ (quit e was.again) unasked
-effect d fault was e Turns unasked unsought = free e _ refl unasked
-effect d fault was e Helps unasked unsought = free e _ refl unasked
+effect d fault was e (Types c) unasked unsought = free e (by d fault was e (Types c)) (character d was.typing e c) unasked
+effect d fault was e BeginsLine unasked unsought = free e (by d fault was e BeginsLine) (new-line d was.typing e) unasked
+effect d fault was e Puts unasked unsought = free e (by d fault was e Puts) (put d e) unasked
+effect d fault was e (Removes how start stop) unasked unsought = free e (by d fault was e (Removes how start stop)) (erasing d was.typing how e start stop) unasked
+effect d fault was e (RemovesWord start stop) unasked unsought = free e (by d fault was e (RemovesWord start stop)) (word d e start stop) unasked
+effect d fault was e (Steps way) unasked unsought = free e (by d fault was e (Steps way)) (step way e) unasked
+effect d fault was e (StepsRun way) unasked unsought = free e (by d fault was e (StepsRun way)) (run way e (next_changes way (run_length way e) e.content)) unasked
+effect d fault was e (Goes place) unasked unsought = free e (by d fault was e (Goes place)) refl unasked
+effect d fault was e (GoesByRows way n) unasked unsought = free e (by d fault was e (GoesByRows way n)) refl unasked
+effect d fault was e Marks unasked unsought = free e (by d fault was e Marks) (mark e) unasked
+effect d fault was e Selects unasked unsought = free e (by d fault was e Selects) (select e e.mark e.soft) unasked
+effect d fault was e Unmarks unasked unsought = free e (by d fault was e Unmarks) refl unasked
+effect d fault was e Copies unasked unsought = free e (by d fault was e Copies) (copy d e) unasked
+effect d fault was e Cuts unasked unsought = free e (by d fault was e Cuts) (cut d e) unasked
+effect d fault was e Seeks unasked unsought = free e (by d fault was e Seeks) refl unasked
+effect d fault was e SeeksNext unasked unsought = free e (by d fault was e SeeksNext) (either (length (sought d (unselected e)) == 0) e _ _ refl refl) unasked
+effect d fault was e Saves unasked unsought = free e (by d fault was e Saves) (save e fault) unasked
+effect d fault was e Quits unasked unsought = free e (by d fault was e Quits) (quit e was.again) unasked
+effect d fault was e Turns unasked unsought = free e (by d fault was e Turns) refl unasked
+effect d fault was e Helps unasked unsought = free e (by d fault was e Helps) refl unasked
 effect d fault was e AsksLine unasked unsought = λ asked. unsought
 effect d fault was e AsksName unasked unsought = λ asked. unsought
-effect d fault was e Tells unasked unsought = free e _ refl unasked
-effect d fault was e Rests unasked unsought = free e _ refl unasked
+effect d fault was e Tells unasked unsought = free e (by d fault was e Tells) refl unasked
+effect d fault was e Rests unasked unsought = free e (by d fault was e Rests) refl unasked
 
 letter : (d : Data) (e : Editor) (c : ℕ) → SameAsk e (after_letter d e c)
 letter d e c = either (c == 0xA) e _ _ refl (either (is_no_letter d c) e _ _ refl refl)
@@ -147,12 +147,12 @@ letter d e c = either (c == 0xA) e _ _ refl (either (is_no_letter d c) e _ _ ref
 -- in a search
 answer : (d : Data) (fault : Option StoreFault) (was : Before) (e : Editor) (key : Key) (one : Answer) → e.ask ≡ asks.Off
     → HasOnePrompt (answered d fault was e key one)
-answer d fault was e key (Letter c) unasked = free e _ (letter d e c) unasked
-answer d fault was e key Shortens unasked = free e _ refl unasked
-answer d fault was e key GoesBack unasked = free e _ refl unasked
-answer d fault was e key Next unasked = free e _ refl unasked
-answer d fault was e key Previous unasked = free e _ refl unasked
-answer d fault was e key Stays unasked = free e _ refl unasked
+answer d fault was e key (Letter c) unasked = free e (answered d fault was e key (Letter c)) (letter d e c) unasked
+answer d fault was e key Shortens unasked = free e (answered d fault was e key Shortens) refl unasked
+answer d fault was e key GoesBack unasked = free e (answered d fault was e key GoesBack) refl unasked
+answer d fault was e key Next unasked = free e (answered d fault was e key Next) refl unasked
+answer d fault was e key Previous unasked = free e (answered d fault was e key Previous) refl unasked
+answer d fault was e key Stays unasked = free e (answered d fault was e key Stays) refl unasked
 answer d fault was e key Ends unasked = λ asked. refl
 
 -- in a question
