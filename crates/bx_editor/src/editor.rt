@@ -171,7 +171,7 @@ impl<D: BidiData + Drop> Editor<D> {
     }
 
     /// The answer to the question, or to the latest one. No memory.
-    pub fn answer(&self) -> &str
+    pub fn typed_answer(&self) -> &str
         ensures { result.now ≡ self.now.editor.answer }
     {
         self.answer.as_str()

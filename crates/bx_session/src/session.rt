@@ -145,7 +145,7 @@ impl<D: BidiData + Drop> Session<D> {
     pub fn answer(&self) -> &str
         ensures { result.now ≡ self.now.session.editor.answer }
     {
-        self.editor.answer()
+        self.editor.typed_answer()
     }
 
     /// The key that a byte would complete now; none after the session's end. Allocates nothing.
