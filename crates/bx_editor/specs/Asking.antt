@@ -88,7 +88,7 @@ after_code d e (Some c) = with_character d e c
 abbrev pub after_code_letter : Data → Editor → ℕ → Editor
 after_code_letter d e letter =
     if letter == 0xA
-    then after_code d (without_ask e) (coded (chars e.answer))
+    then after_code d (without_ask e) (coded e.answer)
     else if is_code_letter letter then with_answer e (lengthened longest_code e.answer letter) else e
 
 -- ---- any question

@@ -1,5 +1,5 @@
 //! The keys that ask, and what answers a question: a line, and a character by name or by code.
-ghost use Rattle.std.specs.Prelude.{◌≡◌, IfOk, OnErr, OnOk, chars};
+ghost use Rattle.std.specs.Prelude.{◌≡◌, IfOk, OnErr, OnOk};
 ghost use Rattle.bx_view.specs.Places.{IsTextPlace};
 ghost use Rattle.bx_asking.specs.Answers.{lengthened};
 ghost use Rattle.bx_asking.specs.Codes.{coded};
@@ -14,7 +14,7 @@ use crate::editor::Editor;
 use crate::message::Message;
 use crate::putting::{is_paste, only_paste};
 use bx_asking::{
-    Ask, asked, asks_code, closing, coded, is_code_letter, is_line_letter, lengthened, named,
+    Ask, Target, asked, asks_code, closing, coded, is_code_letter, is_line_letter, lengthened, named,
     shortened,
 };
 use bx_runs::{Kind, Typing};
@@ -145,6 +145,7 @@ impl<D: BidiData + Drop> Editor<D> {
 
     /// Takes a letter that names a character; a paste answers nothing.
     fn answer_name(&mut self, letter: char) -> Result<(), OutOfMemory>
+        requires ask { self.old.editor.ask ≡ Ask.Name }
         ensures ok { OnOk result (self.new ≡ record self.old {
           editor = after_answer_letter (D.data self.old.tables) self.old.editor.typing Ask.Name (cleared self.old.editor) letter;
         }) }
@@ -171,7 +172,7 @@ impl<D: BidiData + Drop> Editor<D> {
     /// Puts in the character whose code the answer writes; if there is none, sets a message.
     fn put_coded(&mut self) -> Result<(), OutOfMemory>
         ensures ok { OnOk result (self.new ≡ record self.old {
-          editor = after_code (D.data self.old.tables) (cleared self.old.editor) (coded (chars self.old.editor.answer));
+          editor = after_code (D.data self.old.tables) (cleared self.old.editor) (coded self.old.editor.answer);
         }) }
         ensures err { OnErr result (self.new ≡ self.old) }
     {

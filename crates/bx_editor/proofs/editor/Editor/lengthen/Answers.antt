@@ -1,13 +1,12 @@
-use Rattle.std.proofs.Common.{rules, ◌≡◌, OnErr, OnOk, ℕ, ◌+◌, ◌-◌, ◌*◌, ◌<◌, ◌≤◌, length, ◌/◌, ◌%◌, Bool, true, false, nat_eq, nat_lt, List, [], ◌∷◌, ◌++◌, slice_index_or, slice_set, bit_and, bit_or, Fits, w8, w32, w64, Bor, MutBor}
-use Rattle.bx_asking.specs.Answers.{lengthened}
-use Rattle.bx_asking.specs.Names.{closing}
-use Rattle.bx_document.specs.QueryRow.{IsNarrow}
-use Rattle.bx_editor.specs.Answers.{limit_of}
-use Rattle.bx_editor.specs.Asking.{after_answer_letter, after_going, after_line_letter, after_named, after_shorter_answer, asking, with_answer, with_character, without_ask}
-use Rattle.bx_editor.specs.Editor.{cleared, with_typing}
-use Rattle.bx_editor.specs.Putting.{only_paste}
+use Rattle.std.proofs.Common.{string_bytes, ap, subst, sym, ◌≡◌, ◌∙◌}
+use Rattle.std.proofs.lemmas.Str.{IsUtf8-string_bytes}
+use Rattle.bx_editor.proofs.AnswersKept.{answer-longer}
 use Rattle.bx_editor.proofs.editor.Editor.lengthen.Goals as goal
 
--- src/asking.rt:56:9
 pub invariant_of-self : goal.invariant_of-self
-invariant_of-self g c = ?
+invariant_of-self g c =
+    let i = c.self.inside in
+    let old = i.answer in
+    let new = c.in_ok-answer.answer in
+    let kept = c.self.invariant in
+    (kept.0, kept.1, kept.2, kept.3, ?, kept.5)
