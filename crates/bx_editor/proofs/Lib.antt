@@ -20,6 +20,8 @@ pub mod Begin
 pub mod Queries
 pub mod Sought
 pub mod InSearch
+pub mod Questions
+pub mod OnePrompt
 pub mod Nearest
 pub mod TakenBack
 pub mod PutBack
