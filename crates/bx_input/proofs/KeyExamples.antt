@@ -5,7 +5,7 @@ use Rattle.bx_keys.specs.Keys.{decoding}
 use Rattle.bx_keys.specs.declared.key.Key.{Key}
 use Rattle.bx_keys.specs.declared.key.Key.TheVariants.{Insert, Mark, Copy, Cut, Put, Find, FindBack, WordLeft, WordRight, TextStart, TextEnd, Help, Notice}
 use Rattle.bx_keys.specs.declared.key.Key.TheVariants.{EraseWord, DeleteWord, FindNext, Cancel, ErasePoint, NewLine, LineUp, LineDown, PageBack, PageOn, Right, Left, RowHome, RowEnd, Delete}
-use Rattle.bx_keys.specs.declared.key.Key.TheVariants.{Select, UndoRun, RedoRun, PasteStart, PasteEnd}
+use Rattle.bx_keys.specs.declared.key.Key.TheVariants.{Select, UndoRun, RedoRun, GoTo, Name, Tell, PasteStart, PasteEnd}
 use Rattle.bx_keys.specs.declared.notice.Notice.TheVariants.{NoSpace, InPlace}
 use Rattle.bx_input.specs.Table.{Row, rows, paste_start, paste_end}
 use Rattle.bx_input.specs.Filter as filter
@@ -29,6 +29,12 @@ runs_back_and_again = refl
 
 pub keys_of_runs : keys (codes "\u{19}\u{1a}") ≡ RedoRun ∷ UndoRun ∷ []
 keys_of_runs = refl
+
+pub questions : filtered (codes "\u{7}\u{b}\u{14}") ≡ codes "\u{1b}[84~\u{1b}[86~\u{1b}[87~"
+questions = refl
+
+pub keys_of_questions : keys (codes "\u{7}\u{b}\u{14}") ≡ GoTo ∷ Name ∷ Tell ∷ []
+keys_of_questions = refl
 
 pub others_go_through : filtered (codes "\u{13}\u{11}\u{2}\u{6}") ≡ codes "\u{13}\u{11}\u{2}\u{6}"
 others_go_through = refl
@@ -107,6 +113,11 @@ pub in_a_paste : filtered (paste_start ++ (codes "a\u{17}\u{3}\u{18}" ++ (0x00 �
     ≡ codes "\u{1b}[90~ab\nc\u{1b}[91~\u{1b}[70~"
 in_a_paste = refl
 
+-- a paste neither undoes nor asks
+pub no_question_in_a_paste : filtered (paste_start ++ (codes "a\u{1a}\u{7}\u{b}\u{14}\r\nb" ++ paste_end) ++ codes "\u{1a}\u{7}")
+    ≡ codes "\u{1b}[90~a\nb\u{1b}[91~\u{1b}[82~\u{1b}[84~"
+no_question_in_a_paste = refl
+
 -- a paste neither erases nor cancels
 pub no_erase_in_a_paste : filtered (paste_start ++ (codes "a\u{7f}\u{8}\r\nb" ++ paste_end) ++ codes "\u{8}")
     ≡ codes "\u{1b}[90~a\nb\u{1b}[91~\u{1b}[94~"
@@ -153,6 +164,9 @@ cut_behind_broken = refl
 
 pub behind_escape : keys (codes "\u{1b}\u{17}") ≡ Find ∷ []
 behind_escape = refl
+
+pub questions_behind_broken : keys (codes "\u{1b}\u{7}\u{1b}[1;5\u{b}\u{1b}[7\u{14}") ≡ GoTo ∷ Name ∷ Tell ∷ []
+questions_behind_broken = refl
 
 -- the filter's own CAN is no Cut
 pub own_can : filtered (codes "\u{1b}[1;5\u{1b}Oq") ≡ codes "\u{1b}[1;5\u{18}1"
