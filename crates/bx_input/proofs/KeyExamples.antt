@@ -36,7 +36,7 @@ questions = refl
 pub keys_of_questions : keys (codes "\u{7}\u{b}\u{14}") ≡ GoTo ∷ Name ∷ Tell ∷ []
 keys_of_questions = refl
 
-pub others_go_through : filtered (codes "\u{13}\u{11}\u{2}\u{6}") ≡ codes "\u{13}\u{11}\u{2}\u{6}"
+pub others_go_through : filtered (codes "\u{13}\u{11}\u{2}\u{6}\u{c}\n") ≡ codes "\u{13}\u{11}\u{2}\u{6}\u{c}\n"
 others_go_through = refl
 
 pub erase_keys : keys (0x7F ∷ 0x08 ∷ 0x0D ∷ 0x0A ∷ []) ≡ ErasePoint ∷ ErasePoint ∷ NewLine ∷ Insert 0x0A ∷ []
@@ -108,6 +108,14 @@ notices = refl
 pub no_row : filtered (codes "\u{1b}[1;5A\u{1b}OS") ≡ codes "\u{1b}[1;5A\u{1b}OS"
 no_row = refl
 
+-- Delete with Shift, F5 of three terminals
+pub no_function_keys : filtered (codes "\u{1b}[3;2~\u{1b}[15~\u{1b}OT\u{1b}[[E") ≡ codes "\u{1b}[3;2~\u{1b}[15~\u{1b}OT\u{1b}[[E"
+no_function_keys = refl
+
+-- keys with Shift that select nothing
+pub nothing_selected : filtered (codes "\u{1b}[1;6A\u{1b}[1;2P\u{1b}[e\u{1b}[7@\u{1b}[5$") ≡ codes "\u{1b}[1;6A\u{1b}[1;2P\u{1b}[e\u{1b}[7@\u{1b}[5$"
+nothing_selected = refl
+
 -- a paste only inserts, and behind it CTRL-W is a key
 pub in_a_paste : filtered (paste_start ++ (codes "a\u{17}\u{3}\u{18}" ++ (0x00 ∷ codes "b\r\nc" ++ paste_end)) ++ 0x17 ∷ [])
     ≡ codes "\u{1b}[90~ab\nc\u{1b}[91~\u{1b}[70~"
@@ -152,6 +160,12 @@ lines_behind_broken = refl
 
 pub word_behind_broken : keys_where true (codes "\u{1b}[1;5\u{8}\u{1b}[1;5\u{1b}\u{8}") ≡ EraseWord ∷ EraseWord ∷ []
 word_behind_broken = refl
+
+pub undo_behind_broken : keys (codes "\u{1b}[1;6\u{1a}") ≡ UndoRun ∷ []
+undo_behind_broken = refl
+
+pub erasing_behind_broken : keys (codes "\u{1b}[1;2\u{1b}\u{7f}\u{1b}\u{1b}\u{8}\u{1b}[3\u{7f}") ≡ EraseWord ∷ EraseWord ∷ ErasePoint ∷ []
+erasing_behind_broken = refl
 
 pub f3_behind_broken : keys (codes "\u{1b}O\u{1b}OR") ≡ FindNext ∷ []
 f3_behind_broken = refl
