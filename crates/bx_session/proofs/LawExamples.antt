@@ -102,7 +102,7 @@ of_x bs = owing bs (start (codes "x") 1 5)
 abbrev storing : List ℕ → StoreState
 storing text = record { contents = Some text; faults = no_faults }
 
-is_fed : FeedsAll tables (of_x []) (storing []) (unpainted (0x61 ∷ 0x13 ∷ 0x62 ∷ 0x1a ∷ [])) (of_x (0x61 ∷ 0x13 ∷ 0x62 ∷ 0x1a ∷ [])) (storing (codes "ax"))
+is_fed : FeedsAll tables (start (codes "x") 1 5) (storing []) (unpainted (0x61 ∷ 0x13 ∷ 0x62 ∷ 0x1a ∷ [])) (of_x (0x61 ∷ 0x13 ∷ 0x62 ∷ 0x1a ∷ [])) (storing (codes "ax"))
 unfolding unicode_segmentation unicode_width digits
 is_fed = (
   of_x (0x61 ∷ []),

@@ -4,7 +4,7 @@ use Rattle.bx_grid.specs.Picture.{PictureState}
 use Rattle.bx_ucd.specs.Data.{Data}
 use Rattle.bx_editor.specs.Editor.{Editor, EditorState}
 use Rattle.bx_session.proofs.Pictures.{picture_height, picture_width, longer_queue, painting_is, painting_queues}
-use Rattle.bx_session.specs.Session.{Session, known_if, painting}
+use Rattle.bx_session.specs.Session.{Session, SessionState, known_if, painting, with_painting}
 use Rattle.bx_session.proofs.session.Session.paint.Goals as goal
 
 pub invariant_of-self-2 : goal.invariant_of-self-2
@@ -36,11 +36,11 @@ returns-clause-ok g c =
       painting_owed = c.self.inside.painting_owed;
       pending = drop c.self.inside.taken c.self.inside.queue.items;
     } in
-    rw (← c.self.view_is)
-    (painting_is d s c.picture.new.self.editor c.in-Ok-picture.top c.in-Ok-picture.picture (drop c.self.inside.taken c.append.new.queue.items)
+    painting_is d s c.picture.new.self.editor c.in-Ok-picture.top c.in-Ok-picture.picture (drop c.self.inside.taken c.append.new.queue.items)
     (ap (λ (x : EditorState g.row.D.Denot). x.editor) c.in-Ok-picture.ensures.same) c.in-Ok-picture.ensures.top c.in-Ok-picture.ensures.picture
     (longer_queue c.self.inside.taken c.self.inside.queue.items (painting (known_if c.self.inside.is_known c.self.inside.painted) c.in-Ok-picture.picture) c.append.new.queue.items c.self.invariant.0
-    c.in-Ok-append.ensures.bytes))
+    c.in-Ok-append.ensures.bytes)
+    ∙ ap (λ (x : SessionState g.row.D.Denot). with_painting (g.D.BidiData.data x.tables) x.session) c.self.view_is
 
 pub returns-clause-paints : goal.returns-clause-paints
 returns-clause-paints g c =
