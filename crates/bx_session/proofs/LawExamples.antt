@@ -102,7 +102,10 @@ of_x bs = owing bs (start (codes "x") 1 5)
 abbrev storing : List ℕ → StoreState
 storing text = record { contents = Some text; faults = no_faults }
 
-is_fed : FeedsAll tables (start (codes "x") 1 5) (storing []) (unpainted (0x61 ∷ 0x13 ∷ 0x62 ∷ 0x1a ∷ [])) (of_x (0x61 ∷ 0x13 ∷ 0x62 ∷ 0x1a ∷ [])) (storing (codes "ax"))
+abbrev input : List ℕ
+input = 0x61 ∷ 0x13 ∷ 0x62 ∷ 0x1a ∷ []
+
+is_fed : FeedsAll tables (start (codes "x") 1 5) (storing []) (unpainted input) (of_x input) (storing (codes "ax"))
 unfolding unicode_segmentation unicode_width digits
 is_fed = (
   of_x (0x61 ∷ []),
@@ -127,13 +130,23 @@ is_fed = (
   ),
 )
 
-pub its_replay_gives_the_text_back : RecoveryGivesBack
-    → (after_journal tables (start (codes "x") 1 5) (0x61 ∷ 0x13 ∷ 0x62 ∷ 0x1a ∷ [])).editor.content.text ≡ codes "ax"
+has_text : (of_x input).editor.content.text ≡ codes "ax"
 unfolding unicode_segmentation unicode_width digits
+has_text = refl
+
+-- the replay of what a session was fed has its text
+replays_to : RecoveryGivesBack → (store store' : StoreState) (answered : List ByteAnswer) (new : Session)
+    → FeedsAll tables (start (codes "x") 1 5) store answered new store' → RefusesNoKey answered
+    → (after_journal tables (start (codes "x") 1 5) (bytes_of answered)).editor.content.text ≡ new.editor.content.text
+replays_to law store store' answered new feeds none =
+    ap (λ (t : Edited). t.text) (law.gives_back tables (codes "x") 1 5 Auto store store' answered new feeds none).content
+
+pub its_replay_gives_the_text_back : RecoveryGivesBack → (after_journal tables (start (codes "x") 1 5) input).editor.content.text ≡ codes "ax"
 its_replay_gives_the_text_back law =
-    let input = 0x61 ∷ 0x13 ∷ 0x62 ∷ 0x1a ∷ [] in
-    let back = law.gives_back tables (codes "x") 1 5 Auto (storing []) (storing (codes "ax")) (unpainted input) (of_x input) is_fed (none_refused input) in
-    ap (λ (t : Edited). t.text) back.content
+    let fed_them : bytes_of (unpainted input) ≡ input = refl in
+    ap (λ bytes. (after_journal tables (start (codes "x") 1 5) bytes).editor.content.text) (sym fed_them)
+    ∙ replays_to law (storing []) (storing (codes "ax")) (unpainted input) (of_x input) is_fed (none_refused input)
+    ∙ has_text
 
 -- where the session refused b when memory ran out, its replay has abx
 pub a_refused_key_is_applied : RecoveryGivesBack → (after_replaying tables (start (codes "x") 1 5) (0x61 ∷ 0x62 ∷ [])).editor.content.text ≡ codes "abx"
