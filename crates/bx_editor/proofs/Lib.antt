@@ -43,3 +43,9 @@ pub mod MovedMarks
 pub mod GivenWay
 pub mod RunLawExamples
 pub mod SelectionLawExamples
+pub mod LeastLevels
+pub mod ShallowStates
+pub mod IsolateLevels
+pub mod ToldNumbers
+pub mod FewNumbers
+pub mod UnitBytes

@@ -21,3 +21,4 @@ pub mod Laws
 pub mod WorkLaws
 pub mod RunLaws
 pub mod SelectionLaws
+pub mod AskingLaws

@@ -2,6 +2,7 @@
 #![tactic(auto)]
 
 mod asking;
+mod asking_laws;
 mod editing;
 mod editor;
 mod erasing;
@@ -29,6 +30,10 @@ mod telling;
 mod work_laws;
 mod wrapping;
 
+pub use asking_laws::{
+    answer_is_a_run, isolates_raise, letter_puts_in, letter_wraps, questions_change_themselves,
+    told_numbers_lead_back,
+};
 pub use editor::Editor;
 pub use error::OpenError;
 pub use laws::{

@@ -1,0 +1,33 @@
+//! Laws of questions and their answers, and of what is told of a unit. The functions are empty: their contracts are the laws.
+
+ghost use Rattle.bx_editor.specs.AskingLaws.{AnswerIsARun, IsolatesRaise, LetterPutsIn, LetterWraps, QuestionsChangeThemselves, ToldNumbersLeadBack};
+
+/// A question changes nothing but itself: whatever is typed while it is on leaves text, place, held text and mark as they were.
+pub fn questions_change_themselves()
+    ensures { QuestionsChangeThemselves }
+{}
+
+/// The numbers that the status row tells are an answer to GoTo that leads to the place where the cursor is.
+pub fn told_numbers_lead_back()
+    ensures { ToldNumbersLeadBack }
+{}
+
+/// One UndoRun takes back all that an answer to Name put in.
+pub fn answer_is_a_run()
+    ensures { AnswerIsARun }
+{}
+
+/// Name and a letter put the letter's character in at the place.
+pub fn letter_puts_in()
+    ensures { LetterPutsIn }
+{}
+
+/// Name and a letter wrap the region in two characters, and change no other.
+pub fn letter_wraps()
+    ensures { LetterWraps }
+{}
+
+/// What stands in an isolate has levels above the one at which the isolate stands.
+pub fn isolates_raise()
+    ensures { IsolatesRaise }
+{}
