@@ -49,3 +49,5 @@ pub mod IsolateLevels
 pub mod ToldNumbers
 pub mod FewNumbers
 pub mod UnitBytes
+pub mod QuestionKept
+pub mod QuestionKeys
