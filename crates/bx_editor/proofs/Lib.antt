@@ -10,6 +10,7 @@ pub mod StepOrder
 pub mod Parts
 pub mod Shown
 pub mod Narrow
+pub mod AnswersKept
 pub mod StatusRow
 pub mod TopOnce
 pub mod OnItsCell
