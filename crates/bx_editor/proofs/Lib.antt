@@ -52,3 +52,5 @@ pub mod FewNumbers
 pub mod UnitBytes
 pub mod QuestionKept
 pub mod QuestionKeys
+pub mod AskingKeys
+pub mod AnswerRun
