@@ -54,3 +54,4 @@ pub mod QuestionKept
 pub mod QuestionKeys
 pub mod AskingKeys
 pub mod AnswerRun
+pub mod ToldLine

@@ -231,7 +231,7 @@ soft-off : (key : Key) → soft_behind key softness.Off ≡ softness.Off
 soft-off keys.Select = refl
 soft-off _ = refl
 
-left-leaves : (e new : Editor) (key : Key) → Leaves (cleared e) new → Leaves e (as_left key new)
+pub left-leaves : (e new : Editor) (key : Key) → Leaves (cleared e) new → Leaves e (as_left key new)
 left-leaves e new key left = record {
   content = left.content;
   place = left.place;

@@ -141,10 +141,9 @@ abbrev pub AreLetters : List ℕ → Type 0
 AreLetters [] = Unit {0}
 AreLetters (c ∷ cs) = IsLetter c × AreLetters cs
 
-digit-letters : (cs rest : List ℕ) → AreDigits cs → AreLetters rest → AreLetters (cs ++ rest)
-digit-letters [] rest h more = more
-digit-letters (c ∷ cs) rest h more =
-    (record { line = ap (λ b. b || is_divider c) h.0.digit; low = h.0.low }, digit-letters cs rest h.1 more)
+pub letters-append : (cs rest : List ℕ) → AreLetters cs → AreLetters rest → AreLetters (cs ++ rest)
+letters-append [] rest h more = more
+letters-append (c ∷ cs) rest h more = (h.0, letters-append cs rest h.1 more)
 
 all-digits : (cs : List ℕ) → AreDigits cs → AreLetters cs
 all-digits [] h = tt
@@ -153,7 +152,7 @@ all-digits (c ∷ cs) h = (record { line = ap (λ b. b || is_divider c) h.0.digi
 pub told-letters : (p u : ℕ) → p < 2 ^ 64 → u < 2 ^ 64 → AreLetters (two_numbers p u)
 told-letters p u small-p small-u =
     let rest : AreLetters (codes ":" ++ decimal u) = (record { line = refl; low = omega arith }, all-digits (decimal u) (decimal-writes u small-u).digits) in
-    digit-letters (decimal p) (codes ":" ++ decimal u) (decimal-writes p small-p).digits rest
+    letters-append (decimal p) (codes ":" ++ decimal u) (all-digits (decimal p) (decimal-writes p small-p).digits) rest
 
 letters-ascii : (cs : List ℕ) → AreLetters cs → IsAscii cs
 letters-ascii [] h i = omega arith
