@@ -55,3 +55,4 @@ pub mod QuestionKeys
 pub mod AskingKeys
 pub mod AnswerRun
 pub mod ToldLine
+pub mod LettersPut

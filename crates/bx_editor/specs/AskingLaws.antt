@@ -122,7 +122,7 @@ AnswerIsARun =
 
 -- the bytes stand at the place, and the cursor at the first place at or after their end
 pub record IsPutIn (d : Data) (e : Editor) (bytes : List ℕ) (new : Editor) : Type 0 where
-  pub text_is : new.content.text ≡ take e.place e.content.text ++ (bytes ++ drop e.place e.content.text)
+  pub text_is : new.content.text ≡ take e.place e.content.text ++ bytes ++ drop e.place e.content.text
   pub place_is : new.place ≡ place_after d e new.content.text (e.place + length bytes)
   pub ask_is : new.ask ≡ Off
 
@@ -138,7 +138,7 @@ LetterPutsIn =
 -- the text with the opener at the region's start and the closer at its end
 abbrev pub wrapped_region : Editor → ℕ → ℕ → List ℕ
 wrapped_region e opener closer =
-    take (region e).0 e.content.text ++ (encode_utf8 opener ++ (bytes_in e (region e) ++ (encode_utf8 closer ++ drop (region e).1 e.content.text)))
+    take (region e).0 e.content.text ++ encode_utf8 opener ++ bytes_in e (region e) ++ encode_utf8 closer ++ drop (region e).1 e.content.text
 
 -- The region stands between both characters, and no other byte has changed. The cursor is at the region's end at which it
 -- was, and no mark is set.
@@ -212,7 +212,7 @@ pub record TellsUnit (d : Data) (e : Editor) : Type 0 where
   pub unit : (number : ℕ) (front : List (List ℕ)) (unit : List ℕ) (rest : List (List ℕ)) → IsUnitAt d e number front unit rest
       → (c : ℕ) (cs : List ℕ) → chars unit ≡ c ∷ cs → (i level : ℕ) → i < length (chars unit)
       → IsFirstLevel (levels_under d e.base (chars (body_at d e.content.text number))) (length (chars (concat front))) i level
-      → told_at_place d e ≡ character_text d c ++ (others_text d cs ++ (codes " level " ++ decimal level))
+      → told_at_place d e ≡ character_text d c ++ others_text d cs ++ (codes " level " ++ decimal level)
   pub end : e.place ≡ length e.content.text → told_at_place d e ≡ codes "end of text"
   pub shown : e.ask ≡ Off → let new = after_key d None e Tell in
       (status_text d new ≡ status_line e.changed (paragraph_number d e.content.text e.place + 1) (unit_number d e.content.text e.place) ++ (codes " " ++ told_at_place d e))
