@@ -56,3 +56,4 @@ pub mod AskingKeys
 pub mod AnswerRun
 pub mod ToldLine
 pub mod LettersPut
+pub mod ToldUnit

@@ -27,7 +27,7 @@ use Rattle.bx_editor.specs.declared.soft.Soft.TheVariants as softness
 use Rattle.bx_editor.specs.Asking.{after_going, with_answer, without_ask}
 use Rattle.bx_editor.specs.Editor.{Editor, place_after}
 use Rattle.bx_editor.specs.Keys.{after_key, after_keys}
-use Rattle.bx_editor.specs.Laws.{after_typing, IsPart}
+use Rattle.bx_editor.specs.Laws.{after_typing, HasRows, IsPart}
 use Rattle.bx_editor.specs.Region.{bytes_in, is_empty, region}
 use Rattle.bx_editor.specs.RunLaws.{IsBackBefore}
 use Rattle.bx_editor.specs.Selecting.{aged}
@@ -207,14 +207,21 @@ pub record IsUnitAt (d : Data) (e : Editor) (number : ℕ) (front : List (List �
   pub place_is : e.place ≡ start_at d e.content.text number + length (concat front)
 
 -- Of a unit are told its first character's code and class, those of three more, and the level of its first character that has
--- one. At the text's end that is told. Tell shows it on the status row, and changes nothing else.
+-- one. At the text's end that is told. It is printable ASCII, whatever the text has.
 pub record TellsUnit (d : Data) (e : Editor) : Type 0 where
   pub unit : (number : ℕ) (front : List (List ℕ)) (unit : List ℕ) (rest : List (List ℕ)) → IsUnitAt d e number front unit rest
       → (c : ℕ) (cs : List ℕ) → chars unit ≡ c ∷ cs → (i level : ℕ) → i < length (chars unit)
       → IsFirstLevel (levels_under d e.base (chars (body_at d e.content.text number))) (length (chars (concat front))) i level
       → told_at_place d e ≡ character_text d c ++ others_text d cs ++ (codes " level " ++ decimal level)
   pub end : e.place ≡ length e.content.text → told_at_place d e ≡ codes "end of text"
-  pub shown : e.ask ≡ Off → let new = after_key d None e Tell in
-      (status_text d new ≡ status_line e.changed (paragraph_number d e.content.text e.place + 1) (unit_number d e.content.text e.place) ++ (codes " " ++ told_at_place d e))
-      × IsUntouched e new
   pub printable : are_ascii_printable (told_at_place d e) ≡ true
+
+abbrev pub TellsWhatStands : Type 0
+TellsWhatStands = (d : Data) (e : Editor) → HasRows e → TellsUnit d e
+
+-- Tell shows it behind the numbers on the status row, and leaves text, place, held text and mark
+abbrev pub TellShows : Type 0
+TellShows =
+    (d : Data) (e : Editor) → let new = after_key d None e Tell in
+    (status_text d new ≡ status_line e.changed (paragraph_number d e.content.text e.place + 1) (unit_number d e.content.text e.place) ++ (codes " " ++ told_at_place d e))
+    × IsUntouched e new

@@ -1,6 +1,7 @@
 //! Laws of questions and their answers, and of what is told of a unit. The functions are empty: their contracts are the laws.
 
-ghost use Rattle.bx_editor.specs.AskingLaws.{AnswerIsARun, IsolatesRaise, LetterPutsIn, LetterWraps, QuestionsChangeThemselves, ToldNumbersLeadBack};
+ghost use Rattle.bx_editor.specs.AskingLaws.{AnswerIsARun, IsolatesRaise, LetterPutsIn, LetterWraps, QuestionsChangeThemselves};
+ghost use Rattle.bx_editor.specs.AskingLaws.{TellShows, TellsWhatStands, ToldNumbersLeadBack};
 
 /// A question changes nothing but itself: whatever is typed while it is on leaves text, place, held text and mark as they were.
 pub fn questions_change_themselves()
@@ -30,4 +31,14 @@ pub fn letter_wraps()
 /// What stands in an isolate has levels above the one at which the isolate stands.
 pub fn isolates_raise()
     ensures { IsolatesRaise }
+{}
+
+/// Of the unit at the place are told its first character's code and class, and its level; all that is told is printable.
+pub fn tells_what_stands()
+    ensures { TellsWhatStands }
+{}
+
+/// Tell shows it on the status row, and leaves text, place, held text and mark.
+pub fn tell_shows()
+    ensures { TellShows }
 {}

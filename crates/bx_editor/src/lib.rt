@@ -32,7 +32,7 @@ mod wrapping;
 
 pub use asking_laws::{
     answer_is_a_run, isolates_raise, letter_puts_in, letter_wraps, questions_change_themselves,
-    told_numbers_lead_back,
+    tell_shows, tells_what_stands, told_numbers_lead_back,
 };
 pub use editor::Editor;
 pub use error::OpenError;
