@@ -57,3 +57,4 @@ pub mod AnswerRun
 pub mod ToldLine
 pub mod LettersPut
 pub mod ToldUnit
+pub mod AskingLawExamples
