@@ -1,5 +1,5 @@
 -- One UndoRun takes back what an answer put in.
-use Rattle.std.proofs.Common.{◌≡◌, ℕ, suc, ◌+◌, ◌-◌, ◌<◌, ◌≤◌, Bool, true, false, List, [], ◌∷◌, length, refl, sym, ap, ap₂, subst, ◌∙◌, arith, inl, inr, if◌then◌else◌}
+use Rattle.std.proofs.Common.{◌≡◌, ℕ, suc, ◌+◌, ◌-◌, ◌<◌, Bool, true, false, List, [], length, refl, sym, ap, ap₂, subst, ◌∙◌, arith, inl, inr, if◌then◌else◌}
 use Rattle.std.specs.Prelude.{◌≢◌, ◌⊎◌, ◌==◌, chars, encode_utf8, Option, Some, None}
 use Rattle.bx_asking.specs.declared.line.Target.{Target}
 use Rattle.bx_asking.specs.declared.question.Ask.{Ask}
@@ -10,7 +10,6 @@ use Rattle.bx_asking.specs.Line.{asked, is_line_letter}
 use Rattle.bx_asking.specs.Names.{asks_code, closing, named}
 use Rattle.bx_keys.specs.declared.key.Key.{Key}
 use Rattle.bx_keys.specs.declared.key.Key.TheVariants as keys
-use Rattle.bx_store.specs.declared.store.StoreFault.{StoreFault}
 use Rattle.bx_text.specs.declared.change.Change.{Change}
 use Rattle.bx_text.specs.Edits.{change_back, edit_of, fits, fits_both, splice}
 use Rattle.bx_text.specs.Times.{merged, next_undos, undone_times}
@@ -26,17 +25,17 @@ use Rattle.bx_ucd.specs.Data.{Data}
 use Rattle.bx_editor.specs.declared.message.Message.TheVariants as messages
 use Rattle.bx_editor.specs.declared.seek.Seek.TheVariants as seeks
 use Rattle.bx_editor.specs.Asking.{after_answer_letter, after_code, after_code_letter, after_going, after_line_letter, after_name_letter, after_named, gone_to, longest_code, longest_line, with_answer, with_character, without_ask}
-use Rattle.bx_editor.specs.AskingLaws.{AnswerIsARun, StaysAsked, types}
+use Rattle.bx_editor.specs.AskingLaws.{AnswerIsARun, types}
 use Rattle.bx_editor.specs.Editor.{Editor, cleared, place_after, with_insertion, with_step, with_typing}
 use Rattle.bx_editor.specs.Effects.{before}
 use Rattle.bx_editor.specs.Keys.{after_any, after_key, as_left}
-use Rattle.bx_editor.specs.Laws.{after_typing, IsUnmarkedAt}
-use Rattle.bx_editor.specs.Putting.{is_paste, only_paste}
+use Rattle.bx_editor.specs.Laws.{after_typing}
+use Rattle.bx_editor.specs.Putting.{is_paste}
 use Rattle.bx_editor.specs.Region.{is_empty, region}
 use Rattle.bx_editor.specs.RunLaws.{IsBackBefore}
 use Rattle.bx_editor.specs.Runs.{by_run, is_changed_at, run_goal, run_length}
 use Rattle.bx_editor.specs.Wrapping.{after_wrapping, spans_lines, with_wrap}
-use Rattle.bx_editor.proofs.AskingKeys.{asked_name, name-is}
+use Rattle.bx_editor.proofs.AskingKeys.{name-is}
 use Rattle.bx_editor.proofs.QuestionKeys.{asked-key, last-asked, typed-leaves}
 use Rattle.bx_editor.proofs.TwoEdits.{runs-of-two}
 

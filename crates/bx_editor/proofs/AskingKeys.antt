@@ -1,5 +1,5 @@
 -- The keys that ask, whatever was on before.
-use Rattle.std.proofs.Common.{◌≡◌, List, [], false, refl, ap}
+use Rattle.std.proofs.Common.{◌≡◌, [], refl}
 use Rattle.std.specs.Prelude.{None}
 use Rattle.bx_asking.specs.declared.question.Ask.{Ask}
 use Rattle.bx_asking.specs.declared.question.Ask.TheVariants as asks

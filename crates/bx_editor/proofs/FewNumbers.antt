@@ -1,5 +1,5 @@
 -- The numbers of a place are few: before it are as many bytes as paragraphs and units, or more.
-use Rattle.std.proofs.Common.{◌≡◌, ℕ, ◌+◌, ◌<◌, ◌≤◌, ◌∙◌, true, List, [], ◌∷◌, ◌++◌, length, length-append, map, get_or, count_by, nat_lt, IsUtf8, IsCharBoundary, refl, sym, ap, subst, arith}
+use Rattle.std.proofs.Common.{◌≡◌, ℕ, ◌+◌, ◌<◌, ◌≤◌, true, List, [], ◌∷◌, length, length-append, map, get_or, nat_lt, IsUtf8, IsCharBoundary, refl, ap, subst, arith}
 use Rattle.std.specs.List.{concat}
 use Rattle.std.proofs.lemmas.List.{get_or-map, length-take-le}
 use Rattle.std.proofs.lemmas.List.Sums.{count_by-le-length}

@@ -1,14 +1,12 @@
 -- The levels of what stands in an isolate.
-use Rattle.std.proofs.Common.{◌≡◌, ◌<◌, ◌≤◌, ◌+◌, ◌*◌, ◌∙◌, ℕ, zero, suc, List, [], ◌∷◌, ◌++◌, get_or, drop, length, map, refl, ap, sym, subst, arith, Bool, true, false, ◌==◌, cond, Option, Some, None, is_some}
+use Rattle.std.proofs.Common.{◌≡◌, ◌<◌, ◌≤◌, ◌+◌, ◌*◌, ◌∙◌, ℕ, zero, suc, List, [], ◌∷◌, ◌++◌, get_or, length, map, refl, ap, sym, subst, arith, Bool, true, false, ◌==◌, cond, Option, Some, None, is_some}
 use Rattle.std.specs.Prelude.{count_by, nat_lt}
 use Rattle.std.proofs.lemmas.Bool.Decides.{nat_tests}
-use Rattle.std.proofs.lemmas.List.{drop_at, get_or_append_left, get_or-map, length-append, length-map, map-append}
+use Rattle.std.proofs.lemmas.List.{drop_at, get_or_append_left, length-append, length-map, map-append}
 use Rattle.std.proofs.lemmas.List.Sums.{sum_by-cons}
 use Rattle.bx_ucd.specs.Data.{Data}
-use Rattle.bx_ucd.specs.Class.{is_initiator}
 use Rattle.bx_ucd.specs.declared.class.Class.{Class}
-use Rattle.bx_ucd.specs.declared.class.Class.TheVariants.{ON, LRI, RLI, FSI, PDI}
-use Rattle.bx_terms.specs.declared.base.Base.{Base}
+use Rattle.bx_ucd.specs.declared.class.Class.TheVariants.{ON, LRI, RLI, FSI}
 use Rattle.bx_explicit.specs.declared.entry.ExplicitChar.{ExplicitChar}
 use Rattle.bx_explicit.specs.declared.state.State.{State}
 use Rattle.bx_explicit.specs.Explicit.{even_above, explicit_from, explicit_levels, first_above, isolate, next_state, odd_above, start, top}
@@ -19,7 +17,7 @@ use Rattle.bx_explicit.specs.Role.{role_of}
 use Rattle.bx_explicit.proofs.FirstLow.{pick, resumes_at}
 use Rattle.bx_explicit.proofs.Inside.{IsInside, out_at}
 use Rattle.bx_explicit.proofs.Steps.{first_higher, state_at}
-use Rattle.bx_resolve.specs.Laws.{class_at, entry_at, entry_by, level_at}
+use Rattle.bx_resolve.specs.Laws.{entry_at, entry_by, level_at}
 use Rattle.bx_resolve.specs.Levels.{is_kept, paragraph_levels}
 use Rattle.bx_resolve.proofs.KeptLevels.{base_low, kept_each, paragraph_kept}
 use Rattle.bx_editor.specs.AskingLaws.{IsAbove, IsolatesRaise, begins_level, embedding_at}

@@ -1,5 +1,5 @@
 -- A letter puts its character in, or wraps the region.
-use Rattle.std.proofs.Common.{◌≡◌, ℕ, ◌+◌, ◌-◌, ◌<◌, ◌≤◌, Bool, true, false, List, [], ◌∷◌, ◌++◌, length, take, drop, append_assoc, refl, sym, ap, subst, ◌∙◌, arith, inl, inr, if◌then◌else◌}
+use Rattle.std.proofs.Common.{◌≡◌, ℕ, ◌+◌, ◌-◌, ◌<◌, ◌≤◌, Bool, true, false, [], ◌∷◌, ◌++◌, length, take, drop, append_assoc, refl, sym, ap, subst, ◌∙◌, arith, inl, inr, if◌then◌else◌}
 use Rattle.std.specs.Prelude.{◌⊎◌, ◌==◌, encode_utf8, nat_le, slice_range, Option, Some, None}
 use Rattle.std.proofs.lemmas.Bool.Decides.{nat_tests}
 use Rattle.bx_terms.specs.Sizes.{largest_text}
@@ -7,7 +7,7 @@ use Rattle.bx_asking.specs.Names.{closing, named}
 use Rattle.bx_keys.specs.declared.key.Key.TheVariants.{Insert, Name}
 use Rattle.bx_runs.specs.Typing.{after_insertion, kind_of}
 use Rattle.bx_runs.specs.declared.typing.Typing.TheVariants as typings
-use Rattle.bx_text.specs.Edits.{fits, fits_both, splice}
+use Rattle.bx_text.specs.Edits.{fits_both}
 use Rattle.bx_ucd.specs.Data.{Data}
 use Rattle.bx_document.specs.Document.{wrapped_end, wrapped_text}
 use Rattle.bx_document.proofs.PlacesKept.{wrapped_is}
@@ -19,7 +19,7 @@ use Rattle.bx_editor.specs.AskingLaws.{IsPutIn, IsRefusedWith, IsWrapped, Letter
 use Rattle.bx_editor.specs.Editor.{Editor, cleared, place_after, with_insertion, with_typing}
 use Rattle.bx_editor.specs.Keys.{after_key, after_keys, as_left}
 use Rattle.bx_editor.specs.Laws.{IsPart}
-use Rattle.bx_editor.specs.Region.{bytes_in, is_empty, region}
+use Rattle.bx_editor.specs.Region.{is_empty, region}
 use Rattle.bx_editor.specs.Wrapping.{after_wrapping, cursor_end, spans_lines, with_wrap}
 use Rattle.bx_editor.proofs.AskingKeys.{asked_name, name-is}
 

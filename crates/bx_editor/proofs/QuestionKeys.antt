@@ -18,20 +18,19 @@ use Rattle.bx_text.specs.Edits.{fits, fits_both}
 use Rattle.bx_ucd.specs.Data.{Data}
 use Rattle.bx_editor.specs.declared.message.Message.TheVariants as messages
 use Rattle.bx_editor.specs.declared.seek.Seek.{Seek}
-use Rattle.bx_editor.specs.declared.soft.Soft.{Soft}
 use Rattle.bx_editor.specs.declared.soft.Soft.TheVariants as softness
 use Rattle.bx_editor.specs.Asking.{after_answer_letter, after_code, after_code_letter, after_going, after_line_letter, after_name_letter, after_named, after_shorter_answer, gone_to, longest_code, longest_line, with_answer, with_character, without_ask}
-use Rattle.bx_editor.specs.AskingLaws.{ChangesItself, IsUntouched, QuestionsChangeThemselves, StaysAsked, erases, types}
-use Rattle.bx_editor.specs.Editor.{Editor, cleared, with_insertion, with_notice, with_size, with_typing}
-use Rattle.bx_editor.specs.Effects.{Effect, Types, BeginsLine, Puts, Removes, RemovesWord, Steps, StepsRun, Goes, GoesByRows, Marks, Selects}
-use Rattle.bx_editor.specs.Effects.{Unmarks, Copies, Cuts, Seeks, SeeksNext, Saves, Quits, Turns, Helps, AsksLine, AsksName, Tells, Rests, Before, before, by}
-use Rattle.bx_editor.specs.Keys.{Answer, Letter, Shortens, GoesBack, Next, Previous, Stays, Ends, after_any, after_asking, after_key, after_pressing, after_user, answer_of, answered_question, as_left, effect_of, is_told_key}
+use Rattle.bx_editor.specs.AskingLaws.{IsUntouched, QuestionsChangeThemselves, StaysAsked, erases, types}
+use Rattle.bx_editor.specs.Editor.{Editor, cleared, with_insertion, with_typing}
+use Rattle.bx_editor.specs.Effects.{Effect}
+use Rattle.bx_editor.specs.Effects.{AsksLine, AsksName, Before, before, by}
+use Rattle.bx_editor.specs.Keys.{Answer, Letter, Shortens, GoesBack, Stays, after_any, after_asking, after_key, after_user, answer_of, answered_question, as_left, effect_of, is_told_key}
 use Rattle.bx_editor.specs.Laws.{after_typing}
 use Rattle.bx_editor.specs.Putting.{is_paste, only_paste}
 use Rattle.bx_editor.specs.Region.{is_empty, region}
-use Rattle.bx_editor.specs.Selecting.{aged, mark_left, soft_behind, soft_left, unselected}
+use Rattle.bx_editor.specs.Selecting.{aged, mark_left, soft_behind, soft_left}
 use Rattle.bx_editor.specs.Wrapping.{after_wrapping, spans_lines, with_wrap}
-use Rattle.bx_editor.proofs.QuestionKept.{begins_question, effect-keeps}
+use Rattle.bx_editor.proofs.QuestionKept.{effect-keeps}
 
 -- ---- a question takes the keys
 

@@ -1,8 +1,7 @@
 -- While few characters begin a level, none overflows.
-use Rattle.std.proofs.Common.{◌≡◌, ◌<◌, ◌≤◌, ◌+◌, ◌*◌, ◌%◌, ◌∙◌, ℕ, zero, suc, List, [], ◌∷◌, refl, ap, sym, subst, arith, Bool, true, false, cond}
-use Rattle.std.specs.Prelude.{◌&&◌, count_by, nat_le}
+use Rattle.std.proofs.Common.{◌≡◌, ◌≤◌, ◌+◌, ◌*◌, ◌∙◌, ℕ, zero, suc, List, [], ◌∷◌, refl, ap, sym, subst, arith, true, false, cond}
+use Rattle.std.specs.Prelude.{◌&&◌, nat_le}
 use Rattle.std.proofs.lemmas.Bool.Decides.{nat_tests}
-use Rattle.std.proofs.lemmas.List.Sums.{sum_by-cons}
 use Rattle.bx_ucd.specs.declared.class.Class.{Class}
 use Rattle.bx_ucd.specs.declared.class.Class.TheVariants.{BN, LRE, LRO, RLE, RLO, PDF, LRI, RLI, FSI, PDI}
 use Rattle.bx_explicit.specs.declared.entry.Entry.{Entry}
@@ -13,7 +12,6 @@ use Rattle.bx_explicit.specs.Stack.{entry, top_of, after_isolate, after_embeddin
 use Rattle.bx_explicit.specs.Explicit.{embed, end_embedding, end_isolate, even_above, first_above, is_valid, isolate, next_state, odd_above, start, top}
 use Rattle.bx_explicit.specs.ParagraphLevel.{isolate_level}
 use Rattle.bx_explicit.specs.Role.{role_of}
-use Rattle.bx_explicit.proofs.Steps.{state_at}
 use Rattle.bx_editor.specs.AskingLaws.{begins_level}
 
 -- no entry is above the level `high`

@@ -1,7 +1,6 @@
 -- The numbers that the status row tells, typed as an answer, lead to the place where the cursor is.
-use Rattle.std.proofs.Common.{◌≡◌, ℕ, suc, ◌+◌, ◌^◌, ◌<◌, ◌≤◌, Bool, true, false, nat_lt, List, [], ◌∷◌, ◌++◌, length, map, append_assoc, append-nil, length-append, refl, sym, ap, ap₂, subst, ◌∙◌, arith, if◌then◌else◌}
-use Rattle.std.specs.Prelude.{◌≢◌, ◌==◌, chars, codes, decimal, encode_utf8, IsUtf8, Some, None}
-use Rattle.std.proofs.lemmas.Bool.{cases_Bool}
+use Rattle.std.proofs.Common.{◌≡◌, ℕ, ◌+◌, ◌^◌, ◌<◌, ◌≤◌, Bool, true, false, nat_lt, List, [], ◌∷◌, ◌++◌, length, map, append_assoc, append-nil, length-append, refl, sym, ap, ap₂, subst, ◌∙◌, arith, if◌then◌else◌}
+use Rattle.std.specs.Prelude.{◌≢◌, ◌==◌, chars, codes, decimal, encode_utf8, IsUtf8, None}
 use Rattle.std.proofs.lemmas.Bool.Decides.{nat_tests}
 use Rattle.std.proofs.lemmas.Str.{encode_ascii}
 use Rattle.bx_terms.specs.Sizes.{largest_text}
@@ -11,7 +10,6 @@ use Rattle.bx_asking.specs.Answers.{lengthened}
 use Rattle.bx_asking.specs.Line.{asked, is_line_letter}
 use Rattle.bx_keys.specs.declared.key.Key.{Key}
 use Rattle.bx_keys.specs.declared.key.Key.TheVariants as keys
-use Rattle.bx_runs.specs.declared.typing.Typing.{Typing}
 use Rattle.bx_runs.specs.declared.typing.Typing.TheVariants as typings
 use Rattle.bx_text.specs.Edits.{Edited}
 use Rattle.bx_ucd.specs.Data.{Data}
@@ -21,20 +19,17 @@ use Rattle.bx_view.specs.Places.{IsTextPlace}
 use Rattle.bx_view.specs.TextRows.{cell_of, text_rows}
 use Rattle.bx_view.specs.declared.position.Position.{Position}
 use Rattle.bx_view.proofs.Numbered.{lead-back}
-use Rattle.bx_editor.specs.declared.soft.Soft.{Soft}
-use Rattle.bx_editor.specs.declared.soft.Soft.TheVariants as softness
-use Rattle.bx_editor.specs.Asking.{after_answer_letter, after_going, after_line_letter, gone_to, longest_line, with_answer, without_ask}
-use Rattle.bx_editor.specs.AskingLaws.{HasTextPlace, IsUntouched, LeadsToItself, ToldNumbersLeadBack, is_enter, told_numbers}
+use Rattle.bx_editor.specs.Asking.{after_answer_letter, after_going, gone_to, longest_line, with_answer, without_ask}
+use Rattle.bx_editor.specs.AskingLaws.{HasTextPlace, IsUntouched, ToldNumbersLeadBack, is_enter, told_numbers}
 use Rattle.bx_editor.specs.Editor.{Editor, cleared, with_place, with_typing}
 use Rattle.bx_editor.specs.Keys.{after_key, after_keys, as_left}
-use Rattle.bx_editor.specs.Putting.{is_paste, only_paste}
 use Rattle.bx_editor.specs.Selecting.{aged, mark_left, soft_left}
-use Rattle.bx_editor.specs.Status.{message_part, status_text}
+use Rattle.bx_editor.specs.Status.{message_part}
 use Rattle.bx_editor.specs.Telling.{told_at_place}
 use Rattle.bx_editor.proofs.AskingKeys.{line-is}
 use Rattle.bx_editor.proofs.FewNumbers.{few-numbers}
 use Rattle.bx_editor.proofs.QuestionKeys.{Leaves, asked-key, leaves-trans, left-leaves, untouched}
-use Rattle.bx_editor.proofs.ToldNumbers.{AreLetters, IsLetter, letters-append, letters-chars, told-asked, told-letters, told-short, two_numbers}
+use Rattle.bx_editor.proofs.ToldNumbers.{AreLetters, IsLetter, letters-append, letters-chars, told-asked, told-letters, told-short}
 
 -- ---- the answer
 

@@ -1,6 +1,6 @@
 -- What is told of the unit at the place.
-use Rattle.std.proofs.Common.{◌≡◌, ℕ, ◌+◌, ◌-◌, ◌<◌, ◌≤◌, Bool, true, false, List, [], ◌∷◌, ◌++◌, length, take, drop, refl, sym, ap, ap₂, subst, ◌∙◌, arith, if◌then◌else◌}
-use Rattle.std.specs.Prelude.{◌==◌, chars, codes, slice_range, IfSome, IsUtf8, All, Option, Some, None}
+use Rattle.std.proofs.Common.{◌≡◌, ℕ, ◌+◌, ◌-◌, ◌<◌, ◌≤◌, true, false, List, [], ◌∷◌, ◌++◌, length, take, drop, refl, sym, ap, ap₂, subst, ◌∙◌, arith, if◌then◌else◌}
+use Rattle.std.specs.Prelude.{◌==◌, chars, codes, slice_range, IfSome, All, Option, Some, None}
 use Rattle.std.specs.List.{concat}
 use Rattle.std.proofs.lemmas.Bool.Decides.{nat_tests}
 use Rattle.std.proofs.lemmas.List.Elements.{All-drop, All-head, All-tail, All-take}
@@ -28,10 +28,10 @@ use Rattle.bx_document.proofs.PlaceLevels.{units_have}
 use Rattle.bx_editor.specs.declared.message.Message.TheVariants.{Told}
 use Rattle.bx_editor.specs.declared.seek.Seek.{Seek}
 use Rattle.bx_editor.specs.declared.seek.Seek.TheVariants.{Off, Begun, Typed}
-use Rattle.bx_editor.specs.AskingLaws.{IsUntouched, TellShows, TellsUnit, TellsWhatStands}
+use Rattle.bx_editor.specs.AskingLaws.{IsUntouched, TellShows, TellsWhatStands}
 use Rattle.bx_editor.specs.Editor.{Editor, cleared, rows}
 use Rattle.bx_editor.specs.Effects.{Before, before}
-use Rattle.bx_editor.specs.Keys.{after_any, after_key, as_left}
+use Rattle.bx_editor.specs.Keys.{after_any, as_left}
 use Rattle.bx_editor.specs.Selecting.{aged}
 use Rattle.bx_editor.specs.Status.{paragraph_number, status_line, status_text, unit_number}
 use Rattle.bx_editor.specs.Telling.{told_at_place}

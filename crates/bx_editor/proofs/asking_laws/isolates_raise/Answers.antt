@@ -1,4 +1,3 @@
-use Rattle.bx_editor.proofs.AskingLawExamples.{b_is_above}
 use Rattle.bx_editor.proofs.IsolateLevels.{isolates-raise}
 use Rattle.bx_editor.proofs.asking_laws.isolates_raise.Goals as goal
 
