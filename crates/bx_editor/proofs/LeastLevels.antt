@@ -66,11 +66,11 @@ module _ (at : ℕ → Option ExplicitChar) where
       → IsFlatFrom k (elim b as (λ x. List Run) [ true ↦ run c.level k r.last ∷ rs | false ↦ run c.level k k ∷ r ∷ rs ])
       × AreFlat (elim b as (λ x. List Run) [ true ↦ run c.level k r.last ∷ rs | false ↦ run c.level k k ∷ r ∷ rs ])) [
         | true ↦ λ e.
-          let same : r.level ≡ c.level = grind (arith, nat_tests, e) in
-          let whole : (p : ℕ) → k ≤ p → p ≤ r.last → Fits c.level (at p) = λ p low high.
-          ⊎_elim (λ first. subst (Fits c.level) (here k (Some c) g h p low first) refl) (λ more. subst (λ n. Fits n (at p)) same (all.0 p more high))
-          (cases_lt p (k + 1)) in
-          (whole, (whole, all.1.1))
+            let same : r.level ≡ c.level = grind (arith, nat_tests, e) in
+            let whole : (p : ℕ) → k ≤ p → p ≤ r.last → Fits c.level (at p) = λ p low high.
+            ⊎_elim (λ first. subst (Fits c.level) (here k (Some c) g h p low first) refl) (λ more. subst (λ n. Fits n (at p)) same (all.0 p more high))
+            (cases_lt p (k + 1)) in
+            (whole, (whole, all.1.1))
         | false ↦ λ e. (one, (one, all.1))
       ] refl
 

@@ -66,9 +66,9 @@ shallow-embed high level o s h low few =
 pub isolated-now : (s : State) (level : ℕ) → is_valid s level ≡ true
     → isolate s level ≡ record s { stack = entry level Neutral true ∷ s.stack; valid_isolates = s.valid_isolates + 1 }
 isolated-now s level valid = ap (λ b. elim b as (λ x. State) [
-      | true ↦ record s { stack = entry level Neutral true ∷ s.stack; valid_isolates = s.valid_isolates + 1 }
-      | false ↦ record s { overflow_isolates = s.overflow_isolates + 1 }
-    ]) valid
+  | true ↦ record s { stack = entry level Neutral true ∷ s.stack; valid_isolates = s.valid_isolates + 1 }
+  | false ↦ record s { overflow_isolates = s.overflow_isolates + 1 }
+]) valid
 
 shallow-isolate : (high level : ℕ) (s : State) → IsShallow high s → level ≤ high + 2 → high + 2 ≤ 125 → IsShallow (high + 2) (isolate s level)
 shallow-isolate high level s h low few =
