@@ -181,9 +181,9 @@ name-puts d e letter (Some c) = freed e (after_named d (without_ask e) c (closin
 
 code-letter-puts : (d : Data) (e : Editor) (letter : ℕ) → PutsRun e (after_code_letter d e letter)
 code-letter-puts d e letter =
-    let put = after_code d (without_ask e) (coded (chars e.answer)) in
+    let put = after_code d (without_ask e) (coded e.answer) in
     let longer = with_answer e (lengthened longest_code e.answer letter) in
-    either e (letter == 0xA) put (if is_code_letter letter then longer else e) (freed e put (code-puts d (without_ask e) (coded (chars e.answer)) refl))
+    either e (letter == 0xA) put (if is_code_letter letter then longer else e) (freed e put (code-puts d (without_ask e) (coded e.answer) refl))
     (either e (is_code_letter letter) longer e (inl refl) (inl refl))
 
 letter-puts : (d : Data) (typing : Typing) (ask : Ask) (e : Editor) (c : ℕ) → PutsRun e (after_answer_letter d typing ask e c)

@@ -119,10 +119,10 @@ name-on d e letter (Some c) = λ on. absurd (on (named-off d (without_ask e) c (
 
 code-on : (d : Data) (e : Editor) (letter : ℕ) → IsKeptIfOn e (after_code_letter d e letter)
 code-on d e letter =
-    let put = after_code d (without_ask e) (coded (chars e.answer)) in
+    let put = after_code d (without_ask e) (coded e.answer) in
     let longer = with_answer e (lengthened longest_code e.answer letter) in
     let digit = if is_code_letter letter then longer else e in
-    either-on e (letter == 0xA) put digit (λ on. absurd (on (code-off d (without_ask e) (coded (chars e.answer)) refl)))
+    either-on e (letter == 0xA) put digit (λ on. absurd (on (code-off d (without_ask e) (coded e.answer) refl)))
     (either-on e (is_code_letter letter) longer e (λ on. refl) (λ on. refl))
 
 unless-on : (typing : Typing) (e new : Editor) → IsKeptIfOn e new → IsKeptIfOn e (if is_paste typing then with_typing e typing else new)
