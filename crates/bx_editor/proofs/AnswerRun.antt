@@ -1,5 +1,5 @@
 -- One UndoRun takes back what an answer put in.
-use Rattle.std.proofs.Common.{◌≡◌, ℕ, suc, ◌+◌, ◌-◌, ◌<◌, Bool, true, false, List, [], length, refl, sym, ap, ap₂, subst, ◌∙◌, arith, inl, inr, if◌then◌else◌}
+use Rattle.std.proofs.Common.{◌≡◌, ℕ, suc, ◌+◌, ◌<◌, Bool, true, false, List, length, refl, sym, ap, subst, ◌∙◌, arith, inl, inr, if◌then◌else◌}
 use Rattle.std.specs.Prelude.{◌≢◌, ◌⊎◌, ◌==◌, chars, encode_utf8, Option, Some, None}
 use Rattle.bx_asking.specs.declared.line.Target.{Target}
 use Rattle.bx_asking.specs.declared.question.Ask.{Ask}
@@ -10,156 +10,78 @@ use Rattle.bx_asking.specs.Line.{asked, is_line_letter}
 use Rattle.bx_asking.specs.Names.{asks_code, closing, named}
 use Rattle.bx_keys.specs.declared.key.Key.{Key}
 use Rattle.bx_keys.specs.declared.key.Key.TheVariants as keys
-use Rattle.bx_text.specs.declared.change.Change.{Change}
-use Rattle.bx_text.specs.Edits.{change_back, edit_of, fits, fits_both, splice}
-use Rattle.bx_text.specs.Times.{merged, next_undos, undone_times}
-use Rattle.bx_document.specs.Document.{wrapped_text}
-use Rattle.bx_document.specs.declared.history.HistoryStep.TheVariants as steps
+use Rattle.bx_text.specs.Edits.{fits, fits_both}
 use Rattle.bx_runs.specs.Runs.{edited, run_start}
 use Rattle.bx_runs.specs.Typing.{after_insertion, kind_of}
 use Rattle.bx_runs.specs.declared.typing.Typing.{Typing}
 use Rattle.bx_runs.specs.declared.typing.Typing.TheVariants as typings
 use Rattle.bx_runs.proofs.RunLaws.{edit-is-of-its-run}
-use Rattle.bx_runs.proofs.Steps.{start-bound}
 use Rattle.bx_ucd.specs.Data.{Data}
 use Rattle.bx_editor.specs.declared.message.Message.TheVariants as messages
-use Rattle.bx_editor.specs.declared.seek.Seek.TheVariants as seeks
 use Rattle.bx_editor.specs.Asking.{after_answer_letter, after_code, after_code_letter, after_going, after_line_letter, after_name_letter, after_named, gone_to, longest_code, longest_line, with_answer, with_character, without_ask}
 use Rattle.bx_editor.specs.AskingLaws.{AnswerIsARun, types}
-use Rattle.bx_editor.specs.Editor.{Editor, cleared, place_after, with_insertion, with_step, with_typing}
-use Rattle.bx_editor.specs.Effects.{before}
-use Rattle.bx_editor.specs.Keys.{after_any, after_key, as_left}
+use Rattle.bx_editor.specs.Editor.{Editor, cleared, with_insertion, with_typing}
+use Rattle.bx_editor.specs.Keys.{after_key, as_left}
 use Rattle.bx_editor.specs.Laws.{after_typing}
 use Rattle.bx_editor.specs.Putting.{is_paste}
 use Rattle.bx_editor.specs.Region.{is_empty, region}
 use Rattle.bx_editor.specs.RunLaws.{IsBackBefore}
-use Rattle.bx_editor.specs.Runs.{by_run, is_changed_at, run_goal, run_length}
 use Rattle.bx_editor.specs.Wrapping.{after_wrapping, spans_lines, with_wrap}
 use Rattle.bx_editor.proofs.AskingKeys.{name-is}
+use Rattle.bx_editor.proofs.OneRun.{goes-back, insertion-begins, IsOneRun}
 use Rattle.bx_editor.proofs.QuestionKeys.{asked-key, last-asked, typed-leaves}
 use Rattle.bx_editor.proofs.TwoEdits.{runs-of-two}
 
--- ---- edits of one run
+-- ---- two edits of one run
 
--- the latest edits are a run, before which text, past and place were those of `first`
-record IsRunOver (first e : Editor) : Type 0 where
-  pub ask : e.ask ≡ Off
-  pub seek : e.seek ≡ seeks.Off
-  pub size : ℕ
-  pub change : Change
-  pub next : next_undos size e.content ≡ Some change
-  pub long : run_length steps.Undo e ≡ size
-  pub text : (undone_times size e.content).text ≡ first.content.text
-  pub past : (undone_times size e.content).past ≡ first.content.past
-  pub place : change.place ≡ first.place
+two-start : (numbers : List ℕ) (n : ℕ) → run_start (edited numbers n false) (suc (suc n)) ≡ n
+two-start numbers n =
+    let first : suc n ≡ n + 1 = omega arith in
+    let second : suc (suc n) ≡ suc n + 1 = omega arith in
+    ap (λ rs. run_start rs (suc (suc n))) (sym (runs-of-two numbers n)) ∙ ap (run_start (edited (edited numbers n false) (suc n) true)) second
+    ∙ edit-is-of-its-run (edited numbers n false) (suc n) true ∙ ap (run_start (edited numbers n false)) first ∙ edit-is-of-its-run numbers n false
 
-run-back : (d : Data) (first e : Editor) → IsRunOver first e → IsBackBefore first (after_key d None e keys.UndoRun)
-run-back d first e h =
-    let was = cleared e in
-    let n = h.size in
-    let changed = is_changed_at (run_goal steps.Undo was) e.stored in
-    let stepped = with_step was (undone_times n e.content) h.change.place changed in
-    let one : next_undos (run_length steps.Undo was) e.content ≡ Some h.change = ap (λ k. next_undos k e.content) h.long ∙ h.next in
-    let is : after_key d None e keys.UndoRun ≡ as_left keys.UndoRun stepped =
-    ap₂ (λ a s. as_left keys.UndoRun (after_any d None (before e) a s was keys.UndoRun)) h.ask h.seek
-    ∙ ap (λ c. as_left keys.UndoRun (by_run steps.Undo was c)) one
-    ∙ ap (λ k. as_left keys.UndoRun (with_step was (undone_times k e.content) h.change.place changed)) h.long in
-    subst (IsBackBefore first) (sym is)
-    (record { text_is = h.text; past_is = h.past; unmarked = record { place_is = h.place; mark_is = refl } })
-
-starts : (numbers : List ℕ) (n : ℕ) → suc n - run_start (edited numbers n false) (suc n) ≡ 1
-starts numbers n =
-    let same : suc n ≡ n + 1 = omega arith in
-    omega (arith, ap (run_start (edited numbers n false)) same ∙ edit-is-of-its-run numbers n false)
-
-starts-two : (numbers : List ℕ) (n : ℕ) → suc (suc n) - run_start (edited numbers n false) (suc (suc n)) ≡ 2
-starts-two numbers n =
-    let same : suc (suc n) ≡ suc n + 1 = omega arith in
-    let first = starts numbers n in
-    let both = ap (λ rs. run_start rs (suc (suc n))) (sym (runs-of-two numbers n)) ∙ ap (run_start (edited (edited numbers n false) (suc n) true)) same
-    ∙ edit-is-of-its-run (edited numbers n false) (suc n) true in
-    omega (arith, both, first, start-bound (edited numbers n false) (suc n))
-
-insertion-over : (d : Data) (e : Editor) (new : List ℕ) (typing : Typing) → e.ask ≡ Off → IsRunOver e (with_typing (with_insertion d e new false) typing)
-insertion-over d e new typing off = record {
-  ask = off;
-  seek = refl;
-  size = 1;
-  change = change_back (edit_of e.content.text e.place e.place new e.place ((with_insertion d e new false).place));
-  next = refl;
-  long = starts e.runs (length e.content.past);
-  text = refl;
-  past = refl;
-  place = refl;
-}
-
-wrap-over : (d : Data) (e : Editor) (opener closer : List ℕ) → e.ask ≡ Off → IsRunOver e (with_wrap d e opener closer)
-wrap-over d e opener closer off =
-    let start = (region e).0 in
-    let stop = (region e).1 in
-    let text = e.content.text in
-    let between = splice text stop stop closer in
-    let middle = place_after d e (wrapped_text text start stop [] closer) (stop + length closer) in
-    let after = (with_wrap d e opener closer).place in
-    record {
-      ask = off;
-      seek = refl;
-      size = 2;
-      change = merged (change_back (edit_of between start start opener middle after)) (change_back (edit_of text stop stop closer e.place middle));
-      next = refl;
-      long = starts-two e.runs (length e.content.past);
-      text = refl;
-      past = refl;
-      place = refl;
-    }
+wrap-begins : (d : Data) (e : Editor) (opener closer : List ℕ) → IsOneRun e (with_wrap d e opener closer)
+wrap-begins d e opener closer = record { more = 1; over = (refl, (refl, refl)); start = two-start e.runs (length e.content.past) }
 
 -- ---- an answer
 
 -- text and history stay, or a run is put in
 abbrev PutsRun : Editor → Editor → Type 0
-PutsRun e new = (new.content ≡ e.content) ⊎ IsRunOver e new
+PutsRun e new = (new.content ≡ e.content) ⊎ IsOneRun e new
 
 either : (e : Editor) (b : Bool) (p q : Editor) → PutsRun e p → PutsRun e q → PutsRun e (if b then p else q)
 either e true p q h k = h
 either e false p q h k = k
 
-character-puts : (d : Data) (e : Editor) (c : ℕ) → e.ask ≡ Off → PutsRun e (with_character d e c)
-character-puts d e c off =
+character-puts : (d : Data) (e : Editor) (c : ℕ) → PutsRun e (with_character d e c)
+character-puts d e c =
     let typing = after_insertion typings.Off (kind_of (d.class c)) in
+    let one = insertion-begins d e e (encode_utf8 c) (refl, (refl, refl)) in
     either e (fits e.content.text e.place e.place (encode_utf8 c)) (with_typing (with_insertion d e (encode_utf8 c) false) typing)
-    (record e { message = Some messages.TextFull }) (inr (insertion-over d e (encode_utf8 c) typing off)) (inl refl)
+    (record e { message = Some messages.TextFull }) (inr (record { more = one.more; over = one.over; start = one.start })) (inl refl)
 
-wrapping-puts : (d : Data) (e : Editor) (opener closer : ℕ) → e.ask ≡ Off → PutsRun e (after_wrapping d e opener closer)
-wrapping-puts d e opener closer off =
+wrapping-puts : (d : Data) (e : Editor) (opener closer : ℕ) → PutsRun e (after_wrapping d e opener closer)
+wrapping-puts d e opener closer =
     let wrap = with_wrap d e (encode_utf8 opener) (encode_utf8 closer) in
     let full : Editor = record e { message = Some messages.TextFull } in
     let room = fits_both e.content.text (encode_utf8 opener) (encode_utf8 closer) in
     either e (spans_lines d e) (record e { message = Some messages.MoreThanOneLine }) (if room then wrap else full) (inl refl)
-    (either e room wrap full (inr (wrap-over d e (encode_utf8 opener) (encode_utf8 closer) off)) (inl refl))
+    (either e room wrap full (inr (wrap-begins d e (encode_utf8 opener) (encode_utf8 closer))) (inl refl))
 
-named-puts : (d : Data) (e : Editor) (c : ℕ) (closer : Option ℕ) → e.ask ≡ Off → PutsRun e (after_named d e c closer)
-named-puts d e c None off = character-puts d e c off
-named-puts d e c (Some closer) off =
-    either e (is_empty (region e)) (with_character d e c) (after_wrapping d e c closer) (character-puts d e c off) (wrapping-puts d e c closer off)
+named-puts : (d : Data) (e : Editor) (c : ℕ) (closer : Option ℕ) → PutsRun e (after_named d e c closer)
+named-puts d e c None = character-puts d e c
+named-puts d e c (Some closer) =
+    either e (is_empty (region e)) (with_character d e c) (after_wrapping d e c closer) (character-puts d e c) (wrapping-puts d e c closer)
 
-code-puts : (d : Data) (e : Editor) (c : Option ℕ) → e.ask ≡ Off → PutsRun e (after_code d e c)
-code-puts d e None off = inl refl
-code-puts d e (Some c) off = character-puts d e c off
+code-puts : (d : Data) (e : Editor) (c : Option ℕ) → PutsRun e (after_code d e c)
+code-puts d e None = inl refl
+code-puts d e (Some c) = character-puts d e c
 
 -- in a question that is left
 freed : (e new : Editor) → PutsRun (without_ask e) new → PutsRun e new
 freed e new (inl same) = inl same
-freed e new (inr h) = inr (record {
-  ask = h.ask;
-  seek = h.seek;
-  size = h.size;
-  change = h.change;
-  next = h.next;
-  long = h.long;
-  text = h.text;
-  past = h.past;
-  place = h.place;
-})
+freed e new (inr h) = inr (record { more = h.more; over = h.over; start = h.start })
 
 going-same : (d : Data) (e : Editor) (target : Option Target) → (gone_to d e target).content ≡ e.content
 going-same d e None = refl
@@ -177,13 +99,13 @@ name-puts : (d : Data) (e : Editor) (letter : ℕ) (c : Option ℕ) → PutsRun 
 name-puts d e letter None =
     let coding : Editor = record e { ask = Code } in
     either e (asks_code letter) coding (if letter == 0xA then without_ask e else e) (inl refl) (either e (letter == 0xA) (without_ask e) e (inl refl) (inl refl))
-name-puts d e letter (Some c) = freed e (after_named d (without_ask e) c (closing letter)) (named-puts d (without_ask e) c (closing letter) refl)
+name-puts d e letter (Some c) = freed e (after_named d (without_ask e) c (closing letter)) (named-puts d (without_ask e) c (closing letter))
 
 code-letter-puts : (d : Data) (e : Editor) (letter : ℕ) → PutsRun e (after_code_letter d e letter)
 code-letter-puts d e letter =
     let put = after_code d (without_ask e) (coded e.answer) in
     let longer = with_answer e (lengthened longest_code e.answer letter) in
-    either e (letter == 0xA) put (if is_code_letter letter then longer else e) (freed e put (code-puts d (without_ask e) (coded e.answer) refl))
+    either e (letter == 0xA) put (if is_code_letter letter then longer else e) (freed e put (code-puts d (without_ask e) (coded e.answer)))
     (either e (is_code_letter letter) longer e (inl refl) (inl refl))
 
 letter-puts : (d : Data) (typing : Typing) (ask : Ask) (e : Editor) (c : ℕ) → PutsRun e (after_answer_letter d typing ask e c)
@@ -197,18 +119,15 @@ letter-puts d typing Code e c =
 -- ---- the law
 
 -- behind a key that types
-left-over : (first e new : Editor) (key : Key) → IsRunOver e new → e.content ≡ first.content → e.place ≡ first.place → IsRunOver first (as_left key new)
-left-over first e new key h same at = record {
-  ask = h.ask;
-  seek = h.seek;
-  size = h.size;
-  change = h.change;
-  next = h.next;
-  long = h.long;
-  text = h.text ∙ ap (λ t. t.text) same;
-  past = h.past ∙ ap (λ t. t.past) same;
-  place = h.place ∙ at;
-}
+run-back : (d : Data) (first e new : Editor) (key : Key) → IsOneRun e new → e.content ≡ first.content → e.place ≡ first.place
+    → IsBackBefore first (after_key d None (as_left key new) keys.UndoRun)
+run-back d first e new key h same at =
+    let back = goes-back d e (as_left key new) (record { more = h.more; over = h.over; start = h.start }) in
+    record {
+      text_is = back.text_is ∙ ap (λ t. t.text) same;
+      past_is = back.past_is ∙ ap (λ t. t.past) same;
+      unmarked = record { place_is = back.unmarked.place_is ∙ at; mark_is = back.unmarked.mark_is };
+    }
 
 grown : (d : Data) (first e now new : Editor) (key : Key) → PutsRun e new → e.content ≡ first.content → e.place ≡ first.place → now ≡ as_left key new
     → length first.content.past < length now.content.past → IsBackBefore first (after_key d None now keys.UndoRun)
@@ -216,7 +135,7 @@ grown d first e now new key (inl stays) same at is more =
     let few = ap (λ (x : Editor). length x.content.past) is in
     absurd (omega (arith, more, few, ap (λ t. length t.past) (stays ∙ same)))
 grown d first e now new key (inr h) same at is more =
-    subst (λ x. IsBackBefore first (after_key d None x keys.UndoRun)) (sym is) (run-back d first (as_left key new) (left-over first e new key h same at))
+    subst (λ x. IsBackBefore first (after_key d None x keys.UndoRun)) (sym is) (run-back d first e new key h same at)
 
 answer-back : (d : Data) (first e : Editor) (key : Key) → types key ≡ true → e.ask ≢ Off → e.content ≡ first.content → e.place ≡ first.place
     → length first.content.past < length (after_key d None e key).content.past → IsBackBefore first (after_key d None (after_key d None e key) keys.UndoRun)
