@@ -1,6 +1,6 @@
 -- Worked examples, each from a law alone: questions, wrapped regions, and what is told.
 use Rattle.std.proofs.Common.{◌≡◌, List, [], ◌∷◌, ◌++◌, map, refl, ap, inl, arith}
-use Rattle.std.specs.Prelude.{codes, Option, None}
+use Rattle.std.specs.Prelude.{codes, All, Option, None}
 use Rattle.std.specs.Fmt.{digits}
 use Rattle.unicode_segmentation.proofs.Computing.{unicode_segmentation}
 use Rattle.unicode_width.proofs.Computing.{unicode_width}
@@ -8,8 +8,10 @@ use Rattle.bx_terms.specs.declared.base.Base.TheVariants.{Auto}
 use Rattle.bx_keys.specs.declared.key.Key.{Key}
 use Rattle.bx_keys.specs.declared.key.Key.TheVariants.{Insert, NewLine, Erase, Forward, TextEnd, Back, Mark, UndoRun, GoTo, Name, Tell}
 use Rattle.bx_resolve.specs.Laws.{level_at}
+use Rattle.bx_rows.specs.RowPicture.{letter_glyphs}
+use Rattle.bx_document.specs.QueryRow.{typed_glyphs}
 use Rattle.bx_store.specs.declared.store.StoreFault.{StoreFault}
-use Rattle.bx_editor.specs.AskingLaws.{AnswerIsARun, IsAbove, IsolatesRaise, LetterPutsIn, LetterWraps, QuestionsChangeThemselves, TellShows, TellsWhatStands, ToldNumbersLeadBack}
+use Rattle.bx_editor.specs.AskingLaws.{AnswerIsARun, IsAbove, IsShown, PromptsAreShown, IsolatesRaise, LetterPutsIn, LetterWraps, QuestionsChangeThemselves, TellShows, TellsWhatStands, ToldNumbersLeadBack}
 use Rattle.bx_editor.specs.Editor.{Editor}
 use Rattle.bx_editor.specs.Status.{status_text}
 use Rattle.bx_editor.specs.Telling.{told_at_place}
@@ -71,6 +73,14 @@ b_is_isolated law = ((law tables b_marked 0x69 0x2066 0x2069 refl refl (record {
 -- a, an isolate from right to left with b in it, c
 pub b_is_above : IsolatesRaise → IsAbove 0 (level_at tables Auto (0x61 ∷ 0x2067 ∷ 0x62 ∷ 0x2069 ∷ 0x63 ∷ []) 2)
 b_is_above law = law tables Auto (0x61 ∷ []) (0x62 ∷ []) (0x2069 ∷ 0x63 ∷ []) 0x2067 refl (omega arith) 0 (omega arith) refl
+
+-- ---- a prompt
+
+-- a digit that no ASCII has
+pub an_arabic_digit_is_shown : PromptsAreShown
+    → All IsShown (letter_glyphs (codes " line: ") ++ typed_glyphs (0xD9 ∷ 0xA1 ∷ []))
+unfolding unicode_segmentation unicode_width digits
+an_arabic_digit_is_shown law = (law tables (codes "ab") 4 40 Auto (typed (GoTo ∷ Insert 0x661 ∷ []))).glyphs (λ e. cc e)
 
 -- ---- what is told
 

@@ -62,3 +62,4 @@ pub mod ToldLine
 pub mod LettersPut
 pub mod ToldUnit
 pub mod AskingLawExamples
+pub mod AnswersStay

@@ -1,7 +1,8 @@
 -- Laws of questions and their answers, of what an answer puts in, and of what is told of a unit.
-use Rattle.std.specs.Prelude.{◌≡◌, ◌≢◌, ◌⊎◌, ℕ, ◌+◌, ◌==◌, ◌||◌, ◌<◌, ◌≤◌, Bool, true, false, List, [], ◌∷◌, ◌++◌, length, map, take, drop, count_by, chars, codes, decimal, encode_utf8, Option, Some, None, IsUtf8, if◌then◌else◌}
+use Rattle.std.specs.Prelude.{◌≡◌, ◌≢◌, ◌⊎◌, ℕ, ◌+◌, ◌==◌, ◌||◌, ◌<◌, ◌≤◌, Bool, true, false, List, [], ◌∷◌, ◌++◌, length, map, take, drop, count_by, chars, codes, decimal, encode_utf8, Option, Some, None, All, IsUtf8, if◌then◌else◌}
 use Rattle.std.specs.List.{concat}
 use Rattle.bx_terms.specs.Characters.{are_ascii_printable}
+use Rattle.bx_terms.specs.Glyphs.{is_one_glyph, run_width}
 use Rattle.bx_terms.specs.Sizes.{largest_text}
 use Rattle.bx_terms.specs.declared.base.Base.{Base}
 use Rattle.bx_ucd.specs.Data.{Data}
@@ -17,6 +18,7 @@ use Rattle.bx_asking.specs.Told.{character_text, others_text}
 use Rattle.bx_keys.specs.declared.key.Key.{Key}
 use Rattle.bx_keys.specs.declared.key.Key.TheVariants.{Insert, NewLine, Erase, ErasePoint, Delete, UndoRun, GoTo, Name, Tell}
 use Rattle.bx_store.specs.declared.store.StoreFault.{StoreFault}
+use Rattle.bx_rows.specs.RowPicture.{Glyph}
 use Rattle.bx_view.specs.Places.{IsTextPlace}
 use Rattle.bx_view.specs.Standing.{body_at, count, start_at}
 use Rattle.bx_document.specs.Document.{wrapped_end}
@@ -24,14 +26,15 @@ use Rattle.bx_document.specs.PlaceLevel.{IsFirstLevel}
 use Rattle.bx_editor.specs.declared.message.Message.{Message}
 use Rattle.bx_editor.specs.declared.message.Message.TheVariants.{MoreThanOneLine, TextFull}
 use Rattle.bx_editor.specs.declared.soft.Soft.TheVariants as softness
+use Rattle.bx_editor.specs.Answers.{IsAnswer}
 use Rattle.bx_editor.specs.Asking.{after_going, with_answer, without_ask}
-use Rattle.bx_editor.specs.Editor.{Editor, place_after}
+use Rattle.bx_editor.specs.Editor.{Editor, at_start, place_after}
 use Rattle.bx_editor.specs.Keys.{after_key, after_keys}
 use Rattle.bx_editor.specs.Laws.{after_typing, HasRows, IsPart}
 use Rattle.bx_editor.specs.Region.{bytes_in, is_empty, region}
 use Rattle.bx_editor.specs.RunLaws.{IsBackBefore}
 use Rattle.bx_editor.specs.Selecting.{aged}
-use Rattle.bx_editor.specs.Status.{message_part, paragraph_number, status_line, status_text, unit_number}
+use Rattle.bx_editor.specs.Status.{message_part, paragraph_number, prompt_glyphs, status_line, status_text, unit_number}
 use Rattle.bx_editor.specs.Telling.{told_at_place}
 use Rattle.bx_editor.specs.Wrapping.{cursor_end, spans_lines}
 
@@ -196,6 +199,24 @@ IsolatesRaise =
     → count_by begins_level (map says.class front) ≤ 61
     → (i : ℕ) → i < length inside → is_kept (class_at says inside i) ≡ true
     → IsAbove (embedding_at says base chars (length front)) (level_at says base chars (length front + 1 + i))
+
+-- ---- what a prompt shows
+
+-- a terminal shows the glyph's text as one glyph, in the glyph's columns
+pub record IsShown (g : Glyph) : Type 0 where
+  pub one : is_one_glyph g.text ≡ true
+  pub columns : run_width g.text ≡ g.columns
+
+-- the answer is short, and so are its characters; and all of a prompt is shown
+pub record ShowsPrompt (d : Data) (e : Editor) : Type 0 where
+  pub answer : IsAnswer e.ask e.answer
+  pub glyphs : e.ask ≢ Off → All IsShown (prompt_glyphs d e e.ask)
+
+-- whatever was typed over an opened text
+abbrev pub PromptsAreShown : Type 0
+PromptsAreShown =
+    (d : Data) (text : List ℕ) (height width : ℕ) (base : Base) (typed : List (Key × Option StoreFault))
+    → ShowsPrompt d (after_typing d (at_start text height width base) typed)
 
 -- ---- what is told
 
