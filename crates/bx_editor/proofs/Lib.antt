@@ -63,3 +63,4 @@ pub mod LettersPut
 pub mod ToldUnit
 pub mod AskingLawExamples
 pub mod AnswersStay
+pub mod ParagraphAround
