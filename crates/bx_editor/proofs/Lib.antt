@@ -64,3 +64,4 @@ pub mod ToldUnit
 pub mod AskingLawExamples
 pub mod AnswersStay
 pub mod ParagraphAround
+pub mod IsolatedRegion

@@ -126,7 +126,7 @@ bare-in c ps qs old new h = record {
   new_is = ap (λ xs. bare (encode_utf8 c) ∷ xs) h.new_is;
 }
 
-differ-as : (ps qs ps' qs' : List Paragraph) {old new : List ℕ} → ps ≡ ps' → qs ≡ qs' → DifferInOne ps' qs' old new → DifferInOne ps qs old new
+pub differ-as : (ps qs ps' qs' : List Paragraph) {old new : List ℕ} → ps ≡ ps' → qs ≡ qs' → DifferInOne ps' qs' old new → DifferInOne ps qs old new
 differ-as ps qs ps' qs' is-old is-new h = record {
   ahead = h.ahead;
   behind = h.behind;

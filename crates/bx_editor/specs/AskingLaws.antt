@@ -6,9 +6,10 @@ use Rattle.bx_terms.specs.Glyphs.{is_one_glyph, run_width}
 use Rattle.bx_terms.specs.Sizes.{largest_text}
 use Rattle.bx_terms.specs.declared.base.Base.{Base}
 use Rattle.bx_ucd.specs.Data.{Data}
+use Rattle.bx_ucd.specs.Class.{is_initiator}
 use Rattle.bx_ucd.specs.declared.class.Class.{Class}
-use Rattle.bx_ucd.specs.declared.class.Class.TheVariants.{LRE, LRO, RLE, RLO, LRI, RLI, FSI}
-use Rattle.bx_explicit.specs.Matching.{match_of}
+use Rattle.bx_ucd.specs.declared.class.Class.TheVariants.{LRE, LRO, RLE, RLO, LRI, RLI, FSI, PDI}
+use Rattle.bx_explicit.specs.Matching.{before_pdi, match_of}
 use Rattle.bx_resolve.specs.Laws.{class_at, entry_at, level_at}
 use Rattle.bx_resolve.specs.Levels.{is_kept, levels_under, paragraph_level_under}
 use Rattle.unicode_segmentation.specs.Grapheme.{graphemes}
@@ -18,9 +19,10 @@ use Rattle.bx_asking.specs.Told.{character_text, others_text}
 use Rattle.bx_keys.specs.declared.key.Key.{Key}
 use Rattle.bx_keys.specs.declared.key.Key.TheVariants.{Insert, NewLine, Erase, ErasePoint, Delete, UndoRun, GoTo, Name, Tell}
 use Rattle.bx_store.specs.declared.store.StoreFault.{StoreFault}
+use Rattle.bx_text.specs.Edits.{IsRange}
 use Rattle.bx_rows.specs.RowPicture.{Glyph}
 use Rattle.bx_view.specs.Places.{IsTextPlace}
-use Rattle.bx_view.specs.Standing.{body_at, count, start_at}
+use Rattle.bx_view.specs.Standing.{body_at, count, paragraph_at, start_at}
 use Rattle.bx_document.specs.Document.{wrapped_end}
 use Rattle.bx_document.specs.PlaceLevel.{IsFirstLevel}
 use Rattle.bx_editor.specs.declared.message.Message.{Message}
@@ -199,6 +201,45 @@ IsolatesRaise =
     → count_by begins_level (map says.class front) ≤ 61
     → (i : ℕ) → i < length inside → is_kept (class_at says inside i) ≡ true
     → IsAbove (embedding_at says base chars (length front)) (level_at says base chars (length front + 1 + i))
+
+-- the characters of the region
+abbrev pub region_chars : Editor → List ℕ
+region_chars e = chars (bytes_in e (region e))
+
+-- a PDI right behind these characters is the match (BD9) of an initiator right before them
+abbrev pub IsWhole : Data → List ℕ → Type 0
+IsWhole says cs = before_pdi 1 (map says.class cs ++ PDI ∷ []) ≡ Some (length cs)
+
+-- The region has both characters around it in its paragraph, whose number is counted from 0, and no other paragraph has
+-- changed. So the characters of the region have levels above the one at which the opener stands.
+pub record Isolates (d : Data) (e : Editor) (opener closer : ℕ) (new : Editor) : Type 0 where
+  pub number : ℕ
+  pub front : List ℕ
+  pub back : List ℕ
+  pub old : chars (body_at d e.content.text number) ≡ front ++ (region_chars e ++ back)
+  pub now : chars (body_at d new.content.text number) ≡ front ++ opener ∷ (region_chars e ++ closer ∷ back)
+  pub others : (m : ℕ) → m ≢ number → paragraph_at d new.content.text m ≡ paragraph_at d e.content.text m
+  pub levels : IsWhole d (region_chars e) → count_by begins_level (map d.class front) ≤ 61 → (i : ℕ) → i < length (region_chars e)
+      → is_kept (class_at d (region_chars e) i) ≡ true → let cs = chars (body_at d new.content.text number) in
+      IsAbove (embedding_at d e.base cs (length front)) (level_at d e.base cs (length front + 1 + i))
+
+-- A letter names an isolate initiator, which a PDI ends. The text is UTF-8 and the region's ends are character boundaries, as
+-- in every editor of the code; the region is in one line, and there is room.
+pub record CanIsolate (d : Data) (e : Editor) (letter opener closer : ℕ) : Type 0 where
+  pub opener_is : named letter ≡ Some opener
+  pub closer_is : closing letter ≡ Some closer
+  pub begins : is_initiator (d.class opener) ≡ true
+  pub ends : d.class closer ≡ PDI
+  pub text : IsUtf8 e.content.text
+  pub range : IsRange e.content.text (region e).0 (region e).1
+  pub some : (region e).0 < (region e).1
+  pub one_line : spans_lines d e ≡ false
+  pub room : length e.content.text + length (encode_utf8 opener) + length (encode_utf8 closer) ≤ largest_text
+
+abbrev pub LetterIsolates : Type 0
+LetterIsolates =
+    (d : Data) (e : Editor) (letter opener closer : ℕ) → CanIsolate d e letter opener closer
+    → Isolates d e opener closer (after_keys d None e (Name ∷ Insert letter ∷ []))
 
 -- ---- what a prompt shows
 

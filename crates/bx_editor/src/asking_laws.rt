@@ -1,6 +1,6 @@
 //! Laws of questions and their answers, and of what is told of a unit. The functions are empty: their contracts are the laws.
 
-ghost use Rattle.bx_editor.specs.AskingLaws.{AnswerIsARun, IsolatesRaise, LetterPutsIn, LetterWraps, PromptsAreShown, QuestionsChangeThemselves};
+ghost use Rattle.bx_editor.specs.AskingLaws.{AnswerIsARun, IsolatesRaise, LetterIsolates, LetterPutsIn, LetterWraps, PromptsAreShown, QuestionsChangeThemselves};
 ghost use Rattle.bx_editor.specs.AskingLaws.{TellShows, TellsWhatStands, ToldNumbersLeadBack};
 
 /// A question changes nothing but itself: whatever is typed while it is on leaves text, place, held text and mark as they were.
@@ -31,6 +31,12 @@ pub fn letter_wraps()
 /// What stands in an isolate has levels above the one at which the isolate stands.
 pub fn isolates_raise()
     ensures { IsolatesRaise }
+{}
+
+/// A region that a letter isolates stands in its paragraph between both characters, with levels above the one around it; no
+/// other paragraph changes.
+pub fn letter_isolates()
+    ensures { LetterIsolates }
 {}
 
 /// Whatever was typed over an opened text: an answer is short, and a terminal shows all of a prompt as it is meant.
