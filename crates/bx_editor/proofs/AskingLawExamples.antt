@@ -1,7 +1,8 @@
 -- Worked examples, each from a law alone: questions, wrapped regions, and what is told.
-use Rattle.std.proofs.Common.{◌≡◌, List, [], ◌∷◌, ◌++◌, map, refl, ap, inl, arith}
+use Rattle.std.proofs.Common.{◌≡◌, ℕ, ◌<◌, ◌≤◌, List, [], ◌∷◌, ◌++◌, map, refl, ap, inl, arith}
 use Rattle.std.specs.Prelude.{codes, All, Option, None}
 use Rattle.std.specs.Fmt.{digits}
+use Rattle.std.specs.Str.{chars}
 use Rattle.unicode_segmentation.proofs.Computing.{unicode_segmentation}
 use Rattle.unicode_width.proofs.Computing.{unicode_width}
 use Rattle.bx_terms.specs.declared.base.Base.TheVariants.{Auto}
@@ -9,9 +10,11 @@ use Rattle.bx_keys.specs.declared.key.Key.{Key}
 use Rattle.bx_keys.specs.declared.key.Key.TheVariants.{Insert, NewLine, Erase, Forward, TextEnd, Back, Mark, UndoRun, GoTo, Name, Tell}
 use Rattle.bx_resolve.specs.Laws.{level_at}
 use Rattle.bx_rows.specs.RowPicture.{letter_glyphs}
+use Rattle.bx_text.specs.Edits.{IsRange}
+use Rattle.bx_view.specs.Standing.{body_at}
 use Rattle.bx_document.specs.QueryRow.{typed_glyphs}
 use Rattle.bx_store.specs.declared.store.StoreFault.{StoreFault}
-use Rattle.bx_editor.specs.AskingLaws.{AnswerIsARun, IsAbove, IsShown, PromptsAreShown, IsolatesRaise, LetterPutsIn, LetterWraps, QuestionsChangeThemselves, TellShows, TellsWhatStands, ToldNumbersLeadBack}
+use Rattle.bx_editor.specs.AskingLaws.{AnswerIsARun, IsAbove, IsShown, PromptsAreShown, IsolatesRaise, LetterIsolates, LetterPutsIn, LetterWraps, QuestionsChangeThemselves, TellShows, TellsWhatStands, ToldNumbersLeadBack}
 use Rattle.bx_editor.specs.Editor.{Editor}
 use Rattle.bx_editor.specs.Status.{status_text}
 use Rattle.bx_editor.specs.Telling.{told_at_place}
@@ -69,6 +72,30 @@ pub b_is_isolated : LetterWraps
     → (after b_marked (Name ∷ Insert 0x69 ∷ [])).content.text ≡ codes "a" ++ 0xE2 ∷ 0x81 ∷ 0xA6 ∷ 0x62 ∷ 0xE2 ∷ 0x81 ∷ 0xA9 ∷ codes "c"
 unfolding unicode_segmentation unicode_width digits
 b_is_isolated law = ((law tables b_marked 0x69 0x2066 0x2069 refl refl (record { some = omega arith; inside = omega arith })).fits refl (omega arith)).text_is
+
+-- in its paragraph
+pub b_stands_in_an_isolate : LetterIsolates
+    → (number : ℕ) × (front : List ℕ) × (back : List ℕ)
+    × (chars (body_at tables (after b_marked (Name ∷ Insert 0x69 ∷ [])).content.text number) ≡ front ++ 0x2066 ∷ 0x62 ∷ 0x2069 ∷ back)
+unfolding unicode_segmentation unicode_width digits chars
+b_stands_in_an_isolate law =
+    let range : IsRange (codes "abc") 1 2 = record {
+      start_bounds = (omega arith, λ inside high. absurd (omega (arith, high)));
+      stop_bounds = (omega arith, λ inside high. absurd (omega (arith, high)));
+      in_order = omega arith;
+    } in
+    let isolated = law tables b_marked 0x69 0x2066 0x2069 (record {
+      opener_is = refl;
+      closer_is = refl;
+      begins = refl;
+      ends = refl;
+      text = (codes "abc", (refl, refl));
+      range = range;
+      some = omega arith;
+      one_line = refl;
+      room = omega arith;
+    }) in
+    (isolated.number, isolated.front, isolated.back, isolated.now)
 
 -- a, an isolate from right to left with b in it, c
 pub b_is_above : IsolatesRaise → IsAbove 0 (level_at tables Auto (0x61 ∷ 0x2067 ∷ 0x62 ∷ 0x2069 ∷ 0x63 ∷ []) 2)
