@@ -1,17 +1,16 @@
 -- Whatever is typed, an answer stays short and narrow, and its prompt is shown.
-use Rattle.std.proofs.Common.{◌≡◌, ℕ, zero, suc, ◌+◌, ◌-◌, ◌<◌, ◌≤◌, Bool, true, false, nat_lt, List, [], ◌∷◌, ◌++◌, length, length-append, map, take, refl, sym, ap, subst, ◌∙◌, arith, if◌then◌else◌}
-use Rattle.std.specs.Prelude.{◌≢◌, ◌==◌, ◌||◌, ◌&&◌, nat_le, chars, encode_utf8, encode_utf8_all, All, IsUtf8, Option, Some, None}
+use Rattle.std.proofs.Common.{◌≡◌, ℕ, zero, suc, ◌-◌, ◌<◌, ◌≤◌, Bool, true, false, nat_lt, List, [], ◌∷◌, ◌++◌, length, length-append, map, take, refl, sym, ap, subst, arith, if◌then◌else◌}
+use Rattle.std.specs.Prelude.{◌≢◌, ◌==◌, chars, encode_utf8, All, IsUtf8, Option, Some, None}
 use lib.Utf8.{scalar, scalars}
-use Rattle.std.proofs.lemmas.Bool.{and_from, and_parts, cases_Bool}
+use Rattle.std.proofs.lemmas.Bool.{and_from, and_parts}
 use Rattle.std.proofs.lemmas.Bool.Decides.{nat_tests}
 use Rattle.std.proofs.lemmas.List.{length-take}
 use Rattle.std.proofs.lemmas.List.Elements.{All-append, All-cons, All-head, All-nil, All-tail}
 use Rattle.std.proofs.lemmas.Str.{chars-nil, scalars-chars, IsUtf8-append, IsUtf8-encode, IsUtf8-nil}
 use Rattle.bx_terms.specs.Characters.{are_ascii_printable, is_ascii_printable}
-use Rattle.bx_terms.specs.declared.base.Base.{Base}
 use Rattle.bx_grid.proofs.Laid.{plain_run_width}
 use Rattle.bx_cells.proofs.Rest.{chars_encoded}
-use Rattle.bx_rows.specs.RowPicture.{Glyph, glyph, letter_glyphs}
+use Rattle.bx_rows.specs.RowPicture.{glyph, letter_glyphs}
 use Rattle.bx_asking.specs.declared.line.Target.{Target}
 use Rattle.bx_asking.specs.declared.question.Ask.{Ask}
 use Rattle.bx_asking.specs.declared.question.Ask.TheVariants.{Off, Line, Name, Code}
@@ -34,7 +33,7 @@ use Rattle.bx_editor.specs.declared.seek.Seek.{Seek}
 use Rattle.bx_editor.specs.declared.seek.Seek.TheVariants as seeks
 use Rattle.bx_editor.specs.Asking.{after_answer_letter, after_code, after_code_letter, after_going, after_line_letter, after_name_letter, after_named, after_shorter_answer}
 use Rattle.bx_editor.specs.Asking.{gone_to, longest_code, longest_line, with_answer, with_character, without_ask}
-use Rattle.bx_editor.specs.AskingLaws.{IsShown, PromptsAreShown, ShowsPrompt}
+use Rattle.bx_editor.specs.AskingLaws.{IsShown, PromptsAreShown}
 use Rattle.bx_editor.specs.Editor.{Editor, at_start, cleared, with_insertion, with_typing}
 use Rattle.bx_editor.specs.Effects.{Effect, AsksLine, AsksName, Before, before, by}
 use Rattle.bx_editor.specs.Keys.{Answer, Letter, Shortens, GoesBack, Next, Previous, Stays, Ends, after_any, after_key, answer_of, answered, answered_question, effect_of}

@@ -1,6 +1,6 @@
 -- A region that a letter isolates, in its paragraph.
-use Rattle.std.proofs.Common.{◌≡◌, ◌≢◌, ℕ, zero, suc, ◌+◌, ◌-◌, ◌<◌, ◌≤◌, ◌==◌, ◌||◌, Bool, true, false, cond, List, [], ◌∷◌, ◌++◌, length, length-append, map, take, drop, get_or, append_assoc, chars, encode_utf8, encode_utf8_all, IsUtf8, IsCharBoundary, Option, Some, None, refl, sym, ap, subst, ◌∙◌, arith}
-use Rattle.std.specs.Prelude.{find, slice_range}
+use Rattle.std.proofs.Common.{◌≡◌, ℕ, zero, suc, ◌+◌, ◌-◌, ◌<◌, ◌==◌, ◌||◌, Bool, true, false, cond, List, [], ◌∷◌, ◌++◌, length, map, take, drop, get_or, append_assoc, chars, encode_utf8, encode_utf8_all, IsUtf8, IsCharBoundary, Option, Some, None, refl, sym, ap, subst, ◌∙◌, arith}
+use Rattle.std.specs.Prelude.{find}
 use Rattle.std.specs.List.{list_all, list_any}
 use Rattle.std.specs.Option.{option_map}
 use lib.Utf8.{scalar}
@@ -12,14 +12,14 @@ use Rattle.bx_ucd.specs.Data.{Data}
 use Rattle.bx_ucd.specs.declared.class.Class.{Class}
 use Rattle.bx_ucd.specs.declared.class.Class.TheVariants.{B, PDI}
 use Rattle.bx_explicit.specs.Matching.{before_pdi, count_after, match_after, match_of, one_more}
-use Rattle.bx_resolve.specs.Laws.{class_at, level_at}
+use Rattle.bx_resolve.specs.Laws.{level_at}
 use Rattle.bx_asking.specs.Names.{beside, closing, closings, named, names}
 use Rattle.bx_keys.specs.declared.key.Key.TheVariants.{Insert, Name}
 use Rattle.bx_paras.specs.Paragraphs.{Paragraph, bare, cut, is_separator, paragraphs}
-use Rattle.bx_view.specs.Standing.{body_at, count, paragraph_at}
+use Rattle.bx_view.specs.Standing.{body_at, count}
 use Rattle.bx_view.proofs.Numbers.{body-utf8}
 use Rattle.bx_view.proofs.Parts.{text-parts}
-use Rattle.bx_editor.specs.AskingLaws.{CanIsolate, IsAbove, Isolates, IsWhole, LetterIsolates, embedding_at, region_chars, wrapped_region}
+use Rattle.bx_editor.specs.AskingLaws.{CanIsolate, IsAbove, Isolates, IsWhole, LetterIsolates, embedding_at, region_chars}
 use Rattle.bx_editor.specs.Editor.{Editor}
 use Rattle.bx_editor.specs.Keys.{after_keys}
 use Rattle.bx_editor.specs.Laws.{IsPart}

@@ -1,6 +1,5 @@
 -- Where characters without a separator give way to others, one paragraph changes, and there alone.
-use Rattle.std.proofs.Common.{◌≡◌, ◌≢◌, ℕ, zero, suc, ◌+◌, ◌<◌, ◌≤◌, ◌==◌, ◌&&◌, Bool, true, false, List, [], ◌∷◌, ◌++◌, length, length-append, get_or, append_assoc, chars, encode_utf8, encode_utf8_all, IsUtf8, refl, sym, ap, subst, ◌∙◌, arith}
-use Rattle.std.proofs.lemmas.Bool.Decides.{nat_tests}
+use Rattle.std.proofs.Common.{◌≡◌, ◌≢◌, ℕ, zero, suc, ◌<◌, ◌==◌, ◌&&◌, Bool, true, false, List, [], ◌∷◌, ◌++◌, length, length-append, get_or, append_assoc, chars, encode_utf8, encode_utf8_all, IsUtf8, refl, sym, ap, ◌∙◌, arith}
 use Rattle.std.proofs.lemmas.Str.{chars_past_char, IsUtf8-past_char}
 use Rattle.bx_ucd.specs.Data.{Data}
 use Rattle.bx_paras.specs.Paragraphs.{Paragraph, after_character, after_cr, bare, begins_with_lf, cut, is_separator}
@@ -13,12 +12,12 @@ AreInLine says (c ∷ cs) = (is_separator (says.class c) ≡ false) × AreInLine
 
 cut-plain : (says : Data) (c : ℕ) (cs : List ℕ) → is_separator (says.class c) ≡ false → cut says (c ∷ cs) ≡ after_character c (cut says cs)
 cut-plain says c cs h = ap (λ b. elim b as (λ x. List Paragraph) [
-      | false ↦ after_character c (cut says cs)
-      | true ↦ elim ((c == 13) && begins_with_lf says cs) [
-        | true ↦ after_cr (cut says cs)
-        | false ↦ bare (encode_utf8 c) ∷ cut says cs
-      ]
-    ]) h
+  | false ↦ after_character c (cut says cs)
+  | true ↦ elim ((c == 13) && begins_with_lf says cs) [
+    | true ↦ after_cr (cut says cs)
+    | false ↦ bare (encode_utf8 c) ∷ cut says cs
+  ]
+]) h
 
 cut-end : (says : Data) (c : ℕ) (cs : List ℕ) (pair : Bool) → is_separator (says.class c) ≡ true → ((c == 13) && begins_with_lf says cs) ≡ pair
     → cut says (c ∷ cs) ≡ elim pair [ true ↦ after_cr (cut says cs) | false ↦ bare (encode_utf8 c) ∷ cut says cs ]
