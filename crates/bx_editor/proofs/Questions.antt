@@ -95,8 +95,8 @@ module _ (d : Data) (P : Editor → Type 0) (keeps : IsKept d P) where
   code-letter : (e : Editor) (letter : ℕ) → P e → P (after_code_letter d e letter)
   code-letter e letter h =
       let longer = with_answer e (lengthened longest_code e.answer letter) in
-      either (letter == 0xA) (after_code d (without_ask e) (coded (chars e.answer))) (if is_code_letter letter then longer else e)
-      (coded-one (without_ask e) (coded (chars e.answer)) (unasked e h))
+      either (letter == 0xA) (after_code d (without_ask e) (coded e.answer)) (if is_code_letter letter then longer else e)
+      (coded-one (without_ask e) (coded e.answer) (unasked e h))
       (either (is_code_letter letter) longer e (keeps.asked e e.ask (lengthened longest_code e.answer letter) h) h)
 
   unpasted : (typing : Typing) (e new : Editor) → P e → P new → P (unless_paste typing e new)

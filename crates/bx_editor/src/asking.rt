@@ -14,8 +14,8 @@ use crate::editor::Editor;
 use crate::message::Message;
 use crate::putting::{is_paste, only_paste};
 use bx_asking::{
-    Ask, Target, asked, asks_code, closing, coded, is_code_letter, is_line_letter, lengthened, named,
-    shortened,
+    Ask, Target, asked, asks_code, closing, coded, is_code_letter, is_line_letter, lengthened,
+    named, shortened,
 };
 use bx_runs::{Kind, Typing};
 use bx_terms::OutOfMemory;

@@ -346,10 +346,12 @@ impl<D: BidiData + Drop> Editor<D> {
     {
         let ask = self.ask;
         self.leave_question();
-        let pressed = self.press(key);
-        if pressed.is_err() {
-            self.ask = ask;
+        match self.press(key) {
+            Ok(()) => Ok(()),
+            Err(refused) => {
+                self.ask = ask;
+                Err(refused)
+            }
         }
-        pressed
     }
 }

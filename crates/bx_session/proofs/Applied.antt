@@ -20,7 +20,48 @@ use Rattle.bx_session.proofs.Lasting.{effect_is, is_saving}
 
 -- ---- the end of a save affects no other key
 
-by_-- in a question
+by_alike : (d : Data) (fault : Option StoreFault) (was : Before) (e : Editor) (effect : Effect) → is_saving effect ≡ false
+    → by d None was e effect ≡ by d fault was e effect
+by_alike d fault was e (Types c) other = refl
+by_alike d fault was e BeginsLine other = refl
+by_alike d fault was e Puts other = refl
+by_alike d fault was e (Removes how start stop) other = refl
+by_alike d fault was e (RemovesWord start stop) other = refl
+by_alike d fault was e (Steps step) other = refl
+by_alike d fault was e (StepsRun step) other = refl
+by_alike d fault was e (Goes place) other = refl
+by_alike d fault was e (GoesByRows way n) other = refl
+by_alike d fault was e Marks other = refl
+by_alike d fault was e Selects other = refl
+by_alike d fault was e Unmarks other = refl
+by_alike d fault was e Copies other = refl
+by_alike d fault was e Cuts other = refl
+by_alike d fault was e Seeks other = refl
+by_alike d fault was e SeeksNext other = refl
+by_alike d fault was e Saves other = absurd (cc other)
+by_alike d fault was e Quits other = refl
+by_alike d fault was e Turns other = refl
+by_alike d fault was e Helps other = refl
+by_alike d fault was e AsksLine other = refl
+by_alike d fault was e AsksName other = refl
+by_alike d fault was e Tells other = refl
+by_alike d fault was e Rests other = refl
+
+pressed_alike : (d : Data) (fault : Option StoreFault) (was : Before) (e : Editor) (key : Key) → is_save key ≡ false
+    → by d None was e (effect_of d e key) ≡ by d fault was e (effect_of d e key)
+pressed_alike d fault was e key other = by_alike d fault was e (effect_of d e key) ((effect_is d e e key).1 ∙ other)
+
+answered_alike : (d : Data) (fault : Option StoreFault) (was : Before) (e : Editor) (key : Key) (answer : Answer) → is_save key ≡ false
+    → answered d None was e key answer ≡ answered d fault was e key answer
+answered_alike d fault was e key (Letter c) other = refl
+answered_alike d fault was e key Shortens other = refl
+answered_alike d fault was e key GoesBack other = refl
+answered_alike d fault was e key Next other = refl
+answered_alike d fault was e key Previous other = refl
+answered_alike d fault was e key Stays other = refl
+answered_alike d fault was e key Ends other = ap without_search (pressed_alike d fault was e key other)
+
+-- in a question
 question_alike : (d : Data) (fault : Option StoreFault) (was : Before) (e : Editor) (key : Key) (answer : Answer) → is_save key ≡ false
     → answered_question d None was e key answer ≡ answered_question d fault was e key answer
 question_alike d fault was e key (Letter c) other = refl

@@ -121,7 +121,7 @@ code_letter_alike : (d : Data) (e f : Editor) (letter : ℕ)
     → Alike e (after_code_letter d e letter) (having (lasting e) f) (after_code_letter d (having (lasting e) f) letter)
 code_letter_alike d e f letter =
     let g = having (lasting e) f in
-    let c = coded (chars e.answer) in
+    let c = coded e.answer in
     let longer : Editor → Editor = λ x. with_answer x (lengthened longest_code x.answer letter) in
     let given : Editor → Editor = λ x. after_code d (without_ask x) c in
     either_alike (letter == 0xA) e (given e) (if is_code_letter letter then longer e else e) g (given g) (if is_code_letter letter then longer g else g)

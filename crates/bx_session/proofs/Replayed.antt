@@ -239,7 +239,7 @@ applies d s b h = applies_at s.editor.ended d s b refl h
 pub keys_in_parts : (d : Data) (e : Editor) (first others : List Key)
     → after_all_replayed d e (first ++ others) ≡ after_all_replayed d (after_all_replayed d e first) others
 keys_in_parts d e [] others = refl
-keys_in_parts d e (key ∷ first) others = keys_in_parts d (after_replayed d e.seek e key) first others
+keys_in_parts d e (key ∷ first) others = keys_in_parts d (after_replayed d e.ask e.seek e key) first others
 
 pub replays_keys : ReplaysKeys
 replays_keys d s [] h = refl

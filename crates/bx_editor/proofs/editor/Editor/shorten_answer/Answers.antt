@@ -18,6 +18,11 @@ invariant_of-self-in-Line g c =
     let new = c.in_ok-answer-in-Line.answer in
     let kept = c.self.invariant in
     let shorter = c.in_ok-answer-in-Line.ensures.shorter ∙ ap shortened c.as_str.ensures.value in
-    let fewer = subst (λ t. length (chars (string_bytes new)) ≤ length (chars t)) c.as_str.ensures.value c.in_ok-answer-in-Line.ensures.fewer in
-    (kept.0, kept.1, kept.2, kept.3,
-    answer-shorter i.ask (string_bytes i.answer) (string_bytes new) (IsUtf8-string_bytes new) kept.4 shorter fewer, kept.5)
+    let fewer = subst (λ t. length (chars (string_bytes new)) ≤ length (chars t)) c.as_str.ensures.value c.in_ok-answer-in-Line.ensures.fewer in (
+      kept.0,
+      kept.1,
+      kept.2,
+      kept.3,
+      answer-shorter i.ask (string_bytes i.answer) (string_bytes new) (IsUtf8-string_bytes new) kept.4 shorter fewer,
+      kept.5,
+    )
