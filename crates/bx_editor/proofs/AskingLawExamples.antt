@@ -14,7 +14,7 @@ use Rattle.bx_text.specs.Edits.{IsRange}
 use Rattle.bx_view.specs.Standing.{body_at}
 use Rattle.bx_document.specs.QueryRow.{typed_glyphs}
 use Rattle.bx_store.specs.declared.store.StoreFault.{StoreFault}
-use Rattle.bx_editor.specs.AskingLaws.{AnswerIsARun, IsAbove, IsShown, PromptsAreShown, IsolatesRaise, LetterIsolates, LetterPutsIn, LetterWraps, QuestionsChangeThemselves, TellShows, TellsWhatStands, ToldNumbersLeadBack}
+use Rattle.bx_editor.specs.AskingLaws.{AnswerIsARun, CodePutsIn, IsAbove, IsShown, PromptsAreShown, IsolatesRaise, LetterIsolates, LetterPutsIn, LetterWraps, QuestionsChangeThemselves, TellShows, TellsWhatStands, ToldNumbersLeadBack}
 use Rattle.bx_editor.specs.Editor.{Editor}
 use Rattle.bx_editor.specs.Status.{status_text}
 use Rattle.bx_editor.specs.Telling.{told_at_place}
@@ -62,6 +62,12 @@ a_code_is_taken_back law =
 pub a_mark_is_put_in : LetterPutsIn → (after between (Name ∷ Insert 0x6C ∷ [])).content.text ≡ codes "a" ++ 0xE2 ∷ 0x80 ∷ 0x8E ∷ codes "b"
 unfolding unicode_segmentation unicode_width digits
 a_mark_is_put_in law = (law tables between 0x6C 0x200E refl (inl refl) (omega arith)).text_is
+
+-- 5d0 is alef's code
+pub alef_is_put_in : CodePutsIn
+    → (after between (Name ∷ Insert 0x2B ∷ (letters (codes "5d0") ++ NewLine ∷ []))).content.text ≡ codes "a" ++ 0xD7 ∷ 0x90 ∷ codes "b"
+unfolding unicode_segmentation unicode_width digits
+alef_is_put_in law = (law tables between 0x2B (codes "5d0") 0x5D0 NewLine refl refl (omega arith) refl (omega arith)).text_is
 
 -- b is marked in abc
 abbrev b_marked : Editor

@@ -50,7 +50,7 @@ character-alone d e c (Some closer) (inr empty) = first-of (is_empty (region e))
 room-for : (size place new limit : ℕ) → size + new ≤ limit → nat_le (size - (place - place) + new) limit ≡ true
 room-for size place new limit few = grind (arith, nat_tests, few)
 
-character-in : (d : Data) (e : Editor) (c : ℕ) → length e.content.text + length (encode_utf8 c) ≤ largest_text
+pub character-in : (d : Data) (e : Editor) (c : ℕ) → length e.content.text + length (encode_utf8 c) ≤ largest_text
     → with_character d e c ≡ with_typing (with_insertion d e (encode_utf8 c) false) (after_insertion typings.Off (kind_of (d.class c)))
 character-in d e c few =
     let bytes = encode_utf8 c in

@@ -65,3 +65,4 @@ pub mod AskingLawExamples
 pub mod AnswersStay
 pub mod ParagraphAround
 pub mod IsolatedRegion
+pub mod CodePut

@@ -14,7 +14,8 @@ use Rattle.bx_resolve.specs.Laws.{class_at, entry_at, level_at}
 use Rattle.bx_resolve.specs.Levels.{is_kept, levels_under, paragraph_level_under}
 use Rattle.unicode_segmentation.specs.Grapheme.{graphemes}
 use Rattle.bx_asking.specs.declared.question.Ask.TheVariants.{Off}
-use Rattle.bx_asking.specs.Names.{closing, named}
+use Rattle.bx_asking.specs.Codes.{coded}
+use Rattle.bx_asking.specs.Names.{asks_code, closing, named}
 use Rattle.bx_asking.specs.Told.{character_text, others_text}
 use Rattle.bx_keys.specs.declared.key.Key.{Key}
 use Rattle.bx_keys.specs.declared.key.Key.TheVariants.{Insert, NewLine, Erase, ErasePoint, Delete, UndoRun, GoTo, Name, Tell}
@@ -29,7 +30,7 @@ use Rattle.bx_editor.specs.declared.message.Message.{Message}
 use Rattle.bx_editor.specs.declared.message.Message.TheVariants.{MoreThanOneLine, TextFull}
 use Rattle.bx_editor.specs.declared.soft.Soft.TheVariants as softness
 use Rattle.bx_editor.specs.Answers.{IsAnswer}
-use Rattle.bx_editor.specs.Asking.{after_going, with_answer, without_ask}
+use Rattle.bx_editor.specs.Asking.{after_going, longest_code, with_answer, without_ask}
 use Rattle.bx_editor.specs.Editor.{Editor, at_start, place_after}
 use Rattle.bx_editor.specs.Keys.{after_key, after_keys}
 use Rattle.bx_editor.specs.Laws.{after_typing, HasRows, IsPart}
@@ -137,6 +138,13 @@ abbrev pub LetterPutsIn : Type 0
 LetterPutsIn =
     (d : Data) (e : Editor) (letter c : ℕ) → named letter ≡ Some c → ((closing letter ≡ None) ⊎ (is_empty (region e) ≡ true))
     → length e.content.text + length (encode_utf8 c) ≤ largest_text → IsPutIn d e (encode_utf8 c) (after_keys d None e (Name ∷ Insert letter ∷ []))
+
+-- Name, a letter that asks for a code, its digits and the end of a line put the code's character in, if there is room
+abbrev pub CodePutsIn : Type 0
+CodePutsIn =
+    (d : Data) (e : Editor) (letter : ℕ) (code : List ℕ) (c : ℕ) (enter : Key) → asks_code letter ≡ true → coded code ≡ Some c → length code ≤ longest_code
+    → is_enter enter ≡ true → length e.content.text + length (encode_utf8 c) ≤ largest_text
+    → IsPutIn d e (encode_utf8 c) (after_keys d None e (Name ∷ Insert letter ∷ (map Insert code ++ enter ∷ [])))
 
 -- ---- a region that is wrapped
 

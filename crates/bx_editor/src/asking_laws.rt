@@ -1,6 +1,6 @@
 //! Laws of questions and their answers, and of what is told of a unit. The functions are empty: their contracts are the laws.
 
-ghost use Rattle.bx_editor.specs.AskingLaws.{AnswerIsARun, IsolatesRaise, LetterIsolates, LetterPutsIn, LetterWraps, PromptsAreShown, QuestionsChangeThemselves};
+ghost use Rattle.bx_editor.specs.AskingLaws.{AnswerIsARun, CodePutsIn, IsolatesRaise, LetterIsolates, LetterPutsIn, LetterWraps, PromptsAreShown, QuestionsChangeThemselves};
 ghost use Rattle.bx_editor.specs.AskingLaws.{TellShows, TellsWhatStands, ToldNumbersLeadBack};
 
 /// A question changes nothing but itself: whatever is typed while it is on leaves text, place, held text and mark as they were.
@@ -21,6 +21,11 @@ pub fn answer_is_a_run()
 /// Name and a letter put the letter's character in at the place.
 pub fn letter_puts_in()
     ensures { LetterPutsIn }
+{}
+
+/// Name and a character's code put the character in at the place.
+pub fn code_puts_in()
+    ensures { CodePutsIn }
 {}
 
 /// Name and a letter wrap the region in two characters, and change no other.

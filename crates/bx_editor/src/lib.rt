@@ -31,7 +31,7 @@ mod work_laws;
 mod wrapping;
 
 pub use asking_laws::{
-    answer_is_a_run, isolates_raise, letter_isolates, letter_puts_in, letter_wraps,
+    answer_is_a_run, code_puts_in, isolates_raise, letter_isolates, letter_puts_in, letter_wraps,
     prompts_are_shown, questions_change_themselves, tell_shows, tells_what_stands,
     told_numbers_lead_back,
 };
