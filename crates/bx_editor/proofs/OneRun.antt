@@ -91,7 +91,7 @@ Nothing first e = IsOver first 0 e.content.text e.place e.content.past
 next : (runs : List ℕ) (n : ℕ) (on : Bool) → run_start (edited runs n on) (suc n) ≡ (if on then run_start runs n else n)
 next runs n on = let same : suc n ≡ n + 1 = omega arith in ap (run_start (edited runs n on)) same ∙ edit-is-of-its-run runs n on
 
-insertion-begins : (d : Data) (first e : Editor) (new : List ℕ) → Nothing first e → IsOneRun first (with_insertion d e new false)
+pub insertion-begins : (d : Data) (first e : Editor) (new : List ℕ) → Nothing first e → IsOneRun first (with_insertion d e new false)
 insertion-begins d first e new h = record {
   more = 0;
   over = h;

@@ -22,3 +22,4 @@ pub mod Laws
 pub mod WorkLaws
 pub mod RunLaws
 pub mod SelectionLaws
+pub mod AskingLaws

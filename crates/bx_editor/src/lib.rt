@@ -2,6 +2,7 @@
 #![tactic(auto)]
 
 mod asking;
+mod asking_laws;
 mod editing;
 mod editor;
 mod erasing;
@@ -29,6 +30,11 @@ mod telling;
 mod work_laws;
 mod wrapping;
 
+pub use asking_laws::{
+    answer_is_a_run, code_puts_in, isolates_raise, letter_isolates, letter_puts_in, letter_wraps,
+    prompts_are_shown, questions_change_themselves, tell_shows, tells_what_stands,
+    told_numbers_lead_back,
+};
 pub use editor::Editor;
 pub use error::OpenError;
 pub use laws::{
