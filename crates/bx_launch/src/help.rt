@@ -4,7 +4,7 @@ use std::alloc::{AllocError, Global};
 use std::str;
 
 /// The editor's version.
-pub const VERSION: &str = "0.1.0";
+pub const VERSION: &str = "0.4.0";
 
 /// The usage of the command line, without a line end.
 pub const USAGE: &str = "usage: bidi-edit [--direction auto|ltr|rtl] [--line N | +N] [--force] FILE
