@@ -6,7 +6,7 @@ It writes files into the working folder.
 import random, re, shutil, subprocess, sys
 
 editor, data, edits, seed = sys.argv[1], sys.argv[2], int(sys.argv[3]), int(sys.argv[4])
-chance = random.Random(seed)
+chance, name_chance = random.Random(seed), random.Random(seed)
 FILES = {"classes": "DerivedBidiClass", "brackets": "BidiBrackets", "mirroring": "BidiMirroring", "joining": "ArabicShaping", "characters": "UnicodeData"}
 TABLES = [f"--{word}={data}/{file}.txt" for word, file in FILES.items()]
 PER_TEXT = 200
@@ -19,6 +19,8 @@ DIRECTIONS = b"\x1b[9~" * 3
 # an edit, or a run of edits, that is undone or redone
 STEPS = {b"\x1a": [b"\x1a", b"\x1b[82~"], b"\x19": [b"\x19", b"\x1b[83~"]}
 SELECT = b"\x1b[81~"
+# characters that begin or end an embedding or isolate, by their names: those that begin one are put round a selection
+NAMED = [b"\x1b[86~" + name.encode() for name in "eEoOiIfpP"]
 MOVES = [b"\x1b[A", b"\x1b[B", b"\x1b[C", b"\x1b[D", b"\x06", b"\x02", b"\x1b[H", b"\x1b[F", b"\x1b[5~", b"\x1b[6~"]
 HEBREW = "של אני הבית ספר ילדה הולכת לים בערב (ירושלים) מחיר שולחן כיסא".split()
 ARABIC = "السلام عليكم كتاب بيت مدرسة في على كبير صغير يوم".split()
@@ -61,10 +63,14 @@ def check(count):
     for _ in range(count):
         for _ in range(chance.randrange(4)):
             keys += chance.choice(MOVES)
-        if chance.random() < 0.1:
+        selects = chance.random() < 0.1
+        if selects:
             keys += SELECT + chance.choice(MOVES)
         change = edit(is_note)
-        keys += chance.choice(STEPS.get(change, [change])) + REPAINT + DIRECTIONS + REPAINT
+        change = chance.choice(STEPS.get(change, [change]))
+        if selects and name_chance.random() < 0.3:
+            change = name_chance.choice(NAMED)
+        keys += change + REPAINT + DIRECTIONS + REPAINT
     with open("text", "wb") as file:
         file.write(text.encode())
     run = subprocess.run([editor, f"--rows={rows}", f"--cols={columns}", *TABLES, "text"], input=keys + b"\x13\x11\x11", capture_output=True)

@@ -51,6 +51,7 @@ xterm, rxvt and st, Delete with Control:\033[3;5~\033[3^\033[M:\033[89~\033[89~\
 Enter:a\rb:a\033[95~b
 Control and @, C, R, V, W, X:\000\003\022\026\027\030:\033[72~\033[73~\033[71~\033[75~\033[70~\033[74~
 Control and Y, Z:\031\032:\033[83~\033[82~
+Control and G, K, T:\007\013\024:\033[84~\033[86~\033[87~
 Up and Down with Control, which the editor does not know:\033[1;5A\033[1;5B:\033[1;5A\033[1;5B
 Escape, and then a letter:\033a:\033a
 Escape, and then a digit of the keypad:\033\033Oq:\033\0301

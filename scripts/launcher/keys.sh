@@ -1,7 +1,7 @@
 # shellcheck shell=sh
 # shellcheck disable=SC2034,SC2154 # variables shared with other parts
-# The keys for words, points, rows, the text's ends, runs, selections, the mark, copies, searches and help, as terminals send them,
-# and the screens that they make.
+# The keys for words, points, rows, the text's ends, runs, selections, the mark, copies, searches, questions and help, as terminals
+# send them, and the screens that they make.
 
 # Types keys of tmux, and compares the rows of the screen and the cursor's column and row.
 press() { # NAME ROWS CURSOR [KEY..]
@@ -98,6 +98,38 @@ check_selections() {
     press 'the copy in place of a letter' 'ahah|||* 1:5' 4,0 S-Left C-v
     press 'the letter back' 'ahx|||* 1:3' 2,0 C-z
     drop selections
+}
+
+# CTRL with G asks for a line and a letter in it, CTRL with K for a character, by a letter that names it or by its code, and CTRL
+# with T tells what stands at the cursor. Other keys end a question.
+check_questions() {
+    printf 'ab\ncde\n\nf' >note
+    start 5 40 "$top/bidi-edit" note
+    press 'a question for a line' 'ab|cde||f|- 1:1 line:' 0,0 C-g
+    press 'its answer' 'ab|cde||f|- 1:1 line: 2:3' 0,0 2 x : 3
+    press 'a line and a letter' 'ab|cde||f|- 2:3' 2,1 Enter
+    press 'a letter of its line' 'ab|cde||f|- 2:2' 1,1 C-g : 2 Enter
+    press 'a line too far' 'ab|cde||f|- 4:1' 0,3 C-g 9 Enter
+    press 'a line not gone to' 'ab|cde||f|- 4:1' 0,3 C-g 1 C-q
+    press 'what stands there' 'ab|cde||f|- 4:1 U+0066 L level 0' 0,3 C-t
+    press 'the end of the text' 'ab|cde||f|- 4:2 end of text' 1,3 End C-t
+    press 'a question for a character' 'ab|cde||f|- 4:2 insert:' 1,3 C-k
+    press 'for its code' 'ab|cde||f|- 4:2 insert: U+5d0' 1,3 u 5 d 0
+    press 'a letter by its code' 'ab|cde||fא|* 4:3' 2,3 Enter
+    press 'no character' 'ab|cde||fא|* 4:3 no such character' 2,3 C-k u d 8 0 0 Enter
+    press 'a character put in taken back' 'ab|cde||f|- 4:2' 1,3 C-z
+    press 'a question that another key ends' 'ab|cde||f|- 4:1 find:' 0,3 Home C-k C-w
+    type_keys Escape
+    # a key right behind an Escape would belong to it
+    sleep 0.3
+    press 'a question given up by Escape' 'ab|cde||f|- 4:1' 0,3 C-k Escape
+    press 'a region' 'ab|<cd>e||f|- 2:3' 2,1 C-g 2 Enter C-@ C-f C-f
+    type_keys C-k i C-s
+    wait_for 30 shows saved
+    type_keys C-q
+    finish 'keys, questions' 0 50
+    same 'keys, questions: the saved file' "$(paste -s -d '|' note)" "$(printf 'ab|\342\201\246cd\342\201\251e||f')"
+    rm -f note
 }
 
 # A paste is taken back and made again at once, and has the line ends of the text.
@@ -242,6 +274,7 @@ check_keys() {
     check_points
     check_runs
     check_selections
+    check_questions
     check_pasted
     check_erased_words
     check_other_erase_character

@@ -188,6 +188,7 @@ check_keys() { # KIND
 
 check_changes() { # KIND
     check_runs "$1"
+    check_questions "$1"
     ! sends_shift "$1" || check_selecting "$1"
     ! sends_control_shift "$1" || check_selected_words "$1"
     check_paste "$1"
@@ -202,6 +203,20 @@ check_runs() { # KIND
     sleep 0.5
     leave_editor "$1, runs"
     same "$1, runs" "$(cat "$room/files/typed")" 'ab one X'
+}
+
+# A line that Control and G go to, a character by its name and one by its code that Control and K put in, each followed by what shows
+# it, and what Control and T tell, which changes the last row alone.
+check_questions() { # KIND
+    printf 'ab\ncd\nef\n' >"$room/files/typed"
+    open_editor typed "$1-questions"
+    press ctrl+g 2 Return X ctrl+k l ctrl+k u 5 d 0 Return Y ctrl+s ctrl+g 3 Return
+    take_picture "$1-questions-before"
+    press ctrl+t
+    take_picture "$1-questions-told"
+    leave_editor "$1, questions"
+    same "$1, questions" "$(paste -s -d '|' "$room/files/typed")" "$(printf 'ab|X\342\200\216\327\220Ycd|ef')"
+    other_picture "$1, what is told" "$1-questions-before" "$1-questions-told"
 }
 
 # Selections with Shift that letters, Delete, a move without Shift and Escape end, each followed by what shows it.

@@ -114,12 +114,16 @@ digits-printable (d ∷ ds) h =
     let range = digit_from_value d h.0 in
     more d ds (within d (omega (arith, range.0)) (omega (arith, range.1))) (digits-printable ds h.1)
 
-level-printable : (level : Option ℕ) → IfSome level (λ n. n < 256) → are_ascii_printable (level_text level) ≡ true
+pub level-printable : (level : Option ℕ) → IfSome level (λ n. n < 256) → are_ascii_printable (level_text level) ≡ true
 level-printable None h = refl
 level-printable (Some n) h = both (codes " level ") (decimal n) refl (digits-printable (decimal n) (decimal_is_IsNumeral n (omega (arith, h))).0.1)
 
-pub told-printable : ToldIsPrintable
-told-printable says [] level h = level-printable level h
-told-printable says (c ∷ cs) level h =
+pub told-by-level : (says : Data) (cs : List ℕ) (level : Option ℕ) → are_ascii_printable (level_text level) ≡ true
+    → are_ascii_printable (told_text says cs level) ≡ true
+told-by-level says [] level h = h
+told-by-level says (c ∷ cs) level h =
     both (character_text says c ++ others_text says cs) (level_text level)
-    (both (character_text says c) (others_text says cs) (character-printable says c) (others-printable says cs)) (level-printable level h)
+    (both (character_text says c) (others_text says cs) (character-printable says c) (others-printable says cs)) h
+
+pub told-printable : ToldIsPrintable
+told-printable says cs level h = told-by-level says cs level (level-printable level h)

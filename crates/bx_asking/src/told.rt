@@ -1,5 +1,6 @@
 //! What is told of a unit: its first characters with their classes, and its level.
-ghost use Rattle.std.specs.Prelude.{◌≡◌, ◌++◌, ◌∷◌, [], ◌<◌, IfOk, chars, drop, slice_get, string_bytes};
+ghost use Rattle.std.specs.Prelude.{◌≡◌, ◌++◌, ◌∷◌, [], ◌<◌, IfOk, chars, drop, slice_get, string_bytes, Some, true};
+ghost use Rattle.bx_terms.specs.Characters.{are_ascii_printable};
 ghost use Rattle.bx_asking.specs.Told.{behind, character_text, class_name, code_text, digit_at, hex_digit, last_four, level_text, others_text, told_text};
 
 use bx_terms::first_char;
@@ -145,18 +146,25 @@ fn push_others<D: BidiData>(line: &mut String, tables: &D, others: &str) -> Resu
     Ok(())
 }
 
+/// Writes a level.
+fn push_some_level(line: &mut String, level: u8) -> Result<(), AllocError>
+    ensures told { IfOk result (λ _. string_bytes line.new ≡ string_bytes line.old ++ level_text (Some level)) }
+    ensures printable { IfOk result (λ _. are_ascii_printable (level_text (Some level)) ≡ true) }
+{
+    let mut buffer = Buffer::new();
+    line.push_str(" level ")?;
+    line.push_str(buffer.format(level))?;
+    Ok(())
+}
+
 /// Writes a level, if there is one.
 fn push_level(line: &mut String, level: Option<u8>) -> Result<(), AllocError>
-    ensures { IfOk result (λ _. string_bytes line.new ≡ string_bytes line.old ++ level_text level) }
+    ensures told { IfOk result (λ _. string_bytes line.new ≡ string_bytes line.old ++ level_text level) }
+    ensures printable { IfOk result (λ _. are_ascii_printable (level_text level) ≡ true) }
 {
     match level {
         None => Ok(()),
-        Some(level) => {
-            let mut buffer = Buffer::new();
-            line.push_str(" level ")?;
-            line.push_str(buffer.format(level))?;
-            Ok(())
-        }
+        Some(level) => push_some_level(line, level),
     }
 }
 
@@ -169,7 +177,8 @@ pub fn write_told<D: BidiData>(
     unit: &str,
     level: Option<u8>,
 ) -> Result<(), AllocError>
-    ensures { IfOk result (λ _. string_bytes line.new ≡ string_bytes line.old ++ told_text (D.data tables.now) (chars unit.now) level) }
+    ensures told { IfOk result (λ _. string_bytes line.new ≡ string_bytes line.old ++ told_text (D.data tables.now) (chars unit.now) level) }
+    ensures printable { IfOk result (λ _. are_ascii_printable (told_text (D.data tables.now) (chars unit.now) level) ≡ true) }
 {
     match first_char(unit) {
         None => {

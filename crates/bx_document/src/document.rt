@@ -2,7 +2,7 @@
 ghost use Rattle.std.specs.Borrow.{Bor};
 ghost use Rattle.std.specs.Iterator.{Drains};
 ghost use Rattle.bx_text.specs.Slices.{joined, lends};
-ghost use Rattle.std.specs.Prelude.{◌≡◌, ℕ, ◌≤◌, ◌<◌, ◌↔◌, List, true, IfOk, IsErrOf, IsUtf8, OnOk, length, string_bytes};
+ghost use Rattle.std.specs.Prelude.{◌≡◌, ℕ, ◌+◌, ◌≤◌, ◌<◌, ◌↔◌, List, true, IfOk, IsErrOf, IsUtf8, OnOk, length, string_bytes};
 ghost use Rattle.bx_terms.specs.Sizes.{is_side};
 ghost use Rattle.bx_text.specs.Edits.{largest_text};
 ghost use Rattle.bx_view.specs.Numbers.{paragraph_number};
@@ -106,12 +106,14 @@ impl<D: BidiData + Drop> Document<D> {
         &self.tables
     }
 
-    /// The number, from 0, of the paragraph in which an offset in bytes lies. No memory.
+    /// The number, from 1, of the paragraph in which an offset in bytes lies. No memory.
     pub fn paragraph_at(&self, offset: usize) -> usize
-        ensures { result ≡ paragraph_number (D.data self.now.tables) self.now.document.content.text offset }
+        ensures { result ≡ paragraph_number (D.data self.now.tables) self.now.document.content.text offset + 1 }
     {
+        // proof only: the number of paragraphs is within its limit
+        let _count = self.index.count();
         let (number, _) = self.index.span_at(offset);
-        number
+        number + 1
     }
 
     /// The base direction of the paragraphs. No memory.

@@ -1,5 +1,5 @@
 -- A selection gives way, and the marks of a paste change nothing that is seen.
-use Rattle.std.proofs.Common.{◌≡◌, ℕ, ◌+◌, ◌-◌, ◌≤◌, ◌<◌, Bool, true, false, List, [], ◌∷◌, ◌++◌, length, take, drop, refl, sym, ap, subst, ◌∙◌, arith, if◌then◌else◌, append-nil, length-append, ne_eqb}
+use Rattle.std.proofs.Common.{◌≡◌, ℕ, ◌+◌, ◌-◌, ◌≤◌, ◌<◌, Bool, true, false, List, [], ◌∷◌, ◌++◌, length, take, drop, refl, sym, ap, ap₂, subst, ◌∙◌, arith, if◌then◌else◌, append-nil, length-append, ne_eqb}
 use Rattle.std.specs.Prelude.{◌≢◌, ◌==◌, ◌&&◌, not, nat_le, encode_utf8, Some, None}
 use Rattle.std.proofs.lemmas.Bool.Decides.{nat_tests}
 use Rattle.std.proofs.lemmas.List.{length-drop, length-take}
@@ -9,7 +9,7 @@ use Rattle.bx_keys.specs.declared.key.Key.TheVariants.{Insert, Erase, Delete, Ba
 use Rattle.bx_keys.specs.declared.key.Key.TheVariants.{Quit, Undo, Redo, Repaint, Direction, Size, Mark, Copy, Cut, Put}
 use Rattle.bx_keys.specs.declared.key.Key.TheVariants.{Find, FindBack, WordLeft, WordRight, TextStart, TextEnd, Help, Notice}
 use Rattle.bx_keys.specs.declared.key.Key.TheVariants.{EraseWord, DeleteWord, ErasePoint, NewLine, FindNext, Cancel, LineUp, LineDown, PageBack, PageOn}
-use Rattle.bx_keys.specs.declared.key.Key.TheVariants.{Select, UndoRun, RedoRun, PasteStart, PasteEnd}
+use Rattle.bx_keys.specs.declared.key.Key.TheVariants.{Select, UndoRun, RedoRun, GoTo, Name, Tell, PasteStart, PasteEnd}
 use Rattle.bx_text.specs.Edits.{fits, splice}
 use Rattle.bx_runs.specs.Typing.{goes_on, kind_of}
 use Rattle.bx_runs.specs.declared.typing.Kind.{Kind}
@@ -21,7 +21,7 @@ use Rattle.bx_editor.specs.declared.soft.Soft.{Soft}
 use Rattle.bx_editor.specs.declared.soft.Soft.TheVariants.{Off, Fresh, Old}
 use Rattle.bx_editor.specs.Editor.{Editor, cleared, place_after, with_insertion, with_removal}
 use Rattle.bx_editor.specs.Effects.{Effect, Types, BeginsLine, Puts, Removes, RemovesWord, Steps, StepsRun, Goes, GoesByRows, Marks, Selects}
-use Rattle.bx_editor.specs.Effects.{Unmarks, Copies, Cuts, Seeks, SeeksNext, Saves, Quits, Turns, Helps, Rests, Before, before, by}
+use Rattle.bx_editor.specs.Effects.{Unmarks, Copies, Cuts, Seeks, SeeksNext, Saves, Quits, Turns, Helps, AsksLine, AsksName, Tells, Rests, Before, before, by}
 use Rattle.bx_editor.specs.Erasing.{after_removing, or_selection, removed_on}
 use Rattle.bx_editor.specs.Keys.{after_any, after_key, as_left, effect_of, is_told_key}
 use Rattle.bx_editor.specs.Putting.{after_character, after_new_line, has_room, is_paste, line_end, put_in, typed, with_selection_replaced, yielding}
@@ -103,6 +103,9 @@ removing d e PageOn is = absurd (cc is)
 removing d e Select is = absurd (cc is)
 removing d e UndoRun is = absurd (cc is)
 removing d e RedoRun is = absurd (cc is)
+removing d e GoTo is = absurd (cc is)
+removing d e Name is = absurd (cc is)
+removing d e Tell is = absurd (cc is)
 removing d e PasteStart is = absurd (cc is)
 removing d e PasteEnd is = absurd (cc is)
 removing d e (Size height width) is = absurd (cc is)
@@ -130,6 +133,9 @@ removed d was e Saves selected is = absurd (cc is)
 removed d was e Quits selected is = absurd (cc is)
 removed d was e Turns selected is = absurd (cc is)
 removed d was e Helps selected is = absurd (cc is)
+removed d was e AsksLine selected is = absurd (cc is)
+removed d was e AsksName selected is = absurd (cc is)
+removed d was e Tells selected is = absurd (cc is)
 removed d was e Rests selected is = absurd (cc is)
 
 removed-is : (d : Data) (e : Editor) (key : Key) → HasSelection e → is_removal key ≡ true
@@ -138,7 +144,7 @@ removed-is d e key has is =
     let was = cleared e in
     let keys = removing d was key is in
     any-key d None e key keys.1
-    ∙ ap (λ s. as_left key (after_any d None (before e) s was key)) has.no_search
+    ∙ ap₂ (λ a s. as_left key (after_any d None (before e) a s was key)) has.no_question has.no_search
     ∙ ap (as_left key) (removed d (before e) was (effect_of d was key) (selection-is e has) keys.0)
 
 pub selection-is-removed : SelectionIsRemoved
@@ -201,7 +207,7 @@ put-full d e new on has many =
     (has-none d e new has many)
 
 still : (e : Editor) → HasSelection e → HasSelection (cleared e)
-still e has = record { no_search = has.no_search; soft = has.soft; part = record { some = has.part.some; inside = has.part.inside } }
+still e has = record { no_question = has.no_question; no_search = has.no_search; soft = has.soft; part = record { some = has.part.some; inside = has.part.inside } }
 
 replaced : (d : Data) (e : Editor) (key : Key) (typing : Typing) (new : List ℕ)
     → IsReplacedBy d e new (as_left key (record (with_selection_replaced d (cleared e) new) { typing = typing }))
@@ -258,13 +264,13 @@ either-yields d e key typing c false has = typed-yields d e key typing (encode_u
 insert-gives-way : (d : Data) (e : Editor) (c : ℕ) → HasSelection e → Yields d e (bytes_put d e (Insert c)) (after_key d None e (Insert c))
 insert-gives-way d e c has =
     takes d e (Insert c) (as_left (Insert c) (after_character d e.typing (cleared e) c))
-    (ap (λ s. as_left (Insert c) (after_any d None (before e) s (cleared e) (Insert c))) has.no_search)
+    (ap₂ (λ a s. as_left (Insert c) (after_any d None (before e) a s (cleared e) (Insert c))) has.no_question has.no_search)
     (either-yields d e (Insert c) e.typing c ((c == 0xA) && is_paste e.typing) has)
 
 new-line-gives-way : (d : Data) (e : Editor) → HasSelection e → Yields d e (bytes_put d e NewLine) (after_key d None e NewLine)
 new-line-gives-way d e has =
     takes d e NewLine (as_left NewLine (after_new_line d e.typing (cleared e)))
-    (ap (λ s. as_left NewLine (after_any d None (before e) s (cleared e) NewLine)) has.no_search) (line-yields d e NewLine e.typing has)
+    (ap₂ (λ a s. as_left NewLine (after_any d None (before e) a s (cleared e) NewLine)) has.no_question has.no_search) (line-yields d e NewLine e.typing has)
 
 some-held : (held : List ℕ) → held ≢ [] → (length held == 0) ≡ false
 some-held [] some = absurd (some refl)
@@ -274,7 +280,7 @@ put-gives-way : (d : Data) (e : Editor) → HasSelection e → e.held ≢ [] →
 put-gives-way d e has some =
     let was = cleared e in
     takes d e Put (as_left Put (put_in d was e.held false))
-    (ap (λ s. as_left Put (after_any d None (before e) s was Put)) has.no_search
+    (ap₂ (λ a s. as_left Put (after_any d None (before e) a s was Put)) has.no_question has.no_search
     ∙ ap (λ b. as_left Put (if b then record was { message = Some NothingToPut } else put_in d was e.held false)) (some-held e.held some))
     (put-yields d e Put ((put_in d was e.held false).typing) e.held false has)
 
@@ -322,6 +328,9 @@ gives-way d e PageOn has some = absurd (some refl)
 gives-way d e Select has some = absurd (some refl)
 gives-way d e UndoRun has some = absurd (some refl)
 gives-way d e RedoRun has some = absurd (some refl)
+gives-way d e GoTo has some = absurd (some refl)
+gives-way d e Name has some = absurd (some refl)
+gives-way d e Tell has some = absurd (some refl)
 gives-way d e PasteStart has some = absurd (some refl)
 gives-way d e PasteEnd has some = absurd (some refl)
 gives-way d e (Size height width) has some = absurd (some refl)

@@ -1,19 +1,23 @@
--- Keys in a search.
-use Rattle.std.proofs.Common.{◌≡◌, ℕ, false, Option, Some, None, refl, ap}
+-- Keys in a search, and in a question.
+use Rattle.std.proofs.Common.{◌≡◌, ℕ, false, Option, Some, None, refl, sym, ap, ap₂, ◌∙◌}
 use Rattle.bx_keys.specs.declared.key.Key.{Key}
 use Rattle.bx_keys.specs.declared.key.Key.TheVariants.{Insert, Erase, Delete, Back, Forward, Up, Down, Right, Left, RowHome, RowEnd, PageUp, PageDown, Save}
 use Rattle.bx_keys.specs.declared.key.Key.TheVariants.{Quit, Undo, Redo, Repaint, Direction, Size, Mark, Copy, Cut, Put}
 use Rattle.bx_keys.specs.declared.key.Key.TheVariants.{Find, FindBack, WordLeft, WordRight, TextStart, TextEnd, Help, Notice}
 use Rattle.bx_keys.specs.declared.key.Key.TheVariants.{EraseWord, DeleteWord, ErasePoint, NewLine, FindNext, Cancel, LineUp, LineDown, PageBack, PageOn}
-use Rattle.bx_keys.specs.declared.key.Key.TheVariants.{Select, UndoRun, RedoRun, PasteStart, PasteEnd}
+use Rattle.bx_keys.specs.declared.key.Key.TheVariants.{Select, UndoRun, RedoRun, GoTo, Name, Tell, PasteStart, PasteEnd}
 use Rattle.bx_keys.specs.declared.notice.Notice as told
 use Rattle.bx_store.specs.declared.store.StoreFault.{StoreFault}
 use Rattle.bx_ucd.specs.Data.{Data}
+use Rattle.bx_asking.specs.declared.question.Ask.{Ask}
+use Rattle.bx_asking.specs.declared.question.Ask.TheVariants as asks
+use Rattle.bx_editor.specs.Asking.{without_ask}
 use Rattle.bx_editor.specs.declared.seek.Seek.{Seek}
 use Rattle.bx_editor.specs.declared.seek.Seek.TheVariants.{Off, Begun, Typed}
 use Rattle.bx_editor.specs.Editor.{Editor, after_save, cleared, with_notice, with_size, with_typing}
 use Rattle.bx_editor.specs.Effects.{Before, before}
 use Rattle.bx_editor.specs.Keys.{after_any, after_key, after_user, is_told_key}
+use Rattle.bx_editor.specs.Prompts.{HasOnePrompt}
 use Rattle.bx_editor.specs.Search.{without_search}
 use Rattle.bx_editor.specs.Selecting.{aged}
 use Rattle.bx_runs.specs.declared.typing.Typing.TheVariants as typings
@@ -74,6 +78,9 @@ each-key d fault e P sized noted pasted other PageOn = other PageOn refl
 each-key d fault e P sized noted pasted other Select = other Select refl
 each-key d fault e P sized noted pasted other UndoRun = other UndoRun refl
 each-key d fault e P sized noted pasted other RedoRun = other RedoRun refl
+each-key d fault e P sized noted pasted other GoTo = other GoTo refl
+each-key d fault e P sized noted pasted other Name = other Name refl
+each-key d fault e P sized noted pasted other Tell = other Tell refl
 each-key d fault e P sized noted pasted other PasteStart = pasted.0
 each-key d fault e P sized noted pasted other PasteEnd = pasted.1
 
@@ -83,16 +90,29 @@ any-key d fault e =
     each-key d fault e (λ key new. is_told_key key ≡ false → new ≡ after_user d fault e key)
     (λ height width told. absurd (cc told)) (λ notice told. absurd (cc told)) (λ told. absurd (cc told), λ told. absurd (cc told)) (λ key small other. refl)
 
-off : (e : Editor) (fault : Option StoreFault) → e.seek ≡ Off → after_save e fault ≡ without_search (after_save e fault)
-off e None is = ap (λ s. record (after_save e None) { seek = s }) is
-off e (Some fault) is = ap (λ s. record (after_save e (Some fault)) { seek = s }) is
+-- ---- a Save
 
--- a Save ends a search, and leaves an editor without one as it is
-save-any : (d : Data) (fault : Option StoreFault) (was : Before) (seek : Seek) (e : Editor) → e.seek ≡ seek
-    → after_any d fault was seek e Save ≡ without_search (after_save e fault)
-save-any d fault was Off e is = off e fault is
-save-any d fault was Begun e is = refl
-save-any d fault was Typed e is = refl
+-- it ends a search and a question, and leaves an editor without both as it is
+saved : (e : Editor) (fault : Option StoreFault) (ask : Ask) (seek : Seek) → ask ≡ asks.Off → seek ≡ Off
+    → after_save (record e { ask = ask; seek = seek }) fault ≡ without_ask (without_search (after_save e fault))
+saved e None ask seek unasked unsought = ap₂ (λ a s. after_save (record e { ask = a; seek = s }) None) unasked unsought
+saved e (Some fault) ask seek unasked unsought = ap₂ (λ a s. after_save (record e { ask = a; seek = s }) (Some fault)) unasked unsought
 
-pub save-ends : (d : Data) (fault : Option StoreFault) (e : Editor) → after_key d fault e Save ≡ behind (without_search (after_save (cleared e) fault))
-save-ends d fault e = ap behind (save-any d fault (before e) e.seek (cleared e) refl)
+-- in a search
+searched : (e : Editor) (fault : Option StoreFault) → e.ask ≡ asks.Off
+    → without_search (after_save e fault) ≡ without_ask (without_search (after_save e fault))
+searched e None unasked = ap (λ a. record (without_search (after_save e None)) { ask = a }) unasked
+searched e (Some fault) unasked = ap (λ a. record (without_search (after_save e (Some fault))) { ask = a }) unasked
+
+save-any : (d : Data) (fault : Option StoreFault) (was : Before) (ask : Ask) (seek : Seek) (e : Editor) → e.ask ≡ ask → e.seek ≡ seek → HasOnePrompt e
+    → after_any d fault was ask seek e Save ≡ without_ask (without_search (after_save e fault))
+save-any d fault was asks.Off Off e unasked unsought one = saved e fault e.ask e.seek unasked unsought
+save-any d fault was asks.Off Begun e unasked on one = searched e fault unasked
+save-any d fault was asks.Off Typed e unasked on one = searched e fault unasked
+save-any d fault was asks.Line seek e asked is one = saved e fault asks.Off e.seek refl (one (λ off. let both = sym asked ∙ off in cc both))
+save-any d fault was asks.Name seek e asked is one = saved e fault asks.Off e.seek refl (one (λ off. let both = sym asked ∙ off in cc both))
+save-any d fault was asks.Code seek e asked is one = saved e fault asks.Off e.seek refl (one (λ off. let both = sym asked ∙ off in cc both))
+
+pub save-ends : (d : Data) (fault : Option StoreFault) (e : Editor) → HasOnePrompt e
+    → after_key d fault e Save ≡ behind (without_ask (without_search (after_save (cleared e) fault)))
+save-ends d fault e one = ap behind (save-any d fault (before e) e.ask e.seek (cleared e) refl refl one)

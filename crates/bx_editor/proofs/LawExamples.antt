@@ -102,7 +102,7 @@ find_goes_to_five law =
     let five : matches_at 5 = (bounds, refl) in
     ⊎_elim (λ next. next.2.0 ∙ ap (place_at (rows tables at_the_first_c)) (at_five next.0 next.1.not_before (next.1.least 5 (omega arith) five) next.1.is_match))
     (λ round. ⊎_elim (λ first. absurd (first.0 5 (omega arith) five)) (λ none. absurd (none.0 5 (omega arith) five)) round)
-    (law tables at_the_first_c (record { text = (codes "abcabc", (refl, refl)); on = λ e. cc e; letters = λ e. cc e }))
+    (law tables at_the_first_c (record { text = (codes "abcabc", (refl, refl)); unasked = refl; on = λ e. cc e; letters = λ e. cc e }))
 
 -- after another Find the place is 5
 abbrev at_the_last_c : Editor
@@ -125,4 +125,4 @@ find_back_goes_to_two law =
     let two : matches_at 2 = (bounds, refl) in
     ⊎_elim (λ last. last.2.0 ∙ ap (place_at (rows tables at_the_last_c)) (at_two last.0 (last.1.greatest 2 (omega arith) two) last.1.before last.1.is_match))
     (λ round. ⊎_elim (λ first. absurd (first.0 2 (omega arith) two)) (λ none. absurd (none.0 2 (omega arith) two)) round)
-    (law tables at_the_last_c (record { text = (codes "abcabc", (refl, refl)); on = λ e. cc e; letters = λ e. cc e }))
+    (law tables at_the_last_c (record { text = (codes "abcabc", (refl, refl)); unasked = refl; on = λ e. cc e; letters = λ e. cc e }))

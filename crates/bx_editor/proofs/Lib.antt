@@ -10,6 +10,9 @@ pub mod StepOrder
 pub mod Parts
 pub mod Shown
 pub mod Narrow
+pub mod AnswersKept
+pub mod QuestionLeft
+pub mod ToldHere
 pub mod StatusRow
 pub mod TopOnce
 pub mod OnItsCell
@@ -17,6 +20,8 @@ pub mod Begin
 pub mod Queries
 pub mod Sought
 pub mod InSearch
+pub mod Questions
+pub mod OnePrompt
 pub mod Nearest
 pub mod TakenBack
 pub mod PutBack

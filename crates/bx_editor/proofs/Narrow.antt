@@ -1,10 +1,10 @@
 -- The characters of an answer: each is one column wide.
-use Rattle.std.proofs.Common.{◌≡◌, ◌∙◌, ◌++◌, ℕ, zero, suc, ◌+◌, ◌-◌, ◌<◌, ◌≤◌, ◌&&◌, ◌||◌, ◌==◌, Bool, true, false, nat_lt, nat_le, absurd, cc}
-use Rattle.std.proofs.Common.{List, [], ◌∷◌, All, IsUtf8, chars, length, encode_utf8, ap, arith, inl, inr, refl, subst, sym, is_some}
-use Rattle.std.specs.Prelude.{if◌then◌else◌}
+use Rattle.std.proofs.Common.{◌≡◌, ◌∙◌, ℕ, zero, suc, ◌+◌, ◌-◌, ◌<◌, ◌≤◌, ◌&&◌, ◌||◌, ◌==◌, Bool, true, false, nat_lt, nat_le}
+use Rattle.std.proofs.Common.{List, [], ◌∷◌, All, IsUtf8, chars, length, take, encode_utf8, ap, arith, inl, inr, refl, subst, sym}
 use Rattle.std.proofs.lemmas.Bool.Decides.{nat_tests, leb_tells}
 use Rattle.std.proofs.lemmas.Bool.{and_parts, cases_Bool, eqb-true, leb-true, or_cases}
-use Rattle.std.proofs.lemmas.List.Elements.{All-append, All-take}
+use Rattle.std.proofs.lemmas.List.Elements.{All-push, All-take}
+use Rattle.std.proofs.lemmas.Str.{encode_ascii}
 use Rattle.unicode_segmentation.proofs.Computing.{unicode_segmentation}
 use Rattle.unicode_width.proofs.Computing.{unicode_width}
 use Rattle.bx_terms.specs.Characters.{is_ascii_printable, is_within}
@@ -20,8 +20,7 @@ use Rattle.bx_document.specs.QueryRow.{IsNarrow}
 -- ---- from SPACE to TILDE
 
 encode_one : (c : ℕ) → c < 128 → encode_utf8 c ≡ c ∷ []
-unfolding encode
-encode_one c h = let t : nat_lt c 128 ≡ true = grind (arith, nat_tests) in rw t refl
+encode_one c h = encode_ascii c h
 
 narrow-ascii : (c : ℕ) → is_ascii_printable c ≡ true → IsNarrow c
 narrow-ascii c h =
@@ -33,7 +32,7 @@ narrow-ascii c h =
 
 -- ---- digits of two other scripts
 
-is_narrow : ℕ → Bool
+abbrev is_narrow : ℕ → Bool
 is_narrow c = is_one_glyph (encode_utf8 c) && run_width (encode_utf8 c) == 1
 
 -- `n` numbers from `start` on pass
@@ -42,6 +41,7 @@ all_from start zero = true
 all_from start (suc n) = is_narrow start && all_from (suc start) n
 
 among : (start n c : ℕ) → all_from start n ≡ true → start ≤ c → c < start + n → is_narrow c ≡ true
+unfolding all_from
 among start zero c h low high = absurd (omega (arith, low, high))
 among start (suc n) c h low high =
     let both = and_parts (is_narrow start) (all_from (suc start) n) h in
@@ -56,11 +56,11 @@ narrow-by c h =
     record { one = both.0; columns = eqb-true (run_width (encode_utf8 c)) 1 both.1 }
 
 arabic : all_from 0x660 10 ≡ true
-unfolding encode unicode_segmentation unicode_width
+unfolding all_from unicode_segmentation unicode_width
 arabic = refl
 
 extended : all_from 0x6F0 10 ≡ true
-unfolding encode unicode_segmentation unicode_width
+unfolding all_from unicode_segmentation unicode_width
 extended = refl
 
 -- ---- the letters of an answer
@@ -74,15 +74,15 @@ narrow-divider c h = elim (or_cases (c == 0x3A) (c == 0x2C) h) as (λ _. IsNarro
 other-digit : (c : ℕ) → is_within 0x30 0x39 c ≡ false → is_within 0x660 0x669 c ≡ false → is_line_letter c ≡ true → IsNarrow c
 other-digit c ascii arabic-indic h = elim (cases_Bool (is_within 0x6F0 0x6F9 c)) as (λ _. IsNarrow c) [
   | inl t ↦ (let range = and_parts (nat_le 0x6F0 c) (nat_le c 0x6F9) t in
-    narrow-by c (among 0x6F0 10 c extended (leb-true 0x6F0 c range.0) (omega (arith, leb-true c 0x6F9 range.1))))
+      narrow-by c (among 0x6F0 10 c extended (leb-true 0x6F0 c range.0) (omega (arith, leb-true c 0x6F9 range.1))))
   | inr f ↦ (let none : is_digit c ≡ false = rw (ascii, arabic-indic, f) refl in
-    narrow-divider c (sym (ap (λ b. b || is_divider c) none) ∙ h))
+      narrow-divider c (sym (ap (λ b. b || is_divider c) none) ∙ h))
 ]
 
 not-ascii : (c : ℕ) → is_within 0x30 0x39 c ≡ false → is_line_letter c ≡ true → IsNarrow c
 not-ascii c ascii h = elim (cases_Bool (is_within 0x660 0x669 c)) as (λ _. IsNarrow c) [
   | inl t ↦ (let range = and_parts (nat_le 0x660 c) (nat_le c 0x669) t in
-    narrow-by c (among 0x660 10 c arabic (leb-true 0x660 c range.0) (omega (arith, leb-true c 0x669 range.1))))
+      narrow-by c (among 0x660 10 c arabic (leb-true 0x660 c range.0) (omega (arith, leb-true c 0x669 range.1))))
   | inr f ↦ other-digit c ascii f h
 ]
 
@@ -100,7 +100,7 @@ narrow-code c h = narrow-ascii c (grind (arith, nat_tests, h))
 pub narrow-longer : (limit : ℕ) (answer : List ℕ) (c : ℕ) → IsUtf8 answer → IsUtf8 (encode_utf8 c) → All IsNarrow (chars answer) → IsNarrow c
     → All IsNarrow (chars (lengthened limit answer c))
 narrow-longer limit answer c u v all one = elim (cases_Bool (nat_lt (length (chars answer)) limit)) as (λ _. All IsNarrow (chars (lengthened limit answer c))) [
-  | inl t ↦ rw t (subst (All IsNarrow) (sym (one_more answer c u v)) (All-append IsNarrow (chars answer) (c ∷ []) all (one, tt)))
+  | inl t ↦ rw t (subst (All IsNarrow) (sym (one_more answer c u v)) (All-push IsNarrow (chars answer) c all one))
   | inr f ↦ rw f all
 ]
 

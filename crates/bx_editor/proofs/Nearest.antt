@@ -2,6 +2,8 @@
 use Rattle.std.proofs.Common.{◌≡◌, ◌⊎◌, inl, inr, ℕ, length, Option, Some, None, refl, ap}
 use Rattle.std.specs.Prelude.{MatchOption, unwrap_or}
 use Rattle.bx_ucd.specs.Data.{Data}
+use Rattle.bx_asking.specs.declared.question.Ask.{Ask}
+use Rattle.bx_asking.specs.declared.question.Ask.TheVariants as asks
 use Rattle.bx_find.specs.Laws.{IsFirst, IsLast}
 use Rattle.bx_find.specs.Matches.{first_from, last_before}
 use Rattle.bx_find.proofs.Nearest.{first_is, last_is}
@@ -50,24 +52,30 @@ previous-of d e l None (Some at) none last is = inr (inl (none, (at, last, (ap (
 previous-of d e l None None none nowhere is = inr (inr (nowhere, (ap (λ m. unwrap_or m.place e.place) is, ap (λ m. m.message) is)))
 
 -- whichever state the search is in
-on-find : (d : Data) (e : Editor) (was : Before) (seek : Seek) (P : Editor → Type 0) → (seek ≡ Off → ⊥) → P (after_find d (cleared e))
-    → P (after_any d None was seek (cleared e) Find)
-on-find d e was Off P on h = absurd (on refl)
-on-find d e was Begun P on h = h
-on-find d e was Typed P on h = h
+on-find : (d : Data) (e : Editor) (was : Before) (ask : Ask) (seek : Seek) (P : Editor → Type 0) → ask ≡ asks.Off → (seek ≡ Off → ⊥)
+    → P (after_find d (cleared e)) → P (after_any d None was ask seek (cleared e) Find)
+on-find d e was asks.Off Off P unasked on h = absurd (on refl)
+on-find d e was asks.Off Begun P unasked on h = h
+on-find d e was asks.Off Typed P unasked on h = h
+on-find d e was asks.Line seek P unasked on h = absurd (cc unasked)
+on-find d e was asks.Name seek P unasked on h = absurd (cc unasked)
+on-find d e was asks.Code seek P unasked on h = absurd (cc unasked)
 
-on-find-back : (d : Data) (e : Editor) (was : Before) (seek : Seek) (P : Editor → Type 0) → (seek ≡ Off → ⊥) → P (after_find_back d (cleared e))
-    → P (after_any d None was seek (cleared e) FindBack)
-on-find-back d e was Off P on h = absurd (on refl)
-on-find-back d e was Begun P on h = h
-on-find-back d e was Typed P on h = h
+on-find-back : (d : Data) (e : Editor) (was : Before) (ask : Ask) (seek : Seek) (P : Editor → Type 0) → ask ≡ asks.Off → (seek ≡ Off → ⊥)
+    → P (after_find_back d (cleared e)) → P (after_any d None was ask seek (cleared e) FindBack)
+on-find-back d e was asks.Off Off P unasked on h = absurd (on refl)
+on-find-back d e was asks.Off Begun P unasked on h = h
+on-find-back d e was asks.Off Typed P unasked on h = h
+on-find-back d e was asks.Line seek P unasked on h = absurd (cc unasked)
+on-find-back d e was asks.Name seek P unasked on h = absurd (cc unasked)
+on-find-back d e was asks.Code seek P unasked on h = absurd (cc unasked)
 
 pub find-goes-to-next : FindGoesToNext
 find-goes-to-next d e seeks =
     let ls = sought d e in
     let text = e.content.text in
     let x = next_or_start d e in
-    on-find d e (before e) e.seek (GoesNext d e) seeks.on
+    on-find d e (before e) e.ask e.seek (GoesNext d e) seeks.unasked seeks.on
     (next-of d e (forward d (rows d e) text x ls) (first_from d ls text x) (first_from d ls text 0) (first_is d ls text x seeks.text)
     (first_is d ls text 0 seeks.text) (forward-some d (rows d e) text x ls seeks.letters))
 
@@ -76,6 +84,6 @@ find-back-goes-to-previous d e seeks =
     let ls = sought d e in
     let text = e.content.text in
     let n = length text in
-    on-find-back d e (before e) e.seek (GoesBack d e) seeks.on
+    on-find-back d e (before e) e.ask e.seek (GoesBack d e) seeks.unasked seeks.on
     (previous-of d e (backward d (rows d e) text e.place ls) (last_before d ls text e.place) (last_before d ls text n)
     (last_is d ls text e.place seeks.text) (last_is d ls text n seeks.text) (backward-some d (rows d e) text e.place ls seeks.letters))

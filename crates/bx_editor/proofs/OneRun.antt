@@ -1,5 +1,5 @@
 -- Characters that go on with each other are one run, which one UndoRun takes back.
-use Rattle.std.proofs.Common.{◌≡◌, ℕ, zero, suc, ◌+◌, ◌-◌, ◌≤◌, ◌<◌, Bool, true, false, List, [], ◌∷◌, ◌++◌, length, map, take, drop, refl, sym, ap, subst, ◌∙◌, arith, inl, inr, if◌then◌else◌, length-append}
+use Rattle.std.proofs.Common.{◌≡◌, ℕ, zero, suc, ◌+◌, ◌-◌, ◌≤◌, ◌<◌, Bool, true, false, List, [], ◌∷◌, ◌++◌, length, map, take, drop, refl, sym, ap, ap₂, subst, ◌∙◌, arith, inl, inr, if◌then◌else◌, length-append}
 use Rattle.std.specs.Prelude.{◌≢◌, ◌⊎◌, ◌==◌, ◌&&◌, not, nat_le, encode_utf8, encode_utf8_all, Some, None}
 use Rattle.std.specs.Fn.{iterate}
 use Rattle.std.proofs.lemmas.Bool.Decides.{nat_tests}
@@ -17,6 +17,7 @@ use Rattle.bx_runs.specs.declared.typing.Typing.{Typing}
 use Rattle.bx_runs.specs.declared.typing.Typing.TheVariants as typings
 use Rattle.bx_runs.proofs.RunLaws.{edit-is-of-its-run}
 use Rattle.bx_ucd.specs.Data.{Data}
+use Rattle.bx_asking.specs.declared.question.Ask.TheVariants as asks
 use Rattle.bx_editor.specs.declared.message.Message.TheVariants.{TextFull}
 use Rattle.bx_editor.specs.declared.seek.Seek.TheVariants as seeks
 use Rattle.bx_editor.specs.declared.soft.Soft.TheVariants as softness
@@ -124,9 +125,9 @@ shaped d typing e new kind room selected on =
       typing = if room then after_insertion typing kind else only_paste typing;
     }
 
-insert-is : (d : Data) (e : Editor) (c : ℕ) → e.seek ≡ seeks.Off
+insert-is : (d : Data) (e : Editor) (c : ℕ) → e.ask ≡ asks.Off → e.seek ≡ seeks.Off
     → after_key d None e (Insert c) ≡ as_left (Insert c) (after_character d e.typing (cleared e) c)
-insert-is d e c off = ap (λ s. as_left (Insert c) (after_any d None (before e) s (cleared e) (Insert c))) off
+insert-is d e c unasked off = ap₂ (λ a s. as_left (Insert c) (after_any d None (before e) a s (cleared e) (Insert c))) unasked off
 
 no-selection : (e : Editor) → e.soft ≡ softness.Off → is_selection e ≡ false
 no-selection e off = ap (λ s. is_soft s && not (is_empty (region e))) off
@@ -137,35 +138,37 @@ no-selection e off = ap (λ s. is_soft s && not (is_empty (region e))) off
 record Waits (first e : Editor) : Type 0 where
   pub nothing : Nothing first e
   pub typing : e.typing ≡ typings.Paste
+  pub ask : e.ask ≡ asks.Off
   pub seek : e.seek ≡ seeks.Off
 
 record Pastes (first e : Editor) : Type 0 where
   pub goes : IsOneRun first e
   pub typing : e.typing ≡ typings.Pasting
+  pub ask : e.ask ≡ asks.Off
   pub seek : e.seek ≡ seeks.Off
   pub soft : e.soft ≡ softness.Off
 
 abbrev InPaste : Editor → Editor → Type 0
 InPaste first e = Waits first e ⊎ Pastes first e
 
-wait-typed : (d : Data) (first e : Editor) (c : ℕ) (new : List ℕ) (kind : Kind) (room selected : Bool) → Nothing first e → e.seek ≡ seeks.Off
+wait-typed : (d : Data) (first e : Editor) (c : ℕ) (new : List ℕ) (kind : Kind) (room selected : Bool) → Nothing first e → e.ask ≡ asks.Off → e.seek ≡ seeks.Off
     → InPaste first (as_left (Insert c) (shaped d typings.Paste e new kind room selected false))
-wait-typed d first e c new kind false selected h off = inl (record { nothing = h; typing = refl; seek = off })
-wait-typed d first e c new kind true true h off =
+wait-typed d first e c new kind false selected h unasked off = inl (record { nothing = h; typing = refl; ask = unasked; seek = off })
+wait-typed d first e c new kind true true h unasked off =
     let goes = replacement-begins d first e new h in
-    inr (record { goes = record { more = goes.more; over = goes.over; start = goes.start }; typing = refl; seek = refl; soft = refl })
-wait-typed d first e c new kind true false h off =
+    inr (record { goes = record { more = goes.more; over = goes.over; start = goes.start }; typing = refl; ask = unasked; seek = refl; soft = refl })
+wait-typed d first e c new kind true false h unasked off =
     let goes = insertion-begins d first e new h in
-    inr (record { goes = record { more = goes.more; over = goes.over; start = goes.start }; typing = refl; seek = refl; soft = refl })
+    inr (record { goes = record { more = goes.more; over = goes.over; start = goes.start }; typing = refl; ask = unasked; seek = refl; soft = refl })
 
-paste-typed : (d : Data) (first e : Editor) (c : ℕ) (new : List ℕ) (kind : Kind) (room selected : Bool) → selected ≡ false → IsOneRun first e → e.seek ≡ seeks.Off
+paste-typed : (d : Data) (first e : Editor) (c : ℕ) (new : List ℕ) (kind : Kind) (room selected : Bool) → selected ≡ false → IsOneRun first e → e.ask ≡ asks.Off → e.seek ≡ seeks.Off
     → e.soft ≡ softness.Off → InPaste first (as_left (Insert c) (shaped d typings.Pasting e new kind room selected true))
-paste-typed d first e c new kind false selected none h off hard =
-    inr (record { goes = h; typing = refl; seek = off; soft = ap (λ s. (as_left (Insert c) (record e { soft = s })).soft) hard })
-paste-typed d first e c new kind true true none h off hard = absurd (cc none)
-paste-typed d first e c new kind true false none h off hard =
+paste-typed d first e c new kind false selected none h unasked off hard =
+    inr (record { goes = h; typing = refl; ask = unasked; seek = off; soft = ap (λ s. (as_left (Insert c) (record e { soft = s })).soft) hard })
+paste-typed d first e c new kind true true none h unasked off hard = absurd (cc none)
+paste-typed d first e c new kind true false none h unasked off hard =
     let goes = insertion-goes d first e new h in
-    inr (record { goes = record { more = goes.more; over = goes.over; start = goes.start }; typing = refl; seek = refl; soft = refl })
+    inr (record { goes = record { more = goes.more; over = goes.over; start = goes.start }; typing = refl; ask = unasked; seek = refl; soft = refl })
 
 -- whichever it is
 by-cases : (P : Editor → Type 0) (b : Bool) (p q : Editor) → P p → P q → P (if b then p else q)
@@ -184,18 +187,18 @@ paste-on : (d : Data) (first e : Editor) (c : ℕ) → InPaste first e → InPas
 paste-on d first e c (inl h) =
     let was = cleared e in
     let P = λ (new : Editor). InPaste first (as_left (Insert c) new) in
-    subst (InPaste first) (sym (insert-is d e c h.seek))
+    subst (InPaste first) (sym (insert-is d e c h.ask h.seek))
     (subst (λ t. P (after_character d t was c)) (sym h.typing)
     (each-character P d typings.Paste was c
-    (λ new kind. wait-typed d first was c new kind (has_room was new) (is_selection was) h.nothing h.seek)))
+    (λ new kind. wait-typed d first was c new kind (has_room was new) (is_selection was) h.nothing h.ask h.seek)))
 paste-on d first e c (inr h) =
     let was = cleared e in
     let P = λ (new : Editor). InPaste first (as_left (Insert c) new) in
     let goes : IsOneRun first was = record { more = h.goes.more; over = h.goes.over; start = h.goes.start } in
-    subst (InPaste first) (sym (insert-is d e c h.seek))
+    subst (InPaste first) (sym (insert-is d e c h.ask h.seek))
     (subst (λ t. P (after_character d t was c)) (sym h.typing)
     (each-character P d typings.Pasting was c
-    (λ new kind. paste-typed d first was c new kind (has_room was new) (is_selection was) (no-selection was h.soft) goes h.seek h.soft)))
+    (λ new kind. paste-typed d first was c new kind (has_room was new) (is_selection was) (no-selection was h.soft) goes h.ask h.seek h.soft)))
 
 paste-ends : (d : Data) (first e : Editor) (cs : List ℕ) → InPaste first e
     → let new = after_keys d None e (map Insert cs ++ PasteEnd ∷ []) in Nothing first new ⊎ IsOneRun first new
@@ -209,10 +212,10 @@ paste-back d first e (inl h) more = absurd (omega (arith, more, over-length firs
 paste-back d first e (inr h) more = goes-back d first e h
 
 pub paste-is-a-run : PasteIsARun
-paste-is-a-run d e cs off more =
+paste-is-a-run d e cs unasked off more =
     let begun = with_typing e typings.Paste in
     paste-back d e (pasted d e cs)
-    (paste-ends d e begun cs (inl (record { nothing = (refl, (refl, refl)); typing = refl; seek = off }))) more
+    (paste-ends d e begun cs (inl (record { nothing = (refl, (refl, refl)); typing = refl; ask = unasked; seek = off }))) more
 
 -- ---- a word and the blanks behind it
 
@@ -220,6 +223,7 @@ paste-is-a-run d e cs off more =
 record Types (first e : Editor) (typing : Typing) (left : ℕ) : Type 0 where
   pub goes : IsOneRun first e
   pub typing_is : e.typing ≡ typing
+  pub ask : e.ask ≡ asks.Off
   pub seek : e.seek ≡ seeks.Off
   pub soft : e.soft ≡ softness.Off
   pub room : length e.content.text + left ≤ largest_text
@@ -258,7 +262,7 @@ type-on d first e c typing kind left plain on is h =
     let was = cleared e in
     let new = encode_utf8 c in
     let there : after_key d None e (Insert c) ≡ as_left (Insert c) (shaped d typing was new kind true false true) =
-    insert-is d e c h.seek
+    insert-is d e c h.ask h.seek
     ∙ ap (as_left (Insert c)) (ap (λ t. after_character d t was c) h.typing_is ∙ character-is d typing was c kind plain is
     ∙ typed-is d typing was new kind (room-for was new left h.room) (no-selection was h.soft) on) in
     let goes = insertion-goes d first was new (record { more = h.goes.more; over = h.goes.over; start = h.goes.start }) in
@@ -266,14 +270,15 @@ type-on d first e c typing kind left plain on is h =
     (record {
       goes = record { more = goes.more; over = goes.over; start = goes.start };
       typing_is = refl;
+      ask = h.ask;
       seek = refl;
       soft = refl;
       room = omega (arith, h.room, spliced e.content.text e.place e.place new (omega arith));
     })
 
-first-typed : (d : Data) (first e : Editor) (c : ℕ) (left : ℕ) (selected : Bool) → Nothing first e → length e.content.text + (length (encode_utf8 c) + left) ≤ largest_text
+first-typed : (d : Data) (first e : Editor) (c : ℕ) (left : ℕ) (selected : Bool) → Nothing first e → e.ask ≡ asks.Off → length e.content.text + (length (encode_utf8 c) + left) ≤ largest_text
     → Types first (as_left (Insert c) (shaped d typings.Off e (encode_utf8 c) Letter true selected false)) typings.Word left
-first-typed d first e c left true h room =
+first-typed d first e c left true h unasked room =
     let new = encode_utf8 c in
     let goes = replacement-begins d first e new h in
     let without = with_removal d e (region e).0 (region e).1 false in
@@ -281,6 +286,7 @@ first-typed d first e c left true h room =
     record {
       goes = record { more = goes.more; over = goes.over; start = goes.start };
       typing_is = refl;
+      ask = unasked;
       seek = refl;
       soft = refl;
       room = omega (
@@ -290,27 +296,28 @@ first-typed d first e c left true h room =
         spliced without.content.text without.place without.place new (omega arith),
       );
     }
-first-typed d first e c left false h room =
+first-typed d first e c left false h unasked room =
     let new = encode_utf8 c in
     let goes = insertion-begins d first e new h in
     record {
       goes = record { more = goes.more; over = goes.over; start = goes.start };
       typing_is = refl;
+      ask = unasked;
       seek = refl;
       soft = refl;
       room = omega (arith, room, spliced e.content.text e.place e.place new (omega arith));
     }
 
-type-first : (d : Data) (e : Editor) (c : ℕ) (left : ℕ) → e.seek ≡ seeks.Off → e.typing ≡ typings.Off → kind_of (d.class c) ≡ Letter
+type-first : (d : Data) (e : Editor) (c : ℕ) (left : ℕ) → e.ask ≡ asks.Off → e.seek ≡ seeks.Off → e.typing ≡ typings.Off → kind_of (d.class c) ≡ Letter
     → length e.content.text + (length (encode_utf8 c) + left) ≤ largest_text → Types e (after_key d None e (Insert c)) typings.Word left
-type-first d e c left off none is room =
+type-first d e c left unasked off none is room =
     let was = cleared e in
     let new = encode_utf8 c in
     let there : after_key d None e (Insert c) ≡ as_left (Insert c) (shaped d typings.Off was new Letter true (is_selection was) false) =
-    insert-is d e c off
+    insert-is d e c unasked off
     ∙ ap (as_left (Insert c)) (ap (λ t. after_character d t was c) none ∙ character-is d typings.Off was c Letter refl is
     ∙ ap (λ r. shaped d typings.Off was new Letter r (is_selection was) false) (room-for was new left room)) in
-    subst (λ (x : Editor). Types e x typings.Word left) (sym there) (first-typed d e was c left (is_selection was) (refl, (refl, refl)) room)
+    subst (λ (x : Editor). Types e x typings.Word left) (sym there) (first-typed d e was c left (is_selection was) (refl, (refl, refl)) unasked room)
 
 with-size : (first e : Editor) (typing : Typing) (c : ℕ) (cs : List ℕ) → Types first e typing (length (encode_utf8_all (c ∷ cs)))
     → Types first e typing (length (encode_utf8 c) + length (encode_utf8_all cs))
@@ -341,19 +348,19 @@ letters-on d first e (c ∷ cs) blanks all behind h =
     (type-on d first e c typings.Word Letter (length (encode_utf8_all (cs ++ blanks))) refl refl (All-head Is c cs all)
     (with-size first e typings.Word c (cs ++ blanks) h))
 
-word-goes : (d : Data) (e : Editor) (letters blanks : List ℕ) → e.seek ≡ seeks.Off → e.typing ≡ typings.Off → letters ≢ [] → AreOfKind d Letter letters
+word-goes : (d : Data) (e : Editor) (letters blanks : List ℕ) → e.ask ≡ asks.Off → e.seek ≡ seeks.Off → e.typing ≡ typings.Off → letters ≢ [] → AreOfKind d Letter letters
     → AreOfKind d Blank blanks → length e.content.text + length (encode_utf8_all (letters ++ blanks)) ≤ largest_text
     → IsOneRun e (after_keys d None e (map Insert (letters ++ blanks)))
-word-goes d e [] blanks off none some all behind room = absurd (some refl)
-word-goes d e (c ∷ cs) blanks off none some all behind room =
+word-goes d e [] blanks unasked off none some all behind room = absurd (some refl)
+word-goes d e (c ∷ cs) blanks unasked off none some all behind room =
     let Is = λ (c : ℕ). kind_of (d.class c) ≡ Letter in
     let left = length (encode_utf8_all (cs ++ blanks)) in
     letters-on d e (after_key d None e (Insert c)) cs blanks (All-tail Is c cs all) behind
-    (type-first d e c left off none (All-head Is c cs all)
+    (type-first d e c left unasked off none (All-head Is c cs all)
     (omega (arith, room, length-append (encode_utf8 c) (encode_utf8_all (cs ++ blanks)))))
 
 pub word-is-a-run : WordIsARun
-word-is-a-run d e letters blanks off none word room =
+word-is-a-run d e letters blanks unasked off none word room =
     let new = after_keys d None e (map Insert (letters ++ blanks)) in
     goes-back d e new
-    (word-goes d e letters blanks off none word.some word.are_letters word.are_blanks room)
+    (word-goes d e letters blanks unasked off none word.some word.are_letters word.are_blanks room)

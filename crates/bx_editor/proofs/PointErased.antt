@@ -1,6 +1,6 @@
 -- ErasePoint leaves all before the point, and all behind the place.
 use Rattle.std.proofs.Common.{◌≡◌, ℕ, zero, suc, ◌-◌, ◌≤◌, Bool, true, false, List, [], ◌∷◌, ◌++◌, length, take, drop, slice_range, chars, IsUtf8}
-use Rattle.std.proofs.Common.{refl, sym, ap, ◌∙◌, arith, append-nil, length-append}
+use Rattle.std.proofs.Common.{refl, sym, ap, ap₂, ◌∙◌, arith, append-nil, length-append}
 use Rattle.std.specs.Prelude.{◌==◌, encode_utf8, encode_utf8_all, None, if◌then◌else◌}
 use Rattle.std.proofs.lemmas.Bool.{eqb-true}
 use Rattle.std.proofs.lemmas.List.{take-append-drop}
@@ -56,7 +56,7 @@ removed-by d typing e start true same =
 removed-by d typing e start false other = ap (λ xs. xs ++ drop e.place e.content.text) (append-nil (take start e.content.text))
 
 pub erase-point-leaves-beginning : ErasePointLeavesBeginning
-erase-point-leaves-beginning d e has off unselected place =
+erase-point-leaves-beginning d e has unasked off unselected place =
     let text = e.content.text in
     let was = cleared e in
     let some = side-some e.width has.columns in
@@ -69,7 +69,7 @@ erase-point-leaves-beginning d e has off unselected place =
     let size : length (slice_range text unit e.place) ≡ e.place - unit = length-slice_range text unit e.place here.0 in
     let few = point-few d (slice_range text unit e.place) utf8 in
     let pressed : (after_key d None e ErasePoint).content.text ≡ take (point_before d e) text ++ drop e.place text =
-    ap (λ s. (behind (after_any d None (before e) s was ErasePoint)).content.text) off
+    ap₂ (λ a s. (behind (after_any d None (before e) a s was ErasePoint)).content.text) unasked off
     ∙ ap (λ b. (if b then with_removal d was (region e).0 (region e).1 false else removed_on d e.typing Erase was (point_before d e) e.place).content.text)
     unselected
     ∙ removed-by d e.typing was (point_before d e) (point_before d e == e.place) refl in

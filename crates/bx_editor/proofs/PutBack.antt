@@ -10,8 +10,11 @@ use Rattle.bx_keys.specs.declared.key.Key.TheVariants.{Copy, Cut, Put}
 use Rattle.bx_text.specs.Edits.{fits, splice}
 use Rattle.bx_editor.specs.declared.message.Message.TheVariants.{Copied, LineCopied, NothingToCopy, NothingToPut, TextFull}
 use Rattle.bx_ucd.specs.Data.{Data}
+use Rattle.bx_asking.specs.declared.question.Ask.{Ask}
+use Rattle.bx_asking.specs.declared.question.Ask.TheVariants as asks
 use Rattle.bx_editor.specs.declared.seek.Seek.{Seek}
 use Rattle.bx_editor.specs.declared.seek.Seek.TheVariants.{Off, Begun, Typed}
+use Rattle.bx_editor.specs.Asking.{without_ask}
 use Rattle.bx_editor.specs.Editor.{Editor, cleared, place_after, with_insertion, with_removal}
 use Rattle.bx_editor.specs.declared.soft.Soft.TheVariants as softness
 use Rattle.bx_editor.specs.Effects.{Before, before}
@@ -97,7 +100,7 @@ is-there e (a, b) h = let less : a < b = h.some in grind (arith, nat_tests)
 -- ---- Copy and Put
 
 pub copy-puts-twice : CopyPutsTwice
-copy-puts-twice d e off is fit =
+copy-puts-twice d e unasked off is fit =
     let text = e.content.text in
     let a = (region e).0 in
     let b = (region e).1 in
@@ -129,10 +132,10 @@ copy-puts-twice d e off is fit =
       length-drop b text,
     ) in
     let copied : after_key d None e Copy ≡ held =
-    ap (λ s. left_behind (after_any d None (before e) s was Copy)) off
+    ap₂ (λ a s. left_behind (after_any d None (before e) a s was Copy)) unasked off
     ∙ ap (λ x. left_behind (if x then (if is_empty (line d e) then none else one) else copy)) (is-there e (region e) is) in
     let pressed : after_keys d None e (Copy ∷ Put ∷ []) ≡ left_behind (after_put d (cleared held)) =
-    ap (λ new. after_key d None new Put) copied ∙ ap (λ s. left_behind (after_any d None (before held) s (cleared held) Put)) off in
+    ap (λ new. after_key d None new Put) copied ∙ ap₂ (λ a s. left_behind (after_any d None (before held) a s (cleared held) Put)) unasked off in
     let room = has-room text e.place r (omega (arith, size, fit)) in
     let done = put-has d (cleared held) (twice e (region e)) (e.place + length r) refl (omega (arith, long, is.some)) room put refl in
     subst (HasPut d e (twice e (region e)) (e.place + length r)) (sym pressed)
@@ -140,12 +143,18 @@ copy-puts-twice d e off is fit =
 
 -- ---- Cut and Put
 
--- a Cut that removes something ends a search
-cut-any : (d : Data) (was : Before) (seek : Seek) (e cut : Editor) → after_cut d e ≡ cut → cut ≡ without_search cut
-    → after_any d None was seek e Cut ≡ cut
-cut-any d was Off e cut is over = is
-cut-any d was Begun e cut is over = ap without_search is ∙ sym over
-cut-any d was Typed e cut is over = ap without_search is ∙ sym over
+-- a Cut that removes something ends a search and a question
+cut-any : (d : Data) (was : Before) (ask : Ask) (seek : Seek) (e cut : Editor) → e.ask ≡ ask
+    → ((a : Ask) → after_cut d (record e { ask = a }) ≡ record cut { ask = a }) → cut ≡ without_search cut
+    → after_any d None was ask seek e Cut ≡ without_ask cut
+cut-any d was asks.Off Off e cut unasked is over = is e.ask ∙ ap (λ a. record cut { ask = a }) unasked
+cut-any d was asks.Off Begun e cut unasked is over =
+    ap without_search (is e.ask) ∙ ap (λ a. record cut { ask = a; seek = Off }) unasked ∙ ap without_ask (sym over)
+cut-any d was asks.Off Typed e cut unasked is over =
+    ap without_search (is e.ask) ∙ ap (λ a. record cut { ask = a; seek = Off }) unasked ∙ ap without_ask (sym over)
+cut-any d was asks.Line seek e cut asked is over = is asks.Off
+cut-any d was asks.Name seek e cut asked is over = is asks.Off
+cut-any d was asks.Code seek e cut asked is over = is asks.Off
 
 pub put-restores-cut : PutRestoresCut
 put-restores-cut d e is short there =
@@ -157,13 +166,14 @@ put-restores-cut d e is short there =
     let after = place_after d was (splice text a b []) a in
     let without = with_removal d was a b false in
     let taken-out : Editor = record without { held = r } in
-    let cut = left_behind taken-out in
+    let cut = left_behind (without_ask taken-out) in
     let order : a ≤ b = omega (arith, is.some) in
     let long : length r ≡ b - a = part-length text a b order is.inside in
     let same : after_key d None e Cut ≡ cut =
     ap left_behind
-    (cut-any d (before e) e.seek was taken-out
-    (ap (λ x. if x then after_copy d was else record without { held = r }) (is-there e (taken d e) is)) refl) in
+    (cut-any d (before e) e.ask e.seek was taken-out refl
+    (λ ask. (let asked : Editor = record was { ask = ask } in
+    ap (λ x. if x then after_copy d asked else record (with_removal d asked a b false) { held = r }) (is-there e (taken d e) is))) refl) in
     let at : after ≡ a = sym (ap (λ (c : Editor). c.place) same) ∙ there in
     let size : length (splice text a b []) + length r ≡ length text =
     omega (

@@ -42,7 +42,7 @@ copy_puts_two_letters law =
     let less : 0 < 2 = omega arith in
     let within : 2 ≤ 3 = omega arith in
     let fit : 5 ≤ largest_text = omega arith in
-    let done = law tables two_of_three refl (record { some = less; inside = within }) fit in
+    let done = law tables two_of_three refl refl (record { some = less; inside = within }) fit in
     same_now (after two_of_three (Copy ∷ Put ∷ [])) (codes "ababc") 4 None done.text_is done.place_is done.mark_is
 
 -- the mark at 2, the cursor at 0: the cursor is behind the first one
@@ -55,7 +55,7 @@ copy_puts_before law =
     let less : 0 < 2 = omega arith in
     let within : 2 ≤ 3 = omega arith in
     let fit : 5 ≤ largest_text = omega arith in
-    let done = law tables from_behind refl (record { some = less; inside = within }) fit in
+    let done = law tables from_behind refl refl (record { some = less; inside = within }) fit in
     same_now (after from_behind (Copy ∷ Put ∷ [])) (codes "ababc") 2 None done.text_is done.place_is done.mark_is
 
 -- the text is as before, and the cursor at the end of what was cut, whichever end it was at

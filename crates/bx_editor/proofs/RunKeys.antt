@@ -13,9 +13,12 @@ use Rattle.bx_runs.specs.Runs.{run_end, run_start}
 use Rattle.bx_runs.proofs.RunLaws.{redo-ends, undo-ends}
 use Rattle.bx_runs.proofs.Steps.{end-bound, end-last, start-bound}
 use Rattle.bx_ucd.specs.Data.{Data}
+use Rattle.bx_asking.specs.declared.question.Ask.{Ask}
+use Rattle.bx_asking.specs.declared.question.Ask.TheVariants as asks
 use Rattle.bx_editor.specs.declared.seek.Seek.{Seek}
 use Rattle.bx_editor.specs.declared.seek.Seek.TheVariants as seeks
 use Rattle.bx_editor.specs.declared.soft.Soft.TheVariants as softness
+use Rattle.bx_editor.specs.Asking.{without_ask}
 use Rattle.bx_editor.specs.Editor.{Editor, after_step, cleared, with_step}
 use Rattle.bx_editor.specs.Effects.{Before, before}
 use Rattle.bx_editor.specs.Keys.{after_any, after_key, after_keys, as_left}
@@ -27,26 +30,32 @@ use Rattle.bx_editor.proofs.ManySteps.{again, back, place-again, place-back, red
 -- an editor once a key has led to another text of its history
 abbrev pub stepped_to : Editor → Edited → ℕ → Editor
 stepped_to e content place =
-    record (cleared e) { content = content; place = place; mark = None; soft = softness.Off; seek = seeks.Off; changed = true; goal = None }
+    record (cleared e) { content = content; place = place; mark = None; soft = softness.Off; seek = seeks.Off; ask = asks.Off; changed = true; goal = None }
 
 abbrev pub run_to : Editor → Edited → ℕ → Bool → Editor
 run_to e content place changed = record (stepped_to e content place) { changed = changed }
 
--- ---- Undo and Redo, one by one
+-- ---- Undo and Redo, one by one; each ends a search and a question
 
-undo-first : (d : Data) (was : Before) (seek : Seek) (e : Editor) (text : List ℕ) (edit : Edit) (past future : List Edit)
-    → as_left Undo (after_any d None was seek (record (cleared e) { content = version text (edit ∷ past) future }) Undo)
+undo-first : (d : Data) (was : Before) (ask : Ask) (seek : Seek) (e : Editor) (text : List ℕ) (edit : Edit) (past future : List Edit) → e.ask ≡ ask
+    → as_left Undo (after_any d None was ask seek (record (cleared e) { content = version text (edit ∷ past) future }) Undo)
     ≡ stepped_to e (version edit.before.text past (edit ∷ future)) edit.before.place
-undo-first d was seeks.Off e text edit past future = refl
-undo-first d was seeks.Begun e text edit past future = refl
-undo-first d was seeks.Typed e text edit past future = refl
+undo-first d was asks.Off seeks.Off e text edit past future is = ap (λ a. record (stepped_to e (version edit.before.text past (edit ∷ future)) edit.before.place) { ask = a }) is
+undo-first d was asks.Off seeks.Begun e text edit past future is = ap (λ a. record (stepped_to e (version edit.before.text past (edit ∷ future)) edit.before.place) { ask = a }) is
+undo-first d was asks.Off seeks.Typed e text edit past future is = ap (λ a. record (stepped_to e (version edit.before.text past (edit ∷ future)) edit.before.place) { ask = a }) is
+undo-first d was asks.Line seek e text edit past future is = refl
+undo-first d was asks.Name seek e text edit past future is = refl
+undo-first d was asks.Code seek e text edit past future is = refl
 
-redo-first : (d : Data) (was : Before) (seek : Seek) (e : Editor) (text : List ℕ) (edit : Edit) (past future : List Edit)
-    → as_left Redo (after_any d None was seek (record (cleared e) { content = version text past (edit ∷ future) }) Redo)
+redo-first : (d : Data) (was : Before) (ask : Ask) (seek : Seek) (e : Editor) (text : List ℕ) (edit : Edit) (past future : List Edit) → e.ask ≡ ask
+    → as_left Redo (after_any d None was ask seek (record (cleared e) { content = version text past (edit ∷ future) }) Redo)
     ≡ stepped_to e (version edit.after.text (edit ∷ past) future) edit.after.place
-redo-first d was seeks.Off e text edit past future = refl
-redo-first d was seeks.Begun e text edit past future = refl
-redo-first d was seeks.Typed e text edit past future = refl
+redo-first d was asks.Off seeks.Off e text edit past future is = ap (λ a. record (stepped_to e (version edit.after.text (edit ∷ past) future) edit.after.place) { ask = a }) is
+redo-first d was asks.Off seeks.Begun e text edit past future is = ap (λ a. record (stepped_to e (version edit.after.text (edit ∷ past) future) edit.after.place) { ask = a }) is
+redo-first d was asks.Off seeks.Typed e text edit past future is = ap (λ a. record (stepped_to e (version edit.after.text (edit ∷ past) future) edit.after.place) { ask = a }) is
+redo-first d was asks.Line seek e text edit past future is = refl
+redo-first d was asks.Name seek e text edit past future is = refl
+redo-first d was asks.Code seek e text edit past future is = refl
 
 after-undos : (d : Data) (e : Editor) (n : ℕ) (text : List ℕ) (past future : List Edit) (place : ℕ) → n ≤ length past
     → let at = iterate back n (version text past future, place) in
@@ -68,29 +77,41 @@ all-undos : (d : Data) (e : Editor) (n : ℕ) (text : List ℕ) (edit : Edit) (p
     → let at = iterate back (suc n) (version text (edit ∷ past) future, e.place) in
     after_keys d None (record e { content = version text (edit ∷ past) future }) (replicate (suc n) Undo) ≡ stepped_to e at.0 at.1
 all-undos d e n text edit past future few =
-    ap (λ new. after_keys d None new (replicate n Undo)) (undo-first d (before e) e.seek e text edit past future)
+    ap (λ new. after_keys d None new (replicate n Undo)) (undo-first d (before e) e.ask e.seek e text edit past future refl)
     ∙ after-undos d e n edit.before.text past (edit ∷ future) edit.before.place few
 
 all-redos : (d : Data) (e : Editor) (n : ℕ) (text : List ℕ) (edit : Edit) (past future : List Edit) → n ≤ length future
     → let at = iterate again (suc n) (version text past (edit ∷ future), e.place) in
     after_keys d None (record e { content = version text past (edit ∷ future) }) (replicate (suc n) Redo) ≡ stepped_to e at.0 at.1
 all-redos d e n text edit past future few =
-    ap (λ new. after_keys d None new (replicate n Redo)) (redo-first d (before e) e.seek e text edit past future)
+    ap (λ new. after_keys d None new (replicate n Redo)) (redo-first d (before e) e.ask e.seek e text edit past future refl)
     ∙ after-redos d e n edit.after.text (edit ∷ past) future edit.after.place few
 
 -- ---- a run at once
 
-undo-found : (d : Data) (was : Before) (seek : Seek) (e : Editor) (content : Edited) (place : ℕ) (changed : Bool)
-    → after_run_step steps.Undo e ≡ with_step e content place changed → after_any d None was seek e UndoRun ≡ with_step e content place changed
-undo-found d was seeks.Off e content place changed h = h
-undo-found d was seeks.Begun e content place changed h = ap without_search h
-undo-found d was seeks.Typed e content place changed h = ap without_search h
+undo-found : (d : Data) (was : Before) (ask : Ask) (seek : Seek) (e : Editor) (content : Edited) (place : ℕ) (changed : Bool) → e.ask ≡ ask
+    → ((a : Ask) → after_run_step steps.Undo (record e { ask = a }) ≡ with_step (record e { ask = a }) content place changed)
+    → after_any d None was ask seek e UndoRun ≡ without_ask (with_step e content place changed)
+undo-found d was asks.Off seeks.Off e content place changed unasked h = h e.ask ∙ ap (λ a. record (with_step e content place changed) { ask = a }) unasked
+undo-found d was asks.Off seeks.Begun e content place changed unasked h =
+    ap without_search (h e.ask) ∙ ap (λ a. record (with_step e content place changed) { ask = a }) unasked
+undo-found d was asks.Off seeks.Typed e content place changed unasked h =
+    ap without_search (h e.ask) ∙ ap (λ a. record (with_step e content place changed) { ask = a }) unasked
+undo-found d was asks.Line seek e content place changed asked h = h asks.Off
+undo-found d was asks.Name seek e content place changed asked h = h asks.Off
+undo-found d was asks.Code seek e content place changed asked h = h asks.Off
 
-redo-found : (d : Data) (was : Before) (seek : Seek) (e : Editor) (content : Edited) (place : ℕ) (changed : Bool)
-    → after_run_step steps.Redo e ≡ with_step e content place changed → after_any d None was seek e RedoRun ≡ with_step e content place changed
-redo-found d was seeks.Off e content place changed h = h
-redo-found d was seeks.Begun e content place changed h = ap without_search h
-redo-found d was seeks.Typed e content place changed h = ap without_search h
+redo-found : (d : Data) (was : Before) (ask : Ask) (seek : Seek) (e : Editor) (content : Edited) (place : ℕ) (changed : Bool) → e.ask ≡ ask
+    → ((a : Ask) → after_run_step steps.Redo (record e { ask = a }) ≡ with_step (record e { ask = a }) content place changed)
+    → after_any d None was ask seek e RedoRun ≡ without_ask (with_step e content place changed)
+redo-found d was asks.Off seeks.Off e content place changed unasked h = h e.ask ∙ ap (λ a. record (with_step e content place changed) { ask = a }) unasked
+redo-found d was asks.Off seeks.Begun e content place changed unasked h =
+    ap without_search (h e.ask) ∙ ap (λ a. record (with_step e content place changed) { ask = a }) unasked
+redo-found d was asks.Off seeks.Typed e content place changed unasked h =
+    ap without_search (h e.ask) ∙ ap (λ a. record (with_step e content place changed) { ask = a }) unasked
+redo-found d was asks.Line seek e content place changed asked h = h asks.Off
+redo-found d was asks.Name seek e content place changed asked h = h asks.Off
+redo-found d was asks.Code seek e content place changed asked h = h asks.Off
 
 pub undo-run : (d : Data) (e : Editor) (n : ℕ) (text : List ℕ) (edit : Edit) (past future : List Edit)
     → let t : Edited = version text (edit ∷ past) future in let now : Editor = record e { content = t } in run_length steps.Undo now ≡ suc n
@@ -103,9 +124,10 @@ undo-run d e n text edit past future long =
     let changed = is_changed_at (run_goal steps.Undo was) e.stored in
     let one : next_changes steps.Undo (run_length steps.Undo was) t ≡ Some whole = ap (λ k. next_undos k t) long in
     let place = place-back n edit.before.text past (edit ∷ future) (change_back edit) in
-    let stepped : after_run_step steps.Undo was ≡ with_step was (undone_times (suc n) t) ((iterate back (suc n) (t, e.place)).1) changed =
-    ap (by_run steps.Undo was) one ∙ ap₂ (λ k p. with_step was (undone_times k t) p changed) long place in
-    ap (as_left UndoRun) (undo-found d (before e) e.seek was (undone_times (suc n) t) ((iterate back (suc n) (t, e.place)).1) changed stepped)
+    let stepped : (a : Ask)
+    → after_run_step steps.Undo (record was { ask = a }) ≡ with_step (record was { ask = a }) (undone_times (suc n) t) ((iterate back (suc n) (t, e.place)).1) changed =
+    λ a. ap (by_run steps.Undo (record was { ask = a })) one ∙ ap₂ (λ k p. with_step (record was { ask = a }) (undone_times k t) p changed) long place in
+    ap (as_left UndoRun) (undo-found d (before e) e.ask e.seek was (undone_times (suc n) t) ((iterate back (suc n) (t, e.place)).1) changed refl stepped)
 
 pub redo-run : (d : Data) (e : Editor) (n : ℕ) (text : List ℕ) (edit : Edit) (past future : List Edit)
     → let t : Edited = version text past (edit ∷ future) in let now : Editor = record e { content = t } in run_length steps.Redo now ≡ suc n
@@ -118,9 +140,10 @@ redo-run d e n text edit past future long =
     let changed = is_changed_at (run_goal steps.Redo was) e.stored in
     let one : next_changes steps.Redo (run_length steps.Redo was) t ≡ Some whole = ap (λ k. next_redos k t) long in
     let place = place-again n edit.after.text (edit ∷ past) future (change_of edit) in
-    let stepped : after_run_step steps.Redo was ≡ with_step was (redone_times (suc n) t) ((iterate again (suc n) (t, e.place)).1) changed =
-    ap (by_run steps.Redo was) one ∙ ap₂ (λ k p. with_step was (redone_times k t) p changed) long place in
-    ap (as_left RedoRun) (redo-found d (before e) e.seek was (redone_times (suc n) t) ((iterate again (suc n) (t, e.place)).1) changed stepped)
+    let stepped : (a : Ask)
+    → after_run_step steps.Redo (record was { ask = a }) ≡ with_step (record was { ask = a }) (redone_times (suc n) t) ((iterate again (suc n) (t, e.place)).1) changed =
+    λ a. ap (by_run steps.Redo (record was { ask = a })) one ∙ ap₂ (λ k p. with_step (record was { ask = a }) (redone_times k t) p changed) long place in
+    ap (as_left RedoRun) (redo-found d (before e) e.ask e.seek was (redone_times (suc n) t) ((iterate again (suc n) (t, e.place)).1) changed refl stepped)
 
 -- ---- nothing to undo, or to redo
 
@@ -132,17 +155,25 @@ no-redos : (n : ℕ) (text : List ℕ) (past : List Edit) → next_redos n (vers
 no-redos zero text past = refl
 no-redos (suc n) text past = refl
 
-undo-either : (d : Data) (was : Before) (seek : Seek) (e : Editor) → after_run_step steps.Undo e ≡ after_step steps.Undo e
-    → after_any d None was seek e UndoRun ≡ after_any d None was seek e Undo
-undo-either d was seeks.Off e h = h
-undo-either d was seeks.Begun e h = ap without_search h
-undo-either d was seeks.Typed e h = ap without_search h
+undo-either : (d : Data) (was : Before) (ask : Ask) (seek : Seek) (e : Editor)
+    → ((a : Ask) → after_run_step steps.Undo (record e { ask = a }) ≡ after_step steps.Undo (record e { ask = a }))
+    → after_any d None was ask seek e UndoRun ≡ after_any d None was ask seek e Undo
+undo-either d was asks.Off seeks.Off e h = h e.ask
+undo-either d was asks.Off seeks.Begun e h = ap without_search (h e.ask)
+undo-either d was asks.Off seeks.Typed e h = ap without_search (h e.ask)
+undo-either d was asks.Line seek e h = h asks.Off
+undo-either d was asks.Name seek e h = h asks.Off
+undo-either d was asks.Code seek e h = h asks.Off
 
-redo-either : (d : Data) (was : Before) (seek : Seek) (e : Editor) → after_run_step steps.Redo e ≡ after_step steps.Redo e
-    → after_any d None was seek e RedoRun ≡ after_any d None was seek e Redo
-redo-either d was seeks.Off e h = h
-redo-either d was seeks.Begun e h = ap without_search h
-redo-either d was seeks.Typed e h = ap without_search h
+redo-either : (d : Data) (was : Before) (ask : Ask) (seek : Seek) (e : Editor)
+    → ((a : Ask) → after_run_step steps.Redo (record e { ask = a }) ≡ after_step steps.Redo (record e { ask = a }))
+    → after_any d None was ask seek e RedoRun ≡ after_any d None was ask seek e Redo
+redo-either d was asks.Off seeks.Off e h = h e.ask
+redo-either d was asks.Off seeks.Begun e h = ap without_search (h e.ask)
+redo-either d was asks.Off seeks.Typed e h = ap without_search (h e.ask)
+redo-either d was asks.Line seek e h = h asks.Off
+redo-either d was asks.Name seek e h = h asks.Off
+redo-either d was asks.Code seek e h = h asks.Off
 
 -- ---- how long a run is
 
@@ -169,7 +200,8 @@ undo-steps d e text [] future =
     let now : Editor = record e { content = version text [] future } in
     let was = cleared now in
     no-steps d now UndoRun Undo (undos now)
-    (ap (as_left Undo) (undo-either d (before e) e.seek was (ap (by_run steps.Undo was) (no-undos (run_length steps.Undo was) text future))))
+    (ap (as_left Undo) (undo-either d (before e) e.ask e.seek was
+    (λ a. ap (by_run steps.Undo (record was { ask = a })) (no-undos (run_length steps.Undo was) text future))))
 undo-steps d e text (edit ∷ past) future =
     let now : Editor = record e { content = version text (edit ∷ past) future } in
     let n = length past - run_start e.runs (suc (length past)) in
@@ -193,7 +225,8 @@ redo-steps d e text past [] =
     let now : Editor = record e { content = version text past [] } in
     let was = cleared now in
     no-steps d now RedoRun Redo (redos now)
-    (ap (as_left Redo) (redo-either d (before e) e.seek was (ap (by_run steps.Redo was) (no-redos (run_length steps.Redo was) text past))))
+    (ap (as_left Redo) (redo-either d (before e) e.ask e.seek was
+    (λ a. ap (by_run steps.Redo (record was { ask = a })) (no-redos (run_length steps.Redo was) text past))))
 redo-steps d e text past (edit ∷ future) =
     let now : Editor = record e { content = version text past (edit ∷ future) } in
     let last = length past + suc (length future) in

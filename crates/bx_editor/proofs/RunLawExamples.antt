@@ -215,7 +215,7 @@ pub pasted_text_is_taken_back : PasteIsARun → (after (start (codes "xy") 5 40)
 unfolding unicode_segmentation unicode_width digits
 pasted_text_is_taken_back law =
     let more : 0 < 3 = omega arith in
-    (law tables (after (start (codes "xy") 5 40) (Forward ∷ [])) (codes "b\nc") refl more).text_is
+    (law tables (after (start (codes "xy") 5 40) (Forward ∷ [])) (codes "b\nc") refl refl more).text_is
 
 pub a_pasted_over_selection_comes_back : PasteIsARun
     → let e = after (start (codes "abcd") 5 40) (Select ∷ Forward ∷ Select ∷ Forward ∷ PasteStart ∷ letters (codes "xy z") ++ PasteEnd ∷ UndoRun ∷ []) in
@@ -223,7 +223,7 @@ pub a_pasted_over_selection_comes_back : PasteIsARun
 unfolding unicode_segmentation unicode_width digits
 a_pasted_over_selection_comes_back law =
     let more : 0 < 5 = omega arith in
-    let back = law tables (after (start (codes "abcd") 5 40) (Select ∷ Forward ∷ Select ∷ Forward ∷ [])) (codes "xy z") refl more in
+    let back = law tables (after (start (codes "abcd") 5 40) (Select ∷ Forward ∷ Select ∷ Forward ∷ [])) (codes "xy z") refl refl more in
     (back.text_is, back.unmarked.place_is)
 
 pub a_word_and_its_blank_are_taken_back : WordIsARun → (after (start (codes "x") 5 40) (letters (codes "ab ") ++ UndoRun ∷ [])).content.text ≡ codes "x"
@@ -237,7 +237,7 @@ a_word_and_its_blank_are_taken_back law =
       are_letters = All-cons IsLetter 0x61 (0x62 ∷ []) refl (All-cons IsLetter 0x62 [] refl (All-nil IsLetter));
       are_blanks = All-cons IsBlank 0x20 [] refl (All-nil IsBlank);
     } in
-    (law tables (start (codes "x") 5 40) (codes "ab") (codes " ") refl refl word fit).text_is
+    (law tables (start (codes "x") 5 40) (codes "ab") (codes " ") refl refl refl word fit).text_is
 
 pub unchanged_at_the_saved_text : UnchangedIsStored → (after (start [] 5 40) (saved_in_the_middle ++ UndoRun ∷ UndoRun ∷ [])).content.text ≡ codes "ab"
 unfolding unicode_segmentation unicode_width digits

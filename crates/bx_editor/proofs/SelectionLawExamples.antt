@@ -176,7 +176,7 @@ unfolding unicode_segmentation unicode_width digits
 two_are_a_selection =
     let some : 1 < 3 = omega arith in
     let inside : 3 ≤ 4 = omega arith in
-    record { no_search = refl; soft = λ off. cc off; part = record { some = some; inside = inside } }
+    record { no_question = refl; no_search = refl; soft = λ off. cc off; part = record { some = some; inside = inside } }
 
 pub the_move_takes_it_off : MoveTakesSelectionOff → (after two_selected (Forward ∷ [])).mark ≡ None
 unfolding unicode_segmentation unicode_width digits

@@ -8,10 +8,11 @@ use Rattle.bx_keys.specs.declared.key.Key.TheVariants.{Insert, Erase, Delete, Ba
 use Rattle.bx_keys.specs.declared.key.Key.TheVariants.{Quit, Undo, Redo, Repaint, Direction, Size, Mark, Copy, Cut, Put}
 use Rattle.bx_keys.specs.declared.key.Key.TheVariants.{Find, FindBack, WordLeft, WordRight, TextStart, TextEnd, Help, Notice}
 use Rattle.bx_keys.specs.declared.key.Key.TheVariants.{EraseWord, DeleteWord, ErasePoint, NewLine, FindNext, Cancel, LineUp, LineDown, PageBack, PageOn}
-use Rattle.bx_keys.specs.declared.key.Key.TheVariants.{Select, UndoRun, RedoRun, PasteStart, PasteEnd}
+use Rattle.bx_keys.specs.declared.key.Key.TheVariants.{Select, UndoRun, RedoRun, GoTo, Name, Tell, PasteStart, PasteEnd}
 use Rattle.bx_store.specs.declared.store.StoreFault.{StoreFault}
 use Rattle.bx_text.specs.declared.change.Change.{Change}
 use Rattle.bx_text.specs.Edits.{Edit, Edited}
+use Rattle.bx_document.specs.Document.{wrapped_text}
 use Rattle.bx_document.specs.History.{next_changes, stepped_times}
 use Rattle.bx_document.specs.declared.history.HistoryStep.{HistoryStep}
 use Rattle.bx_document.specs.declared.history.HistoryStep.TheVariants as steps
@@ -22,18 +23,21 @@ use Rattle.bx_runs.specs.declared.typing.Kind.TheVariants as kinds
 use Rattle.bx_runs.specs.declared.typing.Removal.{Removal}
 use Rattle.bx_runs.specs.declared.typing.Typing.{Typing}
 use Rattle.bx_runs.proofs.Steps.{end-bound, end-last, end-same, start-bound}
-use Rattle.bx_text.specs.Edits.{splice}
+use Rattle.bx_text.specs.Edits.{inserted, splice}
 use Rattle.bx_ucd.specs.Data.{Data}
+use Rattle.bx_asking.specs.declared.question.Ask.{Ask}
+use Rattle.bx_asking.specs.declared.question.Ask.TheVariants as asks
 use Rattle.bx_editor.specs.declared.message.Message.TheVariants as messages
 use Rattle.bx_editor.specs.declared.seek.Seek.{Seek}
 use Rattle.bx_editor.specs.declared.seek.Seek.TheVariants as seeks
 use Rattle.bx_editor.specs.declared.soft.Soft.{Soft}
 use Rattle.bx_editor.specs.declared.soft.Soft.TheVariants as softness
-use Rattle.bx_editor.specs.Editor.{Editor, after_redo, after_quit, after_save, after_step, after_undo, at_start, cleared, with_insertion, with_removal}
+use Rattle.bx_editor.specs.Asking.{without_ask}
+use Rattle.bx_editor.specs.Editor.{Editor, after_redo, after_quit, after_save, after_step, after_undo, at_start, cleared, place_after, stored_behind, with_insertion, with_removal}
 use Rattle.bx_editor.specs.Effects.{Effect, Types, BeginsLine, Puts, Removes, RemovesWord, Steps, StepsRun, Goes, GoesByRows, Marks, Selects}
-use Rattle.bx_editor.specs.Effects.{Unmarks, Copies, Cuts, Seeks, SeeksNext, Saves, Quits, Turns, Helps, Rests, Before, before, by}
+use Rattle.bx_editor.specs.Effects.{Unmarks, Copies, Cuts, Seeks, SeeksNext, Saves, Quits, Turns, Helps, AsksLine, AsksName, Tells, Rests, Before, before, by}
 use Rattle.bx_editor.specs.Erasing.{after_erasing, after_erasing_word, after_removing, removed_on}
-use Rattle.bx_editor.specs.Keys.{Answer, Letter, Shortens, GoesBack, Next, Previous, Stays, Ends, after_any, after_key, answer_of, answered, effect_of, is_save}
+use Rattle.bx_editor.specs.Keys.{Answer, Letter, Shortens, GoesBack, Next, Previous, Stays, Ends, after_any, after_asking, after_key, after_pressing, answer_of, answered, answered_question, effect_of, is_save}
 use Rattle.bx_editor.specs.Laws.{after_typing}
 use Rattle.bx_editor.specs.Putting.{after_character, after_new_line, after_put, has_room, is_paste, line_end, put_in, typed, with_selection_replaced, yielding}
 use Rattle.bx_editor.specs.Region.{after_copy, after_cut, bytes_in, is_at_mark, is_empty, line, region, taken}
@@ -42,8 +46,11 @@ use Rattle.bx_editor.specs.Runs.{by_run, is_changed_at, run_goal, run_length}
 use Rattle.bx_editor.specs.Search.{after_beginning, after_letter, is_no_letter, kept, lengthened, longest_query, next_or_start, search_from, sought, with_query, without_search}
 use Rattle.bx_editor.specs.Selecting.{is_selection, selecting, unselected}
 use Rattle.bx_editor.proofs.Chains.{Chain, opened-chain, redone-chain, replaced-chain, stored-chain, undone-chain}
+use Rattle.bx_editor.specs.Wrapping.{with_wrap}
 use Rattle.bx_editor.proofs.InSearch.{each-key}
 use Rattle.bx_editor.proofs.ManySteps.{past-again, past-back}
+use Rattle.bx_editor.proofs.Questions.{IsKept, letter-keeps, shorter-keeps}
+use Rattle.bx_editor.proofs.TwoEdits.{stored-of-two}
 
 -- the history is a chain, and what counts as unchanged is the text that was stored
 pub record Follows (stored : List ℕ) (t : Edited) (at : Option ℕ) (changed : Bool) : Type 0 where
@@ -216,6 +223,9 @@ effect s d fault was e Saves h = save s e fault h
 effect s d fault was e Quits h = quit s e was.again h
 effect s d fault was e Turns h = h
 effect s d fault was e Helps h = h
+effect s d fault was e AsksLine h = h
+effect s d fault was e AsksName h = h
+effect s d fault was e Tells h = h
 effect s d fault was e Rests h = h
 
 -- ---- each key
@@ -274,6 +284,9 @@ each d e PageOn = (refl, refl)
 each d e Select = (refl, refl)
 each d e UndoRun = (refl, refl)
 each d e RedoRun = (refl, refl)
+each d e GoTo = (refl, refl)
+each d e Name = (refl, refl)
+each d e Tell = (refl, refl)
 each d e PasteStart = (refl, refl)
 each d e PasteEnd = (refl, refl)
 each d e (Size height width) = (refl, refl)
@@ -284,6 +297,11 @@ no-save : (s : List ℕ) (e new : Editor) (fault : Option StoreFault) (saves : B
 no-save s e new fault true not-it h = absurd (cc not-it)
 no-save s e new fault false it h = h
 
+pressed : (s : List ℕ) (d : Data) (fault : Option StoreFault) (was : Before) (e : Editor) (key : Key) → Has s e
+    → Has (stored_by s e (is_save key) fault) (after_pressing d fault was e key)
+pressed s d fault was e key h =
+    subst (λ b. Has (stored_by s e b fault) (by d fault was e (effect_of d e key))) ((each d e key).0) (effect s d fault was e (effect_of d e key) h)
+
 answer : (s : List ℕ) (d : Data) (fault : Option StoreFault) (was : Before) (e : Editor) (key : Key) (one : Answer)
     → (is_end one || not (is_save key)) ≡ true → Has s e → Has (stored_by s e (is_save key) fault) (answered d fault was e key one)
 answer s d fault was e key (Letter c) it h =
@@ -293,21 +311,65 @@ answer s d fault was e key GoesBack it h = no-save s e (answered d fault was e k
 answer s d fault was e key Next it h = no-save s e (answered d fault was e key Next) fault (is_save key) it h
 answer s d fault was e key Previous it h = no-save s e (answered d fault was e key Previous) fault (is_save key) it h
 answer s d fault was e key Stays it h = no-save s e (answered d fault was e key Stays) fault (is_save key) it h
-answer s d fault was e key Ends it h =
-    subst (λ b. Has (stored_by s e b fault) (by d fault was e (effect_of d e key))) ((each d e key).0) (effect s d fault was e (effect_of d e key) h)
+answer s d fault was e key Ends it h = pressed s d fault was e key h
 
-any : (s : List ℕ) (d : Data) (fault : Option StoreFault) (was : Before) (seek : Seek) (e : Editor) (key : Key) → Has s e
-    → Has (stored_by s e (is_save key) fault) (after_any d fault was seek e key)
-any s d fault was seeks.Off e key h =
-    subst (λ b. Has (stored_by s e b fault) (by d fault was e (effect_of d e key))) ((each d e key).0) (effect s d fault was e (effect_of d e key) h)
-any s d fault was seeks.Begun e key h = answer s d fault was e key (answer_of key) ((each d e key).1) h
-any s d fault was seeks.Typed e key h = answer s d fault was e key (answer_of key) ((each d e key).1) h
+-- ---- in a question
+
+-- two edits of one run
+wrapping : (s : List ℕ) (d : Data) (e : Editor) (opener closer : List ℕ) → Has s e → Has s (with_wrap d e opener closer)
+wrapping s d e opener closer h =
+    let t = e.content in
+    let n = length t.past in
+    let start = (region e).0 in
+    let stop = (region e).1 in
+    let between = place_after d e (wrapped_text t.text start stop [] closer) (stop + length closer) in
+    let one : Edited = inserted t stop closer e.place between in
+    let two = (with_wrap d e opener closer).content in
+    let first = replaced-chain s t e.stored stop stop closer e.place between h.chain in
+    let second = replaced-chain s one (stored_behind n e.stored) start start opener between (with_wrap d e opener closer).place first in
+    record { chain = subst (Chain s two) (stored-of-two n e.stored) second; unchanged = λ is. absurd (cc is) }
+
+question : (s : List ℕ) (d : Data) → IsKept d (Has s)
+question s d = record {
+  inserted = λ e new h. insertion s d e new false h;
+  wrapped = wrapping s d;
+  told = λ e message h. h;
+  placed = λ e place h. h;
+  typed = λ e typing h. h;
+  asked = λ e ask answer h. h;
+}
+
+question-answer : (s : List ℕ) (d : Data) (fault : Option StoreFault) (was : Before) (e : Editor) (key : Key) (one : Answer)
+    → (is_end one || not (is_save key)) ≡ true → Has s e → Has (stored_by s e (is_save key) fault) (answered_question d fault was e key one)
+question-answer s d fault was e key (Letter c) it h =
+    no-save s e (answered_question d fault was e key (Letter c)) fault (is_save key) it
+    (letter-keeps d (Has s) (question s d) was.typing e.ask e c h)
+question-answer s d fault was e key Shortens it h =
+    no-save s e (answered_question d fault was e key Shortens) fault (is_save key) it (shorter-keeps d (Has s) (question s d) e.ask e h)
+question-answer s d fault was e key GoesBack it h = no-save s e (answered_question d fault was e key GoesBack) fault (is_save key) it h
+question-answer s d fault was e key Next it h = pressed s d fault was (without_ask e) key h
+question-answer s d fault was e key Previous it h = pressed s d fault was (without_ask e) key h
+question-answer s d fault was e key Stays it h = no-save s e (answered_question d fault was e key Stays) fault (is_save key) it h
+question-answer s d fault was e key Ends it h = pressed s d fault was (without_ask e) key h
+
+asking : (s : List ℕ) (d : Data) (fault : Option StoreFault) (was : Before) (e : Editor) (key : Key) → Has s e
+    → Has (stored_by s e (is_save key) fault) (after_asking d fault was e key)
+asking s d fault was e key h = question-answer s d fault was e key (answer_of key) ((each d e key).1) h
+
+any : (s : List ℕ) (d : Data) (fault : Option StoreFault) (was : Before) (ask : Ask) (seek : Seek) (e : Editor) (key : Key) → Has s e
+    → Has (stored_by s e (is_save key) fault) (after_any d fault was ask seek e key)
+any s d fault was asks.Off seeks.Off e key h = pressed s d fault was e key h
+any s d fault was asks.Off seeks.Begun e key h = answer s d fault was e key (answer_of key) ((each d e key).1) h
+any s d fault was asks.Off seeks.Typed e key h = answer s d fault was e key (answer_of key) ((each d e key).1) h
+any s d fault was asks.Line seek e key h = asking s d fault was e key h
+any s d fault was asks.Name seek e key h = asking s d fault was e key h
+any s d fault was asks.Code seek e key h = asking s d fault was e key h
 
 key-has : (s : List ℕ) (d : Data) (fault : Option StoreFault) (e : Editor) (key : Key) → Has s e
     → Has (stored_by s e (is_save key) fault) (after_key d fault e key)
 key-has s d fault e key h =
     each-key d fault e (λ k new. Has (stored_by s e (is_save k) fault) new) (λ height width. h) (λ notice. h) (h, h)
-    (λ k other. any s d fault (before e) e.seek (cleared e) k h) key
+    (λ k other. any s d fault (before e) e.ask e.seek (cleared e) k h) key
 
 all-typed : (s : List ℕ) (d : Data) (e : Editor) (typed : List (Key × Option StoreFault)) → Has s e
     → Has (stored_last d s e typed) (after_typing d e typed)

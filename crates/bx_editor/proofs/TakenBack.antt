@@ -18,15 +18,18 @@ use Rattle.bx_document.specs.declared.history.HistoryStep.TheVariants as steps
 use Rattle.bx_document.specs.History.{next_changes, stepped_times}
 use Rattle.bx_editor.specs.declared.message.Message.TheVariants.{TextFull, Unsaved, Copied, LineCopied, MarkOff, MarkSet, NothingToCopy, NothingToPut}
 use Rattle.bx_ucd.specs.Data.{Data}
+use Rattle.bx_asking.specs.declared.question.Ask.{Ask}
+use Rattle.bx_asking.specs.declared.question.Ask.TheVariants as asks
 use Rattle.bx_editor.specs.declared.seek.Seek.{Seek}
 use Rattle.bx_editor.specs.declared.seek.Seek.TheVariants.{Off, Begun, Typed}
 use Rattle.bx_editor.specs.declared.soft.Soft.{Soft}
 use Rattle.bx_editor.specs.declared.soft.Soft.TheVariants as softness
+use Rattle.bx_editor.specs.Asking.{without_ask}
 use Rattle.bx_editor.specs.Editor.{Editor, after_undo, after_redo, after_save, after_step, after_quit, at_start, cleared, with_insertion, with_removal}
 use Rattle.bx_editor.specs.Effects.{Effect, Types, BeginsLine, Puts, Removes, RemovesWord, Steps, StepsRun, Goes, GoesByRows, Marks, Selects}
-use Rattle.bx_editor.specs.Effects.{Unmarks, Copies, Cuts, Seeks, SeeksNext, Saves, Quits, Turns, Helps, Rests, Before, before, by}
+use Rattle.bx_editor.specs.Effects.{Unmarks, Copies, Cuts, Seeks, SeeksNext, Saves, Quits, Turns, Helps, AsksLine, AsksName, Tells, Rests, Before, before, by}
 use Rattle.bx_editor.specs.Erasing.{after_erasing, after_erasing_word, after_removing, or_selection, removed_on}
-use Rattle.bx_editor.specs.Keys.{Answer, Letter, Shortens, GoesBack, Next, Previous, Stays, Ends, after_any, after_key, after_keys, answer_of, answered, effect_of}
+use Rattle.bx_editor.specs.Keys.{Answer, Letter, Shortens, GoesBack, Next, Previous, Stays, Ends, after_any, after_asking, after_key, after_keys, answer_of, answered, effect_of}
 use Rattle.bx_editor.specs.Putting.{after_character, after_new_line, after_put, has_room, is_paste, line_end, put_in, typed, yielding}
 use Rattle.bx_editor.specs.Region.{after_copy, after_cut, after_mark, bytes_in, is_at_mark, is_empty, line, region, taken}
 use Rattle.bx_editor.specs.Runs.{by_run, run_length}
@@ -34,6 +37,7 @@ use Rattle.bx_editor.specs.Search.{after_beginning, after_letter, is_no_letter, 
 use Rattle.bx_editor.specs.Selecting.{is_selection, selecting, unselected}
 use Rattle.bx_editor.specs.Laws.{after_typing, IsBackAt, IsUnmarkedAt, mark_behind, UndoGivesBack, RedoMirrorsUndo}
 use Rattle.bx_editor.proofs.InSearch.{behind, each-key}
+use Rattle.bx_editor.proofs.Questions.{IsKept, question-keeps}
 
 -- ---- chains of versions
 
@@ -221,6 +225,9 @@ by_has d fault was first e Saves h = save_has first e fault h
 by_has d fault was first e Quits h = quit_has first e was.again h
 by_has d fault was first e Turns h = h
 by_has d fault was first e Helps h = h
+by_has d fault was first e AsksLine h = h
+by_has d fault was first e AsksName h = h
+by_has d fault was first e Tells h = h
 by_has d fault was first e Rests h = h
 
 letter_has : (first : List ℕ) (d : Data) (e : Editor) (c : ℕ) → HasVersions first e.content → HasVersions first (after_letter d e c).content
@@ -238,17 +245,37 @@ answered_has d fault was first e key Previous h = h
 answered_has d fault was first e key Stays h = h
 answered_has d fault was first e key Ends h = by_has d fault was first e (effect_of d e key) h
 
-any_has : (d : Data) (fault : Option StoreFault) (was : Before) (first : List ℕ) (seek : Seek) (e : Editor) (key : Key) → HasVersions first e.content
-    → HasVersions first (after_any d fault was seek e key).content
-any_has d fault was first Off e key h = by_has d fault was first e (effect_of d e key) h
-any_has d fault was first Begun e key h = answered_has d fault was first e key (answer_of key) h
-any_has d fault was first Typed e key h = answered_has d fault was first e key (answer_of key) h
+-- in a question
+question_has : (d : Data) (first : List ℕ) → IsKept d (λ e. HasVersions first e.content)
+question_has d first = record {
+  inserted = λ e new h. insertion_has first d e new false h;
+  wrapped = λ e opener closer h. record { past = (refl, (refl, h.past)); future = tt };
+  told = λ e message h. h;
+  placed = λ e place h. h;
+  typed = λ e typing h. h;
+  asked = λ e ask answer h. h;
+}
+
+asked_has : (d : Data) (fault : Option StoreFault) (was : Before) (first : List ℕ) (e : Editor) (key : Key) → HasVersions first e.content
+    → HasVersions first (after_asking d fault was e key).content
+asked_has d fault was first e key h =
+    question-keeps d (λ x. HasVersions first x.content) (question_has d first) fault was e key (answer_of key) h
+    (by_has d fault was first (without_ask e) (effect_of d (without_ask e) key) h)
+
+any_has : (d : Data) (fault : Option StoreFault) (was : Before) (first : List ℕ) (ask : Ask) (seek : Seek) (e : Editor) (key : Key) → HasVersions first e.content
+    → HasVersions first (after_any d fault was ask seek e key).content
+any_has d fault was first asks.Off Off e key h = by_has d fault was first e (effect_of d e key) h
+any_has d fault was first asks.Off Begun e key h = answered_has d fault was first e key (answer_of key) h
+any_has d fault was first asks.Off Typed e key h = answered_has d fault was first e key (answer_of key) h
+any_has d fault was first asks.Line seek e key h = asked_has d fault was first e key h
+any_has d fault was first asks.Name seek e key h = asked_has d fault was first e key h
+any_has d fault was first asks.Code seek e key h = asked_has d fault was first e key h
 
 key_has : (d : Data) (fault : Option StoreFault) (first : List ℕ) (e : Editor) (key : Key) → HasVersions first e.content
     → HasVersions first (after_key d fault e key).content
 key_has d fault first e key h =
     each-key d fault e (λ k new. HasVersions first new.content) (λ height width. h) (λ notice. h) (h, h)
-    (λ k other. any_has d fault (before e) first e.seek (cleared e) k h) key
+    (λ k other. any_has d fault (before e) first e.ask e.seek (cleared e) k h) key
 
 typing_has : (d : Data) (first : List ℕ) (e : Editor) (typed : List (Key × Option StoreFault)) → HasVersions first e.content
     → HasVersions first (after_typing d e typed).content
@@ -259,21 +286,31 @@ all_typed_has : (d : Data) (text : List ℕ) (height width : ℕ) (base : Base) 
     → HasVersions text (after_typing d (at_start text height width base) typed).content
 all_typed_has d text height width base typed = typing_has d text (at_start text height width base) typed (record { past = refl; future = tt })
 
--- ---- undo and redo, whether a search is on or not
+-- ---- undo and redo, whether a search or a question is on or not
 
-undone_is : (d : Data) (was : Before) (seek : Seek) (e : Editor) (text : List ℕ) (edit : Edit) (past future : List Edit)
-    → after_any d None was seek (record e { content = version text (edit ∷ past) future }) Undo
-    ≡ record e { content = version edit.before.text past (edit ∷ future); place = edit.before.place; mark = None; soft = softness.Off; seek = Off; changed = true }
-undone_is d was Off e text edit past future = refl
-undone_is d was Begun e text edit past future = refl
-undone_is d was Typed e text edit past future = refl
+-- an editor once a key has led to another text of its history
+abbrev stepped : Editor → Edited → ℕ → Editor
+stepped e content place = record e { content = content; place = place; mark = None; soft = softness.Off; seek = Off; ask = asks.Off; changed = true }
 
-redone_is : (d : Data) (was : Before) (seek : Seek) (e : Editor) (text : List ℕ) (edit : Edit) (past future : List Edit)
-    → after_any d None was seek (record e { content = version text past (edit ∷ future) }) Redo
-    ≡ record e { content = version edit.after.text (edit ∷ past) future; place = edit.after.place; mark = None; soft = softness.Off; seek = Off; changed = true }
-redone_is d was Off e text edit past future = refl
-redone_is d was Begun e text edit past future = refl
-redone_is d was Typed e text edit past future = refl
+undone_is : (d : Data) (was : Before) (ask : Ask) (seek : Seek) (e : Editor) (text : List ℕ) (edit : Edit) (past future : List Edit) → e.ask ≡ ask
+    → after_any d None was ask seek (record e { content = version text (edit ∷ past) future }) Undo
+    ≡ stepped e (version edit.before.text past (edit ∷ future)) edit.before.place
+undone_is d was asks.Off Off e text edit past future is = ap (λ a. record (stepped e (version edit.before.text past (edit ∷ future)) edit.before.place) { ask = a }) is
+undone_is d was asks.Off Begun e text edit past future is = ap (λ a. record (stepped e (version edit.before.text past (edit ∷ future)) edit.before.place) { ask = a }) is
+undone_is d was asks.Off Typed e text edit past future is = ap (λ a. record (stepped e (version edit.before.text past (edit ∷ future)) edit.before.place) { ask = a }) is
+undone_is d was asks.Line seek e text edit past future is = refl
+undone_is d was asks.Name seek e text edit past future is = refl
+undone_is d was asks.Code seek e text edit past future is = refl
+
+redone_is : (d : Data) (was : Before) (ask : Ask) (seek : Seek) (e : Editor) (text : List ℕ) (edit : Edit) (past future : List Edit) → e.ask ≡ ask
+    → after_any d None was ask seek (record e { content = version text past (edit ∷ future) }) Redo
+    ≡ stepped e (version edit.after.text (edit ∷ past) future) edit.after.place
+redone_is d was asks.Off Off e text edit past future is = ap (λ a. record (stepped e (version edit.after.text (edit ∷ past) future) edit.after.place) { ask = a }) is
+redone_is d was asks.Off Begun e text edit past future is = ap (λ a. record (stepped e (version edit.after.text (edit ∷ past) future) edit.after.place) { ask = a }) is
+redone_is d was asks.Off Typed e text edit past future is = ap (λ a. record (stepped e (version edit.after.text (edit ∷ past) future) edit.after.place) { ask = a }) is
+redone_is d was asks.Line seek e text edit past future is = refl
+redone_is d was asks.Name seek e text edit past future is = refl
+redone_is d was asks.Code seek e text edit past future is = refl
 
 none_behind : (past : List Edit) → mark_behind None past ≡ None
 none_behind [] = refl
@@ -284,24 +321,24 @@ all_back : (d : Data) (first : List ℕ) (e : Editor) (text : List ℕ) (past fu
 all_back d first e text [] future h = record { text_is = h; past_is = refl; place_is = refl; mark_is = refl }
 all_back d first e text (edit ∷ past) future h =
     let now : Editor = record e { content = version text (edit ∷ past) future } in
-    let taken_back : Editor = record (cleared e) { place = edit.before.place; mark = None; soft = softness.Off; seek = Off; changed = true; goal = None } in
+    let taken_back : Editor = record (cleared e) { place = edit.before.place; mark = None; soft = softness.Off; seek = Off; ask = asks.Off; changed = true; goal = None } in
     let back = all_back d first taken_back edit.before.text past (edit ∷ future) h.1 in
     subst (λ new. IsBackAt first now (after_keys d None new (replicate (length past) Undo)))
-    (sym (ap behind (undone_is d (before e) e.seek (cleared e) text edit past future)))
+    (sym (ap behind (undone_is d (before e) e.ask e.seek (cleared e) text edit past future refl)))
     (record { text_is = back.text_is; past_is = back.past_is; place_is = back.place_is; mark_is = back.mark_is ∙ none_behind past })
 
 redo_back : (d : Data) (first : List ℕ) (e : Editor) (text : List ℕ) (past future : List Edit) → IsPastOf first text past → past ≢ []
     → (after_keys d None (record e { content = version text past future }) (Undo ∷ Redo ∷ [])).content ≡ version text past future
 redo_back d first e text [] future h some = absurd (some refl)
 redo_back d first e text (edit ∷ past) future h some =
-    ap (λ new. (after_key d None (behind new) Redo).content) (undone_is d (before e) e.seek (cleared e) text edit past future)
+    ap (λ new. (after_key d None (behind new) Redo).content) (undone_is d (before e) e.ask e.seek (cleared e) text edit past future refl)
     ∙ ap (λ t. version t (edit ∷ past) future) h.0
 
 undo_back : (d : Data) (e : Editor) (text : List ℕ) (past future : List Edit) → IsFutureOf text future → future ≢ []
     → (after_keys d None (record e { content = version text past future }) (Redo ∷ Undo ∷ [])).content ≡ version text past future
 undo_back d e text past [] h some = absurd (some refl)
 undo_back d e text past (edit ∷ future) h some =
-    ap (λ new. (after_key d None (behind new) Undo).content) (redone_is d (before e) e.seek (cleared e) text edit past future)
+    ap (λ new. (after_key d None (behind new) Undo).content) (redone_is d (before e) e.ask e.seek (cleared e) text edit past future refl)
     ∙ ap (λ t. version t past (edit ∷ future)) h.0
 
 -- ---- place and mark behind both
@@ -311,7 +348,7 @@ redo_place : (d : Data) (e : Editor) (text : List ℕ) (past future : List Edit)
 redo_place d e text [] future edit rest is = absurd (cc)
 redo_place d e text (latest ∷ past) future edit rest is =
     let same : latest ≡ edit = cc in
-    let undone = ap behind (undone_is d (before e) e.seek (cleared e) text latest past future) in
+    let undone = ap behind (undone_is d (before e) e.ask e.seek (cleared e) text latest past future refl) in
     let there : IsUnmarkedAt latest.after.place (after_keys d None (record e { content = version text (latest ∷ past) future }) (Undo ∷ Redo ∷ [])) =
     subst (λ new. IsUnmarkedAt latest.after.place (after_key d None new Redo)) (sym undone) (record { place_is = refl; mark_is = refl }) in
     subst (λ (x : Edit). IsUnmarkedAt x.after.place (after_keys d None (record e { content = version text (latest ∷ past) future }) (Undo ∷ Redo ∷ [])))
@@ -322,7 +359,7 @@ undo_place : (d : Data) (e : Editor) (text : List ℕ) (past future : List Edit)
 undo_place d e text past [] edit rest is = absurd (cc)
 undo_place d e text past (next ∷ future) edit rest is =
     let same : next ≡ edit = cc in
-    let redone = ap behind (redone_is d (before e) e.seek (cleared e) text next past future) in
+    let redone = ap behind (redone_is d (before e) e.ask e.seek (cleared e) text next past future refl) in
     let there : IsUnmarkedAt next.before.place (after_keys d None (record e { content = version text past (next ∷ future) }) (Redo ∷ Undo ∷ [])) =
     subst (λ new. IsUnmarkedAt next.before.place (after_key d None new Undo)) (sym redone) (record { place_is = refl; mark_is = refl }) in
     subst (λ (x : Edit). IsUnmarkedAt x.before.place (after_keys d None (record e { content = version text past (next ∷ future) }) (Redo ∷ Undo ∷ [])))

@@ -10,6 +10,8 @@ use Rattle.std.proofs.lemmas.List.Sorted.{Contains-permutation}
 use Rattle.bx_keys.specs.declared.key.Key.{Key}
 use Rattle.bx_keys.specs.declared.key.Key.TheVariants.{LineDown, LineUp}
 use Rattle.bx_ucd.specs.Data.{Data}
+use Rattle.bx_asking.specs.declared.question.Ask.{Ask}
+use Rattle.bx_asking.specs.declared.question.Ask.TheVariants as asks
 use Rattle.bx_terms.specs.declared.base.Base.{Base}
 use Rattle.bx_paragraph.proofs.Starts.{side-some}
 use Rattle.bx_paragraph.specs.declared.slot.Slot.{Slot}
@@ -29,10 +31,12 @@ use Rattle.bx_paras.specs.Paragraphs.{paragraphs}
 use Rattle.bx_editor.specs.declared.seek.Seek.TheVariants.{Off}
 use Rattle.bx_editor.specs.declared.soft.Soft.{Soft}
 use Rattle.bx_runs.specs.declared.typing.Typing.TheVariants as typings
+use Rattle.bx_editor.specs.Asking.{without_ask}
 use Rattle.bx_editor.specs.Editor.{Editor, cleared, rows}
-use Rattle.bx_editor.specs.Effects.{before}
+use Rattle.bx_editor.specs.Effects.{Before, before}
+use Rattle.bx_editor.specs.Goal.{after_row_move}
 use Rattle.bx_editor.specs.Keys.{after_any, after_key, after_keys, as_left}
-use Rattle.bx_editor.specs.Selecting.{aged, mark_left, soft_left}
+use Rattle.bx_editor.specs.Selecting.{aged, mark_left, soft_left, unselected}
 use Rattle.bx_editor.specs.Laws.{HasRows}
 use Rattle.bx_editor.specs.WorkLaws.{LeadsBack, LineMovesGoBack, own_row}
 use Rattle.bx_editor.proofs.EnteredAgain.{IsEnteredBy, IsFull, entered-again, entered-at-edge}
@@ -111,17 +115,32 @@ abbrev left_after : ℕ → Marks → Marks
 left_after zero m = m
 left_after (suc n) m = left_after n (left m)
 
+-- a move ends a question
+up-any : (d : Data) (was : Before) (ask : Ask) (e : Editor) → e.ask ≡ ask
+    → after_any d None was ask Off e LineUp ≡ after_row_move d (unselected (without_ask e)) Up 1
+up-any d was asks.Off e is = ap (λ a. after_row_move d (unselected (record e { ask = a })) Up 1) is
+up-any d was asks.Line e is = refl
+up-any d was asks.Name e is = refl
+up-any d was asks.Code e is = refl
+
+down-any : (d : Data) (was : Before) (ask : Ask) (e : Editor) → e.ask ≡ ask
+    → after_any d None was ask Off e LineDown ≡ after_row_move d (unselected (without_ask e)) Down 1
+down-any d was asks.Off e is = ap (λ a. after_row_move d (unselected (record e { ask = a })) Down 1) is
+down-any d was asks.Line e is = refl
+down-any d was asks.Name e is = refl
+down-any d was asks.Code e is = refl
+
 module _ (d : Data) (e : Editor) (off : e.seek ≡ Off) (column : ℕ) where
   -- at a place, with the column kept
   abbrev kept-at : Marks → ℕ → Editor
-  kept-at m place = record e { place = place; mark = m.0; soft = m.1; typing = typings.Off; message = None; quit_before = false; goal = Some column }
+  kept-at m place = record e { place = place; mark = m.0; soft = m.1; ask = asks.Off; typing = typings.Off; message = None; quit_before = false; goal = Some column }
 
   key-moves : (way : Vertical) (m : Marks) (place : ℕ)
       → after_key d None (kept-at m place) (row_key way) ≡ kept-at (left m) (rows_away e.width (rows d e) way 1 column place)
   key-moves Up m place =
-      ap (λ s. as_left LineUp (after_any d None (record { again = false; typing = typings.Off }) s (kept-at m place) LineUp)) off
+      ap (λ s. as_left LineUp (after_any d None (before (kept-at m place)) asks.Off s (kept-at m place) LineUp)) off
   key-moves Down m place =
-      ap (λ s. as_left LineDown (after_any d None (record { again = false; typing = typings.Off }) s (kept-at m place) LineDown)) off
+      ap (λ s. as_left LineDown (after_any d None (before (kept-at m place)) asks.Off s (kept-at m place) LineDown)) off
 
   -- the first one keeps the cursor's column
   abbrev first-at : Vertical → Option ℕ → Editor
@@ -132,6 +151,7 @@ module _ (d : Data) (e : Editor) (off : e.seek ≡ Off) (column : ℕ) where
         place = rows_away e.width (rows d e) way 1 c e.place;
         mark = m.0;
         soft = m.1;
+        ask = asks.Off;
         typing = typings.Off;
         message = None;
         quit_before = false;
@@ -139,8 +159,10 @@ module _ (d : Data) (e : Editor) (off : e.seek ≡ Off) (column : ℕ) where
       }
 
   first-key : (way : Vertical) → after_key d None e (row_key way) ≡ first-at way e.goal
-  first-key Up = ap (λ s. as_left LineUp (after_any d None (before e) s (cleared e) LineUp)) off
-  first-key Down = ap (λ s. as_left LineDown (after_any d None (before e) s (cleared e) LineDown)) off
+  first-key Up =
+      ap (λ s. as_left LineUp (after_any d None (before e) e.ask s (cleared e) LineUp)) off ∙ ap (as_left LineUp) (up-any d (before e) e.ask (cleared e) refl)
+  first-key Down =
+      ap (λ s. as_left LineDown (after_any d None (before e) e.ask s (cleared e) LineDown)) off ∙ ap (as_left LineDown) (down-any d (before e) e.ask (cleared e) refl)
 
   -- the marks at first
   abbrev own : Marks

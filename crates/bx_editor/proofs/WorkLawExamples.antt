@@ -21,7 +21,7 @@ behind_a_point = after (start (0x5d0 ∷ 0x301 ∷ 0x5d1 ∷ []) 2 20) (Forward 
 pub the_letter_and_the_rest_stay : ErasePointLeavesBeginning → (after behind_a_point (ErasePoint ∷ [])).content.text ≡ 0xd7 ∷ 0x90 ∷ 0xd7 ∷ 0x91 ∷ []
 unfolding unicode_segmentation unicode_width digits
 the_letter_and_the_rest_stay law =
-    (law tables behind_a_point (record { text = (0x5d0 ∷ 0x301 ∷ 0x5d1 ∷ [], (refl, refl)); columns = refl }) refl refl (1, omega arith, refl)).text_is
+    (law tables behind_a_point (record { text = (0x5d0 ∷ 0x301 ∷ 0x5d1 ∷ [], (refl, refl)); columns = refl }) refl refl refl (1, omega arith, refl)).text_is
 
 -- ---- the next match
 

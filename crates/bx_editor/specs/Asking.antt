@@ -1,5 +1,5 @@
 -- Going to a line, and characters by name or code: what is asked, and how it is answered.
-use Rattle.std.specs.Prelude.{ℕ, ◌+◌, ◌==◌, Bool, true, false, List, [], length, chars, encode_utf8, unwrap_or, Option, Some, None, if◌then◌else◌}
+use Rattle.std.specs.Prelude.{ℕ, ◌+◌, ◌==◌, false, List, [], length, chars, encode_utf8, unwrap_or, Option, Some, None, if◌then◌else◌}
 use Rattle.bx_ucd.specs.Data.{Data}
 use Rattle.bx_asking.specs.declared.line.Target.{Target}
 use Rattle.bx_asking.specs.declared.question.Ask.{Ask}
@@ -40,11 +40,14 @@ with_answer e answer = record e { answer = answer }
 
 -- ---- a line
 
--- to the place of the numbers; without a first number, in the place's own paragraph
+-- the place of the numbers; without a first number, in the place's own paragraph
+abbrev pub target_place : Data → Editor → Target → ℕ
+target_place d e target =
+    place_of d e.content.text (unwrap_or target.paragraph (paragraph_number d e.content.text e.place + 1)) target.unit
+
 abbrev pub gone_to : Data → Editor → Option Target → Editor
 gone_to d e None = e
-gone_to d e (Some target) =
-    with_place e (place_of d e.content.text (unwrap_or target.paragraph (paragraph_number d e.content.text e.place + 1)) target.unit)
+gone_to d e (Some target) = with_place e (target_place d e target)
 
 -- the question is answered
 abbrev pub after_going : Data → Editor → Editor
@@ -85,7 +88,7 @@ after_code d e (Some c) = with_character d e c
 abbrev pub after_code_letter : Data → Editor → ℕ → Editor
 after_code_letter d e letter =
     if letter == 0xA
-    then after_code d (without_ask e) (coded (chars e.answer))
+    then after_code d (without_ask e) (coded e.answer)
     else if is_code_letter letter then with_answer e (lengthened longest_code e.answer letter) else e
 
 -- ---- any question

@@ -1,5 +1,5 @@
 -- What keys do outside a search, in kinds: each key has one.
-use Rattle.std.specs.Prelude.{ℕ, Bool, Option}
+use Rattle.std.specs.Prelude.{ℕ, Bool, Option, Some}
 use Rattle.bx_store.specs.declared.store.StoreFault.{StoreFault}
 use Rattle.bx_ucd.specs.Data.{Data}
 use Rattle.bx_document.specs.declared.history.HistoryStep.{HistoryStep}

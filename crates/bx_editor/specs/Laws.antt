@@ -7,6 +7,7 @@ use Rattle.bx_keys.specs.declared.key.Key.TheVariants.{Quit, Undo, Redo, Mark, C
 use Rattle.bx_store.specs.declared.store.StoreFault.{StoreFault}
 use Rattle.bx_text.specs.Edits.{Edit}
 use Rattle.bx_ucd.specs.Data.{Data}
+use Rattle.bx_asking.specs.declared.question.Ask.TheVariants as asks
 use Rattle.bx_find.specs.Laws.{IsFirst, IsLast, MatchesAt}
 use Rattle.bx_view.specs.Moves.{place_at}
 use Rattle.bx_editor.specs.declared.message.Message.{Message}
@@ -106,11 +107,11 @@ pub record HasPut (d : Data) (e : Editor) (text : List ℕ) (offset : ℕ) (new 
   pub place_is : new.place ≡ place_after d e text offset
   pub mark_is : new.mark ≡ None
 
--- outside a search, copying the region and putting it back at once leaves the text with the region twice, if there is room,
--- and the cursor behind what was put
+-- outside a search and a question, copying the region and putting it back at once leaves the text with the region twice, if
+-- there is room, and the cursor behind what was put
 abbrev pub CopyPutsTwice : Type 0
 CopyPutsTwice =
-    (d : Data) (e : Editor) → e.seek ≡ Off → IsPart e (region e) → length (twice e (region e)) ≤ largest_text
+    (d : Data) (e : Editor) → e.ask ≡ asks.Off → e.seek ≡ Off → IsPart e (region e) → length (twice e (region e)) ≤ largest_text
     → HasPut d e (twice e (region e)) (e.place + length (bytes_in e (region e))) (after_keys d None e (Copy ∷ Put ∷ []))
 
 -- cutting and putting back at once leaves the text unchanged, if the cut leaves the cursor where the cut text began, and the
@@ -122,12 +123,12 @@ PutRestoresCut =
     → HasPut d e e.content.text ((taken d e).1) (after_keys d None e (Cut ∷ Put ∷ []))
 
 -- Mark twice at one place changes nothing but the message, if the mark was there or nowhere; a mark elsewhere is gone. A
--- search and a selection end, nothing goes on, and an earlier Quit and a kept column are forgotten.
+-- search, a question and a selection end, nothing goes on, and an earlier Quit and a kept column are forgotten.
 pub record AreTwoMarks (e new : Editor) : Type 0 where
   pub here : (e.mark ≡ None) ⊎ (e.mark ≡ Some e.place)
-      → new ≡ record e { soft = softness.Off; seek = Off; typing = typings.Off; message = new.message; quit_before = false; goal = None }
+      → new ≡ record e { soft = softness.Off; seek = Off; ask = asks.Off; typing = typings.Off; message = new.message; quit_before = false; goal = None }
   pub elsewhere : (mark : ℕ) → e.mark ≡ Some mark → mark ≢ e.place
-      → new ≡ record e { mark = None; soft = softness.Off; seek = Off; typing = typings.Off; message = new.message; quit_before = false; goal = None }
+      → new ≡ record e { mark = None; soft = softness.Off; seek = Off; ask = asks.Off; typing = typings.Off; message = new.message; quit_before = false; goal = None }
 
 abbrev pub MarkTwiceIsNothing : Type 0
 MarkTwiceIsNothing = (d : Data) (e : Editor) → AreTwoMarks e (after_keys d None e (Mark ∷ Mark ∷ []))
@@ -139,14 +140,15 @@ abbrev pub hard_mark : Soft → Option ℕ → Option ℕ
 hard_mark softness.Off mark = mark
 hard_mark soft mark = None
 
--- the cursor is at this place, a search and a selection have ended, nothing goes on, and the message, an earlier Quit and a kept
--- column are gone
+-- the cursor is at this place, a search, a question and a selection have ended, nothing goes on, and the message, an earlier
+-- Quit and a kept column are gone
 abbrev pub only_at : ℕ → Editor → Editor
 only_at place e = record e {
   place = place;
   mark = hard_mark e.soft e.mark;
   soft = softness.Off;
   seek = Off;
+  ask = asks.Off;
   typing = typings.Off;
   message = None;
   quit_before = false;
@@ -163,9 +165,10 @@ GoesToBothEnds = (d : Data) (e : Editor) → ReachesBothEnds d e
 
 -- ---- a search
 
--- a search for some letters is on
+-- a search for some letters is on, and nothing is asked
 pub record Seeks (d : Data) (e : Editor) : Type 0 where
   pub text : IsUtf8 e.content.text
+  pub unasked : e.ask ≡ asks.Off
   pub on : e.seek ≢ Off
   pub letters : sought d e ≢ []
 

@@ -9,6 +9,7 @@ pub mod Wrapping
 pub mod Asking
 pub mod Answers
 pub mod Telling
+pub mod Prompts
 pub mod Runs
 pub mod Origin
 pub mod Effects

@@ -12,6 +12,7 @@ use Rattle.bx_runs.specs.declared.typing.Kind.{Kind}
 use Rattle.bx_runs.specs.declared.typing.Kind.TheVariants.{Blank, Letter}
 use Rattle.bx_runs.specs.declared.typing.Typing.TheVariants as typings
 use Rattle.bx_ucd.specs.Data.{Data}
+use Rattle.bx_asking.specs.declared.question.Ask.TheVariants as asks
 use Rattle.bx_editor.specs.declared.seek.Seek.TheVariants.{Off}
 use Rattle.bx_editor.specs.Editor.{Editor, at_start}
 use Rattle.bx_editor.specs.Keys.{after_key, after_keys, is_save}
@@ -75,10 +76,10 @@ pub record IsBackBefore (e new : Editor) : Type 0 where
 abbrev pub pasted : Data → Editor → List ℕ → Editor
 pasted d e cs = after_keys d None e (PasteStart ∷ (map Insert cs ++ PasteEnd ∷ []))
 
--- outside a search one UndoRun takes back all that a paste put in, and puts back the selection that gave way to it
+-- outside a search and a question one UndoRun takes back all that a paste put in, and puts back the selection that gave way to it
 abbrev pub PasteIsARun : Type 0
 PasteIsARun =
-    (d : Data) (e : Editor) (cs : List ℕ) → e.seek ≡ Off → length e.content.past < length (pasted d e cs).content.past
+    (d : Data) (e : Editor) (cs : List ℕ) → e.ask ≡ asks.Off → e.seek ≡ Off → length e.content.past < length (pasted d e cs).content.past
     → IsBackBefore e (after_key d None (pasted d e cs) UndoRun)
 
 abbrev pub AreOfKind : Data → Kind → List ℕ → Type 0
@@ -90,11 +91,11 @@ pub record IsWord (d : Data) (letters blanks : List ℕ) : Type 0 where
   pub are_letters : AreOfKind d Letter letters
   pub are_blanks : AreOfKind d Blank blanks
 
--- outside a search, where nothing goes on, one UndoRun takes a typed word and the blanks behind it back, if there was room
--- for them
+-- outside a search and a question, where nothing goes on, one UndoRun takes a typed word and the blanks behind it back, if there
+-- was room for them
 abbrev pub WordIsARun : Type 0
 WordIsARun =
-    (d : Data) (e : Editor) (letters blanks : List ℕ) → e.seek ≡ Off → e.typing ≡ typings.Off → IsWord d letters blanks
+    (d : Data) (e : Editor) (letters blanks : List ℕ) → e.ask ≡ asks.Off → e.seek ≡ Off → e.typing ≡ typings.Off → IsWord d letters blanks
     → length e.content.text + length (encode_utf8_all (letters ++ blanks)) ≤ largest_text
     → IsBackBefore e (after_key d None (after_keys d None e (map Insert (letters ++ blanks))) UndoRun)
 

@@ -7,6 +7,7 @@ use Rattle.bx_keys.specs.declared.key.Key.TheVariants.{WordLeft, WordRight, Text
 use Rattle.bx_keys.specs.declared.key.Key.TheVariants.{LineUp, LineDown, PageBack, PageOn, Select, UndoRun, PasteStart, PasteEnd}
 use Rattle.bx_store.specs.declared.store.StoreFault.{StoreFault}
 use Rattle.bx_ucd.specs.Data.{Data}
+use Rattle.bx_asking.specs.declared.question.Ask.TheVariants as asks
 use Rattle.bx_editor.specs.declared.message.Message.TheVariants.{TextFull}
 use Rattle.bx_editor.specs.declared.seek.Seek.TheVariants as searches
 use Rattle.bx_editor.specs.declared.soft.Soft.TheVariants.{Off, Old}
@@ -64,8 +65,9 @@ SeekingTakesSelectionOff = (d : Data) (e : Editor) (key : Key) → e.seek ≡ se
 
 -- ---- a selection gives way
 
--- no search is on, and the region is a selection
+-- nothing is asked, no search is on, and the region is a selection
 pub record HasSelection (e : Editor) : Type 0 where
+  pub no_question : e.ask ≡ asks.Off
   pub no_search : e.seek ≡ searches.Off
   pub soft : e.soft ≢ Off
   pub part : IsPart e (region e)

@@ -2,6 +2,7 @@
 use Rattle.std.specs.Prelude.{◌≡◌, ◌≢◌, ℕ, ◌+◌, ◌<◌, ◌≤◌, true, false, [], ◌∷◌, ◌++◌, length, take, drop, replicate, None, Contains}
 use Rattle.bx_keys.specs.declared.key.Key.TheVariants.{ErasePoint, Find, FindNext, LineDown, LineUp}
 use Rattle.bx_ucd.specs.Data.{Data}
+use Rattle.bx_asking.specs.declared.question.Ask.TheVariants as asks
 use Rattle.bx_rows.specs.RowPicture.{columns_used}
 use Rattle.bx_paragraph.specs.declared.slot.Slot.{Slot}
 use Rattle.bx_paragraph.specs.Slots.{covers, row_slots}
@@ -25,10 +26,10 @@ pub record ErasesEnd (d : Data) (e new : Editor) : Type 0 where
   pub in_unit : step_logical (rows d e) Back e.place ≤ point_before d e
   pub before_place : point_before d e ≤ e.place
 
--- outside a search and without a selection ErasePoint leaves all before the point, and all behind the place
+-- outside a search and a question, and without a selection, ErasePoint leaves all before the point, and all behind the place
 abbrev pub ErasePointLeavesBeginning : Type 0
 ErasePointLeavesBeginning =
-    (d : Data) (e : Editor) → HasRows e → e.seek ≡ Off → is_selection e ≡ false → IsTextPlace d e.content.text e.place → ErasesEnd d e (after_key d None e ErasePoint)
+    (d : Data) (e : Editor) → HasRows e → e.ask ≡ asks.Off → e.seek ≡ Off → is_selection e ≡ false → IsTextPlace d e.content.text e.place → ErasesEnd d e (after_key d None e ErasePoint)
 
 -- ---- the next match
 

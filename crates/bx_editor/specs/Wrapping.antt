@@ -1,12 +1,11 @@
 -- The region between two characters that isolate, embed or override it.
-use Rattle.std.specs.Prelude.{ℕ, ◌+◌, ◌==◌, Bool, true, false, List, length, encode_utf8, if◌then◌else◌, Some, [], chars}
+use Rattle.std.specs.Prelude.{ℕ, ◌+◌, ◌==◌, Bool, false, List, length, encode_utf8, if◌then◌else◌, Some, [], chars}
 use Rattle.std.specs.List.{list_any}
 use Rattle.bx_ucd.specs.Data.{Data}
 use Rattle.bx_paras.specs.Paragraphs.{is_separator}
 use Rattle.bx_document.specs.declared.edits.RegionEnd.{RegionEnd}
 use Rattle.bx_document.specs.declared.edits.RegionEnd.TheVariants.{Start, Stop}
 use Rattle.bx_document.specs.Document.{wrapped_end, wrapped_text}
-use Rattle.bx_runs.specs.Runs.{edited}
 use Rattle.bx_text.specs.Edits.{fits_both, wrapped}
 use Rattle.bx_editor.specs.declared.message.Message.TheVariants.{MoreThanOneLine, TextFull}
 use Rattle.bx_editor.specs.Editor.{Editor, place_after, with_edit}

@@ -1,17 +1,22 @@
 //! The keys that ask, and what answers a question: a line, and a character by name or by code.
-ghost use Rattle.std.specs.Prelude.{◌≡◌, OnErr, OnOk};
+ghost use Rattle.std.specs.Prelude.{◌≡◌, IfOk, OnErr, OnOk};
+ghost use Rattle.bx_view.specs.Places.{IsTextPlace};
 ghost use Rattle.bx_asking.specs.Answers.{lengthened};
+ghost use Rattle.bx_asking.specs.Codes.{coded};
 ghost use Rattle.bx_asking.specs.Names.{closing};
 ghost use Rattle.bx_document.specs.QueryRow.{IsNarrow};
 ghost use Rattle.bx_editor.specs.Answers.{limit_of};
-ghost use Rattle.bx_editor.specs.Asking.{after_answer_letter, after_going, after_line_letter, after_named, after_shorter_answer, asking, with_answer, with_character, without_ask};
+ghost use Rattle.bx_editor.specs.Asking.{after_answer_letter, after_code, after_going, after_line_letter, after_named, after_shorter_answer, asking, target_place, with_answer, with_character, without_ask};
 ghost use Rattle.bx_editor.specs.Editor.{cleared, with_typing};
 ghost use Rattle.bx_editor.specs.Putting.{only_paste};
 
 use crate::editor::Editor;
 use crate::message::Message;
 use crate::putting::{is_paste, only_paste};
-use bx_asking::{Ask, asked, asks_code, closing, coded, is_code_letter, is_line_letter, lengthened, named, shortened};
+use bx_asking::{
+    Ask, Target, asked, asks_code, closing, coded, is_code_letter, is_line_letter, lengthened,
+    named, shortened,
+};
 use bx_runs::{Kind, Typing};
 use bx_terms::OutOfMemory;
 use bx_ucd::BidiData;
@@ -54,23 +59,38 @@ impl<D: BidiData + Drop> Editor<D> {
         Ok(())
     }
 
+    /// The place of a paragraph and a unit in it; without a paragraph, in the place's own.
+    ///
+    /// Errors: `OutOfMemory`.
+    fn place_of(&mut self, target: Target) -> Result<usize, OutOfMemory>
+        ensures same { self.new ≡ self.old }
+        ensures place { IfOk result (λ o. o ≡ target_place (D.data self.old.tables) self.old.editor target) }
+        ensures text_place { IfOk result (IsTextPlace (D.data self.old.tables) self.old.editor.content.text) }
+    {
+        let own = self.document.paragraph_at(self.place);
+        let paragraph = target.paragraph.unwrap_or(own);
+        self.document.place_of(paragraph, target.unit)
+    }
+
     /// Goes to the line and unit that the answer names.
     fn go(&mut self) -> Result<(), OutOfMemory>
         ensures ok { OnOk result (self.new ≡ record self.old { editor = after_going (D.data self.old.tables) (cleared self.old.editor) }) }
         ensures err { OnErr result (self.new ≡ self.old) }
     {
-        if let Some(target) = asked(self.answer.as_str()) {
-            let own = self.document.paragraph_at(self.place);
-            let paragraph = target.paragraph.unwrap_or(own + 1);
-            self.place = self.document.place_of(paragraph, target.unit)?;
+        match asked(self.answer.as_str()) {
+            None => self.clear(),
+            Some(target) => {
+                let place = self.place_of(target)?;
+                self.set_place(place);
+            }
         }
         self.leave_question();
-        self.clear();
         Ok(())
     }
 
     /// Takes a character of the answer to the question for a line; a paste's line end answers nothing.
     fn answer_line(&mut self, c: char) -> Result<(), OutOfMemory>
+        requires ask { self.old.editor.ask ≡ Ask.Line }
         ensures ok { OnOk result (self.new ≡ record self.old {
           editor = with_typing (after_line_letter (D.data self.old.tables) self.old.editor.typing (cleared self.old.editor) c)
               (only_paste self.old.editor.typing);
@@ -125,6 +145,7 @@ impl<D: BidiData + Drop> Editor<D> {
 
     /// Takes a letter that names a character; a paste answers nothing.
     fn answer_name(&mut self, letter: char) -> Result<(), OutOfMemory>
+        requires ask { self.old.editor.ask ≡ Ask.Name }
         ensures ok { OnOk result (self.new ≡ record self.old {
           editor = after_answer_letter (D.data self.old.tables) self.old.editor.typing Ask.Name (cleared self.old.editor) letter;
         }) }
@@ -148,8 +169,25 @@ impl<D: BidiData + Drop> Editor<D> {
         Ok(())
     }
 
+    /// Puts in the character whose code the answer writes; if there is none, sets a message.
+    fn put_coded(&mut self) -> Result<(), OutOfMemory>
+        ensures ok { OnOk result (self.new ≡ record self.old {
+          editor = after_code (D.data self.old.tables) (cleared self.old.editor) (coded self.old.editor.answer);
+        }) }
+        ensures err { OnErr result (self.new ≡ self.old) }
+    {
+        match coded(self.answer.as_str()) {
+            Some(c) => self.put_character(c),
+            None => {
+                self.tell(Message::NoSuchCharacter);
+                Ok(())
+            }
+        }
+    }
+
     /// Takes a digit of a code, or its end; a paste answers nothing.
     fn answer_code(&mut self, letter: char) -> Result<(), OutOfMemory>
+        requires ask { self.old.editor.ask ≡ Ask.Code }
         ensures ok { OnOk result (self.new ≡ record self.old {
           editor = after_answer_letter (D.data self.old.tables) self.old.editor.typing Ask.Code (cleared self.old.editor) letter;
         }) }
@@ -160,10 +198,7 @@ impl<D: BidiData + Drop> Editor<D> {
             return Ok(());
         }
         if letter == '\n' {
-            match coded(self.answer.as_str()) {
-                Some(c) => self.put_character(c)?,
-                None => self.tell(Message::NoSuchCharacter),
-            }
+            self.put_coded()?;
             self.leave_question();
             return Ok(());
         }

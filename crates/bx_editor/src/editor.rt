@@ -163,6 +163,20 @@ impl<D: BidiData + Drop> Editor<D> {
         self.seek
     }
 
+    /// What the user is asked. No memory.
+    pub fn ask(&self) -> Ask
+        ensures { result ≡ self.now.editor.ask }
+    {
+        self.ask
+    }
+
+    /// The answer to the question, or to the latest one. No memory.
+    pub fn typed_answer(&self) -> &str
+        ensures { result.now ≡ self.now.editor.answer }
+    {
+        self.answer.as_str()
+    }
+
     /// The window's rows. No memory.
     pub fn height(&self) -> u16
         ensures height { result ≡ self.now.editor.height }

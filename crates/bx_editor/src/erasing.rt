@@ -110,7 +110,7 @@ impl<D: BidiData + Drop> Editor<D> {
     /// Where a move forward from the place leads.
     ///
     /// Errors: `OutOfMemory`.
-    fn on_by(&mut self, on: Move) -> Result<usize, OutOfMemory>
+    pub(crate) fn on_by(&mut self, on: Move) -> Result<usize, OutOfMemory>
         requires on { goes_on on ≡ true }
         ensures same { self.new ≡ self.old }
         ensures place { IfOk result (λ p. p ≡ moved (D.data self.old.tables) self.old.editor.content.text self.old.editor.width

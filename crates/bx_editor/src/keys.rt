@@ -142,7 +142,7 @@ impl<D: BidiData + Drop> Editor<D> {
         requires no_save { is_save key ≡ false }
         requires typed { is_told_key key ≡ false }
         ensures ok { OnOk result (self.new.editor
-            ≡ after_any (D.data self.old.tables) None (before self.old.editor) self.old.editor.seek (cleared self.old.editor) key) }
+            ≡ after_any (D.data self.old.tables) None (before self.old.editor) self.old.editor.ask self.old.editor.seek (cleared self.old.editor) key) }
         ensures tables { self.new.tables ≡ self.old.tables }
         ensures err { OnErr result (self.new ≡ self.old) }
         ensures edits { OnErr result (is_edit_or_move key ≡ true) }
@@ -346,10 +346,12 @@ impl<D: BidiData + Drop> Editor<D> {
     {
         let ask = self.ask;
         self.leave_question();
-        let pressed = self.press(key);
-        if pressed.is_err() {
-            self.ask = ask;
+        match self.press(key) {
+            Ok(()) => Ok(()),
+            Err(refused) => {
+                self.ask = ask;
+                Err(refused)
+            }
         }
-        pressed
     }
 }

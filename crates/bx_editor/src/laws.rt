@@ -19,8 +19,8 @@ pub fn redo_mirrors_undo()
     ensures { RedoMirrorsUndo }
 {}
 
-/// Outside a search, copying a region and putting it back at once leaves the text with the region twice, and the cursor
-/// behind what was put.
+/// Outside a search and a question, copying a region and putting it back at once leaves the text with the region twice, and
+/// the cursor behind what was put.
 pub fn copy_puts_twice()
     ensures { CopyPutsTwice }
 {}

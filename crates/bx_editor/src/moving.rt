@@ -26,7 +26,7 @@ pub(crate) fn goal_behind(key: Key, goal: Option<u16>) -> Option<u16>
 
 impl<D: BidiData + Drop> Editor<D> {
     /// Moves the cursor to a place, and clears the message.
-    fn set_place(&mut self, place: usize)
+    pub(crate) fn set_place(&mut self, place: usize)
         requires text_place { IsTextPlace (D.data self.old.tables) self.old.editor.content.text place }
         ensures { self.new ≡ record self.old { editor = with_place (cleared self.old.editor) place } }
     {

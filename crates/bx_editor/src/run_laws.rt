@@ -14,12 +14,13 @@ pub fn redo_run_mirrors_undo_run()
     ensures { RedoRunMirrorsUndoRun }
 {}
 
-/// Outside a search, one UndoRun takes back all that a paste put in, and puts back the selection that gave way to it.
+/// Outside a search and a question, one UndoRun takes back all that a paste put in, and puts back the selection that gave way
+/// to it.
 pub fn paste_is_a_run()
     ensures { PasteIsARun }
 {}
 
-/// Outside a search, one UndoRun takes back a typed word and the blanks behind it.
+/// Outside a search and a question, one UndoRun takes back a typed word and the blanks behind it.
 pub fn word_is_a_run()
     ensures { WordIsARun }
 {}

@@ -12,18 +12,18 @@ pub fn seeking_takes_selection_off()
     ensures { SeekingTakesSelectionOff }
 {}
 
-/// Outside a search, a key that removes text removes the selection, and no more.
+/// Outside a search and a question, a key that removes text removes the selection, and no more.
 pub fn selection_is_removed()
     ensures { SelectionIsRemoved }
 {}
 
-/// Outside a search, what is typed or put in takes the selection's place, if the new text is within the limit; else text,
-/// place and mark stay.
+/// Outside a search and a question, what is typed or put in takes the selection's place, if the new text is within the limit;
+/// else text, place and mark stay.
 pub fn selection_gives_way()
     ensures { SelectionGivesWay }
 {}
 
-/// Outside a search, one UndoRun takes back what a key did in place of a selection.
+/// Outside a search and a question, one UndoRun takes back what a key did in place of a selection.
 pub fn selection_comes_back()
     ensures { SelectionComesBack }
 {}

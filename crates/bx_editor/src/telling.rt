@@ -25,7 +25,7 @@ impl<D: BidiData + Drop> Editor<D> {
             line.push_str("end of text")?;
             return Ok(());
         }
-        let stop = self.document.moved(Move::Logical(Logical::Forward), place)?;
+        let stop = self.on_by(Move::Logical(Logical::Forward))?;
         let unit = self.document.copy(place, stop)?;
         let level = self.document.level_at(place)?;
         write_told(line, self.document.tables(), unit.as_str(), level)?;

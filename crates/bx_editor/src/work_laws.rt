@@ -2,8 +2,8 @@
 
 ghost use Rattle.bx_editor.specs.WorkLaws.{ErasePointLeavesBeginning, FindNextIsFindTwice, LineMovesGoBack};
 
-/// Outside a search, ErasePoint removes the end of the unit before the place, from the start of its last point on, and
-/// leaves all text before and behind that.
+/// Outside a search and a question, ErasePoint removes the end of the unit before the place, from the start of its last point
+/// on, and leaves all text before and behind that.
 pub fn erase_point_leaves_beginning()
     ensures { ErasePointLeavesBeginning }
 {}

@@ -54,7 +54,10 @@ impl<D: BidiData + Drop> Editor<D> {
         let back = closer.encode_utf8(&mut back);
         self.runs.reserve()?;
         let n = self.document.past_len();
-        let Some(place) = self.document.wrap(start, stop, front, back, self.place, end)? else {
+        let Some(place) = self
+            .document
+            .wrap(start, stop, front, back, self.place, end)?
+        else {
             self.tell(Message::TextFull);
             return Ok(());
         };

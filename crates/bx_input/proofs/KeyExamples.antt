@@ -5,7 +5,7 @@ use Rattle.bx_keys.specs.Keys.{decoding}
 use Rattle.bx_keys.specs.declared.key.Key.{Key}
 use Rattle.bx_keys.specs.declared.key.Key.TheVariants.{Insert, Mark, Copy, Cut, Put, Find, FindBack, WordLeft, WordRight, TextStart, TextEnd, Help, Notice}
 use Rattle.bx_keys.specs.declared.key.Key.TheVariants.{EraseWord, DeleteWord, FindNext, Cancel, ErasePoint, NewLine, LineUp, LineDown, PageBack, PageOn, Right, Left, RowHome, RowEnd, Delete}
-use Rattle.bx_keys.specs.declared.key.Key.TheVariants.{Select, UndoRun, RedoRun, PasteStart, PasteEnd}
+use Rattle.bx_keys.specs.declared.key.Key.TheVariants.{Select, UndoRun, RedoRun, GoTo, Name, Tell, PasteStart, PasteEnd}
 use Rattle.bx_keys.specs.declared.notice.Notice.TheVariants.{NoSpace, InPlace}
 use Rattle.bx_input.specs.Table.{Row, rows, paste_start, paste_end}
 use Rattle.bx_input.specs.Filter as filter
@@ -30,7 +30,13 @@ runs_back_and_again = refl
 pub keys_of_runs : keys (codes "\u{19}\u{1a}") ≡ RedoRun ∷ UndoRun ∷ []
 keys_of_runs = refl
 
-pub others_go_through : filtered (codes "\u{13}\u{11}\u{2}\u{6}") ≡ codes "\u{13}\u{11}\u{2}\u{6}"
+pub questions : filtered (codes "\u{7}\u{b}\u{14}") ≡ codes "\u{1b}[84~\u{1b}[86~\u{1b}[87~"
+questions = refl
+
+pub keys_of_questions : keys (codes "\u{7}\u{b}\u{14}") ≡ GoTo ∷ Name ∷ Tell ∷ []
+keys_of_questions = refl
+
+pub others_go_through : filtered (codes "\u{13}\u{11}\u{2}\u{6}\u{c}\n") ≡ codes "\u{13}\u{11}\u{2}\u{6}\u{c}\n"
 others_go_through = refl
 
 pub erase_keys : keys (0x7F ∷ 0x08 ∷ 0x0D ∷ 0x0A ∷ []) ≡ ErasePoint ∷ ErasePoint ∷ NewLine ∷ Insert 0x0A ∷ []
@@ -102,10 +108,23 @@ notices = refl
 pub no_row : filtered (codes "\u{1b}[1;5A\u{1b}OS") ≡ codes "\u{1b}[1;5A\u{1b}OS"
 no_row = refl
 
+-- Delete with Shift, F5 of three terminals
+pub no_function_keys : filtered (codes "\u{1b}[3;2~\u{1b}[15~\u{1b}OT\u{1b}[[E") ≡ codes "\u{1b}[3;2~\u{1b}[15~\u{1b}OT\u{1b}[[E"
+no_function_keys = refl
+
+-- keys with Shift that select nothing
+pub nothing_selected : filtered (codes "\u{1b}[1;6A\u{1b}[1;2P\u{1b}[e\u{1b}[7@\u{1b}[5$") ≡ codes "\u{1b}[1;6A\u{1b}[1;2P\u{1b}[e\u{1b}[7@\u{1b}[5$"
+nothing_selected = refl
+
 -- a paste only inserts, and behind it CTRL-W is a key
 pub in_a_paste : filtered (paste_start ++ (codes "a\u{17}\u{3}\u{18}" ++ (0x00 ∷ codes "b\r\nc" ++ paste_end)) ++ 0x17 ∷ [])
     ≡ codes "\u{1b}[90~ab\nc\u{1b}[91~\u{1b}[70~"
 in_a_paste = refl
+
+-- a paste neither undoes nor asks
+pub no_question_in_a_paste : filtered (paste_start ++ (codes "a\u{1a}\u{7}\u{b}\u{14}\r\nb" ++ paste_end) ++ codes "\u{1a}\u{7}")
+    ≡ codes "\u{1b}[90~a\nb\u{1b}[91~\u{1b}[82~\u{1b}[84~"
+no_question_in_a_paste = refl
 
 -- a paste neither erases nor cancels
 pub no_erase_in_a_paste : filtered (paste_start ++ (codes "a\u{7f}\u{8}\r\nb" ++ paste_end) ++ codes "\u{8}")
@@ -142,6 +161,12 @@ lines_behind_broken = refl
 pub word_behind_broken : keys_where true (codes "\u{1b}[1;5\u{8}\u{1b}[1;5\u{1b}\u{8}") ≡ EraseWord ∷ EraseWord ∷ []
 word_behind_broken = refl
 
+pub undo_behind_broken : keys (codes "\u{1b}[1;6\u{1a}") ≡ UndoRun ∷ []
+undo_behind_broken = refl
+
+pub erasing_behind_broken : keys (codes "\u{1b}[1;2\u{1b}\u{7f}\u{1b}\u{1b}\u{8}\u{1b}[3\u{7f}") ≡ EraseWord ∷ EraseWord ∷ ErasePoint ∷ []
+erasing_behind_broken = refl
+
 pub f3_behind_broken : keys (codes "\u{1b}O\u{1b}OR") ≡ FindNext ∷ []
 f3_behind_broken = refl
 
@@ -153,6 +178,9 @@ cut_behind_broken = refl
 
 pub behind_escape : keys (codes "\u{1b}\u{17}") ≡ Find ∷ []
 behind_escape = refl
+
+pub questions_behind_broken : keys (codes "\u{1b}\u{7}\u{1b}[1;5\u{b}\u{1b}[7\u{14}") ≡ GoTo ∷ Name ∷ Tell ∷ []
+questions_behind_broken = refl
 
 -- the filter's own CAN is no Cut
 pub own_can : filtered (codes "\u{1b}[1;5\u{1b}Oq") ≡ codes "\u{1b}[1;5\u{18}1"

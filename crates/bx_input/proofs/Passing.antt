@@ -179,16 +179,25 @@ module _ (by_delete : Bool) where
     (
       control_row _ 0x03 refl refl refl refl refl,
       (
-        control_row _ 0x12 refl refl refl refl refl,
+        control_row _ 0x07 refl refl refl refl refl,
         (
-          control_row _ 0x16 refl refl refl refl refl,
+          control_row _ 0x0B refl refl refl refl refl,
           (
-            control_row _ 0x17 refl refl refl refl refl,
+            control_row _ 0x12 refl refl refl refl refl,
             (
-              control_row _ 0x18 refl refl refl refl refl,
+              control_row _ 0x14 refl refl refl refl refl,
               (
-                control_row _ 0x19 refl refl refl refl refl,
-                (control_row _ 0x1A refl refl refl refl refl, (control_row _ 0x0D refl refl refl refl refl, tt)),
+                control_row _ 0x16 refl refl refl refl refl,
+                (
+                  control_row _ 0x17 refl refl refl refl refl,
+                  (
+                    control_row _ 0x18 refl refl refl refl refl,
+                    (
+                      control_row _ 0x19 refl refl refl refl refl,
+                      (control_row _ 0x1A refl refl refl refl refl, (control_row _ 0x0D refl refl refl refl refl, tt)),
+                    ),
+                  ),
+                ),
               ),
             ),
           ),

@@ -8,7 +8,7 @@ use Rattle.bx_keys.specs.declared.key.Key.{Key}
 use Rattle.bx_keys.specs.declared.key.Key.TheVariants.{Insert, Delete, Right, Left, RowHome, RowEnd, Direction}
 use Rattle.bx_keys.specs.declared.key.Key.TheVariants.{Mark, Copy, Cut, Put, Find, FindBack, WordLeft, WordRight, TextStart, TextEnd, Help}
 use Rattle.bx_keys.specs.declared.key.Key.TheVariants.{EraseWord, DeleteWord, FindNext, ErasePoint, NewLine, LineUp, LineDown, PageBack, PageOn}
-use Rattle.bx_keys.specs.declared.key.Key.TheVariants.{Select, UndoRun, RedoRun}
+use Rattle.bx_keys.specs.declared.key.Key.TheVariants.{Select, UndoRun, RedoRun, GoTo, Name, Tell}
 
 -- a sequence of a terminal, the bytes that it becomes, and the editor's keys for these: one, or Select and one
 pub record Row : Type 0 where
@@ -183,12 +183,15 @@ escape_rows =
     ++ (delete_word_keys
     ++ (erase_word_keys ++ (direction_keys ++ (keypad_digits ++ (help_keys ++ (find_keys ++ (word_keys ++ text_end_keys)))))))))))
 
--- CTRL with @ (or the space bar), C, R, V, W, X, Y and Z, and Enter
+-- CTRL with @ (or the space bar), C, G, K, R, T, V, W, X, Y and Z, and Enter
 abbrev pub control_rows : List Row
 control_rows =
     row (0x00 ∷ []) (csi (codes "72~")) Mark
     ∷ row (0x03 ∷ []) (csi (codes "73~")) Copy
+    ∷ row (0x07 ∷ []) (csi (codes "84~")) GoTo
+    ∷ row (0x0B ∷ []) (csi (codes "86~")) Name
     ∷ row (0x12 ∷ []) (csi (codes "71~")) FindBack
+    ∷ row (0x14 ∷ []) (csi (codes "87~")) Tell
     ∷ row (0x16 ∷ []) (csi (codes "75~")) Put
     ∷ row (0x17 ∷ []) (csi (codes "70~")) Find
     ∷ row (0x18 ∷ []) (csi (codes "74~")) Cut

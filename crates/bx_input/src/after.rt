@@ -76,10 +76,13 @@ pub fn control_key(erases_by_delete: bool, byte: u8) -> Option<&'static [u8]>
     match byte {
         0x00 => Some(b"\x1b[72~"),
         0x03 => Some(b"\x1b[73~"),
+        0x07 => Some(b"\x1b[84~"),
         0x08 if erases_by_delete => Some(b"\x1b[88~"),
         0x08 | 0x7F => Some(b"\x1b[94~"),
+        0x0B => Some(b"\x1b[86~"),
         0x0D => Some(b"\x1b[95~"),
         0x12 => Some(b"\x1b[71~"),
+        0x14 => Some(b"\x1b[87~"),
         0x16 => Some(b"\x1b[75~"),
         0x17 => Some(b"\x1b[70~"),
         0x18 => Some(b"\x1b[74~"),

@@ -1,4 +1,5 @@
--- A key does the same to two editors of which the same lasts: what lasts is the same again, by the same edits and steps.
+-- A key outside a search and a question does the same to two editors of which the same lasts: what lasts is the same again, by
+-- the same edits and steps.
 use Rattle.std.proofs.Common.{◌≡◌, ℕ, Bool, true, false, List, [], ◌∷◌, ◌+◌, ◌-◌, length, Option, Some, None, refl, sym, ap, subst, ◌∙◌, if◌then◌else◌}
 use Rattle.std.specs.Prelude.{◌==◌, ◌&&◌, encode_utf8}
 use Rattle.bx_keys.specs.declared.key.Key.{Key}
@@ -16,22 +17,18 @@ use Rattle.bx_runs.specs.declared.typing.Typing.{Typing}
 use Rattle.bx_runs.specs.Runs.{edited, run_end, run_start}
 use Rattle.bx_runs.specs.Typing.{after_insertion, after_removal, goes_on, goes_on_removing, kind_of}
 use Rattle.bx_editor.specs.declared.message.Message.TheVariants.{TextFull, Copied, LineCopied, MarkOff, MarkSet, NothingToCopy, NothingToPut}
-use Rattle.bx_editor.specs.declared.seek.Seek.{Seek}
-use Rattle.bx_editor.specs.declared.seek.Seek.TheVariants.{Off, Begun, Typed}
 use Rattle.bx_editor.specs.declared.soft.Soft.{Soft}
 use Rattle.bx_editor.specs.declared.soft.Soft.TheVariants as softness
-use Rattle.bx_editor.specs.Editor.{Editor, after_redo, after_step, after_undo, cleared, place_after, stored_behind, with_insertion, with_removal, with_typing}
+use Rattle.bx_editor.specs.Editor.{Editor, after_redo, after_step, after_undo, place_after, stored_behind, with_insertion, with_removal, with_typing}
 use Rattle.bx_editor.specs.Effects.{Effect, Types, BeginsLine, Puts, Removes, RemovesWord, Steps, StepsRun, Goes, GoesByRows, Marks, Selects}
-use Rattle.bx_editor.specs.Effects.{Unmarks, Copies, Cuts, Seeks, SeeksNext, Saves, Quits, Turns, Helps, Rests, before, by}
+use Rattle.bx_editor.specs.Effects.{Unmarks, Copies, Cuts, Seeks, SeeksNext, Saves, Quits, Turns, Helps, AsksLine, AsksName, Tells, Rests, Before, before, by}
 use Rattle.bx_editor.specs.Erasing.{after_erasing, after_erasing_word, after_removing, or_selection, removed_on}
-use Rattle.bx_editor.specs.Goal.{goal_behind}
-use Rattle.bx_editor.specs.Keys.{Answer, Letter, Shortens, GoesBack, Next, Previous, Stays, Ends, after_any, after_key, after_user, answer_of, answered, effect_of}
+use Rattle.bx_editor.specs.Keys.{effect_of}
 use Rattle.bx_editor.specs.Putting.{after_character, after_new_line, after_put, has_room, is_paste, line_end, only_paste, put_in, typed, with_selection_replaced, yielding}
 use Rattle.bx_editor.specs.Region.{after_copy, after_cut, after_mark, bytes_in, is_at_mark, is_empty, line, region, taken}
 use Rattle.bx_editor.specs.Runs.{by_run, is_changed_at, run_length}
-use Rattle.bx_editor.specs.Search.{after_beginning, after_letter, is_no_letter, kept, lengthened, longest_query, next_or_start, search_from, sought, with_query, without_search}
-use Rattle.bx_editor.specs.Selecting.{is_selection, selecting, soft_behind, unselected}
-use Rattle.bx_editor.proofs.InSearch.{any-key, each-key}
+use Rattle.bx_editor.specs.Search.{after_beginning, next_or_start, search_from, sought}
+use Rattle.bx_editor.specs.Selecting.{is_selection, selecting, unselected}
 use Rattle.bx_session.proofs.Lasting.{Lasting, lasting, having, effect_is, is_other, is_quitting, is_saving, not_quitting, not_saving}
 
 -- ---- edits and steps
@@ -86,15 +83,15 @@ pub record Alike (e new f new' : Editor) : Type 0 where
   pub first : work new ≡ after_deeds deeds (work e)
   pub other : work new' ≡ after_deeds deeds (work f)
 
-either_alike : (b : Bool) (e p q f p' q' : Editor) → Alike e p f p' → Alike e q f q' → Alike e (if b then p else q) f (if b then p' else q')
+pub either_alike : (b : Bool) (e p q f p' q' : Editor) → Alike e p f p' → Alike e q f q' → Alike e (if b then p else q) f (if b then p' else q')
 either_alike true e p q f p' q' h k = h
 either_alike false e p q f p' q' h k = k
 
 -- no deed
-idle : (e new f new' : Editor) → lasting new ≡ lasting new' → work new ≡ work e → work new' ≡ work f → Alike e new f new'
+pub idle : (e new f new' : Editor) → lasting new ≡ lasting new' → work new ≡ work e → work new' ≡ work f → Alike e new f new'
 idle e new f new' lasts first other = record { lasts = lasts; deeds = []; first = first; other = other }
 
-going_on : (typing : Typing) (e new f new' : Editor) → Alike e new f new' → Alike e (with_typing new typing) f (with_typing new' typing)
+pub going_on : (typing : Typing) (e new f new' : Editor) → Alike e new f new' → Alike e (with_typing new typing) f (with_typing new' typing)
 going_on typing e new f new' h = record {
   lasts = ap (λ (l : Lasting). record l { typing = typing }) h.lasts;
   deeds = h.deeds;
@@ -104,7 +101,7 @@ going_on typing e new f new' h = record {
 
 -- ---- edits
 
-insertion_alike : (d : Data) (e f : Editor) (new : List ℕ) (goes_on : Bool)
+pub insertion_alike : (d : Data) (e f : Editor) (new : List ℕ) (goes_on : Bool)
     → Alike e (with_insertion d e new goes_on) (having (lasting e) f) (with_insertion d (having (lasting e) f) new goes_on)
 insertion_alike d e f new goes_on =
     let after = place_after d e (splice e.content.text e.place e.place new) (e.place + length new) in
@@ -271,99 +268,42 @@ next_alike d e f =
 
 -- ---- a key outside a search
 
-by_alike : (d : Data) (fault : Option StoreFault) (again again' : Bool) (typing : Typing) (e f : Editor) (effect : Effect)
+by_alike : (d : Data) (fault : Option StoreFault) (was was' : Before) (e f : Editor) (effect : Effect)
     → is_saving effect ≡ false → is_quitting effect ≡ false
-    → Alike e (by d fault (record { again = again; typing = typing }) e effect) (having (lasting e) f)
-    (by d None (record { again = again'; typing = typing }) (having (lasting e) f) effect)
-by_alike d fault again again' typing e f (Types c) s q = character_alike d typing e f c
-by_alike d fault again again' typing e f BeginsLine s q = new_line_alike d typing e f
-by_alike d fault again again' typing e f Puts s q = put_alike d e f
-by_alike d fault again again' typing e f (Removes how start stop) s q = erasing_alike d typing how e f start stop
-by_alike d fault again again' typing e f (RemovesWord start stop) s q = word_alike d e f start stop
-by_alike d fault again again' typing e f (Steps step) s q = step_alike step e f
-by_alike d fault again again' typing e f (StepsRun step) s q = runs_alike step e f
-by_alike d fault again again' typing e f (Goes place) s q = record { lasts = refl; deeds = []; first = refl; other = refl }
-by_alike d fault again again' typing e f (GoesByRows way n) s q = record { lasts = refl; deeds = []; first = refl; other = refl }
-by_alike d fault again again' typing e f Marks s q = mark_alike e f
-by_alike d fault again again' typing e f Selects s q = select_alike e f e.mark e.soft
-by_alike d fault again again' typing e f Unmarks s q = record { lasts = refl; deeds = []; first = refl; other = refl }
-by_alike d fault again again' typing e f Copies s q = copy_alike d e f
-by_alike d fault again again' typing e f Cuts s q = cut_alike d e f
-by_alike d fault again again' typing e f Seeks s q = record { lasts = refl; deeds = []; first = refl; other = refl }
-by_alike d fault again again' typing e f SeeksNext s q = next_alike d e f
-by_alike d fault again again' typing e f Saves s q = absurd (cc s)
-by_alike d fault again again' typing e f Quits s q = absurd (cc q)
-by_alike d fault again again' typing e f Turns s q = record { lasts = refl; deeds = []; first = refl; other = refl }
-by_alike d fault again again' typing e f Helps s q = record { lasts = refl; deeds = []; first = refl; other = refl }
-by_alike d fault again again' typing e f Rests s q = record { lasts = refl; deeds = []; first = refl; other = refl }
+    → Alike e (by d fault was e effect) (having (lasting e) f)
+    (by d None (record was' { typing = was.typing }) (having (lasting e) f) effect)
+by_alike d fault was was' e f (Types c) s q = character_alike d was.typing e f c
+by_alike d fault was was' e f BeginsLine s q = new_line_alike d was.typing e f
+by_alike d fault was was' e f Puts s q = put_alike d e f
+by_alike d fault was was' e f (Removes how start stop) s q = erasing_alike d was.typing how e f start stop
+by_alike d fault was was' e f (RemovesWord start stop) s q = word_alike d e f start stop
+by_alike d fault was was' e f (Steps step) s q = step_alike step e f
+by_alike d fault was was' e f (StepsRun step) s q = runs_alike step e f
+by_alike d fault was was' e f (Goes place) s q = record { lasts = refl; deeds = []; first = refl; other = refl }
+by_alike d fault was was' e f (GoesByRows way n) s q = record { lasts = refl; deeds = []; first = refl; other = refl }
+by_alike d fault was was' e f Marks s q = mark_alike e f
+by_alike d fault was was' e f Selects s q = select_alike e f e.mark e.soft
+by_alike d fault was was' e f Unmarks s q = record { lasts = refl; deeds = []; first = refl; other = refl }
+by_alike d fault was was' e f Copies s q = copy_alike d e f
+by_alike d fault was was' e f Cuts s q = cut_alike d e f
+by_alike d fault was was' e f Seeks s q = record { lasts = refl; deeds = []; first = refl; other = refl }
+by_alike d fault was was' e f SeeksNext s q = next_alike d e f
+by_alike d fault was was' e f Saves s q = absurd (cc s)
+by_alike d fault was was' e f Quits s q = absurd (cc q)
+by_alike d fault was was' e f Turns s q = record { lasts = refl; deeds = []; first = refl; other = refl }
+by_alike d fault was was' e f Helps s q = record { lasts = refl; deeds = []; first = refl; other = refl }
+by_alike d fault was was' e f AsksLine s q = record { lasts = refl; deeds = []; first = refl; other = refl }
+by_alike d fault was was' e f AsksName s q = record { lasts = refl; deeds = []; first = refl; other = refl }
+by_alike d fault was was' e f Tells s q = record { lasts = refl; deeds = []; first = refl; other = refl }
+by_alike d fault was was' e f Rests s q = record { lasts = refl; deeds = []; first = refl; other = refl }
 
-pressed_alike : (d : Data) (fault : Option StoreFault) (again again' : Bool) (typing : Typing) (e f : Editor) (key : Key) → is_other key ≡ true
+pub pressed_alike : (d : Data) (fault : Option StoreFault) (was was' : Before) (e f : Editor) (key : Key) → is_other key ≡ true
     → let g = having (lasting e) f in
-    Alike e (by d fault (record { again = again; typing = typing }) e (effect_of d e key)) g
-    (by d None (record { again = again'; typing = typing }) g (effect_of d g key))
-pressed_alike d fault again again' typing e f key other =
+    Alike e (by d fault was e (effect_of d e key)) g
+    (by d None (record was' { typing = was.typing }) g (effect_of d g key))
+pressed_alike d fault was was' e f key other =
     let g = having (lasting e) f in
     let is = effect_is d e f key in
-    subst (λ effect. Alike e (by d fault (record { again = again; typing = typing }) e (effect_of d e key)) g
-    (by d None (record { again = again'; typing = typing }) g effect)) (sym is.0)
-    (by_alike d fault again again' typing e f (effect_of d e key) (is.1 ∙ not_saving key other) (is.2 ∙ not_quitting key other))
-
--- ---- a key in a search
-
-letter_alike : (d : Data) (e f : Editor) (c : ℕ) → Alike e (after_letter d e c) (having (lasting e) f) (after_letter d (having (lasting e) f) c)
-letter_alike d e f c =
-    let g = having (lasting e) f in
-    let longer : Editor → Editor = λ x. search_from d x.place (with_query x (lengthened longest_query (kept x.seek x.query) c)) in
-    either_alike (c == 0xA) e (without_search e) (if is_no_letter d c then e else longer e) g (without_search g) (if is_no_letter d c then g else longer g)
-    (idle e (without_search e) g (without_search g) refl refl refl)
-    (either_alike (is_no_letter d c) e e (longer e) g g (longer g) (idle e e g g refl refl refl) (idle e (longer e) g (longer g) refl refl refl))
-
-over : (e new f new' : Editor) → Alike e new f new' → Alike e (without_search new) f (without_search new')
-over e new f new' h = record {
-  lasts = ap (λ (l : Lasting). record l { seek = Off }) h.lasts;
-  deeds = h.deeds;
-  first = h.first;
-  other = h.other;
-}
-
-answered_alike : (d : Data) (fault : Option StoreFault) (again again' : Bool) (typing : Typing) (e f : Editor) (key : Key) (answer : Answer)
-    → is_other key ≡ true
-    → Alike e (answered d fault (record { again = again; typing = typing }) e key answer) (having (lasting e) f)
-    (answered d None (record { again = again'; typing = typing }) (having (lasting e) f) key answer)
-answered_alike d fault again again' typing e f key (Letter c) other =
-    let g = having (lasting e) f in going_on (only_paste typing) e (after_letter d e c) g (after_letter d g c) (letter_alike d e f c)
-answered_alike d fault again again' typing e f key Shortens other = record { lasts = refl; deeds = []; first = refl; other = refl }
-answered_alike d fault again again' typing e f key GoesBack other = record { lasts = refl; deeds = []; first = refl; other = refl }
-answered_alike d fault again again' typing e f key Next other = record { lasts = refl; deeds = []; first = refl; other = refl }
-answered_alike d fault again again' typing e f key Previous other = record { lasts = refl; deeds = []; first = refl; other = refl }
-answered_alike d fault again again' typing e f key Stays other = record { lasts = refl; deeds = []; first = refl; other = refl }
-answered_alike d fault again again' typing e f key Ends other = over e _ (having (lasting e) f) _ (pressed_alike d fault again again' typing e f key other)
-
-any_alike : (d : Data) (fault : Option StoreFault) (again again' : Bool) (typing : Typing) (seek : Seek) (e f : Editor) (key : Key) → is_other key ≡ true
-    → Alike e (after_any d fault (record { again = again; typing = typing }) seek e key) (having (lasting e) f)
-    (after_any d None (record { again = again'; typing = typing }) seek (having (lasting e) f) key)
-any_alike d fault again again' typing Off e f key other = pressed_alike d fault again again' typing e f key other
-any_alike d fault again again' typing Begun e f key other = answered_alike d fault again again' typing e f key (answer_of key) other
-any_alike d fault again again' typing Typed e f key other = answered_alike d fault again again' typing e f key (answer_of key) other
-
--- ---- any key that is neither Save nor Quit
-
-user_alike : (d : Data) (fault : Option StoreFault) (e f : Editor) (key : Key) → is_other key ≡ true
-    → Alike e (after_user d fault e key) (having (lasting e) f) (after_user d None (having (lasting e) f) key)
-user_alike d fault e f key other =
-    let h = any_alike d fault e.quit_before f.quit_before e.typing e.seek (cleared e) (cleared f) key other in record {
-      lasts = ap (λ (l : Lasting). record l { goal = goal_behind key l.goal; soft = soft_behind key l.soft }) h.lasts;
-      deeds = h.deeds;
-      first = h.first;
-      other = h.other;
-    }
-
-pub key_alike : (d : Data) (fault : Option StoreFault) (e f : Editor) (key : Key) → is_other key ≡ true
-    → Alike e (after_key d fault e key) (having (lasting e) f) (after_key d None (having (lasting e) f) key)
-key_alike d fault e f =
-    let g = having (lasting e) f in
-    each-key d fault e (λ key new. is_other key ≡ true → Alike e new g (after_key d None g key))
-    (λ height width other. record { lasts = refl; deeds = []; first = refl; other = refl })
-    (λ notice other. record { lasts = refl; deeds = []; first = refl; other = refl })
-    (λ other. record { lasts = refl; deeds = []; first = refl; other = refl }, λ other. record { lasts = refl; deeds = []; first = refl; other = refl })
-    (λ key small other. subst (Alike e (after_user d fault e key) g) (sym (any-key d None g key small)) (user_alike d fault e f key other))
+    subst (λ effect. Alike e (by d fault was e (effect_of d e key)) g
+    (by d None (record was' { typing = was.typing }) g effect)) (sym is.0)
+    (by_alike d fault was was' e f (effect_of d e key) (is.1 ∙ not_saving key other) (is.2 ∙ not_quitting key other))

@@ -3,13 +3,16 @@ use Rattle.std.proofs.Common.{◌≡◌, false, Option, Some, None, ap, refl, sy
 use Rattle.bx_keys.specs.declared.key.Key.{Key}
 use Rattle.bx_store.specs.declared.store.StoreFault.{StoreFault}
 use Rattle.bx_ucd.specs.Data.{Data}
+use Rattle.bx_asking.specs.declared.question.Ask.{Ask}
+use Rattle.bx_asking.specs.declared.question.Ask.TheVariants as asks
 use Rattle.bx_editor.specs.declared.seek.Seek.{Seek}
 use Rattle.bx_editor.specs.declared.seek.Seek.TheVariants.{Off, Begun, Typed}
+use Rattle.bx_editor.specs.Asking.{without_ask}
 use Rattle.bx_editor.specs.Editor.{Editor, EditorState, after_save, cleared}
 use Rattle.bx_editor.specs.Effects.{Effect, Types, BeginsLine, Puts, Removes, RemovesWord, Steps, StepsRun, Goes, GoesByRows, Marks, Selects}
-use Rattle.bx_editor.specs.Effects.{Unmarks, Copies, Cuts, Seeks, SeeksNext, Saves, Quits, Turns, Helps, Rests, Before, before, by}
+use Rattle.bx_editor.specs.Effects.{Unmarks, Copies, Cuts, Seeks, SeeksNext, Saves, Quits, Turns, Helps, AsksLine, AsksName, Tells, Rests, Before, before, by}
 use Rattle.bx_editor.specs.Goal.{goal_behind}
-use Rattle.bx_editor.specs.Keys.{Answer, Letter, Shortens, GoesBack, Next, Previous, Stays, Ends, after_any, after_key, answer_of, answered, effect_of, is_save}
+use Rattle.bx_editor.specs.Keys.{Answer, Letter, Shortens, GoesBack, Next, Previous, Stays, Ends, after_any, after_key, answer_of, answered, answered_question, effect_of, is_save}
 use Rattle.bx_editor.specs.Search.{without_search}
 use Rattle.bx_editor.specs.Selecting.{soft_behind}
 use Rattle.bx_editor.proofs.InSearch.{any-key, each-key}
@@ -39,6 +42,9 @@ by_alike d fault was e Saves other = absurd (cc other)
 by_alike d fault was e Quits other = refl
 by_alike d fault was e Turns other = refl
 by_alike d fault was e Helps other = refl
+by_alike d fault was e AsksLine other = refl
+by_alike d fault was e AsksName other = refl
+by_alike d fault was e Tells other = refl
 by_alike d fault was e Rests other = refl
 
 pressed_alike : (d : Data) (fault : Option StoreFault) (was : Before) (e : Editor) (key : Key) → is_save key ≡ false
@@ -55,18 +61,32 @@ answered_alike d fault was e key Previous other = refl
 answered_alike d fault was e key Stays other = refl
 answered_alike d fault was e key Ends other = ap without_search (pressed_alike d fault was e key other)
 
-alike : (d : Data) (fault : Option StoreFault) (was : Before) (seek : Seek) (e : Editor) (key : Key) → is_save key ≡ false
-    → after_any d None was seek e key ≡ after_any d fault was seek e key
-alike d fault was Off e key other = pressed_alike d fault was e key other
-alike d fault was Begun e key other = answered_alike d fault was e key (answer_of key) other
-alike d fault was Typed e key other = answered_alike d fault was e key (answer_of key) other
+-- in a question
+question_alike : (d : Data) (fault : Option StoreFault) (was : Before) (e : Editor) (key : Key) (answer : Answer) → is_save key ≡ false
+    → answered_question d None was e key answer ≡ answered_question d fault was e key answer
+question_alike d fault was e key (Letter c) other = refl
+question_alike d fault was e key Shortens other = refl
+question_alike d fault was e key GoesBack other = refl
+question_alike d fault was e key Next other = pressed_alike d fault was (without_ask e) key other
+question_alike d fault was e key Previous other = pressed_alike d fault was (without_ask e) key other
+question_alike d fault was e key Stays other = refl
+question_alike d fault was e key Ends other = pressed_alike d fault was (without_ask e) key other
+
+alike : (d : Data) (fault : Option StoreFault) (was : Before) (ask : Ask) (seek : Seek) (e : Editor) (key : Key) → is_save key ≡ false
+    → after_any d None was ask seek e key ≡ after_any d fault was ask seek e key
+alike d fault was asks.Off Off e key other = pressed_alike d fault was e key other
+alike d fault was asks.Off Begun e key other = answered_alike d fault was e key (answer_of key) other
+alike d fault was asks.Off Typed e key other = answered_alike d fault was e key (answer_of key) other
+alike d fault was asks.Line seek e key other = question_alike d fault was e key (answer_of key) other
+alike d fault was asks.Name seek e key other = question_alike d fault was e key (answer_of key) other
+alike d fault was asks.Code seek e key other = question_alike d fault was e key (answer_of key) other
 
 unless_save : (d : Data) (fault : Option StoreFault) (e : Editor) (key : Key) → is_save key ≡ false → after_key d None e key ≡ after_key d fault e key
 unless_save d fault e =
     each-key d None e (λ key new. is_save key ≡ false → new ≡ after_key d fault e key) (λ height width other. refl) (λ notice other. refl)
     (λ other. refl, λ other. refl)
     (λ key small other.
-    ap (λ (x : Editor). record x { goal = goal_behind key x.goal; soft = soft_behind key x.soft }) (alike d fault (before e) e.seek (cleared e) key other)
+    ap (λ (x : Editor). record x { goal = goal_behind key x.goal; soft = soft_behind key x.soft }) (alike d fault (before e) e.ask e.seek (cleared e) key other)
     ∙ sym (any-key d fault e key small))
 
 -- ---- nor whether the editor has ended
@@ -97,6 +117,9 @@ by_ended d fault was e Saves = save_ended e fault
 by_ended d fault was e Quits = refl
 by_ended d fault was e Turns = refl
 by_ended d fault was e Helps = refl
+by_ended d fault was e AsksLine = refl
+by_ended d fault was e AsksName = refl
+by_ended d fault was e Tells = refl
 by_ended d fault was e Rests = refl
 
 answered_ended : (d : Data) (fault : Option StoreFault) (was : Before) (e : Editor) (key : Key) (answer : Answer)
@@ -109,16 +132,29 @@ answered_ended d fault was e key Previous = refl
 answered_ended d fault was e key Stays = refl
 answered_ended d fault was e key Ends = by_ended d fault was e (effect_of d e key)
 
-any_ended : (d : Data) (fault : Option StoreFault) (was : Before) (seek : Seek) (e : Editor) (key : Key)
-    → (after_any d fault was seek e key).ended ≡ (after_any d None was seek e key).ended
-any_ended d fault was Off e key = by_ended d fault was e (effect_of d e key)
-any_ended d fault was Begun e key = answered_ended d fault was e key (answer_of key)
-any_ended d fault was Typed e key = answered_ended d fault was e key (answer_of key)
+question_ended : (d : Data) (fault : Option StoreFault) (was : Before) (e : Editor) (key : Key) (answer : Answer)
+    → (answered_question d fault was e key answer).ended ≡ (answered_question d None was e key answer).ended
+question_ended d fault was e key (Letter c) = refl
+question_ended d fault was e key Shortens = refl
+question_ended d fault was e key GoesBack = refl
+question_ended d fault was e key Next = by_ended d fault was (without_ask e) (effect_of d (without_ask e) key)
+question_ended d fault was e key Previous = by_ended d fault was (without_ask e) (effect_of d (without_ask e) key)
+question_ended d fault was e key Stays = refl
+question_ended d fault was e key Ends = by_ended d fault was (without_ask e) (effect_of d (without_ask e) key)
+
+any_ended : (d : Data) (fault : Option StoreFault) (was : Before) (ask : Ask) (seek : Seek) (e : Editor) (key : Key)
+    → (after_any d fault was ask seek e key).ended ≡ (after_any d None was ask seek e key).ended
+any_ended d fault was asks.Off Off e key = by_ended d fault was e (effect_of d e key)
+any_ended d fault was asks.Off Begun e key = answered_ended d fault was e key (answer_of key)
+any_ended d fault was asks.Off Typed e key = answered_ended d fault was e key (answer_of key)
+any_ended d fault was asks.Line seek e key = question_ended d fault was e key (answer_of key)
+any_ended d fault was asks.Name seek e key = question_ended d fault was e key (answer_of key)
+any_ended d fault was asks.Code seek e key = question_ended d fault was e key (answer_of key)
 
 pub same_ended : (d : Data) (fault : Option StoreFault) (e : Editor) (key : Key) → (after_key d fault e key).ended ≡ (after_key d None e key).ended
 same_ended d fault e =
     each-key d fault e (λ key new. new.ended ≡ (after_key d None e key).ended) (λ height width. refl) (λ notice. refl) (refl, refl)
-    (λ key small. any_ended d fault (before e) e.seek (cleared e) key ∙ ap (λ (x : Editor). x.ended) (sym (any-key d None e key small)))
+    (λ key small. any_ended d fault (before e) e.ask e.seek (cleared e) key ∙ ap (λ (x : Editor). x.ended) (sym (any-key d None e key small)))
 
 pub applied : {D : Type 0} (says : D → Data) (fault : Option StoreFault) (old new : EditorState D) (key : Key) → is_save key ≡ false
     → new.editor ≡ after_key (says old.tables) None old.editor key → new.tables ≡ old.tables

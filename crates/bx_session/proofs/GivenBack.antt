@@ -12,6 +12,8 @@ use Rattle.bx_keys.specs.Keys.{key_after}
 use Rattle.bx_text.specs.Edits.{Edit}
 use Rattle.bx_store.specs.declared.store.StoreFault.{StoreFault}
 use Rattle.bx_ucd.specs.Data.{Data}
+use Rattle.bx_asking.specs.declared.question.Ask.{Ask}
+use Rattle.bx_asking.specs.declared.question.Ask.TheVariants as asks
 use Rattle.bx_editor.specs.declared.message.Message.TheVariants.{Unsaved}
 use Rattle.bx_editor.specs.Editor.{Editor, after_save, cleared}
 use Rattle.bx_editor.specs.Effects.{before}
@@ -20,8 +22,6 @@ use Rattle.bx_editor.specs.Replay.{after_passed_save}
 use Rattle.bx_editor.specs.declared.seek.Seek.{Seek}
 use Rattle.bx_editor.specs.declared.seek.Seek.TheVariants.{Off, Begun, Typed}
 use Rattle.bx_editor.specs.Keys.{after_any, after_key, is_save}
-use Rattle.bx_editor.specs.Search.{without_search}
-use Rattle.bx_editor.proofs.InSearch.{save-ends}
 use Rattle.bx_session.specs.declared.error.Refused.{Refused}
 use Rattle.bx_session.specs.declared.error.Refused.TheVariants as refused
 use Rattle.bx_session.specs.declared.status.Status.{Status}
@@ -34,11 +34,12 @@ use Rattle.bx_session.specs.Recovery.{HasAll, HasBack, HasBackMidway, IsKnown, I
 use Rattle.bx_session.specs.Running.{ByteAnswer, FeedsAll, bytes_of}
 use Rattle.bx_session.specs.Saving.{StoreAfter, StoreState, Feeds, is_save_key}
 use Rattle.bx_session.specs.Session.{Session, after_all_replayed, after_replay, after_replayed, at_opening, at_replay_end}
-use Rattle.bx_session.proofs.Alike.{Work, work, after_deeds, key_alike}
+use Rattle.bx_session.proofs.Alike.{Work, work, after_deeds}
+use Rattle.bx_session.proofs.KeysAlike.{key_alike}
 use Rattle.bx_session.proofs.Deeds.{Knows, Tells, Traces, deeds_know, deeds_tell, deeds_trace, knows_text, traced_text}
 use Rattle.bx_session.proofs.Lasting.{Lasting, lasting, having, not_saving}
 use Rattle.bx_session.proofs.Recovered.{Follows, all_follow, byte_follows, byte_leaves, editor_after, ended_back, follows, has_back}
-use Rattle.bx_session.proofs.Replayed.{applies, each-replayed, quit_works}
+use Rattle.bx_session.proofs.Replayed.{applies, each-replayed, quit_works, save_works}
 use Rattle.bx_session.proofs.Versions.{version, version_here}
 
 -- ---- a replay counts as unchanged only with the opened text and no past
@@ -46,9 +47,9 @@ use Rattle.bx_session.proofs.Versions.{version, version_here}
 save_traces : (first : List ℕ) (e : Editor) → Traces first (work e) → Traces first (work (after_passed_save e))
 save_traces first e h = record { chain = h.chain; first_is = h.first_is; stored = inl refl; unchanged = h.unchanged }
 
-key_traces : (d : Data) (first : List ℕ) (e : Editor) (key : Key) → Traces first (work e) → Traces first (work (after_replayed d e.seek e key))
+key_traces : (d : Data) (first : List ℕ) (e : Editor) (key : Key) → Traces first (work e) → Traces first (work (after_replayed d e.ask e.seek e key))
 key_traces d first e key h =
-    each-replayed d e.seek e (λ k new. Traces first (work new)) (save_traces first e h) (subst (Traces first) (sym (quit_works d e.seek e refl)) h)
+    each-replayed d e.ask e.seek e (λ k new. Traces first (work new)) (save_traces first e h) (subst (Traces first) (sym (quit_works d e.ask e.seek e refl refl)) h)
     (λ k other. (let alike = key_alike d None e e k other in
     subst (Traces first) (sym alike.first) (deeds_trace first alike.deeds (work e) h))) key
 
@@ -77,16 +78,19 @@ replaying_more d s (b ∷ bs) more = replaying_more d (after_replay d s b) bs mo
 -- ---- a Quit in a session
 
 -- it changes at most whether the session has ended
-quit_leaves : (d : Data) (fault : Option StoreFault) (seek : Seek) (e : Editor)
-    → (ended : Bool) × (work (after_any d fault (before e) seek (cleared e) Quit) ≡ record (work e) { ended = ended })
-quit_leaves d fault Off e = by_end (not e.changed || e.quit_before) where
+quit_leaves : (d : Data) (fault : Option StoreFault) (ask : Ask) (seek : Seek) (e : Editor)
+    → (ended : Bool) × (work (after_any d fault (before e) ask seek (cleared e) Quit) ≡ record (work e) { ended = ended })
+quit_leaves d fault asks.Off Off e = by_end (not e.changed || e.quit_before) where
   by_end : (ends : Bool) → (ended : Bool)
       × (work (if ends then record (cleared e) { quit_before = true; ended = true } else record (cleared e) { quit_before = true; message = Some Unsaved })
       ≡ record (work e) { ended = ended })
   by_end true = (true, refl)
   by_end false = (e.ended, refl)
-quit_leaves d fault Begun e = (e.ended, refl)
-quit_leaves d fault Typed e = (e.ended, refl)
+quit_leaves d fault asks.Off Begun e = (e.ended, refl)
+quit_leaves d fault asks.Off Typed e = (e.ended, refl)
+quit_leaves d fault asks.Line seek e = (e.ended, refl)
+quit_leaves d fault asks.Name seek e = (e.ended, refl)
+quit_leaves d fault asks.Code seek e = (e.ended, refl)
 
 -- ---- a session that counts as unchanged has a known text
 
@@ -105,7 +109,7 @@ holds_text None text = tt
 holds_text (Some bytes) text = refl
 
 after_saving : (fault : Option StoreFault) (first : List ℕ) (store store' : StoreState) (e : Editor) → StoreAfter true fault e.content.text store store'
-    → Knows (IsKnownIn first store) (work e) → Knows (IsKnownIn first store') (work (without_search (after_save (cleared e) fault)))
+    → Knows (IsKnownIn first store) (work e) → Knows (IsKnownIn first store') (work (after_save (cleared e) fault))
 after_saving None first store store' e stores h = record {
   chain = h.chain;
   stored = subst (IsKnownIn first store') (sym (version_here e.content))
@@ -122,16 +126,16 @@ stays false fault first store store' w was other stores h = subst (λ (s : Store
 
 quit_knows : (d : Data) (fault : Option StoreFault) (P : List ℕ → Type 0) (e : Editor) → Knows P (work e) → Knows P (work (after_key d fault e Quit))
 quit_knows d fault P e h =
-    let leaves = quit_leaves d fault e.seek e in subst (Knows P) (sym leaves.1) (ended_knows P (work e) leaves.0 h)
+    let leaves = quit_leaves d fault e.ask e.seek e in subst (Knows P) (sym leaves.1) (ended_knows P (work e) leaves.0 h)
 
 key_knows : (d : Data) (fault : Option StoreFault) (first : List ℕ) (store store' : StoreState) (e : Editor) (key : Key)
     → StoreAfter (is_save key) fault e.content.text store store' → Knows (IsKnownIn first store) (work e)
     → Knows (IsKnownIn first store') (work (after_key d fault e key))
 key_knows d fault first store store' e key =
     let P = IsKnownIn first store' in
-    each-replayed d e.seek e (λ k new. StoreAfter (is_save k) fault e.content.text store store' → Knows (IsKnownIn first store) (work e)
+    each-replayed d e.ask e.seek e (λ k new. StoreAfter (is_save k) fault e.content.text store store' → Knows (IsKnownIn first store) (work e)
     → Knows P (work (after_key d fault e k)))
-    (λ stores h. subst (Knows P) (sym (ap work (save-ends d fault e))) (after_saving fault first store store' e stores h))
+    (λ stores h. subst (Knows P) (sym (save_works d fault e)) (after_saving fault first store store' e stores h))
     (λ stores h. quit_knows d fault P e (stays false fault first store store' (work e) e.content.text refl stores h))
     (λ k other stores h. (let alike = key_alike d fault e e k other in
     subst (Knows P) (sym alike.first) (deeds_know P alike.deeds (work e)
@@ -149,24 +153,24 @@ ended_tells : (w r : Work) (ended : Bool) → Tells w r → Tells (record w { en
 ended_tells w r ended h = record { content = h.content; runs = h.runs; stored = h.stored; changed = h.changed }
 
 save_tells : (fault : Option StoreFault) (e f : Editor) → Tells (work e) (work f)
-    → Tells (work (without_search (after_save (cleared e) fault))) (work (after_passed_save f))
+    → Tells (work (after_save (cleared e) fault)) (work (after_passed_save f))
 save_tells None e f h = record { content = h.content; runs = h.runs; stored = inl refl; changed = λ is. absurd (cc is) }
 save_tells (Some fault) e f h = record { content = h.content; runs = h.runs; stored = inl refl; changed = h.changed }
 
 quit_tells : (d : Data) (fault : Option StoreFault) (e f : Editor) → let g = having (lasting e) f in
-    Tells (work e) (work g) → Tells (work (after_key d fault e Quit)) (work (after_replayed d e.seek g Quit))
+    Tells (work e) (work g) → Tells (work (after_key d fault e Quit)) (work (after_replayed d e.ask e.seek g Quit))
 quit_tells d fault e f h =
     let g = having (lasting e) f in
-    let leaves = quit_leaves d fault e.seek e in
-    subst (λ (w : Work). Tells w (work (after_replayed d e.seek g Quit))) (sym leaves.1)
-    (subst (Tells (record (work e) { ended = leaves.0 })) (sym (quit_works d e.seek g refl)) (ended_tells (work e) (work g) leaves.0 h))
+    let leaves = quit_leaves d fault e.ask e.seek e in
+    subst (λ (w : Work). Tells w (work (after_replayed d e.ask e.seek g Quit))) (sym leaves.1)
+    (subst (Tells (record (work e) { ended = leaves.0 })) (sym (quit_works d e.ask e.seek g refl refl)) (ended_tells (work e) (work g) leaves.0 h))
 
 like_tells : (d : Data) (fault : Option StoreFault) (e f : Editor) (key : Key) → let g = having (lasting e) f in
-    Tells (work e) (work g) → Tells (work (after_key d fault e key)) (work (after_replayed d e.seek g key))
+    Tells (work e) (work g) → Tells (work (after_key d fault e key)) (work (after_replayed d e.ask e.seek g key))
 like_tells d fault e f key h =
     let g = having (lasting e) f in
-    each-replayed d e.seek g (λ k new. Tells (work (after_key d fault e k)) (work new))
-    (subst (λ (w : Work). Tells w (work (after_passed_save g))) (sym (ap work (save-ends d fault e))) (save_tells fault e g h)) (quit_tells d fault e f h)
+    each-replayed d e.ask e.seek g (λ k new. Tells (work (after_key d fault e k)) (work new))
+    (subst (λ (w : Work). Tells w (work (after_passed_save g))) (sym (save_works d fault e)) (save_tells fault e g h)) (quit_tells d fault e f h)
     (λ k other. (let alike = key_alike d fault e f k other in
     subst (λ (w : Work). Tells w (work (after_key d None g k))) (sym alike.first)
     (subst (Tells (after_deeds alike.deeds (work e))) (sym alike.other) (deeds_tell alike.deeds (work e) (work g) h)))) key
@@ -175,7 +179,7 @@ any_tells : (d : Data) (fault : Option StoreFault) (e f : Editor) (key : Option 
     → Tells (work (editor_after d fault e key)) (work (after_all_replayed d f (option_to_list key)))
 any_tells d fault e f None same h = h
 any_tells d fault e f (Some key) same h =
-    subst (λ (l : Lasting). Tells (work e) (work (having l f)) → Tells (work (after_key d fault e key)) (work (after_replayed d l.seek (having l f) key))) same
+    subst (λ (l : Lasting). Tells (work e) (work (having l f)) → Tells (work (after_key d fault e key)) (work (after_replayed d l.ask l.seek (having l f) key))) same
     (like_tells d fault e f key) h
 
 key_here : (ended : Bool) (key : Option Key) → ended ≡ false → (if ended then None else key) ≡ key
@@ -261,6 +265,9 @@ begins_alike d b settled = record {
   };
   seek = settled.seek;
   origin = refl;
+  ask = settled.ask;
+  answer = refl;
+  one = λ asked. refl;
   typing = settled.typing;
 }
 

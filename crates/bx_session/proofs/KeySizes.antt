@@ -8,6 +8,8 @@ use Rattle.bx_keys.specs.declared.key.Key.TheVariants.{Size}
 use Rattle.bx_grid.specs.Picture.{PictureState}
 use Rattle.bx_store.specs.declared.store.StoreFault.{StoreFault}
 use Rattle.bx_ucd.specs.Data.{Data}
+use Rattle.bx_asking.specs.declared.question.Ask.{Ask}
+use Rattle.bx_asking.specs.declared.question.Ask.TheVariants as asks
 use Rattle.bx_document.specs.History.{next_changes}
 use Rattle.bx_document.specs.declared.history.HistoryStep.{HistoryStep}
 use Rattle.bx_document.specs.declared.history.HistoryStep.TheVariants as history
@@ -20,17 +22,19 @@ use Rattle.bx_editor.specs.declared.seek.Seek.{Seek}
 use Rattle.bx_editor.specs.declared.seek.Seek.TheVariants.{Off, Begun, Typed}
 use Rattle.bx_editor.specs.declared.soft.Soft.{Soft}
 use Rattle.bx_editor.specs.declared.soft.Soft.TheVariants as softness
+use Rattle.bx_editor.specs.Asking.{without_ask}
 use Rattle.bx_editor.specs.Editor.{Editor, after_quit, after_redo, after_save, after_step, after_undo, cleared}
 use Rattle.bx_editor.specs.Effects.{Effect, Types, BeginsLine, Puts, Removes, RemovesWord, Steps, StepsRun, Goes, GoesByRows, Marks, Selects}
-use Rattle.bx_editor.specs.Effects.{Unmarks, Copies, Cuts, Seeks, SeeksNext, Saves, Quits, Turns, Helps, Rests, Before, before, by}
+use Rattle.bx_editor.specs.Effects.{Unmarks, Copies, Cuts, Seeks, SeeksNext, Saves, Quits, Turns, Helps, AsksLine, AsksName, Tells, Rests, Before, before, by}
 use Rattle.bx_editor.specs.Erasing.{after_erasing, after_erasing_word, after_removing, or_selection, removed_on}
-use Rattle.bx_editor.specs.Keys.{Answer, Letter, Shortens, GoesBack, Next, Previous, Stays, Ends, after_any, after_key, answer_of, answered, asks_for_whole, effect_of, is_size_key}
+use Rattle.bx_editor.specs.Keys.{Answer, Letter, Shortens, GoesBack, Next, Previous, Stays, Ends, after_any, after_asking, after_key, answer_of, answered, asks_for_whole, effect_of, is_size_key}
 use Rattle.bx_editor.specs.Putting.{after_character, after_new_line, after_put, has_room, is_paste, line_end, put_in, typed, yielding}
 use Rattle.bx_editor.specs.Region.{after_copy, after_cut, after_mark, is_at_mark, is_empty, line, region, taken}
 use Rattle.bx_editor.specs.Runs.{by_run, run_length}
 use Rattle.bx_editor.specs.Search.{after_letter, is_no_letter, sought}
 use Rattle.bx_editor.specs.Selecting.{is_selection, selecting, unselected}
 use Rattle.bx_editor.proofs.InSearch.{each-key}
+use Rattle.bx_editor.proofs.Questions.{IsKept, question-keeps}
 use Rattle.bx_session.specs.Painting.{FitsEditor}
 
 abbrev pub SameSize : Editor → Editor → Type 0
@@ -131,6 +135,9 @@ by_size d fault was e Saves = save_size e fault
 by_size d fault was e Quits = quit_size e was.again
 by_size d fault was e Turns = (refl, refl)
 by_size d fault was e Helps = (refl, refl)
+by_size d fault was e AsksLine = (refl, refl)
+by_size d fault was e AsksName = (refl, refl)
+by_size d fault was e Tells = (refl, refl)
 by_size d fault was e Rests = (refl, refl)
 
 letter_size : (d : Data) (e : Editor) (c : ℕ) → SameSize e (after_letter d e c)
@@ -146,16 +153,36 @@ answered_size d fault was e key Previous = (refl, refl)
 answered_size d fault was e key Stays = (refl, refl)
 answered_size d fault was e key Ends = by_size d fault was e (effect_of d e key)
 
-any_size : (d : Data) (fault : Option StoreFault) (was : Before) (seek : Seek) (e : Editor) (key : Key) → SameSize e (after_any d fault was seek e key)
-any_size d fault was Off e key = by_size d fault was e (effect_of d e key)
-any_size d fault was Begun e key = answered_size d fault was e key (answer_of key)
-any_size d fault was Typed e key = answered_size d fault was e key (answer_of key)
+-- in a question
+question_size : (d : Data) (e : Editor) → IsKept d (SameSize e)
+question_size d e = record {
+  inserted = λ x new h. h;
+  wrapped = λ x opener closer h. h;
+  told = λ x message h. h;
+  placed = λ x place h. h;
+  typed = λ x typing h. h;
+  asked = λ x ask answer h. h;
+}
+
+asking_size : (d : Data) (fault : Option StoreFault) (was : Before) (e : Editor) (key : Key) → SameSize e (after_asking d fault was e key)
+asking_size d fault was e key =
+    question-keeps d (SameSize e) (question_size d e) fault was e key (answer_of key) (refl, refl)
+    (by_size d fault was (without_ask e) (effect_of d (without_ask e) key))
+
+any_size : (d : Data) (fault : Option StoreFault) (was : Before) (ask : Ask) (seek : Seek) (e : Editor) (key : Key)
+    → SameSize e (after_any d fault was ask seek e key)
+any_size d fault was asks.Off Off e key = by_size d fault was e (effect_of d e key)
+any_size d fault was asks.Off Begun e key = answered_size d fault was e key (answer_of key)
+any_size d fault was asks.Off Typed e key = answered_size d fault was e key (answer_of key)
+any_size d fault was asks.Line seek e key = asking_size d fault was e key
+any_size d fault was asks.Name seek e key = asking_size d fault was e key
+any_size d fault was asks.Code seek e key = asking_size d fault was e key
 
 key_size : (d : Data) (fault : Option StoreFault) (e : Editor) (P : Key → Type 0) → ((height width : ℕ) → P (Size height width) → ⊥) → (key : Key) → P key
     → SameSize e (after_key d fault e key)
 key_size d fault e P none =
     each-key d fault e (λ k new. P k → SameSize e new) (λ height width told. absurd (none height width told)) (λ notice told. (refl, refl))
-    (λ told. (refl, refl), λ told. (refl, refl)) (λ k other told. any_size d fault (before e) e.seek (cleared e) k)
+    (λ told. (refl, refl), λ told. (refl, refl)) (λ k other told. any_size d fault (before e) e.ask e.seek (cleared e) k)
 
 pub other_size : (d : Data) (fault : Option StoreFault) (e : Editor) (key : Key) → is_size_key key ≡ false → SameSize e (after_key d fault e key)
 other_size d fault e = key_size d fault e (λ key. is_size_key key ≡ false) (λ height width told. cc told)

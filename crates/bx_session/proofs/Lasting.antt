@@ -5,10 +5,11 @@ use Rattle.bx_keys.specs.declared.key.Key.TheVariants.{Insert, Erase, Delete, Ba
 use Rattle.bx_keys.specs.declared.key.Key.TheVariants.{Save, Quit, Undo, Redo, Repaint, Direction, Size, Mark, Copy, Cut, Put}
 use Rattle.bx_keys.specs.declared.key.Key.TheVariants.{Find, FindBack, WordLeft, WordRight, TextStart, TextEnd, Help, Notice}
 use Rattle.bx_keys.specs.declared.key.Key.TheVariants.{EraseWord, DeleteWord, ErasePoint, NewLine, FindNext, Cancel, LineUp, LineDown, PageBack, PageOn}
-use Rattle.bx_keys.specs.declared.key.Key.TheVariants.{Select, UndoRun, RedoRun, PasteStart, PasteEnd}
+use Rattle.bx_keys.specs.declared.key.Key.TheVariants.{Select, UndoRun, RedoRun, GoTo, Name, Tell, PasteStart, PasteEnd}
 use Rattle.bx_terms.specs.declared.base.Base.{Base}
 use Rattle.bx_text.specs.Edits.{Edited}
 use Rattle.bx_ucd.specs.Data.{Data}
+use Rattle.bx_asking.specs.declared.question.Ask.{Ask}
 use Rattle.bx_runs.specs.declared.typing.Typing.{Typing}
 use Rattle.bx_editor.specs.declared.seek.Seek.{Seek}
 use Rattle.bx_editor.specs.declared.soft.Soft.{Soft}
@@ -30,6 +31,8 @@ pub record Lasting : Type 0 where
   pub query : List ℕ
   pub seek : Seek
   pub origin : ℕ
+  pub ask : Ask
+  pub answer : List ℕ
   pub typing : Typing
   pub base : Base
   pub goal : Option ℕ
@@ -47,6 +50,8 @@ lasting e = record {
   query = e.query;
   seek = e.seek;
   origin = e.origin;
+  ask = e.ask;
+  answer = e.answer;
   typing = e.typing;
   base = e.base;
   goal = e.goal;
@@ -66,6 +71,8 @@ having l e = record e {
   query = l.query;
   seek = l.seek;
   origin = l.origin;
+  ask = l.ask;
+  answer = l.answer;
   typing = l.typing;
   base = l.base;
   goal = l.goal;
@@ -146,6 +153,9 @@ effect_is d e f PageOn = (refl, refl, refl)
 effect_is d e f Select = (refl, refl, refl)
 effect_is d e f UndoRun = (refl, refl, refl)
 effect_is d e f RedoRun = (refl, refl, refl)
+effect_is d e f GoTo = (refl, refl, refl)
+effect_is d e f Name = (refl, refl, refl)
+effect_is d e f Tell = (refl, refl, refl)
 effect_is d e f PasteStart = (refl, refl, refl)
 effect_is d e f PasteEnd = (refl, refl, refl)
 effect_is d e f (Size height width) = (refl, refl, refl)

@@ -162,7 +162,15 @@ a_recovered_session_goes_on law store store' b new feeds none =
       rest = refl;
       goes_on = refl;
     } in
-    let same : HasBackMidway (with_painting tables replayed) replayed = record { parts = parts; seek = refl; origin = refl; typing = refl } in
+    let same : HasBackMidway (with_painting tables replayed) replayed = record {
+      parts = parts;
+      seek = refl;
+      origin = refl;
+      ask = refl;
+      answer = refl;
+      one = λ asked. refl;
+      typing = refl;
+    } in
     ap (λ (t : Edited). t.text)
     (sym (law.keeps_up tables (with_painting tables replayed) replayed store store' ((0x62, b) ∷ []) new same feeds none).parts.content)
 
@@ -177,7 +185,7 @@ replay_of bytes = unpainted_at tables (record over_ab { journal = bytes })
 
 -- before any key
 settled : IsSettled (after_replaying tables (at_offset tables over_ab) over_ab.journal).editor
-settled = record { seek = refl; typing = refl; stored = λ h. absurd (cc h) }
+settled = record { seek = refl; ask = refl; typing = refl; stored = λ h. absurd (cc h) }
 
 module _ {J : Type 0} (contents : J → Option (List ℕ)) (failures : J → ℕ) (law : JournalsGiveBack contents failures) (new : Session)
     (store store' : StoreState) (writer writer' : Option (List ℕ)) (journal journal' : RecorderState J) where

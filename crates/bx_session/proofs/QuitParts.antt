@@ -11,8 +11,6 @@ use Rattle.bx_store.specs.declared.store.StoreFault.{StoreFault}
 use Rattle.bx_ucd.specs.Data.{Data}
 use Rattle.bx_editor.specs.Editor.{Editor, after_save, cleared}
 use Rattle.bx_editor.specs.Keys.{after_key}
-use Rattle.bx_editor.specs.Search.{without_search}
-use Rattle.bx_editor.proofs.InSearch.{save-ends}
 use Rattle.bx_session.specs.declared.error.Refused.{Refused}
 use Rattle.bx_session.specs.declared.error.Refused.TheVariants as refused
 use Rattle.bx_session.specs.declared.status.Status.{Status}
@@ -25,20 +23,21 @@ use Rattle.bx_session.specs.Saving.{StoreState, Feeds}
 use Rattle.bx_session.specs.Session.{Session}
 use Rattle.bx_session.proofs.Logged.{appends_more, did_more}
 use Rattle.bx_session.proofs.Turns.{FeedsAll-append}
+use Rattle.bx_session.proofs.Alike.{Work}
 use Rattle.bx_session.proofs.Recovered.{Leaves, byte_leaves, editor_after}
-use Rattle.bx_session.proofs.Replayed.{each-replayed, other_goes_on}
+use Rattle.bx_session.proofs.Replayed.{each-replayed, other_goes_on, save_works}
 
 -- ---- only a Quit ends a session
 
-save_goes_on : (e : Editor) (fault : Option StoreFault) → e.ended ≡ false → (without_search (after_save (cleared e) fault)).ended ≡ false
+save_goes_on : (e : Editor) (fault : Option StoreFault) → e.ended ≡ false → (after_save e fault).ended ≡ false
 save_goes_on e None h = h
 save_goes_on e (Some fault) h = h
 
 -- any key but Quit
 key_goes_on : (d : Data) (fault : Option StoreFault) (e : Editor) (key : Key) → is_quit (Some key) ≡ false → e.ended ≡ false → (after_key d fault e key).ended ≡ false
 key_goes_on d fault e key =
-    each-replayed d e.seek e (λ k new. is_quit (Some k) ≡ false → e.ended ≡ false → (after_key d fault e k).ended ≡ false)
-    (λ other h. ap (λ (x : Editor). x.ended) (save-ends d fault e) ∙ save_goes_on e fault h) (λ other h. absurd (cc other))
+    each-replayed d e.ask e.seek e (λ k new. is_quit (Some k) ≡ false → e.ended ≡ false → (after_key d fault e k).ended ≡ false)
+    (λ other h. ap (λ (w : Work). w.ended) (save_works d fault e) ∙ save_goes_on (cleared e) fault h) (λ other h. absurd (cc other))
     (λ k other small h. other_goes_on d fault e k other ∙ h) key
 
 any_goes_on : (d : Data) (fault : Option StoreFault) (e : Editor) (key : Option Key) → is_quit key ≡ false → e.ended ≡ false → (editor_after d fault e key).ended ≡ false

@@ -1,5 +1,5 @@
 -- Replayed bytes restore the session.
-use Rattle.std.proofs.Common.{◌≡◌, ℕ, Bool, true, false, not, ◌&&◌, List, [], ◌∷◌, Option, Some, None, Result, Ok, Err, refl, sym, ap, subst, ◌∙◌, if◌then◌else◌, arith}
+use Rattle.std.proofs.Common.{◌≡◌, ℕ, Bool, true, false, not, ◌&&◌, List, [], ◌∷◌, Option, Some, None, Result, Ok, Err, refl, sym, ap, ap₂, subst, ◌∙◌, if◌then◌else◌, arith}
 use Rattle.std.specs.Prelude.{◌≢◌, ◌||◌, is_some, option_to_list}
 use Rattle.std.proofs.lemmas.List.Elements.{All-tail}
 use Rattle.bx_terms.specs.declared.base.Base.{Base}
@@ -10,15 +10,20 @@ use Rattle.bx_keys.specs.Keys.{key_after, rest_after}
 use Rattle.bx_keys.specs.Waiting.{head_of}
 use Rattle.bx_store.specs.declared.store.StoreFault.{StoreFault}
 use Rattle.bx_ucd.specs.Data.{Data}
+use Rattle.bx_asking.specs.declared.question.Ask.{Ask}
+use Rattle.bx_asking.specs.declared.question.Ask.TheVariants as asks
 use Rattle.bx_editor.specs.declared.message.Message.TheVariants.{Unsaved}
 use Rattle.bx_editor.specs.declared.seek.Seek.{Seek}
 use Rattle.bx_editor.specs.declared.seek.Seek.TheVariants.{Off, Begun, Typed}
+use Rattle.bx_editor.specs.Asking.{without_ask}
 use Rattle.bx_editor.specs.Editor.{Editor, after_save, cleared}
 use Rattle.bx_editor.specs.Effects.{before}
 use Rattle.bx_editor.specs.Keys.{after_any, after_key}
+use Rattle.bx_editor.specs.Prompts.{HasOnePrompt}
 use Rattle.bx_editor.specs.Replay.{after_passed_save}
 use Rattle.bx_editor.specs.Search.{without_search}
 use Rattle.bx_editor.proofs.InSearch.{behind, save-ends}
+use Rattle.bx_editor.proofs.OnePrompt.{keeps-one-prompt}
 use Rattle.bx_session.specs.declared.error.Refused.{Refused}
 use Rattle.bx_session.specs.declared.error.Refused.TheVariants as refused
 use Rattle.bx_session.specs.declared.status.Status.{Status}
@@ -29,14 +34,15 @@ use Rattle.bx_session.specs.Running.{ByteAnswer, FeedsAll, bytes_of}
 use Rattle.bx_session.specs.Saving.{StoreState, AfterByte, Feeds}
 use Rattle.bx_session.specs.Session.{Session, after_all_replayed, at_opening, at_replay_end, after_spending, after_replay, after_replayed, after_replayed_key, is_idle, key_of_byte}
 use Rattle.bx_session.specs.Session.{session_after_any, with_painting, with_painting_owed}
-use Rattle.bx_session.proofs.Alike.{key_alike}
+use Rattle.bx_session.proofs.KeysAlike.{key_alike}
 use Rattle.bx_session.proofs.Input.{keys_of_input}
 use Rattle.bx_session.proofs.Lasting.{Lasting, lasting, having}
 use Rattle.bx_session.proofs.Replayed.{applies, each-replayed, replays_keys}
 
 -- ---- a key leaves the same of a session and of its replay
 
-save_lasts : (e : Editor) (fault : Option StoreFault) → lasting (behind (without_search (after_save (cleared e) fault))) ≡ lasting (after_passed_save e)
+save_lasts : (e : Editor) (fault : Option StoreFault)
+    → lasting (behind (without_ask (without_search (after_save (cleared e) fault)))) ≡ lasting (after_passed_save e)
 save_lasts e None = refl
 save_lasts e (Some fault) = refl
 
@@ -46,29 +52,39 @@ quit_by : (ends : Bool) (e : Editor)
 quit_by true e = refl
 quit_by false e = refl
 
-quit_lasts : (d : Data) (fault : Option StoreFault) (seek : Seek) (e f : Editor) → e.seek ≡ seek
-    → lasting (behind (after_any d fault (before e) seek (cleared e) Quit)) ≡ lasting (after_replayed d seek (having (lasting e) f) Quit)
-quit_lasts d fault Off e f is = quit_by (not e.changed || e.quit_before) (cleared e)
-quit_lasts d fault Begun e f is =
-    let g = having (lasting e) f in ap (λ (now : Seek). lasting (behind (after_any d None (before g) now (cleared g) Quit))) (sym is)
-quit_lasts d fault Typed e f is =
-    let g = having (lasting e) f in ap (λ (now : Seek). lasting (behind (after_any d None (before g) now (cleared g) Quit))) (sym is)
+-- a Quit of a replay that gives up a search or a question, by their states
+abbrev given_up : Data → Editor → Ask → Seek → Lasting
+given_up d g ask seek = lasting (behind (after_any d None (before g) ask seek (cleared g) Quit))
 
-key_lasts : (d : Data) (fault : Option StoreFault) (e f : Editor) (key : Key)
-    → lasting (after_key d fault e key) ≡ lasting (after_replayed d e.seek (having (lasting e) f) key)
-key_lasts d fault e f key =
-    each-replayed d e.seek (having (lasting e) f) (λ k new. lasting (after_key d fault e k) ≡ lasting new)
-    (ap lasting (save-ends d fault e) ∙ save_lasts e fault) (quit_lasts d fault e.seek e f refl) (λ k other. (key_alike d fault e f k other).lasts) key
+quit_lasts : (d : Data) (fault : Option StoreFault) (ask : Ask) (seek : Seek) (e f : Editor) → e.ask ≡ ask → e.seek ≡ seek
+    → lasting (behind (after_any d fault (before e) ask seek (cleared e) Quit)) ≡ lasting (after_replayed d ask seek (having (lasting e) f) Quit)
+quit_lasts d fault asks.Off Off e f asked is = quit_by (not e.changed || e.quit_before) (cleared e)
+quit_lasts d fault asks.Off Begun e f asked is = ap₂ (given_up d (having (lasting e) f)) (sym asked) (sym is)
+quit_lasts d fault asks.Off Typed e f asked is = ap₂ (given_up d (having (lasting e) f)) (sym asked) (sym is)
+quit_lasts d fault asks.Line seek e f asked is = ap (λ (a : Ask). given_up d (having (lasting e) f) a e.seek) (sym asked)
+quit_lasts d fault asks.Name seek e f asked is = ap (λ (a : Ask). given_up d (having (lasting e) f) a e.seek) (sym asked)
+quit_lasts d fault asks.Code seek e f asked is = ap (λ (a : Ask). given_up d (having (lasting e) f) a e.seek) (sym asked)
+
+key_lasts : (d : Data) (fault : Option StoreFault) (e f : Editor) (key : Key) → HasOnePrompt e
+    → lasting (after_key d fault e key) ≡ lasting (after_replayed d e.ask e.seek (having (lasting e) f) key)
+key_lasts d fault e f key one =
+    each-replayed d e.ask e.seek (having (lasting e) f) (λ k new. lasting (after_key d fault e k) ≡ lasting new)
+    (ap lasting (save-ends d fault e one) ∙ save_lasts e fault) (quit_lasts d fault e.ask e.seek e f refl refl)
+    (λ k other. (key_alike d fault e f k other).lasts) key
 
 abbrev pub editor_after : Data → Option StoreFault → Editor → Option Key → Editor
 editor_after d fault e None = e
 editor_after d fault e (Some key) = after_key d fault e key
 
-any_lasts : (d : Data) (fault : Option StoreFault) (e f : Editor) (key : Option Key) → lasting e ≡ lasting f
+any_lasts : (d : Data) (fault : Option StoreFault) (e f : Editor) (key : Option Key) → HasOnePrompt e → lasting e ≡ lasting f
     → lasting (editor_after d fault e key) ≡ lasting (after_all_replayed d f (option_to_list key))
-any_lasts d fault e f None h = h
-any_lasts d fault e f (Some key) h =
-    subst (λ (l : Lasting). lasting (after_key d fault e key) ≡ lasting (after_replayed d l.seek (having l f) key)) h (key_lasts d fault e f key)
+any_lasts d fault e f None one h = h
+any_lasts d fault e f (Some key) one h =
+    subst (λ (l : Lasting). lasting (after_key d fault e key) ≡ lasting (after_replayed d l.ask l.seek (having l f) key)) h (key_lasts d fault e f key one)
+
+any_keeps_one : (d : Data) (fault : Option StoreFault) (e : Editor) (key : Option Key) → HasOnePrompt e → HasOnePrompt (editor_after d fault e key)
+any_keeps_one d fault e None one = one
+any_keeps_one d fault e (Some key) one = keeps-one-prompt d fault e key one
 
 -- ---- the session after a byte
 
@@ -114,6 +130,7 @@ pub record Follows (s r : Session) : Type 0 where
   pub lasts : lasting s.editor ≡ lasting r.editor
   pub rest_is : s.rest ≡ r.rest
   pub goes_on : r.editor.ended ≡ false
+  pub one : HasOnePrompt s.editor
 
 pub byte_follows : (d : Data) (s r : Session) (store store' : StoreState) (b : ℕ) (a : Result Status Refused) (new : Session) → Follows s r
     → s.editor.ended ≡ false → a ≢ Err refused.Edit → Feeds d s store b a new store' → Follows new (after_replay d r b)
@@ -122,11 +139,12 @@ byte_follows d s r store store' b a new before runs some feeds =
     let each = applies d r b before.goes_on in
     record {
       lasts = ap lasting leaves.editor
-          ∙ any_lasts d feeds.0 s.editor r.editor (key_after s.rest b) before.lasts
+          ∙ any_lasts d feeds.0 s.editor r.editor (key_after s.rest b) before.one before.lasts
           ∙ ap (λ rest. lasting (after_all_replayed d r.editor (option_to_list (key_after rest b)))) before.rest_is
           ∙ ap lasting (sym each.editor);
       rest_is = leaves.rest_is ∙ ap (λ rest. head_of (rest_after rest b)) before.rest_is ∙ sym each.rest_is;
       goes_on = each.goes_on;
+      one = subst HasOnePrompt (sym leaves.editor) (any_keeps_one d feeds.0 s.editor (key_after s.rest b) before.one);
     }
 
 pub all_follow : (d : Data) (s r : Session) (store store' : StoreState) (answered : List ByteAnswer) (new : Session) → Follows s r
@@ -140,12 +158,13 @@ all_follow d s r store store' (a ∷ answered) new before feeds none =
 -- ---- for each part
 
 same_lasts : (e f : Editor) → f.content ≡ e.content → f.runs ≡ e.runs → f.place ≡ e.place → f.mark ≡ e.mark → f.soft ≡ e.soft → f.held ≡ e.held → f.query ≡ e.query
-    → f.seek ≡ e.seek → f.origin ≡ e.origin → f.typing ≡ e.typing → f.base ≡ e.base → f.goal ≡ e.goal → f.height ≡ e.height → f.width ≡ e.width → lasting e ≡ lasting f
-same_lasts e f content runs place mark soft held query seek origin typing base goal height width =
+    → f.seek ≡ e.seek → f.origin ≡ e.origin → f.ask ≡ e.ask → f.answer ≡ e.answer → f.typing ≡ e.typing → f.base ≡ e.base → f.goal ≡ e.goal → f.height ≡ e.height → f.width ≡ e.width → lasting e ≡ lasting f
+same_lasts e f content runs place mark soft held query seek origin ask answer typing base goal height width =
     let was = lasting e in
     let placed : Lasting = record was { content = f.content; runs = f.runs; place = f.place } in
     let filled : Lasting = record placed { mark = f.mark; soft = f.soft; held = f.held; query = f.query } in
-    let sought : Lasting = record filled { seek = f.seek; origin = f.origin; typing = f.typing } in
+    let sought : Lasting = record filled { seek = f.seek; origin = f.origin; ask = f.ask; answer = f.answer; typing = f.typing } in
+    let searched : Lasting = record filled { seek = f.seek; origin = f.origin } in
     ap (λ x. record was { content = x }) (sym content)
     ∙ ap (λ x. record was { content = f.content; runs = x }) (sym runs)
     ∙ ap (λ x. record was { content = f.content; runs = f.runs; place = x }) (sym place)
@@ -155,7 +174,9 @@ same_lasts e f content runs place mark soft held query seek origin typing base g
     ∙ ap (λ x. record placed { mark = f.mark; soft = f.soft; held = f.held; query = x }) (sym query)
     ∙ ap (λ x. record filled { seek = x }) (sym seek)
     ∙ ap (λ x. record filled { seek = f.seek; origin = x }) (sym origin)
-    ∙ ap (λ x. record filled { seek = f.seek; origin = f.origin; typing = x }) (sym typing)
+    ∙ ap (λ x. record searched { ask = x }) (sym ask)
+    ∙ ap (λ x. record searched { ask = f.ask; answer = x }) (sym answer)
+    ∙ ap (λ x. record searched { ask = f.ask; answer = f.answer; typing = x }) (sym typing)
     ∙ ap (λ x. record sought { base = x }) (sym base)
     ∙ ap (λ x. record sought { base = f.base; goal = x }) (sym goal)
     ∙ ap (λ x. record sought { base = f.base; goal = f.goal; height = x }) (sym height)
@@ -164,9 +185,10 @@ same_lasts e f content runs place mark soft held query seek origin typing base g
 pub follows : (s r : Session) → HasBackMidway s r → Follows s r
 follows s r h =
     let p = h.parts in record {
-      lasts = same_lasts s.editor r.editor p.content p.runs p.place p.mark p.soft p.held p.query h.seek h.origin h.typing p.base p.goal p.height p.width;
+      lasts = same_lasts s.editor r.editor p.content p.runs p.place p.mark p.soft p.held p.query h.seek h.origin h.ask h.answer h.typing p.base p.goal p.height p.width;
       rest_is = sym p.rest;
       goes_on = p.goes_on;
+      one = h.one;
     }
 
 pub has_back : (s r : Session) → Follows s r → HasBackMidway s r
@@ -188,6 +210,9 @@ has_back s r h = record {
   };
   seek = ap (λ (l : Lasting). l.seek) (sym h.lasts);
   origin = ap (λ (l : Lasting). l.origin) (sym h.lasts);
+  ask = ap (λ (l : Lasting). l.ask) (sym h.lasts);
+  answer = ap (λ (l : Lasting). l.answer) (sym h.lasts);
+  one = h.one;
   typing = ap (λ (l : Lasting). l.typing) (sym h.lasts);
 }
 
@@ -213,21 +238,21 @@ ended_back s r h =
 
 settled_at : (d : Data) (text : List ℕ) (height width : ℕ) (base : Base) (offset : Option ℕ) (unsaved : Bool)
     → IsSettled (changed_if unsaved (after_going_to d (at_opening d text height width base) offset)).editor
-settled_at d text height width base None true = record { seek = refl; typing = refl; stored = λ h. refl }
-settled_at d text height width base None false = record { seek = refl; typing = refl; stored = λ h. absurd (cc h) }
-settled_at d text height width base (Some offset) true = record { seek = refl; typing = refl; stored = λ h. refl }
-settled_at d text height width base (Some offset) false = record { seek = refl; typing = refl; stored = λ h. absurd (cc h) }
+settled_at d text height width base None true = record { seek = refl; ask = refl; typing = refl; stored = λ h. refl }
+settled_at d text height width base None false = record { seek = refl; ask = refl; typing = refl; stored = λ h. absurd (cc h) }
+settled_at d text height width base (Some offset) true = record { seek = refl; ask = refl; typing = refl; stored = λ h. refl }
+settled_at d text height width base (Some offset) false = record { seek = refl; ask = refl; typing = refl; stored = λ h. absurd (cc h) }
 
 save_settles : (d : Data) (s : Session) (byte : ℕ) → key_of_byte s byte ≡ Some keys.Save → IsSettled (after_replay d s byte).editor
 save_settles d s byte is =
     subst (λ (key : Option Key). IsSettled (with_painting_owed (after_replayed_key d (after_spending s byte) key)).editor) (sym is)
-    (record { seek = refl; typing = refl; stored = λ h. refl })
+    (record { seek = refl; ask = refl; typing = refl; stored = λ h. refl })
 
 pub recovery_gives_back : RecoveryGivesBack
 recovery_gives_back = record {
   gives_back = λ d text height width base store store' answered new feeds none.
       let s = at_opening d text height width base in
-      let same : Follows s s = record { lasts = refl; rest_is = refl; goes_on = refl } in
+      let same : Follows s s = record { lasts = refl; rest_is = refl; goes_on = refl; one = λ asked. refl } in
       let replayed = after_replaying d s (bytes_of answered) in
       ended_back new replayed (has_back new replayed (all_follow d s s store store' answered new same feeds none));
   keeps_up = λ d old replayed store store' answered new h feeds none.

@@ -1,4 +1,4 @@
--- Worked examples: what a journal leaves of searches, runs and selections.
+-- Worked examples: what a journal leaves of searches, questions, runs and selections.
 use Rattle.std.proofs.Common.{◌≡◌, ℕ, Bool, true, false, List, [], ◌∷◌, ◌++◌, Option, Some, None, refl}
 use Rattle.std.specs.Prelude.{codes}
 use Rattle.std.specs.Fmt.{digits}
@@ -6,6 +6,8 @@ use Rattle.unicode_segmentation.proofs.Computing.{unicode_segmentation}
 use Rattle.unicode_width.proofs.Computing.{unicode_width}
 use Rattle.bx_runs.specs.declared.typing.Typing.{Typing}
 use Rattle.bx_runs.specs.declared.typing.Typing.TheVariants as typings
+use Rattle.bx_asking.specs.declared.question.Ask.{Ask}
+use Rattle.bx_asking.specs.declared.question.Ask.TheVariants as asks
 use Rattle.bx_editor.specs.declared.seek.Seek.{Seek}
 use Rattle.bx_editor.specs.declared.seek.Seek.TheVariants.{Off}
 use Rattle.bx_editor.specs.declared.soft.Soft.{Soft}
@@ -57,6 +59,39 @@ an_open_search_ends_where_it_stands = refl
 pub the_query_is_kept : (replayed (csi (codes "70~") ++ codes "C")).query ≡ codes "C"
 unfolding unicode_segmentation unicode_width digits
 the_query_is_kept = refl
+
+-- ---- questions
+
+-- GoTo and 2, and a character by its code, not yet told
+abbrev going_to_2 : List ℕ
+going_to_2 = csi (codes "84~") ++ codes "2"
+
+abbrev coding_a : List ℕ
+coding_a = csi (codes "86~") ++ codes "u61"
+
+-- text, place and question
+abbrev asked : List ℕ → List ℕ × ℕ × Ask
+asked bytes = let e = (over (codes "a\nb") bytes).editor in (e.content.text, e.place, e.ask)
+
+pub an_open_question_is_closed : asked going_to_2 ≡ (codes "a\nb", 0, asks.Off)
+unfolding unicode_segmentation unicode_width digits
+an_open_question_is_closed = refl
+
+pub an_answered_one_has_gone : asked (going_to_2 ++ 0xA ∷ codes "x") ≡ (codes "a\nxb", 3, asks.Off)
+unfolding unicode_segmentation unicode_width digits
+an_answered_one_has_gone = refl
+
+pub a_quit_gives_a_question_up : asked (going_to_2 ++ 0x11 ∷ 0xA ∷ []) ≡ (codes "\na\nb", 1, asks.Off)
+unfolding unicode_segmentation unicode_width digits
+a_quit_gives_a_question_up = refl
+
+pub a_save_ends_a_question : asked (going_to_2 ++ 0x13 ∷ 0xA ∷ []) ≡ (codes "\na\nb", 1, asks.Off)
+unfolding unicode_segmentation unicode_width digits
+a_save_ends_a_question = refl
+
+pub a_code_puts_its_character_in : asked (coding_a ++ 0xA ∷ []) ≡ (codes "aa\nb", 1, asks.Off)
+unfolding unicode_segmentation unicode_width digits
+a_code_puts_its_character_in = refl
 
 -- ---- runs
 

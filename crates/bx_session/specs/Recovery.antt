@@ -4,8 +4,10 @@ use Rattle.bx_terms.specs.declared.base.Base.{Base}
 use Rattle.bx_keys.specs.Keys.{decoding}
 use Rattle.bx_keys.specs.declared.key.Key.TheVariants.{Save}
 use Rattle.bx_ucd.specs.Data.{Data}
+use Rattle.bx_asking.specs.declared.question.Ask.TheVariants as asks
 use Rattle.bx_runs.specs.declared.typing.Typing.TheVariants as typings
 use Rattle.bx_editor.specs.Editor.{Editor, at_start}
+use Rattle.bx_editor.specs.Prompts.{HasOnePrompt}
 use Rattle.bx_editor.specs.declared.seek.Seek.TheVariants.{Off}
 use Rattle.bx_session.specs.declared.error.Refused.TheVariants as refused
 use Rattle.bx_session.specs.declared.journal.Backlog.TheVariants.{Empty}
@@ -37,17 +39,22 @@ pub record HasBack (had replayed : Session) : Type 0 where
   pub rest : replayed.rest ≡ had.rest
   pub goes_on : replayed.editor.ended ≡ false
 
--- in the middle of a replay also the state of the search, and what the next edit may go on with
+-- in the middle of a replay also the states of search and question, one of which at most is on, the answer, and what the next
+-- edit may go on with
 pub record HasBackMidway (had replayed : Session) : Type 0 where
   pub parts : HasBack had replayed
   pub seek : replayed.editor.seek ≡ had.editor.seek
   pub origin : replayed.editor.origin ≡ had.editor.origin
+  pub ask : replayed.editor.ask ≡ had.editor.ask
+  pub answer : replayed.editor.answer ≡ had.editor.answer
+  pub one : HasOnePrompt had.editor
   pub typing : replayed.editor.typing ≡ had.editor.typing
 
 -- The end of a replay changes at most which text counts as stored, and only where the text counts as unchanged: no search is on,
--- the next edit begins a run, and no undo leads from a changed text to a stored one.
+-- nothing is asked, the next edit begins a run, and no undo leads from a changed text to a stored one.
 pub record IsSettled (e : Editor) : Type 0 where
   pub seek : e.seek ≡ Off
+  pub ask : e.ask ≡ asks.Off
   pub typing : e.typing ≡ typings.Off
   pub stored : e.changed ≡ true → e.stored ≡ None
 
@@ -57,12 +64,12 @@ pub record RecoveryGivesBack : Type 0 where
   pub gives_back : (d : Data) (text : List ℕ) (height width : ℕ) (base : Base) (store store' : StoreState) (answered : List ByteAnswer)
       (new : Session) → FeedsAll d (at_opening d text height width base) store answered new store' → RefusesNoKey answered
       → HasBack new (after_journal d (at_opening d text height width base) (bytes_of answered))
-  -- the same from any start at which the two sessions agree, in a search too: such a start comes after the cursor was sent to
+  -- the same from any start at which the two sessions agree, in a search or a question too: such a start comes after the cursor was sent to
   -- a line, or after a recovery from a journal that leaves the editor settled
   pub keeps_up : (d : Data) (old replayed : Session) (store store' : StoreState) (answered : List ByteAnswer) (new : Session)
       → HasBackMidway old replayed → FeedsAll d old store answered new store' → RefusesNoKey answered
       → HasBackMidway new (after_replaying d replayed (bytes_of answered))
-  -- the end of the replay ends a search and changes none of these parts
+  -- the end of the replay ends a search or a question and changes none of these parts
   pub ends : (new replayed : Session) → HasBackMidway new replayed → HasBack new (at_replay_end replayed)
   -- before any key of a journal the editor is settled, and so it is behind each Save
   pub settled_first : (d : Data) (b : Beginning) → IsSettled (at_offset d b).editor

@@ -8,6 +8,8 @@ use Rattle.bx_grid.specs.Picture.{PictureState}
 use Rattle.bx_paint.specs.Painting.{whole_bytes, changes_bytes}
 use Rattle.bx_store.specs.declared.store.StoreFault.{StoreFault}
 use Rattle.bx_ucd.specs.Data.{Data}
+use Rattle.bx_asking.specs.declared.question.Ask.{Ask}
+use Rattle.bx_asking.specs.declared.question.Ask.TheVariants as asks
 use Rattle.bx_view.specs.Moves.{place_from}
 use Rattle.bx_editor.specs.Editor.{Editor, at_start, cleared, rows, with_place, with_size}
 use Rattle.bx_editor.specs.declared.seek.Seek.{Seek}
@@ -128,27 +130,27 @@ status_of s = if s.editor.ended then Ended else Running
 
 -- ---- a byte of a journal
 
--- The effect of a key in a replay. A Save and a Quit end what any key ends, and a Save a search too; a Quit gives up a search.
--- Neither stores a text, nor ends the session.
-abbrev pub after_replayed : Data → Seek → Editor → Key → Editor
-after_replayed d seek e Save = after_passed_save e
-after_replayed d Off e Quit = after_passed_quit e
-after_replayed d seek e key = after_key d None e key
+-- The effect of a key in a replay. A Save and a Quit end what any key ends, and a Save a search and a question too; a Quit gives
+-- up a search or a question. Neither stores a text, nor ends the session.
+abbrev pub after_replayed : Data → Ask → Seek → Editor → Key → Editor
+after_replayed d ask seek e Save = after_passed_save e
+after_replayed d asks.Off Off e Quit = after_passed_quit e
+after_replayed d ask seek e key = after_key d None e key
 
 -- keys in sequence
 abbrev pub after_all_replayed : Data → Editor → List Key → Editor
 after_all_replayed d e [] = e
-after_all_replayed d e (key ∷ keys) = after_all_replayed d (after_replayed d e.seek e key) keys
+after_all_replayed d e (key ∷ keys) = after_all_replayed d (after_replayed d e.ask e.seek e key) keys
 
 -- the session after such a key
-abbrev pub session_after_replayed : Data → Seek → Session → Key → Session
-session_after_replayed d seek s Save = record s { editor = after_passed_save s.editor }
-session_after_replayed d Off s Quit = record s { editor = after_passed_quit s.editor }
-session_after_replayed d seek s key = session_after_key d None s key
+abbrev pub session_after_replayed : Data → Ask → Seek → Session → Key → Session
+session_after_replayed d ask seek s Save = record s { editor = after_passed_save s.editor }
+session_after_replayed d asks.Off Off s Quit = record s { editor = after_passed_quit s.editor }
+session_after_replayed d ask seek s key = session_after_key d None s key
 
 abbrev pub after_replayed_key : Data → Session → Option Key → Session
 after_replayed_key d s None = s
-after_replayed_key d s (Some key) = session_after_replayed d s.editor.seek s key
+after_replayed_key d s (Some key) = session_after_replayed d s.editor.ask s.editor.seek s key
 
 -- the byte's key is applied, and a painting is owed
 abbrev pub after_replay : Data → Session → ℕ → Session

@@ -22,6 +22,7 @@ mod status;
 mod wired;
 
 pub use action::{Action, ActionBytes};
+pub use bx_asking::Ask;
 pub use bx_editor::{OpenError, Seek};
 pub use device::{Device, DeviceFault};
 pub use end::{End, RunFault};

@@ -10,31 +10,33 @@ ghost use Rattle.bx_store.specs.Stores.{with_fault};
 use crate::error::Refused;
 use crate::saving::{is_text, save_pieces};
 use crate::session::Session;
+use bx_asking::Ask;
 use bx_editor::Seek;
 use bx_keys::Key;
 use bx_store::{Store, StoreFault};
 use bx_ucd::BidiData;
 
 impl<D: BidiData + Drop> Session<D> {
-    /// Applies a key of a journal. A Save and a Quit end what any key ends, and a Save a search too; a Quit gives up a search.
-    /// Neither stores a text, nor ends the session.
+    /// Applies a key of a journal. A Save and a Quit end what any key ends, and a Save a search and a question too; a Quit gives
+    /// up a search or a question. Neither stores a text, nor ends the session.
     ///
     /// Errors: `Edit` if memory runs out, only for a key that edits, moves, copies or finds; nothing has changed.
     fn press_again(&mut self, key: Key) -> Result<(), Refused>
         requires sides { HasSides key }
         ensures after_key { OnOk result (self.new ≡ record self.old {
-          session = session_after_replayed (D.data self.old.tables) self.old.session.editor.seek self.old.session key;
+          session = session_after_replayed (D.data self.old.tables) self.old.session.editor.ask self.old.session.editor.seek
+              self.old.session key;
         }) }
         ensures err { OnErr result (self.new ≡ self.old) }
         ensures edits { OnErr result (is_edit_or_move key ≡ true) }
         ensures refused { OnErr result (result ≡ Err Refused.Edit) }
     {
-        match (key, self.editor.seek()) {
-            (Key::Save, _) => {
+        match (key, self.editor.ask(), self.editor.seek()) {
+            (Key::Save, _, _) => {
                 self.editor.pass_save();
                 Ok(())
             }
-            (Key::Quit, Seek::Off) => {
+            (Key::Quit, Ask::Off, Seek::Off) => {
                 self.editor.pass_quit();
                 Ok(())
             }
@@ -59,8 +61,8 @@ impl<D: BidiData + Drop> Session<D> {
         Ok(())
     }
 
-    /// Ends a replay: no search is on, the next edit begins a run, and the cursor stays. The text is the stored one unless it
-    /// counts as changed. Paints nothing; call [`Session::paint`] afterwards. Allocates nothing.
+    /// Ends a replay: no search is on, nothing is asked, the next edit begins a run, and the cursor stays. The text is the stored
+    /// one unless it counts as changed. Paints nothing; call [`Session::paint`] afterwards. Allocates nothing.
     pub fn end_replay(&mut self)
         ensures { self.new ≡ record self.old { session = at_replay_end self.old.session } }
     {

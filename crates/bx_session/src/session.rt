@@ -5,6 +5,7 @@ ghost use Rattle.bx_session.specs.Painting.{IsShownOn};
 ghost use Rattle.bx_session.specs.Session.{after_sending, key_of_byte, status_of};
 
 use crate::status::Status;
+use bx_asking::Ask;
 use bx_editor::{Editor, Seek};
 use bx_grid::{Grid, Picture, Screen};
 use bx_keys::{Decoder, Key};
@@ -131,6 +132,20 @@ impl<D: BidiData + Drop> Session<D> {
         ensures { result ≡ self.now.session.editor.seek }
     {
         self.editor.seek()
+    }
+
+    /// What the user is asked. Allocates nothing.
+    pub fn ask(&self) -> Ask
+        ensures { result ≡ self.now.session.editor.ask }
+    {
+        self.editor.ask()
+    }
+
+    /// The answer to the question, or to the latest one. Allocates nothing.
+    pub fn answer(&self) -> &str
+        ensures { result.now ≡ self.now.session.editor.answer }
+    {
+        self.editor.typed_answer()
     }
 
     /// The key that a byte would complete now; none after the session's end. Allocates nothing.

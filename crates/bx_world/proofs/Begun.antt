@@ -10,6 +10,8 @@ use Rattle.bx_grid.specs.Picture.{PictureState, IsIdle, Shows}
 use Rattle.bx_grid.specs.Terminal.{Terminal, reads}
 use Rattle.bx_ucd.specs.Data.{Data}
 use Rattle.bx_editor.specs.Editor.{Editor}
+use Rattle.bx_asking.specs.declared.question.Ask.{Ask}
+use Rattle.bx_asking.specs.declared.question.Ask.TheVariants as asks
 use Rattle.bx_editor.specs.declared.seek.Seek.{Seek}
 use Rattle.bx_editor.specs.declared.seek.Seek.TheVariants.{Off, Begun, Typed}
 use Rattle.bx_editor.specs.Replay.{after_passed_quit, after_passed_save}
@@ -96,19 +98,22 @@ passed_stays t s e height width = record {
       (ap (λ h. (t.height == h) && (t.width == s.editor.width)) (sym height) ∙ ap (λ w. (t.height == e.height) && (t.width == w)) (sym width) ∙ on);
 }
 
-quit_stays : (d : Data) (t : Terminal) (seek : Seek) (s : Session) → StaysKnown t s (session_after_replayed d seek s Quit)
-quit_stays d t Off s = passed_stays t s (after_passed_quit s.editor) refl refl
-quit_stays d t Begun s = key_stays d t s Quit
-quit_stays d t Typed s = key_stays d t s Quit
+quit_stays : (d : Data) (t : Terminal) (ask : Ask) (seek : Seek) (s : Session) → StaysKnown t s (session_after_replayed d ask seek s Quit)
+quit_stays d t asks.Off Off s = passed_stays t s (after_passed_quit s.editor) refl refl
+quit_stays d t asks.Off Begun s = key_stays d t s Quit
+quit_stays d t asks.Off Typed s = key_stays d t s Quit
+quit_stays d t asks.Line seek s = key_stays d t s Quit
+quit_stays d t asks.Name seek s = key_stays d t s Quit
+quit_stays d t asks.Code seek s = key_stays d t s Quit
 
-replayed_stays : (d : Data) (t : Terminal) (seek : Seek) (s : Session) (key : Key) → StaysKnown t s (session_after_replayed d seek s key)
-replayed_stays d t seek s =
-    each-session d seek s (λ key new. StaysKnown t s new) (passed_stays t s (after_passed_save s.editor) refl refl) (quit_stays d t seek s)
+replayed_stays : (d : Data) (t : Terminal) (ask : Ask) (seek : Seek) (s : Session) (key : Key) → StaysKnown t s (session_after_replayed d ask seek s key)
+replayed_stays d t ask seek s =
+    each-session d ask seek s (λ key new. StaysKnown t s new) (passed_stays t s (after_passed_save s.editor) refl refl) (quit_stays d t ask seek s)
     (λ key other. key_stays d t s key)
 
 any_stays : (d : Data) (t : Terminal) (s : Session) (key : Option Key) → StaysKnown t s (after_replayed_key d s key)
 any_stays d t s None = stays_at t s
-any_stays d t s (Some key) = replayed_stays d t s.editor.seek s key
+any_stays d t s (Some key) = replayed_stays d t s.editor.ask s.editor.seek s key
 
 byte_stays : (d : Data) (t : Terminal) (s : Session) (b : ℕ) → StaysKnown t s (after_replay d s b)
 byte_stays d t s b =

@@ -2,7 +2,7 @@
 
 use crate::answers::{add_bytes, add_flag, add_number, add_text};
 use crate::scene::Look;
-use bx_session::{Seek, Session};
+use bx_session::{Ask, Seek, Session};
 use bx_store::{MemoryStore, Store};
 use bx_ucd::BidiData;
 use std::alloc::{AllocError, Global};
@@ -17,11 +17,21 @@ pub struct Seen<'a, D: BidiData + Drop> {
 }
 
 /// The word for a search.
-fn word_of(seek: Seek) -> &'static str {
+fn word_of_search(seek: Seek) -> &'static str {
     match seek {
         Seek::Off => "off",
         Seek::Begun => "begun",
         Seek::Typed => "typed",
+    }
+}
+
+/// The word for a question.
+fn word_of_question(ask: Ask) -> &'static str {
+    match ask {
+        Ask::Off => "off",
+        Ask::Line => "line",
+        Ask::Name => "name",
+        Ask::Code => "code",
     }
 }
 
@@ -45,7 +55,9 @@ impl<D: BidiData + Drop> Seen<'_, D> {
             Look::Mark => add_mark(looks, session.mark()),
             Look::Held => add_bytes(looks, session.held().as_bytes()),
             Look::Query => add_bytes(looks, session.query().as_bytes()),
-            Look::Seek => looks.push_str(word_of(session.seek())),
+            Look::Seek => looks.push_str(word_of_search(session.seek())),
+            Look::Ask => looks.push_str(word_of_question(session.ask())),
+            Look::Answer => add_bytes(looks, session.answer().as_bytes()),
             Look::Changed => add_flag(looks, session.changed()),
             Look::Ended => add_flag(looks, session.ended()),
             Look::Stored => add_text(looks, self.store.contents(), self.file),

@@ -29,6 +29,8 @@ pub enum Look<'a> {
     Held,
     Query,
     Seek,
+    Ask,
+    Answer,
     Changed,
     Ended,
     /// Whether the session was told the window's last size.
@@ -91,6 +93,8 @@ fn look_of(word: &str) -> Result<Look<'_>, WordFault> {
         "held" => Ok(Look::Held),
         "query" => Ok(Look::Query),
         "seek" => Ok(Look::Seek),
+        "ask" => Ok(Look::Ask),
+        "answer" => Ok(Look::Answer),
         "changed" => Ok(Look::Changed),
         "ended" => Ok(Look::Ended),
         "told" => Ok(Look::Told),

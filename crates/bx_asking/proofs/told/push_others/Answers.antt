@@ -1,4 +1,4 @@
-use Rattle.std.proofs.Common.{◌≡◌, ◌∙◌, ◌++◌, ℕ, Bool, true, false, nat_lt, List, [], length, chars, string_bytes, ap, sym, rules, append_assoc, append-nil}
+use Rattle.std.proofs.Common.{◌≡◌, ◌∙◌, ◌++◌, ℕ, true, false, List, [], chars, string_bytes, ap, sym, rules, append_assoc, append-nil}
 use Rattle.std.specs.Prelude.{codes, is_some, if◌then◌else◌}
 use Rattle.bx_asking.proofs.Others.{three, three-written, fifth-is}
 use Rattle.bx_asking.proofs.told.push_others.Goals as goal

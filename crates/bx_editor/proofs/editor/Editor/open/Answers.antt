@@ -1,7 +1,8 @@
 use Rattle.std.proofs.Common.{rules}
+use Rattle.bx_editor.proofs.AnswersKept.{empty-answer}
 use Rattle.bx_editor.proofs.Begin.{begin-is-place}
 use Rattle.bx_editor.proofs.Queries.{few-at-start}
 use Rattle.bx_editor.proofs.editor.Editor.open.Goals as goal
 
 pub invariant_of-result : goal.invariant_of-result
-invariant_of-result g c = (begin-is-place (g.D.BidiData.data c.in-Ok-open.document.tables) _, search rules, tt, few-at-start _ c.new-in-Ok-open.ensures.bytes, tt)
+invariant_of-result g c = (begin-is-place (g.D.BidiData.data c.in-Ok-open.document.tables) _, search rules, tt, few-at-start _ c.new-in-Ok-open.ensures.bytes, empty-answer _ _ c.new-in-Ok-open-2.ensures.bytes, tt)

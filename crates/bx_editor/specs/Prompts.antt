@@ -1,0 +1,9 @@
+-- The prompts of the status row.
+use Rattle.std.specs.Prelude.{◌≡◌, ◌≢◌}
+use Rattle.bx_asking.specs.declared.question.Ask.TheVariants as asks
+use Rattle.bx_editor.specs.declared.seek.Seek.TheVariants as seeks
+use Rattle.bx_editor.specs.Editor.{Editor}
+
+-- while something is asked no search is on
+abbrev pub HasOnePrompt : Editor → Type 0
+HasOnePrompt e = e.ask ≢ asks.Off → e.seek ≡ seeks.Off
