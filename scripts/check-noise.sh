@@ -100,25 +100,11 @@ count_edits() { # FILE
 
 # ---- a run
 
-# Runs a command and writes its status, its processor time in seconds and its peak memory in megabytes.
-cat >measure.py <<'END'
-import os, resource, sys
-
-seconds, told, command = int(sys.argv[1]), sys.argv[2], sys.argv[3:]
-child = os.fork()
-if child == 0:
-    resource.setrlimit(resource.RLIMIT_CPU, (seconds, seconds))
-    os.execvp(command[0], command)
-_, status, used = os.wait4(child, 0)
-with open(told, "w") as file:
-    print(os.waitstatus_to_exitcode(status), f"{used.ru_utime + used.ru_stime:.1f}", used.ru_maxrss // 1024, file=file)
-END
-
 # Runs the editor in a window on `text`, with `keys` as input, 1,024 bytes at a time. Its output goes to a command.
 run_editor() { # ROWS COLS COMMAND..
     rows=$1 cols=$2
     shift 2
-    dd if=keys bs=1024 2>/dev/null | python3 measure.py "$most" ended timeout -k 10 "$longest" "$editor" --rows "$rows" --cols "$cols" \
+    dd if=keys bs=1024 2>/dev/null | python3 "$top/scripts/run_measured.py" "$most" ended timeout -k 10 "$longest" "$editor" --rows "$rows" --cols "$cols" \
         --classes "$top/data/DerivedBidiClass.txt" --brackets "$top/data/BidiBrackets.txt" \
         --mirroring "$top/data/BidiMirroring.txt" --joining "$top/data/ArabicShaping.txt" --characters "$top/data/UnicodeData.txt" \
         text 2>told | "$@"

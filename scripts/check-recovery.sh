@@ -1,11 +1,12 @@
 #!/bin/sh
 # Kills sessions in tmux at a random key, by KILL, HUP and TERM to the host, to the program or to both, and recovers each: all
-# bytes that the program had read must be there. Most sessions end in a search or just behind one, in a paste, with a selection or
-# between runs of changes, and what is typed after the recovery goes into the text, also if the session is killed and recovered
-# once more. recovery_sessions.py makes the keys, and the text after each by a plain model. The script also checks the messages
-# and questions, a full disk under the journal, a replay of 100,000 keys, and the journal's cost for a key. It is not part of
-# `rt ci`. Its words are the number of sessions (200) and the seed of the random keys (1). The last line has the totals. Exit
-# status 1: a check failed; 77: the programs are not built, or there is no tmux or no python3.
+# bytes that the program had read must be there. Most sessions end in a search or just behind one, in a question, behind what it
+# put in or told, in a paste, with a selection or between runs of changes, and what is typed after the recovery goes into the
+# text, also if the session is killed and recovered once more. recovery_sessions.py makes the keys, and the text after each by a
+# plain model. The script also checks the messages and questions, a full disk under the journal, a replay of 100,000 keys, and the
+# journal's cost for a key. It is not part of `rt ci`. Its words are the number of sessions (200) and the seed of the random keys
+# (1). The last line has the totals. Exit status 1: a check failed; 77: the programs are not built, or there is no tmux or no
+# python3.
 set -u
 
 sessions=${1:-200}
@@ -46,30 +47,9 @@ fails() { # NAME DETAIL
 
 # ---- the texts of the sessions
 
-# Reports the fault of a recovered text. The journal must be a beginning of the keys that includes keys1, and the text must be
-# the one after its last key. Without a journal all was saved, and the text is one after some key past keys1.
+# Reports the fault of a recovered text.
 judge() { # SESSION TEXT JOURNAL
-    python3 - "$@" <<'PYTHON'
-import os, sys
-
-def read(*path):
-    with open(os.path.join(*path), "rb") as file:
-        return file.read()
-
-session, text, journal = sys.argv[1:]
-first, second = read(session, "keys1"), read(session, "keys2")
-ends = {int(n): bytes.fromhex(t) for n, t in (line.split(" ") for line in read(session, "ends").decode().splitlines())}
-found = read(text)
-if not os.path.exists(journal):
-    sys.exit(0 if found in [t for n, t in ends.items() if n >= len(first)] else "what was saved is no text of these keys")
-kept = read(journal)
-if not (first + second).startswith(kept):
-    sys.exit("the journal is no beginning of the keys: %r, %r" % (kept, first + second))
-if len(kept) < len(first):
-    sys.exit("the journal has %d of %d bytes whose keys were on the screen" % (len(kept), len(first)))
-wanted = ends[max(n for n in ends if n <= len(kept))]
-sys.exit(0 if found == wanted else "the text is %r, and not %r" % (found.decode(), wanted.decode()))
-PYTHON
+    python3 "$top/scripts/recovery_judge.py" "$@"
 }
 
 # ---- one session
@@ -211,7 +191,7 @@ run_share() { # FIRST STEP
 
 # Runs four sessions at once.
 check_sessions() {
-    python3 "$top/scripts/recovery_sessions.py" "$folder/sessions" "$sessions" "$seed"
+    python3 -B "$top/scripts/recovery_sessions.py" "$folder/sessions" "$sessions" "$seed"
     mkdir "$folder/work"
     for share in 0 1 2 3; do
         run_share "$share" 4 &
@@ -354,14 +334,8 @@ run_editor() { # WORD..
     "$editor" --classes "$top/data/DerivedBidiClass.txt" --brackets "$top/data/BidiBrackets.txt" --mirroring "$top/data/BidiMirroring.txt" "$@"
 }
 
-# Prints COUNT keys: lines of 60 letters, with moves and erasures.
 many_keys() { # COUNT
-    python3 -c '
-import random, sys
-random.seed(2)
-for n in range(int(sys.argv[1])):
-    sys.stdout.buffer.write(b"\r" if n % 61 == 60 else random.choice([b"a", b"b", b" ", "\u05d0".encode(), "\u0628".encode(), b"\x1b[D", b"\x7f"]))
-' "$1"
+    python3 "$top/scripts/recovery_keys.py" "$1"
 }
 
 # On a full disk the journal is given up, and the save succeeds.
@@ -393,42 +367,8 @@ check_replay_time() {
     if [ "$told" = 'known 100000' ] && [ "$milliseconds" -lt 10000 ]; then passes replay; else fails replay "$milliseconds ms, $told"; fi
 }
 
-# Measures the median time from a key's byte to its painting, alternately with and without a journal. Takes the least difference
-# of five rounds, since other load only adds time.
-measure_cost() {
-    python3 - "$folder" "$editor" "$top/data" <<'PYTHON'
-import os, statistics, subprocess, sys, time
-
-folder, editor, data = sys.argv[1:]
-words = [editor, "--classes", data + "/DerivedBidiClass.txt", "--brackets", data + "/BidiBrackets.txt",
-         "--mirroring", data + "/BidiMirroring.txt"]
-
-def median(more):
-    """The median time of 2,000 letters in lines of 50, in microseconds."""
-    program = subprocess.Popen(words + more + [folder + "/none"], stdin=subprocess.PIPE, stdout=subprocess.PIPE,
-                               stderr=subprocess.DEVNULL, bufsize=0)
-    os.read(program.stdout.fileno(), 65536)
-    times = []
-    for n in range(2000):
-        key = b"\r" if n % 50 == 49 else b"a"
-        start = time.perf_counter()
-        program.stdin.write(key)
-        os.read(program.stdout.fileno(), 65536)
-        times.append(time.perf_counter() - start)
-    program.stdin.close()
-    program.wait(60)
-    return statistics.median(times) * 1e6
-
-rounds = [(median([]), median(["--journal", folder + "/cost"])) for _ in range(5)]
-cost = min(kept - bare for bare, kept in rounds)
-print("a key, median in us without a journal and with one: " + ", ".join("%.1f %.1f" % r for r in rounds))
-print("the journal costs %.1f us at a key" % cost)
-sys.exit(cost >= 10)
-PYTHON
-}
-
 check_cost() {
-    if measure_cost; then passes cost; else fails cost 'the journal costs 10 us at a key or more'; fi
+    if python3 "$top/scripts/recovery_cost.py" "$folder" "$editor" "$top/data"; then passes cost; else fails cost 'the journal costs 10 us at a key or more'; fi
 }
 
 : >"$folder/results"

@@ -26,10 +26,10 @@ has_keys() { # SESSION NUMBERS
     grep -q -a -E "$(printf '\033')\[($2)~" "$1/keys"
 }
 
-# Whether a session is for a later editor: this one has no key yet to go to a line, replace, name a character or tell what stands
-# here, and a marked session that searches may find letters that this one takes for others.
+# Whether a session is for a later editor: this one has no key yet to replace, and a marked session that searches may find letters
+# that this one takes for others.
 is_later() { # SESSION
-    has_keys "$1" '8[4-7]' || { [ -e "$1/later" ] && has_keys "$1" '7[01]|92'; }
+    has_keys "$1" 85 || { [ -e "$1/later" ] && has_keys "$1" '7[01]|92'; }
 }
 
 # Makes a new folder for a session to run in.

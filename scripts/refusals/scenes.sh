@@ -105,6 +105,10 @@ check_all_scenes() {
     check_scenes 'a selection replaced' 2 10 616263 "B1b B5b B38 B31 B7e B06 B78 $rest"
     check_scenes 'a run undone and redone' 1 5 61 "B78 B79 B1b B5b B38 B32 B7e B1b B5b B38 B33 B7e $rest"
     check_scenes 'a paste' 3 10 610d0a "B1b B5b B39 B30 B7e B78 B0a B1b B5b B39 B31 B7e $rest"
+    check_scenes 'a line gone to' 2 20 610a62 "B1b B5b B38 B34 B7e B32 B0a $rest"
+    check_scenes 'a region in an isolate' 2 20 616263 "B1b B5b B37 B32 B7e B06 B1b B5b B38 B36 B7e B69 $rest"
+    check_scenes 'a character by its code' 2 20 6162 "B1b B5b B38 B36 B7e B75 B35 B64 B0a $rest"
+    check_scenes 'what stands at the cursor' 2 30 6162 "B1b B5b B38 B37 B7e B06 $rest"
     check_scenes 'down' 3 4 310a320a33 "B1b B5b B42 B1b B5b B42 $rest"
 }
 
@@ -129,6 +133,9 @@ check_all_worked() {
         'ooooooooooooooEooooooo\t- 1 0 - 6162 0 - 61 1 62'
     check_worked 'a copy counts where its painting has no memory' 2 20 6162 "S1000 B$copy pending held B00 pending" alone \
         "oooooPo\\t- 6162 $copied"
+    # GoTo, and the bytes that add "line:" to the status row
+    check_worked 'a question counts where its painting has no memory' 2 30 6162 'S1000 B1b5b38347e pending B00 pending' alone \
+        'oooooPo\t- 1b5b323b37486c696e653a1b5b313b3148'
     # Find and Delete
     find=1b5b37307e delete=1b5b337e
     check_worked 'a letter of a search without memory' 2 30 6162 \

@@ -4,7 +4,7 @@ use std::alloc::{AllocError, Global};
 use std::str;
 
 /// The editor's version.
-pub const VERSION: &str = "0.1.0";
+pub const VERSION: &str = "0.4.0";
 
 /// The usage of the command line, without a line end.
 pub const USAGE: &str = "usage: bidi-edit [--direction auto|ltr|rtl] [--line N | +N] [--force] FILE
@@ -21,7 +21,7 @@ opens what cannot be saved, -n keeps no session, --no-joining joins no letters.
 --recover has back or lists what was typed, --to stores it, --forget deletes it.
 
   Left Right Up Down    move as the screen shows; Left, Right with Ctrl by words
-  Ctrl-B Ctrl-F         move back, forward as the text is stored
+  Ctrl-B Ctrl-F Ctrl-G  go back, on as the text is stored; to a line, 12 or 12:5
   Home End Page Up/Down to the row's start, end, with Ctrl the text's; a window
   Backspace Delete      erase before (a point at a time), at; with Ctrl by words
   Ctrl-S Ctrl-Q         save; quit, twice where not all is saved
@@ -29,13 +29,13 @@ opens what cannot be saved, -n keeps no session, --no-joining joins no letters.
   Ctrl-Space or Ctrl-@  mark where a region begins, or select: Shift with a move
   Ctrl-X Ctrl-C Ctrl-V  cut, copy the region, or else the line; put it in
   Ctrl-W Ctrl-R F3      find forward, back, next; Enter ends it, Escape gives up
-  F1, F2                show keys; direction: auto, ltr, rtl and auto again
+  Ctrl-K Ctrl-T         insert by a mark's letter; tell what is at the cursor
+  F1, F2                show keys; turn: auto, ltr, rtl. More: man bidi_edit
 
 The last row: * where changes are not saved, else -; paragraph:place; a message.
-Marks, in negative image, stand for what has no look of its own:
-  e LRE  E RLE  o LRO  O RLO  p PDF  i LRI  I RLI  f FSI  P PDI
-  ? another control   ~ a character with no columns   # wider than the window
-BIDI_EDIT_DATA: a folder of other Unicode files. More: --version, man bidi_edit.
+Marks, in negative image, of what has no look. Ctrl-K and the letter insert it:
+  e LRE E RLE o LRO O RLO p PDF i LRI I RLI f FSI P PDI  ? control  ~ no columns
+  # too wide; without a mark l LRM r RLM a ALM n ZWNJ j ZWJ, u and a code, Enter
 ";
 
 /// The text of `--help`.

@@ -26,7 +26,7 @@ fn versions_are_told(rt: HostRuntime) -> Result<(), Fail> {
     for (classes, unicode) in cases {
         let found = version_text(rt.alloc(), None, classes)?;
         let wanted = format!(in rt.alloc();
-            "bidi-edit 0.1.0\ntoolchain unknown\nUnicode {unicode}\n"
+            "bidi-edit 0.4.0\ntoolchain unknown\nUnicode {unicode}\n"
         )?;
         assert_eq!(rt; found.as_str(), wanted.as_str());
     }
