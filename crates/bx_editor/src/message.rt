@@ -111,7 +111,7 @@ impl Message {
             Message::Help => {
                 "^S save ^Q quit ^Z undo ^W find ^@ mark ^X cut ^C copy ^V put F2 turn"
             }
-            Message::MoreHelp => "^G line ^K insert ^T tell ^Y redo ^R back ^L paint",
+            Message::MoreHelp => "F4 replace ^G line ^K insert ^T tell ^Y redo ^R back ^L paint",
             Message::MoreThanOneLine => "more than one line",
             Message::NoSuchCharacter => "no such character",
             Message::Told => "",
