@@ -1,14 +1,15 @@
--- Worked examples, each from a law alone: questions, wrapped regions, and what is told.
-use Rattle.std.proofs.Common.{◌≡◌, ℕ, List, [], ◌∷◌, ◌++◌, map, refl, ap, inl, arith}
-use Rattle.std.specs.Prelude.{codes, All, Option, None}
+-- Worked examples of questions, wrapped regions and what is told: each from a law alone, but for one that is computed.
+use Rattle.std.proofs.Common.{◌≡◌, ℕ, List, [], ◌∷◌, ◌++◌, map, replicate, refl, ap, inl, arith}
+use Rattle.std.specs.Prelude.{codes, All, Option, Some, None}
 use Rattle.std.specs.Fmt.{digits}
 use Rattle.std.specs.Str.{chars}
 use Rattle.unicode_segmentation.proofs.Computing.{unicode_segmentation}
 use Rattle.unicode_width.proofs.Computing.{unicode_width}
-use Rattle.bx_terms.specs.declared.base.Base.TheVariants.{Auto}
+use Rattle.bx_terms.specs.declared.base.Base.TheVariants.{Auto, Ltr}
 use Rattle.bx_keys.specs.declared.key.Key.{Key}
 use Rattle.bx_keys.specs.declared.key.Key.TheVariants.{Insert, NewLine, Erase, Forward, TextEnd, Back, Mark, UndoRun, GoTo, Name, Tell}
 use Rattle.bx_resolve.specs.Laws.{level_at}
+use Rattle.bx_resolve.specs.Levels.{levels_under}
 use Rattle.bx_rows.specs.RowPicture.{letter_glyphs}
 use Rattle.bx_text.specs.Edits.{IsRange}
 use Rattle.bx_view.specs.Standing.{body_at}
@@ -102,6 +103,14 @@ b_stands_in_an_isolate law =
       room = omega arith;
     }) in
     (isolated.number, isolated.front, isolated.back, isolated.now)
+
+-- The initiator may have the level of what it isolates, by the letters around: alef, an isolate from right to left with bet in
+-- it, gimel. So the law is of the level at which it stands, 0 here.
+pub the_initiator_may_be_as_high : levels_under tables Ltr (0x5D0 ∷ 0x2067 ∷ 0x5D1 ∷ 0x2069 ∷ 0x5D2 ∷ []) ≡ replicate 5 (Some 1)
+the_initiator_may_be_as_high = refl
+
+pub bet_is_above : IsolatesRaise → IsAbove 0 (level_at tables Ltr (0x5D0 ∷ 0x2067 ∷ 0x5D1 ∷ 0x2069 ∷ 0x5D2 ∷ []) 2)
+bet_is_above law = law tables Ltr (0x5D0 ∷ []) (0x5D1 ∷ []) (0x2069 ∷ 0x5D2 ∷ []) 0x2067 refl (omega arith) 0 (omega arith) refl
 
 -- a, an isolate from right to left with b in it, c
 pub b_is_above : IsolatesRaise → IsAbove 0 (level_at tables Auto (0x61 ∷ 0x2067 ∷ 0x62 ∷ 0x2069 ∷ 0x63 ∷ []) 2)

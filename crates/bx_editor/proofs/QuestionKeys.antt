@@ -24,12 +24,13 @@ use Rattle.bx_editor.specs.AskingLaws.{IsUntouched, QuestionsChangeThemselves, S
 use Rattle.bx_editor.specs.Editor.{Editor, cleared, with_insertion, with_typing}
 use Rattle.bx_editor.specs.Effects.{Effect}
 use Rattle.bx_editor.specs.Effects.{AsksLine, AsksName, Before, before, by}
-use Rattle.bx_editor.specs.Keys.{Answer, Letter, Shortens, GoesBack, Stays, after_any, after_asking, after_key, after_user, answer_of, answered_question, as_left, effect_of, is_told_key}
+use Rattle.bx_editor.specs.Keys.{Answer, Letter, Shortens, GoesBack, Stays, after_any, after_asking, after_key, answer_of, answered_question, as_left, effect_of, is_told_key}
 use Rattle.bx_editor.specs.Laws.{after_typing}
 use Rattle.bx_editor.specs.Putting.{is_paste, only_paste}
 use Rattle.bx_editor.specs.Region.{is_empty, region}
 use Rattle.bx_editor.specs.Selecting.{aged, mark_left, soft_behind, soft_left}
 use Rattle.bx_editor.specs.Wrapping.{after_wrapping, spans_lines, with_wrap}
+use Rattle.bx_editor.proofs.InSearch.{any-key}
 use Rattle.bx_editor.proofs.QuestionKept.{effect-keeps}
 
 -- ---- a question takes the keys
@@ -40,13 +41,6 @@ asked-any d fault was Off seek e key on = absurd (on refl)
 asked-any d fault was Line seek e key on = refl
 asked-any d fault was Name seek e key on = refl
 asked-any d fault was Code seek e key on = refl
-
-pub user-key : (d : Data) (fault : Option StoreFault) (e : Editor) (key : Key) → is_told_key key ≡ false → after_key d fault e key ≡ after_user d fault e key
-user-key d fault e (keys.Size height width) told = absurd (cc told)
-user-key d fault e (keys.Notice notice) told = absurd (cc told)
-user-key d fault e keys.PasteStart told = absurd (cc told)
-user-key d fault e keys.PasteEnd told = absurd (cc told)
-user-key d fault e _ told = refl
 
 -- ---- no question is on behind what an answer puts in
 
@@ -172,7 +166,7 @@ alone d fault e _ new h is kept = absurd (cc h)
 -- the answered key, while a question is on
 pub asked-key : (d : Data) (fault : Option StoreFault) (e : Editor) (key : Key) → e.ask ≢ Off → is_told_key key ≡ false
     → after_key d fault e key ≡ as_left key (answered_question d fault (before e) (cleared e) key (answer_of key))
-asked-key d fault e key on told = user-key d fault e key told ∙ ap (as_left key) (asked-any d fault (before e) e.ask e.seek (cleared e) key on)
+asked-key d fault e key on told = any-key d fault e key told ∙ ap (as_left key) (asked-any d fault (before e) e.ask e.seek (cleared e) key on)
 
 still-on : (e new : Editor) (key : Key) → e ≡ as_left key new → e.ask ≢ Off → new.ask ≢ Off
 still-on e new key is on none = on (ap (λ (x : Editor). x.ask) is ∙ none)
