@@ -1,0 +1,23 @@
+def sub(p,*pairs):
+    t=open(p,encoding='utf-8').read()
+    for a,b in pairs:
+        assert t.count(a)==1,(p,a,t.count(a))
+        t=t.replace(a,b)
+    open(p,'w',encoding='utf-8').write(t)
+sub('crates/bx_document/src/first_separator.rt',("    /// None of them is a separator.\n","    /// There is no separator yet.\n"),("/// What characters tell of the first separator of a text that begins with them.","/// What the characters so far, at a text's beginning, say of its first separator."),("    /// The first separator is the last of them, a CR.\n","    /// The last of them is the first separator, a CR: an LF may follow.\n"))
+sub('host/main.c',("/* Says the window, since a session notes its first one. */","/* Sends the window's size: a session notes its first one. */"))
+sub('crates/bx_rows/specs/Shown.antt',("-- the glyph of a drawn one","-- the glyph that a `Drawn` stands for"))
+s='scripts/'
+sub(s+'check-build.sh',("# Checks what is told before the first build","# Checks what is said before the first build"),("that a link to the script and a host that is missing are no fault.","that neither a link to the script nor a missing host is a fault."))
+sub(s+'check-data.sh',("# surrogates are no characters","# surrogates are not characters"))
+sub(s+'check-refusals.sh',("each told size.","each size that is typed."))
+sub(s+'check-saves.sh',("`kept` the file behind it","`kept` the file it leads to"),("# Checks the cause that the last row told.","# Checks the cause in the last row."))
+sub(s+'check-statuses.sh',("whose tests call the functions behind `main` and not the","whose tests call the functions that `main` calls and not the"))
+sub(s+'unicode_answers.sh',("or a boundary neutral that is no control,","or a boundary neutral that is not a control,"),("Type U is not told.","Type U is not printed."))
+sub(s+'launcher/keys.sh',("the blanks behind it","the blanks after it"))
+sub(s+'refusals/scenes.sh',("a told size, and each byte","a size, and each byte"))
+sub(s+'shared_system/names.sh',("# Prints what is told of a FILE:","# Prints the message about a FILE:"),("# Checks the title, and what is told of a fault of the program's about the name.","# Checks the title, and the message about a fault of the program's about the name."))
+sub(s+'shared_system/places.sh',("nothing is told, nothing is made","nothing is said, nothing is made"))
+sub(s+'terminals/checks.sh',("in a terminal that is told not to reorder.","in a terminal that was asked not to reorder."),("a key right behind an Escape","a key right after an Escape"))
+sub(s+'terminals/kinds.sh',("# it asks before a paste of lines unless it is told not to","# it asks before a paste of lines unless it was set not to"),("and are told as the host tells them;","and get what the host sends;"),("also where it is told not to reorder.","also where it was asked not to reorder."),("wraps a combining mark behind the last column","wraps a combining mark after the last column"))
+sub('host/build.sh',("options behind the compiler's name","options after the compiler's name"))
