@@ -18,7 +18,8 @@ use Rattle.bx_runs.specs.declared.typing.Typing.TheVariants as typings
 use Rattle.bx_runs.proofs.RunLaws.{edit-is-of-its-run}
 use Rattle.bx_ucd.specs.Data.{Data}
 use Rattle.bx_editor.specs.declared.message.Message.TheVariants as messages
-use Rattle.bx_editor.specs.Asking.{after_answer_letter, after_code, after_code_letter, after_going, after_line_letter, after_name_letter, after_named, gone_to, longest_code, longest_line, with_answer, with_character, without_ask}
+use Rattle.bx_editor.specs.Asking.{after_answer_letter, after_code, after_code_letter, after_going, after_line_letter, after_name_letter, after_named}
+use Rattle.bx_editor.specs.Asking.{gone_to, longest_code, longest_line, with_answer, with_character, without_ask}
 use Rattle.bx_editor.specs.AskingLaws.{AnswerIsARun, types}
 use Rattle.bx_editor.specs.Editor.{Editor, cleared, with_insertion, with_typing}
 use Rattle.bx_editor.specs.Keys.{after_key, as_left}

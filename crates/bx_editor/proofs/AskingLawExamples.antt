@@ -14,7 +14,8 @@ use Rattle.bx_text.specs.Edits.{IsRange}
 use Rattle.bx_view.specs.Standing.{body_at}
 use Rattle.bx_document.specs.QueryRow.{typed_glyphs}
 use Rattle.bx_store.specs.declared.store.StoreFault.{StoreFault}
-use Rattle.bx_editor.specs.AskingLaws.{AnswerIsARun, CodePutsIn, IsAbove, IsShown, PromptsAreShown, IsolatesRaise, LetterIsolates, LetterPutsIn, LetterWraps, QuestionsChangeThemselves, TellShows, TellsWhatStands, ToldNumbersLeadBack}
+use Rattle.bx_editor.specs.AskingLaws.{AnswerIsARun, CodePutsIn, IsAbove, IsShown, PromptsAreShown, IsolatesRaise, LetterIsolates, LetterPutsIn}
+use Rattle.bx_editor.specs.AskingLaws.{LetterWraps, QuestionsChangeThemselves, TellShows, TellsWhatStands, ToldNumbersLeadBack}
 use Rattle.bx_editor.specs.Editor.{Editor}
 use Rattle.bx_editor.specs.Status.{status_text}
 use Rattle.bx_editor.specs.Telling.{told_at_place}

@@ -1,5 +1,6 @@
 -- The levels of what stands in an isolate.
-use Rattle.std.proofs.Common.{◌≡◌, ◌<◌, ◌≤◌, ◌+◌, ◌*◌, ◌∙◌, ℕ, zero, suc, List, [], ◌∷◌, ◌++◌, get_or, length, map, refl, ap, sym, subst, arith, Bool, true, false, ◌==◌, cond, Option, Some, None, is_some}
+use Rattle.std.proofs.Common.{◌≡◌, ◌<◌, ◌≤◌, ◌+◌, ◌*◌, ◌∙◌, ℕ, zero, suc, List, [], ◌∷◌, ◌++◌, get_or, length, map, refl, ap, sym, subst, arith, Bool}
+use Rattle.std.proofs.Common.{true, false, ◌==◌, cond, Option, Some, None, is_some}
 use Rattle.std.specs.Prelude.{count_by, nat_lt}
 use Rattle.std.proofs.lemmas.Bool.Decides.{nat_tests}
 use Rattle.std.proofs.lemmas.List.{drop_at, get_or_append_left, length-append, length-map, map-append}

@@ -19,7 +19,8 @@ use Rattle.bx_ucd.specs.Data.{Data}
 use Rattle.bx_editor.specs.declared.message.Message.TheVariants as messages
 use Rattle.bx_editor.specs.declared.seek.Seek.{Seek}
 use Rattle.bx_editor.specs.declared.soft.Soft.TheVariants as softness
-use Rattle.bx_editor.specs.Asking.{after_answer_letter, after_code, after_code_letter, after_going, after_line_letter, after_name_letter, after_named, after_shorter_answer, gone_to, longest_code, longest_line, with_answer, with_character, without_ask}
+use Rattle.bx_editor.specs.Asking.{after_answer_letter, after_code, after_code_letter, after_going, after_line_letter, after_name_letter, after_named}
+use Rattle.bx_editor.specs.Asking.{after_shorter_answer, gone_to, longest_code, longest_line, with_answer, with_character, without_ask}
 use Rattle.bx_editor.specs.AskingLaws.{IsUntouched, QuestionsChangeThemselves, StaysAsked, erases, types}
 use Rattle.bx_editor.specs.Editor.{Editor, cleared, with_insertion, with_typing}
 use Rattle.bx_editor.specs.Effects.{Effect}

@@ -1,5 +1,6 @@
 -- Laws of questions and their answers, of what an answer puts in, and of what is told of a unit.
-use Rattle.std.specs.Prelude.{◌≡◌, ◌≢◌, ◌⊎◌, ℕ, ◌+◌, ◌==◌, ◌||◌, ◌<◌, ◌≤◌, Bool, true, false, List, [], ◌∷◌, ◌++◌, length, map, take, drop, count_by, chars, codes, decimal, encode_utf8, Option, Some, None, All, IsUtf8, if◌then◌else◌}
+use Rattle.std.specs.Prelude.{◌≡◌, ◌≢◌, ◌⊎◌, ℕ, ◌+◌, ◌==◌, ◌||◌, ◌<◌, ◌≤◌, Bool, true, false, List, [], ◌∷◌, ◌++◌, length, map, take, drop, count_by}
+use Rattle.std.specs.Prelude.{chars, codes, decimal, encode_utf8, Option, Some, None, All, IsUtf8, if◌then◌else◌}
 use Rattle.std.specs.List.{concat}
 use Rattle.bx_terms.specs.Characters.{are_ascii_printable}
 use Rattle.bx_terms.specs.Glyphs.{is_one_glyph, run_width}
@@ -276,8 +277,8 @@ pub record IsUnitAt (d : Data) (e : Editor) (number : ℕ) (front : List (List �
   pub units : graphemes true (body_at d e.content.text number) ≡ front ++ unit ∷ rest
   pub place_is : e.place ≡ start_at d e.content.text number + length (concat front)
 
--- Of a unit are told its first character's code and class, those of three more, and the level of its first character that has
--- one. At the text's end that is told. It is printable ASCII, whatever the text has.
+-- Tell shows the codes and classes of the unit's first four characters, and the level of its first character that has one. At
+-- the text's end it says so. What it shows is printable ASCII for any text.
 pub record TellsUnit (d : Data) (e : Editor) : Type 0 where
   pub unit : (number : ℕ) (front : List (List ℕ)) (unit : List ℕ) (rest : List (List ℕ)) → IsUnitAt d e number front unit rest
       → (c : ℕ) (cs : List ℕ) → chars unit ≡ c ∷ cs → (i level : ℕ) → i < length (chars unit)

@@ -12,7 +12,8 @@ use Rattle.bx_rows.specs.RowPicture.{Glyph}
 pub use Rattle.bx_document.specs.QueryRow.{glyph_row, letter_glyphs, query_glyphs, typed_glyphs}
 use Rattle.bx_editor.specs.declared.message.Message.{Message}
 use Rattle.bx_editor.specs.declared.message.Message.TheVariants.{Saved, SaveFailed, TextFull, NothingToUndo, NothingToRedo, Unsaved, Direction, MarkSet, MarkOff}
-use Rattle.bx_editor.specs.declared.message.Message.TheVariants.{Copied, LineCopied, NothingToCopy, NothingToPut, FromStart, FromEnd, NotFound, Help, MoreHelp, MoreThanOneLine, NoSuchCharacter, Told, Notice}
+use Rattle.bx_editor.specs.declared.message.Message.TheVariants.{Copied, LineCopied, NothingToCopy, NothingToPut, FromStart, FromEnd, NotFound, Help}
+use Rattle.bx_editor.specs.declared.message.Message.TheVariants.{MoreHelp, MoreThanOneLine, NoSuchCharacter, Told, Notice}
 use Rattle.bx_editor.specs.declared.seek.Seek.{Seek}
 use Rattle.bx_editor.specs.declared.seek.Seek.TheVariants.{Off, Begun, Typed}
 use Rattle.bx_ucd.specs.Data.{Data}

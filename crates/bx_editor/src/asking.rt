@@ -6,7 +6,8 @@ ghost use Rattle.bx_asking.specs.Codes.{coded};
 ghost use Rattle.bx_asking.specs.Names.{closing};
 ghost use Rattle.bx_document.specs.QueryRow.{IsNarrow};
 ghost use Rattle.bx_editor.specs.Answers.{limit_of};
-ghost use Rattle.bx_editor.specs.Asking.{after_answer_letter, after_code, after_going, after_line_letter, after_named, after_shorter_answer, asking, target_place, with_answer, with_character, without_ask};
+ghost use Rattle.bx_editor.specs.Asking.{after_answer_letter, after_code, after_going, after_line_letter, after_named, after_shorter_answer, asking};
+ghost use Rattle.bx_editor.specs.Asking.{target_place, with_answer, with_character, without_ask};
 ghost use Rattle.bx_editor.specs.Editor.{cleared, with_typing};
 ghost use Rattle.bx_editor.specs.Putting.{only_paste};
 

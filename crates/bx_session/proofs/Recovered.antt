@@ -158,7 +158,8 @@ all_follow d s r store store' (a ∷ answered) new before feeds none =
 -- ---- for each part
 
 same_lasts : (e f : Editor) → f.content ≡ e.content → f.runs ≡ e.runs → f.place ≡ e.place → f.mark ≡ e.mark → f.soft ≡ e.soft → f.held ≡ e.held → f.query ≡ e.query
-    → f.seek ≡ e.seek → f.origin ≡ e.origin → f.ask ≡ e.ask → f.answer ≡ e.answer → f.typing ≡ e.typing → f.base ≡ e.base → f.goal ≡ e.goal → f.height ≡ e.height → f.width ≡ e.width → lasting e ≡ lasting f
+    → f.seek ≡ e.seek → f.origin ≡ e.origin → f.ask ≡ e.ask → f.answer ≡ e.answer → f.typing ≡ e.typing
+    → f.base ≡ e.base → f.goal ≡ e.goal → f.height ≡ e.height → f.width ≡ e.width → lasting e ≡ lasting f
 same_lasts e f content runs place mark soft held query seek origin ask answer typing base goal height width =
     let was = lasting e in
     let placed : Lasting = record was { content = f.content; runs = f.runs; place = f.place } in

@@ -5,4 +5,8 @@ use Rattle.bx_editor.proofs.Queries.{few-at-start}
 use Rattle.bx_editor.proofs.editor.Editor.open.Goals as goal
 
 pub invariant_of-result : goal.invariant_of-result
-invariant_of-result g c = (begin-is-place (g.D.BidiData.data c.in-Ok-open.document.tables) _, search rules, tt, few-at-start _ c.new-in-Ok-open.ensures.bytes, empty-answer _ _ c.new-in-Ok-open-2.ensures.bytes, tt)
+invariant_of-result g c =
+    let d = g.D.BidiData.data c.in-Ok-open.document.tables in
+    let query = few-at-start _ c.new-in-Ok-open.ensures.bytes in
+    let answer = empty-answer _ _ c.new-in-Ok-open-2.ensures.bytes in
+    (begin-is-place d _, search rules, tt, query, answer, tt)
