@@ -4,8 +4,12 @@ use Rattle.std.specs.Prelude.{Bool, codes, encode_utf8_all}
 use Rattle.std.specs.Str.{chars}
 use Rattle.std.specs.Char.{encode_utf8}
 use Rattle.bx_ucd.specs.SmallTables.{small}
-use Rattle.bx_find.specs.Letters.{is_passed_over, letters}
-use Rattle.bx_find.specs.Matches.{first_from, last_before}
+use Rattle.bx_find.specs.Letters.{is_passed_over, letters, letters_of, letters_by}
+use Rattle.bx_find.specs.Matches.{first_from, last_before, first_from_by, first_before, last_from}
+use Rattle.bx_find.specs.Spans.{spans_from}
+use Rattle.bx_find.specs.declared.reading.Reading.TheVariants.{Wide, Close}
+use Rattle.ucd_case.proofs.Computing.{ucd_case}
+use Rattle.unicode_normalization.proofs.Computing.{unicode_normalization}
 
 -- ---- the characters that a search passes over
 
@@ -105,3 +109,87 @@ other_letters_have_case = refl
 over_the_bound : map (last (codes "ab") (codes "abab")) (2 ∷ 3 ∷ []) ≡ Some 0 ∷ Some 2 ∷ []
 unfolding chars encode_utf8
 over_the_bound = refl
+
+-- ---- widely read
+
+abbrev wide : ℕ → List ℕ
+wide c = letters_of small Wide c
+
+-- an accent is no letter, whether it is written with its letter or behind it
+accents_fall : map wide (0xc9 ∷ 0xe9 ∷ 0x301 ∷ 0x45 ∷ []) ≡ (0x65 ∷ []) ∷ (0x65 ∷ []) ∷ [] ∷ (0x65 ∷ []) ∷ []
+unfolding unicode_normalization ucd_case
+accents_fall = refl
+
+-- a letter that folds to two, and a ligature to three
+several_letters : map wide (0xdf ∷ 0x1e9e ∷ 0xfb03 ∷ []) ≡ codes "ss" ∷ codes "ss" ∷ codes "ffi" ∷ []
+unfolding unicode_normalization ucd_case
+several_letters = refl
+
+-- an iota below falls before it would be folded; a dotted I is an i, and a dotless one is not
+before_folding : map wide (0x1fb3 ∷ 0x130 ∷ 0x131 ∷ []) ≡ (0x3b1 ∷ []) ∷ (0x69 ∷ []) ∷ (0x131 ∷ []) ∷ []
+unfolding unicode_normalization ucd_case
+before_folding = refl
+
+-- a syllable of Hangul in its parts
+syllable_parts : wide 0xd55c ≡ 0x1112 ∷ 0x1161 ∷ 0x11ab ∷ []
+unfolding unicode_normalization ucd_case
+syllable_parts = refl
+
+-- final letters of Hebrew and Greek; wasla, maksura and the letters of Persian and Urdu; hamza alone is its own letter
+forms_of_letters : map wide (0x5da ∷ 0x5dd ∷ 0x5df ∷ 0x5e3 ∷ 0x5e5 ∷ 0x3c2 ∷ []) ≡ map (λ c. c ∷ []) (0x5db ∷ 0x5de ∷ 0x5e0 ∷ 0x5e4 ∷ 0x5e6 ∷ 0x3c3 ∷ [])
+unfolding unicode_normalization ucd_case
+forms_of_letters = refl
+
+arabic_letters : map wide (0x671 ∷ 0x649 ∷ 0x6cc ∷ 0x6a9 ∷ 0x629 ∷ 0x6c1 ∷ 0x621 ∷ []) ≡ map (λ c. c ∷ []) (0x627 ∷ 0x64a ∷ 0x64a ∷ 0x643 ∷ 0x647 ∷ 0x647 ∷ 0x621 ∷ [])
+unfolding unicode_normalization ucd_case
+arabic_letters = refl
+
+-- `cafe` in x, `CAF` and U+00C9, widely read and closely
+abbrev coffee : List ℕ
+coffee = encode_utf8_all (codes "xCAF" ++ 0xc9 ∷ [])
+
+found_by_letters : first_from_by small Wide (letters_by small Wide (codes "cafe")) coffee 0 ≡ Some 1
+unfolding chars encode_utf8 unicode_normalization ucd_case
+found_by_letters = refl
+
+not_found_closely : first_from small (letters small (codes "cafe")) coffee 0 ≡ None
+unfolding chars encode_utf8
+not_found_closely = refl
+
+-- a match may end inside the letters of a character, and begins with its first
+abbrev sharp : List ℕ
+sharp = encode_utf8_all (0x61 ∷ 0xdf ∷ 0x62 ∷ [])
+
+ends_inside : map (λ q. first_from_by small Wide (letters_by small Wide q) sharp 0) (codes "as" ∷ codes "s" ∷ codes "assb" ∷ codes "sb" ∷ [])
+    ≡ Some 0 ∷ Some 1 ∷ Some 0 ∷ None ∷ []
+unfolding chars encode_utf8 unicode_normalization ucd_case
+ends_inside = refl
+
+-- ---- before an offset, and from one on
+
+first_of_two : map (first_before small Close (codes "ab") (codes "abab")) (0 ∷ 1 ∷ 4 ∷ []) ≡ None ∷ Some 0 ∷ Some 0 ∷ []
+unfolding chars encode_utf8
+first_of_two = refl
+
+last_of_two : map (last_from small Close (codes "ab") (codes "abab")) (0 ∷ 2 ∷ 3 ∷ []) ≡ Some 2 ∷ Some 2 ∷ None ∷ []
+unfolding chars encode_utf8
+last_of_two = refl
+
+-- ---- matches that follow one another
+
+apart : map (spans_from small Close (codes "aa") (codes "aaaaa")) (0 ∷ 1 ∷ 4 ∷ []) ≡ ((0, 2) ∷ (2, 4) ∷ []) ∷ ((1, 3) ∷ (3, 5) ∷ []) ∷ [] ∷ []
+unfolding chars encode_utf8
+apart = refl
+
+-- points and strokes inside and behind a match go with it; a control behind it does not
+with_points : spans_from small Close (codes "ab") (encode_utf8_all (codes "xa" ++ acute ∷ 0x62 ∷ acute ∷ codes "y")) 0 ≡ (1, 7) ∷ []
+unfolding chars encode_utf8
+with_points = refl
+
+with_strokes : spans_from small Close (0x628 ∷ 0x628 ∷ []) (encode_utf8_all (0x628 ∷ tatweel ∷ 0x628 ∷ tatweel ∷ codes "y")) 0 ≡ (0, 8) ∷ []
+unfolding chars encode_utf8
+with_strokes = refl
+
+without_controls : spans_from small Close (codes "ab") (0x61 ∷ boundary_neutral ∷ 0x62 ∷ boundary_neutral ∷ codes "y") 0 ≡ (0, 3) ∷ []
+unfolding chars encode_utf8
+without_controls = refl

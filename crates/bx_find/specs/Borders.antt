@@ -15,9 +15,9 @@ pub record IsBorder (ls : List ℕ) (k f : ℕ) : Type 0 where
 abbrev pub AreBorders : List ℕ → List ℕ → Type 0
 AreBorders ls borders = (k : ℕ) → 0 < k → k ≤ length ls → IsBorder ls k (get_or borders k 0)
 
--- some letters, at most 64, with the border of each beginning
+-- some letters, at most 256, with the border of each beginning
 pub record IsQuery (ls table : List ℕ) : Type 0 where
   pub some : 0 < length ls
-  pub few : length ls ≤ 64
+  pub few : length ls ≤ 256
   pub count : length table ≡ length ls + 1
   pub borders : AreBorders ls table

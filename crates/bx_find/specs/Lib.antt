@@ -1,5 +1,7 @@
 pub mod Letters
+pub mod Short
 pub mod Matches
+pub mod Spans
 pub mod Borders
 pub mod Ring
 pub mod Held

@@ -1,49 +1,55 @@
 //! The letters that a search holds: the longest end of the letters read that begins the query.
-ghost use Rattle.std.specs.Prelude.{◌≡◌, ◌≢◌, true, ℕ, ◌+◌, ◌<◌, ◌++◌, List, [], ◌∷◌, get_or, length, encode_utf8, option_to_list};
-ghost use Rattle.std.specs.Char.{to_ascii_lowercase};
-ghost use Rattle.bx_find.specs.Held.{found_after, to_come};
+ghost use Rattle.std.specs.Prelude.{◌≡◌, ◌≢◌, true, ℕ, ◌<◌, ◌++◌, List, ◌∷◌, Option, get_or, length, option_to_list};
+ghost use Rattle.bx_find.specs.Held.{Placed, matches_after};
+ghost use Rattle.bx_find.specs.Short.{is_simple, simple_letter};
 
-use crate::letters::letter_if_any;
+use crate::letters::{is_simple, simple_letter};
 use crate::query::Query;
+use crate::reading::Reading;
 use crate::ring::Ring;
-use bx_ucd::BidiData;
 
 /// Drops the oldest held letters until the next letter continues the others, or none is held.
 fn fall_back(query: &Query, held: &mut Ring, letter: char)
     requires { length held.old < length query.now }
     ensures fewer { length held.new < length query.now }
     ensures fits { 0 < length held.new → get_or query.now (length held.new) 0 ≡ letter }
-    ensures found { (at : ℕ) (ps : List (ℕ × ℕ)) → found_after query.now held.old ((at, letter) ∷ ps) ≡ found_after query.now held.new ((at, letter) ∷ ps) }
+    ensures found { (place : Option ℕ) (ps : List Placed)
+        → matches_after query.now held.old ((place, letter) ∷ ps) ≡ matches_after query.now held.new ((place, letter) ∷ ps) }
 {
     while held.len() > 0 && query.letter(held.len()) != letter {
         held.keep_newest(query.border(held.len()));
     }
 }
 
-/// Holds one more letter. Returns the match's offset if this letter is the query's last.
-fn hold(query: &Query, held: &mut Ring, at: usize) -> Option<usize>
+/// Holds one more letter. Returns the match's offset if this letter is the query's last, and the first of a character.
+fn hold(query: &Query, held: &mut Ring, place: Option<usize>) -> Option<usize>
     requires { length held.old < length query.now }
     ensures fewer { length held.new < length query.now }
-    ensures found { (ps : List (ℕ × ℕ)) → found_after query.now held.old ((at, get_or query.now (length held.old) 0) ∷ ps)
-        ≡ option_to_list result ++ found_after query.now held.new ps }
+    ensures found { (ps : List Placed) → matches_after query.now held.old ((place, get_or query.now (length held.old) 0) ∷ ps)
+        ≡ option_to_list result ++ matches_after query.now held.new ps }
 {
     let all = query.len();
-    held.push(at);
+    held.push(place);
     if held.len() < all {
         return None;
     }
     let found = held.oldest();
     held.keep_newest(query.border(all));
-    Some(found)
+    found
 }
 
-/// Reads a letter at an offset. Returns the match's offset if the letter ends a match.
+/// Reads a letter with its place. Returns the match's offset if the letter ends a match that begins with a character.
 #[inline(always)]
-fn read_letter(query: &Query, held: &mut Ring, letter: char, at: usize) -> Option<usize>
+pub fn read_letter(
+    query: &Query,
+    held: &mut Ring,
+    letter: char,
+    place: Option<usize>,
+) -> Option<usize>
     requires { length held.old < length query.now }
     ensures fewer { length held.new < length query.now }
-    ensures found { (ps : List (ℕ × ℕ)) → found_after query.now held.old ((at, letter) ∷ ps)
-        ≡ option_to_list result ++ found_after query.now held.new ps }
+    ensures found { (ps : List Placed) → matches_after query.now held.old ((place, letter) ∷ ps)
+        ≡ option_to_list result ++ matches_after query.now held.new ps }
 {
     if held.len() > 0 {
         fall_back(query, held, letter);
@@ -51,39 +57,16 @@ fn read_letter(query: &Query, held: &mut Ring, letter: char, at: usize) -> Optio
     if query.letter(held.len()) != letter {
         return None;
     }
-    hold(query, held, at)
+    hold(query, held, place)
 }
 
-/// Whether nothing is held, and the query does not begin with a character.
+/// Whether nothing is held, and the query does not begin with the letter of a character that has one at most.
 #[inline(always)]
-fn begins_nothing(query: &Query, held: &Ring, c: char) -> bool
+pub fn begins_nothing(reading: Reading, query: &Query, held: &Ring, c: char) -> bool
     requires { length held.now < length query.now }
     ensures none { result ≡ true → length held.now ≡ 0 }
-    ensures other { result ≡ true → get_or query.now 0 0 ≢ to_ascii_lowercase c }
+    ensures simple { result ≡ true → is_simple reading c ≡ true }
+    ensures other { result ≡ true → get_or query.now 0 0 ≢ simple_letter reading c }
 {
-    held.len() == 0 && query.letter(0) != c.to_ascii_lowercase()
-}
-
-/// Reads a character at an offset. Returns the match's offset if the character ends a match.
-#[inline(always)]
-pub fn read<D: BidiData>(
-    query: &Query,
-    tables: &D,
-    held: &mut Ring,
-    c: char,
-    at: usize,
-) -> Option<usize>
-    requires { length held.old < length query.now }
-    ensures fewer { length held.new < length query.now }
-    ensures found { (cs : List ℕ) → to_come (D.data tables.now) query.now held.old at (c ∷ cs)
-        ≡ option_to_list result ++ to_come (D.data tables.now) query.now held.new (at + length (encode_utf8 c)) cs }
-{
-    // Most characters begin no match; their class need not be looked up.
-    if begins_nothing(query, held, c) {
-        return None;
-    }
-    match letter_if_any(tables, c) {
-        None => None,
-        Some(letter) => read_letter(query, held, letter, at),
-    }
+    held.len() == 0 && is_simple(reading, c) && query.letter(0) != simple_letter(reading, c)
 }

@@ -1,10 +1,19 @@
 //! The letters that a search compares.
-ghost use Rattle.std.specs.Prelude.{◌≡◌};
-ghost use Rattle.bx_find.specs.Letters.{is_stroke_or_mark, is_passed_over, letter_if_any};
+ghost use Rattle.std.specs.Prelude.{◌≡◌, ◌+◌, ◌≤◌, ◌++◌, ◌∷◌, [], length, true};
+ghost use Rattle.bx_find.specs.Letters.{is_stroke_or_mark, is_passed_over, main_letter, folded, letters_of_parts, letters_of};
+ghost use Rattle.bx_find.specs.Short.{is_short, is_simple, simple_letter};
 
+use crate::reading::Reading;
+use arrayvec::ArrayVec;
 use bx_terms::is_direction_mark;
 use bx_ucd::BidiData;
 use bx_ucd::class::is_unlettered;
+use ucd_case::full_folding;
+use ucd_normal::Form;
+use unicode_normalization::char::decomposition;
+
+/// No character has more letters.
+pub const MOST_LETTERS: usize = 4;
 
 /// Whether a character is the tatweel or a directional mark: ALM, LRM or RLM.
 #[inline(always)]
@@ -22,13 +31,126 @@ pub fn is_passed_over<D: BidiData>(tables: &D, c: char) -> bool
     is_unlettered(tables.class(c)) || is_stroke_or_mark(c)
 }
 
-/// The letter that a search compares for a character, if it is not passed over.
+/// Of letters that readers take for one another, the one that stands for all.
 #[inline(always)]
-pub fn letter_if_any<D: BidiData>(tables: &D, c: char) -> Option<char>
-    ensures { result ≡ letter_if_any (D.data tables.now) c }
+fn main_letter(c: char) -> char
+    ensures { result ≡ main_letter c }
 {
-    if is_passed_over(tables, c) {
-        return None;
+    match c {
+        '\u{5da}' => '\u{5db}',
+        '\u{5dd}' => '\u{5de}',
+        '\u{5df}' => '\u{5e0}',
+        '\u{5e3}' => '\u{5e4}',
+        '\u{5e5}' => '\u{5e6}',
+        '\u{671}' => '\u{627}',
+        '\u{649}' => '\u{64a}',
+        '\u{6cc}' => '\u{64a}',
+        '\u{6a9}' => '\u{643}',
+        '\u{629}' => '\u{647}',
+        '\u{6c1}' => '\u{647}',
+        _ => c,
     }
-    Some(c.to_ascii_lowercase())
+}
+
+/// Whether a character is of ASCII, or has no decomposition and is of Hebrew or Arabic.
+#[inline(always)]
+fn is_short(c: char) -> bool
+    ensures { result ≡ is_short c }
+{
+    matches!(c, '\0'..='\u{7f}')
+        | matches!(c, '\u{590}'..='\u{621}')
+        | matches!(c, '\u{627}'..='\u{6bf}')
+        | matches!(c, '\u{6c3}'..='\u{6d2}')
+}
+
+/// Whether a reading gives a character its simple letter, or none.
+#[inline(always)]
+pub fn is_simple(reading: Reading, c: char) -> bool
+    ensures { result ≡ is_simple reading c }
+{
+    match reading {
+        Reading::Wide => is_short(c),
+        Reading::Close => true,
+    }
+}
+
+/// The letter that a reading gives a simple character that is not passed over.
+#[inline(always)]
+pub fn simple_letter(reading: Reading, c: char) -> char
+    ensures { result ≡ simple_letter reading c }
+{
+    let small = c.to_ascii_lowercase();
+    match reading {
+        Reading::Wide => main_letter(small),
+        Reading::Close => small,
+    }
+}
+
+/// Appends the letters of a part of a decomposition that is not passed over.
+fn push_folded(letters: &mut ArrayVec<char, MOST_LETTERS>, c: char)
+    requires { length letters.old.items + length (folded c) ≤ 4 }
+    ensures { letters.new.items ≡ letters.old.items ++ folded c }
+{
+    let folding = full_folding(c);
+    if folding.is_empty() {
+        letters.push(main_letter(c));
+        return;
+    }
+    for part in folding {
+        letters.push(main_letter(*part));
+    }
+}
+
+/// Appends the letters of a part of a decomposition, unless it is passed over.
+fn push_part<D: BidiData>(tables: &D, letters: &mut ArrayVec<char, MOST_LETTERS>, part: char)
+    requires { length letters.old.items + length (letters_of_parts (D.data tables.now) (part ∷ [])) ≤ 4 }
+    ensures { letters.new.items ≡ letters.old.items ++ letters_of_parts (D.data tables.now) (part ∷ []) }
+{
+    if is_passed_over(tables, part) {
+        return;
+    }
+    push_folded(letters, part);
+}
+
+/// The letters of a character, widely read.
+fn wide_letters<D: BidiData>(tables: &D, c: char) -> ArrayVec<char, MOST_LETTERS>
+    ensures { result.items ≡ letters_of (D.data tables.now) Reading.Wide c }
+{
+    let mut letters = ArrayVec::new();
+    let mut room = [c; 3];
+    for part in decomposition(c, Form::Nfd, &mut room) {
+        push_part(tables, &mut letters, *part);
+    }
+    letters
+}
+
+/// The letters of a character, at most one.
+#[inline(always)]
+fn simple_letters<D: BidiData>(
+    tables: &D,
+    reading: Reading,
+    c: char,
+) -> ArrayVec<char, MOST_LETTERS>
+    requires { is_simple reading c ≡ true }
+    ensures { result.items ≡ letters_of (D.data tables.now) reading c }
+{
+    let mut letters = ArrayVec::new();
+    if !is_passed_over(tables, c) {
+        letters.push(simple_letter(reading, c));
+    }
+    letters
+}
+
+/// The letters of a character.
+pub fn letters_of<D: BidiData>(
+    tables: &D,
+    reading: Reading,
+    c: char,
+) -> ArrayVec<char, MOST_LETTERS>
+    ensures { result.items ≡ letters_of (D.data tables.now) reading c }
+{
+    if is_simple(reading, c) {
+        return simple_letters(tables, reading, c);
+    }
+    wide_letters(tables, c)
 }

@@ -1,6 +1,8 @@
 //! A text that is lent piece by piece.
-ghost use Rattle.std.specs.Prelude.{◌≡◌, ℕ, ◌<◌, List, length, IsUtf8, IsCharBoundary};
+ghost use Rattle.std.specs.Prelude.{◌≡◌, ℕ, ◌+◌, ◌-◌, ◌<◌, List, length, take, IsUtf8, IsCharBoundary};
 ghost use Rattle.bx_find.specs.Pieces.{IsPieceAt};
+
+use bx_terms::first_char;
 
 /// A text that lends the piece at an offset.
 pub trait Pieces {
@@ -16,4 +18,22 @@ pub trait Pieces {
         requires boundary { IsCharBoundary (text self.now) offset }
         requires inside { offset < length (text self.now) }
         ensures { IsPieceAt (text self.now) offset result.now };
+}
+
+/// The part of a piece at the offset `at` up to the offset `x`; from `x` on, the piece's first character.
+pub(crate) fn upto(piece: &str, at: usize, x: usize) -> &str
+    requires { at < x → x < at + length piece.now → IsCharBoundary piece.now (x - at) }
+    ensures front { take (length result.now) piece.now ≡ result.now }
+    ensures some { 0 < length piece.now → 0 < length result.now }
+{
+    if at < x {
+        if x - at < piece.len() {
+            return &piece[..x - at];
+        }
+        return piece;
+    }
+    match first_char(piece) {
+        Some((_, behind)) => &piece[..piece.len() - behind.len()],
+        None => piece,
+    }
 }

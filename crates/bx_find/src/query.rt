@@ -1,20 +1,21 @@
 //! The letters of a query, with the borders that a search uses.
-ghost use Rattle.std.specs.Prelude.{◌≡◌, ◌+◌, ◌≤◌, ◌<◌, ◌↔◌, [], get_or, length, chars, IfSome, IsSome, IsNone};
+ghost use Rattle.std.specs.Prelude.{◌≡◌, ◌+◌, ◌*◌, ◌≤◌, ◌<◌, ◌↔◌, ◌++◌, [], get_or, length, chars, IfSome, IsSome, IsNone};
 ghost use Rattle.bx_find.specs.Borders.{IsBorder, AreBorders};
-ghost use Rattle.bx_find.specs.Letters.{letters};
+ghost use Rattle.bx_find.specs.Letters.{letters, letters_by};
 
 use crate::borders::border;
-use crate::letters::letter_if_any;
+use crate::letters::letters_of;
+use crate::reading::Reading;
 use arrayvec::ArrayVec;
 use bx_terms::first_char;
 use bx_ucd::BidiData;
 use std::marker::Model;
 
-/// The greatest number of letters.
-const ROOM: usize = 64;
+/// The greatest number of letters: four for each of 64 characters.
+const ROOM: usize = 256;
 
 /// One border for each beginning of the letters, the empty one too.
-const BORDER_ROOM: usize = 65;
+const BORDER_ROOM: usize = 257;
 
 /// The letters of a query, one at least.
 #[derive(Drop)]
@@ -35,25 +36,33 @@ impl Model for Query {
     ghost invariant = { λ q. IsQuery q.letters.items q.borders.items };
 }
 
+/// Appends the letters of a character.
+fn push_letters(letters: &mut ArrayVec<char, ROOM>, more: &[char])
+    requires { length letters.old.items + length more.now ≤ 256 }
+    ensures { letters.new.items ≡ letters.old.items ++ more.now }
+{
+    for letter in more {
+        letters.push(*letter);
+    }
+}
+
 /// The letters of a text of at most 64 characters.
-fn letters_of<D: BidiData>(tables: &D, text: &str) -> ArrayVec<char, ROOM>
+fn letters_by<D: BidiData>(tables: &D, reading: Reading, text: &str) -> ArrayVec<char, ROOM>
     requires { length (chars text.now) ≤ 64 }
-    ensures { result.items ≡ letters (D.data tables.now) (chars text.now) }
+    ensures { result.items ≡ letters_by (D.data tables.now) reading (chars text.now) }
 {
     let mut letters = ArrayVec::new();
     let mut rest = text;
     while let Some((c, behind)) = first_char(rest) {
         rest = behind;
-        if let Some(letter) = letter_if_any(tables, c) {
-            letters.push(letter);
-        }
+        push_letters(&mut letters, &letters_of(tables, reading, c));
     }
     letters
 }
 
 /// The border of each beginning of some letters, the shortest first. The empty beginning has 0.
 fn borders_of(letters: &[char]) -> ArrayVec<usize, BORDER_ROOM>
-    requires { length letters.now ≤ 64 }
+    requires { length letters.now ≤ 256 }
     ensures count { length result.items ≡ length letters.now + 1 }
     ensures borders { AreBorders letters.now result.items }
 {
@@ -66,13 +75,22 @@ fn borders_of(letters: &[char]) -> ArrayVec<usize, BORDER_ROOM>
 }
 
 impl Query {
-    /// The query with a text's letters; none if the text has no letter. The text has at most 64 characters.
+    /// The query with a text's letters, closely read; none if the text has no letter. The text has at most 64 characters.
     pub fn new<D: BidiData>(tables: &D, text: &str) -> Option<Query>
         requires { length (chars text.now) ≤ 64 }
         ensures letters { IfSome result (λ q. q ≡ letters (D.data tables.now) (chars text.now)) }
         ensures none { IsNone result ↔ (letters (D.data tables.now) (chars text.now) ≡ []) }
     {
-        let letters = letters_of(tables, text);
+        Query::by(tables, Reading::Close, text)
+    }
+
+    /// The query with a text's letters; none if the text has no letter. The text has at most 64 characters.
+    pub fn by<D: BidiData>(tables: &D, reading: Reading, text: &str) -> Option<Query>
+        requires { length (chars text.now) ≤ 64 }
+        ensures letters { IfSome result (λ q. q ≡ letters_by (D.data tables.now) reading (chars text.now)) }
+        ensures none { IsNone result ↔ (letters_by (D.data tables.now) reading (chars text.now) ≡ []) }
+    {
+        let letters = letters_by(tables, reading, text);
         if letters.is_empty() {
             return None;
         }
@@ -85,7 +103,7 @@ impl Query {
     pub fn len(&self) -> usize
         ensures value { result ≡ length self.now }
         ensures some { 0 < result }
-        ensures few { result ≤ 64 }
+        ensures few { result ≤ 256 }
     {
         self.letters.len()
     }

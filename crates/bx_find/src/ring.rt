@@ -1,30 +1,30 @@
-//! A queue of at most 64 offsets.
-ghost use Rattle.std.specs.Prelude.{◌≡◌, ◌≤◌, ◌<◌, ◌-◌, ◌++◌, ◌∷◌, [], get_or, length, drop};
+//! A queue of at most 256 places.
+ghost use Rattle.std.specs.Prelude.{◌≡◌, ◌≤◌, ◌<◌, ◌-◌, ◌++◌, ◌∷◌, [], None, get_or, length, drop};
 
 use std::marker::Model;
 
-/// The greatest number of offsets.
-const ROOM: usize = 64;
+/// The greatest number of places.
+const ROOM: usize = 256;
 
 /// A queue in a ring of slots.
 #[derive(Drop)]
 pub struct Ring {
-    slots: [usize; ROOM],
-    // the slot of the oldest offset
+    slots: [Option<usize>; ROOM],
+    // the slot of the oldest place
     first: usize,
     count: usize,
 }
 
-// Contracts see the offsets, the oldest first.
+// Contracts see the places, the oldest first.
 impl Model for Ring {
-    ghost use Rattle.std.specs.Prelude.{ℕ, ◌<◌, ◌≤◌, List};
+    ghost use Rattle.std.specs.Prelude.{ℕ, ◌<◌, ◌≤◌, List, Option};
     ghost use Rattle.bx_find.specs.Ring.{window};
 
-    ghost Value = { List ℕ };
+    ghost Value = { List (Option ℕ) };
 
     ghost view = { λ r. window r.first r.count r.slots };
 
-    ghost invariant = { λ r. (r.first < 64) × (r.count ≤ 64) };
+    ghost invariant = { λ r. (r.first < 256) × (r.count ≤ 256) };
 }
 
 impl Ring {
@@ -33,13 +33,13 @@ impl Ring {
         ensures { result ≡ [] }
     {
         Ring {
-            slots: [0; ROOM],
+            slots: [None; ROOM],
             first: 0,
             count: 0,
         }
     }
 
-    /// The number of offsets.
+    /// The number of places.
     #[inline(always)]
     pub fn len(&self) -> usize
         ensures { result ≡ length self.now }
@@ -47,25 +47,25 @@ impl Ring {
         self.count
     }
 
-    /// Appends an offset.
+    /// Appends a place.
     #[inline(always)]
-    pub fn push(&mut self, offset: usize)
-        requires { length self.old < 64 }
-        ensures { self.new ≡ self.old ++ offset ∷ [] }
+    pub fn push(&mut self, place: Option<usize>)
+        requires { length self.old < 256 }
+        ensures { self.new ≡ self.old ++ place ∷ [] }
     {
-        self.slots[(self.first + self.count) % ROOM] = offset;
+        self.slots[(self.first + self.count) % ROOM] = place;
         self.count += 1;
     }
 
-    /// The oldest offset.
-    pub fn oldest(&self) -> usize
+    /// The oldest place.
+    pub fn oldest(&self) -> Option<usize>
         requires { 0 < length self.now }
-        ensures { result ≡ get_or self.now 0 0 }
+        ensures { result ≡ get_or self.now 0 None }
     {
         self.slots[self.first]
     }
 
-    /// Drops all but the newest `count` offsets.
+    /// Drops all but the newest `count` places.
     #[inline(always)]
     pub fn keep_newest(&mut self, count: usize)
         requires { count ≤ length self.old }

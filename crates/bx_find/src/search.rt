@@ -1,52 +1,25 @@
-//! The search of a text for a query, forward and backward.
-ghost use Rattle.std.specs.Prelude.{◌≡◌, ℕ, ◌+◌, ◌≤◌, ◌<◌, ◌^◌, ◌++◌, ◌∷◌, [], List, length, chars, encode_utf8, option_to_list, slice_get, MatchOption, IsCharBoundary};
-ghost use Rattle.bx_find.specs.Held.{to_come};
-ghost use Rattle.bx_find.specs.Matches.{first_from, last_below, last_before};
+//! The search of a text for a query: the nearest matches of offsets.
+ghost use Rattle.std.specs.Prelude.{◌≡◌, ◌≤◌, [], length, IsCharBoundary};
+ghost use Rattle.bx_find.specs.Matches.{first_from_by, first_before, last_before_by, last_from, first_from, last_before};
 
-use crate::held::read;
-use crate::pieces::Pieces;
+use crate::backward::{Latest, last_in};
+use crate::forward::first_in;
+use crate::pieces::{Pieces, upto};
 use crate::query::Query;
+use crate::reading::Reading;
 use crate::ring::Ring;
-use bx_terms::first_char;
 use bx_ucd::BidiData;
 
-/// Reads a piece that begins at the offset `start`, up to the first match.
-fn first_in<D: BidiData>(
-    query: &Query,
-    tables: &D,
-    held: &mut Ring,
-    piece: &str,
-    start: usize,
-) -> Option<usize>
-    requires fewer { length held.old < length query.now }
-    requires short { start + length piece.now < 2 ^ 64 }
-    ensures fewer { length held.new < length query.now }
-    ensures found { (cs : List ℕ) → MatchOption result
-        (to_come (D.data tables.now) query.now held.old start (chars piece.now ++ cs)
-        ≡ to_come (D.data tables.now) query.now held.new (start + length piece.now) cs)
-        (λ at. slice_get (to_come (D.data tables.now) query.now held.old start (chars piece.now ++ cs)) 0 ≡ Some at) }
-{
-    let mut at = start;
-    let mut rest = piece;
-    while let Some((c, behind)) = first_char(rest) {
-        if let Some(found) = read(query, tables, held, c, at) {
-            return Some(found);
-        }
-        at += c.len_utf8();
-        rest = behind;
-    }
-    None
-}
-
 /// The byte offset of the first match at or after `x`. Reads the text from `x` on.
-pub fn first_from<P: Pieces, D: BidiData>(
+pub fn first_from_by<P: Pieces, D: BidiData>(
     source: &P,
     tables: &D,
+    reading: Reading,
     query: &Query,
     x: usize,
 ) -> Option<usize>
     requires { IsCharBoundary (P.text source.now) x }
-    ensures { result ≡ first_from (D.data tables.now) query.now (P.text source.now) x }
+    ensures { result ≡ first_from_by (D.data tables.now) reading query.now (P.text source.now) x }
 {
     // used by the contract alone
     let _some = query.len();
@@ -55,7 +28,7 @@ pub fn first_from<P: Pieces, D: BidiData>(
     let mut at = x;
     while at < len {
         let piece = source.piece_at(at);
-        if let Some(found) = first_in(query, tables, &mut held, piece, at) {
+        if let Some(found) = first_in(query, tables, reading, &mut held, piece, at) {
             return Some(found);
         }
         at += piece.len();
@@ -63,67 +36,46 @@ pub fn first_from<P: Pieces, D: BidiData>(
     None
 }
 
-/// The last match below a bound, of those found so far.
-#[derive(Drop)]
-struct Latest {
-    before: usize,
-    found: Option<usize>,
-}
-
-impl Latest {
-    /// Takes the next match, if there is one.
-    #[inline(always)]
-    fn take(&mut self, next: Option<usize>)
-        ensures before { self.new.before ≡ self.old.before }
-        ensures found { (ats : List ℕ) → last_below self.old.before self.old.found (option_to_list next ++ ats)
-            ≡ last_below self.old.before self.new.found ats }
-    {
-        if let Some(at) = next {
-            if at < self.before {
-                self.found = next;
-            }
-        }
-    }
-}
-
-/// Reads a piece that begins at the offset `start`, and takes each match. Stops once all later matches are past the bound.
-fn last_in<D: BidiData>(
-    query: &Query,
+/// The byte offset of the first match before `x`. Reads the text from its start to `x`, and on while a match that begins before
+/// `x` may end there.
+pub fn first_before<P: Pieces, D: BidiData>(
+    source: &P,
     tables: &D,
-    held: &mut Ring,
-    latest: &mut Latest,
-    piece: &str,
-    start: usize,
-)
-    requires fewer { length held.old < length query.now }
-    requires short { start + length piece.now < 2 ^ 64 }
-    ensures fewer { length held.new < length query.now }
-    ensures before { latest.new.before ≡ latest.old.before }
-    ensures found { (cs : List ℕ)
-        → last_below latest.old.before latest.old.found (to_come (D.data tables.now) query.now held.old start (chars piece.now ++ cs))
-        ≡ last_below latest.old.before latest.new.found (to_come (D.data tables.now) query.now held.new (start + length piece.now) cs) }
+    reading: Reading,
+    query: &Query,
+    x: usize,
+) -> Option<usize>
+    requires { IsCharBoundary (P.text source.now) x }
+    ensures { result ≡ first_before (D.data tables.now) reading query.now (P.text source.now) x }
 {
-    let mut at = start;
-    let mut rest = piece;
-    while let Some((c, behind)) = first_char(rest) {
-        if at >= latest.before && held.len() == 0 {
-            return;
+    // used by the contract alone
+    let _some = query.len();
+    let len = source.len();
+    let mut held = Ring::new();
+    let mut at = 0;
+    while at < len {
+        if at >= x && held.len() == 0 {
+            return None;
         }
-        latest.take(read(query, tables, held, c, at));
-        at += c.len_utf8();
-        rest = behind;
+        let piece = upto(source.piece_at(at), at, x);
+        if let Some(found) = first_in(query, tables, reading, &mut held, piece, at) {
+            return if found < x { Some(found) } else { None };
+        }
+        at += piece.len();
     }
+    None
 }
 
 /// The byte offset of the last match before `x`. Reads the text from its start to `x`, and on to the end of a match that
 /// begins before `x`.
-pub fn last_before<P: Pieces, D: BidiData>(
+pub fn last_before_by<P: Pieces, D: BidiData>(
     source: &P,
     tables: &D,
+    reading: Reading,
     query: &Query,
     x: usize,
 ) -> Option<usize>
-    ensures { result ≡ last_before (D.data tables.now) query.now (P.text source.now) x }
+    ensures { result ≡ last_before_by (D.data tables.now) reading query.now (P.text source.now) x }
 {
     // used by the contract alone
     let _some = query.len();
@@ -135,9 +87,66 @@ pub fn last_before<P: Pieces, D: BidiData>(
     };
     let mut at = 0;
     while at < len {
+        if at >= x && held.len() == 0 {
+            return latest.found;
+        }
         let piece = source.piece_at(at);
-        last_in(query, tables, &mut held, &mut latest, piece, at);
+        last_in(query, tables, reading, &mut held, &mut latest, piece, at);
         at += piece.len();
     }
     latest.found
+}
+
+/// The byte offset of the last match at or after `x`. Reads the text from `x` on.
+pub fn last_from<P: Pieces, D: BidiData>(
+    source: &P,
+    tables: &D,
+    reading: Reading,
+    query: &Query,
+    x: usize,
+) -> Option<usize>
+    requires { IsCharBoundary (P.text source.now) x }
+    ensures { result ≡ last_from (D.data tables.now) reading query.now (P.text source.now) x }
+{
+    // used by the contract alone
+    let _some = query.len();
+    let len = source.len();
+    let mut held = Ring::new();
+    let mut latest = Latest {
+        before: len,
+        found: None,
+    };
+    let mut at = x;
+    while at < len {
+        let piece = source.piece_at(at);
+        last_in(query, tables, reading, &mut held, &mut latest, piece, at);
+        at += piece.len();
+    }
+    latest.found
+}
+
+/// The byte offset of the first match at or after `x`, closely read. Reads the text from `x` on.
+pub fn first_from<P: Pieces, D: BidiData>(
+    source: &P,
+    tables: &D,
+    query: &Query,
+    x: usize,
+) -> Option<usize>
+    requires { IsCharBoundary (P.text source.now) x }
+    ensures { result ≡ first_from (D.data tables.now) query.now (P.text source.now) x }
+{
+    first_from_by(source, tables, Reading::Close, query, x)
+}
+
+/// The byte offset of the last match before `x`, closely read. Reads the text from its start to `x`, and on to the end of a
+/// match that begins before `x`.
+pub fn last_before<P: Pieces, D: BidiData>(
+    source: &P,
+    tables: &D,
+    query: &Query,
+    x: usize,
+) -> Option<usize>
+    ensures { result ≡ last_before (D.data tables.now) query.now (P.text source.now) x }
+{
+    last_before_by(source, tables, Reading::Close, query, x)
 }

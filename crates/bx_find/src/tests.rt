@@ -1,7 +1,10 @@
 //! The nearest matches of queries in small texts.
 ghost use Rattle.std.specs.Prelude.{◌≡◌, chars, length};
 
-use crate::{Pieces, Query, first_from, last_before};
+use crate::{
+    Pieces, Query, Reading, first_before, first_from, first_from_by, first_span, last_before,
+    last_from,
+};
 use bx_ucd::{Tables, sample_tables};
 use std::test::Fail;
 
@@ -89,6 +92,123 @@ fn finds_the_nearest(rt: HostRuntime) -> Result<(), Fail> {
             (next, last),
             "{query} in {text}"
         );
+    }
+    Ok(())
+}
+
+/// The offsets of a query in a text, widely read: the first from `x` on, the first before it, and the last from it on.
+fn wide(
+    tables: &Tables,
+    text: &str,
+    query: &str,
+    x: usize,
+) -> (Option<usize>, Option<usize>, Option<usize>) {
+    if count(query) > 64 || !text.is_char_boundary(x) {
+        return (None, None, None);
+    }
+    match Query::by(tables, Reading::Wide, query) {
+        None => (None, None, None),
+        Some(query) => {
+            let source = Cut(text);
+            let next = first_from_by(&source, tables, Reading::Wide, &query, x);
+            let first = first_before(&source, tables, Reading::Wide, &query, x);
+            let last = last_from(&source, tables, Reading::Wide, &query, x);
+            (next, first, last)
+        }
+    }
+}
+
+#[test]
+fn finds_by_letters(rt: HostRuntime) -> Result<(), Fail> {
+    let tables = sample_tables(rt.alloc())?;
+    let cases = [
+        (
+            "x_CAF\u{c9}_cafe\u{301}",
+            "cafe",
+            3,
+            Some(8),
+            Some(2),
+            Some(8),
+        ),
+        (
+            "x_CAF\u{c9}_cafe\u{301}",
+            "CAF\u{c9}",
+            0,
+            Some(2),
+            None,
+            Some(8),
+        ),
+        ("xSS_\u{df}_\u{1e9e}", "ss", 4, Some(4), Some(1), Some(7)),
+        ("xa\u{df}b", "as", 4, None, Some(1), None),
+        ("xa\u{df}b", "sb", 0, None, None, None),
+        ("xa\u{df}b", "asSB", 2, None, Some(1), None),
+        ("\u{df}s\u{df}", "ss", 2, Some(2), Some(0), Some(3)),
+        (
+            "x\u{5e9}\u{5dd}",
+            "\u{5e9}\u{5de}",
+            0,
+            Some(1),
+            None,
+            Some(1),
+        ),
+        (
+            "x\u{6a9}\u{6cc}",
+            "\u{643}\u{64a}",
+            0,
+            Some(1),
+            None,
+            Some(1),
+        ),
+        ("x\u{1fb3}", "\u{3b9}", 0, None, None, None),
+        ("x\u{d55c}", "\u{d558}", 0, Some(1), None, Some(1)),
+        ("x\u{d55c}", "\u{1161}", 0, None, None, None),
+        ("x_I\u{131}\u{130}i", "i", 3, Some(5), Some(2), Some(7)),
+    ];
+    for (text, query, x, next, first, last) in cases {
+        assert_eq!(rt;
+            wide(&tables, text, query, x),
+            (next, first, last),
+            "{query} in {text}"
+        );
+    }
+    Ok(())
+}
+
+/// The first match of a query from `x` on, closely read, with its end.
+fn span(tables: &Tables, text: &str, query: &str, x: usize) -> Option<(usize, usize)> {
+    if count(query) > 64 || !text.is_char_boundary(x) {
+        return None;
+    }
+    match Query::new(tables, query) {
+        None => None,
+        Some(query) => first_span(&Cut(text), tables, Reading::Close, &query, x),
+    }
+}
+
+#[test]
+fn ends_behind_points(rt: HostRuntime) -> Result<(), Fail> {
+    let tables = sample_tables(rt.alloc())?;
+    let cases = [
+        ("aaaaa", "aa", 0, Some((0, 2))),
+        ("aaaaa", "aa", 2, Some((2, 4))),
+        ("aaaaa", "aa", 4, None),
+        ("xa\u{301}b\u{301}y", "ab", 0, Some((1, 7))),
+        (
+            "\u{628}\u{640}\u{628}\u{640}y",
+            "\u{628}\u{628}",
+            0,
+            Some((0, 8)),
+        ),
+        ("a\u{1}b\u{1}y", "ab", 0, Some((0, 3))),
+        (
+            "a\u{202b}b\u{301}\u{640}\u{301}\u{202c}",
+            "ab",
+            0,
+            Some((0, 11)),
+        ),
+    ];
+    for (text, query, x, found) in cases {
+        assert_eq!(rt; span(&tables, text, query, x), found, "{query} in {text}");
     }
     Ok(())
 }

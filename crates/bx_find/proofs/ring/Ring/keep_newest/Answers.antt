@@ -1,3 +1,4 @@
+use Rattle.std.specs.Prelude.{Option}
 use Rattle.std.proofs.Common.{◌≡◌, ◌+◌, ◌-◌, ℕ, List, length, drop, sym, ap, ap₂, ◌∙◌, arith}
 use Rattle.bx_find.proofs.Windows.{length-window, drop-window, window-around}
 use Rattle.bx_find.proofs.ring.Ring.keep_newest.Goals as goal
@@ -19,4 +20,4 @@ returns c =
     let n = r.count - c.args.count in
     window-around _ (r.first + n) c.args.count r.slots (omega arith)
     ∙ sym (drop-window n r.first r.count c.args.count r.slots (omega (arith, same, c.requires)))
-    ∙ ap₂ (λ i (os : List ℕ). drop i os) (ap (λ i. i - c.args.count) same) c.self.view_is
+    ∙ ap₂ (λ i (os : List (Option ℕ)). drop i os) (ap (λ i. i - c.args.count) same) c.self.view_is

@@ -1,0 +1,35 @@
+use Rattle.std.proofs.Common.{ℕ, ◌∷◌, ◌∙◌, ap, sym, arith}
+use Rattle.bx_find.specs.Spans.{spans_from}
+use Rattle.bx_find.proofs.SpansOf.{span_found, none_found}
+use Rattle.bx_find.proofs.spans.first_span.Goals as goal
+
+pub match_end-requires : goal.match_end-requires
+match_end-requires g c =
+    (span_found (g.D.BidiData.data c.args.tables.now) c.args.reading c.args.query.now (g.P.Pieces.text c.args.source.now)
+    c.len-utf8.ensures.utf8 c.args.x c.in-Some.at c.in-Some.ensures).0.is_match.0
+
+pub returns-in-None-clause-spans : goal.returns-in-None-clause-spans
+returns-in-None-clause-spans g c =
+    none_found (g.D.BidiData.data c.args.tables.now) c.args.reading c.args.query.now (g.P.Pieces.text c.args.source.now)
+    c.len-utf8.ensures.utf8 c.args.x c.in-None.ensures
+
+pub returns-in-Some-clause-spans : goal.returns-in-Some-clause-spans
+returns-in-Some-clause-spans g c =
+    let says = g.D.BidiData.data c.args.tables.now in
+    let text = g.P.Pieces.text c.args.source.now in
+    let next = (span_found says c.args.reading c.args.query.now text c.len-utf8.ensures.utf8 c.args.x c.in-Some.at c.in-Some.ensures).1 in
+    next.1
+    ∙ ap (λ (end : ℕ). (c.in-Some.at, end) ∷ spans_from says c.args.reading c.args.query.now text end) (sym c.match_end.ensures.value)
+
+pub returns-in-Some-clause-bounds : goal.returns-in-Some-clause-bounds
+returns-in-Some-clause-bounds g c = (
+  (span_found (g.D.BidiData.data c.args.tables.now) c.args.reading c.args.query.now (g.P.Pieces.text c.args.source.now)
+      c.len-utf8.ensures.utf8 c.args.x c.in-Some.at c.in-Some.ensures).0.is_match.0,
+  c.match_end.ensures.boundary,
+)
+
+pub returns-in-Some-clause-onward : goal.returns-in-Some-clause-onward
+returns-in-Some-clause-onward g c =
+    let both = span_found (g.D.BidiData.data c.args.tables.now) c.args.reading c.args.query.now (g.P.Pieces.text c.args.source.now)
+    c.len-utf8.ensures.utf8 c.args.x c.in-Some.at c.in-Some.ensures in
+    (both.0.not_before, omega (arith, both.1.0, c.match_end.ensures.value))

@@ -1,0 +1,14 @@
+-- The end is that of the rest of the text.
+use Rattle.std.proofs.Common.{◌≡◌, ◌-◌, chars, drop, length, IsCharBoundary}
+use Rattle.bx_find.specs.Spans.{match_end, behind_letters}
+use Rattle.bx_find.proofs.spans.match_end.Given as goal
+
+abbrev pub invariant-loop-next : goal.invariant-loop-next
+invariant-loop-next g l = record {
+  bounds : IsCharBoundary (g.P.Pieces.text l.source) l.next;
+  end : match_end (g.D.BidiData.data l.tables) l.reading l.query (g.P.Pieces.text l.source) l.at
+      ≡ behind_letters (g.D.BidiData.data l.tables) l.reading l.left l.next (chars (drop l.next (g.P.Pieces.text l.source)));
+}
+
+abbrev pub decreases-loop-next : goal.decreases-loop-next
+decreases-loop-next g l = length (g.P.Pieces.text l.source) - l.next

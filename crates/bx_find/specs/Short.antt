@@ -1,0 +1,20 @@
+-- Characters whose letters need no table of decompositions or foldings.
+use Rattle.std.specs.Prelude.{ℕ, Bool, true, ◌||◌}
+use Rattle.std.specs.Char.{to_ascii_lowercase}
+use Rattle.bx_terms.specs.Characters.{is_within}
+use Rattle.bx_find.specs.Letters.{main_letter}
+use Rattle.bx_find.specs.declared.reading.Reading.{Reading}
+use Rattle.bx_find.specs.declared.reading.Reading.TheVariants.{Wide, Close}
+
+-- ASCII, and what has no decomposition of the blocks Hebrew and Arabic, up to YEH BARREE
+abbrev pub is_short : ℕ → Bool
+is_short c = is_within 0x0 0x7F c || (is_within 0x590 0x621 c || (is_within 0x627 0x6BF c || is_within 0x6C3 0x6D2 c))
+
+-- a reading gives the character its simple letter, or none
+abbrev pub is_simple : Reading → ℕ → Bool
+is_simple Wide c = is_short c
+is_simple Close c = true
+
+abbrev pub simple_letter : Reading → ℕ → ℕ
+simple_letter Wide c = main_letter (to_ascii_lowercase c)
+simple_letter Close c = to_ascii_lowercase c

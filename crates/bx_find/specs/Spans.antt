@@ -1,0 +1,46 @@
+-- Where a match ends, and the matches that follow one another without a common part.
+use Rattle.std.specs.Prelude.{ℕ, zero, suc, ◌+◌, ◌-◌, ◌==◌, ◌||◌, ◌&&◌, Bool, true, false, List, [], ◌∷◌, length, nat_le, chars, drop, encode_utf8}
+use Rattle.bx_ucd.specs.Data.{Data}
+use Rattle.bx_ucd.specs.declared.class.Class.{Class}
+use Rattle.bx_ucd.specs.declared.class.Class.TheVariants.{NSM}
+use Rattle.bx_find.specs.Letters.{letters_of}
+use Rattle.bx_find.specs.Matches.{is_match_by}
+use Rattle.bx_find.specs.declared.reading.Reading.{Reading}
+
+abbrev pub is_nonspacing : Class → Bool
+is_nonspacing NSM = true
+is_nonspacing _ = false
+
+-- a character that goes with the letter before it: of class NSM, or ARABIC TATWEEL
+abbrev pub is_attached : Data → ℕ → Bool
+is_attached says c = is_nonspacing (says.class c) || (c == 0x640)
+
+-- the offset behind the attached characters with which a text begins; its first character is at the offset `at`
+abbrev pub behind_attached : Data → ℕ → List ℕ → ℕ
+behind_attached says at [] = at
+behind_attached says at (c ∷ cs) = elim (is_attached says c) [ true ↦ behind_attached says (at + length (encode_utf8 c)) cs | false ↦ at ]
+
+-- the offset behind the character that gives the n-th letter, and behind what is attached to it
+abbrev pub behind_letters : Data → Reading → ℕ → ℕ → List ℕ → ℕ
+behind_letters says reading zero at cs = behind_attached says at cs
+behind_letters says reading (suc n) at [] = at
+behind_letters says reading (suc n) at (c ∷ cs) =
+    behind_letters says reading (suc n - length (letters_of says reading c)) (at + length (encode_utf8 c)) cs
+
+-- the end of the match of the sought letters at an offset of a text
+abbrev pub match_end : Data → Reading → List ℕ → List ℕ → ℕ → ℕ
+match_end says reading sought text at = behind_letters says reading (length sought) at (chars (drop at text))
+
+-- the matches at or after the offset x, each with its end: the first one, and then each time the first at or after the end of the
+-- one before; the first character is at the offset `at`
+abbrev pub spans_of : Data → Reading → List ℕ → ℕ → ℕ → List ℕ → List (ℕ × ℕ)
+spans_of says reading sought x at [] = []
+spans_of says reading sought x at (c ∷ cs) = elim (nat_le x at && is_match_by says reading sought (c ∷ cs)) [
+  | true ↦
+      let end = behind_letters says reading (length sought) at (c ∷ cs) in (at, end) ∷ spans_of says reading sought end (at + length (encode_utf8 c)) cs
+  | false ↦ spans_of says reading sought x (at + length (encode_utf8 c)) cs
+]
+
+-- those of a text
+abbrev pub spans_from : Data → Reading → List ℕ → List ℕ → ℕ → List (ℕ × ℕ)
+spans_from says reading sought text x = spans_of says reading sought x 0 (chars text)

@@ -1,0 +1,10 @@
+//! The two ways to read a text's letters.
+
+/// How a search reads letters.
+#[derive(Clone, Copy, PartialEq, Eq, Debug)]
+pub enum Reading {
+    /// For finding: whatever their marks, their case and their form in a word.
+    Wide,
+    /// For replacing: whatever their marks, and the case of A to Z.
+    Close,
+}
