@@ -133,7 +133,7 @@ void send_size(void) {
     }
 }
 
-/* Hands on each word that has its end, and keeps the rest. One that fills all the room is no word. */
+/* Hands on each word that has its end, and keeps the rest. One that fills all the room is not a word. */
 static void hand_on_words(void) {
     size_t from = 0;
     char *end = NULL;

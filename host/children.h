@@ -11,7 +11,7 @@ extern pid_t filter, program;
 extern int program_status;
 /* The writing end of the program's input, and the reading end of its words; -1 once closed. */
 extern int keys, words;
-/* Whether the window's size is to be told to the program. */
+/* Whether the program is to get the window's size. */
 extern bool is_size_owed;
 
 /* Makes the pipe of the program's words; gives its writing end, or -1. */
@@ -32,7 +32,7 @@ void send_size(void);
 /* Hands whole words of the program to the keeper. */
 void hear_words(void);
 
-/* What the program said that is no word, and its length. */
+/* What the program said that is not a word, and its length. */
 const char *other_words(unsigned long *length);
 
 #endif

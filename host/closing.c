@@ -67,7 +67,7 @@ static bool carry_out_last(const struct message *message, int *status, int64_t e
     return is_last;
 }
 
-/* Hears the keeper until it has told the status, which is given, or the time is over. What is said in time is heard, also where
+/* Hears the keeper until it has given the status, which is returned, or the time is over. What is said in time is heard, also where
  * the telling took all of it. */
 static bool hear_last(int *status) {
     struct message message;
@@ -88,7 +88,7 @@ int end_session(int status) {
     bool is_told = hear_last(&status);
     bool is_late = !is_told && keeper.state == KEEPER_SPEAKS;
     end_facts();
-    /* one that has closed its pipe ends now, and its status is told */
+    /* one that has closed its pipe ends now, and its status comes */
     int64_t leaving = is_told ? end_signal ? LEAST : LEAVING : keeper.state == KEEPER_ENDED ? LEAST : 0;
     end_keeper(now() + leaving);
     if (is_told) return status;

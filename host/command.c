@@ -20,7 +20,7 @@ static bool add_size(struct command *command, const char *name, unsigned size) {
     return add_word(command, name) && add_word(command, text);
 }
 
-/* The word behind this one; NULL where it is not there. */
+/* The word after this one; NULL where it is not there. */
 static const char *word_behind(const struct command *command, const char *name) {
     for (size_t i = 0; i + 1 < command->count; i++)
         if (strcmp(command->words[i], name) == 0) return command->words[i + 1];

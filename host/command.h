@@ -15,7 +15,7 @@ struct command {
     size_t count;
 };
 
-/* Puts a word behind a command line. Returns false where there is no room. */
+/* Puts a word after a command line. Returns false where there is no room. */
 bool add_word(struct command *command, const char *word);
 
 /* Makes the program's command line: the host's words, then those of the keeper, which may have a size already, as the session

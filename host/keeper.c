@@ -92,7 +92,7 @@ static void write_keeper(void) {
     if (count >= 0) {
         take_bytes(&keeper.said, (size_t)count);
     } else if (errno == EPIPE) {
-        /* its end is told by the other pipe, behind what it said before */
+        /* its end comes by the other pipe, after what it said before */
         take_bytes(&keeper.said, keeper.said.end - keeper.said.start);
     } else if (errno != EAGAIN && errno != EINTR) {
         lose_keeper();

@@ -16,7 +16,7 @@
 #include "signals.h"
 #include "writing.h"
 
-/* How long tmux may take to answer, and the terminal to take what it is told. */
+/* How long tmux may take to answer, and the terminal to take what it is sent. */
 enum { PATIENCE = 2000, TELLING = 500, MOST_ROWS = 500 };
 
 static struct path outer;

@@ -35,7 +35,7 @@ bool go_up(struct path *path) {
     return true;
 }
 
-/* Cuts a path into the folder above, `.` for a name alone, and the last name, which may be empty behind a slash. */
+/* Cuts a path into the folder above, `.` for a name alone, and the last name, which may be empty after a slash. */
 static void split(const struct path *path, struct path *folder, struct path *name) {
     const char *slash = strrchr(path->text, '/');
     set_path(name, slash ? slash + 1 : path->text);
@@ -55,7 +55,7 @@ static bool follow(struct path *path) {
     return true;
 }
 
-/* Resolves the nearest folder above, and puts the rest behind it. */
+/* Resolves the nearest folder above, and puts the rest after it. */
 static bool resolve_above(struct path at, struct path *real) {
     struct path folder, name, rest;
     split(&at, &folder, &rest);

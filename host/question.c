@@ -12,7 +12,7 @@
 #include "terminal.h"
 #include "writing.h"
 
-/* What was read behind the last line. */
+/* What was read after the last line. */
 static char input[4096];
 static size_t held;
 

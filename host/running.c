@@ -104,7 +104,7 @@ static void run(void) {
     }
 }
 
-/* Finds the terminal's kind, and what it is to be told. */
+/* Finds the terminal's kind, and what to send it. */
 static void prepare_terminal(const struct request *request, bool has_filter) {
     const char *answer = find_outer();
     terminal_kind = find_kind(answer);

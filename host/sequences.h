@@ -1,4 +1,4 @@
-/* What the terminal is told at the start, after a stop and at the end. */
+/* What the terminal is sent at the start, after a stop and at the end. */
 #ifndef SEQUENCES_H
 #define SEQUENCES_H
 

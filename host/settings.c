@@ -79,7 +79,7 @@ static size_t read_starter(const char *name, char *bytes, size_t room) {
     if (!stream) return 0;
     look[fread(look, 1, sizeof look - 1, stream)] = 0;
     fclose(stream);
-    /* behind the process's name, which may have any letters: its state and its parent */
+    /* after the process's name, which may have any letters: its state and its parent */
     const char *at = strrchr(look, ')');
     if (!at || strlen(at) < 5 || (starter = strtol(at + 4, NULL, 10)) <= 0) return 0;
     snprintf(path, sizeof path, "/proc/%ld/%s", starter, name);

@@ -24,7 +24,7 @@ struct queue typing;
 
 static bool is_over, is_pasting;
 static enum place place;
-/* The bytes of a character that are to come; the number and the length of a sequence so far, behind its bracket. */
+/* The bytes of a character that are to come; the number and the length of a sequence so far, after its bracket. */
 static unsigned left, number, length;
 static int64_t last_byte;
 static int notices[MOST_NOTICES];
@@ -76,7 +76,7 @@ static enum place place_behind_escape(unsigned char byte) {
     return byte >= 0x20 && byte <= 0x2f ? LONG_ESCAPE : place_behind_first(byte);
 }
 
-/* The place behind the next byte. */
+/* The place after the next byte. */
 static enum place next_place(unsigned char byte) {
     bool is_known = byte < 0x80;
     if (byte == ESCAPE) return ESCAPED;
@@ -98,7 +98,7 @@ static enum place next_place(unsigned char byte) {
     return place_behind_first(byte);
 }
 
-/* Puts the notices that wait behind what was typed. One that finds no room waits on. */
+/* Puts the notices that wait after what was typed. One that finds no room waits on. */
 static void put_notices(void) {
     char text[16];
     size_t put = 0;

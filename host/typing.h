@@ -15,13 +15,13 @@ extern struct queue typing;
 /* Makes the pipe of the filter's input; gives its reading end, or -1. */
 int open_typing(void);
 
-/* Whether the terminal is read: not while much waits, nor behind the end. */
+/* Whether the terminal is read: not while much waits, nor after the end. */
 bool takes_typing(void);
 
 /* Reads the terminal. Its end ends the typing. */
 void read_typing(void);
 
-/* Hands on what waits. Behind the last byte the filter's input is ended, if the typing has an end. */
+/* Hands on what waits. After the last byte the filter's input is ended, if the typing has an end. */
 void hand_on_typing(void);
 
 /* Gives the editor a notice, by its number. It goes between two keys, and not into a paste; a key that is not whole for a second

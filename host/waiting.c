@@ -15,7 +15,7 @@ static bool holds(const struct queue *queue) {
 
 void wait_once(int64_t end) {
     enum { FROM, TO, WORDS, FACTS, KEYS, TYPED, LINE, FILES };
-    /* poll passes over a file of -1; a size comes behind what the terminal is told before the repainting */
+    /* poll passes over a file of -1; a size comes after what the terminal is sent before the repainting */
     struct pollfd files[FILES] = {
         [FROM] = {.fd = keeper.from, .events = POLLIN},
         [TO] = {.fd = holds(&keeper.said) ? keeper.to : -1, .events = POLLOUT},

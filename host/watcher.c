@@ -48,7 +48,7 @@ static bool ends_before(int file, int64_t end) {
     return false;
 }
 
-/* Gives what is told until the host is gone, which ends this process before its own end. */
+/* Gives what is written to it until the host is gone, which ends this process before its own end. */
 static void listen_to_host(int told, pid_t processes[TOLD]) {
     struct told_message message;
     for (;;) {

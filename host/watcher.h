@@ -5,7 +5,7 @@
 #include <stdbool.h>
 #include <sys/types.h>
 
-/* What the watcher is told: that the terminal changes now, and the processes that have begun. */
+/* What the watcher gets: that the terminal changes now, and the processes that have begun. */
 enum told { TERMINAL_CHANGES, FILTER_BEGINS, PROGRAM_BEGINS };
 
 extern pid_t watcher;

@@ -27,7 +27,7 @@ struct message {
     size_t length;
 };
 
-/* Gives the first whole message from `*from` on, and moves `*from` behind it. */
+/* Gives the first whole message from `*from` on, and moves `*from` past it. */
 bool find_message(const struct queue *queue, size_t *from, struct message *message);
 
 #endif

@@ -1,4 +1,4 @@
--- Worked examples: how a run's end is told, and what follows from the clause of a run alone.
+-- Worked examples: how a run's end is reported, and what follows from the clause of a run alone.
 use Rattle.std.proofs.Common.{◌≡◌, ◌≢◌, ◌++◌, ℕ, Bool, true, false, List, [], ◌∷◌, Option, Some, None, Result, Ok, Err, IsOk, refl, sym, ap, subst, ◌∙◌, if◌then◌else◌}
 use Rattle.std.specs.Prelude.{codes}
 use Rattle.bx_ucd.specs.Data.{Data}
@@ -19,21 +19,21 @@ use Rattle.bidi_edit.specs.declared.edit.Changes.TheVariants.{Saved, Dropped}
 use Rattle.bidi_edit.specs.declared.fault.ProgramFault.TheVariants as fault
 use Rattle.bidi_edit.specs.Run.{Edits, Outside, RunsUnless, told}
 
--- ---- how an end is told
+-- ---- how an end is reported
 
--- told as saved, nothing is unsaved
+-- reported as saved: nothing is unsaved
 pub saved_leaves_nothing : (end : Result End RunFault) (changed : Bool) → told end changed ≡ Ok Saved → changed ≡ false
 saved_leaves_nothing (Err cause) changed is = absurd (cc is)
 saved_leaves_nothing (Ok Quit) true is = absurd (cc is)
 saved_leaves_nothing (Ok (InputEnded unsaved)) true is = absurd (cc is)
 saved_leaves_nothing (Ok end) false is = refl
 
--- with nothing unsaved, an end without a fault is told as saved
+-- with nothing unsaved, an end without a fault is reported as saved
 pub nothing_left_is_saved : (end : End) → told (Ok end) false ≡ Ok Saved
 nothing_left_is_saved Quit = refl
 nothing_left_is_saved (InputEnded unsaved) = refl
 
--- told as dropped, a Quit ended the session with changes
+-- reported as dropped: a Quit ended the session with changes
 pub only_a_quit_drops : (end : Result End RunFault) (changed : Bool) → told end changed ≡ Ok Dropped → (end ≡ Ok Quit) × (changed ≡ true)
 only_a_quit_drops (Err cause) changed is = absurd (cc is)
 only_a_quit_drops (Ok Quit) true is = (refl, refl)
@@ -47,7 +47,7 @@ a_quit_with_changes_drops_them = refl
 pub a_hangup_with_changes : told (Ok (InputEnded true)) true ≡ Err fault.Unsaved
 a_hangup_with_changes = refl
 
--- a write fault is told, whatever is unsaved
+-- a write fault is reported, whatever is unsaved
 pub a_write_fault : (changed : Bool) → told (Err WriteFault) changed ≡ Err (fault.Run WriteFault)
 a_write_fault changed = refl
 

@@ -130,7 +130,7 @@ fn is_changed(
     }
 }
 
-/// Whether FILE is no text that the replayed session knows. It is read whole, and the session is opened a second time.
+/// Whether FILE is not a text that the replayed session knows. It is read whole, and the session is opened a second time.
 fn is_unknown(
     rt: &HostRuntime,
     options: &Options<'_>,

@@ -20,7 +20,7 @@ const WORDS: JournalNotes<'static> = JournalNotes {
     kept: "j kept\0",
 };
 
-/// What is told when a session ends whose journal is incomplete. That alone does not end a session.
+/// The message when a session with an incomplete journal ends. That alone does not end a session.
 const LOST: &str =
     "bidi_edit: the journal could not be written, so a crash would have lost what was not saved\n";
 
@@ -32,13 +32,13 @@ pub fn journal_notes(options: &Options<'_>) -> JournalNotes<'static> {
 /// Tells that a session has ended whose journal is incomplete.
 pub fn tell_lost_journal(rt: &HostRuntime, options: &Options<'_>) {
     let note = if options.words { WORDS.lost } else { LOST };
-    // if standard error fails, nobody can be told
+    // if standard error fails, nothing can be reported
     let _ = eprint!(rt; "{note}");
 }
 
 /// Tells how FILE looked before and after it was read; None if it does not exist.
 pub fn tell_look(rt: &HostRuntime, before: Option<Look>, after: Option<Look>) {
-    // if standard error fails, nobody can be told
+    // if standard error fails, nothing can be reported
     let _ = match after {
         _ if before != after => eprint!(rt; "o changed\0"),
         Some(look) => eprint!(rt; "o {look}\0"),
@@ -76,7 +76,7 @@ pub fn finish(rt: &HostRuntime, words: bool, outcome: Result<(), ProgramFault<'_
     let Err(fault) = outcome else {
         return ExitCode::SUCCESS;
     };
-    // if standard error fails, nobody can be told
+    // if standard error fails, nothing can be reported
     let _ = if words {
         eprint!(rt; "{}\0", Word(fault))
     } else {

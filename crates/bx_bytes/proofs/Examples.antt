@@ -58,7 +58,7 @@ of_begins_by_more_none law more = elim (cases_Bool (is_character (0xC0 ∷ more)
   | inr other ↦ other
 ]
 
--- nothing longer begins with A9 behind C3
+-- nothing longer begins with A9 after C3
 pub of_none_begins_longer : GrammarsEnd → (b : ℕ) (more : List ℕ) → begins_character (0xC3 ∷ 0xA9 ∷ b ∷ more) ≡ false
 of_none_begins_longer law b more = law characters refl (0xC3 ∷ 0xA9 ∷ []) b more refl
 

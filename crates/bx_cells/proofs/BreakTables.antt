@@ -67,7 +67,7 @@ breaking_ends_pass = Stepped-everywhere breaking_ends breaking_ends_stepped refl
 pub stays-extend : (c : ℕ) → extends_conjunct (indic_conjunct_break c) ≡ true → stays (grapheme_cluster_break c) ≡ true
 stays-extend c h = implied (extends_conjunct (indic_conjunct_break c)) (stays (grapheme_cluster_break c)) (extend_stays_pass c) h
 
--- one that breaks is no part of a conjunct, and no pictograph
+-- one that breaks is neither a part of a conjunct nor a pictograph
 pub ends-breaking : (c : ℕ) → is_breaking (grapheme_cluster_break c) ≡ true
     → (is_no_part (indic_conjunct_break c) ≡ true) × (is_extended_pictographic c ≡ false)
 ends-breaking c h =

@@ -71,7 +71,7 @@ fn small_face(w: u16, columns: u8) -> Face
     sized_face(w, usize::from(columns))
 }
 
-/// The face of a text of these columns that is no tab, control or formatting character.
+/// The face of a text of these columns that is not a tab, control or formatting character.
 fn sized_face(w: u16, columns: usize) -> Face
     ensures { result ≡ sized_face w columns }
 {

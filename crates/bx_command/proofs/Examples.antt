@@ -46,6 +46,6 @@ a_byte_behind_it_is_in_the_next = refl
 pub a_short_text_is_not_too_long : Refuses (codes "ab") TooLong → ⊥
 a_short_text_is_not_too_long long = omega (arith, long)
 
--- a text told to have a bad line is no longer than the largest
+-- a text with a bad line is no longer than the largest
 pub the_length_is_told_first : (bytes : List ℕ) (line : ℕ) → Refuses bytes (NotUtf8 line) → length bytes ≤ largest_text
 the_length_is_told_first bytes line refused = refused.0

@@ -3,7 +3,7 @@ use Rattle.std.proofs.Common.{◌≡◌, ◌≢◌, ◌+◌, ◌-◌, ℕ, zero,
 use Rattle.std.specs.Prelude.{◌==◌}
 use Rattle.bx_command.specs.Lines.{behind_feeds, last_from, start_of_line, with_start}
 
--- the last of the first `left` starts behind an offset
+-- the last of the first `left` starts after an offset
 abbrev pub last_start : List ℕ → ℕ → ℕ → ℕ → ℕ
 last_start text offset start left = last_from start (take left (behind_feeds offset (drop offset text)))
 
@@ -28,7 +28,7 @@ passed : (is_feed : Bool) (start next left : ℕ) (later : List ℕ) → is_feed
 passed true start next left later is = absurd (cc is)
 passed false start next left later is = refl
 
--- behind a line feed there is one start less
+-- after a line feed there is one start less
 pub behind_a_feed : (text : List ℕ) (offset start left b : ℕ) → drop offset text ≡ b ∷ drop (offset + 1) text → (b == 0x0a) ≡ true → left ≢ 0
     → last_start text offset start left ≡ last_start text (offset + 1) (offset + 1) (left - 1)
 behind_a_feed text offset start left b is feed some =

@@ -14,7 +14,7 @@ pub enum TextFault {
     /// They are more than 16,777,216.
     #[error("file too long")]
     TooLong,
-    /// The line, from 1, of the first byte that is not UTF-8. Lines end with LF.
+    /// This line has the first invalid byte. Lines count from 1 and end with LF.
     #[error("not UTF-8 in line {0}")]
     NotUtf8(usize),
 }
@@ -28,7 +28,7 @@ fn line_of(bytes: &[u8], offset: usize) -> usize
     bytes[..offset].iter().filter(|b| **b == b'\n').count() + 1
 }
 
-/// Checks that bytes can be opened as a text. A file of more than 16,777,216 bytes may be cut off behind the next one.
+/// Checks that bytes can be opened as a text. A file of more than 16,777,216 bytes may be cut off after the next one.
 ///
 /// Errors, in this order: `TooLong`; `NotUtf8`.
 pub fn check_text(bytes: &[u8]) -> Result<(), TextFault>

@@ -126,7 +126,7 @@ impl<'a> JournalFile<'a> {
         self.holds_save = false;
         if self.has_fault && !self.lacks_bytes {
             self.has_fault = false;
-            // if standard error fails, nobody can be told
+            // if standard error fails, nothing can be reported
             let _ = eprint!(&self.rt; "{}", self.notes.kept);
         }
     }
@@ -135,7 +135,7 @@ impl<'a> JournalFile<'a> {
     fn tell_fault(&mut self) {
         if !self.has_fault {
             self.has_fault = true;
-            // if standard error fails, nobody can be told
+            // if standard error fails, nothing can be reported
             let _ = eprint!(&self.rt; "{}", self.notes.lost);
         }
     }

@@ -137,7 +137,7 @@ touched_by_a_letter : touched small (codes "1\n2\n3") 2 3 (codes "x") ≡ codes 
 unfolding unicode_segmentation unicode_width
 touched_by_a_letter = refl
 
--- a letter before a mark takes it, and the cursor goes behind both
+-- a letter before a mark takes it, and the cursor goes after both
 a_letter_takes_a_mark : place_after small (at_opening (0xcc ∷ 0x81 ∷ []) 4 Auto) 0 0 (codes "e") ≡ 3
 unfolding unicode_segmentation unicode_width
 a_letter_takes_a_mark = refl
@@ -181,7 +181,7 @@ a_letter_for_one_with_a_mark : (after_replacement small (at_opening (0x61 ∷ 0x
 unfolding unicode_segmentation unicode_width
 a_letter_for_one_with_a_mark = refl
 
--- without the separator the mark behind it stands on a, so x is put in behind the mark
+-- without the separator the mark after it stands on a, so x is put in after the mark
 behind_a_mark_that_joins : (after_replacement small (at_opening (0x61 ∷ 0x0a ∷ 0xcc ∷ 0x81 ∷ []) 4 Auto) 1 2 (codes "x") 2).content
     ≡ exchanged (opened (0x61 ∷ 0x0a ∷ 0xcc ∷ 0x81 ∷ [])) 1 2 3 (codes "x") 2 3 4
 unfolding unicode_segmentation unicode_width

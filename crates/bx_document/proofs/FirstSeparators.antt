@@ -90,7 +90,7 @@ module _ (says : Data) (text : List ℕ) (ls : List Lengths) (utf8 : IsUtf8 text
     rest : drop b text ≡ separator ++ bytes (behind says text 0 some)
     rest = ap₂ drop stop-is whole ∙ drop_at body (separator ++ bytes (behind says text 0 some)) (length body) refl
 
-    -- the piece of the text behind the body begins with the separator's first byte
+    -- the piece of the text after the body begins with the separator's first byte
     pub of-piece : (piece : List ℕ) → take (length piece) (drop b text) ≡ piece → 0 < length piece
         → (get_or piece 0 0 == 13) ≡ has_crlf_first says text
     of-piece piece is not_empty =

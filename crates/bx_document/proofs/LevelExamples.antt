@@ -17,7 +17,7 @@ letter_and_digits : levels_at Auto (encode_utf8_all (0x5d0 ∷ 0x301 ∷ 0x20 �
 unfolding unicode_segmentation unicode_width
 letter_and_digits = refl
 
--- an isolate has the level around it, an embedding behind it has none
+-- an isolate has the level around it, an embedding after it has none
 formatting : levels_at Auto (encode_utf8_all (0x61 ∷ 0x2067 ∷ 0x202b ∷ [])) (0 ∷ 1 ∷ 4 ∷ []) ≡ Some 0 ∷ Some 0 ∷ None ∷ []
 unfolding unicode_segmentation unicode_width
 formatting = refl

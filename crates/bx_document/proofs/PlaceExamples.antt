@@ -36,7 +36,7 @@ last_mark : from (alef ∷ acute ∷ acute ∷ []) ∷ from (alef ∷ acute ∷ 
 unfolding unicode_segmentation unicode_width
 last_mark = refl
 
--- a joiner behind a letter, a letter behind a joiner, a letter alone, and nothing
+-- a joiner after a letter, a letter after a joiner, a letter alone, and nothing
 last_joiner : from (0x61 ∷ 0x200d ∷ []) ∷ from (0x200d ∷ 0x61 ∷ []) ∷ from (0x61 ∷ []) ∷ from [] ∷ [] ≡ 1 ∷ 0 ∷ 0 ∷ 0 ∷ []
 unfolding unicode_segmentation unicode_width
 last_joiner = refl

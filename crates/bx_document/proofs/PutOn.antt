@@ -41,7 +41,7 @@ module _ (w : ℕ) (done : List Col) (new : GridState) (column : ℕ) (is : new 
       ∙ ap (λ cs. record (one_row w done) { columns = paste (one_row w done).columns ((1 - 1) * w + (column - 1)) cs }) same
       ∙ ap (λ cs. record (one_row w done) { columns = cs }) (laid_next done one ((1 - 1) * w + (column - 1)) (w - length done) rest index split)
 
--- blanks are left behind the columns
+-- blanks are left after the columns
 pub some_put : (w n : ℕ) (all : List Col) (new : GridState) → new ≡ one_row w all → length all ≡ n → new.columns ≡ all ++ replicate (w - n) blank
 some_put w n all new is len = ap (λ (g : GridState). g.columns) is ∙ ap (λ k. all ++ replicate (w - k) blank) len
 

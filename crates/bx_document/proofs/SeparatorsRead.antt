@@ -61,7 +61,7 @@ module _ (says : Data) where
   first-is [] = refl
   first-is (c ∷ cs) = by-class c cs (is_separator (says.class c)) ((c == 13) && begins_with_lf says cs) refl (first-is cs)
 
-  -- the text without some bytes, by the characters before and behind them
+  -- the text without some bytes, by the characters before and after them
   without : (text : List ℕ) (start stop : ℕ) → IsUtf8 text → IsCharBoundary text start
       → has_crlf_first says (splice text start stop []) ≡ crlf_first says (chars (take start text) ++ chars (drop stop text))
   without text start stop utf8 bound =

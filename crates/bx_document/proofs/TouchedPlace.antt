@@ -170,7 +170,7 @@ module _ (says : Data) (text : List ℕ) (utf8 : IsUtf8 text) where
         (sym (ap chars was ∙ chars-append (take stop text) tail (IsUtf8-take text stop utf8 range.stop_bounds))) ∙ p) in
         place_before_back says base w h mine behind_all offset mine_utf8 behind_utf8 q within
 
-    -- a place in or right behind the new bytes
+    -- a place in or right after the new bytes
     pub touched_place : (base : Base) (w : ℕ) → 1 ≤ w → (offset : ℕ) → start ≤ offset → offset ≤ start + length new
         → place_from (text_rows says base w (splice text start stop new)) offset ≡ a + place_from (text_rows says base w mine) (offset - a)
     touched_place base w h offset from upto =

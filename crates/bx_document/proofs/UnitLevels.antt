@@ -141,7 +141,7 @@ module _ (body : List ℕ) (utf8 : IsUtf8 body) (each : List (Option ℕ)) where
   pub bound-at : (place : ℕ) → Contains (boundaries 0 (graphemes true body)) place → IsCharBoundary body place
   bound-at place c = (level-at 0 place (graphemes true body) (IsCharBoundary-start body utf8) refl c).bounds
 
-  -- the level of the unit behind some clusters
+  -- the level of the unit after some clusters
   behind-clusters : (front : List (List ℕ)) (at : ℕ) (unit : List ℕ) (rest : List (List ℕ)) → IsCharBoundary body at
       → graphemes true (drop at body) ≡ front ++ unit ∷ rest
       → level_from at (front ++ unit ∷ rest) (left at) (at + length (concat front))

@@ -59,7 +59,7 @@ place_after_replacement d t start stop new =
 abbrev pub after_replacement : Data → Document → ℕ → ℕ → List ℕ → ℕ → Document
 after_replacement d t start stop new place = after_insertion d (after_removal d t start stop place) (place_after d t start stop []) new
 
--- the text with `back` inserted behind the bytes from `start` to `stop`, and `front` before them
+-- the text with `back` inserted after the bytes from `start` to `stop`, and `front` before them
 abbrev pub wrapped_text : List ℕ → ℕ → ℕ → List ℕ → List ℕ → List ℕ
 wrapped_text text start stop front back = splice (splice text stop stop back) start start front
 
@@ -73,7 +73,7 @@ abbrev pub place_after_wrap : Data → Document → ℕ → ℕ → List ℕ →
 place_after_wrap d t start stop front back at =
     place_from (rows_of d t (wrapped_text t.content.text start stop front back)) (wrapped_end at start stop front)
 
--- after `back` is inserted behind those bytes and then `front` before them; the cursor was at `place`, an end of them
+-- after `back` is inserted after those bytes and then `front` before them; the cursor was at `place`, an end of them
 abbrev pub after_wrap : Data → Document → ℕ → ℕ → List ℕ → List ℕ → ℕ → RegionEnd → Document
 after_wrap d t start stop front back place at = record t {
   content = wrapped t.content start stop front back place (place_after d t stop stop back) (place_after_wrap d t start stop front back at);

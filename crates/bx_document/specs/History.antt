@@ -6,7 +6,7 @@ use Rattle.bx_text.specs.Times.{next_redos, next_undos, redone_times, undone_tim
 use Rattle.bx_document.specs.declared.history.HistoryStep.{HistoryStep}
 use Rattle.bx_document.specs.declared.history.HistoryStep.TheVariants.{Undo, Redo}
 
--- the text after a step, with its past and future; unchanged if there is no edit to undo, or to redo
+-- the text after a step, with its past and future; unchanged if there is nothing to undo or redo
 abbrev pub stepped : HistoryStep → Edited → Edited
 stepped Undo t = undone t
 stepped Redo t = redone t

@@ -1,4 +1,4 @@
--- Points: marks and joiners that are typed behind a letter and are removed one by one.
+-- Points: marks and joiners that are typed after a letter and are removed one by one.
 use Rattle.std.specs.Prelude.{ℕ, ◌-◌, ◌==◌, nat_le, Bool, true, false, not, ◌&&◌, ◌||◌, List, take, length, chars, encode_utf8_all, slice_index_or}
 use Rattle.bx_ucd.specs.Data.{Data}
 use Rattle.bx_ucd.specs.declared.class.Class.{Class}

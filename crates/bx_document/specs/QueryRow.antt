@@ -1,4 +1,4 @@
--- A status row shows a text, or a text and behind it a query or what was typed. It leaves out the glyphs that do not fit.
+-- A status row shows a text, or a text and after it a query or what was typed. It leaves out the glyphs that do not fit.
 use Rattle.std.specs.Prelude.{◌≡◌, ℕ, ◌-◌, nat_le, true, false, List, [], ◌∷◌, ◌++◌, take, replicate, map, chars, encode_utf8}
 use Rattle.bx_terms.specs.Glyphs.{is_one_glyph, run_width}
 use Rattle.bx_terms.specs.declared.base.Base.TheVariants.{Auto}

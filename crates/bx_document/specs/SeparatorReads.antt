@@ -5,7 +5,7 @@ use Rattle.bx_paras.specs.Paragraphs.{begins_with_lf, is_separator}
 use Rattle.bx_document.specs.declared.first_separator.Seen.{Seen}
 use Rattle.bx_document.specs.declared.first_separator.Seen.TheVariants.{Cr, Known, Nothing}
 
--- the first separator is a CR with an LF behind it
+-- the first separator is a CR with an LF after it
 abbrev pub crlf_first : Data → List ℕ → Bool
 crlf_first says [] = false
 crlf_first says (c ∷ cs) = elim (is_separator (says.class c)) [ true ↦ (c == 13) && begins_with_lf says cs | false ↦ crlf_first says cs ]

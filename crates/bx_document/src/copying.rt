@@ -11,7 +11,7 @@ use bx_terms::OutOfMemory;
 use bx_ucd::BidiData;
 use bx_view::Source;
 
-/// The offsets of the start and the end of the line that an offset falls in. No memory.
+/// The offsets of the start and the end of the line that an offset falls in. Allocates nothing.
 fn line_at<D: BidiData>(source: &Source<'_, D>, offset: usize) -> (usize, usize)
     requires bounds { IsCharBoundary (bytes source.now) offset }
     ensures line { result ≡ line_of (D.data source.now.tables.now) (bytes source.now) offset }
@@ -24,7 +24,7 @@ fn line_at<D: BidiData>(source: &Source<'_, D>, offset: usize) -> (usize, usize)
 }
 
 impl<D: BidiData + Drop> Document<D> {
-    /// The offsets of the start and the end of a place's paragraph, its separator included. No memory.
+    /// The offsets of the start and the end of a place's paragraph, its separator included. Allocates nothing.
     pub fn line_of(&self, place: usize) -> (usize, usize)
         requires text_place { IsTextPlace (D.data self.now.tables) self.now.document.content.text place }
         ensures line { result ≡ line_of (D.data self.now.tables) self.now.document.content.text place }
@@ -41,8 +41,6 @@ impl<D: BidiData + Drop> Document<D> {
     }
 
     /// Copies the bytes from `start` to `stop`.
-    ///
-    /// Errors: `OutOfMemory`.
     pub fn copy(&self, start: usize, stop: usize) -> Result<String, OutOfMemory>
         requires range { IsRange self.now.document.content.text start stop }
         ensures { IfOk result (λ copy. string_bytes copy ≡ slice_range self.now.document.content.text start stop) }

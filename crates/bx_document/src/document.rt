@@ -82,7 +82,7 @@ impl<D: BidiData + Drop> Document<D> {
         })
     }
 
-    /// The text's length in bytes. No memory.
+    /// The text's length in bytes. Allocates nothing.
     pub fn len(&self) -> usize
         ensures len { result ≡ length self.now.document.content.text }
         ensures short { length self.now.document.content.text ≤ largest_text }
@@ -91,7 +91,7 @@ impl<D: BidiData + Drop> Document<D> {
         self.text.len()
     }
 
-    /// The text in consecutive pieces. No memory.
+    /// The text in consecutive pieces. Allocates nothing.
     pub fn pieces(&self) -> Slices<'_>
         ensures text { result ≡ self.now.document.content.text }
         ensures joined { (slices : List (Bor (List ℕ))) → Drains lends result slices → joined slices ≡ self.now.document.content.text }
@@ -99,14 +99,14 @@ impl<D: BidiData + Drop> Document<D> {
         self.text.pieces()
     }
 
-    /// The tables. No memory.
+    /// The tables. Allocates nothing.
     pub fn tables(&self) -> &D
         ensures { result.now ≡ self.now.tables }
     {
         &self.tables
     }
 
-    /// The number, from 1, of the paragraph in which an offset in bytes lies. No memory.
+    /// The number, from 1, of the paragraph in which an offset in bytes lies. Allocates nothing.
     pub fn paragraph_at(&self, offset: usize) -> usize
         ensures { result ≡ paragraph_number (D.data self.now.tables) self.now.document.content.text offset + 1 }
     {
@@ -116,14 +116,14 @@ impl<D: BidiData + Drop> Document<D> {
         number + 1
     }
 
-    /// The base direction of the paragraphs. No memory.
+    /// The base direction of the paragraphs. Allocates nothing.
     pub fn base(&self) -> Base
         ensures { result ≡ self.now.document.base }
     {
         self.layout.base()
     }
 
-    /// The window's columns. No memory.
+    /// The window's columns. Allocates nothing.
     pub fn width(&self) -> u16
         ensures width { result ≡ self.now.document.w }
         ensures side { is_side self.now.document.w ≡ true }
@@ -131,14 +131,14 @@ impl<D: BidiData + Drop> Document<D> {
         self.layout.width()
     }
 
-    /// Sets the base direction, and discards the layout: paragraphs are resolved again when they are needed. No memory.
+    /// Sets the base direction, and discards the layout: paragraphs are resolved again when they are needed. Allocates nothing.
     pub fn set_base(&mut self, base: Base)
         ensures { self.new ≡ record self.old { document = record self.old.document { base = base } } }
     {
         self.layout = Layout::of(self.alloc, self.layout.width(), base);
     }
 
-    /// Sets the width. Cached paragraphs keep their levels and are rewrapped when they are needed. No memory.
+    /// Sets the width. Cached paragraphs keep their levels and are rewrapped when they are needed. Allocates nothing.
     pub fn set_width(&mut self, w: u16)
         requires side { is_side w ≡ true }
         ensures { self.new ≡ record self.old { document = record self.old.document { w = w } } }

@@ -16,8 +16,6 @@ use bx_view::{Layout, RowAt, Source};
 use std::alloc::Global;
 
 /// Draws glyphs into a row of `width` columns, from its left end, and fills the row with blanks. The glyphs must fit.
-///
-/// Errors: `OutOfMemory`.
 pub(crate) fn draw_glyphs(
     alloc: Global,
     glyphs: &[Drawn<'_>],
@@ -45,8 +43,6 @@ pub(crate) fn draw_glyphs(
 }
 
 /// Draws a row of the text.
-///
-/// Errors: `OutOfMemory`.
 pub(crate) fn draw_row<D: BidiData>(
     alloc: Global,
     layout: &Layout,

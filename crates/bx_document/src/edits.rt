@@ -32,9 +32,7 @@ fn wrapped_end(end: RegionEnd, start: usize, stop: usize, front: &str) -> usize
     }
 }
 
-/// A copy of the bytes from `start` to `stop`, with `front` before and `back` behind them.
-///
-/// Errors: `OutOfMemory`.
+/// A copy of the bytes from `start` to `stop`, with `front` before and `back` after them.
 fn wrapped(
     alloc: Global,
     text: &Text,
@@ -56,7 +54,7 @@ fn wrapped(
     Ok(whole)
 }
 
-/// Updates the index after an edit, in the room reserved for one separator per added byte. No memory.
+/// Updates the index after an edit, in the room reserved for one separator per added byte. Allocates nothing.
 pub(crate) fn follow<D: BidiData>(index: &mut Index, text: &Text, tables: &D, change: &Change)
     requires was { (old : List ℕ)
         × IsUtf8 old
@@ -72,8 +70,6 @@ pub(crate) fn follow<D: BidiData>(index: &mut Index, text: &Text, tables: &D, ch
 
 impl<D: BidiData + Drop> Document<D> {
     /// The place after a pending edit that replaces the bytes from `start` to `stop` with `new`.
-    ///
-    /// Errors: `OutOfMemory`.
     fn place_after(&mut self, start: usize, stop: usize, new: &str) -> Result<usize, OutOfMemory>
         requires range { IsRange self.old.document.content.text start stop }
         requires fits { fits self.old.document.content.text start stop new.now ≡ true }
@@ -147,8 +143,6 @@ impl<D: BidiData + Drop> Document<D> {
     }
 
     /// The place after a pending replacement, of which the removal of the bytes from `start` to `stop` leads to `between`.
-    ///
-    /// Errors: `OutOfMemory`.
     fn place_after_both(
         &mut self,
         start: usize,
@@ -167,7 +161,7 @@ impl<D: BidiData + Drop> Document<D> {
     {
         // proof only: the text is UTF-8 and within its limit
         let _utf8 = self.text.len();
-        // The bytes behind the removed ones, up to the place between, stay in front of the new text.
+        // The bytes after the removed ones, up to the place between, stay in front of the new text.
         let behind = stop + (between - start);
         let whole = wrapped(self.alloc, &self.text, stop, behind, "", new)?;
         let place = self.place_after(start, behind, whole.as_str())?;
@@ -216,8 +210,6 @@ impl<D: BidiData + Drop> Document<D> {
     }
 
     /// The place after a pending wrap.
-    ///
-    /// Errors: `OutOfMemory`.
     fn place_after_wrap(
         &mut self,
         start: usize,
@@ -254,7 +246,7 @@ impl<D: BidiData + Drop> Document<D> {
         Ok(place)
     }
 
-    /// Inserts `back` behind the bytes from `start` to `stop`, then `front` before them, and returns the new place; none, and
+    /// Inserts `back` after the bytes from `start` to `stop`, then `front` before them, and returns the new place; none, and
     /// no change, if the text would exceed 16,777,216 bytes after both. The cursor was at `place`, which was the end `end` of
     /// those bytes, and stays there. These are two edits, of which undo takes back the second first.
     ///

@@ -32,7 +32,7 @@ fn is_crlf(seen: Seen) -> bool
     }
 }
 
-/// What is told once the character behind them is read too.
+/// The answer once the next character is read too.
 fn after<D: BidiData>(seen: Seen, c: char, tables: &D) -> Seen
     ensures { (rest : List ℕ) → crlf_from (D.data tables.now) seen (c ∷ rest) ≡ crlf_from (D.data tables.now) result rest }
 {
@@ -51,7 +51,7 @@ fn after<D: BidiData>(seen: Seen, c: char, tables: &D) -> Seen
     }
 }
 
-/// What is told once a part of the text behind them is read too.
+/// The answer once a part of the text after them is read too.
 fn after_part<D: BidiData>(before: Seen, part: &str, tables: &D) -> Seen
     ensures { (rest : List ℕ) → crlf_from (D.data tables.now) before (chars part.now ++ rest) ≡ crlf_from (D.data tables.now) result rest }
 {
@@ -67,7 +67,7 @@ fn after_part<D: BidiData>(before: Seen, part: &str, tables: &D) -> Seen
     seen
 }
 
-/// What is told once the text from `start` to `stop` is read too, piece by piece.
+/// The answer once the text from `start` to `stop` is read too, piece by piece.
 fn after_range<D: BidiData>(
     before: Seen,
     text: &Text,
@@ -93,7 +93,7 @@ fn after_range<D: BidiData>(
 }
 
 impl<D: BidiData + Drop> Document<D> {
-    /// Whether the text's first separator is CR LF. No memory.
+    /// Whether the text's first separator is CR LF. Allocates nothing.
     pub fn has_crlf_first(&self) -> bool
         ensures { result ≡ has_crlf_first (D.data self.now.tables) self.now.document.content.text }
     {
@@ -111,7 +111,7 @@ impl<D: BidiData + Drop> Document<D> {
     }
 
     /// Whether the first separator of the text without the bytes from `start` to `stop` is CR LF. It reads up to that
-    /// separator. No memory.
+    /// separator. Allocates nothing.
     pub fn has_crlf_first_without(&self, start: usize, stop: usize) -> bool
         requires range { IsRange self.now.document.content.text start stop }
         ensures { result ≡ has_crlf_first (D.data self.now.tables) (splice self.now.document.content.text start stop []) }

@@ -21,7 +21,7 @@ pub enum HistoryStep {
     Redo,
 }
 
-/// The one change that `n` steps make; none if `n` is 0 or there is no edit to undo, or to redo. No memory.
+/// The one change that `n` steps make; none if `n` is 0 or there is nothing to undo or redo. Allocates nothing.
 fn next_changes(text: &Text, step: HistoryStep, n: usize) -> Option<Change>
     ensures { result ≡ next_changes step n text.now.edited }
 {
@@ -47,7 +47,7 @@ fn step_in(text: &mut Text, step: HistoryStep, n: usize) -> Result<Option<Change
 }
 
 /// The range of a pending change within its cached paragraph; none if the paragraph is not cached or the change exceeds
-/// it. No memory.
+/// it. Allocates nothing.
 fn held_change<D: BidiData>(
     layout: &mut Layout,
     source: &Source<'_, D>,
@@ -83,7 +83,7 @@ fn follow_in_layout<D: BidiData>(
 
 impl<D: BidiData + Drop> Document<D> {
     /// Undoes or redoes an edit, and returns the cursor's place: the place before the edit that is undone, or after the
-    /// edit that is redone. None if there is no edit to undo, or to redo.
+    /// edit that is redone. None if there is nothing to undo or redo.
     ///
     /// Errors: `OutOfMemory`, and nothing has changed.
     pub fn step(&mut self, step: HistoryStep) -> Result<Option<usize>, OutOfMemory>
@@ -96,7 +96,7 @@ impl<D: BidiData + Drop> Document<D> {
     }
 
     /// Undoes or redoes `n` edits at once, or all if there are fewer, and returns the cursor's place after the last. None if
-    /// `n` is 0 or there is no edit to undo, or to redo.
+    /// `n` is 0 or there is nothing to undo or redo.
     ///
     /// Errors: `OutOfMemory`, and nothing has changed.
     pub fn step_times(&mut self, step: HistoryStep, n: usize) -> Result<Option<usize>, OutOfMemory>
@@ -124,14 +124,14 @@ impl<D: BidiData + Drop> Document<D> {
         follow_in_layout(&mut self.layout, held, &self.text, &self.tables, &change);
         Ok(Some(change.place))
     }
-    /// The number of edits that can be undone. No memory.
+    /// The number of edits that can be undone. Allocates nothing.
     pub fn past_len(&self) -> usize
         ensures { result ≡ length self.now.document.content.past }
     {
         self.text.past_len()
     }
 
-    /// The number of edits that can be redone. No memory.
+    /// The number of edits that can be redone. Allocates nothing.
     pub fn future_len(&self) -> usize
         ensures { result ≡ length self.now.document.content.future }
     {

@@ -42,8 +42,6 @@ fn unit_level(body: &str, each: &[Level], at: usize) -> Option<u8>
 impl<D: BidiData + Drop> Document<D> {
     /// The embedding level of the unit that begins at a place, before rule L1 resets trailing blanks. None at a separator, at
     /// the text's end, and where X9 removes all of the unit's characters. The place's paragraph is resolved anew.
-    ///
-    /// Errors: `OutOfMemory`.
     pub fn level_at(&self, place: usize) -> Result<Option<u8>, OutOfMemory>
         requires text_place { IsTextPlace (D.data self.now.tables) self.now.document.content.text place }
         ensures { IfOk result (λ l. l ≡ place_level (D.data self.now.tables) self.now.document.base self.now.document.content.text place) }

@@ -65,8 +65,6 @@ fn point_start<D: BidiData>(unit: &str, tables: &D) -> usize
 impl<D: BidiData + Drop> Document<D> {
     /// Where the removal of a point before a place begins, for the unit from `start` to the place: at the unit's last character,
     /// if that is a point, else at `start`. If that is the unit's only character, both are the same.
-    ///
-    /// Errors: `OutOfMemory`.
     pub fn start_of_point(&self, start: usize, place: usize) -> Result<usize, OutOfMemory>
         requires range { IsRange self.now.document.content.text start place }
         ensures start { IfOk result (λ o. o ≡ start + point_start (D.data self.now.tables) (slice_range self.now.document.content.text start place)) }

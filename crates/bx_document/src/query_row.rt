@@ -1,4 +1,4 @@
-//! Draws status rows: a text, or a text and behind it a query or what was typed.
+//! Draws status rows: a text, or a text and after it a query or what was typed.
 ghost use Rattle.std.specs.Prelude.{◌≡◌, ◌≤◌, ◌∷◌, [], ◌++◌, All, IfOk, OnOk, chars, length, map, string_bytes, sum_by, take, true};
 ghost use Rattle.std.specs.Cow.{cow_str_bytes};
 ghost use Rattle.bx_terms.specs.Characters.{are_ascii_printable};
@@ -67,7 +67,7 @@ fn lay_out<D: BidiData>(
     Ok(layout)
 }
 
-/// The glyphs of a text, and of a query behind it. The text has only characters from SPACE to TILDE.
+/// The glyphs of a text, and of a query after it. The text has only characters from SPACE to TILDE.
 fn text_and_query<'a, D: BidiData>(
     alloc: Global,
     text: &str,
@@ -125,8 +125,6 @@ fn push_typed(alloc: Global, glyphs: &mut Vec<Drawn<'_>>, typed: &str) -> Result
 
 impl<D: BidiData + Drop> Document<D> {
     /// Draws a text into a row of the window's width, as far as it fits. It has only characters from SPACE to TILDE.
-    ///
-    /// Errors: `OutOfMemory`.
     pub fn draw_text(&self, text: &str) -> Result<OwnedRow, OutOfMemory>
         requires { are_ascii_printable text.now ≡ true }
         ensures row { IfOk result (λ row. row ≡ glyph_row self.now.document.w (letter_glyphs text.now)) }
@@ -137,10 +135,8 @@ impl<D: BidiData + Drop> Document<D> {
         Ok(row)
     }
 
-    /// Draws a text, and behind it a query in its visual order, into a row of the window's width, as far as their glyphs fit.
+    /// Draws a text, and after it a query in its visual order, into a row of the window's width, as far as their glyphs fit.
     /// The text has only characters from SPACE to TILDE.
-    ///
-    /// Errors: `OutOfMemory`.
     pub fn draw_query(&self, text: &str, query: &str) -> Result<OwnedRow, OutOfMemory>
         requires { are_ascii_printable text.now ≡ true }
         ensures row { IfOk result (λ row. row ≡ glyph_row self.now.document.w
@@ -153,10 +149,8 @@ impl<D: BidiData + Drop> Document<D> {
         Ok(row)
     }
 
-    /// Draws a text, and behind it characters in the order in which they were typed, into a row of the window's width, as far as
+    /// Draws a text, and after it characters in the order in which they were typed, into a row of the window's width, as far as
     /// they fit. The text has only characters from SPACE to TILDE, and a terminal shows each typed one in one column.
-    ///
-    /// Errors: `OutOfMemory`.
     pub fn draw_typed(&self, text: &str, typed: &str) -> Result<OwnedRow, OutOfMemory>
         requires printable { are_ascii_printable text.now ≡ true }
         requires narrow { All IsNarrow (chars typed.now) }

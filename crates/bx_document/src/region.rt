@@ -26,8 +26,6 @@ fn turn_slots(grid: &mut Grid, row: u16, slots: &[Slot])
 
 /// Shows the columns of the region's units in the other rendition, in row `row` of a grid, which shows row `at` of the text.
 /// Rows of the grid count from 0.
-///
-/// Errors: `OutOfMemory`.
 pub(crate) fn turn_row<D: BidiData>(
     layout: &Layout,
     source: &Source<'_, D>,

@@ -67,7 +67,7 @@ impl Model for RowCache {
 }
 
 impl DrawnRow {
-    /// Whether the row has this key. No memory.
+    /// Whether the row has this key. Allocates nothing.
     fn is_of(&self, key: &RowKey<'_>) -> bool
         ensures { IsTrue result → IsRowOf key.now.body.now key.now.base key.now.number key.now.width self.now }
     {
@@ -78,14 +78,14 @@ impl DrawnRow {
     }
 }
 
-/// Whether there is a row at index `i` and it has this key. No memory.
+/// Whether there is a row at index `i` and it has this key. Allocates nothing.
 fn is_kept(rows: &[DrawnRow], i: usize, key: &RowKey<'_>) -> bool
     ensures { IsTrue result → HoldsRow key.now.body.now key.now.base key.now.number key.now.width rows.now i }
 {
     i < rows.len() && rows[i].is_of(key)
 }
 
-/// The index of the first row with this key, from index `start` on. No memory.
+/// The index of the first row with this key, from index `start` on. Allocates nothing.
 fn position(rows: &[DrawnRow], start: usize, key: &RowKey<'_>) -> Option<usize>
     ensures { IfSome result (HoldsRow key.now.body.now key.now.base key.now.number key.now.width rows.now) }
 {
@@ -128,7 +128,7 @@ fn put_in(
 }
 
 impl RowCache {
-    /// An empty cache. No memory.
+    /// An empty cache. Allocates nothing.
     pub(crate) fn new(alloc: Global) -> RowCache
         ensures { result ≡ [] }
     {
@@ -138,7 +138,7 @@ impl RowCache {
         }
     }
 
-    /// Begins a page of `count` rows, and evicts rows beyond twice that number. No memory.
+    /// Begins a page of `count` rows, and evicts rows beyond twice that number. Allocates nothing.
     pub(crate) fn begin(&mut self, count: u16)
         ensures { (d : Data) → AreDrawnBy d self.old → AreDrawnBy d self.new }
     {
@@ -151,7 +151,7 @@ impl RowCache {
         *self.rows.allocator()
     }
 
-    /// The index of a cached row, searched from its number in the page on. No memory.
+    /// The index of a cached row, searched from its number in the page on. Allocates nothing.
     fn find(&self, at: u16, key: &RowKey<'_>) -> Option<usize>
         ensures { IfSome result (HoldsRow key.now.body.now key.now.base key.now.number key.now.width self.now) }
     {
@@ -167,7 +167,7 @@ impl RowCache {
         &row.columns
     }
 
-    /// Moves the cached row at index `i` to its number in the page. No memory.
+    /// Moves the cached row at index `i` to its number in the page. Allocates nothing.
     fn bring(&mut self, i: usize, at: u16)
         ensures { (d : Data) → AreDrawnBy d self.old → AreDrawnBy d self.new }
     {
@@ -198,8 +198,6 @@ impl RowCache {
     }
 
     /// Puts a row of the text into row `row` of a grid, from 0. A cached row is copied; any other is drawn and cached.
-    ///
-    /// Errors: `OutOfMemory`.
     pub(crate) fn put_row<D: BidiData>(
         &mut self,
         layout: &Layout,

@@ -25,7 +25,7 @@ impl<D: BidiData + Drop> Pieces for Document<D> {
 }
 
 impl<D: BidiData + Drop> Document<D> {
-    /// The query with a text's letters; none if the text has no letter. The text has at most 64 characters. No memory.
+    /// The query with a text's letters; none if the text has no letter. The text has at most 64 characters. Allocates nothing.
     pub fn query(&self, text: &str) -> Option<Query>
         requires few { length (chars text.now) ≤ 64 }
         ensures letters { IfSome result (λ q. q ≡ letters (D.data self.now.tables) (chars text.now)) }
@@ -34,7 +34,7 @@ impl<D: BidiData + Drop> Document<D> {
         Query::new(&self.tables, text)
     }
 
-    /// The byte offset of a query's first match at or after `x`. No memory.
+    /// The byte offset of a query's first match at or after `x`. Allocates nothing.
     pub fn first_from(&self, query: &Query, x: usize) -> Option<usize>
         requires bounds { IsCharBoundary self.now.document.content.text x }
         ensures found { result ≡ first_from (D.data self.now.tables) query.now self.now.document.content.text x }
@@ -45,7 +45,7 @@ impl<D: BidiData + Drop> Document<D> {
         bx_find::first_from(self, &self.tables, query, x)
     }
 
-    /// The byte offset of a query's last match before `x`. No memory.
+    /// The byte offset of a query's last match before `x`. Allocates nothing.
     pub fn last_before(&self, query: &Query, x: usize) -> Option<usize>
         ensures found { result ≡ last_before (D.data self.now.tables) query.now self.now.document.content.text x }
         ensures boundary { IfSome result (IsCharBoundary self.now.document.content.text) }
@@ -56,8 +56,6 @@ impl<D: BidiData + Drop> Document<D> {
     }
 
     /// The place of an offset in bytes: the last place at or before it.
-    ///
-    /// Errors: `OutOfMemory`.
     pub fn place_at(&mut self, offset: usize) -> Result<usize, OutOfMemory>
         ensures same { self.new ≡ self.old }
         ensures place { IfOk result (λ o. o ≡ place_at (rows (D.data self.old.tables) self.old.document) offset) }

@@ -7,14 +7,14 @@ use bx_paras::separates;
 use bx_ucd::{BidiData, Class};
 
 impl<D: BidiData + Drop> Document<D> {
-    /// A character's class (the property Bidi_Class). No memory.
+    /// A character's class (the property Bidi_Class). Allocates nothing.
     pub fn class(&self, c: char) -> Class
         ensures { result ≡ (D.data self.now.tables).class c }
     {
         self.tables.class(c)
     }
 
-    /// Whether a character separates paragraphs. No memory.
+    /// Whether a character separates paragraphs. Allocates nothing.
     pub fn separates(&self, c: char) -> bool
         ensures { result ≡ is_separator ((D.data self.now.tables).class c) }
     {

@@ -16,7 +16,7 @@ use bx_view::{Layout, Source};
 use std::alloc::Global;
 use std::ops::Range;
 
-/// The start of the paragraph that contains the byte before an offset. No memory.
+/// The start of the paragraph that contains the byte before an offset. Allocates nothing.
 fn start_before<D: BidiData>(source: &Source<'_, D>, start: usize) -> usize
     requires bounds { IsCharBoundary (bytes source.now) start }
     ensures start { result ≡ touched_start (D.data source.now.tables.now) (bytes source.now) start }
@@ -26,7 +26,7 @@ fn start_before<D: BidiData>(source: &Source<'_, D>, start: usize) -> usize
     source.index.span(number).0
 }
 
-/// The end of the paragraph that an offset falls in, its separator included. No memory.
+/// The end of the paragraph that an offset falls in, its separator included. Allocates nothing.
 pub(crate) fn stop_after<D: BidiData>(source: &Source<'_, D>, stop: usize) -> usize
     requires bounds { IsCharBoundary (bytes source.now) stop }
     ensures stop { result ≡ touched_stop (D.data source.now.tables.now) (bytes source.now) stop }
@@ -37,8 +37,6 @@ pub(crate) fn stop_after<D: BidiData>(source: &Source<'_, D>, stop: usize) -> us
 }
 
 /// The start of the paragraphs that an edit touches, and a copy of their text after it.
-///
-/// Errors: `OutOfMemory`.
 fn touched<D: BidiData>(
     source: &Source<'_, D>,
     start: usize,
@@ -62,8 +60,6 @@ fn touched<D: BidiData>(
 
 /// The first place at or after an offset, in bytes from 0, of a text that is laid out alone, with `layout`'s width and
 /// base direction.
-///
-/// Errors: `OutOfMemory`.
 fn place_in<D: BidiData>(
     alloc: Global,
     characters: String,
@@ -86,8 +82,6 @@ fn place_in<D: BidiData>(
 
 /// The first place at or after an offset, in `new` or at its end, once `new` has replaced the bytes of a range. A copy of
 /// the touched paragraphs is laid out.
-///
-/// Errors: `OutOfMemory`.
 pub(crate) fn place_inside<D: BidiData>(
     alloc: Global,
     source: &Source<'_, D>,
@@ -117,8 +111,6 @@ pub(crate) fn place_inside<D: BidiData>(
 
 /// The place after a pending edit that replaces the bytes of a range with `new`. If one held paragraph contains the range,
 /// the edit is made in it; otherwise a copy of the touched paragraphs is laid out.
-///
-/// Errors: `OutOfMemory`.
 pub(crate) fn place_after<D: BidiData>(
     alloc: Global,
     source: &Source<'_, D>,

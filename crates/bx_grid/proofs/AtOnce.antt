@@ -95,7 +95,7 @@ pub in_two : (t u : Terminal) (bytes : List ℕ) (n : ℕ) → u ≡ reads t (ta
 in_two t u bytes n e =
     ap (λ x. reads x (drop n bytes)) e ∙ sym (reads-append t (take n bytes) (drop n bytes)) ∙ ap (reads t) (take-append-drop n bytes)
 
--- a text that is shown before the escape behind it is read
+-- a text that is shown before the escape after it is read
 pub shown_before : (t u : Terminal) (bytes text : List ℕ) (n : ℕ) → t.half_read ≡ [] → n < length bytes → get_or bytes n 0 ≡ 0x1B
     → text ≡ take n bytes → IsUtf8 (take n bytes) → are_printable text ≡ true → u ≡ run_ended (record t { run = t.run ++ text })
     → reads u (drop n bytes) ≡ reads t bytes

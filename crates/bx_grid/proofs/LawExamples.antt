@@ -44,7 +44,7 @@ of_window_keeps law t e = (law t 24 80).1 ∙ e
 abbrev pub TextGoesOn : Type 0
 TextGoesOn = (t : Terminal) (text : List ℕ) → IsUtf8 text → are_printable text ≡ true → t.half_read ≡ [] → reads t text ≡ record t { run = t.run ++ text }
 
--- a character of three bytes behind a letter
+-- a character of three bytes after a letter
 pub of_text_goes_on : TextGoesOn → (t : Terminal) → t.half_read ≡ [] → t.run ≡ codes "a" → (reads t wide).run ≡ codes "a" ++ wide
 unfolding chars lib.Utf8.encode
 of_text_goes_on law t none e = ap (λ (s : Terminal). s.run) (law t wide (0x4E16 ∷ [], (refl, refl)) refl none) ∙ ap (λ run. run ++ wide) e

@@ -65,7 +65,7 @@ ends (x ∷ rest) b h e (inr n) =
     (λ goes. ends rest b (rw goes at h) e (inr (rw goes at n)))
     (λ stops. inter_ends (x ∷ rest) b (rw stops at h) e)
 
--- the last of bytes that are all intermediate is no parameter
+-- the last of bytes that are all intermediate is not a parameter
 no_param : (xs : List ℕ) (b : ℕ) → after_intermediates (xs ++ b ∷ []) ≡ [] → is_param b ≡ false
 no_param [] b h =
     let r = inter_rest (is_intermediate b) b [] refl h in

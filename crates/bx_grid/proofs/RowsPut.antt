@@ -12,7 +12,7 @@ use Rattle.bx_grid.proofs.Coded.{noted}
 use Rattle.bx_grid.proofs.Pasted.{length-paste, rows_along, rows_next, three_parts}
 use Rattle.bx_grid.proofs.Whole.{whole_along}
 
--- those behind the first `n` rows
+-- those after the first `n` rows
 rows_behind : (n m h w : ℕ) (cs : List Col) → h ≡ n + m → AreWholeRows h w cs → AreWholeRows m w (drop (n * w) cs)
 rows_behind zero m h w cs e rows =
     let none : zero * w ≡ 0 = omega arith in
@@ -31,7 +31,7 @@ whole_at r h w cs below rows = (rows_behind r (suc (h - r - 1)) h w cs (omega (a
 pub whole_row : (g : GridState) (r : ℕ) → IsGrid g.height g.width g.columns → r < g.height → AreWhole (take g.width (drop (r * g.width) g.columns))
 whole_row g r is below = whole_at r g.height g.width g.columns below is.rows
 
--- some rows and others behind them
+-- some rows and others after them
 rows_together : (n m h w : ℕ) (xs ys : List Col) → h ≡ n + m → length xs ≡ n * w → AreWholeRows n w xs → AreWholeRows m w ys → AreWholeRows h w (xs ++ ys)
 rows_together zero m h w xs ys e len before behind =
     let same : m ≡ h = omega (arith, e) in

@@ -1,4 +1,4 @@
--- The columns of a text that is one character, and characters behind it that take none.
+-- The columns of a text that is one character, and characters after it that take none.
 use Rattle.std.proofs.Common.{◌≡◌, ℕ, ◌+◌, ◌<◌, true, false, ◌&&◌, nat_lt, List, [], ◌∷◌}
 use Rattle.std.proofs.Common.{drop, Option, Some, None, unwrap_or, refl, ap, sym, ◌∙◌, arith, zero-add}
 use Rattle.std.specs.List.{list_all}

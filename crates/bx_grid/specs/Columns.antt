@@ -29,7 +29,7 @@ abbrev pub cut_before : List Col → List Col
 cut_before [] = []
 cut_before (x ∷ xs) = (if nat_lt (length xs) (columns_after x) then Unknown else x) ∷ cut_before xs
 
--- the columns behind the new ones, of which `d` come before these: a glyph that begins in the new ones becomes unknown
+-- the columns after the new ones, of which `d` come before these: a glyph that begins in the new ones becomes unknown
 abbrev pub cut_after : ℕ → List Col → List Col
 cut_after d [] = []
 cut_after d (x ∷ xs) = (if nat_lt d (columns_before x) then Unknown else x) ∷ cut_after (d + 1) xs

@@ -18,7 +18,7 @@ is_intermediate b = nat_le 0x20 b && nat_le b 0x2F
 abbrev pub is_final : ℕ → Bool
 is_final b = nat_le 0x40 b && nat_le b 0x7E
 
--- the bytes before the first that is no parameter, and those from it on
+-- the bytes before the first that is not a parameter, and those from it on
 abbrev pub params : List ℕ → List ℕ
 params [] = []
 params (b ∷ rest) = if is_param b then b ∷ params rest else []

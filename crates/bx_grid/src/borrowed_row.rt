@@ -63,8 +63,8 @@ impl<'g> BorrowedRow<'g> {
         BorrowedRow::new(&self.columns[from..], &self.codes[from..])
     }
 
-    /// Whether the codes show that a glyph which begins at an index of the other row is in this row too. True where a shared
-    /// column begins no glyph; false where the glyph has more than two columns or no code of its own.
+    /// Whether codes alone prove that both rows have the same glyph here. True where a shared column begins no glyph; false
+    /// where the glyph has more than two columns or no code of its own.
     pub fn begins_alike(&self, other: &BorrowedRow<'_>, index: usize) -> bool
         requires inside { index < length self.now }
         requires also { index < length other.now }
@@ -90,7 +90,7 @@ impl<'g> BorrowedRow<'g> {
         is_same_code(codes[next], others[next])
     }
 
-    /// Whether the codes show that the first columns differ.
+    /// Whether codes alone prove that the first columns differ.
     pub fn begins_otherwise(&self, other: &BorrowedRow<'_>) -> bool
         ensures { result ≡ true → (n : ℕ) → 0 < n → are_equal (take n self.now) (take n other.now) ≡ false }
     {

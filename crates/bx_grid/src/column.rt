@@ -50,8 +50,6 @@ impl Column {
     }
 
     /// A copy. A text of at most seven bytes needs no allocation.
-    ///
-    /// Errors: out of memory.
     #[inline(always)]
     pub(crate) fn copy(&self, alloc: Global) -> Result<Column, AllocError>
         ensures { IfOk result (λ c. seen c ≡ seen self.now) }

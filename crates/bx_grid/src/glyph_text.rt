@@ -98,8 +98,6 @@ impl Model for GlyphText {
 
 impl GlyphText {
     /// A text. At most seven bytes need no allocation.
-    ///
-    /// Errors: out of memory.
     pub fn from_str(alloc: Global, text: &str) -> Result<GlyphText, AllocError>
         ensures ok { IfOk result (λ t. t ≡ text.now) }
         ensures short { length text.now ≤ 7 → IsOk result }
@@ -124,8 +122,6 @@ impl GlyphText {
     }
 
     /// A copy. At most seven bytes need no allocation.
-    ///
-    /// Errors: out of memory.
     #[inline(always)]
     pub fn copy(&self, alloc: Global) -> Result<GlyphText, AllocError>
         ensures ok { IfOk result (λ t. t ≡ self.now) }

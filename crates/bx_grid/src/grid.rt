@@ -65,7 +65,7 @@ impl Grid {
     }
 
     /// Puts a glyph at a cell, over blanks. A glyph is one character from SPACE to TILDE, which takes one column, or other
-    /// text that a terminal shows as one piece: characters that are no controls and that take a column or more together
+    /// text that a terminal shows as one piece: characters that are not controls and that take a column or more together
     /// (`run_width`), not all of them from SPACE to TILDE. A glyph of at most seven bytes needs no allocation.
     ///
     /// Errors: `OutOfMemory`, and nothing has changed.

@@ -56,7 +56,7 @@ joiner_at_even = refl
 marks : forms ((D, Some 1) ∷ (T, Some 1) ∷ (T, None) ∷ (D, Some 1) ∷ []) ≡ Initial ∷ Isolated ∷ Isolated ∷ Final ∷ []
 marks = refl
 
--- a direction mark of a lower level parts two letters, even behind another mark
+-- a direction mark of a lower level parts two letters, even after another mark
 lower_between : forms ((D, Some 1) ∷ (T, Some 0) ∷ (D, Some 1) ∷ []) ≡ Isolated ∷ Isolated ∷ Isolated ∷ []
 lower_between = refl
 

@@ -18,7 +18,7 @@ found c cs e = ap (λ b. elim b as (λ _. Option Joiner) [ true ↦ neighbour cs
 pub found_first : (c : Joiner) (cs : List Joiner) → is_transparent c.0 ≡ false → passed_over (c ∷ cs) ≡ []
 found_first c cs e = ap (λ b. elim b as (λ _. List Joiner) [ true ↦ c ∷ passed_over cs | false ↦ [] ]) e
 
--- behind transparent characters
+-- after transparent characters
 pub across : (between : List Joiner) (c : Joiner) (after : List Joiner) → All (λ d. is_transparent d.0 ≡ true) between → is_transparent c.0 ≡ false
     → neighbour (between ++ c ∷ after) ≡ Some c
 across [] c after all own = found c after own

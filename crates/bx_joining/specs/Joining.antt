@@ -96,6 +96,6 @@ first_forms zero forms = []
 first_forms (suc n) [] = Isolated ∷ first_forms n []
 first_forms (suc n) (f ∷ fs) = f ∷ first_forms n fs
 
--- the forms of the characters of a text in the body, behind `number` characters of the body
+-- the forms of the characters of a text in the body, after `number` characters of the body
 abbrev pub text_forms : Data → List ℕ → List (Option ℕ) → ℕ → List ℕ → List Form
 text_forms says body each number text = first_forms (length (chars text)) (drop number (body_forms says body each))

@@ -207,7 +207,7 @@ fn joins_before<D: BidiData>(own: Joiner, text: &str, levels: &[Level], tables: 
     }
 }
 
-/// Whether a character joins the one after it, which is in the text behind it.
+/// Whether a character joins the one after it, which is in the text after it.
 fn joins_after<D: BidiData>(own: Joiner, text: &str, levels: &[Level], tables: &D) -> bool
     ensures { result ≡ joins_after own (joiners (D.data tables.now) text.now levels.now) }
 {

@@ -21,7 +21,7 @@ const BESIDE_TEXT: u64 = 65_536;
 /// How long a message stays before the screen hides it, in seconds.
 const PAUSE: u64 = 1;
 
-/// What is told where FILE could not be saved.
+/// The message where FILE could not be saved.
 const FORCE: &str = "--force opens it all the same";
 
 /// A session, as the program starts.
@@ -196,7 +196,7 @@ impl Begun {
         Err(Stop::fault(alloc, cause.as_str()))
     }
 
-    /// What is told of a FILE that should be saved in place and cannot be.
+    /// The message about a FILE that should be saved in place and cannot be.
     fn unsafe_line(
         &self,
         around: Around<'_>,

@@ -11,7 +11,7 @@ use bx_words::Shown;
 use std::alloc::{AllocError, Global};
 use std::rt::Files;
 
-/// The exit status of a refusal that is told already.
+/// The exit status of a refusal that was reported before.
 const REFUSED: u8 = 1;
 
 /// FILE, and where its sessions are.
@@ -25,7 +25,7 @@ pub struct Edited {
     pub is_closed: bool,
 }
 
-/// What is told of a save that was cut off; None where there is nothing to tell.
+/// The message about a save that was cut off; None if none was.
 pub fn mended_line(
     alloc: Global,
     file: &str,
@@ -85,7 +85,7 @@ fn has_no_folder(found: &Result<Destination, FileFault>) -> bool {
 impl Edited {
     /// Finds FILE and its sessions.
     ///
-    /// Errors: the refusal of what is no plain file, or has no destination; `Gone`; `OutOfMemory`.
+    /// Errors: the refusal of what is not a plain file, or has no destination; `Gone`; `OutOfMemory`.
     pub fn find<H: Host>(around: Around<'_>, host: &mut H, file: &str) -> Result<Edited, Stop> {
         let alloc = around.alloc();
         check_kind(around.rt, alloc, file).map_err(|fault| Stop::of_file(alloc, fault))?;
@@ -150,7 +150,7 @@ impl Edited {
             return Ok(true);
         };
         let target = around.target(self.path());
-        // a session that cannot be read is told where it is recovered
+        // a session that cannot be read is reported where it is recovered
         let Ok(outcomes) = mend_all(around.rt, sessions, &target, around.here) else {
             return Ok(true);
         };
@@ -191,7 +191,8 @@ impl Edited {
         saving.map_err(|fault| Stop::of_file(alloc, fault))
     }
 
-    /// Finds FILE, and refuses one that is no plain file, and, unless that is forced, one that cannot be read or saved. Repairs it.
+    /// Finds FILE, and refuses one that is not a plain file, and, unless that is forced, one that cannot be read or saved.
+    /// Repairs it.
     ///
     /// Errors: the refusal; `Gone`; `OutOfMemory`.
     pub fn check<H: Host>(

@@ -15,7 +15,7 @@ use bx_wire::Host;
 use bx_words::Shown;
 use std::rt::Files;
 
-/// What is told of a journal without its end.
+/// The message about a journal without its end.
 const CUT: &str = " up to where its journal could not be written";
 
 /// The largest journal whose text is put beside the keys after a signal, in bytes. Larger ones take too long for an end that is
@@ -28,7 +28,7 @@ impl Running<'_> {
         Ok(warn(host, self.around.alloc(), line)?)
     }
 
-    /// Tells why the program ended, if it told.
+    /// Reports why the program ended, if it said so.
     fn tell_fault<H: Host>(&self, host: &mut H) -> Result<(), Stop> {
         if let Some(ended) = &self.ended {
             host.warn(ended.line(self.around.rt, self.edited.file())?.as_str());
@@ -112,8 +112,8 @@ impl Running<'_> {
         self.tell(host, line.as_str())
     }
 
-    /// Tells that the session's folder is gone. A Quit does not tell whether all that was typed was saved, so behind one the line is
-    /// true in both cases.
+    /// Tells that the session's folder is gone. A Quit does not tell whether all that was typed was saved, so after one the line
+    /// is true in both cases.
     fn tell_gone<H: Host>(&self, host: &mut H, kept: &Kept, status: u64) -> Result<(), Stop> {
         let folder = Shown(kept.session.path());
         let cause = format!(in self.around.alloc(); "its folder {folder} is gone")?;

@@ -1,4 +1,4 @@
-//! Why the program ended, and what is told of it.
+//! Why the program ended, and the message about it.
 
 use crate::program_word::Fault;
 use crate::stop::Stop;
@@ -54,7 +54,7 @@ impl Ended {
         }
     }
 
-    /// The line that is told, with the name of the program whose fault it is.
+    /// The message, with the name of the program whose fault it is.
     pub fn line(&self, rt: &HostRuntime, file: &str) -> Result<String, Stop> {
         let alloc = rt.alloc();
         if let Some(fault) = self.refusal(rt, file) {

@@ -23,7 +23,7 @@ const READ_BY_OTHERS: u32 = 0o044;
 /// The text as it was opened.
 #[derive(Drop)]
 pub enum Text {
-    /// The program has not told yet what it read.
+    /// The program has not said yet what it read.
     Unread,
     /// The session has it.
     Kept,
@@ -149,7 +149,7 @@ pub fn open_early(around: Around<'_>, edited: &Edited, begun: &Begun) -> Option<
     open_plain(around.rt, edited.path()).ok()
 }
 
-/// Keeps the text that the program read, as it told. `handle` is what `open_early` gave.
+/// Keeps the text that the program read, as it said. `handle` is what `open_early` gave.
 pub fn keep_text(
     around: Around<'_>,
     edited: &Edited,

@@ -14,7 +14,7 @@ use bx_sessions::{
 use bx_wire::Host;
 use bx_words::Shown;
 
-/// What is told of a session behind its path.
+/// What a list says of a session after its path.
 fn note_of(around: Around<'_>, session: &Session) -> Result<String, Stop> {
     let alloc = around.alloc();
     let state = state_of(around.rt, session, around.here).unwrap_or(State::Unfinished);

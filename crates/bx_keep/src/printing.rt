@@ -9,7 +9,7 @@ use std::fs::{self, File};
 use std::io::{self, Read, Write};
 use std::rt::Files;
 
-/// The bytes of a plain file, cut off one byte behind the largest text; None if it is no plain file.
+/// The bytes of a plain file, cut off one byte after the largest text; None if it is not a plain file.
 fn bytes_of(rt: &HostRuntime, file: &str) -> io::Result<Option<Vec<u8>>> {
     if !fs::metadata(rt, file)?.is_file() {
         return Ok(None);
@@ -21,7 +21,7 @@ fn bytes_of(rt: &HostRuntime, file: &str) -> io::Result<Option<Vec<u8>>> {
     Ok(Some(bytes))
 }
 
-/// Refuses a plain file that is no text. What cannot be read is refused by the printing program.
+/// Refuses a plain file that is not a text. What cannot be read is refused by the printing program.
 fn check_bytes(rt: &HostRuntime, file: &str) -> Result<(), Stop> {
     let alloc = rt.alloc();
     let Ok(Some(bytes)) = bytes_of(rt, file) else {

@@ -6,7 +6,7 @@ use std::str;
 /// Why the program ended.
 #[derive(Clone, Copy, PartialEq, Eq, Debug)]
 pub enum Fault<'a> {
-    /// The line, from 1, of FILE's first byte that is not UTF-8.
+    /// This line of FILE, from 1, has the first invalid byte.
     NotUtf8(u64),
     TooLong,
     Unreadable,
@@ -64,7 +64,7 @@ fn fault_of(words: &str) -> Option<Fault<'_>> {
     })
 }
 
-/// What a word of the program says; None if it is no such word.
+/// What a word of the program says; None if it is another word.
 pub fn read_program_word(word: &[u8]) -> Option<ProgramWord<'_>> {
     match str::from_utf8(word).ok()? {
         "o -" => Some(ProgramWord::Opened(None)),

@@ -17,7 +17,7 @@ use bx_sessions::{Found, LockFault, Part, Session, Sessions, find};
 use bx_wire::Host;
 use bx_words::Shown;
 
-/// The exit status of a refusal that is told already.
+/// The exit status of a refusal that was reported before.
 const REFUSED: u8 = 1;
 
 /// The sessions of FILE, for a recovery.

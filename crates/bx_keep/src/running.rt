@@ -30,13 +30,13 @@ pub struct Running<'a> {
     handle: Option<File>,
     /// FILE as the program read it; None if it was not there.
     pub look: Option<Look>,
-    /// Why the program ended, as it told.
+    /// Why the program ended, as it said.
     pub ended: Option<Ended>,
     /// The journal could not be written, and is not whole again.
     pub is_journal_lost: bool,
     /// The signal that ended the host.
     pub signal: Option<u64>,
-    /// Why no copy of what is typed is kept, as the user was told.
+    /// Why no copy of what is typed is kept, as the user has read.
     pub trouble: Option<Notice>,
     /// There was room for keys a second ago.
     pub had_room: bool,

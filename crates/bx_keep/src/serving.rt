@@ -183,7 +183,7 @@ fn tell_status<R: Read + Drop, W: Write + Drop>(
     }
 }
 
-/// Hears the host, does what the command line asks for, and tells the exit status. Returns where all is told, or the host is
+/// Hears the host, does what the command line asks for, and tells the exit status. Returns where all is said, or the host is
 /// gone or becomes another program.
 pub fn serve<R: Read + Drop, W: Write + Drop, P: Replayer>(
     rt: &HostRuntime,

@@ -8,9 +8,9 @@ use std::fmt::Display;
 /// Why the keeper ends before the program starts.
 #[derive(Debug, Drop)]
 pub enum Stop {
-    /// All is told; the exit status.
+    /// All is reported; the exit status.
     Told(u8),
-    /// A cause that is told on standard error, and the exit status.
+    /// A cause to report on standard error, and the exit status.
     Cause(String, u8),
     OutOfMemory,
     /// The host is gone, or speaks otherwise.

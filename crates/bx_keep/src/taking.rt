@@ -22,7 +22,7 @@ use std::rt::Files;
 /// The exit status where a torn FILE stays torn.
 const TORN: u8 = 1;
 
-/// What is told of keys that may be replayed otherwise.
+/// The message about keys that may have another effect now.
 const UNSURE: &str =
     "an editor of another version, or with other tables, kept that session, and not its text: the keys may make another one now";
 
@@ -69,7 +69,7 @@ impl<P: Replayer> Taking<'_, P> {
         Ok(Stop::fault(alloc, line.as_str()))
     }
 
-    /// What a fault of a write in the session's folder is told as.
+    /// The cause to report for a failed write in the session's folder.
     fn written(&self, answer: io::Result<()>) -> Result<(), Stop> {
         match answer {
             Ok(()) => Ok(()),

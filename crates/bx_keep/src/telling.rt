@@ -1,11 +1,11 @@
-//! What is told of a session.
+//! Messages about a session.
 
 use crate::around::Around;
 use crate::stop::Stop;
 use bx_sessions::{LocalClock, Part, Process, Session, count_keys};
 use bx_words::Shown;
 
-/// The time of a session's last key, as it is told.
+/// The time of a session's last key, as users read it.
 pub fn told_time(around: Around<'_>, session: &Session) -> Result<String, Stop> {
     match session.changed(around.rt) {
         Ok(time) => Ok(LocalClock::read(around.rt).at(time).told(around.alloc())?),
@@ -21,7 +21,7 @@ pub fn number_of_keys(around: Around<'_>, session: &Session) -> usize {
     }
 }
 
-/// The number of a session's process, as it is told.
+/// The number of a session's process, as users read it.
 pub fn told_process(around: Around<'_>, process: Option<&Process>) -> Result<String, Stop> {
     match process {
         Some(process) => {
@@ -32,7 +32,7 @@ pub fn told_process(around: Around<'_>, process: Option<&Process>) -> Result<Str
     }
 }
 
-/// The machine of a session's process, as it is told; None if it is this one.
+/// The machine of a session's process, as users read it; None if it is this one.
 pub fn told_machine(around: Around<'_>, process: Option<&Process>) -> Result<Option<String>, Stop> {
     let name = match process {
         Some(process) if process.machine.host == around.here.host => return Ok(None),

@@ -23,7 +23,7 @@ are_after_other text n last has_lines so other =
       each = below_more _ _ so.each (λ e. absurd (other e));
     }
 
--- a line feed behind a carriage return
+-- a line feed after a carriage return
 pub are_after_crlf : (text : List ℕ) (n : ℕ) (has_lines : Bool) → AreSoFar text n 13 has_lines →
     get_or text n 0 ≡ 10 → AreSoFar text (n + 1) (get_or text n 0) true
 are_after_crlf text n has_lines so feed =

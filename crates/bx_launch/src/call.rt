@@ -101,10 +101,10 @@ pub enum WordFault<'a> {
 /// Why a command line is not obeyed.
 #[derive(Clone, Copy, Debug, PartialEq, Eq, Error)]
 pub enum CallFault<'a> {
-    /// The words are refused, and the usage is told.
+    /// The words are refused, and the usage is printed.
     #[error("{0}\n{USAGE}")]
     Refused(WordFault<'a>),
-    /// The words behind `--print` are refused, and its usage is told.
+    /// The words after `--print` are refused, and its usage is printed.
     #[error("{0}\n{PRINT_USAGE}")]
     PrintRefused(WordFault<'a>),
     /// A file's name is not UTF-8.

@@ -23,7 +23,7 @@ fn is_handed_over(file: &str) -> bool {
             .is_some_and(|rest| rest.contains("/fd/"))
 }
 
-/// Refuses what is no plain file. What is not there is one that the first save makes.
+/// Refuses what is not a plain file. What is not there is one that the first save makes.
 ///
 /// Errors, in this order: `Folder`; `FolderName`; `HandedOver`; `NotPlain`; `OutOfMemory`.
 pub fn check_kind(rt: &impl Files, alloc: Global, file: &str) -> Result<(), FileFault> {

@@ -88,7 +88,7 @@ fn check_folder(rt: &impl Files, alloc: Global, folder: &str) -> Result<(), File
     }
 }
 
-/// What the system tells of a path. A real path that is not UTF-8 is a refusal of FILE.
+/// What the system says of a path. A real path that is not UTF-8 is a refusal of FILE.
 fn facts_of(
     host: &mut impl Host,
     alloc: Global,

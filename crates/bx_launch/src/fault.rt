@@ -5,7 +5,7 @@ use bx_words::Shown;
 use std::alloc::{AllocError, AllocFailed, Global};
 use thiserror::Error;
 
-/// The cause of a refusal, which is told behind a name, with a cure.
+/// The cause of a refusal, which follows a name in the message, with a cure.
 #[derive(Clone, Copy, Debug, PartialEq, Eq, Error)]
 pub enum FileCause {
     #[error("is a folder: name a file in it")]
@@ -46,7 +46,7 @@ pub enum FileCause {
     Binary,
     #[error("is UTF-16 and not UTF-8: iconv -f UTF-16 -t UTF-8 may help")]
     Utf16,
-    /// The line, from 1, with the first byte that is not UTF-8.
+    /// This line, from 1, has the first invalid byte.
     #[error("is not UTF-8 in line {0}: iconv -f CP1255 -t UTF-8 may help if it is in Windows' Hebrew (CP1256: Arabic)")]
     NotUtf8(u64),
     #[error("is not there")]

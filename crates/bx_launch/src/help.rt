@@ -10,11 +10,11 @@ pub const VERSION: &str = "0.4.0";
 pub const USAGE: &str = "usage: bidi-edit [--direction auto|ltr|rtl] [--line N | +N] [--force] FILE
        bidi-edit --recover [[--to OTHER] FILE] | --forget [FILE]";
 
-/// The usage behind `--print`, without a line end.
+/// The usage after `--print`, without a line end.
 pub const PRINT_USAGE: &str = "usage: bidi-edit --print FILE [--cols N] [--marks] [--no-joining]
        [--direction auto|ltr|rtl]";
 
-/// What `--help` says behind the usage: at most 23 lines with it, of at most 80 columns.
+/// What `--help` says after the usage: at most 23 lines with it, of at most 80 columns.
 const KEYS: &str = "       bidi-edit --print FILE [--cols N] [--marks]: its rows to standard output
 Edits text of any scripts, each paragraph in its direction, from line N. --force
 opens what cannot be saved, -n keeps no session, --no-joining joins no letters.

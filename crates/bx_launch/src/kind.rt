@@ -9,7 +9,7 @@ use std::rt::Files;
 pub enum Kind {
     /// Nothing, or nothing that the user may look at.
     Missing,
-    /// A plain file of so many bytes.
+    /// A plain file of this many bytes.
     File(u64),
     Folder,
     Socket,

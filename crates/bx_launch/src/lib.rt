@@ -6,7 +6,7 @@
 //!   [`Destination::check_saving`] check FILE; [`Destination::leftovers`] tells of killed saves.
 //! - [`not_utf8`], [`too_long`] and [`FileFault::refused`] tell why the program refuses FILE.
 //! - [`check_print_file`] and [`print_words`] are for `--print`.
-//! - [`mixed_line`] and [`signal_line`] are told at the end.
+//! - [`mixed_line`] and [`signal_line`] are printed at the end.
 //!
 //! Each fault has its message, without the program's name, and its exit status. Names in messages are [`Told`].
 #![tactic(auto)]

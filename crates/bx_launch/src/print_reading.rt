@@ -1,4 +1,4 @@
-//! Reading the words behind `--print`.
+//! Reading the words after `--print`.
 
 ghost use Rattle.std.specs.Prelude.{◌≤◌, IfOk, IfSome, length};
 ghost use Rattle.bx_launch.specs.Calls.{HasNoFile};
@@ -95,7 +95,7 @@ impl<'a> Before<'a> {
         Ok(())
     }
 
-    /// Takes a word, and the next one if it is its value. Returns the words behind, or None at the end of the options.
+    /// Takes a word, and the next one if it is its value. Returns the words after, or None at the end of the options.
     fn take(
         &mut self,
         word: &'a [u8],
@@ -121,7 +121,7 @@ impl<'a> Before<'a> {
         Ok(Some(rest))
     }
 
-    /// Takes the words behind the end of the options.
+    /// Takes the words after the end of the options.
     fn take_last(&mut self, words: &'a [Vec<u8>]) -> Result<(), WordFault<'a>> {
         match words {
             [] => Ok(()),
@@ -131,7 +131,7 @@ impl<'a> Before<'a> {
     }
 }
 
-/// What all the words say, behind these options.
+/// What all the words say, after these options.
 fn before_of<'a>(words: &'a [Vec<u8>], options: Options) -> Result<Before<'a>, WordFault<'a>> {
     let mut before = Before {
         file: None,
@@ -153,7 +153,7 @@ fn before_of<'a>(words: &'a [Vec<u8>], options: Options) -> Result<Before<'a>, W
     Ok(before)
 }
 
-/// Reads the words behind `--print`. Of the options before it the direction and `--no-joining` hold.
+/// Reads the words after `--print`. Of the options before it the direction and `--no-joining` hold.
 ///
 /// Errors: `PrintRefused` by the first word that is refused, else where FILE is missing; then `NotUtf8`; `OutOfMemory`.
 pub fn read_print_words<'a>(

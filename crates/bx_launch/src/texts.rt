@@ -1,4 +1,4 @@
-//! What a file that the program refuses is told to be.
+//! What messages call a file that the program refuses.
 
 use crate::fault::{FileCause, FileFault};
 use crate::kind::{Kind, kind_at};

@@ -19,8 +19,8 @@ const MOST_DIGITS: usize = 3;
 /// The least number that counts as the last line's: one of nine digits.
 const TOO_LARGE: u64 = 100_000_000;
 
-/// The line that decimal digits name: the last line if the number has more than eight digits behind zeros in front. None if
-/// the bytes are no digits.
+/// The line that decimal digits name: the last line if the number has more than eight digits after zeros in front. None if
+/// the bytes are not digits.
 pub fn line_of_digits(digits: &[u8]) -> Option<u64>
     ensures numeral { IsSome result ↔ IsNumeral 10 digits.now }
     ensures line { IfSome result (λ n. n ≡ line_of_digits digits.now) }
@@ -47,7 +47,7 @@ fn line_option(number: u64) -> Option<u64> {
 
 /// The line that the value of `--line` names; None for the first.
 ///
-/// Errors: `NoNumber` where it is no number.
+/// Errors: `NoNumber` where it is not a number.
 pub fn line_of(value: &[u8]) -> Result<Option<u64>, WordFault<'_>> {
     match line_of_digits(value) {
         Some(number) => Ok(line_option(number)),
@@ -55,8 +55,8 @@ pub fn line_of(value: &[u8]) -> Result<Option<u64>, WordFault<'_>> {
     }
 }
 
-/// What the word `+..` says of the line, behind the `+`, as other editors take it: nothing for the last one, a number, or a
-/// number with a column behind a comma or colon, which is passed over. None for another command, which is ignored.
+/// What the word `+..` says of the line, after the `+`, as other editors take it: nothing for the last one, a number, or a
+/// number with a column after a comma or colon, which is passed over. None for another command, which is ignored.
 pub fn line_of_plus(place: &[u8]) -> Option<Option<u64>> {
     if place.is_empty() {
         return Some(Some(LAST_LINE));
@@ -82,7 +82,7 @@ pub fn direction_of(value: &[u8]) -> Result<Base, WordFault<'_>> {
 
 /// The columns that the value of `--cols` names, from 1 to 500.
 ///
-/// Errors: `NoWidth` where it is no such number, or has more than three digits.
+/// Errors: `NoWidth` where it is not a number, or has more than three digits.
 pub fn width_of(value: &[u8]) -> Result<u16, WordFault<'_>>
     ensures number { IfOk result (λ n. n ≡ digits_value 10 value.now) }
     ensures side { IfOk result (λ n. is_side n ≡ true) }

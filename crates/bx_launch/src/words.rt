@@ -53,7 +53,7 @@ enum Setting<'a> {
     Unjoined,
     Recover,
     Forget,
-    /// A place, behind its `+`.
+    /// A place, after its `+`.
     Place(&'a [u8]),
     /// An option of other editors: no new window, wait for the end.
     Ignored,
@@ -198,7 +198,7 @@ impl<'a> Before<'a> {
     }
 }
 
-/// The call of these options and the words behind them, which should be one FILE, or none.
+/// The call of these options and the words after them, which should be one FILE, or none.
 fn with_files<'a>(
     before: Before<'a>,
     alloc: Global,
@@ -213,7 +213,7 @@ fn with_files<'a>(
     }
 }
 
-/// The value behind an option, and the words behind that.
+/// The value after an option, and the words after that.
 fn split_value<'a>(
     option: Valued,
     words: &'a [Vec<u8>],

@@ -31,7 +31,7 @@ made height width columns position negative run half_read = record {
   half_read = half_read;
 }
 
--- where there is no run nothing takes effect
+-- without a run nothing takes effect
 no_run : (t : Terminal) → t.run ≡ [] → (run_ended t ≡ t) × (pending_effects t ≡ [])
 no_run t h = (ap (run_put t t.position t.negative) h, ap (run_effects t t.position t.negative) h)
 

@@ -37,7 +37,7 @@ blanks_done k above done before olds below blanks whole =
     (whole_along (before ++ olds) (before ++ (replicate k blank ++ drop k olds)) (ap (λ xs. before ++ xs) split) whole))
     ∙ sym (append_assoc done (replicate k blank) (cut_after 0 (drop k olds))))
 
--- blanks put over the rest of a tail, from its first column that is no blank
+-- blanks put over the rest of a tail, from its first column that is not a blank
 tail_put : (r f w k m : ℕ) (above done before olds below : List Col) → IsAtColumn r f w above done olds → AreWhole (before ++ olds)
     → take k olds ≡ replicate k blank → k + m ≡ length olds
     → put w (partly above done olds below) r (f + k) (replicate m blank) ≡ above ++ ((done ++ replicate (length olds) blank) ++ below)

@@ -124,8 +124,6 @@ pub fn changes_into(out: &mut Vec<u8>, old: &Picture, new: &Picture) -> Result<(
 }
 
 /// The bytes that `whole_into` appends.
-///
-/// Errors: `OutOfMemory`.
 pub fn whole(alloc: Global, picture: &Picture) -> Result<Vec<u8>, PaintError>
     ensures bytes { IfOk result (λ out. out.items ≡ whole_bytes picture.now) }
     ensures shows { IfOk result (λ out. (t : Terminal) → IsIdle t → t.height ≡ picture.now.height → t.width ≡ picture.now.width
@@ -137,8 +135,6 @@ pub fn whole(alloc: Global, picture: &Picture) -> Result<Vec<u8>, PaintError>
 }
 
 /// The bytes that `changes_into` appends.
-///
-/// Errors: `OutOfMemory`.
 pub fn changes(alloc: Global, old: &Picture, new: &Picture) -> Result<Vec<u8>, PaintError>
     requires height { old.now.height ≡ new.now.height }
     requires width { old.now.width ≡ new.now.width }

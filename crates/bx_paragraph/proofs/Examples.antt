@@ -165,7 +165,7 @@ before_last : IsCharBoundary (codes "abcdef") 5
 unfolding unicode_segmentation unicode_width
 before_last = IsCharBoundary-from_drop (codes "abcdef") 5 (omega arith) (codes "f", (refl, refl))
 
--- in a window of one column the first two rows behind `abcde` are those of a and b, whatever comes behind
+-- in a window of one column the first two rows after `abcde` are those of a and b, whatever comes after
 rows_before_stay : RowsBeforeStay → (new : List ℕ) → IsUtf8 new → IsCharBoundary new 5 → codes "abcde" ≡ take 5 new
     → take 2 (row_starts small 1 new) ≡ start 0 ∷ start 1 ∷ []
 unfolding unicode_segmentation unicode_width

@@ -39,7 +39,7 @@ direction_between L _ = Either
 direction_between _ L = Either
 direction_between _ _ = RightToLeft
 
--- a character that a text of a direction may have, and that is no bracket
+-- a character that a text of a direction may have, and that is not a bracket
 abbrev pub is_bare : Data → Direction → ℕ → Bool
 is_bare says direction c = is_of_direction direction (says.class c) && not (is_listed says c)
 

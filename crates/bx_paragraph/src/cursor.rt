@@ -39,8 +39,6 @@ fn place_offsets(
 impl<'a, 't, D: BidiData> LentRow<'a, 't, D> {
     /// The offsets of the row's places in text order, in bytes of the body: the start of each unit, and in the last row the
     /// body's end.
-    ///
-    /// Errors: `OutOfMemory`.
     #[tactic(auto, using(crate::proofs::LentRows::lent_offsets))]
     pub fn offsets(&self) -> Result<Vec<usize>, OutOfMemory>
         ensures { IfOk result (λ v. v.items ≡ offsets_of (row self.now)) }
@@ -54,8 +52,6 @@ impl<'a, 't, D: BidiData> LentRow<'a, 't, D> {
     }
 
     /// The offset of the row's last place: the body's end in the last row, else the start of the row's last unit.
-    ///
-    /// Errors: `OutOfMemory`.
     pub fn last(&self) -> Result<usize, OutOfMemory>
         ensures { IfOk result (λ o. o ≡ last_of (row self.now)) }
     {
@@ -73,8 +69,6 @@ impl<'a, 't, D: BidiData> LentRow<'a, 't, D> {
     }
 
     /// The offset of the row's slot next to another on a side, if there is one.
-    ///
-    /// Errors: `OutOfMemory`.
     pub fn beside(&self, side: Visual, offset: usize) -> Result<Option<usize>, OutOfMemory>
         ensures { IfOk result (λ o. o ≡ beside self.now.paragraph.now.w (row self.now) side offset) }
     {
@@ -83,8 +77,6 @@ impl<'a, 't, D: BidiData> LentRow<'a, 't, D> {
     }
 
     /// The offset of the slot at the row's reading start: the leftmost at level 0, the rightmost at level 1.
-    ///
-    /// Errors: `OutOfMemory`.
     #[tactic(auto, using(crate::proofs::LayoutRows::row_level))]
     pub fn reading_start(&self) -> Result<Option<usize>, OutOfMemory>
         ensures { IfOk result (λ o. o ≡ reading_start self.now.paragraph.now.w (row self.now)) }
@@ -94,8 +86,6 @@ impl<'a, 't, D: BidiData> LentRow<'a, 't, D> {
     }
 
     /// The offset of the slot at the row's reading end: the rightmost at level 0, the leftmost at level 1.
-    ///
-    /// Errors: `OutOfMemory`.
     #[tactic(auto, using(crate::proofs::LayoutRows::row_level))]
     pub fn reading_end(&self) -> Result<Option<usize>, OutOfMemory>
         ensures { IfOk result (λ o. o ≡ reading_end self.now.paragraph.now.w (row self.now)) }
@@ -106,8 +96,6 @@ impl<'a, 't, D: BidiData> LentRow<'a, 't, D> {
     }
 
     /// The offset at which the row is entered in a column, from 1: the unit that covers it, else the row's reading end.
-    ///
-    /// Errors: `OutOfMemory`.
     #[tactic(auto, using(crate::proofs::LayoutRows::row_level))]
     pub fn entry(&self, column: u16) -> Result<Option<usize>, OutOfMemory>
         ensures { IfOk result (λ o. o ≡ entry self.now.paragraph.now.w (row self.now) column) }

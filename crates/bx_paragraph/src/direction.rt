@@ -43,7 +43,7 @@ fn is_of_direction(direction: Direction, class: Class) -> bool
     }
 }
 
-/// Whether a text of a direction may have a character, and it is no bracket.
+/// Whether a text of a direction may have a character, and it is not a bracket.
 fn is_bare<D: BidiData>(c: char, direction: Direction, tables: &D) -> bool
     ensures { result ≡ is_bare (D.data tables.now) direction c }
 {
@@ -57,7 +57,7 @@ pub(crate) fn are_bare<D: BidiData>(text: &str, direction: Direction, tables: &D
     text.chars().all(|c| is_bare(c, direction, tables))
 }
 
-/// Whether a character is no bracket.
+/// Whether a character is not a bracket.
 fn is_no_bracket<D: BidiData>(c: char, tables: &D) -> bool
     ensures { result ≡ not (is_listed (D.data tables.now) c) }
 {
@@ -71,7 +71,7 @@ pub(crate) fn has_no_bracket<D: BidiData>(text: &str, tables: &D) -> bool
     text.chars().all(|c| is_no_bracket(c, tables))
 }
 
-/// Whether a character is no formatting character.
+/// Whether a character is not a formatting character.
 fn is_unformatted<D: BidiData>(c: char, tables: &D) -> bool
     ensures { result ≡ is_of_direction Either ((D.data tables.now).class c) }
 {

@@ -50,8 +50,6 @@ impl Model for ParagraphLayout {
 
 impl ParagraphLayout {
     /// Lays out a body in a window of `w` columns, under a base direction.
-    ///
-    /// Errors: `OutOfMemory`.
     #[tactic(auto, using(crate::proofs::Starts::some_start))]
     pub fn of<D: BidiData>(
         alloc: Global,

@@ -59,8 +59,6 @@ impl<'a, 't, D: BidiData> LentRow<'a, 't, D> {
     }
 
     /// The row's slots from left to right, each with its columns: one for each place of the row.
-    ///
-    /// Errors: `OutOfMemory`.
     pub fn slots(&self) -> Result<Vec<Slot>, OutOfMemory>
         ensures slots { IfOk result (λ v. v.items ≡ row_slots self.now.paragraph.now.w (row self.now)) }
         ensures once { IfOk result (λ v. IsPermutation (offsets_of (row self.now)) (map (λ s. s.offset) v.items)) }
@@ -71,8 +69,6 @@ impl<'a, 't, D: BidiData> LentRow<'a, 't, D> {
     }
 
     /// The row's glyphs from left to right, blanks included.
-    ///
-    /// Errors: `OutOfMemory`.
     #[tactic(auto, using(crate::proofs::LentRows::lent_glyphs))]
     pub fn picture(&self) -> Result<RowPicture<'a>, OutOfMemory>
         ensures picture { IfOk result (λ p. map glyph_of p.glyphs.items ≡ row_glyphs (D.data self.now.tables.now) self.now.paragraph.now.w (row self.now)) }
@@ -89,8 +85,6 @@ impl<'a, 't, D: BidiData> LentRow<'a, 't, D> {
     }
 
     /// The glyphs of the row's units from left to right, without the row's blanks.
-    ///
-    /// Errors: `OutOfMemory`.
     #[tactic(auto, using(crate::proofs::LentGlyphs::lent_own_glyphs))]
     pub fn own_glyphs(&self) -> Result<RowPicture<'a>, OutOfMemory>
         ensures picture { IfOk result (λ p. map glyph_of p.glyphs.items ≡ row_own_glyphs (D.data self.now.tables.now) self.now.paragraph.now.w (row self.now)) }

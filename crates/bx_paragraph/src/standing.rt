@@ -27,8 +27,6 @@ fn count_before(units: &[Unit], offset: usize) -> usize
 
 impl<'a, 't, D: BidiData> LentRow<'a, 't, D> {
     /// The position in the row of the place at an offset of the body, in bytes.
-    ///
-    /// Errors: `OutOfMemory`.
     pub fn standing(&self, offset: usize) -> Result<Standing, OutOfMemory>
         ensures column { IfOk result (λ s. s.column ≡ column_of self.now.paragraph.now.w (row self.now) offset) }
         ensures units { IfOk result (λ s. s.units_before ≡ count_by (λ u. nat_lt u.start offset) (row self.now).units) }

@@ -13,7 +13,7 @@ use bx_ucd::BidiData;
 use std::alloc::{AllocError, Global};
 
 /// An edit of a text, in parts: the front, of `ahead` characters; the text near, just before the edit; the removed and the
-/// inserted text; and the text behind.
+/// inserted text; and the text after.
 #[derive(Clone, Copy)]
 pub(crate) struct TextEdit<'t> {
     pub(crate) front: &'t str,

@@ -130,8 +130,6 @@ fn range_after<D: BidiData>(
 
 impl Index {
     /// Builds the index of a text.
-    ///
-    /// Errors: `OutOfMemory`.
     pub fn build<D: BidiData>(alloc: Global, text: &Text, tables: &D) -> Result<Index, OutOfMemory>
         ensures { IfOk result (λ i. i ≡ record { paragraphs = lengths (D.data tables.now) text.now.edited.text; room = None }) }
     {

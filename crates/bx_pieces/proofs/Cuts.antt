@@ -95,7 +95,7 @@ pub addressable_past : (xs ys : List Piece) → IsAddressable (xs ++ ys) → IsA
 addressable_past [] ys h = h
 addressable_past (x ∷ xs) ys h = addressable_past xs ys h.1
 
--- ---- a piece between two sequences, cut behind the first of them
+-- ---- a piece between two sequences, cut after the first of them
 
 module _ (left : List Piece) (p : Piece) (right : List Piece) (k : ℕ) (past : total left ≤ k) where
   pub front_right : p.len ≤ k - total left → front (left ++ p ∷ right) k ≡ left ++ p ∷ front right (k - total left - p.len)

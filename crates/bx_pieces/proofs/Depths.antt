@@ -37,7 +37,7 @@ shallow_fork l r xs p ys b some left right =
       no_more_than_bytes = omega (arith, length-append xs (p ∷ ys), total_append xs (p ∷ ys), left.no_more_than_bytes, right.no_more_than_bytes);
     }
 
--- a piece and the side behind it that have more bytes, and as many pieces as deep
+-- a piece and the side after it that have more bytes, and as many pieces as deep
 pub balanced_longer : (left : Option (Box Shape Global)) (p q : Piece) (old new : Option (Box Shape Global)) (len by height : ℕ)
     → IsBalanced left p old len height
     → depth_of new ≡ depth_of old → p.len ≤ q.len → q.len + total (sequence new) ≡ p.len + total (sequence old) + by

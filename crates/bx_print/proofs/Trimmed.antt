@@ -13,7 +13,7 @@ before-some : (x : ℕ) (ys : List ℕ) (b : ℕ) → before x (ys ++ b ∷ []) 
 before-some x [] b = refl
 before-some x (y ∷ ys) b = refl
 
--- if the last byte is no blank, there are none
+-- if the last byte is not a blank, there are none
 pub trimmed-kept : (xs : List ℕ) (b : ℕ) → (b ≡ 32 → ⊥) → trimmed (xs ++ b ∷ []) ≡ xs ++ b ∷ []
 trimmed-kept [] b other =
     let no : (b == 32) ≡ false = grind (arith, nat_tests) in

@@ -135,7 +135,7 @@ w3_list : (mark strong : Class) (ts : List Class) → run next_first out_first (
 w3_list mark strong [] = refl
 w3_list mark strong (t ∷ ts) = ap (λ r. w3_at (after_w2 strong (after_w1 mark t)) ∷ r) (w3_list (mark_next mark t) (strong_next strong (after_w1 mark t)) ts)
 
--- W1 to W7: a nearest type that is no NSM and a nearest strong type, and the state of W4 to W7
+-- W1 to W7: a nearest type that is not an NSM and a nearest strong type, and the state of W4 to W7
 abbrev pub seen : Class → Class → Class → Class
 seen mark strong t = w3_at (after_w2 strong (after_w1 mark t))
 

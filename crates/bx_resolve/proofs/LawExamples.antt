@@ -61,7 +61,7 @@ latin_under_override law = law small Ltr (0x202e ∷ 97 ∷ []) 1 (omega arith) 
 hebrew_under_override : OverridesGiveDirection → IsEven (level_at small Rtl (0x202d ∷ 0x5d0 ∷ []) 1)
 hebrew_under_override law = law small Rtl (0x202d ∷ 0x5d0 ∷ []) 1 (omega arith) refl
 
--- RLO LRI a PDI !: the PDI and the ! behind the isolate are under the override again
+-- RLO LRI a PDI !: the PDI and the ! after the isolate are under the override again
 behind_isolate_in_override : OverridesGiveDirection
     → IsOdd (level_at small Ltr (0x202e ∷ 0x2066 ∷ 97 ∷ 0x2069 ∷ 33 ∷ []) 3) × IsOdd (level_at small Ltr (0x202e ∷ 0x2066 ∷ 97 ∷ 0x2069 ∷ 33 ∷ []) 4)
 behind_isolate_in_override law =

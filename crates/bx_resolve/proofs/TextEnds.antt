@@ -37,7 +37,7 @@ drop_none (suc k) cs e = e ∙ ap (drop (suc k)) (sym e)
 pub chars_none : (t : List ℕ) → length t ≡ 0 → chars t ≡ []
 chars_none t e = ap chars (nil_from_length t e) ∙ chars-nil
 
--- the end behind some characters of a text
+-- the end after some characters of a text
 pub ruleset ends_behind = (end_self, end_of_end, end_behind, chars_none, drop_cons, drop_none)
 
 -- one offset more

@@ -3,7 +3,7 @@ use Rattle.std.specs.Prelude.{◌≡◌, ◌==◌, ℕ, true, false, Option, Som
 use Rattle.std.proofs.Common.{refl, sym, ap, eqb-true}
 use Rattle.bx_resolve.specs.declared.paragraph.Level.TheInside.{Inside}
 
--- 255, which is no level, encodes none
+-- 255 is not a level: it encodes none
 abbrev kept_in : ℕ → Option ℕ
 kept_in byte = elim (byte == 255) [ true ↦ None | false ↦ Some byte ]
 

@@ -39,7 +39,7 @@ mark_after FSI = ON
 mark_after PDI = ON
 mark_after t = t
 
--- the type of an NSM, by the nearest character before it that is no NSM
+-- the type of an NSM, by the nearest character before it that is not an NSM
 abbrev pub mark_class : Class → List Class → Class
 mark_class sos [] = sos
 mark_class sos (t ∷ before) = elim (is_nsm t) [ true ↦ mark_class sos before | false ↦ mark_after t ]

@@ -7,7 +7,7 @@ use bx_ucd::{BidiData, Class};
 use std::alloc::{AllocError, Global};
 use std::marker::Model;
 
-/// The number of characters of a text, as the capacity for them: it counts bytes that are no UTF-8 continuation. Chunks of
+/// The number of characters of a text, as the capacity for them: it counts bytes that are not UTF-8 continuations. Chunks of
 /// 128 bytes are counted in a byte, so that the loop vectorizes.
 fn count_for_room(text: &str) -> usize {
     let mut count: usize = 0;

@@ -279,7 +279,7 @@ fn is_en_ahead(mark: Class, strong: Class, types: &[Class]) -> bool
     false
 }
 
-/// Whether the run of ET that `t` is in is followed by an EN; `None` where `t` is no ET.
+/// Whether the run of ET that `t` is in is followed by an EN; `None` where `t` is not an ET.
 fn look_ahead(
     known: Option<bool>,
     t: Class,

@@ -46,7 +46,7 @@ unit-least n b count to ls h k least =
 behind-least : (n c from to : ℕ) (ls : List (Option ℕ)) → LeastIn n (c + from) (c + to) ls → LeastIn n from to (drop c ls)
 behind-least n c from to ls least x l h k e = least (c + x) l (omega (arith, h)) (omega (arith, k)) (sym (get_or-drop c ls x None) ∙ e)
 
--- behind a level that is not lower
+-- after a level that is not lower
 from-start : (n b j k : ℕ) (counts : List ℕ) (ls : List (Option ℕ)) → n ≤ b → LeastIn n 0 (before j counts) ls → k < j → k < length counts
     → n ≤ get_or (levels_or_before b (unit_levels counts ls)) k 0
 from-start n b j k [] ls h least f g = absurd (omega (arith, g))
@@ -94,7 +94,7 @@ l1-behind p x (c ∷ front) rest =
     let e : suc (length front) + x ≡ suc (length front + x) = omega arith in
     ap (λ y. get_or (l1 p ((c ∷ front) ++ rest)) y None) e ∙ l1-behind p x front rest
 
--- a character that is no segment separator trails only if the next one does
+-- a character that is not a segment separator trails only if the next one does
 trails-on : (class : Class) (o : Option ℕ) (b : Bool) → is_segment_separator class ≡ false → trails (class, o) b ≡ true → b ≡ true
 trails-on class None b s e = e
 trails-on class (Some l) b s e =

@@ -58,7 +58,7 @@ under-at (l ∷ ls) (suc k) h = under-more l (l % 2) (get_or ls k 0) (lowest_odd
 
 -- ---- all reversals
 
--- the pair after so many turns
+-- the pair after this many turns
 abbrev IsTurned : ℕ → ℕ → ℕ × ℕ → ℕ × ℕ → List (ℕ × ℕ) → Type 0
 IsTurned zero m u v us = IsPair m u v us
 IsTurned (suc k) m u v us = IsTurned k m v u us

@@ -75,7 +75,7 @@ last-passes p (u ∷ us) k h = last-by p u us (up_to_last p us) k (λ n e. last-
 
 -- ---- a row
 
--- how a row of so many units ends that begins with the first of these
+-- how a row of this many units ends that begins with the first of these
 abbrev EndsAfter : (Unit → Bool) → ℕ → List Unit → ℕ → Type 0
 EndsAfter p w us n = (n ≡ length us) ⊎ ((HoldsAt (λ u. p u ≡ true) us (n - 1)) ⊎ (AreFull w 0 us n))
 

@@ -120,7 +120,7 @@ stands-near body text each u p near at stand f =
     subst (λ b. StandsAt b text p.offset p.number) (sym near.text) (subst (λ o. StandsAt body text o p.number) (sym at)
     (subst (StandsAt body text u.start) (sym (near.number ∙ ap (λ o. length (chars (take o body))) at)) (stands-in body text u stand f)))
 
--- the number of the characters before an offset, counted from one before it or behind it
+-- the number of the characters before an offset, counted from one before it or after it
 pub number-on : (body : List ℕ) (near number offset : ℕ) → IsUtf8 body → IsCharBoundary body near → number ≡ length (chars (take near body))
     → near ≤ offset → number + length (chars (slice_range body near offset)) ≡ length (chars (take offset body))
 number-on body near number offset u boundary e order =

@@ -144,7 +144,7 @@ module _ (body : List ℕ) (valid : IsUtf8 body) where
       ∙ get_or-append-add (unit_chars body u) (flat_map (unit_chars body) us) (before k (counts body us) + x) e
       ∙ char-of-unit us k x d e (omega (arith, h)) g
 
--- a later unit begins behind an earlier one
+-- a later unit begins after an earlier one
 before-later : (k j : ℕ) (cs : List ℕ) → k < j → k < length cs → before k cs + get_or cs k 0 ≤ before j cs
 before-later k j [] h g = absurd (omega (arith, g))
 before-later k zero (c ∷ cs) h g = absurd (omega (arith, h))

@@ -67,7 +67,7 @@ LettersShowTheirForms = (says : Data) (w : ℕ) (body : List ℕ) (paragraph : �
     → ShowsForms says (text_shown (draw (plain says) w body paragraph each us levels))
     (text_shown (draw (unjoined says) w body paragraph each us levels)) (text_shown (draw says w body paragraph each us levels))
 
--- behind `number` characters of the body a letter is shown in the form that goes by what it joins; a letter without that form is
+-- after `number` characters of the body a letter is shown in the form that goes by what it joins; a letter without that form is
 -- shown as without joined letters
 pub record GoesByJoining (says : Data) (body : List ℕ) (each : List (Option ℕ)) (number : ℕ) (p : ShownLetter) : Type 0 where
   pub before : List Joiner

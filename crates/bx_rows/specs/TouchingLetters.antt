@@ -27,11 +27,11 @@ EqualOddLevelsTouch = (levels : List ℕ) (i j n : ℕ) → i < j → j < length
 abbrev pub joiner : Data → ℕ × Option ℕ → Joiner
 joiner says c = (says.joining c.0, c.1)
 
--- letters join across the character; it is no segment separator, which L1 sets to the paragraph level wherever it is
+-- letters join across the character; it is not a segment separator, which L1 sets to the paragraph level wherever it is
 abbrev pub IsPassedOver : Data → ℕ × Option ℕ → Type 0
 IsPassedOver says c = (is_transparent (says.joining c.0) ≡ true) × (is_segment_separator (says.class c.0) ≡ false)
 
--- unit `i` begins behind `number` characters of the body
+-- unit `i` begins after `number` characters of the body
 abbrev pub BeginsBehind : ℕ → List ℕ → List Unit → ℕ → Type 0
 BeginsBehind number body us i = HoldsAt (λ u. length (chars (take u.start body)) ≡ number) us i
 

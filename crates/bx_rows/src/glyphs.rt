@@ -107,8 +107,6 @@ fn letters<'a>(alloc: Global, text: &str) -> Result<Vec<Drawn<'a>>, AllocError>
 
 impl<'a> RowPicture<'a> {
     /// The picture of a text of characters from SPACE to TILDE: a glyph for each.
-    ///
-    /// Errors: `AllocError`.
     pub fn of_letters(alloc: Global, text: &str) -> Result<RowPicture<'a>, AllocError>
         requires { are_ascii_printable text.now ≡ true }
         ensures picture { IfOk result (λ p. map glyph_of p.glyphs.items ≡ letter_glyphs text.now) }

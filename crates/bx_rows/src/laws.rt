@@ -59,7 +59,7 @@ pub fn letters_go_by_joining()
 
 /// Two units of one odd level, with no lower level between them, touch: only units between them in the text are between them
 /// on the screen. So do two units that begin with letters that join, where the row has both at the letters' level; letters join
-/// across all that is between. A row has a unit at the level of its first letter, if that is no separator or whitespace.
+/// across all that is between. A row has a unit at the level of its first letter, if that is not a separator or whitespace.
 pub fn joined_letters_touch()
     ensures units { EqualOddLevelsTouch }
     ensures letters { JoinedLettersTouch }

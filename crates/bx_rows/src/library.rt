@@ -100,8 +100,6 @@ fn all_rows<D: BidiData>(
 
 /// The rows of a body's units in a window of `w` columns. If not all remaining units fit, the row ends after the last
 /// blank or tab among those that do, else after the last one that does. A body without units has one empty row.
-///
-/// Errors: `OutOfMemory`.
 pub fn wrap<D: BidiData>(
     alloc: Global,
     body: &str,
@@ -134,8 +132,6 @@ fn chars_before(body: &str, units: &[Unit]) -> usize
 /// The levels of a row's units. L1 applies at the row's end, not the paragraph's. A unit takes the level of its first character
 /// that X9 keeps. If X9 removes them all, it takes the previous unit's level, and the first unit the paragraph level. The call
 /// counts the characters before the row.
-///
-/// Errors: `OutOfMemory`.
 #[tactic(auto, using(crate::proofs::Resets::one_each))]
 pub fn row_levels<D: BidiData>(
     alloc: Global,

@@ -138,8 +138,8 @@ fn mirror_text<D: BidiData>(
     Ok(())
 }
 
-/// Mirrors a glyph at an odd level, if its character has a mirror, and tells whether the character is at an odd level and has
-/// a form. The rare part is a function of its own, since a function's locals cost on each call.
+/// Mirrors an odd-level glyph; returns whether it may join. The slow path is out of line, since a function's locals cost on
+/// each call.
 #[inline(always)]
 fn mirror_at<D: BidiData>(
     drawn: &mut Drawn<'_>,
@@ -164,8 +164,8 @@ fn mirror_at<D: BidiData>(
     Ok(joins)
 }
 
-/// Mirrors the glyphs at odd levels, each a single character of one column, if the mirror takes one column too. Returns
-/// whether one of these characters has a form.
+/// Mirrors odd-level glyphs, each a single character of one column, if the mirror takes one column too; returns whether one of
+/// them may join.
 pub(crate) fn mirror_odd<D: BidiData>(
     glyphs: &mut [Drawn<'_>],
     alloc: Global,

@@ -17,8 +17,6 @@ use std::alloc::Global;
 
 impl<'a, 't, D: BidiData> Lines<'a, 't, D> {
     /// The levels of the units of row `number`, from 0, by L1.
-    ///
-    /// Errors: `OutOfMemory`.
     #[tactic(auto, using(crate::proofs::Resets::one_each))]
     pub fn levels(
         &self,
@@ -38,8 +36,6 @@ impl<'a, 't, D: BidiData> Lines<'a, 't, D> {
     }
 
     /// The glyphs of row `number`, from 0, from left to right, blanks included. Reads no other row.
-    ///
-    /// Errors: `OutOfMemory`.
     pub fn picture(&self, alloc: Global, number: usize) -> Result<RowPicture<'a>, OutOfMemory>
         requires { number < length self.now.starts.now }
         ensures picture { IfOk result (λ p. map glyph_of p.glyphs.items ≡ glyphs_at self.now number) }
@@ -63,8 +59,6 @@ impl<'a, 't, D: BidiData> Lines<'a, 't, D> {
     }
 
     /// The glyphs of the units of row `number`, from 0, from left to right, without the row's blanks. Reads no other row.
-    ///
-    /// Errors: `OutOfMemory`.
     pub fn own_glyphs(&self, alloc: Global, number: usize) -> Result<RowPicture<'a>, OutOfMemory>
         requires { number < length self.now.starts.now }
         ensures picture { IfOk result (λ p. map glyph_of p.glyphs.items ≡ own_glyphs_at self.now number) }

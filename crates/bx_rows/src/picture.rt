@@ -60,8 +60,6 @@ struct OrderedRow<'t, 'r> {
 }
 
 /// The columns of each unit of a row in a window of `w` columns, and their sum.
-///
-/// Errors: `AllocError`.
 pub fn unit_columns(alloc: Global, units: &[Unit], w: u16) -> Result<(Vec<u16>, u16), AllocError>
     requires { columns_used w units.now ≤ w }
     ensures columns { IfOk result (λ r. r.0.items ≡ unit_columns w 0 units.now) }
@@ -168,8 +166,6 @@ fn row_glyphs<'a, D: BidiData>(
 }
 
 /// Draws a row of a body in a window of `w` columns: its glyphs from left to right, blanks included.
-///
-/// Errors: `OutOfMemory`.
 pub fn draw<'a, D: BidiData>(
     alloc: Global,
     body: &'a str,
@@ -193,8 +189,6 @@ pub fn draw<'a, D: BidiData>(
 }
 
 /// Draws the units of a row of a body: their glyphs from left to right, without the row's blanks.
-///
-/// Errors: `OutOfMemory`.
 pub(crate) fn draw_units<'a, D: BidiData>(
     alloc: Global,
     body: &'a str,

@@ -29,7 +29,7 @@ impl<'t, 'e> RowAt<'t, 'e> {
     }
 }
 
-/// The number of characters before an offset of a text, counted from a place before or behind it.
+/// The number of characters before an offset of a text, counted from a place before or after it.
 fn number_at(text: &str, near: usize, number: usize, offset: usize) -> usize
     requires near { IsCharBoundary text.now near }
     requires number { number ≡ length (chars (take near text.now)) }

@@ -35,8 +35,6 @@ pub(crate) fn most_units(start: RowStart, next: Option<RowStart>, body: &str, w:
 
 impl<'a, 't, D: BidiData> Lines<'a, 't, D> {
     /// The units of row `number`, from 0. Offsets are bytes of the body. Reads no other row.
-    ///
-    /// Errors: `OutOfMemory`.
     pub fn units(&self, alloc: Global, number: usize) -> Result<Vec<Unit>, OutOfMemory>
         requires { number < length self.now.starts.now }
         ensures units { IfOk result (λ v. v.items ≡ units_at self.now number) }

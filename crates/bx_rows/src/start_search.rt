@@ -122,8 +122,6 @@ fn read_unit<D: BidiData>(
 }
 
 /// The starts of a body's rows in a window of `w` columns, the rows of `wrap`. Makes no list of units.
-///
-/// Errors: `OutOfMemory`.
 pub fn row_starts<D: BidiData>(
     alloc: Global,
     body: &str,

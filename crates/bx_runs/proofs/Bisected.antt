@@ -54,7 +54,7 @@ all-below (x ∷ xs) n (suc k) d = elim (leb_tells n x) as (λ _. suc k < length
   | inr h ↦ rw (lt-ltb x n h.1) (λ within. all-below xs n k d (omega arith))
 ]
 
--- numbers below n rise, and n behind them
+-- numbers below n rise, and n after them
 pub rise-more : (xs : List ℕ) (n : ℕ) → Rise xs → Rise (below n xs ++ n ∷ [])
 rise-more xs n rise = all_pairs_push (λ r s. r < s) (below n xs) n (AllPairs-filter (λ r s. r < s) (λ r. nat_lt r n) xs rise) (λ k d within. all-below xs n k d within)
 

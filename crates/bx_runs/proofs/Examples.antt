@@ -43,7 +43,7 @@ with_typing typing t = record t { typing = typing }
 abbrev two_words : List Kind
 two_words = Letter ∷ Letter ∷ Blank ∷ Letter ∷ Letter ∷ []
 
--- a word with the blanks behind it is a run
+-- a word with the blanks after it is a run
 word_and_blanks : put_all nothing two_words ≡ record { typing = Word; past = 5; begins = 0 ∷ 3 ∷ [] }
 word_and_blanks = refl
 
@@ -73,7 +73,7 @@ within_a_paste = refl
 two_pastes : (put (with_typing Paste (put_all (with_typing Paste nothing) (Letter ∷ Letter ∷ []))) Letter).begins ≡ 0 ∷ 2 ∷ []
 two_pastes = refl
 
--- erasures are a run; a letter between them begins one, and so does the erasure behind it
+-- erasures are a run; a letter between them begins one, and so does the erasure after it
 erasures : fold take_out (put (fold take_out nothing (Erase ∷ Erase ∷ [])) Letter) (Erase ∷ Erase ∷ [])
     ≡ record { typing = Erasing; past = 5; begins = 0 ∷ 2 ∷ 3 ∷ [] }
 erasures = refl
@@ -99,7 +99,7 @@ edit_by_edit = refl
 edit_by_edit_forward : map (λ left. redone three_words 3 left) (0 ∷ 1 ∷ 3 ∷ 5 ∷ []) ≡ 3 ∷ 4 ∷ 6 ∷ 6 ∷ []
 edit_by_edit_forward = refl
 
--- a new word at the length 3: the numbers there and behind are gone
+-- a new word at the length 3: the numbers there and after are gone
 typed_over : fold (λ rs n. edited rs n true) (edited three_words 3 false) (4 ∷ 5 ∷ 6 ∷ []) ≡ 0 ∷ 3 ∷ []
 typed_over = refl
 

@@ -11,7 +11,7 @@ pub enum Typing {
     /// Nothing: the next edit begins a run.
     #[default]
     Off,
-    /// A word, and the blanks behind it.
+    /// A word, and the blanks after it.
     Word,
     /// Blanks before a word.
     Blanks,

@@ -32,7 +32,8 @@ next Notice byte = if is_parameter byte then Notice else if is_final byte then K
 abbrev pub with_first : ℕ → ℕ → ℕ
 with_first count byte = if is_within 0x80 0xbf byte then count else count + 1
 
--- a sequence that ends with t reports a size: it is no key, nor is the Save right before it; a notice is CSI, > and ends with a tilde
+-- a sequence that ends with t reports a size: it is not a key, nor is the Save right before it; a notice is CSI, > and ends with
+-- a tilde
 abbrev pub without_size : Bool → ℕ → ℕ
 without_size saved count = if saved then count - 2 else count - 1
 

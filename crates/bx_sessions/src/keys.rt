@@ -14,7 +14,7 @@ const ESCAPE: u8 = 0x1b;
 pub enum After {
     /// A whole key.
     Key,
-    /// A Save. It is no key where a size follows.
+    /// A Save. It is not a key where a size follows.
     Save,
     /// An Escape, and whether a Save is right before it.
     Escape(bool),

@@ -41,8 +41,6 @@ fn line_of(rt: &HostRuntime, path: &str) -> Result<Option<String>, AllocError> {
 
 impl Machine {
     /// This machine.
-    ///
-    /// Errors: out of memory.
     pub fn find(rt: &HostRuntime) -> Result<Machine, AllocError> {
         let host = match line_of(rt, HOST_NAME)? {
             Some(host) => host,

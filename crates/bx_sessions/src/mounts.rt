@@ -11,7 +11,7 @@ fn is_memory(kind: &str) -> bool {
     matches!(kind, "tmpfs" | "ramfs")
 }
 
-/// The byte that three octal digits name, at the front of a text behind a backslash.
+/// The byte that three octal digits name, at the front of a text after a backslash.
 fn escaped(digits: &str) -> Option<u8> {
     u8::from_str_radix(digits.get(..3)?, 8).ok()
 }
@@ -32,8 +32,6 @@ fn decoded(alloc: Global, path: &str) -> Result<Option<String>, AllocError> {
 }
 
 /// The folders at which file systems in memory are mounted; none where the table cannot be read.
-///
-/// Errors: out of memory.
 pub fn memory_mounts(rt: &HostRuntime) -> Result<Vec<String>, AllocError> {
     let mut folders = Vec::new(rt.alloc());
     let Ok(table) = fs::read_to_string(rt, MOUNTS) else {

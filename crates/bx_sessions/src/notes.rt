@@ -24,7 +24,7 @@ fn octal(digits: &str) -> Option<u32> {
 }
 
 impl Session {
-    /// A short file as text; None if it is not there or is no text.
+    /// A short file as text; None if it is not there or is not a text.
     fn text_note(&self, rt: &HostRuntime, part: Part) -> io::Result<Option<String>> {
         match self.note(rt, part)? {
             Some(bytes) => Ok(String::from_utf8(bytes).ok()),

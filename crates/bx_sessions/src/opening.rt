@@ -122,7 +122,7 @@ fn from_start(file: &File) -> io::Result<File> {
     Ok(file)
 }
 
-/// The first bytes of an open file, at most so many.
+/// The first bytes of an open file, at most this many.
 pub fn read_open(rt: &HostRuntime, file: &File, most: u64) -> io::Result<Vec<u8>> {
     let mut bytes = Vec::new(rt.alloc());
     from_start(file)?.take(most).read_to_end(&mut bytes)?;

@@ -28,7 +28,7 @@ pub enum Stay {
     Temporary(String),
 }
 
-/// Why the folder of sessions cannot be told.
+/// Why the folder of sessions cannot be found.
 #[derive(Clone, Copy, PartialEq, Eq, Debug, Error)]
 pub enum PlaceFault {
     #[error("{0}")]
@@ -182,8 +182,6 @@ pub fn sessions_folder<H: Host>(
 
 /// All folders that may have sessions of the user: the state folder, and those in places for temporary files and in memory.
 /// Each is named once; most are not there.
-///
-/// Errors: out of memory.
 pub fn all_folders(rt: &HostRuntime, around: &Surroundings<'_>) -> Result<Vec<String>, AllocError> {
     let mut folders = Vec::new(rt.alloc());
     for folder in TEMPORARY.into_iter().chain(around.temporary_folder()) {

@@ -25,7 +25,7 @@ pub enum Reason {
 }
 
 impl Reason {
-    /// What is told of the file.
+    /// What messages say of the file.
     pub fn told(self) -> &'static str {
         match self {
             Reason::Protected => "is in a folder where you cannot replace it",

@@ -23,7 +23,7 @@ impl Session {
     /// and does nothing else, so later letters go into the text again; with the size a replay in the first window ends in this
     /// one.
     ///
-    /// Errors: `Io`, mostly for want of room; the journal is then as it was, and the program has to be told its size as a
+    /// Errors: `Io`, mostly for want of room; the journal is then as it was, and the program has to get its size as a
     /// terminal reports it, so that it journals it like keys.
     pub fn resume(&self, rt: &HostRuntime, rows: u32, cols: u32) -> io::Result<()> {
         let words = format!(in rt.alloc(); "{SAVE}\u{1b}[8;{rows};{cols}t")?;

@@ -81,8 +81,6 @@ impl<'a> Surroundings<'a> {
 
     /// The path of the user's folder of sessions; None if there is no place for it. Root takes its own home, where the
     /// environment is another user's.
-    ///
-    /// Errors: out of memory.
     pub fn state_folder(&self, rt: &HostRuntime) -> Result<Option<String>, AllocError> {
         let alloc = rt.alloc();
         let Some(named) = self.named_state(alloc)? else {

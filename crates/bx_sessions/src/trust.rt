@@ -32,7 +32,7 @@ fn is_safe_above(owner: u32, mode: u32, user: u32) -> bool
     (owner == ROOT || owner == user) && (mode & OPEN == 0 || mode & STICKY != 0)
 }
 
-/// Whether a folder, by its metadata, is no link, the user's own, and written by nobody else.
+/// Whether a folder, by its metadata, is not a link, the user's own, and written by nobody else.
 pub fn is_own_folder(found: &Metadata, user: u32) -> bool {
     found.is_dir() && is_private(found.uid(), found.mode(), user)
 }

@@ -78,7 +78,7 @@ impl LocalTime {
         format!(in alloc; "{year:04}{month:02}{day:02}{hour:02}{minute:02}{second:02}")
     }
 
-    /// The time as it is told: date, hour and minute.
+    /// The time as users read it: date, hour and minute.
     pub fn told(self, alloc: Global) -> Result<String, AllocError> {
         let DateTime { date, time } = self.0;
         let (year, month, day) = (date.year, date.month, date.day);

@@ -59,7 +59,7 @@ after_put bytes s = record s { draft = s.draft ++ bytes; calls = one_more s.call
 abbrev pub with_room : ℕ → MemoryState → MemoryState
 with_room room s = record s { room = room }
 
--- the bytes do not fit into the draft's memory behind those put before
+-- the bytes do not fit into the draft's memory after those put before
 abbrev pub LacksRoom : List ℕ → MemoryState → Type 0
 LacksRoom bytes s = s.room < length s.draft + length bytes
 

@@ -11,7 +11,7 @@ pub enum SaveCause {
     NoSpace,
     /// The system permits the user no such call.
     NotPermitted,
-    /// The folder on the path is gone, or is no folder now.
+    /// The folder on the path is gone, or is not a folder now.
     FolderGone,
     /// The disk takes no change.
     ReadOnly,

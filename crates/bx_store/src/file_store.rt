@@ -18,7 +18,7 @@ use std::io::ErrorKind;
 use std::os::fd::AsFd;
 use std::rt::Files;
 
-/// A store in a file of a file system; it does not model its bytes. If the path is a link, saves go to the file behind it, and
+/// A store in a file of a file system; it does not model its bytes. If the path is a link, saves go to the file it leads to, and
 /// the link stays.
 ///
 /// By default a save replaces the file. It writes a draft: a file in the same folder, named with the suffix `.bx`, or `.bx1` to
@@ -26,7 +26,7 @@ use std::rt::Files;
 /// old bytes or its new ones. The draft gets the file's owner, group and permissions, and nobody else can read it before that.
 ///
 /// A save overwrites the file itself, which keeps its names, its access list and its place, where the store was made with a
-/// mark or told to hold the file, where the file has several names, and where it is not as it was when the store was made or
+/// mark or said to hold the file, where the file has several names, and where it is not as it was when the store was made or
 /// last replaced it: it may have an access list by now. The mark is another file, which gets the whole text first: the one that
 /// was named, or else a draft beside the file. The commit syncs it to disk, overwrites the file and removes the mark. A kill or
 /// a fault may leave the file torn, with a beginning of its new bytes; the mark then still has all of them. A file that does

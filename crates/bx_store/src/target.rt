@@ -38,7 +38,7 @@ pub fn folder_of(path: &str) -> &str {
     parts_of(path).0
 }
 
-/// Follows the links at the end of a path, and returns the first path that is no link.
+/// Follows the links at the end of a path, and returns the first path that is not a link.
 fn end_of_links<R: Files>(files: &R, alloc: Global, path: &str) -> io::Result<String> {
     let mut path = String::from_str(alloc, path)?;
     for _ in 0..MOST_LINKS {

@@ -109,7 +109,7 @@ impl<'a, R: Files> Watch<'a, R> {
         self.plain = None;
     }
 
-    /// Notes what a save wrote into the file, which is no change by another program.
+    /// Notes what a save wrote into the file, which is not a change by another program.
     pub fn note_written(&mut self, written: io::Result<Metadata>) {
         self.seen = written.ok();
     }
@@ -191,7 +191,7 @@ impl<'a, R: Files> Watch<'a, R> {
 
     /// Resolves the path and notes the metadata found. Returns the path that saves go to, and whether a file exists there.
     ///
-    /// Errors: `NotPlain` if it is no plain file, `Changed` if it changed since last seen or the path leads elsewhere.
+    /// Errors: `NotPlain` if it is not a plain file, `Changed` if it changed since last seen or the path leads elsewhere.
     pub fn look(&mut self) -> Result<(String, bool), StoreFault> {
         let place = target_of(self.files, self.allocator(), self.path.as_str())?;
         if !self.is_known_place(place.as_str()) {

@@ -106,7 +106,7 @@ is_pushed_if false b ps q e = rw e (is_pushed_after (last_of ps) b ps q refl)
 is_pushed : (b : Buffers) (ps : List Piece) (q : Piece) → IsPushed b ps q (pushed ps q)
 is_pushed b ps q = is_pushed_if (q.len == 0) b ps q refl
 
--- ---- added text behind pieces
+-- ---- added text after pieces
 
 abbrev new_piece : Buffers → List ℕ → Piece
 new_piece b more = record { buffer = Added; start = length b.added; len = length more }

@@ -103,7 +103,7 @@ module _ (b B C : Buffers) (ps P Q : List Piece) (past S T : List Step) (r q : R
   pub second_small : q.start + q.len ≤ largest_text
   second_small = omega (arith, range_between.stop_bounds.0, between.short)
 
--- the start of a text is still a boundary after an edit behind it
+-- the start of a text is still a boundary after an edit further on
 pub wrap_range : (text back : List ℕ) (start stop : ℕ) → IsUtf8 text → IsUtf8 back → IsRange text start stop
     → IsRange (splice text stop (stop + 0) back) start (start + 0)
 wrap_range text back start stop utf8 more r =

@@ -216,7 +216,7 @@ impl Text {
         self.replace_twice(&removal, &insertion)
     }
 
-    /// Inserts `back` behind the text between two character boundaries, and `front` before it: two edits, of which the
+    /// Inserts `back` after the text between two character boundaries, and `front` before it: two edits, of which the
     /// second is undone first. Empties the future. `before`, `between` and `after` are the places before, between and after
     /// them.
     ///

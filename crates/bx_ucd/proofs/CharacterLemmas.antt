@@ -35,7 +35,7 @@ fifteen text first sixth count one six =
     let at_six : get_or (fields text) 5 [] ≡ trimmed sixth = get_or-map trimmed (semicolon_parts text) 5 [] [] (omega arith) ∙ ap trimmed six in
     rw (e, at_one, at_six) refl
 
--- without exactly two words nothing is told
+-- without exactly two words there is no entry
 pub not_two : (character : List ℕ) (ws : List (List ℕ)) → length ws ≢ 2 → decomposition_entry character ws ≡ Ok None
 not_two character [] other = refl
 not_two character (tag ∷ []) other = refl

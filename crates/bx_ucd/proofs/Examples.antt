@@ -82,7 +82,7 @@ pub surrogate_bracket : answers [] (codes "D800; 0028; o") [] [] [] []
     ≡ Err (record { file = Brackets; line = 1; cause = BadCode })
 surrogate_bracket = refl
 
--- a surrogate is no bracket and no mirror, on either side
+-- a surrogate is neither a bracket nor a mirror, on either side
 pub surrogate_paired : answers [] (codes "0028; DFFF; o") [] [] [] []
     ≡ Err (record { file = Brackets; line = 1; cause = BadCode })
 surrogate_paired = refl

@@ -36,7 +36,7 @@ has_form forms = (is_some (forms Isolated) || is_some (forms Initial)) || (is_so
 
 -- ---- joining types
 
--- a nonspacing mark, a formatting character, or a boundary neutral that is no control
+-- a nonspacing mark, a formatting character, or a boundary neutral that is not a control
 abbrev pub is_joined_across : Class → ℕ → Bool
 is_joined_across BN c = not (is_control c)
 is_joined_across class c = is_unlettered class

@@ -19,7 +19,7 @@ pub struct Range {
     pub high: u32,
 }
 
-/// The value of hexadecimal digits, or `None` where a byte is no digit.
+/// The value of hexadecimal digits, or `None` where a byte is not a digit.
 fn hex_value(digits: &[u8]) -> Option<u32>
     requires { length digits.now ≤ 6 }
     ensures { result ≡ (if list_all (λ b. is_digit b 16) digits.now then Some (digits_value 16 digits.now) else None) }

@@ -48,7 +48,7 @@ pub fn cut(text: &[u8], separator: u8) -> Parts<'_>
     }
 }
 
-/// The text behind its first `count` parts; none if it has no more.
+/// The text after its first `count` parts; none if it has no more.
 pub fn skip_parts(text: &[u8], separator: u8, count: usize) -> Option<&[u8]>
     ensures { MatchOption result (length (slice_split (λ b. b == separator) text.now) ≤ count)
         (λ rest. drop count (slice_split (λ b. b == separator) text.now) ≡ slice_split (λ b. b == separator) rest.now) }

@@ -96,7 +96,8 @@ mixed_slots = refl
 abbrev offset_and_column : Slot → ℕ × ℕ
 offset_and_column s = (s.offset, s.column)
 
--- offset and column of the slots in the part from one offset up to another: B and the blank behind it, then G, and no slot of the end
+-- offset and column of the slots in the part from one offset up to another: B and the blank after it, then G, and no slot of the
+-- end
 slots_in_part : map (λ r. map offset_and_column (slots_in 5 (4, 99) r)) mixed ≡ ((4, 3) ∷ (6, 5) ∷ []) ∷ ((7, 1) ∷ []) ∷ []
 unfolding unicode_segmentation unicode_width
 slots_in_part = refl

@@ -1,4 +1,4 @@
--- The stops of a text ascend, so a search finds the least one behind a place, or the greatest one before it.
+-- The stops of a text ascend, so a search finds the least one after a place, or the greatest one before it.
 use Rattle.std.proofs.Common.{◌≡◌, ℕ, zero, suc, ◌+◌, ◌<◌, ◌≤◌, nat_lt, not, ◌&&◌, cond, Bool, true, false, List, [], ◌∷◌, ◌++◌, map, length, get_or, reverse, find}
 use Rattle.std.proofs.Common.{Option, Some, None, IsUtf8, refl, sym, subst, ◌∙◌, ap, arith}
 use Rattle.std.specs.Prelude.{Contains}
@@ -109,7 +109,7 @@ cons-at P o os here rest p (suc i) h e = rest p (i, omega (arith, h), e)
 pub cons-contains : (P : ℕ → Type 0) (o : ℕ) (os : List ℕ) → P o → ((p : ℕ) → Contains os p → P p) → (p : ℕ) → Contains (o ∷ os) p → P p
 cons-contains P o os here rest p c = cons-at P o os here rest p c.0 c.1 c.2
 
--- ---- the least one behind
+-- ---- the least one after
 
 module _ (place : ℕ) where
   abbrev after : ℕ → Bool

@@ -29,7 +29,7 @@ use Rattle.bx_view.proofs.Parts.{AreUtf8, text-parts}
 use Rattle.bx_view.proofs.RowsAround.{EndsBefore, ahead-utf8}
 use Rattle.bx_view.proofs.TextPlaces.{LastIsBare, end-in, last-bare, pieces-bytes, start-in}
 
--- ---- boundaries of pieces, and of more pieces behind them
+-- ---- boundaries of pieces, and of more pieces after them
 
 one-at : (x v k : ℕ) → k < 1 → get_or (x ∷ []) k v ≡ v → x ≡ v
 one-at x v zero h e = e
@@ -138,7 +138,7 @@ bare-later [] p ps h = h
 bare-later (x ∷ []) p ps h = h
 bare-later (x ∷ y ∷ xs) p ps h = bare-later (y ∷ xs) p ps h
 
--- no place before the next paragraph lies behind the body's end
+-- no place before the next paragraph lies after the body's end
 tail-place : (stop place : ℕ) (body separator : List ℕ) (ps : List Paragraph) → LastIsBare (record { body = body; separator = separator } ∷ ps)
     → EndsBefore ps place (stop + length separator) → Contains (boundaries stop (one_piece separator ++ flat_map pieces_of ps)) place → place ≡ stop
 tail-place stop place body [] [] bare ended c = sym (the-one stop place c)

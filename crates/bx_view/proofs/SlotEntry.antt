@@ -110,7 +110,7 @@ module _ (column : ℕ) where
   alone-in at [] s is = absurd (cc)
   alone-in at (u ∷ us) s is = alone-by at u us s (covered (slot u.0 at u.1)) refl is (alone-in (at + u.1) us s)
 
-  -- a column that none covers is before all of them or behind all
+  -- a column that none covers is before all of them or after all
   none-by : (at : ℕ) (u : ℕ × ℕ) (us : List (ℕ × ℕ)) (b : Bool) → covered (slot u.0 at u.1) ≡ b
       → cond b (Some (slot u.0 at u.1)) (find covered (side_by_side (at + u.1) us)) ≡ None
       → (find covered (side_by_side (at + u.1) us) ≡ None → at + u.1 ≤ column → at + u.1 + total us ≤ column)

@@ -103,7 +103,7 @@ module _ (says : Data) where
       (within-weaker (λ o. o ≤ at + length u + size us) (λ o. o ≤ at + size (u ∷ us)) (λ o h. omega (arith, h))
       (word_starts says (is_of_word says u) (at + length u) us) (words-upto (is_of_word says u) (at + length u) us))
 
-  -- starts are those behind the first unit, and maybe the first unit's
+  -- starts are those after the first unit, and maybe the first unit's
   lead : (i b : Bool) (at : ℕ) (os : List ℕ) → (ps : List ℕ) × ((put_if (i && not b) at os ≡ ps ++ put_if (i && not true) at os) × Within (λ o. o ≤ at) ps)
   lead true true at os = ([], (refl, tt))
   lead true false at os = (at ∷ [], (refl, (omega arith, tt)))
@@ -152,7 +152,7 @@ none-left body at h =
 -- ---- a body's words, cut at a boundary
 
 module _ (says : Data) (body : List ℕ) (at : ℕ) (part : IsPart body at) where
-  -- the starts of words behind the unit at the boundary
+  -- the starts of words after the unit at the boundary
   abbrev pub behind : List ℕ
   behind = word_starts says true at (graphemes true (drop at body))
 
@@ -204,7 +204,7 @@ module _ (says : Data) (body : List ℕ) (at : ℕ) (part : IsPart body at) wher
     pub last-found : (o : ℕ) → find before (reverse behind) ≡ Some o → find before (reverse (body_words says body)) ≡ Some o
     last-found o e = last-cut ∙ ap (λ x. option_or x (find before (reverse words-cut.ahead))) e
 
-  -- none behind the boundary: the last start is before a bound just past it
+  -- none after the boundary: the last start is before a bound just past it
   module _ (bound : ℕ) (none : find (λ o. nat_lt o bound) (reverse behind) ≡ None) where
     abbrev nearer : ℕ → Bool
     nearer o = nat_lt o (min bound (at + 1))
@@ -227,7 +227,7 @@ module _ (says : Data) (body : List ℕ) (at : ℕ) (part : IsPart body at) wher
         last-cut bound ∙ ap (λ x. option_or x (find (λ o. nat_lt o bound) (reverse words-cut.ahead))) none ∙ same-ahead
         ∙ sym (last-cut (min bound (at + 1)) ∙ ap (λ x. option_or x (find nearer (reverse words-cut.ahead))) still-none)
 
--- from a body's start on, all starts are behind it or at it
+-- from a body's start on, all starts are after it or at it
 pub last-of-all : (says : Data) (body : List ℕ) (utf8 : IsUtf8 body) (bound : ℕ)
     → unwrap_or (find (λ o. nat_lt o bound) (reverse (body_words says body))) 0
     ≡ unwrap_or (find (λ o. nat_lt o bound) (reverse (word_starts says true 0 (graphemes true body)))) 0

@@ -228,7 +228,7 @@ module _ (says : Data) (text : List ℕ) (utf8 : IsUtf8 text) (place n : ℕ) (e
       ∙ ap (option_map (λ k. start + k)) (first-or-end offset words (length body) h) in
       sym (ap (λ x. unwrap_or x place) (forward-is ∙ ap (λ x. option_or x (find after (stops_from says Forward next behind))) own))
 
-  -- behind its body
+  -- after its body
   module _ (past : length body ≤ offset) where
     mine-none : find after (mine Forward) ≡ None
     mine-none =

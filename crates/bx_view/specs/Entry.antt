@@ -11,7 +11,7 @@ pub record Covers (slots : List Slot) (column : ℕ) (s : Slot) : Type 0 where
   pub is_covered : covers column s ≡ true
   pub alone : All (λ t. covers column t ≡ true → t.offset ≡ s.offset) slots
 
--- No slot covers the column. The slot is the last of those at or before the column, or the first if all are behind it.
+-- No slot covers the column. The slot is the last of those at or before the column, or the first if all are after it.
 pub record IsNearest (slots : List Slot) (column : ℕ) (s : Slot) : Type 0 where
   pub uncovered : All (λ t. covers column t ≡ false) slots
   pub last : All (λ t. t.column ≤ column → (t.column ≤ s.column) × (s.column ≤ column)) slots

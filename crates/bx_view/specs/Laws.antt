@@ -64,7 +64,7 @@ pub record MovesKeep (says : Data) (text : List ℕ) (w : ℕ) (rows : List Text
   pub end : (offset : ℕ) → P (row_end rows offset)
   pub top : (top place t : ℕ) → 0 < t → P (follow rows top place t)
 
--- the least stop behind a place
+-- the least stop after a place
 pub record IsLeastBehind (stops : List ℕ) (place stop : ℕ) : Type 0 where
   pub is_stop : Contains stops stop
   pub behind : place < stop
@@ -76,7 +76,7 @@ pub record IsGreatestBefore (stops : List ℕ) (place stop : ℕ) : Type 0 where
   pub before : stop < place
   pub greatest : (o : ℕ) → Contains stops o → o < place → o ≤ stop
 
--- A step forward leads to the least stop behind the place, and stays only at the text's end. A step back leads to the
+-- A step forward leads to the least stop after the place, and stays only at the text's end. A step back leads to the
 -- greatest stop before it, and stays only at the text's start.
 pub record StepsOn (text : List ℕ) (stops : Logical → List ℕ) (step : Logical → ℕ → ℕ) : Type 0 where
   pub forward : (place : ℕ) → place < length text → IsLeastBehind (stops Forward) place (step Forward place)

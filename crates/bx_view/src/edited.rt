@@ -79,8 +79,6 @@ impl Layout {
     /// after the edit. None if the paragraph is not held, if the edit exceeds it or inserts a separator, and at the start of
     /// a paragraph other than the first, where a CR and an LF may join into one separator. The paragraphs are then laid out
     /// again when they are needed.
-    ///
-    /// Errors: `OutOfMemory`.
     pub fn edit<D: BidiData>(
         &mut self,
         source: &Source<'_, D>,
@@ -138,8 +136,6 @@ impl Layout {
     }
 
     /// Applies an edit, which replaces a range with `new`, to a held paragraph, unless `new` contains a separator.
-    ///
-    /// Errors: `OutOfMemory`.
     pub fn follow_edit<D: BidiData>(
         &mut self,
         range: HeldRange,

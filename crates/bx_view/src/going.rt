@@ -53,8 +53,6 @@ fn paragraph_number<D: BidiData>(source: &Source<'_, D>, paragraph: usize) -> us
 impl Layout {
     /// The place of a unit by the numbers of its paragraph and of the unit in it, both from 1, where 0 means 1. For a
     /// paragraph too large it is in the last one, for a unit too large it is the paragraph's end.
-    ///
-    /// Errors: `OutOfMemory`.
     pub fn place_of<D: BidiData>(
         &mut self,
         source: &Source<'_, D>,

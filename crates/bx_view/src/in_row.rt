@@ -52,8 +52,6 @@ impl Layout {
     }
 
     /// The last place of a place's row: the paragraph's end in its last row, else the start of the row's last unit.
-    ///
-    /// Errors: `OutOfMemory`.
     pub(crate) fn row_end<D: BidiData>(
         &mut self,
         source: &Source<'_, D>,

@@ -40,7 +40,7 @@ pub fn rows_go_on()
     ensures { InEachWindow (λ says text w rows. RowsGoOn w rows) }
 {}
 
-/// The numbers that are told for a place lead back to it, and any two numbers lead to a place.
+/// The numbers that are shown for a place lead back to it, and any two numbers lead to a place.
 pub fn numbers_lead_back()
     ensures back { InEachWindow LeadBack }
     ensures places { (says : Data) (text : List ℕ) → IsUtf8 text → LeadToPlaces says text }

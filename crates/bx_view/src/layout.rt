@@ -109,8 +109,6 @@ impl Layout {
     }
 
     /// The index of the held paragraph whose body is the text's bytes from `start` to `stop`. Lays it out if it is not held.
-    ///
-    /// Errors: `OutOfMemory`.
     pub(crate) fn find<D: BidiData>(
         &mut self,
         source: &Source<'_, D>,
@@ -161,8 +159,6 @@ impl Layout {
     }
 
     /// The row that an offset of the text falls in.
-    ///
-    /// Errors: `OutOfMemory`.
     pub fn row_at<D: BidiData>(
         &mut self,
         source: &Source<'_, D>,
@@ -197,8 +193,6 @@ impl Layout {
     }
 
     /// The row after `at`, if there is one.
-    ///
-    /// Errors: `OutOfMemory`.
     pub fn next_row<D: BidiData>(
         &mut self,
         source: &Source<'_, D>,
@@ -218,9 +212,7 @@ impl Layout {
         Ok(next)
     }
 
-    /// The row after `at`, if there is one, for many steps in turn: the walk is at the paragraph of `at`, and goes along.
-    ///
-    /// Errors: `OutOfMemory`.
+    /// Like `next_row`, but advances `walk`, which is at the paragraph of `at`.
     pub fn next_row_along<D: BidiData>(
         &mut self,
         source: &Source<'_, D>,
@@ -253,8 +245,6 @@ impl Layout {
     }
 
     /// The row before `at`, if there is one.
-    ///
-    /// Errors: `OutOfMemory`.
     pub fn row_before<D: BidiData>(
         &mut self,
         source: &Source<'_, D>,
@@ -306,8 +296,6 @@ impl Layout {
     }
 
     /// The row that an offset of the text falls in. In the paragraph of `at`, which is found already, it needs no search.
-    ///
-    /// Errors: `OutOfMemory`.
     pub(crate) fn row_near<D: BidiData>(
         &mut self,
         source: &Source<'_, D>,
@@ -342,8 +330,6 @@ impl Layout {
     }
 
     /// The first offset of the row that a place falls in.
-    ///
-    /// Errors: `OutOfMemory`.
     pub(crate) fn row_home<D: BidiData>(
         &mut self,
         source: &Source<'_, D>,

@@ -83,8 +83,6 @@ fn in_text(alloc: Global, start: usize, slots: &[Slot]) -> Result<Vec<usize>, Al
 
 impl Layout {
     /// The number of the text's rows. Wraps the whole text and holds none of it.
-    ///
-    /// Errors: `OutOfMemory`.
     pub fn row_count<D: BidiData>(&self, source: &Source<'_, D>) -> Result<usize, ViewError>
         ensures { IfOk result (λ n. n ≡ length (rows source.now self.now)) }
     {
@@ -95,8 +93,6 @@ impl Layout {
     }
 
     /// The number, from 0, of the row that an offset of the text falls in. Wraps the paragraphs before it.
-    ///
-    /// Errors: `OutOfMemory`.
     pub fn row_of<D: BidiData>(
         &mut self,
         source: &Source<'_, D>,
@@ -114,8 +110,6 @@ impl Layout {
     }
 
     /// The first offset of row `row`, from 0, if the text has that row. Wraps the paragraphs up to it.
-    ///
-    /// Errors: `OutOfMemory`.
     pub fn first<D: BidiData>(
         &self,
         source: &Source<'_, D>,
@@ -143,8 +137,6 @@ impl Layout {
     }
 
     /// The places of the row that a place falls in, in visual order from left to right.
-    ///
-    /// Errors: `OutOfMemory`.
     pub fn slots<D: BidiData>(
         &mut self,
         source: &Source<'_, D>,
@@ -164,8 +156,6 @@ impl Layout {
 
     /// The offset of the top row after scrolling `t` visible rows, from the row of the offset `top`, by the fewest rows that
     /// make the row of `place` visible.
-    ///
-    /// Errors: `OutOfMemory`.
     pub fn follow<D: BidiData>(
         &mut self,
         source: &Source<'_, D>,

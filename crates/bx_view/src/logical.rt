@@ -85,8 +85,6 @@ impl<'a, 't, D: BidiData> PlacedRow<'a, 't, D> {
 
 impl Layout {
     /// The first place at or after an offset; the text's last place, if there is none.
-    ///
-    /// Errors: `OutOfMemory`.
     pub fn place_from<D: BidiData>(
         &mut self,
         source: &Source<'_, D>,
@@ -109,8 +107,6 @@ impl Layout {
     }
 
     /// The place of an offset: the last place at or before it.
-    ///
-    /// Errors: `OutOfMemory`.
     pub fn place_at<D: BidiData>(
         &mut self,
         source: &Source<'_, D>,
@@ -170,8 +166,6 @@ impl Layout {
     }
 
     /// The place after or before a place in text order; the place itself at either end of the text.
-    ///
-    /// Errors: `OutOfMemory`.
     pub(crate) fn step_logical<D: BidiData>(
         &mut self,
         source: &Source<'_, D>,

@@ -12,8 +12,6 @@ use bx_ucd::BidiData;
 
 impl Layout {
     /// The place after a move from `place`.
-    ///
-    /// Errors: `OutOfMemory`.
     pub fn moved<D: BidiData>(
         &mut self,
         source: &Source<'_, D>,

@@ -25,8 +25,6 @@ pub struct Position {
 
 impl Layout {
     /// The position of a place in its row, `at`.
-    ///
-    /// Errors: `OutOfMemory`.
     pub(crate) fn position<D: BidiData>(
         &self,
         source: &Source<'_, D>,
@@ -50,8 +48,6 @@ impl Layout {
     }
 
     /// The column, from 1, of the cell of a place.
-    ///
-    /// Errors: `OutOfMemory`.
     pub fn cell_of<D: BidiData>(
         &mut self,
         source: &Source<'_, D>,

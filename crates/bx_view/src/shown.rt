@@ -16,8 +16,6 @@ use bx_ucd::BidiData;
 
 impl Layout {
     /// The glyphs of a row from left to right, blanks included.
-    ///
-    /// Errors: `OutOfMemory`.
     pub fn picture<D: BidiData>(
         &self,
         source: &Source<'_, D>,

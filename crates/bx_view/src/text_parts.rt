@@ -20,8 +20,6 @@ fn keep_in(slots: &mut Vec<Slot>, start: usize, stop: usize)
 impl Layout {
     /// The slots of a row's units that begin in a part of the text, from the offset `part.0` up to `part.1`, from left to
     /// right. If the row's paragraph lies outside the part, nothing is computed.
-    ///
-    /// Errors: `OutOfMemory`.
     pub fn slots_in<D: BidiData>(
         &self,
         source: &Source<'_, D>,

@@ -60,8 +60,6 @@ impl Layout {
 
     /// Locates a place among `t` visible rows: those from the row of the offset `top` on, scrolled by the fewest rows that
     /// make the place's row visible.
-    ///
-    /// Errors: `OutOfMemory`.
     pub fn locate<D: BidiData>(
         &mut self,
         source: &Source<'_, D>,

@@ -69,8 +69,6 @@ impl Layout {
 
     /// The place of the row's next slot on a side; past the last slot, the reading start of the next row or the reading
     /// end of the previous one; if there is no such row, the place itself.
-    ///
-    /// Errors: `OutOfMemory`.
     pub(crate) fn step_visual<D: BidiData>(
         &mut self,
         source: &Source<'_, D>,

@@ -124,8 +124,6 @@ impl Layout {
 
     /// The place after a move by a word in text order. A word is a run of units whose first characters are letters, digits,
     /// marks or joiners by their classes.
-    ///
-    /// Errors: `OutOfMemory`.
     pub(crate) fn step_word<D: BidiData>(
         &mut self,
         source: &Source<'_, D>,
@@ -148,8 +146,6 @@ impl Layout {
         }
     }
     /// The place after a move by a word toward a side: forward if the place's paragraph is read toward it, else back.
-    ///
-    /// Errors: `OutOfMemory`.
     pub(crate) fn word_towards<D: BidiData>(
         &mut self,
         source: &Source<'_, D>,

@@ -65,7 +65,7 @@ split (x ∷ s) (y ∷ t) r q n m e =
     let rest = split s t r q (or_parts (eqb x 0) (has_nul s) n).1 (or_parts (eqb y 0) (has_nul t) m).1 (tails x y _ _ e) in
     (ap (λ z. z ∷ s) (heads x y _ _ e) ∙ ap (λ l. y ∷ l) rest.0, rest.1)
 
--- a front that is longer than a text without NUL has the NUL behind it
+-- a front that is longer than a text without NUL has the NUL after it
 front_ends : (text s rest new : List ℕ) → HasNoNul s → text ++ 0 ∷ rest ≡ s ++ new → length s ≤ length text
 front_ends text [] rest new n e = omega arith
 front_ends [] (y ∷ s) rest new n e =

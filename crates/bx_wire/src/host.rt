@@ -11,12 +11,12 @@ pub trait Host {
     fn facts(&mut self, path: &str) -> Result<Facts, HostFault>;
 
     /// Asks the user and returns the answered line without its end; None where the input ended or the host is gone. The host
-    /// puts a blank behind the question. An answer that is not UTF-8 is empty.
+    /// puts a blank after the question. An answer that is not UTF-8 is empty.
     fn ask(&mut self, question: &str) -> Option<String>;
 
-    /// Writes a text to standard output as it is. A host that is gone is not told.
+    /// Writes a text to standard output as it is. A host that is gone gets nothing.
     fn tell(&mut self, text: &str);
 
-    /// Writes a text to standard error as it is. A host that is gone is not told.
+    /// Writes a text to standard error as it is. A host that is gone gets nothing.
     fn warn(&mut self, text: &str);
 }

@@ -13,7 +13,7 @@ pub struct PreparedHost {
     facts: Vec<(String, Facts)>,
     /// The answers, the last one first.
     answers: Vec<String>,
-    /// What was written to standard output, questions and a blank behind each included.
+    /// What was written to standard output, questions and a blank after each included.
     pub output: String,
     /// What was written to standard error.
     pub error: String,

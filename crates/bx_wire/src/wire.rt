@@ -84,7 +84,7 @@ impl<R: Read + Drop, W: Write + Drop> Wire<R, W> {
         self.hear_only(heard)?.number().ok_or(HostFault::Gone)
     }
 
-    /// Sends a text that ends in nothing else; a host that is gone is not told.
+    /// Sends a text that ends in nothing else; a host that is gone gets nothing.
     fn try_say(&mut self, said: Said, text: &str) {
         let _ = self.say(said, text);
     }

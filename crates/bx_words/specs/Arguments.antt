@@ -13,7 +13,7 @@ use Rattle.bx_words.specs.declared.unicode.UnicodePaths.{UnicodePaths}
 abbrev pub text_of : ArgMatches → List ℕ → Option (List ℕ)
 text_of matches name = first_value (found_of matches) name
 
--- the text of an option is the decimal number of a window's side, maybe behind a plus
+-- the text of an option is the decimal number of a window's side, maybe after a plus
 pub record IsSideIn (matches : ArgMatches) (name : List ℕ) (n : ℕ) : Type 0 where
   pub text : List ℕ
   pub is_text : one_text (found_of matches) name ≡ Some text
@@ -21,11 +21,11 @@ pub record IsSideIn (matches : ArgMatches) (name : List ℕ) (n : ℕ) : Type 0 
   pub value : n ≡ digits_value 10 (without_leading_plus text)
   pub side : is_side n ≡ true
 
--- the side that an option gives; none if its text is no side's number
+-- the side that an option gives; none if its text is not a side's number
 abbrev pub GivesSide : ArgMatches → List ℕ → Option ℕ → Type 0
 GivesSide matches name side = MatchOption side ((n : ℕ) → ¬ (IsSideIn matches name n)) (IsSideIn matches name)
 
--- the direction whose word is the text of --direction; none if that is no direction's word
+-- the direction whose word is the text of --direction; none if that is not a direction's word
 abbrev pub GivesDirection : ArgMatches → Option Base → Type 0
 GivesDirection matches direction =
     MatchOption direction ((base : Base) → text_of matches (codes "direction") ≢ Some (word_of base))

@@ -34,7 +34,7 @@ is_hidden c = in_ranges hidden_ranges c
 abbrev pub is_plain : ℕ → Bool
 is_plain c = is_ascii_alphanumeric c || (c == 95 || (c == 46 || (c == 47 || (c == 43 || (c == 44 || (c == 64 || (c == 37 || (c == 58 || (c == 61 || c == 45)))))))))
 
--- a name is told in $'..' if one of its characters is hidden, bare if it has characters and all are plain, else in quotes
+-- a name is shown in $'..' if one of its characters is hidden, bare if it has characters and all are plain, else in quotes
 abbrev pub style_of : List ℕ → Style
 style_of name =
     if list_any is_hidden (chars name) then Escaped

@@ -20,7 +20,7 @@ pub struct Numbered<'a>(pub &'a str);
 #[derive(Clone, Copy, PartialEq, Eq, Debug)]
 pub struct Inner<'a>(pub &'a str);
 
-/// How a name is told.
+/// How a name is shown.
 #[derive(Clone, Copy, PartialEq, Eq, Debug)]
 pub enum Style {
     Bare,
@@ -63,7 +63,7 @@ fn is_all_plain(name: &str) -> bool
     name.chars().all(|c| is_plain(c))
 }
 
-/// How a name is told.
+/// How a name is shown.
 pub fn style_of(name: &str) -> Style
     ensures { result ≡ style_of name.now }
 {

@@ -134,7 +134,7 @@ impl UnicodeBytes {
         })
     }
 
-    /// Lends the bytes.
+    /// Borrows the files' bytes.
     pub fn lend(&self) -> UnicodeFiles<'_>
         ensures { AreLent self.now result }
     {

@@ -1,5 +1,5 @@
-//! Tests of the command line, of told names and of messages: rows with the answers that a shell gave. They have their own crate,
-//! so that the tested one stays quick to check.
+//! Tests of the command line, of names as they are shown, and of messages: rows with the answers that a shell gave. They have
+//! their own crate, so that the tested one stays quick to check.
 #![tactic(auto)]
 
 #[cfg(test)]

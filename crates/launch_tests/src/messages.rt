@@ -1,4 +1,4 @@
-//! The help, the version, and what is told at the end.
+//! The help, the version, and messages at the end.
 
 use bx_launch::{
     Look, are_all_crlf, columns_on, help_text, look_of, mixed_line, signal_line, version_text,

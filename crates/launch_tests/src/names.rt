@@ -1,4 +1,4 @@
-//! Names of any bytes, and how they are told.
+//! Names of any bytes, and how they are shown.
 
 use bx_launch::{Told, ToldLine};
 use std::test::Fail;

@@ -23,7 +23,7 @@ FE92;NAME;Lo;0;AL;<medial> 0628;;;;N;;;;;\n\
 FE90;NAME;Lo;0;AL;<final> 0628;;;;N;;;;;\n\
 FE8E;NAME;Lo;0;AL;<final> 0627;;;;N;;;;;\n";
 
-/// The outcome of reading the two files behind a file of classes: `accepted`, or the text of the refusal.
+/// The outcome of reading the two files after a file of classes: `accepted`, or the text of the refusal.
 fn verdict(
     alloc: Global,
     classes: &[u8],
@@ -119,7 +119,7 @@ fn answers(alloc: Global, tables: &Tables, c: char) -> Result<String, Fail> {
     Ok(text)
 }
 
-/// Each line: what it shows, lines of joining types and of characters behind those above, with ␉ for a tab, ␊ for LF and ␍
+/// Each line: what it shows, lines of joining types and of characters after those above, with ␉ for a tab, ␊ for LF and ␍
 /// for CR, a character's code, and its answers.
 const ANSWERS: &str = "\
 a letter that joins on both sides\t\t\t0628\tD - FE91 FE92 FE90\n\
@@ -152,7 +152,7 @@ blanks round the words\t\tFE8F;NAME;Lo;0;AL; <final> \u{2409} 0628 ;;;;N;;;;;\u{
 an isolated form\t\tFE8F;NAME;Lo;0;AL;<isolated> 0628;;;;N;;;;;\t0628\tD FE8F FE91 FE92 FE90\n\
 empty names\t0645;;T;\t\t0645\tT - - - -";
 
-/// A text with further lines behind it, which have U+240A for LF.
+/// A text with further lines after it, which have U+240A for LF.
 fn with_lines(alloc: Global, text: &str, lines: &str) -> Result<String, AllocError> {
     let mut all = String::from_str(alloc, text)?;
     all.push_str(with_ends(alloc, lines)?.as_str())?;

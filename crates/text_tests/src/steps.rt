@@ -19,7 +19,7 @@
 //!     uncopied START STOP                     a copy of this range is refused
 //!     shows START STOP LENGTH|..              the paragraphs: their bodies, and their separators' lengths
 //!     paragraph OFFSET NUMBER                 the number, from 0, of the paragraph that has OFFSET
-//!     walk OFFSET STEPS NUMBER START STOP LENGTH    the paragraph that a walk reaches by > and <; `.` is no step
+//!     walk OFFSET STEPS NUMBER START STOP LENGTH    the paragraph that a walk reaches by > and <; `.` is not a step
 //!     forget                                  resets the count of questions for a class
 //!     asked LIMIT                             fewer than LIMIT questions for a class were asked since
 

@@ -109,7 +109,7 @@ fn a_link_stays_and_files_beside_it_stay(rt: HostRuntime) -> Result<(), Fail> {
     fs::write(&rt, beside.as_path(), b"of the user")?;
     std::os::unix::fs::symlink(&rt, path.as_path(), link.as_path())?;
     let mut store = FileStore::new(&rt, rt.alloc(), link.as_str())?;
-    // the file behind the link is created, and then replaced
+    // the file that the link leads to is created, and then replaced
     save(&mut store, b"new", b"")?;
     let made = fs::read(&rt, path.as_path())?;
     save(&mut store, b"newer", b"")?;

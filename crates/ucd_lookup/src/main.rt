@@ -150,7 +150,7 @@ fn time<R: Print + CpuClock + AllocGlobal>(rt: &R, files: &DataFiles, count: u32
     Ok(())
 }
 
-/// Carries out the words behind the two files by which letters are joined.
+/// Carries out the words after the two files by which letters are joined.
 fn asked<R: Print + Files + CpuClock + AllocGlobal>(
     rt: &R,
     joining: Option<JoiningBytes>,

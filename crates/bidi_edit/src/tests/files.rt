@@ -23,7 +23,7 @@ fn three<'a>(classes: &'a str, brackets: &'a str, mirroring: &'a str) -> Unicode
     }
 }
 
-/// The paths of a third file and of the two by which letters are joined, behind two files without a line.
+/// The paths of a third file and of the two by which letters are joined, after two files without a line.
 fn last_three<'a>(mirroring: &'a str, joining: &'a str, characters: &'a str) -> UnicodePaths<'a> {
     UnicodePaths {
         classes: EMPTY,

@@ -1,4 +1,4 @@
--- By the loop's invariant each byte from `end` on is a blank, and the byte before `end`, if any, is no blank.
+-- By the loop's invariant each byte from `end` on is a blank, and the byte before `end`, if any, is not a blank.
 use Rattle.std.proofs.Common.{◌≡◌, ◌<◌, ◌-◌, arith, sym, ap, take, false, get_or}
 use Rattle.std.proofs.lemmas.List.Sums.{suffix_len_is}
 use Rattle.bx_ucd.specs.Lines.{is_blank}
