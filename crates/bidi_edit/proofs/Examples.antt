@@ -3,7 +3,7 @@ use Rattle.std.proofs.Common.{◌≡◌, ◌≢◌, ◌++◌, ℕ, Bool, true, f
 use Rattle.std.specs.Prelude.{codes}
 use Rattle.bx_ucd.specs.Data.{Data}
 use Rattle.bx_keys.specs.Keys.{key_after}
-use Rattle.bx_words.specs.declared.unicode.UnicodeFiles.{UnicodeFiles}
+use Rattle.bx_cli.specs.declared.unicode.UnicodeFiles.{UnicodeFiles}
 use Rattle.bx_session.specs.declared.end.End.{End}
 use Rattle.bx_session.specs.declared.end.End.TheVariants.{Quit, InputEnded}
 use Rattle.bx_session.specs.declared.end.RunFault.{RunFault}

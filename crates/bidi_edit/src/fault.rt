@@ -2,12 +2,12 @@
 
 ghost use Rattle.std.specs.Prelude.{◌≡◌};
 
+use bx_cli::FileFault;
 use bx_command::TextFault;
 use bx_recovery::RecoveryFault;
 use bx_session::{OpenError, Refused, RunFault};
 use bx_store::StoreFault;
 use bx_ucd::UcdError;
-use bx_words::FileFault;
 use std::alloc::AllocError;
 use thiserror::Error;
 

@@ -16,11 +16,11 @@ mod fault;
 mod look;
 mod telling;
 
+use bx_cli::{is_text_of, refuse, refuse_words, text_of};
 use bx_command::{Files, JournalFile, Options, TextFault, check_text, command_line, empty_journal};
 use bx_recovery::{Beginning, is_foreign, recover};
 use bx_session::{Recorder, WrittenJournal};
 use bx_store::{FileStore, Store, StoreFault};
-use bx_words::{is_text_of, refuse, refuse_words, text_of};
 use edit::{Changes, edit};
 use fault::ProgramFault;
 use look::Look;

@@ -2,9 +2,9 @@
 
 use crate::fault::ProgramFault;
 use crate::look::Look;
+use bx_cli::FileFault;
 use bx_command::{JournalNotes, Options, TextFault};
 use bx_session::{OpenError, RunFault};
-use bx_words::FileFault;
 use std::fmt;
 use std::process::ExitCode;
 

@@ -8,8 +8,8 @@ mod recovering;
 mod saving;
 mod sessions;
 
+use bx_cli::UnicodeFiles;
 use bx_ucd::sample::{BRACKETS, CLASSES, MIRRORING};
-use bx_words::UnicodeFiles;
 
 /// The small samples of Unicode's files.
 fn small_files() -> UnicodeFiles<'static> {

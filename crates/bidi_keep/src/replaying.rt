@@ -3,13 +3,13 @@
 ghost use Rattle.std.specs.Prelude.{◌≡◌, true, IfSome};
 ghost use Rattle.bx_terms.specs.Sizes.{is_side};
 
+use bx_cli::{FileFault, UnicodeBytes, UnicodePaths};
 use bx_keep::{Around, FoundText, Replay, ReplayFault, Replayer};
 use bx_launch::Tables;
 use bx_recovery::{Beginning, FileText, RecoveryFault, recover};
 use bx_sessions::{Part, Session, read_plain};
 use bx_store::MemoryStore;
 use bx_terms::is_side;
-use bx_words::{FileFault, UnicodeBytes, UnicodePaths};
 use std::alloc::AllocError;
 use std::io::{self, ErrorKind};
 

@@ -1,8 +1,8 @@
 //! Faults that end the program with status 1.
 
+use bx_cli::FileFault;
 use bx_print::PrintError;
 use bx_ucd::UcdError;
-use bx_words::FileFault;
 use std::alloc::AllocError;
 use thiserror::Error;
 

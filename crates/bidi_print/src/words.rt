@@ -1,7 +1,7 @@
 //! The program's command line.
 
+use bx_cli::{UnicodePaths, direction, direction_of, paths_of, side, side_of, with_tables};
 use bx_print::{Marks, Style};
-use bx_words::{UnicodePaths, direction, direction_of, paths_of, side, side_of, with_tables};
 use clap::error::ErrorKind;
 use clap::{Arg, ArgAction, ArgMatches, Command};
 use std::alloc::{AllocError, Global};

@@ -3,7 +3,7 @@ use Rattle.std.specs.Prelude.{◌≡◌, ℕ, List, Option, Some, option_map, co
 use Rattle.std.specs.Borrow.{Bor}
 use Rattle.clap.specs.declared.parser.matches.ArgMatches.{ArgMatches}
 use Rattle.bx_terms.specs.Directions.{word_of}
-use Rattle.bx_words.specs.Arguments.{ArePathsIn, IsSideIn, text_of}
+use Rattle.bx_cli.specs.Arguments.{ArePathsIn, IsSideIn, text_of}
 use Rattle.bx_command.specs.declared.parsed.Options.{Options}
 
 -- the text of an option that may be missing

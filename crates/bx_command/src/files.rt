@@ -1,7 +1,7 @@
 //! The input files of a session.
 
 use crate::parsed::Options;
-use bx_words::{FileFault, UnicodeBytes, bytes_of, text_of};
+use bx_cli::{FileFault, UnicodeBytes, bytes_of, text_of};
 
 /// The input files of a session.
 #[derive(Drop)]

@@ -4,7 +4,7 @@ ghost use Rattle.std.specs.Prelude.{IfSome};
 ghost use Rattle.bx_command.specs.Options.{AreOptionsIn};
 
 use crate::parsed::Options;
-use bx_words::{direction, direction_of, paths_of, side, side_of, with_tables};
+use bx_cli::{direction, direction_of, paths_of, side, side_of, with_tables};
 use clap::error::ErrorKind;
 use clap::{Arg, ArgAction, ArgMatches, Command, value_parser};
 use std::alloc::{AllocError, Global};

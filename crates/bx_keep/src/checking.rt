@@ -4,10 +4,10 @@ use crate::around::Around;
 use crate::saying::warn;
 use crate::shelf::Shelf;
 use crate::stop::Stop;
+use bx_cli::Shown;
 use bx_launch::{Destination, FileFault, check_kind};
 use bx_sessions::{Mended, Reason, find_in_place, mend_all};
 use bx_wire::Host;
-use bx_words::Shown;
 use std::alloc::{AllocError, Global};
 use std::rt::Files;
 

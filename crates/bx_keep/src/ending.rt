@@ -9,10 +9,10 @@ use crate::replaying::{FoundText, Replay, Replayer};
 use crate::running::Running;
 use crate::saying::warn;
 use crate::stop::Stop;
+use bx_cli::Shown;
 use bx_launch::{are_all_crlf, mixed_line, signal_line};
 use bx_sessions::{Kept, Look, Mended, Part, forget_dropped, mend, read_plain};
 use bx_wire::Host;
-use bx_words::Shown;
 use std::rt::Files;
 
 /// The message about a journal without its end.

@@ -6,13 +6,13 @@ use crate::saying::{tell, warn};
 use crate::shelf::unkept_by;
 use crate::stop::Stop;
 use crate::telling::{number_of_keys, told_machine, told_time};
+use bx_cli::Shown;
 use bx_launch::Told;
 use bx_sessions::{
     FolderFault, Forgotten, LocalClock, Part, Session, Sessions, State, all_folders, forget,
     state_of,
 };
 use bx_wire::Host;
-use bx_words::Shown;
 
 /// What a list says of a session after its path.
 fn note_of(around: Around<'_>, session: &Session) -> Result<String, Stop> {

@@ -8,9 +8,9 @@ use crate::saying::tell;
 use crate::stop::Stop;
 use crate::taking::{Outcome, Taken, Taking};
 use crate::telling::{number_of_keys, told_machine, told_process, told_time};
+use bx_cli::Shown;
 use bx_sessions::{Found, Session, Sessions, find};
 use bx_wire::Host;
-use bx_words::Shown;
 
 /// What came of meeting FILE's sessions.
 #[derive(Drop)]

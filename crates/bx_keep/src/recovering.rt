@@ -13,9 +13,9 @@ use crate::shelf::unwritable;
 use crate::stop::Stop;
 use crate::taking::{Outcome, Taken, Taking, tell_cut, tell_unsure};
 use crate::telling::{number_of_keys, told_machine, told_process};
+use bx_cli::Shown;
 use bx_sessions::{Found, LockFault, Part, Session, Sessions, find};
 use bx_wire::Host;
-use bx_words::Shown;
 
 /// The exit status of a refusal that was reported before.
 const REFUSED: u8 = 1;

@@ -3,11 +3,11 @@
 use crate::around::Around;
 use crate::causes::{Unkept, notice_of};
 use crate::stop::Stop;
+use bx_cli::Shown;
 use bx_keys::Notice;
 use bx_launch::Destination;
 use bx_sessions::{FolderFault, PlaceFault, Sessions, sessions_folder};
 use bx_wire::Host;
-use bx_words::Shown;
 use std::alloc::{AllocError, Global};
 
 /// The folder of sessions for a file.

@@ -3,9 +3,9 @@
 use crate::around::Around;
 use crate::beginning::Begun;
 use crate::checking::Edited;
+use bx_cli::Shown;
 use bx_launch::{add_option, add_word, direction_word};
 use bx_sessions::{Kept, Part};
-use bx_words::Shown;
 use std::alloc::{AllocError, Global};
 use std::io;
 

@@ -11,11 +11,11 @@ use crate::saying::tell;
 use crate::shelf::unwritable;
 use crate::stop::Stop;
 use crate::telling::number_of_keys;
+use bx_cli::Shown;
 use bx_sessions::{
     FolderFault, Kept, LockFault, Mended, Part, Session, Sessions, mend, read_plain, renew,
 };
 use bx_wire::Host;
-use bx_words::Shown;
 use std::io::{self, ErrorKind};
 use std::rt::Files;
 

@@ -2,8 +2,8 @@
 
 use crate::around::Around;
 use crate::stop::Stop;
+use bx_cli::Shown;
 use bx_sessions::{LocalClock, Part, Process, Session, count_keys};
-use bx_words::Shown;
 
 /// The time of a session's last key, as users read it.
 pub fn told_time(around: Around<'_>, session: &Session) -> Result<String, Stop> {

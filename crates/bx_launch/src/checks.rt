@@ -3,7 +3,7 @@
 use crate::destination::Destination;
 use crate::fault::{FileCause, FileFault};
 use crate::kind::{Kind, kind_at};
-use bx_words::Shown;
+use bx_cli::Shown;
 use std::alloc::{AllocError, Global};
 use std::fs;
 use std::rt::Files;

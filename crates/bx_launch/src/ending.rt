@@ -3,7 +3,7 @@
 ghost use Rattle.std.specs.Prelude.{◌↔◌, IsTrue};
 ghost use Rattle.bx_launch.specs.LineEnds.{HasOnlyCrlf};
 
-use bx_words::Shown;
+use bx_cli::Shown;
 use std::alloc::{AllocError, Global};
 
 /// The names of the signals from 1 on.

@@ -1,7 +1,7 @@
 //! Why a file is refused.
 
+use bx_cli::Shown;
 use bx_wire::HostFault;
-use bx_words::Shown;
 use std::alloc::{AllocError, AllocFailed, Global};
 use thiserror::Error;
 

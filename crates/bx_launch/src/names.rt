@@ -1,6 +1,6 @@
 //! Names as messages tell them.
 
-use bx_words::{Inner, Numbered, Shown};
+use bx_cli::{Inner, Numbered, Shown};
 use std::fmt::{self, Display};
 use std::str;
 

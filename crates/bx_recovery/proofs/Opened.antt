@@ -5,7 +5,7 @@ use Rattle.std.specs.Global.{Vec}
 use Rattle.bx_terms.specs.declared.base.Base.{Base}
 use Rattle.bx_keys.specs.Keys.{keys_from}
 use Rattle.bx_ucd.specs.Data.{Data}
-use Rattle.bx_words.specs.declared.unicode.UnicodeFiles.{UnicodeFiles}
+use Rattle.bx_cli.specs.declared.unicode.UnicodeFiles.{UnicodeFiles}
 use Rattle.bx_session.specs.Session.{Session, SessionState, at_opening}
 use Rattle.bx_session.specs.Saving.{StoreState}
 use Rattle.bx_session.specs.Painting.{QueuesPicture}

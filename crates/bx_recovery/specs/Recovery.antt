@@ -2,7 +2,7 @@
 use Rattle.std.specs.Prelude.{◌≡◌, ◌≢◌, ◌↔◌, ℕ, Bool, true, false, IsTrue, List, [], ◌∷◌, Contains, length}
 use Rattle.bx_ucd.specs.Data.{Data}
 use Rattle.bx_keys.specs.Keys.{keys_from}
-use Rattle.bx_words.specs.declared.unicode.UnicodeFiles.{UnicodeFiles}
+use Rattle.bx_cli.specs.declared.unicode.UnicodeFiles.{UnicodeFiles}
 use Rattle.bx_session.specs.Session.{Session, after_journal, after_replay}
 use Rattle.bx_session.specs.Saving.{StoreState, is_save_byte, with_text}
 use Rattle.bx_session.specs.Beginning.{Beginning, at_offset, unpainted_at}

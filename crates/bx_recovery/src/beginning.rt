@@ -3,8 +3,8 @@
 ghost use Rattle.std.specs.Prelude.{◌≡◌, true};
 ghost use Rattle.bx_terms.specs.Sizes.{is_side};
 
+use bx_cli::UnicodeFiles;
 use bx_terms::Base;
-use bx_words::UnicodeFiles;
 use std::alloc::Global;
 
 /// Everything that a session starts from.

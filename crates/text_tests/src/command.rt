@@ -1,8 +1,8 @@
 //! The editor's command line: accepted and refused words, the check of a text, and the offset of a line.
 
+use bx_cli::{JoiningPaths, UnicodePaths, refuse, refuse_words};
 use bx_command::{TextFault, check_text, command_line, start_of_line};
 use bx_terms::Base;
-use bx_words::{JoiningPaths, UnicodePaths, refuse, refuse_words};
 use clap::error::ErrorKind;
 use std::alloc::{AllocError, Global};
 use std::io;

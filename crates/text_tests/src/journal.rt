@@ -1,7 +1,7 @@
 //! A journal's file that cannot be opened or written, and the input files of a session.
 
+use bx_cli::FileFault;
 use bx_command::{Files, JournalFile, JournalNotes, command_line};
-use bx_words::FileFault;
 use std::io::Write;
 use std::path::PathBuf;
 use std::test::Fail;

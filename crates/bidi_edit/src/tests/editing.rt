@@ -3,12 +3,12 @@
 use crate::edit::{Changes, edit};
 use crate::fault::ProgramFault;
 use crate::tests::small_files;
+use bx_cli::UnicodeFiles;
 use bx_recovery::Beginning;
 use bx_session::{NoJournal, OpenError, Recorder, RunFault};
 use bx_store::MemoryStore;
 use bx_terms::Base;
 use bx_ucd::JoiningFiles;
-use bx_words::UnicodeFiles;
 use std::alloc::Global;
 use std::io::{self, ErrorKind, Read, Write};
 use std::test::Fail;

@@ -2,10 +2,10 @@
 
 use crate::fault::ProgramFault;
 use crate::telling::finish;
+use bx_cli::FileFault;
 use bx_command::TextFault;
 use bx_session::{OpenError, Refused, RunFault};
 use bx_store::StoreFault;
-use bx_words::FileFault;
 use std::process::ExitCode;
 use std::test::Fail;
 

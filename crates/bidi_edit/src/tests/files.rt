@@ -2,11 +2,11 @@
 
 use crate::fault::ProgramFault;
 use crate::program;
+use bx_cli::{FileFault, JoiningPaths, UnicodePaths, text_of};
 use bx_command::{Options, TextFault};
 use bx_session::OpenError;
 use bx_terms::Base;
 use bx_ucd::{Cause, UcdError, UcdFile};
-use bx_words::{FileFault, JoiningPaths, UnicodePaths, text_of};
 use std::test::Fail;
 use std::{env, fs, process};
 

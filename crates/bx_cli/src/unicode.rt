@@ -1,8 +1,8 @@
 //! Unicode's files: the options that name them, their paths and their bytes.
 
 ghost use Rattle.std.specs.Prelude.{◌≡◌};
-ghost use Rattle.bx_words.specs.Arguments.{GivesJoining, GivesPaths};
-ghost use Rattle.bx_words.specs.Files.{AreLent, kept_pair, lent_pair};
+ghost use Rattle.bx_cli.specs.Arguments.{GivesJoining, GivesPaths};
+ghost use Rattle.bx_cli.specs.Files.{AreLent, kept_pair, lent_pair};
 
 use crate::files::{FileFault, bytes_of};
 use bx_ucd::JoiningFiles;

@@ -3,7 +3,7 @@
 ghost use Rattle.std.specs.Prelude.{◌≡◌, false};
 ghost use Rattle.std.specs.List.{list_all, list_any};
 ghost use Rattle.std.specs.Str.{chars};
-ghost use Rattle.bx_words.specs.Shown.{is_hidden, is_plain, style_of};
+ghost use Rattle.bx_cli.specs.Shown.{is_hidden, is_plain, style_of};
 
 use std::fmt::{self, Display};
 

@@ -7,11 +7,11 @@ use Rattle.clap.specs.declared.parser.matches.ArgMatches.{ArgMatches}
 use Rattle.bx_terms.specs.Directions.{word_of}
 use Rattle.bx_terms.specs.declared.base.Base.{Base}
 use Rattle.bx_terms.specs.declared.base.Base.TheVariants.{Auto, Ltr, Rtl}
-use Rattle.bx_words.specs.Arguments.{GivesDirection, GivesPaths, IsSideIn, text_of}
-use Rattle.bx_words.specs.Files.{AreLent}
-use Rattle.bx_words.specs.declared.unicode.UnicodeBytes.{UnicodeBytes}
-use Rattle.bx_words.specs.declared.unicode.UnicodeFiles.{UnicodeFiles}
-use Rattle.bx_words.specs.declared.unicode.UnicodePaths.{UnicodePaths}
+use Rattle.bx_cli.specs.Arguments.{GivesDirection, GivesPaths, IsSideIn, text_of}
+use Rattle.bx_cli.specs.Files.{AreLent}
+use Rattle.bx_cli.specs.declared.unicode.UnicodeBytes.{UnicodeBytes}
+use Rattle.bx_cli.specs.declared.unicode.UnicodeFiles.{UnicodeFiles}
+use Rattle.bx_cli.specs.declared.unicode.UnicodePaths.{UnicodePaths}
 
 same_text : (option : Option (List ℕ)) (left right : List ℕ) → option ≡ Some left → option ≡ Some right → left ≡ right
 same_text option left right a b = cc

@@ -1,6 +1,6 @@
 //! Command-line options that several programs share.
 
-ghost use Rattle.bx_words.specs.Arguments.{GivesDirection, GivesSide};
+ghost use Rattle.bx_cli.specs.Arguments.{GivesDirection, GivesSide};
 
 use bx_terms::{Base, LARGEST_SIDE, is_side};
 use clap::{Arg, ArgMatches, value_parser};

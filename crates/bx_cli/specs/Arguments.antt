@@ -6,8 +6,8 @@ use Rattle.clap.specs.declared.parser.matches.ArgMatches.{ArgMatches}
 use Rattle.bx_terms.specs.Directions.{word_of}
 use Rattle.bx_terms.specs.Sizes.{is_side}
 use Rattle.bx_terms.specs.declared.base.Base.{Base}
-use Rattle.bx_words.specs.declared.unicode.JoiningPaths.{JoiningPaths}
-use Rattle.bx_words.specs.declared.unicode.UnicodePaths.{UnicodePaths}
+use Rattle.bx_cli.specs.declared.unicode.JoiningPaths.{JoiningPaths}
+use Rattle.bx_cli.specs.declared.unicode.UnicodePaths.{UnicodePaths}
 
 -- the text of an option
 abbrev pub text_of : ArgMatches → List ℕ → Option (List ℕ)

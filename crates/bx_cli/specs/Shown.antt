@@ -4,8 +4,8 @@ use Rattle.std.specs.Char.{is_ascii_alphanumeric}
 use Rattle.std.specs.List.{list_all, list_any}
 use Rattle.std.specs.Str.{chars}
 use Rattle.ucd_table.specs.Rows.{Range, in_ranges}
-use Rattle.bx_words.specs.declared.shown.Style.{Style}
-use Rattle.bx_words.specs.declared.shown.Style.TheVariants.{Bare, Quoted, Escaped}
+use Rattle.bx_cli.specs.declared.shown.Style.{Style}
+use Rattle.bx_cli.specs.declared.shown.Style.TheVariants.{Bare, Quoted, Escaped}
 
 -- the characters that a terminal obeys, takes for directions or shows in no column, but for joiners
 abbrev pub hidden_ranges : List Range

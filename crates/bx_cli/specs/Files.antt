@@ -1,11 +1,11 @@
 -- Files that are read, and the bytes of Unicode's files.
 use Rattle.std.specs.Prelude.{◌≡◌, ℕ, List, option_map}
 use Rattle.bx_ucd.specs.declared.joined_letters.JoiningFiles.{JoiningFiles}
-use Rattle.bx_words.specs.declared.files.FileFault.{FileFault}
-use Rattle.bx_words.specs.declared.files.FileFault.TheVariants.{Unreadable, OutOfMemory}
-use Rattle.bx_words.specs.declared.unicode.JoiningBytes.{JoiningBytes}
-use Rattle.bx_words.specs.declared.unicode.UnicodeBytes.{UnicodeBytes}
-use Rattle.bx_words.specs.declared.unicode.UnicodeFiles.{UnicodeFiles}
+use Rattle.bx_cli.specs.declared.files.FileFault.{FileFault}
+use Rattle.bx_cli.specs.declared.files.FileFault.TheVariants.{Unreadable, OutOfMemory}
+use Rattle.bx_cli.specs.declared.unicode.JoiningBytes.{JoiningBytes}
+use Rattle.bx_cli.specs.declared.unicode.UnicodeBytes.{UnicodeBytes}
+use Rattle.bx_cli.specs.declared.unicode.UnicodeFiles.{UnicodeFiles}
 
 -- a fault that names a file names this one
 abbrev pub IsFaultOf : List ℕ → FileFault → Type 0

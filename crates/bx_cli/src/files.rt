@@ -1,7 +1,7 @@
 //! The files that the programs read.
 
 ghost use Rattle.std.specs.Prelude.{IfErr};
-ghost use Rattle.bx_words.specs.Files.{IsFaultOf};
+ghost use Rattle.bx_cli.specs.Files.{IsFaultOf};
 
 use crate::shown::Shown;
 use bx_terms::LARGEST_TEXT;
