@@ -4,11 +4,11 @@
 //! text and undoes that.
 
 ghost use Rattle.std.specs.Prelude.{◌≡◌, OnOk};
-ghost use Rattle.bx_paras.specs.Paragraphs.{lengths};
+ghost use Rattle.bx_index.specs.Paragraphs.{lengths};
 
 use crate::outcome::{Outcome, number};
 use anyhow::{Context, Result, bail};
-use bx_paras::Index;
+use bx_index::Index;
 use bx_text::Text;
 use bx_ucd::{BidiData, sample_tables};
 use std::alloc::Global;

@@ -8,12 +8,12 @@ use Rattle.std.proofs.lemmas.List.{drop_at, get_or-map, get_or-take, get_or_appe
 use Rattle.std.proofs.lemmas.Option.{same_Some}
 use Rattle.bx_ucd.specs.Data.{Data}
 use Rattle.bx_text.specs.Edits.{IsRange}
-use Rattle.bx_paras.specs.declared.lengths.Lengths.{Lengths}
-use Rattle.bx_paras.specs.Laws.{EachEnds, IsSeparator}
-use Rattle.bx_paras.specs.Paragraphs.{Paragraph, bare, lengths, lengths_of, paragraphs}
-use Rattle.bx_paras.specs.Positions.{separators, spans}
-use Rattle.bx_paras.proofs.Asked.{separator_at}
-use Rattle.bx_paras.proofs.Bodies.{end_with_separators}
+use Rattle.bx_index.specs.declared.lengths.Lengths.{Lengths}
+use Rattle.bx_index.specs.Laws.{EachEnds, IsSeparator}
+use Rattle.bx_index.specs.Paragraphs.{Paragraph, bare, lengths, lengths_of, paragraphs}
+use Rattle.bx_index.specs.Positions.{separators, spans}
+use Rattle.bx_index.proofs.Asked.{separator_at}
+use Rattle.bx_index.proofs.Bodies.{end_with_separators}
 use Rattle.bx_view.specs.Standing.{body_at, count, paragraph_at}
 use Rattle.bx_view.proofs.Numbers.{behind, body-range, lengths-count, parts-at, some-paragraph, span-is}
 use Rattle.bx_view.proofs.Parts.{bytes, text-bytes}

@@ -8,7 +8,7 @@ use Rattle.std.proofs.lemmas.List.{drop-drop, drop-take, take-append-drop, take-
 use Rattle.std.proofs.lemmas.Str.{IsUtf8-take, chars-append, chars-nil}
 use Rattle.bx_ucd.specs.Data.{Data}
 use Rattle.bx_text.specs.Edits.{splice}
-use Rattle.bx_paras.specs.Paragraphs.{Paragraph, after_character, after_cr, bare, begins_with_lf, cut, is_separator}
+use Rattle.bx_index.specs.Paragraphs.{Paragraph, after_character, after_cr, bare, begins_with_lf, cut, is_separator}
 use Rattle.bx_document.specs.declared.first_separator.Seen.{Seen}
 use Rattle.bx_document.specs.declared.first_separator.Seen.TheVariants.{Nothing}
 use Rattle.bx_document.specs.FirstSeparator.{has_crlf_first, is_cr_lf}

@@ -10,10 +10,10 @@ use Rattle.std.proofs.lemmas.Str.{IsUtf8-take, IsCharBoundary-end}
 use Rattle.bx_ucd.specs.Data.{Data}
 use Rattle.bx_terms.specs.declared.base.Base.{Base}
 use Rattle.bx_text.specs.Edits.{IsRange, splice}
-use Rattle.bx_paras.specs.Paragraphs.{lengths}
-use Rattle.bx_paras.specs.Positions.{paragraph_of, total}
-use Rattle.bx_paras.proofs.Cuts.{parts}
-use Rattle.bx_paras.proofs.Turns.{total_lengths}
+use Rattle.bx_index.specs.Paragraphs.{lengths}
+use Rattle.bx_index.specs.Positions.{paragraph_of, total}
+use Rattle.bx_index.proofs.Cuts.{parts}
+use Rattle.bx_index.proofs.Turns.{total_lengths}
 use Rattle.bx_view.specs.Moves.{place_from}
 use Rattle.bx_view.specs.Standing.{count, start_at}
 use Rattle.bx_view.specs.TextRows.{text_rows}

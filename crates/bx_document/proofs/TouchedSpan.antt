@@ -5,11 +5,11 @@ use Rattle.std.proofs.lemmas.List.{drop-drop, drop-take, take-take}
 use Rattle.std.proofs.lemmas.Option.{same_Some, some_pair_parts}
 use Rattle.bx_ucd.specs.Data.{Data}
 use Rattle.bx_text.specs.Edits.{IsRange}
-use Rattle.bx_paras.specs.declared.lengths.Lengths.{Lengths}
-use Rattle.bx_paras.specs.Paragraphs.{lengths}
-use Rattle.bx_paras.specs.Positions.{paragraph_of, separators, spans, total}
-use Rattle.bx_paras.proofs.Asked.{separator_at, span_at}
-use Rattle.bx_paras.proofs.Totals.{total_more}
+use Rattle.bx_index.specs.declared.lengths.Lengths.{Lengths}
+use Rattle.bx_index.specs.Paragraphs.{lengths}
+use Rattle.bx_index.specs.Positions.{paragraph_of, separators, spans, total}
+use Rattle.bx_index.proofs.Asked.{separator_at, span_at}
+use Rattle.bx_index.proofs.Totals.{total_more}
 use Rattle.bx_view.specs.Standing.{start_at}
 use Rattle.bx_view.proofs.Numbers.{falls-at, lengths-count}
 use Rattle.bx_document.specs.Touched.{touched_start, touched_stop}

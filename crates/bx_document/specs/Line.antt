@@ -1,8 +1,8 @@
 -- Lines: paragraphs with their separators.
 use Rattle.std.specs.Prelude.{ℕ, ◌+◌, List, take}
 use Rattle.bx_ucd.specs.Data.{Data}
-use Rattle.bx_paras.specs.Paragraphs.{lengths}
-use Rattle.bx_paras.specs.Positions.{paragraph_of, total}
+use Rattle.bx_index.specs.Paragraphs.{lengths}
+use Rattle.bx_index.specs.Positions.{paragraph_of, total}
 
 -- the offset at which paragraph `number` begins; after the last paragraph, the text's end
 abbrev pub begin_of : Data → List ℕ → ℕ → ℕ

@@ -1,7 +1,7 @@
 -- Whether the first separator of some characters is CR LF, read character by character.
 use Rattle.std.specs.Prelude.{ℕ, ◌==◌, Bool, true, false, ◌&&◌, List, [], ◌∷◌}
 use Rattle.bx_ucd.specs.Data.{Data}
-use Rattle.bx_paras.specs.Paragraphs.{begins_with_lf, is_separator}
+use Rattle.bx_index.specs.Paragraphs.{begins_with_lf, is_separator}
 use Rattle.bx_document.specs.declared.first_separator.Seen.{Seen}
 use Rattle.bx_document.specs.declared.first_separator.Seen.TheVariants.{Cr, Known, Nothing}
 

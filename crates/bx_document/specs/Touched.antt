@@ -1,8 +1,8 @@
 -- The paragraphs that an edit touches, as they are after it: they determine the place after the edit.
 use Rattle.std.specs.Prelude.{ℕ, ◌+◌, ◌-◌, List, ◌++◌, slice_range}
 use Rattle.bx_ucd.specs.Data.{Data}
-use Rattle.bx_paras.specs.Paragraphs.{lengths}
-use Rattle.bx_paras.specs.Positions.{paragraph_of}
+use Rattle.bx_index.specs.Paragraphs.{lengths}
+use Rattle.bx_index.specs.Positions.{paragraph_of}
 use Rattle.bx_view.specs.Standing.{start_at}
 
 -- the start of the paragraph that contains the byte before an offset

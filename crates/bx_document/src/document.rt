@@ -10,7 +10,7 @@ ghost use Rattle.bx_document.specs.Document.{at_opening};
 
 use crate::error::DocumentError;
 use crate::row_cache::RowCache;
-use bx_paras::Index;
+use bx_index::Index;
 use bx_terms::Base;
 use bx_text::{Slices, Text, TextError};
 use bx_ucd::BidiData;
@@ -31,7 +31,7 @@ pub struct Document<D: BidiData + Drop> {
 
 impl<D: BidiData + Drop> Model for Document<D> {
     ghost use Rattle.std.specs.Prelude.{◌≡◌};
-    ghost use Rattle.bx_paras.specs.Paragraphs.{lengths};
+    ghost use Rattle.bx_index.specs.Paragraphs.{lengths};
     ghost use Rattle.bx_view.specs.Holding.{IsViewBy};
     ghost use Rattle.bx_document.specs.Cache.{AreDrawnBy};
     ghost use Rattle.bx_document.specs.Document.{DocumentState};

@@ -1,13 +1,13 @@
 //! Insertions and removals, each with the cursor's place after it. Each allocates first and then changes the text.
 ghost use Rattle.std.specs.Prelude.{◌≡◌, ℕ, List, [], ◌++◌, ◌+◌, ◌≤◌, length, slice_range, string_bytes, Some, true, false, IfOk, IfSome, IsErrOf, IsUtf8, MatchOption, OnErr, OnOk};
-ghost use Rattle.bx_paras.specs.Paragraphs.{lengths};
+ghost use Rattle.bx_index.specs.Paragraphs.{lengths};
 ghost use Rattle.bx_text.specs.Edits.{IsRange, IsChange, fits, fits_both, largest_text, splice};
 ghost use Rattle.bx_view.specs.Places.{IsTextPlace};
 ghost use Rattle.bx_document.specs.Document.{after_insertion, after_removal, after_replacement, after_wrap, place_after, place_after_replacement, place_after_wrap, replaced_text, wrapped_end, wrapped_text};
 
 use crate::document::Document;
 use crate::touched::{place_after, place_inside};
-use bx_paras::Index;
+use bx_index::Index;
 use bx_terms::{LARGEST_TEXT, OutOfMemory};
 use bx_text::{Change, Text};
 use bx_ucd::BidiData;

@@ -6,7 +6,7 @@ ghost use Rattle.bx_ucd.specs.Data.{Data};
 ghost use Rattle.bx_document.specs.SeparatorReads.{crlf_from};
 
 use crate::document::Document;
-use bx_paras::separates;
+use bx_index::separates;
 use bx_terms::first_char;
 use bx_text::Text;
 use bx_ucd::BidiData;

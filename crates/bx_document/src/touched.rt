@@ -8,7 +8,7 @@ ghost use Rattle.bx_view.specs.Places.{IsTextPlace};
 ghost use Rattle.bx_view.specs.Source.{bytes};
 ghost use Rattle.bx_document.specs.Touched.{touched, touched_start, touched_stop};
 
-use bx_paras::Index;
+use bx_index::Index;
 use bx_terms::OutOfMemory;
 use bx_text::Text;
 use bx_ucd::BidiData;

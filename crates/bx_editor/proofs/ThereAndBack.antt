@@ -27,7 +27,7 @@ use Rattle.bx_view.proofs.KeptPlaces.{contains-counted, counted-contains, places
 use Rattle.bx_view.proofs.OneSlot.{one-slot, row-slots}
 use Rattle.bx_view.proofs.RowFits.{fitting-from}
 use Rattle.bx_view.proofs.TextPlaces.{place-in-window}
-use Rattle.bx_paras.specs.Paragraphs.{paragraphs}
+use Rattle.bx_index.specs.Paragraphs.{paragraphs}
 use Rattle.bx_editor.specs.declared.seek.Seek.TheVariants.{Off}
 use Rattle.bx_editor.specs.declared.soft.Soft.{Soft}
 use Rattle.bx_runs.specs.declared.typing.Typing.TheVariants as typings

@@ -16,8 +16,8 @@ use Rattle.bx_rows.specs.RowPicture.{unit_columns}
 use Rattle.bx_rows.specs.Wrapping.{columns_at, fit_count_from, is_break, row_len, row_units, rows_from, rows_of}
 use Rattle.bx_rows.proofs.FaceGlyphs.{Tells, tells-face}
 use Rattle.bx_rows.proofs.RowsFit.{rest-of, row-within}
-use Rattle.bx_paras.specs.Paragraphs.{Paragraph, lengths_of, paragraphs}
-use Rattle.bx_paras.specs.Positions.{bytes_of}
+use Rattle.bx_index.specs.Paragraphs.{Paragraph, lengths_of, paragraphs}
+use Rattle.bx_index.specs.Positions.{bytes_of}
 use Rattle.bx_paragraph.specs.BodyRows.{BodyRow, body_rows, row_with, rows_units, with_last}
 use Rattle.bx_view.specs.TextRows.{TextRow, text_row, text_rows}
 use Rattle.bx_view.proofs.Parts.{AreUtf8, text-parts}

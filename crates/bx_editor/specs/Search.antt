@@ -2,7 +2,7 @@
 use Rattle.std.specs.Prelude.{ℕ, ◌==◌, ◌||◌, nat_lt, Bool, List, [], ◌∷◌, length, find, chars}
 use Rattle.std.specs.Prelude.{Option, Some, None, unwrap_or, if◌then◌else◌}
 use Rattle.bx_ucd.specs.Data.{Data}
-use Rattle.bx_paras.specs.Paragraphs.{is_separator}
+use Rattle.bx_index.specs.Paragraphs.{is_separator}
 pub use Rattle.bx_asking.specs.Answers.{lengthened, shortened}
 use Rattle.bx_find.specs.Letters.{letters}
 use Rattle.bx_find.specs.Matches.{first_from, last_before}

@@ -2,7 +2,7 @@
 use Rattle.std.specs.Prelude.{ℕ, ◌+◌, ◌==◌, Bool, false, List, length, encode_utf8, if◌then◌else◌, Some, [], chars}
 use Rattle.std.specs.List.{list_any}
 use Rattle.bx_ucd.specs.Data.{Data}
-use Rattle.bx_paras.specs.Paragraphs.{is_separator}
+use Rattle.bx_index.specs.Paragraphs.{is_separator}
 use Rattle.bx_document.specs.declared.edits.RegionEnd.{RegionEnd}
 use Rattle.bx_document.specs.declared.edits.RegionEnd.TheVariants.{Start, Stop}
 use Rattle.bx_document.specs.Document.{wrapped_end, wrapped_text}

@@ -10,7 +10,7 @@ use crate::error::PrintError;
 use crate::output::{finish, send_full};
 use crate::paragraph::push_paragraph;
 use crate::style::Style;
-use bx_paras::Index;
+use bx_index::Index;
 use bx_text::{Text, TextError};
 use bx_ucd::BidiData;
 use bx_view::Source;

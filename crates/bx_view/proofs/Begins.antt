@@ -5,11 +5,11 @@ use Rattle.std.proofs.lemmas.List.{append_cancel_right, drop-drop, drop-take, dr
 use Rattle.std.proofs.lemmas.Str.{chars-append, chars-encodes, encodes-append, encodes-chars, scalars-chars, IsUtf8-take, IsCharBoundary-from_drop}
 use Rattle.bx_ucd.specs.Data.{Data}
 use lib.Utf8.{scalars}
-use Rattle.bx_paras.specs.declared.lengths.Lengths.{Lengths}
-use Rattle.bx_paras.specs.Paragraphs.{lengths_of}
-use Rattle.bx_paras.proofs.Changes.{scalars_back}
-use Rattle.bx_paras.proofs.Cuts.{lens, parts, widths}
-use Rattle.bx_paras.proofs.Seams.{seam}
+use Rattle.bx_index.specs.declared.lengths.Lengths.{Lengths}
+use Rattle.bx_index.specs.Paragraphs.{lengths_of}
+use Rattle.bx_index.proofs.Changes.{scalars_back}
+use Rattle.bx_index.proofs.Cuts.{lens, parts, widths}
+use Rattle.bx_index.proofs.Seams.{seam}
 use Rattle.bx_view.specs.Standing.{count, start_at}
 use Rattle.bx_view.proofs.Numbers.{ahead, behind, here, parts-at, start-is}
 

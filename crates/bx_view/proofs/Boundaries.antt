@@ -10,8 +10,8 @@ use Rattle.std.specs.Prelude.{All}
 use Rattle.bx_ucd.specs.Data.{Data}
 use Rattle.bx_terms.specs.Sizes.{is_side}
 use Rattle.bx_terms.specs.declared.base.Base.{Base}
-use Rattle.bx_paras.specs.Paragraphs.{Paragraph, lengths_of, paragraphs}
-use Rattle.bx_paras.specs.Positions.{bytes_of}
+use Rattle.bx_index.specs.Paragraphs.{Paragraph, lengths_of, paragraphs}
+use Rattle.bx_index.specs.Positions.{bytes_of}
 use Rattle.bx_paragraph.specs.BodyRows.{BodyRow, no_row, offsets_of}
 use Rattle.bx_view.specs.Moves.{moved, row_end, row_home}
 use Rattle.bx_view.specs.TextRows.{TextRow, first, places, places_of, text_row, text_rows}

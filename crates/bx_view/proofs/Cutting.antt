@@ -3,10 +3,10 @@ use Rattle.std.proofs.Common.{◌≡◌, ◌<◌, ◌∙◌, ℕ, Bool, true, fa
 use Rattle.std.specs.List.{list_any}
 use Rattle.std.proofs.lemmas.Bool.Decides.{nat_tests}
 use Rattle.bx_ucd.specs.Data.{Data}
-use Rattle.bx_paras.specs.Paragraphs.{Paragraph, after_character, after_cr, bare, cut, is_separator}
-use Rattle.bx_paras.specs.Scan.{HasNone}
-use Rattle.bx_paras.proofs.Bodies.{cut_ended, cut_paired, cut_plain}
-use Rattle.bx_paras.proofs.Cuts.{ends, is_paired, parts, parts_append, parts_same}
+use Rattle.bx_index.specs.Paragraphs.{Paragraph, after_character, after_cr, bare, cut, is_separator}
+use Rattle.bx_index.specs.Scan.{HasNone}
+use Rattle.bx_index.proofs.Bodies.{cut_ended, cut_paired, cut_plain}
+use Rattle.bx_index.proofs.Cuts.{ends, is_paired, parts, parts_append, parts_same}
 
 module _ (says : Data) where
   -- ---- where a paragraph begins

@@ -11,12 +11,12 @@ use Rattle.bx_terms.specs.Sizes.{is_side}
 use Rattle.bx_terms.specs.declared.base.Base.{Base}
 use Rattle.bx_cells.specs.Units.{units}
 use Rattle.bx_text.specs.Edits.{IsRange, splice}
-use Rattle.bx_paras.specs.declared.lengths.Lengths.{Lengths}
-use Rattle.bx_paras.specs.Paragraphs.{Paragraph, bare, cut, lengths_of, paragraphs}
-use Rattle.bx_paras.specs.Positions.{bytes_of}
-use Rattle.bx_paras.specs.Scan.{HasNone}
-use Rattle.bx_paras.proofs.Changes.{scalars_back}
-use Rattle.bx_paras.proofs.Cuts.{parts}
+use Rattle.bx_index.specs.declared.lengths.Lengths.{Lengths}
+use Rattle.bx_index.specs.Paragraphs.{Paragraph, bare, cut, lengths_of, paragraphs}
+use Rattle.bx_index.specs.Positions.{bytes_of}
+use Rattle.bx_index.specs.Scan.{HasNone}
+use Rattle.bx_index.proofs.Changes.{scalars_back}
+use Rattle.bx_index.proofs.Cuts.{parts}
 use Rattle.bx_paragraph.specs.BodyRows.{body_rows}
 use Rattle.bx_paragraph.specs.Layout.{LayoutState, rows_by}
 use Rattle.bx_view.specs.BodyPlaces.{body_places, place_in_body}

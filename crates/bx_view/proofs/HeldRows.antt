@@ -5,8 +5,8 @@ use Rattle.std.proofs.Common.{refl, sym, ap, ap₂, subst, ◌∙◌, arith}
 use Rattle.bx_ucd.specs.Data.{Data}
 use Rattle.bx_terms.specs.Sizes.{is_side}
 use Rattle.bx_text.specs.Edits.{IsRange}
-use Rattle.bx_paras.specs.Paragraphs.{lengths}
-use Rattle.bx_paras.specs.Positions.{paragraph_of}
+use Rattle.bx_index.specs.Paragraphs.{lengths}
+use Rattle.bx_index.specs.Positions.{paragraph_of}
 use Rattle.bx_paragraph.specs.BodyRows.{body_rows, first_of}
 use Rattle.bx_paragraph.specs.BodyRows.{row_at as row_at_body, row_of as row_of_body}
 use Rattle.bx_paragraph.specs.Layout.{LayoutState, row_by, rows_by}

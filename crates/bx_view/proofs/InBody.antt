@@ -6,7 +6,7 @@ use Rattle.std.proofs.lemmas.List.{get_or-map, length-map}
 use Rattle.bx_ucd.specs.Data.{Data}
 use Rattle.bx_terms.specs.declared.base.Base.{Base}
 use Rattle.bx_cells.specs.Units.{units}
-use Rattle.bx_paras.specs.Paragraphs.{Paragraph}
+use Rattle.bx_index.specs.Paragraphs.{Paragraph}
 use Rattle.bx_paragraph.specs.BodyRows.{BodyRow, body_rows, falls_in, first_of, last_of, no_row, offsets_of}
 use Rattle.bx_paragraph.specs.BodyRows.{row_at as row_at_body, row_of as row_of_body}
 use Rattle.bx_view.specs.BodyPlaces.{body_places, place_in_body}

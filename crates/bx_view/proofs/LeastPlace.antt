@@ -10,11 +10,11 @@ use Rattle.std.proofs.lemmas.List.Concat.{flat_map-cons}
 use Rattle.std.proofs.lemmas.Str.{chars-append, IsUtf8-append, IsUtf8-nil}
 use Rattle.bx_ucd.specs.Data.{Data}
 use Rattle.bx_terms.specs.declared.base.Base.{Base}
-use Rattle.bx_paras.specs.Paragraphs.{Paragraph, bare, cut, lengths_of, paragraphs}
-use Rattle.bx_paras.specs.Positions.{bytes_of, total}
-use Rattle.bx_paras.proofs.Cuts.{parts}
-use Rattle.bx_paras.proofs.Totals.{total_push}
-use Rattle.bx_paras.proofs.Turns.{total_lengths}
+use Rattle.bx_index.specs.Paragraphs.{Paragraph, bare, cut, lengths_of, paragraphs}
+use Rattle.bx_index.specs.Positions.{bytes_of, total}
+use Rattle.bx_index.proofs.Cuts.{parts}
+use Rattle.bx_index.proofs.Totals.{total_push}
+use Rattle.bx_index.proofs.Turns.{total_lengths}
 use Rattle.bx_paragraph.specs.BodyRows.{BodyRow, first_of, last_offset, offsets_of}
 use Rattle.bx_view.specs.Moves.{place_from}
 use Rattle.bx_view.specs.TextRows.{TextRow, places, places_of, rows_from, text_row, text_rows}

@@ -5,8 +5,8 @@ use Rattle.std.proofs.lemmas.Bool.Decides.{nat_tests}
 use Rattle.std.proofs.lemmas.Str.{encodes-chars, scalars-chars, IsUtf8-append, IsUtf8-encode, IsUtf8-nil}
 use Rattle.bx_ucd.specs.Data.{Data}
 use lib.Utf8.{scalars}
-use Rattle.bx_paras.specs.Paragraphs.{Paragraph, after_character, after_cr, bare, begins_with_lf, cut, is_separator, paragraphs}
-use Rattle.bx_paras.proofs.Cuts.{width_is_some}
+use Rattle.bx_index.specs.Paragraphs.{Paragraph, after_character, after_cr, bare, begins_with_lf, cut, is_separator, paragraphs}
+use Rattle.bx_index.proofs.Cuts.{width_is_some}
 
 -- ---- properties of each
 

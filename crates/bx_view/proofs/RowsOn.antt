@@ -8,7 +8,7 @@ use Rattle.bx_terms.specs.declared.base.Base.{Base}
 use Rattle.bx_rows.specs.RowPicture.{columns_used, unit_columns}
 use Rattle.bx_rows.specs.VisualOrder.{visual}
 use Rattle.bx_rows.proofs.NumbersBelow.{below_if_visual}
-use Rattle.bx_paras.specs.Paragraphs.{paragraphs}
+use Rattle.bx_index.specs.Paragraphs.{paragraphs}
 use Rattle.bx_paragraph.specs.BodyRows.{BodyRow}
 use Rattle.bx_paragraph.specs.Slots.{covers, end_slot, entry, extent_of, left_column, row_slots}
 use Rattle.bx_paragraph.proofs.RowSlots.{columns-in-order}

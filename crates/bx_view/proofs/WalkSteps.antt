@@ -1,10 +1,10 @@
 -- Where a walk over the paragraphs goes from one of them.
 use Rattle.std.proofs.Common.{◌≡◌, ◌<◌, ◌≤◌, ◌+◌, ◌-◌, ◌∙◌, ℕ, Bool, true, false, nat_lt, List, length, take, if◌then◌else◌, ap, arith, sym}
 use Rattle.std.proofs.lemmas.Bool.Decides.{nat_tests}
-use Rattle.bx_paras.specs.declared.lengths.Lengths.{Lengths}
-use Rattle.bx_paras.specs.Paragraphs.{lengths}
-use Rattle.bx_paras.specs.Positions.{total}
-use Rattle.bx_paras.specs.Walk.{WalkState}
+use Rattle.bx_index.specs.declared.lengths.Lengths.{Lengths}
+use Rattle.bx_index.specs.Paragraphs.{lengths}
+use Rattle.bx_index.specs.Positions.{total}
+use Rattle.bx_index.specs.Walk.{WalkState}
 use Rattle.bx_ucd.specs.Data.{Data}
 use Rattle.bx_view.specs.Standing.{count, start_at}
 use Rattle.bx_view.specs.declared.row_at.RowAt.{RowAt}

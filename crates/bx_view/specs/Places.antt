@@ -2,7 +2,7 @@
 use Rattle.std.specs.Prelude.{ℕ, ◌+◌, true, List, [], ◌∷◌, ◌++◌, length, flat_map, Contains}
 use Rattle.bx_ucd.specs.Data.{Data}
 use Rattle.unicode_segmentation.specs.Grapheme.{graphemes}
-use Rattle.bx_paras.specs.Paragraphs.{Paragraph, paragraphs}
+use Rattle.bx_index.specs.Paragraphs.{Paragraph, paragraphs}
 
 -- bytes as one piece; no piece, if there are none
 abbrev pub one_piece : List ℕ → List (List ℕ)

@@ -2,8 +2,8 @@
 use Rattle.std.specs.Prelude.{◌≡◌, ℕ, ◌+◌, ◌<◌, List, [], length, take, slice_index_or}
 use Rattle.bx_ucd.specs.Data.{Data}
 use Rattle.bx_terms.specs.declared.base.Base.{Base}
-use Rattle.bx_paras.specs.Paragraphs.{Paragraph, bare, lengths, paragraphs}
-use Rattle.bx_paras.specs.Positions.{total}
+use Rattle.bx_index.specs.Paragraphs.{Paragraph, bare, lengths, paragraphs}
+use Rattle.bx_index.specs.Positions.{total}
 use Rattle.bx_paragraph.specs.BodyRows.{BodyRow, body_rows}
 use Rattle.bx_view.specs.TextRows.{rows_from}
 

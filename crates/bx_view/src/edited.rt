@@ -2,7 +2,7 @@
 ghost use Rattle.std.specs.Prelude.{◌≡◌, ◌≤◌, ◌+◌, ◌==◌, ◌||◌, IfOk, IfSome, chars, length, nat_lt};
 ghost use Rattle.std.specs.List.{list_any};
 ghost use Rattle.bx_paragraph.specs.Layout.{IsLayoutBy, rows_by as rows_of_body};
-ghost use Rattle.bx_paras.specs.Paragraphs.{is_separator};
+ghost use Rattle.bx_index.specs.Paragraphs.{is_separator};
 ghost use Rattle.bx_text.specs.Edits.{splice};
 ghost use Rattle.bx_view.specs.BodyPlaces.{place_in_body};
 ghost use Rattle.bx_view.specs.FoundRow.{rows_by};
@@ -16,8 +16,8 @@ use crate::layout::Layout;
 use crate::logical::first_from;
 use crate::source::Source;
 use crate::span::paragraph_under;
+use bx_index::separates;
 use bx_paragraph::{LentRow, ParagraphLayout};
-use bx_paras::separates;
 use bx_ucd::BidiData;
 
 /// A range of bytes in the body of a held paragraph.

@@ -1,8 +1,8 @@
 //! The layout of a text.
 ghost use Rattle.std.specs.Prelude.{◌≡◌, ℕ, ◌+◌, ◌-◌, ◌^◌, ◌<◌, ◌≤◌, [], true, length, slice_range, IfOk, IfSome};
 ghost use Rattle.bx_terms.specs.Sizes.{is_side};
-ghost use Rattle.bx_paras.specs.Paragraphs.{lengths};
-ghost use Rattle.bx_paras.specs.Positions.{paragraph_of};
+ghost use Rattle.bx_index.specs.Paragraphs.{lengths};
+ghost use Rattle.bx_index.specs.Positions.{paragraph_of};
 ghost use Rattle.bx_text.specs.Edits.{IsRange, largest_text};
 ghost use Rattle.bx_view.specs.FoundRow.{IsSameAtEnd};
 ghost use Rattle.bx_view.specs.Holding.{HoldsBody};
@@ -15,8 +15,8 @@ use crate::holder::{held_limit, hold, lay_out_in, position};
 use crate::row_at::RowAt;
 use crate::source::Source;
 use crate::span::{current_span, paragraph_under};
+use bx_index::ParagraphWalk;
 use bx_paragraph::ParagraphLayout;
-use bx_paras::ParagraphWalk;
 use bx_terms::{Base, OutOfMemory};
 use bx_ucd::BidiData;
 use std::alloc::Global;

@@ -5,7 +5,7 @@ ghost use Rattle.std.specs.Prelude.{◌≡◌, ℕ, ◌+◌, ◌<◌, ◌≤◌,
 ghost use Rattle.std.specs.Str.{IsCharBoundary};
 ghost use Rattle.bx_terms.specs.Sizes.{is_side};
 ghost use Rattle.bx_text.specs.Edits.{IsRange, largest_text};
-ghost use Rattle.bx_paras.specs.Paragraphs.{lengths};
+ghost use Rattle.bx_index.specs.Paragraphs.{lengths};
 ghost use Rattle.bx_rows.specs.RowStarts.{row_starts};
 ghost use Rattle.bx_view.specs.Source.{IsViewBy, Keeps, body_at, bytes, count, rows, start_at};
 ghost use Rattle.bx_view.specs.Standing.{rows_ahead};
@@ -16,8 +16,8 @@ use crate::error::ViewError;
 use crate::layout::Layout;
 use crate::source::Source;
 use crate::span::current_span;
+use bx_index::ParagraphWalk;
 use bx_paragraph::Slot;
-use bx_paras::ParagraphWalk;
 use bx_rows::{RowStart, row_starts};
 use bx_terms::{Base, OutOfMemory};
 use bx_ucd::BidiData;

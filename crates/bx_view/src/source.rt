@@ -1,10 +1,10 @@
 //! A text with its paragraph index and tables.
 ghost use Rattle.std.specs.Prelude.{◌≡◌, ◌≤◌, ⊤, length, IsUtf8};
 ghost use Rattle.bx_text.specs.Edits.{largest_text};
-ghost use Rattle.bx_paras.specs.Paragraphs.{lengths};
+ghost use Rattle.bx_index.specs.Paragraphs.{lengths};
 ghost use Rattle.std.proofs.Props.{props};
 
-use bx_paras::Index;
+use bx_index::Index;
 use bx_text::Text;
 use bx_ucd::BidiData;
 use std::alloc::AllocError;

@@ -1,12 +1,12 @@
 //! The spans of paragraph bodies in a text.
 ghost use Rattle.std.specs.Prelude.{◌≡◌, ◌<◌, ◌≤◌, length, slice_range};
 ghost use Rattle.bx_text.specs.Edits.{IsRange, largest_text};
-ghost use Rattle.bx_paras.specs.Paragraphs.{lengths};
-ghost use Rattle.bx_paras.specs.Positions.{paragraph_of};
+ghost use Rattle.bx_index.specs.Paragraphs.{lengths};
+ghost use Rattle.bx_index.specs.Positions.{paragraph_of};
 ghost use Rattle.bx_view.specs.Source.{body_at, bytes, count, start_at};
 
 use crate::source::Source;
-use bx_paras::ParagraphWalk;
+use bx_index::ParagraphWalk;
 use bx_ucd::BidiData;
 
 /// The start and end of the body of the walk's current paragraph.

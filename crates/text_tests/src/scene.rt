@@ -1,12 +1,12 @@
 //! A text with its paragraphs.
 
 ghost use Rattle.std.specs.Prelude.{◌≡◌, ℕ, List, Some, IsUtf8};
-ghost use Rattle.bx_paras.specs.Paragraphs.{lengths};
+ghost use Rattle.bx_index.specs.Paragraphs.{lengths};
 ghost use Rattle.bx_text.specs.Edits.{IsChange};
 
 use crate::counting::Counting;
 use crate::words::{change_of, three_of};
-use bx_paras::Index;
+use bx_index::Index;
 use bx_text::{Change, Text, TextError};
 use bx_ucd::BidiData;
 use std::alloc::Global;
@@ -26,7 +26,7 @@ pub(crate) struct Scene {
 
 impl Model for Scene {
     ghost use Rattle.std.specs.Prelude.{⊤, ◌≡◌};
-    ghost use Rattle.bx_paras.specs.Paragraphs.{lengths};
+    ghost use Rattle.bx_index.specs.Paragraphs.{lengths};
 
     ghost Value = { ⊤ };
 

@@ -25,7 +25,7 @@
 
 use crate::scene::Scene;
 use crate::words::{number_of, text_of, three_of, two_of};
-use bx_paras::Index;
+use bx_index::Index;
 use std::alloc::Global;
 use std::test::Fail;
 

@@ -1,10 +1,10 @@
 //! A text with its paragraphs and tables, laid out anew by each call.
 ghost use Rattle.std.specs.Prelude.{◌≡◌, true};
-ghost use Rattle.bx_paras.specs.Paragraphs.{lengths};
+ghost use Rattle.bx_index.specs.Paragraphs.{lengths};
 ghost use Rattle.bx_terms.specs.Sizes.{is_side};
 
+use bx_index::Index;
 use bx_paragraph::Slot;
-use bx_paras::Index;
 use bx_terms::{Base, is_side};
 use bx_text::Text;
 use bx_ucd::{BidiData, Tables, sample_tables};

@@ -1,6 +1,6 @@
 use Rattle.std.proofs.Common.{◌<◌, ◌≤◌, [], ◌++◌, ap, sym, subst, length, arith}
 use Rattle.std.specs.Io.KnownBytes.{Appends}
-use Rattle.bx_paras.specs.Paragraphs.{bare, paragraphs}
+use Rattle.bx_index.specs.Paragraphs.{bare, paragraphs}
 use Rattle.bx_view.proofs.Numbers.{lengths-count}
 use Rattle.bx_output.specs.Writing.{WritesFront}
 use Rattle.bx_print.proofs.PageParts.{lines_of, page-is}

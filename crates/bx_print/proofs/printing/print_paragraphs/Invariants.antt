@@ -1,6 +1,6 @@
 -- The lines of the first paragraphs were written, except the pending bytes.
 use Rattle.std.proofs.Common.{ℕ, List}
-use Rattle.bx_paras.specs.Paragraphs.{paragraphs}
+use Rattle.bx_index.specs.Paragraphs.{paragraphs}
 use Rattle.bx_print.proofs.PageParts.{lines_of}
 use Rattle.bx_print.proofs.Parts.{IsSent}
 use Rattle.bx_print.proofs.printing.print_paragraphs.Given as goal

@@ -1,6 +1,6 @@
 -- The count is the number of rows before the walk's current paragraph.
 use Rattle.std.proofs.Common.{◌≡◌, ◌-◌, ◌<◌, ◌≤◌}
-use Rattle.bx_paras.specs.Paragraphs.{lengths}
+use Rattle.bx_index.specs.Paragraphs.{lengths}
 use Rattle.bx_view.specs.Source.{bytes, count}
 use Rattle.bx_view.specs.Standing.{rows_ahead}
 use Rattle.bx_view.proofs.library.rows_before.Given as goal

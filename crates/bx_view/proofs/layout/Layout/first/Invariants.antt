@@ -1,6 +1,6 @@
 -- The row is `left` rows past the start of the walk's current paragraph.
 use Rattle.std.proofs.Common.{◌≡◌, ◌+◌, ◌-◌, ◌<◌}
-use Rattle.bx_paras.specs.Paragraphs.{lengths}
+use Rattle.bx_index.specs.Paragraphs.{lengths}
 use Rattle.bx_view.specs.Source.{bytes, count}
 use Rattle.bx_view.specs.Standing.{rows_ahead}
 use Rattle.bx_view.proofs.layout.Layout.first.Given as goal

@@ -1,0 +1,24 @@
+-- The paragraphs that end in the first bytes of a text.
+use Rattle.std.specs.Prelude.{ℕ, ◌+◌, ◌-◌, ◌==◌, nat_le, List, drop, [], ◌∷◌, if◌then◌else◌}
+use Rattle.bx_ucd.specs.Data.{Data}
+use Rattle.bx_index.specs.declared.lengths.Lengths.{Lengths}
+use Rattle.bx_index.specs.Paragraphs.{lengths}
+use Rattle.bx_index.specs.Positions.{bytes_of}
+
+-- the paragraphs that end with a separator in the first k bytes of some paragraphs
+abbrev pub ended_within : ℕ → List Lengths → List Lengths
+ended_within k [] = []
+ended_within k (p ∷ ps) = if p.separator == 0 then [] else if nat_le (bytes_of p) k then p ∷ ended_within (k - bytes_of p) ps else []
+
+-- the paragraphs from one offset of a text that end with a separator at or before a later offset
+abbrev pub ended_between : Data → List ℕ → ℕ → ℕ → List Lengths
+ended_between says text start stop = ended_within (stop - start) (lengths says (drop start text))
+
+-- the first of some paragraphs
+abbrev pub first : List Lengths → Lengths
+first [] = record { body = 0; separator = 0 }
+first (p ∷ ps) = p
+
+-- a paragraph with `n` more bytes in front
+abbrev pub further : ℕ → Lengths → Lengths
+further n p = record p { body = n + p.body }

@@ -1,0 +1,32 @@
+-- The model of an index: the lengths of each paragraph in bytes, and the room made for the next edit.
+use Rattle.std.specs.Prelude.{ℕ, ◌+◌, ◌*◌, ◌≤◌, min, List, [], ◌∷◌, ◌++◌, length, Option, IfSome, IsUtf8}
+use Rattle.bx_ucd.specs.Data.{Data}
+use Rattle.bx_text.specs.Edits.{largest_text}
+use Rattle.bx_text.specs.Text.{HasRoomFor}
+use Rattle.bx_index.specs.declared.lengths.Lengths.{Lengths}
+use Rattle.bx_index.specs.declared.index.Index.TheInside.{Inside}
+use Rattle.bx_index.specs.Capacity.{block_capacity}
+use Rattle.bx_index.specs.Flat.{flat}
+use Rattle.bx_index.specs.Paragraphs.{separator_count}
+use Rattle.bx_index.specs.Positions.{total}
+
+pub record IndexState : Type 0 where
+  pub paragraphs : List Lengths
+  -- if it is Some n, the next edit allocates nothing if the added text has at most n separators
+  pub room : Option ℕ
+
+abbrev pub index_of : Inside → IndexState
+index_of i = record { paragraphs = flat i.front.blocks ++ record { body = i.last; separator = 0 } ∷ []; room = i.room }
+
+-- enough spare blocks for the blocks that an edit splits and fills: no text has more separators than bytes
+abbrev pub HasSpares : ℕ → ℕ → Type 0
+HasSpares spares separators = min separators largest_text + 2 * block_capacity + 2 ≤ block_capacity * spares
+
+pub record IsIndex (i : Inside) : Type 0 where
+  pub short : total (flat i.front.blocks ++ record { body = i.last; separator = 0 } ∷ []) ≤ largest_text
+  pub few : length (flat i.front.blocks) ≤ largest_text
+  pub has_room : IfSome i.room (HasSpares i.front.spares)
+
+-- a room covers the separators of each text of at most `bytes` bytes
+abbrev pub CoversBytes : Option ℕ → ℕ → Type 0
+CoversBytes room bytes = (says : Data) (text : List ℕ) → IsUtf8 text → length text ≤ bytes → HasRoomFor room (separator_count says text)

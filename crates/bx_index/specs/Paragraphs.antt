@@ -1,0 +1,62 @@
+-- The paragraphs of a text: the text cut at each paragraph separator (P1). CR LF is one separator.
+use Rattle.std.specs.Prelude.{ℕ, ◌-◌, ◌==◌, ◌&&◌, Bool, true, false, List, [], ◌∷◌, ◌++◌, map, length, chars, encode_utf8}
+use Rattle.bx_ucd.specs.Data.{Data}
+use Rattle.bx_ucd.specs.declared.class.Class.{Class}
+use Rattle.bx_ucd.specs.declared.class.Class.TheVariants.{B}
+use Rattle.bx_index.specs.declared.lengths.Lengths.{Lengths}
+
+-- a paragraph: the bytes of its body, and the bytes of the separator that ends it, none in the last
+pub record Paragraph : Type 0 where
+  pub body : List ℕ
+  pub separator : List ℕ
+
+-- a paragraph separator
+abbrev pub is_separator : Class → Bool
+is_separator B = true
+is_separator _ = false
+
+-- the characters begin with an LF that is a separator
+abbrev pub begins_with_lf : Data → List ℕ → Bool
+begins_with_lf says [] = false
+begins_with_lf says (c ∷ cs) = (c == 10) && is_separator (says.class c)
+
+-- the first paragraph has one more character in front of its body
+abbrev pub after_character : ℕ → List Paragraph → List Paragraph
+after_character c [] = []
+after_character c (p ∷ ps) = record p { body = encode_utf8 c ++ p.body } ∷ ps
+
+-- the first paragraph has CR in front of its separator
+abbrev pub after_cr : List Paragraph → List Paragraph
+after_cr [] = []
+after_cr (p ∷ ps) = record p { separator = encode_utf8 13 ++ p.separator } ∷ ps
+
+-- a paragraph with no body
+abbrev pub bare : List ℕ → Paragraph
+bare separator = record { body = []; separator = separator }
+
+-- the characters cut at each separator: CR goes with an LF after it
+abbrev pub cut : Data → List ℕ → List Paragraph
+cut says [] = bare [] ∷ []
+cut says (c ∷ cs) = elim (is_separator (says.class c)) [
+  | false ↦ after_character c (cut says cs)
+  | true ↦ elim ((c == 13) && begins_with_lf says cs) [
+    | true ↦ after_cr (cut says cs)
+    | false ↦ bare (encode_utf8 c) ∷ cut says cs
+  ]
+]
+
+-- the paragraphs of a text, which is its bytes
+abbrev pub paragraphs : Data → List ℕ → List Paragraph
+paragraphs says text = cut says (chars text)
+
+-- the lengths of a paragraph, in bytes
+abbrev pub lengths_of : Paragraph → Lengths
+lengths_of p = record { body = length p.body; separator = length p.separator }
+
+-- the lengths of each paragraph of a text, in bytes
+abbrev pub lengths : Data → List ℕ → List Lengths
+lengths says text = map lengths_of (paragraphs says text)
+
+-- the number of paragraphs of a text that end with a separator
+abbrev pub separator_count : Data → List ℕ → ℕ
+separator_count says text = length (lengths says text) - 1

@@ -1,0 +1,35 @@
+-- The first separator of some characters.
+use Rattle.std.specs.Prelude.{◌≡◌, ◌<◌, ℕ, true, false, List, [], ◌∷◌, ◌++◌, length, drop, chars, encode_utf8_all, IsCharBoundary}
+use Rattle.bx_ucd.specs.Data.{Data}
+use Rattle.bx_index.specs.Paragraphs.{is_separator}
+
+-- no character is a separator
+abbrev pub HasNone : Data → List ℕ → Type 0
+HasNone says [] = Unit {0}
+HasNone says (c ∷ cs) = (is_separator (says.class c) ≡ false) × HasNone says cs
+
+-- the first separator of the characters is c, with a number of bytes before it
+pub record IsAt (says : Data) (cs : List ℕ) (before c : ℕ) : Type 0 where
+  pub front : List ℕ
+  pub rest : List ℕ
+  pub whole : cs ≡ front ++ c ∷ rest
+  pub none : HasNone says front
+  pub bytes : length (encode_utf8_all front) ≡ before
+  pub separates : is_separator (says.class c) ≡ true
+
+-- no separator begins at an offset of a text
+abbrev pub NoneAt : Data → List ℕ → ℕ → Type 0
+NoneAt says text at =
+    (front : List ℕ) (c : ℕ) (rest : List ℕ) → chars text ≡ front ++ c ∷ rest → length (encode_utf8_all front) ≡ at → is_separator (says.class c) ≡ false
+
+-- no separator begins before an offset
+abbrev pub NoneBefore : Data → List ℕ → ℕ → Type 0
+NoneBefore says text n =
+    (front : List ℕ) (c : ℕ) (rest : List ℕ) → chars text ≡ front ++ c ∷ rest → length (encode_utf8_all front) < n → is_separator (says.class c) ≡ false
+
+-- the separator c begins at an offset
+pub record BeginsAt (says : Data) (text : List ℕ) (at c : ℕ) : Type 0 where
+  pub bounds : IsCharBoundary text at
+  pub rest : List ℕ
+  pub begins : chars (drop at text) ≡ c ∷ rest
+  pub separates : is_separator (says.class c) ≡ true

@@ -1,0 +1,20 @@
+-- The part of a text that a scan for paragraphs reads.
+use Rattle.std.specs.Prelude.{◌≡◌, ◌≤◌, ℕ, ◌-◌, min, List, drop, IsCharBoundary}
+use Rattle.bx_ucd.specs.Data.{Data}
+use Rattle.bx_index.specs.declared.lengths.Lengths.{Lengths}
+use Rattle.bx_index.specs.declared.scan_range.ScanRange.{ScanRange}
+use Rattle.bx_index.specs.Paragraphs.{lengths}
+use Rattle.bx_index.specs.Positions.{bytes_of}
+use Rattle.bx_index.specs.Ended.{first, further}
+
+-- the rest of a paragraph after `n` of its bytes
+abbrev pub rest_of : ℕ → Lengths → Lengths
+rest_of n p = record { body = p.body - n; separator = min p.separator (bytes_of p - n) }
+
+-- no separator is between the offset and the range, and the rest of a paragraph of these lengths follows the range
+pub record IsScanRange (says : Data) (text : List ℕ) (at : ℕ) (w : ScanRange) : Type 0 where
+  pub start_bounds : IsCharBoundary text w.start
+  pub stop_bounds : IsCharBoundary text w.stop
+  pub start_before : at ≤ w.start
+  pub goes_on : first (lengths says (drop at text)) ≡ further (w.start - at) (first (lengths says (drop w.start text)))
+  pub behind : first (lengths says (drop w.stop text)) ≡ record { body = w.body; separator = w.separator }

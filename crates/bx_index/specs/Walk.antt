@@ -1,0 +1,24 @@
+-- A walk over the paragraphs of a text: the paragraphs, and the number of the one that it is at.
+use Rattle.std.specs.Prelude.{◌≡◌, ℕ, ◌≤◌, List, take, get_or}
+use Rattle.bx_text.specs.Edits.{largest_text}
+use Rattle.bx_index.specs.declared.lengths.Lengths.{Lengths}
+use Rattle.bx_index.specs.declared.walk.ParagraphWalk.TheInside.{Inside}
+use Rattle.bx_index.specs.Positions.{total}
+use Rattle.bx_index.specs.Spots.{IsSpot, closed}
+
+pub record WalkState : Type 0 where
+  pub paragraphs : List Lengths
+  -- from 0, below the number of paragraphs
+  pub number : ℕ
+
+abbrev pub all_of : Inside → List Lengths
+all_of w = closed w.blocks.now.blocks w.last
+
+abbrev pub walk_of : Inside → WalkState
+walk_of w = record { paragraphs = all_of w; number = w.spot.number }
+
+pub record IsWalk (w : Inside) : Type 0 where
+  pub stands : IsSpot w.blocks.now.blocks w.spot
+  pub begins : w.start ≡ total (take w.spot.number (all_of w))
+  pub is : w.here ≡ get_or (all_of w) w.spot.number w.here
+  pub short : total (all_of w) ≤ largest_text

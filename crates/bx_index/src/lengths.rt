@@ -1,0 +1,22 @@
+//! Lengths of paragraphs.
+
+ghost use Rattle.std.specs.Prelude.{◌≡◌};
+ghost use Rattle.bx_index.specs.Positions.{bytes_of};
+
+/// The lengths of a paragraph, in bytes.
+#[derive(Clone, Copy, PartialEq, Eq, Debug)]
+pub struct Lengths {
+    /// Length of its body.
+    pub body: u32,
+    /// Length of the separator that ends it, 0 in the last paragraph.
+    pub separator: u32,
+}
+
+impl Lengths {
+    /// Length of the paragraph with its separator.
+    pub fn bytes(self) -> usize
+        ensures { result ≡ bytes_of self }
+    {
+        self.body as usize + self.separator as usize
+    }
+}

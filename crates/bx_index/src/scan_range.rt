@@ -1,0 +1,34 @@
+//! The part of a text that a scan for paragraphs reads.
+
+ghost use Rattle.std.specs.Prelude.{ℕ, IsCharBoundary};
+ghost use Rattle.bx_ucd.specs.Data.{Data};
+ghost use Rattle.bx_ucd.specs.declared.class.Class.{Class};
+ghost use Rattle.bx_index.specs.ScanRanges.{IsScanRange};
+
+use bx_text::Text;
+
+/// The part of a text that a scan for paragraphs has to read. All numbers count bytes.
+#[derive(Clone, Copy, PartialEq, Eq, Debug)]
+pub struct ScanRange {
+    /// Offset of its start. The paragraph has no separator before it.
+    pub start: usize,
+    /// Offset of its end.
+    pub stop: usize,
+    /// Length of the rest of a paragraph's body after the range.
+    pub body: usize,
+    /// Length of the rest of its separator after that, 0 if none is left.
+    pub separator: usize,
+}
+
+/// The range from an offset to the text's end.
+pub fn range_to_end(text: &Text, at: usize) -> ScanRange
+    requires { IsCharBoundary text.now.edited.text at }
+    ensures { (says : Data) → IsScanRange says text.now.edited.text at result }
+{
+    ScanRange {
+        start: at,
+        stop: text.len(),
+        body: 0,
+        separator: 0,
+    }
+}
