@@ -1,4 +1,5 @@
 pub mod Encoded
 pub mod Patterns
 pub mod Codes
+pub mod Fronts
 mod Examples

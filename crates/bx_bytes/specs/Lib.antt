@@ -2,3 +2,4 @@ pub mod Fate
 pub mod Grammar
 pub mod Pattern
 pub mod Utf8
+pub mod Writing

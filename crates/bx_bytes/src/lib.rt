@@ -1,4 +1,4 @@
-//! Grammars of bytes, and the well-formed byte sequences of UTF-8.
+//! Grammars of bytes, the well-formed byte sequences of UTF-8, and a write of all of some bytes.
 //!
 //! A reader of a stream asks after each byte whether the bytes so far wait for more, are a whole item, or begin none.
 //! [`Fate`] is the answer, and [`character_fate`] computes it for characters.
@@ -7,7 +7,9 @@
 mod fate;
 mod laws;
 mod utf8;
+mod writing;
 
 pub use fate::Fate;
 pub use laws::{begins_by_more, characters_are_encodings, none_begins_longer};
 pub use utf8::{character, character_fate};
+pub use writing::{WriteFault, write_all};

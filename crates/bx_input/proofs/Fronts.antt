@@ -6,7 +6,7 @@ use Rattle.std.specs.Io.KnownBytes.{Appends, Consumes, IsAtEnd}
 use Rattle.bx_input.specs.Filter as filter
 use Rattle.bx_input.specs.Filter.{State, Step, start, at_end}
 use Rattle.bx_input.specs.Log.{output_of}
-use Rattle.bx_output.specs.Writing.{WritesFront}
+use Rattle.bx_bytes.specs.Writing.{WritesFront}
 use Rattle.bx_input.specs.Running.{HasPassed, IsBrokenOff, IsOneReadLate}
 use Rattle.bx_input.proofs.Runs.{in_pieces}
 

@@ -5,7 +5,7 @@ use Rattle.std.specs.List.{concat}
 use Rattle.std.specs.Io.KnownBytes.{Appends, Consumes, IsAtEnd}
 use Rattle.std.proofs.KnownBytes.{Appends-nil, Appends-trans, Consumes-nil, Consumes-trans}
 use Rattle.std.proofs.lemmas.List.{append-nil}
-use Rattle.bx_output.specs.Writing.{WritesFront}
+use Rattle.bx_bytes.specs.Writing.{WritesFront}
 use Rattle.bx_input.specs.Filter as filter
 use Rattle.bx_input.specs.Filter.{State, Step, start, at_end}
 use Rattle.bx_input.specs.Running.{HasPassed, IsBrokenOff, IsFiltered}

@@ -1,7 +1,7 @@
 -- The filter run from a reader to a writer.
 use Rattle.std.specs.Prelude.{◌≡◌, ◌≤◌, ◌⊎◌, ℕ, Bool, List, ◌++◌, Option, length}
 use Rattle.std.specs.Io.KnownBytes.{Appends, Consumes, IsAtEnd}
-use Rattle.bx_output.specs.Writing.{WritesFront}
+use Rattle.bx_bytes.specs.Writing.{WritesFront}
 use Rattle.bx_input.specs.Filter.{State, start, run, filtered}
 
 -- The progress of a run: these bytes were read, their output was written, and the filter is in this state.

@@ -1,6 +1,6 @@
 //! Why the filter stops early.
 
-use bx_output::WriteFault;
+use bx_bytes::WriteFault;
 use thiserror::Error;
 
 /// Why a run stopped early.

@@ -1,6 +1,6 @@
 //! An input and an output.
 
-use bx_output::WriteFault;
+use bx_bytes::WriteFault;
 use thiserror::Error;
 
 /// A call of a pipe failed.

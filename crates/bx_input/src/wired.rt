@@ -1,7 +1,7 @@
 //! A reader and a writer as a pipe.
 
 use crate::pipe::{Pipe, PipeFault};
-use bx_output::{WriteFault, write_all};
+use bx_bytes::{WriteFault, write_all};
 use std::io::{Read, Write};
 
 /// A pipe of a reader and a writer.

@@ -2,7 +2,7 @@
 use Rattle.std.proofs.Common.{◌≡◌, ℕ, List, [], ◌++◌, length, take, Some, sym, ap, ◌∙◌}
 use Rattle.std.specs.Prelude.{codes}
 use Rattle.std.proofs.lemmas.List.{take_at}
-use Rattle.bx_output.specs.Writing.{WritesFront}
+use Rattle.bx_bytes.specs.Writing.{WritesFront}
 
 -- a writer that holds two bytes of a page holds its first two
 pub of_front : (held : List ℕ) → WritesFront (codes "ab\ncd") (Some []) (Some held) → length held ≡ 2 → held ≡ codes "ab"

@@ -1,5 +1,5 @@
 //! Errors of printing.
-use bx_output::WriteFault;
+use bx_bytes::WriteFault;
 use bx_terms::OutOfMemory;
 use bx_text::TextError;
 use std::alloc::AllocError;

@@ -1,10 +1,10 @@
 //! Writing bytes.
 ghost use Rattle.std.specs.Prelude.{◌≡◌, ℕ, List, OnErr, OnOk};
 ghost use Rattle.std.specs.Io.KnownBytes.{Appends};
-ghost use Rattle.bx_output.specs.Writing.{IsWritten, WritesFront};
+ghost use Rattle.bx_bytes.specs.Writing.{IsWritten, WritesFront};
 
 use crate::error::PrintError;
-use bx_output::write_all;
+use bx_bytes::write_all;
 use std::io::Write;
 
 /// The number of pending bytes that triggers a write.

@@ -4,7 +4,7 @@ ghost use Rattle.std.specs.Io.KnownBytes.{Appends};
 ghost use Rattle.bx_text.specs.Edits.{largest_text};
 ghost use Rattle.bx_view.specs.Source.{bytes};
 ghost use Rattle.bx_print.specs.Page.{page};
-ghost use Rattle.bx_output.specs.Writing.{WritesFront};
+ghost use Rattle.bx_bytes.specs.Writing.{WritesFront};
 
 use crate::error::PrintError;
 use crate::output::{finish, send_full};

@@ -1,6 +1,6 @@
 //! A reader, a journal and a writer as one.
 
-use bx_output::WriteFault;
+use bx_bytes::WriteFault;
 use thiserror::Error;
 
 /// A call of a device failed.

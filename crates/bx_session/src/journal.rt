@@ -4,7 +4,7 @@ ghost use Rattle.std.specs.Prelude.{◌≡◌, ◌≤◌, ◌++◌, ◌↔◌, �
 ghost use Rattle.std.specs.Io.KnownBytes.{Appends};
 ghost use Rattle.bx_session.specs.Journal.{AppendsNew, HasKept, HasTried, Holds};
 
-use bx_output::write_all;
+use bx_bytes::write_all;
 use std::alloc::Global;
 use std::io::Write;
 use std::marker::Model;

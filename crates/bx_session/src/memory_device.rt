@@ -5,7 +5,7 @@ ghost use Rattle.bx_session.specs.InMemory.{DidLog};
 
 use crate::action::{Action, ActionBytes};
 use crate::device::{Device, DeviceFault};
-use bx_output::WriteFault;
+use bx_bytes::WriteFault;
 use std::alloc::{AllocError, Global};
 use std::marker::Model;
 use std::mem;

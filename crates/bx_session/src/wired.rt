@@ -2,7 +2,7 @@
 
 use crate::device::{Device, DeviceFault};
 use crate::journal::{Journal, Recorder};
-use bx_output::{WriteFault, write_all};
+use bx_bytes::{WriteFault, write_all};
 use std::io::{Read, Write};
 
 /// A device of a reader, a recorder and a writer.

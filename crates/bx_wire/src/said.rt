@@ -3,12 +3,12 @@
 ghost use Rattle.std.specs.Prelude.{◌≡◌, ◌↔◌, IfOk, OnErr, OnOk, eqb, true};
 ghost use Rattle.std.specs.Io.KnownBytes.{Appends};
 ghost use Rattle.std.specs.List.{list_any};
-ghost use Rattle.bx_output.specs.Writing.{WritesFront};
+ghost use Rattle.bx_bytes.specs.Writing.{WritesFront};
 ghost use Rattle.bx_wire.specs.Messages.{message_bytes};
 ghost use Rattle.bx_wire.specs.Letters.{letter_of_said};
 
 use crate::fault::WireFault;
-use bx_output::write_all;
+use bx_bytes::write_all;
 use std::alloc::Global;
 use std::io::Write;
 

@@ -2,7 +2,7 @@ use Rattle.std.proofs.Common.{◌<◌, ◌≤◌, [], ◌++◌, ap, sym, subst, 
 use Rattle.std.specs.Io.KnownBytes.{Appends}
 use Rattle.bx_index.specs.Paragraphs.{bare, paragraphs}
 use Rattle.bx_view.proofs.Numbers.{lengths-count}
-use Rattle.bx_output.specs.Writing.{WritesFront}
+use Rattle.bx_bytes.specs.Writing.{WritesFront}
 use Rattle.bx_print.proofs.PageParts.{lines_of, page-is}
 use Rattle.bx_print.proofs.Parts.{all-sent, front-sent, more-sent, none-sent, some-sent, then-ok}
 use Rattle.bx_print.proofs.printing.print_paragraphs.Goals as goal

@@ -1,7 +1,7 @@
 use Rattle.std.proofs.Common.{◌≡◌, ℕ, ◌+◌, suc, List, [], ◌∷◌, length, ap, arith, refl}
 use Rattle.std.proofs.lemmas.Option.{slice_get_within}
-use Rattle.bx_paras.specs.Positions.{bytes_of, spans, spans_from}
-use Rattle.bx_paras.specs.declared.lengths.Lengths.{Lengths}
+use Rattle.bx_index.specs.Positions.{bytes_of, spans, spans_from}
+use Rattle.bx_index.specs.declared.lengths.Lengths.{Lengths}
 use Rattle.bx_document.proofs.document.Document.paragraph_at.Goals as goal
 
 length-spans : (at : ℕ) (ps : List Lengths) → length (spans_from at ps) ≡ length ps

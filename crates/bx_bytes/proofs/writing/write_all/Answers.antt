@@ -1,8 +1,8 @@
 use Rattle.std.proofs.Common.{◌-◌, length, take, drop, subst}
 use Rattle.std.specs.Io.KnownBytes.{Appends}
 use Rattle.std.proofs.KnownBytes.{Appends-trans, Appends-kept}
-use Rattle.bx_output.proofs.Fronts.{front, within_more, written_more}
-use Rattle.bx_output.proofs.writing.write_all.Goals as goal
+use Rattle.bx_bytes.proofs.Fronts.{front, within_more, written_more}
+use Rattle.bx_bytes.proofs.writing.write_all.Goals as goal
 
 pub writes-preserved : goal.writes-preserved
 writes-preserved g c =

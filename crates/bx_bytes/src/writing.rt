@@ -3,7 +3,7 @@
 ghost use Rattle.std.specs.Prelude.{◌≤◌, IfErr, OnOk, length, take};
 ghost use Rattle.std.specs.Io.KnownBytes.{Appends, WriteAppends};
 ghost use Rattle.std.specs.Io.{WritesAtMost};
-ghost use Rattle.bx_output.specs.Writing.{WritesFront};
+ghost use Rattle.bx_bytes.specs.Writing.{WritesFront};
 
 use std::io::{ErrorKind, Write};
 use thiserror::Error;

@@ -3,7 +3,7 @@ use Rattle.std.proofs.Common.{◌≡◌, ◌≤◌, ℕ, ◌+◌, ◌-◌, List,
 use Rattle.std.specs.Io.KnownBytes.{Appends}
 use Rattle.std.proofs.lemmas.List.{length-drop, take-append-drop, take_rest}
 use Rattle.std.proofs.Math.Seq.{take-add}
-use Rattle.bx_output.specs.Writing.{WritesFront}
+use Rattle.bx_bytes.specs.Writing.{WritesFront}
 
 pub written_more : (bytes : List ℕ) (w count : ℕ) → take w bytes ++ take count (take (length bytes - w) (drop w bytes)) ≡ take (w + count) bytes
 written_more bytes w count = ap (λ xs. take w bytes ++ take count xs) (take_rest bytes w) ∙ sym (take-add w count bytes)
