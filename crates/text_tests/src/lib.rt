@@ -1,14 +1,9 @@
-//! Tests of the public calls of texts, pieces, paragraphs and stores, of well-formed UTF-8, and of the editor's command line,
-//! input files and journal: worked rows, and each call once with ample memory. They have their own crate, so that the tested
-//! crates stay quick to check.
+//! Tests of the public calls of texts, pieces and paragraphs, and of well-formed UTF-8: worked rows, and each call once with
+//! ample memory. They have their own crate, so that the tested crates stay quick to check.
 #![tactic(auto)]
 
 #[cfg(test)]
-mod command;
-#[cfg(test)]
 mod counting;
-#[cfg(test)]
-mod journal;
 #[cfg(test)]
 mod paragraphs;
 #[cfg(test)]
@@ -17,8 +12,6 @@ mod pieces;
 mod scene;
 #[cfg(test)]
 mod steps;
-#[cfg(test)]
-mod store;
 #[cfg(test)]
 mod text;
 #[cfg(test)]
