@@ -204,7 +204,7 @@ impl Blocks {
     }
 
     /// Allocates spare blocks until there are `spares`. If memory runs out, it keeps those already allocated.
-    pub fn ready(&mut self, spares: usize) -> Result<(), AllocError>
+    pub fn make_spares(&mut self, spares: usize) -> Result<(), AllocError>
         ensures blocks { self.new.blocks ≡ self.old.blocks }
         ensures no_fewer { self.old.spares ≤ self.new.spares }
         ensures enough { OnOk result (spares ≤ self.new.spares) }

@@ -148,7 +148,7 @@ impl Index {
                     room: None,
                 });
             }
-            front.ready(1)?;
+            front.make_spares(1)?;
             position = front.push(position, paragraph);
             at += paragraph.bytes();
             range.start = at;
@@ -172,7 +172,7 @@ impl Index {
         ensures err { OnErr result (self.new ≡ self.old) }
     {
         let blocks = separators.min(LARGEST_TEXT) / BLOCK_CAPACITY + 4;
-        self.front.ready(blocks)?;
+        self.front.make_spares(blocks)?;
         self.room = Some(separators);
         Ok(())
     }

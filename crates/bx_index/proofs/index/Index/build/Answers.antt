@@ -59,7 +59,7 @@ push-position-requires-clause-few g c =
       length-append (flat c.loop-at.front.blocks) (lengths (g.D.BidiData.data c.args.tables.now) (drop c.loop-at.at c.args.text.now.edited.text)),
       few_lengths (g.D.BidiData.data c.args.tables.now) c.args.text.now.edited.text c.len-len.ensures.utf8,
       c.len-len.ensures.short,
-      ap (λ bs. length (flat bs)) c.in_ok-ready.ensures.blocks,
+      ap (λ bs. length (flat bs)) c.in_ok-make_spares.ensures.blocks,
     )
 
 pub loop-at-preserved : goal.loop-at-preserved
@@ -67,11 +67,11 @@ loop-at-preserved g c =
     let p : Lengths = c.paragraph_from-paragraph.result in
     let t = next (g.D.BidiData.data c.args.tables.now) c.args.text.now.edited.text c.loop-at.at c.len-len.ensures.utf8 c.loop-at.invariant.bounds p
     c.bytes-at.result c.paragraph_from-paragraph.ensures.first (omega (arith, c.if-paragraph-eq0.false)) c.bytes-at.ensures in
-    let none : flat (drop c.loop-at.position c.ready.new.self.blocks) ≡ [] = ap (λ bs. flat (drop c.loop-at.position bs)) c.in_ok-ready.ensures.blocks
+    let none : flat (drop c.loop-at.position c.make_spares.new.self.blocks) ≡ [] = ap (λ bs. flat (drop c.loop-at.position bs)) c.in_ok-make_spares.ensures.blocks
     ∙ c.loop-at.invariant.behind in
-    let more = pushed_behind c.ready.new.self.blocks c.push-position.new.self.blocks c.loop-at.position c.push-position.result p c.push-position.ensures.front
+    let more = pushed_behind c.make_spares.new.self.blocks c.push-position.new.self.blocks c.loop-at.position c.push-position.result p c.push-position.ensures.front
     c.push-position.ensures.back none
-    ∙ ap (λ bs. flat bs ++ p ∷ []) c.in_ok-ready.ensures.blocks in
+    ∙ ap (λ bs. flat bs ++ p ∷ []) c.in_ok-make_spares.ensures.blocks in
     record {
       bounds = t.ends_between;
       range = moved (g.D.BidiData.data c.args.tables.now) c.args.text.now.edited.text c.loop-at.at _ c.loop-at.range c.loop-at.invariant.range

@@ -1,6 +1,6 @@
 -- The blocks stay, and each turn makes one more ahead.
 use Rattle.std.proofs.Common.{◌≡◌, ◌≤◌}
-use Rattle.bx_index.proofs.blocks.Blocks.ready.Given as goal
+use Rattle.bx_index.proofs.blocks.Blocks.make_spares.Given as goal
 
 abbrev pub invariant-loop-made : goal.invariant-loop-made
 invariant-loop-made l = record {
