@@ -17,16 +17,16 @@ use Rattle.bidi_edit.specs.declared.edit.Changes.{Changes}
 use Rattle.bidi_edit.specs.declared.fault.ProgramFault.{ProgramFault}
 use Rattle.bidi_edit.specs.declared.fault.ProgramFault.TheVariants as fault
 use Rattle.bidi_edit.specs.Faults.{fault_of_recovery}
-use Rattle.bidi_edit.specs.Run.{Edits, Outside, Resumes, RunsTo, RunsUnless, told}
+use Rattle.bidi_edit.specs.Run.{Edits, Outside, Resumes, RunsTo, RunsUnless, outcome_of}
 
 -- ---- which results come of a run
 
-runs_told : (P Q : Type 0) (end : Result End RunFault) (changed : Bool) → P → RunsUnless (told end changed) P Q
-runs_told P Q (Err cause) changed p = p
-runs_told P Q (Ok Quit) false p = p
-runs_told P Q (Ok (InputEnded unsaved)) false p = p
-runs_told P Q (Ok Quit) true p = p
-runs_told P Q (Ok (InputEnded unsaved)) true p = p
+runs_outcome : (P Q : Type 0) (end : Result End RunFault) (changed : Bool) → P → RunsUnless (outcome_of end changed) P Q
+runs_outcome P Q (Err cause) changed p = p
+runs_outcome P Q (Ok Quit) false p = p
+runs_outcome P Q (Ok (InputEnded unsaved)) false p = p
+runs_outcome P Q (Ok Quit) true p = p
+runs_outcome P Q (Ok (InputEnded unsaved)) true p = p
 
 stays_by : (P Q : Type 0) (cause : RecoveryFault) → Q → RunsUnless (Err (fault_of_recovery cause)) P Q
 stays_by P Q (recovery.Tables error) q = q
@@ -62,7 +62,7 @@ pub resumes_of : {J D : Type 0} (Q : Type 0) (says : D → Data) (contents : J �
     (after_journal (says old.tables) old.session journal).known begun.session
     → RunsRecorded contents failures (says begun.tables) begun.session new out.store out'.store out.unread out'.unread out.written out'.written
     out.recorder out'.recorder
-    → EndsWith end new out'.unread → result ≡ told end changed → changed ≡ new.editor.changed
+    → EndsWith end new out'.unread → result ≡ outcome_of end changed → changed ≡ new.editor.changed
     → RunsUnless result (Resumes contents failures (says old.tables) old.session journal out out' result) Q
 resumes_of {J} {D} Q says contents failures old begun new journal out out' end changed result same is paints runs ends tells changes =
     let d = says old.tables in
@@ -80,10 +80,10 @@ resumes_of {J} {D} Q says contents failures old begun new journal out out' end c
             out.recorder out'.recorder) is from_tables;
         ends = ends;
       };
-      tells = tells ∙ ap (told end) changes;
+      tells = tells ∙ ap (outcome_of end) changes;
     } in
     subst (λ (r : Result Changes ProgramFault). RunsUnless r (Resumes contents failures d old.session journal out out' result) Q) (sym tells)
-    (runs_told _ Q end changed all)
+    (runs_outcome _ Q end changed all)
 
 -- ---- a whole run
 

@@ -17,38 +17,38 @@ use Rattle.bx_session.specs.Beginning.{Beginning, at_offset, begun}
 use Rattle.bx_recovery.proofs.Opened.{reads_all}
 use Rattle.bidi_edit.specs.declared.edit.Changes.TheVariants.{Saved, Dropped}
 use Rattle.bidi_edit.specs.declared.fault.ProgramFault.TheVariants as fault
-use Rattle.bidi_edit.specs.Run.{Edits, Outside, RunsUnless, told}
+use Rattle.bidi_edit.specs.Run.{Edits, Outside, RunsUnless, outcome_of}
 
 -- ---- how an end is reported
 
 -- reported as saved: nothing is unsaved
-pub saved_leaves_nothing : (end : Result End RunFault) (changed : Bool) → told end changed ≡ Ok Saved → changed ≡ false
+pub saved_leaves_nothing : (end : Result End RunFault) (changed : Bool) → outcome_of end changed ≡ Ok Saved → changed ≡ false
 saved_leaves_nothing (Err cause) changed is = absurd (cc is)
 saved_leaves_nothing (Ok Quit) true is = absurd (cc is)
 saved_leaves_nothing (Ok (InputEnded unsaved)) true is = absurd (cc is)
 saved_leaves_nothing (Ok end) false is = refl
 
 -- with nothing unsaved, an end without a fault is reported as saved
-pub nothing_left_is_saved : (end : End) → told (Ok end) false ≡ Ok Saved
+pub nothing_left_is_saved : (end : End) → outcome_of (Ok end) false ≡ Ok Saved
 nothing_left_is_saved Quit = refl
 nothing_left_is_saved (InputEnded unsaved) = refl
 
 -- reported as dropped: a Quit ended the session with changes
-pub only_a_quit_drops : (end : Result End RunFault) (changed : Bool) → told end changed ≡ Ok Dropped → (end ≡ Ok Quit) × (changed ≡ true)
+pub only_a_quit_drops : (end : Result End RunFault) (changed : Bool) → outcome_of end changed ≡ Ok Dropped → (end ≡ Ok Quit) × (changed ≡ true)
 only_a_quit_drops (Err cause) changed is = absurd (cc is)
 only_a_quit_drops (Ok Quit) true is = (refl, refl)
 only_a_quit_drops (Ok Quit) false is = absurd (cc is)
 only_a_quit_drops (Ok (InputEnded unsaved)) true is = absurd (cc is)
 only_a_quit_drops (Ok (InputEnded unsaved)) false is = absurd (cc is)
 
-pub a_quit_with_changes_drops_them : told (Ok Quit) true ≡ Ok Dropped
+pub a_quit_with_changes_drops_them : outcome_of (Ok Quit) true ≡ Ok Dropped
 a_quit_with_changes_drops_them = refl
 
-pub a_hangup_with_changes : told (Ok (InputEnded true)) true ≡ Err fault.Unsaved
+pub a_hangup_with_changes : outcome_of (Ok (InputEnded true)) true ≡ Err fault.Unsaved
 a_hangup_with_changes = refl
 
 -- a write fault is reported, whatever is unsaved
-pub a_write_fault : (changed : Bool) → told (Err WriteFault) changed ≡ Err (fault.Run WriteFault)
+pub a_write_fault : (changed : Bool) → outcome_of (Err WriteFault) changed ≡ Err (fault.Run WriteFault)
 a_write_fault changed = refl
 
 -- ---- what follows from the clause of a run

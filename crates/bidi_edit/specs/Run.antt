@@ -18,11 +18,11 @@ use Rattle.bidi_edit.specs.declared.fault.ProgramFault.{ProgramFault}
 use Rattle.bidi_edit.specs.declared.fault.ProgramFault.TheVariants as fault
 
 -- the result that tells how a run ended, by whether there are unsaved changes then
-abbrev pub told : Result End RunFault → Bool → Result Changes ProgramFault
-told (Err cause) changed = Err (fault.Run cause)
-told (Ok end) false = Ok Saved
-told (Ok Quit) true = Ok Dropped
-told (Ok (InputEnded unsaved)) true = Err fault.Unsaved
+abbrev pub outcome_of : Result End RunFault → Bool → Result Changes ProgramFault
+outcome_of (Err cause) changed = Err (fault.Run cause)
+outcome_of (Ok end) false = Ok Saved
+outcome_of (Ok Quit) true = Ok Dropped
+outcome_of (Ok (InputEnded unsaved)) true = Err fault.Unsaved
 
 -- the outside of a run: the store, the reader's unread bytes, the bytes written, and the recorder of the journal
 pub record Outside (J : Type 0) : Type 0 where
@@ -45,7 +45,7 @@ pub record Resumes {J : Type 0} (contents : J → Option (List ℕ)) (failures :
   pub painted : QueuesPicture d (after_journal d old journal).pending (after_journal d old journal).known
       (with_painting d (after_journal d old journal))
   pub runs : RunsTo contents failures d (with_painting d (after_journal d old journal)) session out out' end
-  pub tells : result ≡ told end session.editor.changed
+  pub tells : result ≡ outcome_of end session.editor.changed
 
 -- a run from this start, by the tables of these files, and the result tells how it ended
 pub record Edits {J : Type 0} (contents : J → Option (List ℕ)) (failures : J → ℕ) (b : Beginning) (files : UnicodeFiles) (out out' : Outside J)
@@ -56,7 +56,7 @@ pub record Edits {J : Type 0} (contents : J → Option (List ℕ)) (failures : J
   pub answers : AreOfFiles tables files
   pub begins : IsBegun tables b
   pub runs : RunsTo contents failures tables (begun tables b) session out out' end
-  pub tells : result ≡ told end session.editor.changed
+  pub tells : result ≡ outcome_of end session.editor.changed
 
 -- what holds where the run began, else what holds of a fault before it
 abbrev pub RunsUnless : Result Changes ProgramFault → Type 0 → Type 0 → Type 0

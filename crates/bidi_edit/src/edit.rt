@@ -6,7 +6,7 @@ ghost use Rattle.bx_session.specs.Painting.{QueuesPicture};
 ghost use Rattle.bx_session.specs.Saving.{store_state};
 ghost use Rattle.bx_session.specs.Session.{Session as SessionValue, with_painting};
 ghost use Rattle.bx_recovery.specs.Beginnings.{beginning_of};
-ghost use Rattle.bidi_edit.specs.Run.{Edits, Resumes, RunsTo, RunsUnless, told};
+ghost use Rattle.bidi_edit.specs.Run.{Edits, Resumes, RunsTo, RunsUnless, outcome_of};
 
 use crate::fault::ProgramFault;
 use bx_recovery::{Beginning, open, replay};
@@ -27,8 +27,8 @@ pub enum Changes {
 /// The fate of the changes, by a run's end and whether there are unsaved changes then.
 ///
 /// Errors: `Run`; `Unsaved` if the input ended with unsaved changes.
-fn told(end: Result<End, RunFault>, changed: bool) -> Result<Changes, ProgramFault<'static>>
-    ensures { result ≡ told end changed }
+fn outcome_of(end: Result<End, RunFault>, changed: bool) -> Result<Changes, ProgramFault<'static>>
+    ensures { result ≡ outcome_of end changed }
 {
     match end {
         Err(fault) => Err(ProgramFault::Run(fault)),
@@ -76,7 +76,7 @@ fn resume<D: BidiData + Drop, R: Read, J: Journal + Drop, W: Write, S: Store>(
 {
     begin(session, keys)?;
     let end = run_recorded(reader, recorder, writer, store, session);
-    told(end, session.changed())
+    outcome_of(end, session.changed())
 }
 
 /// Reads Unicode's files, opens a text, replays keys, and runs until Quit or the input's end. Ok is exit status 0, and a
