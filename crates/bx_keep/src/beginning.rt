@@ -183,7 +183,7 @@ impl Begun {
             self.is_itself = is_forced && reason != Reason::Protected;
         }
         if self.is_in_place || self.is_itself {
-            let (file, told) = (Shown(edited.file()), reason.told());
+            let (file, told) = (Shown(edited.file()), reason.text());
             let line = format!(in alloc; "{file} {told}: saves are written into the file itself")?;
             return Ok(warn(host, alloc, line.as_str())?);
         }
@@ -203,7 +203,7 @@ impl Begun {
         edited: &Edited,
         reason: Reason,
     ) -> Result<String, Stop> {
-        let (file, told, harm) = (Shown(edited.file()), reason.told(), reason.harm());
+        let (file, told, harm) = (Shown(edited.file()), reason.text(), reason.harm());
         let unkept = match &self.unkept {
             Some(unkept) => unkept.why.as_str(),
             None => "there is no room",

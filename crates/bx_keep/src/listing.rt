@@ -5,7 +5,7 @@ use crate::checking::Edited;
 use crate::saying::{tell, warn};
 use crate::shelf::unkept_by;
 use crate::stop::Stop;
-use crate::telling::{number_of_keys, told_machine, told_time};
+use crate::telling::{machine_text, number_of_keys, time_text};
 use bx_cli::Shown;
 use bx_launch::Told;
 use bx_sessions::{
@@ -22,7 +22,7 @@ fn note_of(around: Around<'_>, session: &Session) -> Result<String, Stop> {
         State::Live => String::from_str(alloc, " (open now)")?,
         State::Elsewhere => {
             let process = session.process(around.rt).unwrap_or(None);
-            let machine = told_machine(around, process.as_ref())?;
+            let machine = machine_text(around, process.as_ref())?;
             let machine = machine
                 .as_ref()
                 .map_or("this machine", |name| name.as_str());
@@ -40,7 +40,7 @@ fn note_of(around: Around<'_>, session: &Session) -> Result<String, Stop> {
 /// Tells of a session in one line.
 fn tell_session<H: Host>(around: Around<'_>, host: &mut H, session: &Session) -> Result<(), Stop> {
     let alloc = around.alloc();
-    let time = told_time(around, session)?;
+    let time = time_text(around, session)?;
     let keys = number_of_keys(around, session);
     let kilobytes = session.kilobytes(around.rt).unwrap_or(0);
     let path = match session.note(around.rt, Part::Path) {
@@ -117,7 +117,7 @@ fn tell_forgotten<H: Host>(
     };
     let line = match forgotten.changed {
         Some(time) => {
-            let time = LocalClock::read(around.rt).at(time).told(alloc)?;
+            let time = LocalClock::read(around.rt).at(time).text(alloc)?;
             let time = time.as_str();
             format!(in alloc; "the session of {path} of {time} is removed{note}")?
         }

@@ -7,7 +7,7 @@ use crate::replaying::Replayer;
 use crate::saying::tell;
 use crate::stop::Stop;
 use crate::taking::{Outcome, Taken, Taking};
-use crate::telling::{number_of_keys, told_machine, told_process, told_time};
+use crate::telling::{machine_text, number_of_keys, process_text, time_text};
 use bx_cli::Shown;
 use bx_sessions::{Found, Session, Sessions, find};
 use bx_wire::Host;
@@ -38,9 +38,9 @@ pub fn ask_beside<H: Host>(
 ) -> Result<(), Stop> {
     let alloc = around.alloc();
     let process = session.process(around.rt).unwrap_or(None);
-    let number = told_process(around, process.as_ref())?;
+    let number = process_text(around, process.as_ref())?;
     let file = Shown(file);
-    let line = match (is_live, told_machine(around, process.as_ref())?) {
+    let line = match (is_live, machine_text(around, process.as_ref())?) {
         (true, None) => format!(in alloc;
             "{file} is open in another window of yours, process {number}."
         )?,
@@ -91,7 +91,7 @@ fn ask_what_to_do<H: Host, P: Replayer>(
     let around = taking.around;
     let alloc = around.alloc();
     let file = Shown(taking.edited.file());
-    let time = told_time(around, &session)?;
+    let time = time_text(around, &session)?;
     let keys = number_of_keys(around, &session);
     let line = format!(in alloc;
         "{file} has an unfinished session of {time} (keys typed: {keys})"

@@ -12,7 +12,7 @@ use crate::saying::tell;
 use crate::shelf::unwritable;
 use crate::stop::Stop;
 use crate::taking::{Outcome, Taken, Taking, tell_cut, tell_unsure};
-use crate::telling::{number_of_keys, told_machine, told_process};
+use crate::telling::{machine_text, number_of_keys, process_text};
 use bx_cli::Shown;
 use bx_sessions::{Found, LockFault, Part, Session, Sessions, find};
 use bx_wire::Host;
@@ -56,8 +56,8 @@ fn ask_of_elsewhere<H: Host>(
 ) -> Result<(), Stop> {
     let alloc = around.alloc();
     let process = session.process(around.rt).unwrap_or(None);
-    let number = told_process(around, process.as_ref())?;
-    let machine = told_machine(around, process.as_ref())?;
+    let number = process_text(around, process.as_ref())?;
+    let machine = machine_text(around, process.as_ref())?;
     let machine = machine
         .as_ref()
         .map_or("this machine", |name| name.as_str());

@@ -6,9 +6,9 @@ use bx_cli::Shown;
 use bx_sessions::{LocalClock, Part, Process, Session, count_keys};
 
 /// The time of a session's last key, as users read it.
-pub fn told_time(around: Around<'_>, session: &Session) -> Result<String, Stop> {
+pub fn time_text(around: Around<'_>, session: &Session) -> Result<String, Stop> {
     match session.changed(around.rt) {
-        Ok(time) => Ok(LocalClock::read(around.rt).at(time).told(around.alloc())?),
+        Ok(time) => Ok(LocalClock::read(around.rt).at(time).text(around.alloc())?),
         Err(_) => Ok(String::from_str(around.alloc(), "an unknown time")?),
     }
 }
@@ -22,7 +22,7 @@ pub fn number_of_keys(around: Around<'_>, session: &Session) -> usize {
 }
 
 /// The number of a session's process, as users read it.
-pub fn told_process(around: Around<'_>, process: Option<&Process>) -> Result<String, Stop> {
+pub fn process_text(around: Around<'_>, process: Option<&Process>) -> Result<String, Stop> {
     match process {
         Some(process) => {
             let number = process.number;
@@ -33,7 +33,7 @@ pub fn told_process(around: Around<'_>, process: Option<&Process>) -> Result<Str
 }
 
 /// The machine of a session's process, as users read it; None if it is this one.
-pub fn told_machine(around: Around<'_>, process: Option<&Process>) -> Result<Option<String>, Stop> {
+pub fn machine_text(around: Around<'_>, process: Option<&Process>) -> Result<Option<String>, Stop> {
     let name = match process {
         Some(process) if process.machine.host == around.here.host => return Ok(None),
         Some(process) => process.machine.host.as_str(),

@@ -26,7 +26,7 @@ pub enum Reason {
 
 impl Reason {
     /// What messages say of the file.
-    pub fn told(self) -> &'static str {
+    pub fn text(self) -> &'static str {
         match self {
             Reason::Protected => "is in a folder where you cannot replace it",
             Reason::Mounted => "is mounted by itself",

@@ -79,7 +79,7 @@ impl LocalTime {
     }
 
     /// The time as users read it: date, hour and minute.
-    pub fn told(self, alloc: Global) -> Result<String, AllocError> {
+    pub fn text(self, alloc: Global) -> Result<String, AllocError> {
         let DateTime { date, time } = self.0;
         let (year, month, day) = (date.year, date.month, date.day);
         let (hour, minute) = (time.hour, time.minute);
