@@ -190,8 +190,8 @@ where
         }
     }
 
-    /// The fault to tell. While the file is torn and has its mark beside it, that is what the user must know.
-    fn told(&self, found: StoreFault) -> StoreFault {
+    /// The fault to report. While the file is torn and has its mark beside it, that is what the user must know.
+    fn fault_to_report(&self, found: StoreFault) -> StoreFault {
         if self.torn.is_some() && self.mark.is_none() {
             SaveCause::CutOff.into()
         } else {
@@ -204,7 +204,7 @@ where
         ensures { self.new.failures ≡ with_fault result self.old.failures }
     {
         self.remove_draft();
-        let fault = self.told(found);
+        let fault = self.fault_to_report(found);
         self.failures.add(fault);
         fault
     }
