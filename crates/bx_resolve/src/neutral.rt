@@ -78,7 +78,7 @@ pub fn n2(types: &mut [Class], embedding: Class)
 }
 
 /// The type of a neutral between two directions, by N1 and N2.
-fn taken(t: Class, before: Class, after: Class, embedding: Class) -> Class
+fn neutral_at(t: Class, before: Class, after: Class, embedding: Class) -> Class
     ensures { result ≡ n2_at embedding (agreed t before after) }
 {
     let agreed = agreed(t, before, after);
@@ -104,7 +104,7 @@ pub fn n1_n2(types: &mut [Class], sos: Class, eos: Class, embedding: Class)
                 None => side(eos, &types[i + 1..]),
             };
             known = Some(after);
-            types[i] = taken(t, before, after, embedding);
+            types[i] = neutral_at(t, before, after, embedding);
         } else {
             before = side_of(t);
             known = None;
