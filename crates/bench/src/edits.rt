@@ -156,7 +156,12 @@ fn fresh<R: AllocGlobal>(rt: &R, bytes: usize) -> Result<Text> {
 }
 
 /// Makes edits and returns the time of the last ones.
-fn edited<R: CpuClock>(rt: &R, text: &mut Text, edits: &Edits, turns: usize) -> Result<Duration> {
+fn time_edits<R: CpuClock>(
+    rt: &R,
+    text: &mut Text,
+    edits: &Edits,
+    turns: usize,
+) -> Result<Duration> {
     let unmeasured = turns.saturating_sub(MEASURED);
     edits.make(text, 0, unmeasured)?;
     let start = rt.thread_cpu_time()?;
@@ -166,7 +171,12 @@ fn edited<R: CpuClock>(rt: &R, text: &mut Text, edits: &Edits, turns: usize) -> 
 }
 
 /// Makes edits and returns the time of undoing the last ones.
-fn undone<R: CpuClock>(rt: &R, text: &mut Text, edits: &Edits, turns: usize) -> Result<Duration> {
+fn time_undoing<R: CpuClock>(
+    rt: &R,
+    text: &mut Text,
+    edits: &Edits,
+    turns: usize,
+) -> Result<Duration> {
     edits.make(text, 0, turns)?;
     let start = rt.thread_cpu_time()?;
     for _ in 0..MEASURED {
@@ -177,7 +187,7 @@ fn undone<R: CpuClock>(rt: &R, text: &mut Text, edits: &Edits, turns: usize) -> 
 }
 
 /// Makes edits, undoes all of them, and returns the time of one more edit.
-fn forgotten<R: CpuClock>(
+fn time_forgetting<R: CpuClock>(
     rt: &R,
     text: &mut Text,
     edits: &Edits,
@@ -194,7 +204,12 @@ fn forgotten<R: CpuClock>(
 }
 
 /// Makes edits and returns the time of copying the whole text.
-fn copied<R: CpuClock>(rt: &R, text: &mut Text, edits: &Edits, turns: usize) -> Result<Duration> {
+fn time_copy<R: CpuClock>(
+    rt: &R,
+    text: &mut Text,
+    edits: &Edits,
+    turns: usize,
+) -> Result<Duration> {
     edits.make(text, 0, turns)?;
     let start = rt.thread_cpu_time()?;
     let _copy = text.copy_range(0, text.len())?;
@@ -242,16 +257,16 @@ fn outcome_of<R: CpuClock + AllocGlobal>(
     turns: usize,
 ) -> Result<Outcome> {
     let time = match task {
-        Task::Edit => edited(rt, text, edits, turns)?,
-        Task::Undo => undone(rt, text, edits, turns)?,
-        Task::Copy => copied(rt, text, edits, turns)?,
-        Task::Forget => forgotten(rt, text, edits, turns)?,
+        Task::Edit => time_edits(rt, text, edits, turns)?,
+        Task::Undo => time_undoing(rt, text, edits, turns)?,
+        Task::Copy => time_copy(rt, text, edits, turns)?,
+        Task::Forget => time_forgetting(rt, text, edits, turns)?,
     };
-    told(rt, text, time)
+    report(rt, text, time)
 }
 
 /// Reports a text's bytes and pieces.
-fn told<R: AllocGlobal>(rt: &R, text: &Text, time: Duration) -> Result<Outcome> {
+fn report<R: AllocGlobal>(rt: &R, text: &Text, time: Duration) -> Result<Outcome> {
     let bytes = text.len();
     let pieces = text.pieces().count();
     let line = format!(in rt.alloc(); "{bytes} bytes in {pieces} pieces")?;
@@ -276,13 +291,17 @@ fn opened<R: CpuClock + AllocGlobal>(rt: &R, bytes: usize) -> Result<Outcome> {
     let lines = lines(rt.alloc(), bytes)?;
     let start = rt.thread_cpu_time()?;
     let text = Text::open(rt.alloc(), lines)?;
-    told_since(rt, &text, start)
+    report_since(rt, &text, start)
 }
 
 /// Reports a text's bytes and pieces, and the time since `start`.
-fn told_since<R: CpuClock + AllocGlobal>(rt: &R, text: &Text, start: Duration) -> Result<Outcome> {
+fn report_since<R: CpuClock + AllocGlobal>(
+    rt: &R,
+    text: &Text,
+    start: Duration,
+) -> Result<Outcome> {
     let end = rt.thread_cpu_time()?;
-    told(rt, text, end.saturating_sub(start))
+    report(rt, text, end.saturating_sub(start))
 }
 
 /// Carries out the words: measures opening the text, the last thousand edits, undoing the last thousand (`undo`, `unturn`,
