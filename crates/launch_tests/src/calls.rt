@@ -73,7 +73,7 @@ fn add_printing(text: &mut String, call: &PrintCall) -> Result<(), AllocError> {
 }
 
 /// What is asked for.
-fn told(alloc: Global, call: &Call) -> Result<String, AllocError> {
+fn text_of(alloc: Global, call: &Call) -> Result<String, AllocError> {
     let mut text = String::new(alloc);
     match call {
         Call::Help => text.push_str("help")?,
@@ -118,7 +118,7 @@ fn answer(alloc: Global, line: &str) -> Result<String, AllocError> {
         words.push(Vec::from_slice(alloc, word.as_bytes())?)?;
     }
     match read_words(alloc, words.as_slice()) {
-        Ok(call) => told(alloc, &call),
+        Ok(call) => text_of(alloc, &call),
         Err(fault) => refusal(alloc, &fault),
     }
 }
