@@ -15,7 +15,7 @@ if [ -x "$program" ] && [ -z "$(find "$here" -maxdepth 1 \( -name '*.c' -o -name
     exit 0
 fi
 compiler=${CC:-cc}
-# the variable may have options behind the compiler's name
+# the variable may have options after the compiler's name
 command -v "${compiler%% *}" >/dev/null || {
     echo "bidi-edit: there is no C compiler ${compiler%% *}: on Debian, apt install gcc libc6-dev gives one" >&2
     exit 1

@@ -67,7 +67,7 @@ static void say_toolchain(void) {
     fclose(stream);
 }
 
-/* Says the window, since a session notes its first one. */
+/* Sends the window's size: a session notes its first one. */
 static void say_window(struct size size) {
     char text[32];
     snprintf(text, sizeof text, "%u %u", size.rows, size.columns);

@@ -274,7 +274,7 @@ run_script() { # WORD..
     status=$?
 }
 
-# Checks what is told before the first build, and that nothing is built for it.
+# Checks what is said before the first build, and that nothing is built for it.
 check_early() {
     make_checkout
     run_script
@@ -293,7 +293,7 @@ check_early() {
     same 'early, nothing is built' "$(cat "$folder/told/log" 2>/dev/null)" ''
 }
 
-# Checks that printing builds what it needs and no more, and that a link to the script and a host that is missing are no fault.
+# Checks that printing builds what it needs and no more, and that neither a link to the script nor a missing host is a fault.
 check_needed() {
     make_checkout
     run_script --print note

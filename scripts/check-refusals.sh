@@ -7,7 +7,7 @@
 # its input one byte a read, and reports how many bytes were read at the refusal.
 #
 # 1. Scenes by play_scenes, each step by step and by one call, unchanged and with a byte that ends no key after each key and
-#    each told size. A run must answer as the scene does without a refusal, or be one of these, and play_scenes must report the
+#    each size. A run must answer as the scene does without a refusal, or be one of these, and play_scenes must report the
 #    step:
 #    - the file is not opened, or the program itself runs out of memory;
 #    - no memory for a key: all else is as with a byte that ends no key in the key's place;

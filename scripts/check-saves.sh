@@ -114,7 +114,7 @@ put_old() { # PATH MODE
     chmod "$2" "$1"
 }
 
-# Makes a scene's files: `file` is the program's argument, `kept` the file behind it, and `mode` and `owner` are expected after
+# Makes a scene's files: `file` is the program's argument, `kept` the file it leads to, and `mode` and `owner` are expected after
 # each save.
 prepare() { # SCENE
     scene=$1
@@ -670,7 +670,7 @@ check_changes() {
 
 # ---- files beside FILE, and kinds of places
 
-# Checks the cause that the last row told. The painter goes over blanks that are there already.
+# Checks the cause in the last row. The painter goes over blanks that are there already.
 says() { # CAUSE
     sed "s/$(printf '\033')\[[0-9]*;[0-9]*H/ /g" "$folder/out" | grep -q "save failed: $1" || fails "the cause is not told: $1"
 }

@@ -44,8 +44,8 @@ answers() { # CLASSES BRACKETS MIRRORING JOINING CHARACTERS
 }
 
 # Turns these lines into those that ucd_lookup prints for the characters among the codes. A character without a joining type of its
-# own is of type T if it is a direction mark, a nonspacing mark, a formatting character or a boundary neutral that is no control,
-# else of type U. R, L and D count as U where there is no form. Type U is not told.
+# own is of type T if it is a direction mark, a nonspacing mark, a formatting character or a boundary neutral that is not a control,
+# else of type U. R, L and D count as U where there is no form. Type U is not printed.
 told() {
     awk -F'[ ]' '
         BEGIN {

@@ -63,7 +63,7 @@ check_points() {
     drop points
 }
 
-# CTRL with Z takes back a word and the blanks behind it, and letters erased in a row; CTRL with Y makes them again. A text that is
+# CTRL with Z takes back a word and the blanks after it, and letters erased in a row; CTRL with Y makes them again. A text that is
 # as it was opened is not changed.
 check_runs() {
     printf 'ab\n' >note

@@ -60,7 +60,7 @@ check_scenes() { # NAME ROWS COLS FILE STEPS
     check_scene "$1, idle bytes" "$2" "$3" "$4" "$(idle_behind_keys "$5")"
 }
 
-# Prints steps with a byte that ends no key after each step that may paint: a told size, and each byte that ends a key or a
+# Prints steps with a byte that ends no key after each step that may paint: a size, and each byte that ends a key or a
 # sequence.
 idle_behind_keys() { # STEPS
     printf '%s\n' "$1" | awk '{

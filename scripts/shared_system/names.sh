@@ -62,7 +62,7 @@ tells_in_terminal() { # CHECK TOLD FILE
     has "names, $1: the name" "$(cat "$folder/told")" "$2"
 }
 
-# Prints what is told of a FILE: the cause, but of a name that is not UTF-8 only that.
+# Prints the message about a FILE: the cause, but of a name that is not UTF-8 only that.
 cause_of() { # TOLD CAUSE
     case $word in
     lone-* | cut-* | long-* | surrogate | past-*) printf '%s' "$1 has a name that is not UTF-8: mv gives it another" ;;
@@ -152,7 +152,7 @@ check_building_names() { # TOLD
     rm -rf "${folder:?}/$name"
 }
 
-# Checks the title, and what is told of a fault of the program's about the name.
+# Checks the title, and the message about a fault of the program's about the name.
 check_title_and_fault() { # TOLD
     name_of_told "$1"
     program=$folder/recorder/lib/bidi_edit/bidi_edit

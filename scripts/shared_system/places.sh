@@ -9,7 +9,7 @@ own_folders() {
     echo "export HOME='$folder/home' XDG_STATE_HOME='$folder/state'"
 }
 
-# A session with this TMPDIR goes on as others do: nothing is told, nothing is made there or in /tmp, and what is typed is kept.
+# A session with this TMPDIR goes on as others do: nothing is said, nothing is made there or in /tmp, and what is typed is kept.
 passes_over() { # NAME TMPDIR
     setup="$(own_folders) TMPDIR='$2'"
     before=$(things_in /tmp "$2")

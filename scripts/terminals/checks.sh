@@ -109,7 +109,7 @@ check_rows() { # KIND
 }
 
 # Compares the editor's picture of joined letters, and with --no-joining, with the picture of `cat` on their forms and on the
-# letters, in a terminal that is told not to reorder. The two must differ unless the terminal joins letters by itself.
+# letters, in a terminal that was asked not to reorder. The two must differ unless the terminal joins letters by itself.
 check_joined() { # KIND
     order clear
     open_editor letters "$1-joined"
@@ -275,7 +275,7 @@ check_lines() { # KIND
     open_editor typed "$1-lines"
     press End Down Down Y End BackSpace Z Return W
     press F3 b Return F3 V F3 U ctrl+w d Escape
-    # a key right behind an Escape would belong to it
+    # a key right after an Escape would belong to it
     sleep 0.3
     press T ctrl+s
     sleep 0.5

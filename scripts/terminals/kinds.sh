@@ -6,7 +6,7 @@ start_xterm() {
     exec xterm -fa FreeMono -fs 12 -geometry 60x10+0+0 -xrm "XTerm*printerCommand: cat >'$room/read'" -xrm 'XTerm*printAttributes: 0' \
         -e sh "$room/shell"
 }
-# it asks before a paste of lines unless it is told not to
+# it asks before a paste of lines unless it was set not to
 start_urxvt() {
     exec urxvt -fn xft:FreeMono:size=12 -geometry 60x10+0+0 -pe -confirm-paste --print-pipe "cat >'$room/read'" -e sh "$room/shell"
 }
@@ -60,7 +60,7 @@ reorders() { # KIND
 }
 
 # Prints what tells it to leave rows in the order that they come in, as a format of printf. konsole and mlterm do not obey the
-# first sequence, and are told as the host tells them; OSC 50 would ask xterm and urxvt for a font.
+# first sequence, and get what the host sends; OSC 50 would ask xterm and urxvt for a font.
 reordering_off() { # KIND
     case $1 in
     konsole*) printf %s '\033[8l\033]50;BidiRenderingEnabled=false\a' ;;
@@ -78,13 +78,13 @@ reordering_on() { # KIND
     esac
 }
 
-# Whether it joins letters by itself, also where it is told not to reorder.
+# Whether it joins letters by itself, also where it was asked not to reorder.
 joins() { # KIND
     case $1 in vte* | kitty) return 0 ;; esac
     return 1
 }
 
-# Whether it wraps a combining mark behind the last column onto the next row. terminology shows no marks, and wraps none.
+# Whether it wraps a combining mark after the last column onto the next row. terminology shows no marks, and wraps none.
 wraps_marks() { # KIND
     [ "$1" = st ]
 }

@@ -11,12 +11,12 @@ use bx_terms::first_char;
 use bx_text::Text;
 use bx_ucd::BidiData;
 
-/// What characters tell of the first separator of a text that begins with them.
+/// What the characters so far, at a text's beginning, say of its first separator.
 #[derive(Clone, Copy, PartialEq, Eq, Debug)]
 enum Seen {
-    /// None of them is a separator.
+    /// There is no separator yet.
     Nothing,
-    /// The first separator is the last of them, a CR.
+    /// The last of them is the first separator, a CR: an LF may follow.
     Cr,
     /// Whether the first separator is CR LF.
     Known(bool),

@@ -10,7 +10,7 @@ use Rattle.bx_rows.specs.declared.row.Row.{Row}
 use Rattle.bx_rows.specs.RowPicture.{Glyph, glyph, columns_used}
 use Rattle.bx_rows.specs.Wrapping.{row_units}
 
--- the glyph of a drawn one
+-- the glyph that a `Drawn` stands for
 abbrev pub glyph_of : Drawn → Glyph
 glyph_of d = glyph (cow_str_bytes d.text) d.columns d.negative
 
