@@ -21,6 +21,9 @@ pub mod Queries
 pub mod Sought
 pub mod InSearch
 pub mod Questions
+pub mod Searches
+pub mod EffectsKept
+pub mod Unsought
 pub mod OnePrompt
 pub mod Nearest
 pub mod TakenBack
@@ -36,6 +39,12 @@ pub mod PointErased
 pub mod NextMatch
 pub mod WorkLawExamples
 pub mod TwoEdits
+pub mod MovedMatches
+pub mod MatchSpans
+pub mod ShownMatch
+pub mod Exchanged
+pub mod NextShown
+pub mod AskedOther
 pub mod RunSteps
 pub mod HeldApart
 pub mod ManySteps
@@ -66,3 +75,13 @@ pub mod AnswersStay
 pub mod ParagraphAround
 pub mod IsolatedRegion
 pub mod CodePut
+pub mod MatchLetters
+pub mod MatchesApart
+pub mod PlacesBetween
+pub mod QuietSearch
+pub mod MatchReplaced
+pub mod ShownStands
+pub mod ReplacedBack
+pub mod ReplaceExamples
+mod SeenMatchExamples
+mod ReplaceLawExamples

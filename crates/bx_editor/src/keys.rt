@@ -1,17 +1,15 @@
 //! The effect of each key.
 ghost use Rattle.std.specs.Prelude.{◌≡◌, None, Some, true, false, OnErr, OnOk};
-ghost use Rattle.bx_view.specs.Places.{IsTextPlace};
 ghost use Rattle.bx_editor.specs.Asking.{without_ask};
 ghost use Rattle.bx_editor.specs.Editor.{after_help, after_quit, cleared, next_base, with_base, with_typing};
 ghost use Rattle.bx_editor.specs.Effects.{before};
-ghost use Rattle.bx_editor.specs.Keys.{after_any, after_asking, after_key, after_pressing, after_seeking, is_edit_or_move, is_save, is_size_key, is_told_key};
-ghost use Rattle.bx_editor.specs.Putting.{only_paste};
-ghost use Rattle.bx_editor.specs.Search.{after_letter, without_search};
+ghost use Rattle.bx_editor.specs.Keys.{after_any, after_asking, after_key, after_pressing};
+ghost use Rattle.bx_editor.specs.Keys.{is_edit_or_move, is_save, is_size_key, is_told_key};
 
+use crate::aim::Aim;
 use crate::editor::Editor;
 use crate::message::Message;
 use crate::moving::goal_behind;
-use crate::putting::only_paste;
 use crate::seek::Seek;
 use crate::selecting::{aged, soft_behind};
 use bx_asking::Ask;
@@ -93,7 +91,7 @@ impl<D: BidiData + Drop> Editor<D> {
         self.tell(Message::Direction(base));
     }
 
-    /// Reports the end of a Save, with its fault if it failed, and ends a search or a question. No memory.
+    /// Reports the end of a Save, with its fault if it failed, and ends a search or a question. Allocates nothing.
     pub fn finish_save(&mut self, fault: Option<StoreFault>)
         ensures { self.new ≡ record self.old { editor = after_key (D.data self.old.tables) fault self.old.editor Key.Save } }
     {
@@ -150,12 +148,14 @@ impl<D: BidiData + Drop> Editor<D> {
         match (self.ask, self.seek) {
             (Ask::Off, Seek::Off) => self.press(key),
             (Ask::Off, Seek::Begun | Seek::Typed) => self.press_in_search(key),
+            (Ask::Off, Seek::WithBegun | Seek::WithTyped) => self.press_for_other(key),
+            (Ask::Off, Seek::Replacing) => self.press_at_match(key),
             (Ask::Line | Ask::Name | Ask::Code, _) => self.press_in_question(key),
         }
     }
 
     /// Applies a key outside a search.
-    fn press(&mut self, key: Key) -> Result<(), OutOfMemory>
+    pub(crate) fn press(&mut self, key: Key) -> Result<(), OutOfMemory>
         requires no_save { is_save key ≡ false }
         requires typed { is_told_key key ≡ false }
         ensures ok { OnOk result (self.new.editor
@@ -237,7 +237,11 @@ impl<D: BidiData + Drop> Editor<D> {
                 Ok(())
             }
             Key::Find | Key::FindBack => {
-                self.begin_search();
+                self.begin_search(Aim::Find);
+                Ok(())
+            }
+            Key::Replace => {
+                self.begin_search(Aim::Replace);
                 Ok(())
             }
             Key::Repaint => {
@@ -247,64 +251,6 @@ impl<D: BidiData + Drop> Editor<D> {
             Key::Save | Key::Size(..) | Key::Notice(_) => unreachable!(),
             Key::PasteStart | Key::PasteEnd => unreachable!(),
         }
-    }
-
-    /// Applies a character that is typed in a search; a paste goes on behind it.
-    fn answer(&mut self, c: char) -> Result<(), OutOfMemory>
-        requires origin { IsTextPlace (D.data self.old.tables) self.old.editor.content.text self.old.editor.origin }
-        ensures ok { OnOk result (self.new ≡ record self.old {
-          editor = with_typing (after_letter (D.data self.old.tables) (cleared self.old.editor) c) (only_paste self.old.editor.typing);
-        }) }
-        ensures err { OnErr result (self.new ≡ self.old) }
-    {
-        let typing = self.typing;
-        self.type_letter(c)?;
-        self.typing = only_paste(typing);
-        Ok(())
-    }
-
-    /// Applies a key in a search.
-    fn press_in_search(&mut self, key: Key) -> Result<(), OutOfMemory>
-        requires no_save { is_save key ≡ false }
-        requires typed { is_told_key key ≡ false }
-        requires origin { IsTextPlace (D.data self.old.tables) self.old.editor.content.text self.old.editor.origin }
-        ensures ok { OnOk result (self.new.editor
-            ≡ after_seeking (D.data self.old.tables) None (before self.old.editor) (cleared self.old.editor) key) }
-        ensures tables { self.new.tables ≡ self.old.tables }
-        ensures err { OnErr result (self.new ≡ self.old) }
-        ensures edits { OnErr result (is_edit_or_move key ≡ true) }
-    {
-        match key {
-            Key::Insert(c) => self.answer(c),
-            Key::NewLine => self.answer('\n'),
-            Key::Erase | Key::Delete | Key::ErasePoint => self.shorten(),
-            Key::Find | Key::FindNext => self.find_next(),
-            Key::FindBack => self.find_previous(),
-            Key::Quit | Key::Copy | Key::Cancel => {
-                self.give_up();
-                Ok(())
-            }
-            Key::Repaint => {
-                self.rest();
-                Ok(())
-            }
-            _ => self.press_last(key),
-        }
-    }
-
-    /// Applies a key with its usual effect, and ends the search.
-    fn press_last(&mut self, key: Key) -> Result<(), OutOfMemory>
-        requires no_save { is_save key ≡ false }
-        requires typed { is_told_key key ≡ false }
-        ensures ok { OnOk result (self.new.editor
-            ≡ without_search (after_pressing (D.data self.old.tables) None (before self.old.editor) (cleared self.old.editor) key)) }
-        ensures tables { self.new.tables ≡ self.old.tables }
-        ensures err { OnErr result (self.new ≡ self.old) }
-        ensures edits { OnErr result (is_edit_or_move key ≡ true) }
-    {
-        self.press(key)?;
-        self.leave_search();
-        Ok(())
     }
 
     /// Applies a key in a question.

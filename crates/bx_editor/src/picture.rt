@@ -27,8 +27,6 @@ pub(crate) fn text_height(height: u16) -> u16
 impl<D: BidiData + Drop> Editor<D> {
     /// Draws the status row below the text rows, with the prompt of a question or of a search. A window of a single row has
     /// none.
-    ///
-    /// Errors: `OutOfMemory`.
     fn put_status(
         &mut self,
         alloc: Global,
@@ -62,11 +60,10 @@ impl<D: BidiData + Drop> Editor<D> {
         Ok(())
     }
 
-    /// Scrolls from the offset `top` to the cursor and draws the window, with the region in the other rendition. Returns the
+    /// Scrolls from the offset `top` to the cursor and draws the window, with the region, or the match that is shown, in the other
+    /// rendition. Returns the
     /// offset of the new top row, and the picture. It is drawn on `page`, a grid of the window's size. Rows that `page` shows
     /// already are not written again.
-    ///
-    /// Errors: `OutOfMemory`.
     pub fn picture(
         &mut self,
         alloc: Global,
@@ -92,7 +89,7 @@ impl<D: BidiData + Drop> Editor<D> {
         // proof only: the text is UTF-8
         let _utf8 = self.document.len();
         let count = text_height(self.height);
-        let region = self.region();
+        let region = self.seen();
         let shown = self
             .document
             .show(&mut page, top, self.place, count, region)?;

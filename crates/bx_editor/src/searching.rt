@@ -1,16 +1,18 @@
 //! The keys of a search.
-ghost use Rattle.std.specs.Prelude.{◌≡◌, IfOk, IfSome, OnErr, OnOk};
+ghost use Rattle.std.specs.Prelude.{◌≡◌, ◌==◌, not, length, IfOk, IfSome, OnErr, OnOk};
 ghost use Rattle.bx_view.specs.Places.{IsTextPlace};
 ghost use Rattle.bx_editor.specs.Editor.{cleared};
 ghost use Rattle.bx_editor.specs.Search.{after_beginning, after_find, after_find_back, after_find_next, after_giving_up, after_letter, after_shortening};
-ghost use Rattle.bx_editor.specs.Search.{landed, next_or_start, without_search};
+ghost use Rattle.bx_editor.specs.Search.{landed, next_or_start, sought, without_search};
 ghost use Rattle.bx_editor.specs.Selecting.{unselected};
 
+use crate::aim::Aim;
 use crate::editor::Editor;
 use crate::matches::{Landing, backward, forward, has_letters};
-use crate::query::{LONGEST_QUERY, kept};
+use crate::query::{LONGEST_QUERY, kept, reading_of};
 use crate::seek::Seek;
 use bx_asking::{lengthened, shortened};
+use bx_find::Reading;
 use bx_runs::Typing;
 use bx_terms::OutOfMemory;
 use bx_ucd::BidiData;
@@ -18,12 +20,13 @@ use bx_view::{Logical, Move};
 
 impl<D: BidiData + Drop> Editor<D> {
     /// Begins a search at the place, with the query of the latest one. An old selection is taken off.
-    pub(crate) fn begin_search(&mut self)
-        ensures { self.new ≡ record self.old { editor = after_beginning (unselected (cleared self.old.editor)) } }
+    pub(crate) fn begin_search(&mut self, aim: Aim)
+        ensures { self.new ≡ record self.old { editor = after_beginning aim (unselected (cleared self.old.editor)) } }
     {
         self.unselect();
         self.origin = self.place;
         self.seek = Seek::Begun;
+        self.aim = aim;
         self.clear();
     }
 
@@ -44,8 +47,8 @@ impl<D: BidiData + Drop> Editor<D> {
         self.end_search();
     }
 
-    /// Moves the cursor to where a match is, and sets the message. No memory.
-    fn settle_at(&mut self, landing: Landing)
+    /// Moves the cursor to where a match is, and sets the message. Allocates nothing.
+    pub(crate) fn settle_at(&mut self, landing: Landing)
         requires place { IfSome landing.place (IsTextPlace (D.data self.old.tables) self.old.editor.content.text) }
         ensures { self.new ≡ record self.old { editor = landed (cleared self.old.editor) landing } }
     {
@@ -84,7 +87,13 @@ impl<D: BidiData + Drop> Editor<D> {
         }
         let kept = kept(self.seek, self.query.as_str());
         let query = lengthened(*self.query.allocator(), kept, c, LONGEST_QUERY)?;
-        let landing = forward(&mut self.document, query.as_str(), self.place)?;
+        let landing = forward(
+            &mut self.document,
+            reading_of(self.aim),
+            query.as_str(),
+            self.place,
+        )?;
+        self.seek = Seek::Typed;
         self.query = query;
         self.land(landing);
         Ok(())
@@ -100,7 +109,13 @@ impl<D: BidiData + Drop> Editor<D> {
     {
         let kept = kept(self.seek, self.query.as_str());
         let query = shortened(*self.query.allocator(), kept)?;
-        let landing = forward(&mut self.document, query.as_str(), self.origin)?;
+        let landing = forward(
+            &mut self.document,
+            reading_of(self.aim),
+            query.as_str(),
+            self.origin,
+        )?;
+        self.seek = Seek::Typed;
         self.query = query;
         self.place = self.origin;
         self.land(landing);
@@ -108,8 +123,6 @@ impl<D: BidiData + Drop> Editor<D> {
     }
 
     /// The place after the cursor's, or the text's start if there is none.
-    ///
-    /// Errors: `OutOfMemory`.
     fn next_or_start(&mut self) -> Result<usize, OutOfMemory>
         ensures same { self.new ≡ self.old }
         ensures next { IfOk result (λ x. x ≡ next_or_start (D.data self.old.tables) self.old.editor) }
@@ -133,9 +146,21 @@ impl<D: BidiData + Drop> Editor<D> {
         ensures err { OnErr result (self.new ≡ self.old) }
     {
         let next = self.next_or_start()?;
-        let landing = forward(&mut self.document, self.query.as_str(), next)?;
+        let landing = forward(
+            &mut self.document,
+            reading_of(self.aim),
+            self.query.as_str(),
+            next,
+        )?;
         self.land(landing);
         Ok(())
+    }
+
+    /// Whether the query has letters, as the latest search read it.
+    fn has_query(&self) -> bool
+        ensures { result ≡ not (length (sought (D.data self.now.tables) self.now.editor) == 0) }
+    {
+        has_letters(&self.document, reading_of(self.aim), self.query.as_str())
     }
 
     /// Goes to the next match, and no search is on. If the query has no letters, begins a search. An old selection is taken off.
@@ -145,13 +170,16 @@ impl<D: BidiData + Drop> Editor<D> {
         }) }
         ensures err { OnErr result (self.new ≡ self.old) }
     {
-        if !has_letters(&self.document, self.query.as_str()) {
-            self.begin_search();
+        if !self.has_query() {
+            self.begin_search(Aim::Find);
             return Ok(());
         }
         let next = self.next_or_start()?;
-        let landing = forward(&mut self.document, self.query.as_str(), next)?;
+        let query = self.query.as_str();
+        let landing = forward(&mut self.document, Reading::Wide, query, next)?;
         self.settle_at(landing);
+        self.seek = Seek::Off;
+        self.aim = Aim::Find;
         self.unselect();
         Ok(())
     }
@@ -164,7 +192,12 @@ impl<D: BidiData + Drop> Editor<D> {
         }) }
         ensures err { OnErr result (self.new ≡ self.old) }
     {
-        let landing = backward(&mut self.document, self.query.as_str(), self.place)?;
+        let landing = backward(
+            &mut self.document,
+            reading_of(self.aim),
+            self.query.as_str(),
+            self.place,
+        )?;
         self.land(landing);
         Ok(())
     }
