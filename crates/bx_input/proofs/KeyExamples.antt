@@ -5,7 +5,7 @@ use Rattle.bx_keys.specs.Keys.{decoding}
 use Rattle.bx_keys.specs.declared.key.Key.{Key}
 use Rattle.bx_keys.specs.declared.key.Key.TheVariants.{Insert, Mark, Copy, Cut, Put, Find, FindBack, WordLeft, WordRight, TextStart, TextEnd, Help, Notice}
 use Rattle.bx_keys.specs.declared.key.Key.TheVariants.{EraseWord, DeleteWord, FindNext, Cancel, ErasePoint, NewLine, LineUp, LineDown, PageBack, PageOn, Right, Left, RowHome, RowEnd, Delete}
-use Rattle.bx_keys.specs.declared.key.Key.TheVariants.{Select, UndoRun, RedoRun, GoTo, Name, Tell, PasteStart, PasteEnd}
+use Rattle.bx_keys.specs.declared.key.Key.TheVariants.{Select, UndoRun, RedoRun, GoTo, Replace, Name, Tell, PasteStart, PasteEnd}
 use Rattle.bx_keys.specs.declared.notice.Notice.TheVariants.{NoSpace, InPlace}
 use Rattle.bx_input.specs.Table.{Row, rows, paste_start, paste_end}
 use Rattle.bx_input.specs.Filter as filter
@@ -105,8 +105,11 @@ notices_go_through = refl
 pub notices : keys (codes "\u{1b}[>1~a\u{1b}[1;5\u{1b}[>9~") ≡ Notice NoSpace ∷ Insert 0x61 ∷ Notice InPlace ∷ []
 notices = refl
 
-pub no_row : filtered (codes "\u{1b}[1;5A\u{1b}OS") ≡ codes "\u{1b}[1;5A\u{1b}OS"
+pub no_row : filtered (codes "\u{1b}[1;5A") ≡ codes "\u{1b}[1;5A"
 no_row = refl
+
+pub f4_and_backslash : keys (codes "\u{1b}OS\u{1b}[14~\u{1b}[[D\u{1c}") ≡ Replace ∷ Replace ∷ Replace ∷ Replace ∷ []
+f4_and_backslash = refl
 
 -- Delete with Shift, F5 of three terminals
 pub no_function_keys : filtered (codes "\u{1b}[3;2~\u{1b}[15~\u{1b}OT\u{1b}[[E") ≡ codes "\u{1b}[3;2~\u{1b}[15~\u{1b}OT\u{1b}[[E"
@@ -166,6 +169,10 @@ undo_behind_broken = refl
 
 pub erasing_behind_broken : keys (codes "\u{1b}[1;2\u{1b}\u{7f}\u{1b}\u{1b}\u{8}\u{1b}[3\u{7f}") ≡ EraseWord ∷ EraseWord ∷ ErasePoint ∷ []
 erasing_behind_broken = refl
+
+-- CTRL and the backslash behind half of rxvt's Home, and F4 behind half of itself
+pub replace_behind_broken : keys (codes "\u{1b}[7\u{1c}\u{1b}[14\u{1b}OS") ≡ Replace ∷ Replace ∷ []
+replace_behind_broken = refl
 
 pub f3_behind_broken : keys (codes "\u{1b}O\u{1b}OR") ≡ FindNext ∷ []
 f3_behind_broken = refl

@@ -194,7 +194,7 @@ module _ (by_delete : Bool) where
                     control_row _ 0x18 refl refl refl refl refl,
                     (
                       control_row _ 0x19 refl refl refl refl refl,
-                      (control_row _ 0x1A refl refl refl refl refl, (control_row _ 0x0D refl refl refl refl refl, tt)),
+                      (control_row _ 0x1A refl refl refl refl refl, (control_row _ 0x1C refl refl refl refl refl, (control_row _ 0x0D refl refl refl refl refl, tt))),
                     ),
                   ),
                 ),

@@ -8,7 +8,7 @@ use Rattle.bx_keys.specs.declared.key.Key.{Key}
 use Rattle.bx_keys.specs.declared.key.Key.TheVariants.{Insert, Delete, Right, Left, RowHome, RowEnd, Direction}
 use Rattle.bx_keys.specs.declared.key.Key.TheVariants.{Mark, Copy, Cut, Put, Find, FindBack, WordLeft, WordRight, TextStart, TextEnd, Help}
 use Rattle.bx_keys.specs.declared.key.Key.TheVariants.{EraseWord, DeleteWord, FindNext, ErasePoint, NewLine, LineUp, LineDown, PageBack, PageOn}
-use Rattle.bx_keys.specs.declared.key.Key.TheVariants.{Select, UndoRun, RedoRun, GoTo, Name, Tell}
+use Rattle.bx_keys.specs.declared.key.Key.TheVariants.{Select, UndoRun, RedoRun, GoTo, Replace, Name, Tell}
 
 -- a sequence of a terminal, the bytes that it becomes, and the editor's keys for these: one, or Select and one
 pub record Row : Type 0 where
@@ -150,6 +150,14 @@ find_keys =
     ∷ row (csi (codes "[C")) (csi (codes "92~")) FindNext
     ∷ []
 
+-- F4, of the same terminals
+abbrev replace_keys : List Row
+replace_keys =
+    row (ss3 (codes "S")) (csi (codes "85~")) Replace
+    ∷ row (csi (codes "14~")) (csi (codes "85~")) Replace
+    ∷ row (csi (codes "[D")) (csi (codes "85~")) Replace
+    ∷ []
+
 -- Left and Right with CTRL, of xterm, tmux and screen; of rxvt; of terminals that leave out 1 and the semicolon
 abbrev word_keys : List Row
 word_keys =
@@ -181,9 +189,9 @@ escape_rows =
     ++ (selecting_rows
     ++ (delete_keys
     ++ (delete_word_keys
-    ++ (erase_word_keys ++ (direction_keys ++ (keypad_digits ++ (help_keys ++ (find_keys ++ (word_keys ++ text_end_keys)))))))))))
+    ++ (erase_word_keys ++ (direction_keys ++ (keypad_digits ++ (help_keys ++ (find_keys ++ (replace_keys ++ (word_keys ++ text_end_keys))))))))))))
 
--- CTRL with @ (or the space bar), C, G, K, R, T, V, W, X, Y and Z, and Enter
+-- CTRL with @ (or the space bar), C, G, K, R, T, V, W, X, Y, Z and the backslash, and Enter
 abbrev pub control_rows : List Row
 control_rows =
     row (0x00 ∷ []) (csi (codes "72~")) Mark
@@ -197,6 +205,7 @@ control_rows =
     ∷ row (0x18 ∷ []) (csi (codes "74~")) Cut
     ∷ row (0x19 ∷ []) (csi (codes "83~")) RedoRun
     ∷ row (0x1A ∷ []) (csi (codes "82~")) UndoRun
+    ∷ row (0x1C ∷ []) (csi (codes "85~")) Replace
     ∷ row (0x0D ∷ []) (csi (codes "95~")) NewLine
     ∷ []
 

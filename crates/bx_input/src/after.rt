@@ -38,6 +38,7 @@ pub fn sequence_after(erases_by_delete: bool, waiting: Beginning, byte: u8) -> A
         Beginning::Eleven => after_eleven(byte),
         Beginning::Twelve => after_twelve(byte),
         Beginning::Thirteen => after_thirteen(byte),
+        Beginning::Fourteen => after_fourteen(byte),
         Beginning::OneAnd => after_one_and(byte),
         Beginning::Shifted => after_shifted(byte),
         Beginning::Controlled => after_controlled(byte),
@@ -88,6 +89,7 @@ pub fn control_key(erases_by_delete: bool, byte: u8) -> Option<&'static [u8]>
         0x18 => Some(b"\x1b[74~"),
         0x19 => Some(b"\x1b[83~"),
         0x1A => Some(b"\x1b[82~"),
+        0x1C => Some(b"\x1b[85~"),
         _ => None,
     }
 }
@@ -105,6 +107,7 @@ fn after_single_shift(byte: u8) -> After
         b'P' => After::Becomes(b"\x1b[80~"),
         b'Q' => After::Becomes(b"\x1b[9~"),
         b'R' => After::Becomes(b"\x1b[92~"),
+        b'S' => After::Becomes(b"\x1b[85~"),
         b'c' => After::Becomes(b"\x1b[77~"),
         b'd' => After::Becomes(b"\x1b[76~"),
         b'p' => After::Digit(b'0'),
@@ -206,6 +209,7 @@ fn after_one(byte: u8) -> After
         b'1' => After::Waits(Beginning::Eleven),
         b'2' => After::Waits(Beginning::Twelve),
         b'3' => After::Waits(Beginning::Thirteen),
+        b'4' => After::Waits(Beginning::Fourteen),
         b';' => After::Waits(Beginning::OneAnd),
         _ => After::Breaks,
     }
@@ -237,6 +241,16 @@ fn after_thirteen(byte: u8) -> After
 {
     match byte {
         b'~' => After::Becomes(b"\x1b[92~"),
+        _ => After::Breaks,
+    }
+}
+
+/// After CSI 14
+fn after_fourteen(byte: u8) -> After
+    ensures { (erases_by_delete : Bool) → Tells erases_by_delete result (0x1B ∷ 0x5B ∷ 0x31 ∷ 0x34 ∷ byte ∷ []) }
+{
+    match byte {
+        b'~' => After::Becomes(b"\x1b[85~"),
         _ => After::Breaks,
     }
 }
@@ -370,6 +384,7 @@ fn after_bracket(byte: u8) -> After
         b'A' => After::Becomes(b"\x1b[80~"),
         b'B' => After::Becomes(b"\x1b[9~"),
         b'C' => After::Becomes(b"\x1b[92~"),
+        b'D' => After::Becomes(b"\x1b[85~"),
         _ => After::Breaks,
     }
 }

@@ -45,6 +45,8 @@ pub enum Beginning {
     Eleven,
     /// CSI 13
     Thirteen,
+    /// CSI 14
+    Fourteen,
     /// CSI 1;5
     Controlled,
     /// CSI 1;6
@@ -78,6 +80,7 @@ impl Beginning {
             Beginning::Bracket => b"\x1b[[",
             Beginning::Eleven => b"\x1b[11",
             Beginning::Thirteen => b"\x1b[13",
+            Beginning::Fourteen => b"\x1b[14",
             Beginning::Controlled => b"\x1b[1;5",
             Beginning::ShiftControlled => b"\x1b[1;6",
             Beginning::Five => b"\x1b[5",

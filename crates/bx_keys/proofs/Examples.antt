@@ -15,7 +15,7 @@ use Rattle.bx_keys.specs.declared.key.Key.TheVariants.{Insert, Erase, Delete, Up
 use Rattle.bx_keys.specs.declared.key.Key.TheVariants.{Direction, Size, Notice}
 use Rattle.bx_keys.specs.declared.key.Key.TheVariants.{Mark, Copy, Cut, Put, Find, FindBack, WordLeft, WordRight, TextStart, TextEnd, Help}
 use Rattle.bx_keys.specs.declared.key.Key.TheVariants.{EraseWord, DeleteWord, FindNext, Cancel, ErasePoint, NewLine, LineUp, LineDown, PageBack, PageOn}
-use Rattle.bx_keys.specs.declared.key.Key.TheVariants.{Select, UndoRun, RedoRun, GoTo, Name, Tell, PasteStart, PasteEnd}
+use Rattle.bx_keys.specs.declared.key.Key.TheVariants.{Select, UndoRun, RedoRun, GoTo, Replace, Name, Tell, PasteStart, PasteEnd}
 use Rattle.bx_keys.specs.declared.notice.Notice.TheVariants.{NoSpace, InPlace}
 
 abbrev keys : List ℕ → List Key
@@ -51,12 +51,8 @@ pub selections_runs_and_pastes : keys (codes "\u{1b}[81~\u{1b}[82~\u{1b}[83~\u{1
     ≡ Select ∷ UndoRun ∷ RedoRun ∷ PasteStart ∷ PasteEnd ∷ []
 selections_runs_and_pastes = refl
 
-pub questions : keys (codes "\u{1b}[84~\u{1b}[86~\u{1b}[87~") ≡ GoTo ∷ Name ∷ Tell ∷ []
+pub questions : keys (codes "\u{1b}[84~\u{1b}[85~\u{1b}[86~\u{1b}[87~") ≡ GoTo ∷ Replace ∷ Name ∷ Tell ∷ []
 questions = refl
-
--- the number from 80 to 99 that has no key
-pub free_number : keys (codes "\u{1b}[85~") ≡ []
-free_number = refl
 
 -- other numbers, other finals, and bytes between
 pub none_of_these : keys (codes "\u{1b}[69~\u{1b}[100~\u{1b}[070~\u{1b}[72;1~\u{1b}[72 ~\u{1b}[72^\u{1b}[7~") ≡ []

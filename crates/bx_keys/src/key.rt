@@ -87,6 +87,8 @@ pub enum Key {
     RedoRun,
     /// Asks for a line.
     GoTo,
+    /// Begins a search for what is to be replaced; in one, asks for the other text, and then replaces one match after another.
+    Replace,
     /// Asks for the name of a character.
     Name,
     /// Tells what stands at the place.

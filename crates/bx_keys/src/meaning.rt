@@ -166,6 +166,7 @@ fn eighties_key(ones: u8) -> Option<Key>
         b'2' => Some(Key::UndoRun),
         b'3' => Some(Key::RedoRun),
         b'4' => Some(Key::GoTo),
+        b'5' => Some(Key::Replace),
         b'6' => Some(Key::Name),
         b'7' => Some(Key::Tell),
         b'8' => Some(Key::EraseWord),
