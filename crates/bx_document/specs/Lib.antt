@@ -12,4 +12,5 @@ pub mod Region
 pub mod RegionSlots
 pub mod SeparatorReads
 pub mod Shown
+pub mod Swapped
 pub mod Touched

@@ -11,6 +11,8 @@ use Rattle.bx_view.specs.TextRows.{TextRow, text_rows}
 use Rattle.bx_view.specs.Moves.{place_from}
 use Rattle.bx_document.specs.declared.history.HistoryStep.{HistoryStep}
 use Rattle.bx_document.specs.declared.history.HistoryStep.TheVariants as steps
+use Rattle.bx_editor.specs.declared.aim.Aim.{Aim}
+use Rattle.bx_editor.specs.declared.aim.Aim.TheVariants as aims
 use Rattle.bx_editor.specs.declared.message.Message.{Message}
 use Rattle.bx_editor.specs.declared.message.Message.TheVariants as messages
 use Rattle.bx_editor.specs.declared.seek.Seek.{Seek}
@@ -36,8 +38,16 @@ pub record Editor : Type 0 where
   -- the query of the search, or of the latest one: at most 64 characters, in UTF-8
   pub query : List ℕ
   pub seek : Seek
+  -- what the search, or the latest one, is for
+  pub aim : Aim
   -- the place at which the latest search began
   pub origin : ℕ
+  -- the text that replaces matches: at most 64 characters, in UTF-8
+  pub other : List ℕ
+  -- where the match that is shown, or the latest one, begins: maybe inside a unit
+  pub at : ℕ
+  -- how many matches were replaced since the other text was asked for last
+  pub count : ℕ
   -- what the user is asked, and the answer as far as it is typed, in UTF-8
   pub ask : Ask
   pub answer : List ℕ
@@ -75,7 +85,11 @@ at_start text height width base = record {
   held = [];
   query = [];
   seek = seeks.Off;
+  aim = aims.Find;
   origin = 0;
+  other = [];
+  at = 0;
+  count = 0;
   ask = asks.Off;
   answer = [];
   runs = [];
@@ -129,17 +143,26 @@ with_edit e content place goes_on =
 abbrev pub place_after : Data → Editor → List ℕ → ℕ → ℕ
 place_after d e text offset = place_from (rows_of d e text) offset
 
--- bytes are inserted at the place; the cursor goes to the first place at or after their end
+-- bytes are inserted at an offset; the cursor goes to the first place at or after their end
+abbrev pub with_insertion_at : Data → Editor → ℕ → List ℕ → Bool → Editor
+with_insertion_at d e at new goes_on =
+    let after = place_after d e (splice e.content.text at at new) (at + length new) in
+    with_edit e (inserted e.content at new e.place after) after goes_on
+
+-- bytes are inserted at the place
 abbrev pub with_insertion : Data → Editor → List ℕ → Bool → Editor
-with_insertion d e new goes_on =
-    let after = place_after d e (splice e.content.text e.place e.place new) (e.place + length new) in
-    with_edit e (inserted e.content e.place new e.place after) after goes_on
+with_insertion d e new goes_on = with_insertion_at d e e.place new goes_on
 
 -- the bytes from `start` to `stop` are removed
 abbrev pub with_removal : Data → Editor → ℕ → ℕ → Bool → Editor
 with_removal d e start stop goes_on =
     let after = place_after d e (splice e.content.text start stop []) start in
     with_edit e (removed e.content start stop e.place after) after goes_on
+
+-- the bytes from `start` to `stop` are removed, and then others, if there are any, are inserted where they stood: edits of one run
+abbrev pub with_exchange : Data → Editor → ℕ → ℕ → List ℕ → Editor
+with_exchange d e start stop [] = with_removal d e start stop false
+with_exchange d e start stop (b ∷ bs) = with_insertion_at d (with_removal d e start stop false) start (b ∷ bs) true
 
 -- ---- undo and redo
 

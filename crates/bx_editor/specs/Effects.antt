@@ -7,6 +7,7 @@ use Rattle.bx_runs.specs.declared.typing.Removal.{Removal}
 use Rattle.bx_runs.specs.declared.typing.Typing.{Typing}
 use Rattle.bx_view.specs.declared.moves.Vertical.{Vertical}
 use Rattle.bx_asking.specs.declared.question.Ask.TheVariants.{Line, Name}
+use Rattle.bx_editor.specs.declared.aim.Aim.{Aim}
 use Rattle.bx_editor.specs.declared.message.Message.{Message}
 use Rattle.bx_editor.specs.declared.message.Message.TheVariants.{Told}
 use Rattle.bx_editor.specs.Asking.{asking}
@@ -39,7 +40,7 @@ pub data Effect : Type 0 where
   Copies : Effect
   Cuts : Effect
   -- a search begins, or the next match is sought
-  Seeks : Effect
+  Seeks : Aim → Effect
   SeeksNext : Effect
   Saves : Effect
   Quits : Effect
@@ -77,7 +78,7 @@ by d fault was e Selects = after_select e
 by d fault was e Unmarks = without_mark e
 by d fault was e Copies = after_copy d e
 by d fault was e Cuts = after_cut d e
-by d fault was e Seeks = after_beginning (unselected e)
+by d fault was e (Seeks aim) = after_beginning aim (unselected e)
 by d fault was e SeeksNext = after_find_next d (unselected e)
 by d fault was e Saves = after_save e fault
 by d fault was e Quits = after_quit e was.again

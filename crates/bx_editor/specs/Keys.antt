@@ -5,7 +5,7 @@ use Rattle.bx_keys.specs.declared.key.Key.TheVariants.{Insert, Erase, Delete, Ba
 use Rattle.bx_keys.specs.declared.key.Key.TheVariants.{Save, Quit, Undo, Redo, Repaint, Direction, Size, Mark, Copy, Cut, Put}
 use Rattle.bx_keys.specs.declared.key.Key.TheVariants.{Find, FindBack, WordLeft, WordRight, TextStart, TextEnd, Help, Notice}
 use Rattle.bx_keys.specs.declared.key.Key.TheVariants.{EraseWord, DeleteWord, ErasePoint, NewLine, FindNext, Cancel, LineUp, LineDown, PageBack, PageOn}
-use Rattle.bx_keys.specs.declared.key.Key.TheVariants.{Select, UndoRun, RedoRun, GoTo, Name, Tell, PasteStart, PasteEnd}
+use Rattle.bx_keys.specs.declared.key.Key.TheVariants.{Select, UndoRun, RedoRun, GoTo, Replace, Name, Tell, PasteStart, PasteEnd}
 use Rattle.bx_store.specs.declared.store.StoreFault.{StoreFault}
 use Rattle.bx_document.specs.declared.history.HistoryStep.TheVariants as steps
 use Rattle.bx_paragraph.specs.declared.moves.Visual.TheVariants as visual
@@ -16,8 +16,9 @@ use Rattle.bx_view.specs.declared.moves.Vertical.TheVariants as ways
 use Rattle.bx_view.specs.Moves.{step_logical, step_visual, vertical, page, row_home, row_end, word_towards}
 use Rattle.bx_view.specs.Words.{step_word}
 use Rattle.bx_ucd.specs.Data.{Data}
+use Rattle.bx_editor.specs.declared.aim.Aim.TheVariants as aims
 use Rattle.bx_editor.specs.declared.seek.Seek.{Seek}
-use Rattle.bx_editor.specs.declared.seek.Seek.TheVariants.{Off}
+use Rattle.bx_editor.specs.declared.seek.Seek.TheVariants.{Off, Begun, Typed, WithBegun, WithTyped, Replacing}
 use Rattle.bx_asking.specs.declared.question.Ask.{Ask}
 use Rattle.bx_asking.specs.declared.question.Ask.TheVariants as asks
 use Rattle.bx_editor.specs.Asking.{after_answer_letter, after_shorter_answer, without_ask}
@@ -27,7 +28,8 @@ use Rattle.bx_editor.specs.Effects.{Unmarks, Copies, Cuts, Seeks, SeeksNext, Sav
 use Rattle.bx_editor.specs.Erasing.{point_before}
 use Rattle.bx_editor.specs.Goal.{goal_behind}
 use Rattle.bx_editor.specs.Putting.{only_paste}
-use Rattle.bx_editor.specs.Search.{after_find, after_find_back, after_giving_up, after_letter, after_shortening, without_search}
+use Rattle.bx_editor.specs.Replacing.{after_asking_other, after_ending, after_match_letter, after_other_letter, after_passing_over, after_replacing_all, after_shorter_other, after_showing, after_sought_letter}
+use Rattle.bx_editor.specs.Search.{after_find, after_find_back, after_giving_up, after_shortening, without_search}
 use Rattle.bx_editor.specs.Selecting.{soft_behind}
 
 -- ---- outside a search
@@ -68,8 +70,9 @@ effect_of d e Cancel = Unmarks
 effect_of d e Copy = Copies
 effect_of d e Cut = Cuts
 effect_of d e Put = Puts
-effect_of d e Find = Seeks
-effect_of d e FindBack = Seeks
+effect_of d e Find = Seeks aims.Find
+effect_of d e FindBack = Seeks aims.Find
+effect_of d e Replace = Seeks aims.Replace
 effect_of d e FindNext = SeeksNext
 effect_of d e Save = Saves
 effect_of d e Quit = Quits
@@ -91,6 +94,7 @@ pub data Answer : Type 0 where
   GoesBack : Answer
   Next : Answer
   Previous : Answer
+  Replaces : Answer
   Stays : Answer
   Ends : Answer
 
@@ -106,21 +110,57 @@ answer_of Cancel = GoesBack
 answer_of Find = Next
 answer_of FindNext = Next
 answer_of FindBack = Previous
+answer_of Replace = Replaces
 answer_of Repaint = Stays
 answer_of _ = Ends
 
 -- a paste goes on behind a letter of the query
 abbrev pub answered : Data → Option StoreFault → Before → Editor → Key → Answer → Editor
-answered d fault was e key (Letter c) = with_typing (after_letter d e c) (only_paste was.typing)
+answered d fault was e key (Letter c) = with_typing (after_sought_letter d was.typing e c) (only_paste was.typing)
 answered d fault was e key Shortens = after_shortening d e
 answered d fault was e key GoesBack = after_giving_up e
 answered d fault was e key Next = after_find d e
 answered d fault was e key Previous = after_find_back d e
+answered d fault was e key Replaces = after_asking_other d e
 answered d fault was e key Stays = with_typing e was.typing
 answered d fault was e key Ends = without_search (after_pressing d fault was e key)
 
 abbrev pub after_seeking : Data → Option StoreFault → Before → Editor → Key → Editor
 after_seeking d fault was e key = answered d fault was e key (answer_of key)
+
+-- ---- while the other text is asked for: a key answers, or ends the search and does what it always does
+
+abbrev pub answered_other : Data → Option StoreFault → Before → Editor → Key → Answer → Editor
+answered_other d fault was e key (Letter c) = with_typing (after_other_letter d was.typing e c) (only_paste was.typing)
+answered_other d fault was e key Shortens = after_shorter_other e
+answered_other d fault was e key GoesBack = after_giving_up e
+answered_other d fault was e key Next = by d fault was (without_search e) (Seeks aims.Find)
+answered_other d fault was e key Previous = by d fault was (without_search e) (Seeks aims.Find)
+answered_other d fault was e key Replaces = after_showing d e
+answered_other d fault was e key Stays = with_typing e was.typing
+answered_other d fault was e key Ends = after_pressing d fault was (without_search e) key
+
+-- ---- while a match is shown: a key replaces it, passes it over, or ends replacing and does what it always does
+
+abbrev pub answered_match : Data → Option StoreFault → Before → Editor → Key → Answer → Editor
+answered_match d fault was e key (Letter c) = with_typing (after_match_letter d was.typing e c) (only_paste was.typing)
+answered_match d fault was e key Shortens = e
+answered_match d fault was e key GoesBack = after_ending e
+answered_match d fault was e key Next = after_passing_over d e
+answered_match d fault was e key Previous = by d fault was (without_search e) (Seeks aims.Find)
+answered_match d fault was e key Replaces = after_replacing_all d e
+answered_match d fault was e key Stays = with_typing e was.typing
+answered_match d fault was e key Ends = after_pressing d fault was (without_search e) key
+
+-- ---- in a search of either kind
+
+abbrev pub after_searching : Data → Option StoreFault → Before → Seek → Editor → Key → Editor
+after_searching d fault was Off e key = after_pressing d fault was e key
+after_searching d fault was Begun e key = after_seeking d fault was e key
+after_searching d fault was Typed e key = after_seeking d fault was e key
+after_searching d fault was WithBegun e key = answered_other d fault was e key (answer_of key)
+after_searching d fault was WithTyped e key = answered_other d fault was e key (answer_of key)
+after_searching d fault was Replacing e key = answered_match d fault was e key (answer_of key)
 
 -- ---- in a question: a key answers it, or ends it and does what it always does
 
@@ -137,8 +177,7 @@ after_asking d fault was e key = answered_question d fault was e key (answer_of 
 -- ---- any key
 
 abbrev pub after_any : Data → Option StoreFault → Before → Ask → Seek → Editor → Key → Editor
-after_any d fault was asks.Off Off e key = after_pressing d fault was e key
-after_any d fault was asks.Off _ e key = after_seeking d fault was e key
+after_any d fault was asks.Off seek e key = after_searching d fault was seek e key
 after_any d fault was _ _ e key = after_asking d fault was e key
 
 -- with the kept column and the selection that a key leaves

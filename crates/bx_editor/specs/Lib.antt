@@ -5,6 +5,7 @@ pub mod Search
 pub mod Goal
 pub mod Erasing
 pub mod Putting
+pub mod Replacing
 pub mod Wrapping
 pub mod Asking
 pub mod Answers
@@ -23,3 +24,4 @@ pub mod WorkLaws
 pub mod RunLaws
 pub mod SelectionLaws
 pub mod AskingLaws
+pub mod ReplaceLaws

@@ -1,12 +1,36 @@
--- The start of a search.
-use Rattle.std.specs.Prelude.{ℕ, List}
+-- What holds in each state of a search.
+use Rattle.std.specs.Prelude.{◌≡◌, ◌≢◌, ℕ, ◌+◌, ◌-◌, ◌≤◌, List, [], length, chars}
+use Rattle.bx_terms.specs.Sizes.{largest_text}
 use Rattle.bx_ucd.specs.Data.{Data}
+use Rattle.bx_find.specs.Laws.{MatchesAtBy}
+use Rattle.bx_find.specs.Letters.{letters_by}
 use Rattle.bx_view.specs.Places.{IsTextPlace}
+use Rattle.bx_editor.specs.declared.aim.Aim.{Aim}
 use Rattle.bx_editor.specs.declared.seek.Seek.{Seek}
-use Rattle.bx_editor.specs.declared.seek.Seek.TheVariants.{Off, Begun, Typed}
+use Rattle.bx_editor.specs.declared.seek.Seek.TheVariants.{Off, Begun, Typed, WithBegun, WithTyped, Replacing}
+use Rattle.bx_editor.specs.Search.{reading}
 
 -- a search that is on began at a place of the text
 abbrev pub BeganAt : Data → List ℕ → Seek → ℕ → Type 0
 BeganAt d text Off origin = Unit {0}
 BeganAt d text Begun origin = IsTextPlace d text origin
 BeganAt d text Typed origin = IsTextPlace d text origin
+BeganAt d text WithBegun origin = IsTextPlace d text origin
+BeganAt d text WithTyped origin = IsTextPlace d text origin
+BeganAt d text Replacing origin = IsTextPlace d text origin
+
+-- while the other text is asked for, the query has letters, and no match was replaced
+pub record IsAsked (d : Data) (aim : Aim) (query : List ℕ) (count : ℕ) : Type 0 where
+  pub letters : letters_by d (reading aim) (chars query) ≢ []
+  pub none : count ≡ 0
+
+-- a match that is shown is one, and no more were replaced than a text has bytes
+pub record IsShown (d : Data) (aim : Aim) (query text : List ℕ) (at count : ℕ) : Type 0 where
+  pub here : MatchesAtBy d (reading aim) (letters_by d (reading aim) (chars query)) text at
+  pub few : count + (length text - at) ≤ largest_text
+
+abbrev pub StandsAt : Data → Aim → List ℕ → List ℕ → Seek → ℕ → ℕ → Type 0
+StandsAt d aim query text WithBegun at count = IsAsked d aim query count
+StandsAt d aim query text WithTyped at count = IsAsked d aim query count
+StandsAt d aim query text Replacing at count = IsShown d aim query text at count
+StandsAt d aim query text _ at count = Unit {0}

@@ -10,18 +10,19 @@ use Rattle.bx_grid.specs.Columns.{blank}
 use Rattle.bx_grid.specs.Picture.{PictureState}
 use Rattle.bx_ucd.specs.Data.{Data}
 use Rattle.bx_editor.specs.Editor.{Editor, rows, text_height}
-use Rattle.bx_editor.specs.Region.{region}
+use Rattle.bx_editor.specs.Replacing.{seen}
 use Rattle.bx_editor.specs.Status.{status_columns}
 
 abbrev pub blank_picture : ℕ → ℕ → PictureState
 blank_picture height width = record { height = height; width = width; columns = replicate (height * width) blank; row = 0; column = 0 }
 
--- the picture of a text of these rows, from the row of the offset `top` on, with the region in the other rendition
+-- the picture of a text of these rows, from the row of the offset `top` on, with the region, or the match that is shown, in the other
+-- rendition
 abbrev pub text_picture : Data → Editor → ℕ → List TextRow → PictureState
 text_picture d e top all = record {
   height = e.height;
   width = e.width;
-  columns = region_rows d e.width (region e) (text_height e.height) (shown_rows all top (text_height e.height)) ++ status_columns d e;
+  columns = region_rows d e.width (seen d e) (text_height e.height) (shown_rows all top (text_height e.height)) ++ status_columns d e;
   row = row_of all e.place - row_of all top;
   column = cell_of e.width all e.place - 1;
 }

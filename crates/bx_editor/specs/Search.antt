@@ -4,27 +4,38 @@ use Rattle.std.specs.Prelude.{Option, Some, None, unwrap_or, if◌then◌else◌
 use Rattle.bx_ucd.specs.Data.{Data}
 use Rattle.bx_index.specs.Paragraphs.{is_separator}
 pub use Rattle.bx_asking.specs.Answers.{lengthened, shortened}
-use Rattle.bx_find.specs.Letters.{letters}
-use Rattle.bx_find.specs.Matches.{first_from, last_before}
+use Rattle.bx_find.specs.declared.reading.Reading.{Reading}
+use Rattle.bx_find.specs.declared.reading.Reading.TheVariants.{Wide, Close}
+use Rattle.bx_find.specs.Letters.{letters_by}
+use Rattle.bx_find.specs.Matches.{first_from_by, last_before_by}
 use Rattle.bx_view.specs.Moves.{place_at}
 use Rattle.bx_view.specs.TextRows.{TextRow, places}
+use Rattle.bx_editor.specs.declared.aim.Aim.{Aim}
+use Rattle.bx_editor.specs.declared.aim.Aim.TheVariants as aims
 use Rattle.bx_editor.specs.declared.matches.Landing.{Landing}
 use Rattle.bx_editor.specs.declared.message.Message.{Message}
 use Rattle.bx_editor.specs.declared.message.Message.TheVariants.{FromStart, FromEnd, NotFound}
 use Rattle.bx_editor.specs.declared.seek.Seek.{Seek}
-use Rattle.bx_editor.specs.declared.seek.Seek.TheVariants.{Off, Begun, Typed}
+use Rattle.bx_editor.specs.declared.seek.Seek.TheVariants.{Off, Begun, Typed, WithBegun}
 use Rattle.bx_editor.specs.Editor.{Editor, rows, with_place}
 
 -- ---- the query
 
+-- letters are read widely to be found, and closely to be replaced
+abbrev pub reading : Aim → Reading
+reading aims.Find = Wide
+reading aims.Replace = Close
+
 -- the query's letters
 abbrev pub sought : Data → Editor → List ℕ
-sought d e = letters d (chars e.query)
+sought d e = letters_by d (reading e.aim) (chars e.query)
 
--- the query that a key lengthens or shortens: empty if the search has just begun, so that typing replaces the latest query
+-- the query, or the other text, that a key lengthens or shortens: empty if it was just asked for, so that typing replaces the
+-- latest one
 abbrev pub kept : Seek → List ℕ → List ℕ
-kept Begun query = []
-kept _ query = query
+kept Begun text = []
+kept WithBegun text = []
+kept _ text = text
 
 -- the most characters that a query has
 abbrev pub longest_query : ℕ
@@ -49,33 +60,36 @@ match_or rows message otherwise None = otherwise
 match_or rows message otherwise (Some offset) = record { place = Some (place_at rows offset); message = message }
 
 -- the first match at or after an offset, else the text's first
-abbrev pub forward : Data → List TextRow → List ℕ → ℕ → List ℕ → Landing
-forward d rows text x [] = nothing_sought
-forward d rows text x (c ∷ cs) =
-    match_or rows None (match_or rows (Some FromStart) not_found (first_from d (c ∷ cs) text 0)) (first_from d (c ∷ cs) text x)
+abbrev pub forward : Data → Reading → List TextRow → List ℕ → ℕ → List ℕ → Landing
+forward d r rows text x [] = nothing_sought
+forward d r rows text x (c ∷ cs) =
+    match_or rows None (match_or rows (Some FromStart) not_found (first_from_by d r (c ∷ cs) text 0)) (first_from_by d r (c ∷ cs) text x)
 
 -- the last match before an offset, else the text's last
-abbrev pub backward : Data → List TextRow → List ℕ → ℕ → List ℕ → Landing
-backward d rows text x [] = nothing_sought
-backward d rows text x (c ∷ cs) =
-    match_or rows None (match_or rows (Some FromEnd) not_found (last_before d (c ∷ cs) text (length text))) (last_before d (c ∷ cs) text x)
+abbrev pub backward : Data → Reading → List TextRow → List ℕ → ℕ → List ℕ → Landing
+backward d r rows text x [] = nothing_sought
+backward d r rows text x (c ∷ cs) =
+    match_or rows None (match_or rows (Some FromEnd) not_found (last_before_by d r (c ∷ cs) text (length text))) (last_before_by d r (c ∷ cs) text x)
 
 abbrev pub landed : Editor → Landing → Editor
 landed e landing = record e { place = unwrap_or landing.place e.place; message = landing.message }
 
 -- the query is sought forward from an offset
+abbrev pub landing_from : Data → ℕ → Editor → Landing
+landing_from d x e = forward d (reading e.aim) (rows d e) e.content.text x (sought d e)
+
 abbrev pub search_from : Data → ℕ → Editor → Editor
-search_from d x e = landed e (forward d (rows d e) e.content.text x (sought d e))
+search_from d x e = landed e (landing_from d x e)
 
 -- the query is sought backward from the place
 abbrev pub search_back : Data → Editor → Editor
-search_back d e = landed e (backward d (rows d e) e.content.text e.place (sought d e))
+search_back d e = landed e (backward d (reading e.aim) (rows d e) e.content.text e.place (sought d e))
 
 -- ---- the keys, once the message is cleared
 
 -- a search begins at the place, with the query of the latest one
-abbrev pub after_beginning : Editor → Editor
-after_beginning e = record e { seek = Begun; origin = e.place }
+abbrev pub after_beginning : Aim → Editor → Editor
+after_beginning aim e = record e { seek = Begun; origin = e.place; aim = aim }
 
 -- the search ends, and the cursor stays
 abbrev pub without_search : Editor → Editor
@@ -109,7 +123,8 @@ after_find d e = search_from d (next_or_start d e) (record e { seek = Typed })
 
 -- FindNext: to the next match, and no search is on; if the query has no letters, a search begins
 abbrev pub after_find_next : Data → Editor → Editor
-after_find_next d e = if length (sought d e) == 0 then after_beginning e else search_from d (next_or_start d e) e
+after_find_next d e =
+    if length (sought d e) == 0 then after_beginning aims.Find e else search_from d (next_or_start d e) (record e { aim = aims.Find })
 
 -- to the previous match
 abbrev pub after_find_back : Data → Editor → Editor

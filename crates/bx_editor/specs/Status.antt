@@ -1,5 +1,4 @@
--- The status row: whether there are unsaved changes, the cursor's position, a message, and the query of a search or the prompt of a
--- question.
+-- The status row: whether there are unsaved changes, the cursor's position, a message, and the prompt of a search or of a question.
 use Rattle.std.specs.Prelude.{ℕ, ◌+◌, nat_le, Bool, List, [], ◌++◌, Option, Some, None, codes, decimal, if◌then◌else◌}
 use Rattle.bx_terms.specs.declared.base.Base.TheVariants.{Auto, Ltr, Rtl}
 use Rattle.bx_keys.specs.declared.notice.Notice as told
@@ -10,12 +9,14 @@ pub use Rattle.bx_view.specs.Numbers.{paragraph_number, unit_number}
 use Rattle.bx_grid.specs.Columns.{Col}
 use Rattle.bx_rows.specs.RowPicture.{Glyph}
 pub use Rattle.bx_document.specs.QueryRow.{glyph_row, letter_glyphs, query_glyphs, typed_glyphs}
+use Rattle.bx_editor.specs.declared.aim.Aim.{Aim}
+use Rattle.bx_editor.specs.declared.aim.Aim.TheVariants.{Find, Replace}
 use Rattle.bx_editor.specs.declared.message.Message.{Message}
 use Rattle.bx_editor.specs.declared.message.Message.TheVariants.{Saved, SaveFailed, TextFull, NothingToUndo, NothingToRedo, Unsaved, Direction, MarkSet, MarkOff}
 use Rattle.bx_editor.specs.declared.message.Message.TheVariants.{Copied, LineCopied, NothingToCopy, NothingToPut, FromStart, FromEnd, NotFound, Help}
-use Rattle.bx_editor.specs.declared.message.Message.TheVariants.{MoreHelp, MoreThanOneLine, NoSuchCharacter, Told, Notice}
+use Rattle.bx_editor.specs.declared.message.Message.TheVariants.{MoreHelp, MoreThanOneLine, NoSuchCharacter, Replaced, Told, Notice}
 use Rattle.bx_editor.specs.declared.seek.Seek.{Seek}
-use Rattle.bx_editor.specs.declared.seek.Seek.TheVariants.{Off, Begun, Typed}
+use Rattle.bx_editor.specs.declared.seek.Seek.TheVariants.{Off, Begun, Typed, WithBegun, WithTyped, Replacing}
 use Rattle.bx_ucd.specs.Data.{Data}
 use Rattle.bx_asking.specs.declared.question.Ask.{Ask}
 use Rattle.bx_asking.specs.declared.question.Ask.TheVariants as asks
@@ -61,12 +62,14 @@ message_text Help = codes "^S save ^Q quit ^Z undo ^W find ^@ mark ^X cut ^C cop
 message_text MoreHelp = codes "F4 replace ^G line ^K insert ^T tell ^Y redo ^R back ^L paint"
 message_text MoreThanOneLine = codes "more than one line"
 message_text NoSuchCharacter = codes "no such character"
+message_text (Replaced n) = codes " replaced"
 message_text (Notice notice) = notice_text notice
 message_text Told = []
 
--- what stands at the cursor's place is read from the state
+-- what stands at the cursor's place is read from the state, and the number of replaced matches stands before the words
 abbrev pub shown_text : List ℕ → Message → List ℕ
 shown_text told Told = told
+shown_text told (Replaced n) = decimal n ++ message_text (Replaced n)
 shown_text told message = message_text message
 
 abbrev pub message_part : List ℕ → Option Message → List ℕ
@@ -84,11 +87,27 @@ status_text d e =
     status_line e.changed (paragraph_number d e.content.text e.place + 1) (unit_number d e.content.text e.place)
     ++ message_part (told_at_place d e) e.message
 
--- in a search, the query follows the text
-abbrev pub search_glyphs : Data → Seek → List ℕ → List Glyph
-search_glyphs d Off query = []
-search_glyphs d Begun query = letter_glyphs (codes " find: ") ++ query_glyphs d query
-search_glyphs d Typed query = letter_glyphs (codes " find: ") ++ query_glyphs d query
+-- the prompt of a search: before the query, before the other text, or for the match that is shown
+abbrev pub query_prompt : Aim → List ℕ
+query_prompt Find = codes " find: "
+query_prompt Replace = codes " replace: "
+
+abbrev pub search_prompt : Aim → Seek → List ℕ
+search_prompt aim Off = []
+search_prompt aim Begun = query_prompt aim
+search_prompt aim Typed = query_prompt aim
+search_prompt aim WithBegun = codes " with: "
+search_prompt aim WithTyped = codes " with: "
+search_prompt aim Replacing = codes " Enter replace ^W next F4 all ^C end"
+
+-- behind it the query or the other text
+abbrev pub search_glyphs : Data → Editor → Seek → List Glyph
+search_glyphs d e Off = []
+search_glyphs d e Begun = query_glyphs d e.query
+search_glyphs d e Typed = query_glyphs d e.query
+search_glyphs d e WithBegun = query_glyphs d e.other
+search_glyphs d e WithTyped = query_glyphs d e.other
+search_glyphs d e Replacing = []
 
 abbrev pub prompt_text : Ask → List ℕ
 prompt_text asks.Off = []
@@ -96,9 +115,9 @@ prompt_text asks.Line = codes " line: "
 prompt_text asks.Name = codes " insert: "
 prompt_text asks.Code = codes " insert: U+"
 
--- the prompt of a question, and the answer as it was typed; without a question, the query of a search
+-- the prompt of a question, and the answer as it was typed; without a question, those of a search
 abbrev pub prompt_glyphs : Data → Editor → Ask → List Glyph
-prompt_glyphs d e asks.Off = search_glyphs d e.seek e.query
+prompt_glyphs d e asks.Off = letter_glyphs (search_prompt e.aim e.seek) ++ search_glyphs d e e.seek
 prompt_glyphs d e ask = letter_glyphs (prompt_text ask) ++ typed_glyphs e.answer
 
 -- the glyphs of an editor's status row from left to right

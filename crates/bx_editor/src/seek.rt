@@ -5,8 +5,14 @@
 pub enum Seek {
     /// No search is on.
     Off,
-    /// Find was pressed, and the query is the latest one. The next letter begins a new query.
+    /// Find or Replace was pressed, and the query is the latest one. The next letter begins a new query.
     Begun,
     /// The query was typed or sought. The next letter is appended to it.
     Typed,
+    /// The other text is asked for, and it is the latest one. The next letter begins a new one.
+    WithBegun,
+    /// The other text was typed. The next letter is appended to it.
+    WithTyped,
+    /// A match is shown: it is replaced next, or passed over.
+    Replacing,
 }

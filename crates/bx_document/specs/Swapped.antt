@@ -1,0 +1,12 @@
+-- The text of matches that follow one another, with another text in place of each. A match is its start and its end, in bytes.
+use Rattle.std.specs.Prelude.{ℕ, List, [], ◌∷◌, ◌++◌, slice_range}
+
+-- the end of the last of them; `start` if there is none
+abbrev pub last_stop : ℕ → List (ℕ × ℕ) → ℕ
+last_stop start [] = start
+last_stop start (s ∷ ss) = last_stop s.1 ss
+
+-- the text from the offset `start` to the end of the last of them, with `other` in place of each
+abbrev pub swapped : ℕ → List ℕ → List ℕ → List (ℕ × ℕ) → List ℕ
+swapped start text other [] = []
+swapped start text other (s ∷ ss) = slice_range text start s.0 ++ other ++ swapped s.1 text other ss

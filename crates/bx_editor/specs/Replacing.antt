@@ -1,0 +1,144 @@
+-- Replacing: the other text is asked for, and then each match is replaced or passed over, or all that follow are replaced. Offsets
+-- and places count bytes of the text.
+use Rattle.std.specs.Prelude.{ℕ, ◌+◌, ◌==◌, not, ◌&&◌, Bool, true, false, List, [], length, take, drop, chars, encode_utf8_all, Option, Some, None, if◌then◌else◌}
+use Rattle.bx_ucd.specs.Data.{Data}
+use Rattle.bx_find.specs.Matches.{first_from_by}
+use Rattle.bx_find.specs.Spans.{match_end, spans_from}
+use Rattle.bx_document.specs.Swapped.{last_stop, swapped}
+use Rattle.bx_runs.specs.declared.typing.Typing.{Typing}
+use Rattle.bx_text.specs.Edits.{fits}
+use Rattle.bx_view.specs.Moves.{place_at}
+use Rattle.bx_editor.specs.declared.aim.Aim.{Aim}
+use Rattle.bx_editor.specs.declared.aim.Aim.TheVariants.{Find, Replace}
+use Rattle.bx_editor.specs.declared.matches.Landing.{Landing}
+use Rattle.bx_editor.specs.declared.message.Message.TheVariants.{Replaced, TextFull}
+use Rattle.bx_editor.specs.declared.seek.Seek.{Seek}
+use Rattle.bx_editor.specs.declared.seek.Seek.TheVariants.{Off, Typed, WithBegun, WithTyped, Replacing}
+use Rattle.bx_editor.specs.Editor.{Editor, rows, with_exchange}
+use Rattle.bx_editor.specs.Putting.{is_paste}
+use Rattle.bx_editor.specs.Region.{region}
+use Rattle.bx_editor.specs.Search.{after_letter, is_no_letter, kept, landed, landing_from, lengthened, reading, shortened, sought}
+
+-- ---- the question for the other text
+
+-- at a match the other text is asked for, and none is replaced yet
+abbrev pub asked_at : Option ℕ → Editor → Editor
+asked_at None e = record e { seek = Typed }
+asked_at (Some place) e = record e { seek = WithBegun; count = 0 }
+
+-- the query is sought from the place on, as a search for replacing; without letters nothing is sought
+abbrev pub after_asking_other : Data → Editor → Editor
+after_asking_other d e =
+    let aimed = record e { aim = Replace } in
+    if length (sought d aimed) == 0
+    then aimed
+    else let landing = landing_from d aimed.place aimed in asked_at landing.place (landed aimed landing)
+
+abbrev pub is_replacing : Aim → Bool
+is_replacing Find = false
+is_replacing Replace = true
+
+-- a typed character in a search; in one for replacing a line end asks for the other text, but a pasted one asks nothing
+abbrev pub after_sought_letter : Data → Typing → Editor → ℕ → Editor
+after_sought_letter d typing e c =
+    if (c == 0xA) && is_replacing e.aim then (if is_paste typing then e else after_asking_other d e) else after_letter d e c
+
+-- ---- the other text
+
+-- the most characters that it has
+abbrev pub longest_other : ℕ
+longest_other = 64
+
+abbrev pub with_other : Editor → List ℕ → Editor
+with_other e other = record e { other = other; seek = WithTyped }
+
+-- where the query stands from an offset on
+abbrev pub next_match : Data → Editor → ℕ → Option ℕ
+next_match d e x = first_from_by d (reading e.aim) (sought d e) e.content.text x
+
+-- a match is shown
+abbrev pub shown_at : Editor → Option ℕ → Editor
+shown_at e None = e
+shown_at e (Some at) = record e { seek = Replacing; at = at }
+
+-- the match of the place is shown
+abbrev pub after_showing : Data → Editor → Editor
+after_showing d e = shown_at e (next_match d e e.place)
+
+-- a typed character is added to the other text; a line end shows the match, but a pasted one does not
+abbrev pub after_other_letter : Data → Typing → Editor → ℕ → Editor
+after_other_letter d typing e c =
+    if c == 0xA
+    then (if is_paste typing then e else after_showing d e)
+    else if is_no_letter d c then e else with_other e (lengthened longest_other (kept e.seek e.other) c)
+
+-- the other text loses its last character
+abbrev pub after_shorter_other : Editor → Editor
+after_shorter_other e = with_other e (shortened (kept e.seek e.other))
+
+-- ---- the match that is shown
+
+-- the offset behind it
+abbrev pub match_stop : Data → Editor → ℕ
+match_stop d e = match_end d (reading e.aim) (sought d e) e.content.text e.at
+
+-- the part of the text in the other rendition: the units of the match while it is shown, else the region
+abbrev pub seen_in : Data → Editor → Seek → ℕ × ℕ
+seen_in d e Replacing = (e.place, match_stop d e)
+seen_in d e _ = region e
+
+abbrev pub seen : Data → Editor → ℕ × ℕ
+seen d e = seen_in d e e.seek
+
+-- replacing ends where the cursor is, and the number of the replaced matches is told
+abbrev pub after_ending : Editor → Editor
+after_ending e = record e { seek = Off; message = Some (Replaced e.count) }
+
+abbrev pub at_match : Data → Editor → Option ℕ → Editor
+at_match d e None = after_ending e
+at_match d e (Some at) = record e { seek = Replacing; at = at; place = place_at (rows d e) at }
+
+-- on to the first match from an offset on; if there is none, replacing ends
+abbrev pub on_from : Data → ℕ → Editor → Editor
+on_from d z e = at_match d e (next_match d e z)
+
+-- ---- one is replaced, or passed over
+
+-- the bytes from the match to `stop`, `n` matches, give way to `new`; the place at which the search began is forgotten
+abbrev pub with_matches_replaced : Data → Editor → ℕ → List ℕ → ℕ → Editor
+with_matches_replaced d e stop new n = record (with_exchange d e e.at stop new) { origin = 0; count = e.count + n }
+
+-- the match gives way to the other text, behind which the next one is sought; without room nothing does
+abbrev pub after_replacing : Data → Editor → Editor
+after_replacing d e =
+    if fits e.content.text e.at (match_stop d e) e.other
+    then on_from d (e.at + length e.other) (with_matches_replaced d e (match_stop d e) e.other 1)
+    else record e { message = Some TextFull }
+
+-- a typed character: a line end replaces the match, but a pasted one does not; all others do nothing
+abbrev pub after_match_letter : Data → Typing → Editor → ℕ → Editor
+after_match_letter d typing e c = if (c == 0xA) && not (is_paste typing) then after_replacing d e else e
+
+-- the offset behind the character at an offset
+abbrev pub behind_character : List ℕ → ℕ → ℕ
+behind_character text x = x + length (encode_utf8_all (take 1 (chars (drop x text))))
+
+-- the next match is sought behind the first character of this one
+abbrev pub after_passing_over : Data → Editor → Editor
+after_passing_over d e = on_from d (behind_character e.content.text e.at) e
+
+-- ---- all are replaced
+
+-- the match and those that follow it, each with its end; none lies in another
+abbrev pub matches_on : Data → Editor → List (ℕ × ℕ)
+matches_on d e = spans_from d (reading e.aim) (sought d e) e.content.text e.at
+
+-- the text from the match to the end of the last one gives way to the same text with the other one in place of each
+abbrev pub after_replacing_all : Data → Editor → Editor
+after_replacing_all d e =
+    let all = matches_on d e in
+    let stop = last_stop e.at all in
+    let new = swapped e.at e.content.text e.other all in
+    if fits e.content.text e.at stop new
+    then after_ending (with_matches_replaced d e stop new (length all))
+    else record e { message = Some TextFull }
