@@ -1,5 +1,5 @@
 -- An editable text and its layout in a window. Offsets and places count bytes of the text.
-use Rattle.std.specs.Prelude.{ℕ, ◌+◌, List, [], length}
+use Rattle.std.specs.Prelude.{ℕ, ◌+◌, List, [], ◌∷◌, length}
 use Rattle.bx_terms.specs.declared.base.Base.{Base}
 use Rattle.bx_document.specs.declared.edits.RegionEnd.{RegionEnd}
 use Rattle.bx_document.specs.declared.edits.RegionEnd.TheVariants.{Start, Stop}
@@ -36,9 +36,13 @@ rows d t = rows_of d t t.content.text
 abbrev pub place_after : Data → Document → ℕ → ℕ → List ℕ → ℕ
 place_after d t start stop new = place_from (rows_of d t (splice t.content.text start stop new)) (start + length new)
 
+-- after bytes are inserted at an offset; the cursor was at `place`
+abbrev pub after_insertion_at : Data → Document → ℕ → List ℕ → ℕ → Document
+after_insertion_at d t at new place = record t { content = inserted t.content at new place (place_after d t at at new) }
+
 -- after bytes are inserted at a place
 abbrev pub after_insertion : Data → Document → ℕ → List ℕ → Document
-after_insertion d t place new = record t { content = inserted t.content place new place (place_after d t place place new) }
+after_insertion d t place new = after_insertion_at d t place new place
 
 -- after the bytes from `start` to `stop` are removed; the cursor was at `place`
 abbrev pub after_removal : Data → Document → ℕ → ℕ → ℕ → Document
@@ -59,7 +63,13 @@ place_after_replacement d t start stop new =
 abbrev pub after_replacement : Data → Document → ℕ → ℕ → List ℕ → ℕ → Document
 after_replacement d t start stop new place = after_insertion d (after_removal d t start stop place) (place_after d t start stop []) new
 
--- the text with `back` inserted after the bytes from `start` to `stop`, and `front` before them
+-- after the bytes from `start` to `stop` are removed, and then others, if there are any, are inserted where they stood; the cursor
+-- was at `place`
+abbrev pub after_exchange : Data → Document → ℕ → ℕ → List ℕ → ℕ → Document
+after_exchange d t start stop [] place = after_removal d t start stop place
+after_exchange d t start stop (b ∷ bs) place = after_insertion_at d (after_removal d t start stop place) start (b ∷ bs) (place_after d t start stop [])
+
+-- the text with `back` inserted behind the bytes from `start` to `stop`, and `front` before them
 abbrev pub wrapped_text : List ℕ → ℕ → ℕ → List ℕ → List ℕ → List ℕ
 wrapped_text text start stop front back = splice (splice text stop stop back) start start front
 

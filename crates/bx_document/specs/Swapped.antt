@@ -1,5 +1,5 @@
 -- The text of matches that follow one another, with another text in place of each. A match is its start and its end, in bytes.
-use Rattle.std.specs.Prelude.{ℕ, List, [], ◌∷◌, ◌++◌, slice_range}
+use Rattle.std.specs.Prelude.{ℕ, ◌+◌, List, [], ◌∷◌, ◌++◌, length, take, drop, chars, encode_utf8_all, slice_range}
 
 -- the end of the last of them; `start` if there is none
 abbrev pub last_stop : ℕ → List (ℕ × ℕ) → ℕ
@@ -10,3 +10,7 @@ last_stop start (s ∷ ss) = last_stop s.1 ss
 abbrev pub swapped : ℕ → List ℕ → List ℕ → List (ℕ × ℕ) → List ℕ
 swapped start text other [] = []
 swapped start text other (s ∷ ss) = slice_range text start s.0 ++ other ++ swapped s.1 text other ss
+
+-- the offset behind the character at an offset
+abbrev pub behind_character : List ℕ → ℕ → ℕ
+behind_character text x = x + length (encode_utf8_all (take 1 (chars (drop x text))))

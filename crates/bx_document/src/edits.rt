@@ -1,12 +1,13 @@
 //! Insertions and removals, each with the cursor's place after it. Each allocates first and then changes the text.
-ghost use Rattle.std.specs.Prelude.{◌≡◌, ℕ, List, [], ◌++◌, ◌+◌, ◌≤◌, length, slice_range, string_bytes, Some, true, false, IfOk, IfSome, IsErrOf, IsUtf8, MatchOption, OnErr, OnOk};
+ghost use Rattle.std.specs.Prelude.{◌≡◌, ℕ, List, [], ◌++◌, ◌+◌, ◌-◌, ◌≤◌, IsCharBoundary, length, slice_range, string_bytes, Some, true, false, IfOk, IfSome, IsErrOf, IsUtf8, MatchOption, OnErr, OnOk};
 ghost use Rattle.bx_index.specs.Paragraphs.{lengths};
 ghost use Rattle.bx_text.specs.Edits.{IsRange, IsChange, fits, fits_both, largest_text, splice};
+ghost use Rattle.bx_view.specs.Moves.{place_at};
 ghost use Rattle.bx_view.specs.Places.{IsTextPlace};
-ghost use Rattle.bx_document.specs.Document.{after_insertion, after_removal, after_replacement, after_wrap, place_after, place_after_replacement, place_after_wrap, replaced_text, wrapped_end, wrapped_text};
+ghost use Rattle.bx_document.specs.Document.{after_exchange, after_insertion, after_removal, after_replacement, after_wrap, place_after, place_after_replacement, place_after_wrap, replaced_text, rows_of, wrapped_end, wrapped_text};
 
 use crate::document::Document;
-use crate::touched::{place_after, place_inside};
+use crate::touched::{place_after, place_at_inside, place_inside, stop_after};
 use bx_index::Index;
 use bx_terms::{LARGEST_TEXT, OutOfMemory};
 use bx_text::{Change, Text};
@@ -207,6 +208,95 @@ impl<D: BidiData + Drop> Document<D> {
         };
         follow(&mut self.index, &self.text, &self.tables, &change);
         Ok(Some(after))
+    }
+
+    /// Removes the bytes from `start` to `stop`, then inserts `new`, if it is not empty, where they stood, and returns the new place;
+    /// none, and no change, if the text would exceed 16,777,216 bytes. These are at most two edits, of which undo takes back the
+    /// insertion first; the removal restores the cursor to `place`.
+    ///
+    /// Errors: `OutOfMemory`, and nothing has changed.
+    pub fn exchange(
+        &mut self,
+        start: usize,
+        stop: usize,
+        new: &str,
+        place: usize,
+    ) -> Result<Option<usize>, OutOfMemory>
+        requires range { IsRange self.old.document.content.text start stop }
+        requires text_place { IsTextPlace (D.data self.old.tables) self.old.document.content.text place }
+        ensures ok { IfOk result (λ after. MatchOption after
+            ((fits self.old.document.content.text start stop new.now ≡ false) × (self.new ≡ self.old))
+            (λ o. (fits self.old.document.content.text start stop new.now ≡ true)
+            × (self.new ≡ record self.old {
+              document = after_exchange (D.data self.old.tables) self.old.document start stop new.now place;
+            })
+            × (o ≡ place_after (D.data self.old.tables) self.old.document start stop new.now))) }
+        ensures text_place { IfOk result (λ after. IfSome after (IsTextPlace (D.data self.new.tables) self.new.document.content.text)) }
+        ensures err { OnErr result (self.new ≡ self.old) }
+    {
+        if new.is_empty() {
+            let after = self.remove(start, stop, place)?;
+            return Ok(Some(after));
+        }
+        let kept = self.text.len() - (stop - start);
+        if new.len() > LARGEST_TEXT - kept {
+            return Ok(None);
+        }
+        let between = self.place_after(start, stop, "")?;
+        let after = self.place_after(start, stop, new)?;
+        self.index.ready(new.len())?;
+        let Ok(change) = self
+            .text
+            .exchange(start, stop, start, new, place, between, after)
+        else {
+            return Err(OutOfMemory);
+        };
+        follow(&mut self.index, &self.text, &self.tables, &change);
+        Ok(Some(after))
+    }
+
+    /// The place of an offset at or after `stop` once the bytes from `start` to `stop` have given way to `new`: the last place at or
+    /// before it.
+    ///
+    /// Errors: `OutOfMemory`.
+    pub fn place_behind(
+        &mut self,
+        start: usize,
+        stop: usize,
+        new: &str,
+        offset: usize,
+    ) -> Result<usize, OutOfMemory>
+        requires range { IsRange self.old.document.content.text start stop }
+        requires fits { fits self.old.document.content.text start stop new.now ≡ true }
+        requires bounds { IsCharBoundary self.old.document.content.text offset }
+        requires behind { stop ≤ offset }
+        ensures same { self.new ≡ self.old }
+        ensures place { IfOk result (λ o. o ≡ place_at (rows_of (D.data self.old.tables) self.old.document
+            (splice self.old.document.content.text start stop new.now)) (offset - stop + start + length new.now)) }
+        ensures text_place { IfOk result (IsTextPlace (D.data self.old.tables) (splice self.old.document.content.text start stop new.now)) }
+    {
+        // proof only: the text is UTF-8, and the width is within its limits
+        let _utf8 = self.text.len();
+        let _side = self.layout.width();
+        let source = Source {
+            text: &self.text,
+            index: &self.index,
+            tables: &self.tables,
+        };
+        // Paragraphs behind the touched ones only move.
+        if stop_after(&source, stop) <= offset {
+            let place = self.layout.place_at(&source, offset)?;
+            return Ok(place - stop + start + new.len());
+        }
+        let place = place_at_inside(
+            self.alloc,
+            &source,
+            &mut self.layout,
+            start..stop,
+            new,
+            offset - stop + start + new.len(),
+        )?;
+        Ok(place)
     }
 
     /// The place after a pending wrap.

@@ -20,6 +20,7 @@ mod row_cache;
 mod searching;
 mod separating;
 mod shown;
+mod swapping;
 mod touched;
 
 pub use document::Document;
@@ -28,3 +29,4 @@ pub use error::DocumentError;
 pub use history::HistoryStep;
 pub use laws::units_have_levels;
 pub use shown::Shown;
+pub use swapping::Swap;

@@ -1,9 +1,9 @@
 //! The place after an edit, found in the held paragraph or in a copy of the paragraphs that the edit touches.
-ghost use Rattle.std.specs.Prelude.{◌≡◌, ◌≤◌, ◌+◌, true, IfOk, IsCharBoundary, length, string_bytes};
+ghost use Rattle.std.specs.Prelude.{◌≡◌, ◌≤◌, ◌<◌, ◌+◌, true, IfOk, IsCharBoundary, length, string_bytes};
 ghost use Rattle.bx_text.specs.Edits.{IsRange, fits, splice};
 ghost use Rattle.bx_view.specs.FoundRow.{rows_by};
 ghost use Rattle.bx_view.specs.Holding.{IsViewBy, Keeps};
-ghost use Rattle.bx_view.specs.Moves.{place_from};
+ghost use Rattle.bx_view.specs.Moves.{place_at, place_from};
 ghost use Rattle.bx_view.specs.Places.{IsTextPlace};
 ghost use Rattle.bx_view.specs.Source.{bytes};
 ghost use Rattle.bx_document.specs.Touched.{touched, touched_start, touched_stop};
@@ -106,6 +106,62 @@ pub(crate) fn place_inside<D: BidiData>(
     let (first, characters) = touched(source, range.start, range.end, new)?;
     // The copy is no longer than the text after the edit, so it is not too long.
     let place = place_in(alloc, characters, source.tables, layout, offset - first)?;
+    Ok(first + place)
+}
+
+/// The last place at or before an offset, in bytes from 0, of a text that is laid out alone, with `layout`'s width and base
+/// direction.
+///
+/// Errors: `OutOfMemory`.
+fn last_place_in<D: BidiData>(
+    alloc: Global,
+    characters: String,
+    tables: &D,
+    layout: &mut Layout,
+    offset: usize,
+) -> Result<usize, OutOfMemory>
+    requires data { IsViewBy (D.data tables.now) layout.old }
+    ensures keeps { Keeps (D.data tables.now) layout.old layout.new }
+    ensures place { IfOk result (λ o. o ≡ place_at
+        (rows_by (D.data tables.now) layout.old (string_bytes characters)) offset) }
+{
+    let Ok(text) = Text::open(alloc, characters) else {
+        return Err(OutOfMemory);
+    };
+    let index = Index::build(alloc, &text, tables)?;
+    let place = layout.place_at(&Source::of(&text, &index, tables), offset)?;
+    Ok(place)
+}
+
+/// The last place at or before an offset behind a range of bytes once `new` has replaced them, in the paragraphs that the edit
+/// touches. A copy of these is laid out.
+///
+/// Errors: `OutOfMemory`.
+pub(crate) fn place_at_inside<D: BidiData>(
+    alloc: Global,
+    source: &Source<'_, D>,
+    layout: &mut Layout,
+    range: Range<usize>,
+    new: &str,
+    offset: usize,
+) -> Result<usize, OutOfMemory>
+    requires data { IsViewBy (D.data source.now.tables.now) layout.old }
+    requires range { IsRange (bytes source.now) range.start range.end }
+    requires fits { fits (bytes source.now) range.start range.end new.now ≡ true }
+    requires behind { range.start + length new.now ≤ offset }
+    requires inside { offset + range.end < touched_stop (D.data source.now.tables.now) (bytes source.now) range.end + range.start + length new.now }
+    ensures keeps { Keeps (D.data source.now.tables.now) layout.old layout.new }
+    ensures place { IfOk result (λ o. o ≡ place_at
+        (rows_by (D.data source.now.tables.now) layout.old
+        (splice (bytes source.now) range.start range.end new.now)) offset) }
+    ensures text_place { IfOk result (IsTextPlace (D.data source.now.tables.now)
+        (splice (bytes source.now) range.start range.end new.now)) }
+{
+    // proof only: the width is within its limits
+    let _side = layout.width();
+    let (first, characters) = touched(source, range.start, range.end, new)?;
+    // The copy is no longer than the text after the edit, so it is not too long.
+    let place = last_place_in(alloc, characters, source.tables, layout, offset - first)?;
     Ok(first + place)
 }
 

@@ -6,7 +6,7 @@ use Rattle.bx_ucd.specs.Data.{Data}
 use Rattle.bx_asking.specs.declared.question.Ask.TheVariants as asks
 use Rattle.bx_find.specs.Laws.{IsFirst, MatchesAt}
 use Rattle.bx_find.specs.Letters.{letters}
-use Rattle.bx_document.specs.Swapped.{last_stop, swapped}
+use Rattle.bx_document.specs.Swapped.{behind_character, last_stop, swapped}
 use Rattle.bx_keys.specs.declared.key.Key.{Key}
 use Rattle.bx_keys.specs.declared.key.Key.TheVariants.{Find, Replace, UndoRun}
 use Rattle.bx_store.specs.declared.store.StoreFault.{StoreFault}
@@ -19,7 +19,7 @@ use Rattle.bx_editor.specs.Editor.{Editor, at_start, place_after, rows}
 use Rattle.bx_editor.specs.Keys.{after_key, after_keys}
 use Rattle.bx_editor.specs.Laws.{after_typing}
 use Rattle.bx_editor.specs.Putting.{is_paste}
-use Rattle.bx_editor.specs.Replacing.{behind_character, match_stop}
+use Rattle.bx_editor.specs.Replacing.{match_stop}
 use Rattle.bx_editor.specs.RunLaws.{IsBackBefore}
 use Rattle.bx_editor.specs.Search.{sought}
 

@@ -1,10 +1,10 @@
 -- Replacing: the other text is asked for, and then each match is replaced or passed over, or all that follow are replaced. Offsets
 -- and places count bytes of the text.
-use Rattle.std.specs.Prelude.{ℕ, ◌+◌, ◌==◌, not, ◌&&◌, Bool, true, false, List, [], length, take, drop, chars, encode_utf8_all, Option, Some, None, if◌then◌else◌}
+use Rattle.std.specs.Prelude.{ℕ, ◌+◌, ◌==◌, not, ◌&&◌, Bool, true, false, List, [], length, Option, Some, None, if◌then◌else◌}
 use Rattle.bx_ucd.specs.Data.{Data}
 use Rattle.bx_find.specs.Matches.{first_from_by}
 use Rattle.bx_find.specs.Spans.{match_end, spans_from}
-use Rattle.bx_document.specs.Swapped.{last_stop, swapped}
+use Rattle.bx_document.specs.Swapped.{behind_character, last_stop, swapped}
 use Rattle.bx_runs.specs.declared.typing.Typing.{Typing}
 use Rattle.bx_text.specs.Edits.{fits}
 use Rattle.bx_view.specs.Moves.{place_at}
@@ -118,10 +118,6 @@ after_replacing d e =
 -- a typed character: a line end replaces the match, but a pasted one does not; all others do nothing
 abbrev pub after_match_letter : Data → Typing → Editor → ℕ → Editor
 after_match_letter d typing e c = if (c == 0xA) && not (is_paste typing) then after_replacing d e else e
-
--- the offset behind the character at an offset
-abbrev pub behind_character : List ℕ → ℕ → ℕ
-behind_character text x = x + length (encode_utf8_all (take 1 (chars (drop x text))))
 
 -- the next match is sought behind the first character of this one
 abbrev pub after_passing_over : Data → Editor → Editor

@@ -1,0 +1,122 @@
+//! All matches of a query from one on, with another text in place of each.
+ghost use Rattle.std.specs.Prelude.{◌≡◌, ◌-◌, ◌^◌, ◌++◌, ℕ, List, length, min, IfOk, IfSome, MatchOption, IsCharBoundary, slice_range, string_bytes, false, true};
+ghost use Rattle.bx_find.specs.Spans.{spans_from};
+ghost use Rattle.bx_text.specs.Edits.{IsRange, fits};
+ghost use Rattle.bx_document.specs.Swapped.{last_stop, swapped};
+
+use crate::document::Document;
+use bx_find::{Query, Reading};
+use bx_terms::{LARGEST_TEXT, OutOfMemory};
+use bx_ucd::BidiData;
+
+/// The text of matches that follow one another, with another text in place of each.
+#[derive(Drop)]
+pub struct Swap {
+    /// Where the last match ends.
+    pub stop: usize,
+    /// How many matches there are.
+    pub count: usize,
+    /// The text from the first match on to the end of the last, with the other text in place of each.
+    pub text: String,
+}
+
+/// What is told of such a text before it is made.
+#[derive(Clone, Copy)]
+struct Measure {
+    stop: usize,
+    count: usize,
+    len: usize,
+}
+
+impl<D: BidiData + Drop> Document<D> {
+    /// Where the last of the matches from `start` on ends, how many there are, and how long the text from `start` to there is with
+    /// `other` in place of each. A length past the limit of numbers is told as that limit. No memory.
+    fn measure(&self, reading: Reading, query: &Query, start: usize, other: &str) -> Measure
+        requires bounds { IsCharBoundary self.now.document.content.text start }
+        ensures stop { result.stop ≡ last_stop start (spans_from (D.data self.now.tables) reading query.now self.now.document.content.text start) }
+        ensures count { result.count ≡ length (spans_from (D.data self.now.tables) reading query.now self.now.document.content.text start) }
+        ensures len { result.len ≡ min (2 ^ 64 - 1) (length (swapped start self.now.document.content.text other.now
+            (spans_from (D.data self.now.tables) reading query.now self.now.document.content.text start))) }
+        ensures range { IsRange self.now.document.content.text start result.stop }
+    {
+        let mut measure = Measure {
+            stop: start,
+            count: 0,
+            len: 0,
+        };
+        while let Some((at, end)) = self.first_span(reading, query, measure.stop) {
+            let between = at - measure.stop;
+            measure.len = measure.len.saturating_add(between).saturating_add(other.len());
+            measure.count += 1;
+            measure.stop = end;
+        }
+        measure
+    }
+
+    /// Appends the bytes from `start` to `stop` to a copy.
+    fn push_range(&self, copy: &mut String, start: usize, stop: usize) -> Result<(), OutOfMemory>
+        requires range { IsRange self.now.document.content.text start stop }
+        ensures { IfOk result (λ _. string_bytes copy.new ≡ string_bytes copy.old ++ slice_range self.now.document.content.text start stop) }
+    {
+        let mut at = start;
+        while at < stop {
+            let part = self.text.part_at(at, stop);
+            copy.push_str(part)?;
+            at += part.len();
+        }
+        Ok(())
+    }
+
+    /// The text from `start` to the end of the last match, with `other` in place of each.
+    fn swapped(
+        &self,
+        reading: Reading,
+        query: &Query,
+        start: usize,
+        other: &str,
+        len: usize,
+    ) -> Result<String, OutOfMemory>
+        requires bounds { IsCharBoundary self.now.document.content.text start }
+        ensures { IfOk result (λ s. string_bytes s ≡ swapped start self.now.document.content.text other.now
+            (spans_from (D.data self.now.tables) reading query.now self.now.document.content.text start)) }
+    {
+        let mut copy = String::with_capacity(self.alloc, len)?;
+        let mut from = start;
+        while let Some((at, end)) = self.first_span(reading, query, from) {
+            self.push_range(&mut copy, from, at)?;
+            copy.push_str(other)?;
+            from = end;
+        }
+        Ok(copy)
+    }
+
+    /// The matches of a query from `start` on, with `other` in place of each; none if the text would exceed 16,777,216 bytes by
+    /// that, and then nothing is made.
+    ///
+    /// Errors: `OutOfMemory`.
+    pub fn swap(
+        &self,
+        reading: Reading,
+        query: &Query,
+        start: usize,
+        other: &str,
+    ) -> Result<Option<Swap>, OutOfMemory>
+        requires bounds { IsCharBoundary self.now.document.content.text start }
+        ensures swap { IfOk result (λ swap. (spans : List (ℕ × ℕ)) → spans ≡ spans_from (D.data self.now.tables) reading query.now self.now.document.content.text start
+            → MatchOption swap
+            (fits self.now.document.content.text start (last_stop start spans) (swapped start self.now.document.content.text other.now spans) ≡ false)
+            (λ s. (fits self.now.document.content.text start (last_stop start spans) (swapped start self.now.document.content.text other.now spans) ≡ true)
+            × (s.stop ≡ last_stop start spans)
+            × (s.count ≡ length spans)
+            × (string_bytes s.text ≡ swapped start self.now.document.content.text other.now spans))) }
+        ensures range { IfOk result (λ swap. IfSome swap (λ s. IsRange self.now.document.content.text start s.stop)) }
+    {
+        let Measure { stop, count, len } = self.measure(reading, query, start, other);
+        let kept = self.text.len() - (stop - start);
+        if len > LARGEST_TEXT - kept {
+            return Ok(None);
+        }
+        let text = self.swapped(reading, query, start, other, len)?;
+        Ok(Some(Swap { stop, count, text }))
+    }
+}
