@@ -210,6 +210,15 @@ impl<D: BidiData + Drop> Document<D> {
         Ok(Some(after))
     }
 
+    /// Whether the text would be within 16,777,216 bytes with `new` in place of the bytes from `start` to `stop`. No memory.
+    pub fn has_room(&self, start: usize, stop: usize, new: &str) -> bool
+        requires range { IsRange self.now.document.content.text start stop }
+        ensures { result ≡ fits self.now.document.content.text start stop new.now }
+    {
+        let kept = self.text.len() - (stop - start);
+        new.len() <= LARGEST_TEXT - kept
+    }
+
     /// Removes the bytes from `start` to `stop`, then inserts `new`, if it is not empty, where they stood, and returns the new place;
     /// none, and no change, if the text would exceed 16,777,216 bytes. These are at most two edits, of which undo takes back the
     /// insertion first; the removal restores the cursor to `place`.

@@ -1,5 +1,5 @@
 -- What holds in each state of a search.
-use Rattle.std.specs.Prelude.{◌≡◌, ◌≢◌, ℕ, ◌+◌, ◌-◌, ◌≤◌, List, [], length, chars}
+use Rattle.std.specs.Prelude.{◌≡◌, ◌≢◌, ℕ, ◌+◌, ◌-◌, ◌≤◌, Bool, true, false, List, [], length, chars}
 use Rattle.bx_terms.specs.Sizes.{largest_text}
 use Rattle.bx_ucd.specs.Data.{Data}
 use Rattle.bx_find.specs.Laws.{MatchesAtBy}
@@ -25,12 +25,24 @@ pub record IsAsked (d : Data) (aim : Aim) (query : List ℕ) (count : ℕ) : Typ
   pub none : count ≡ 0
 
 -- a match that is shown is one, and no more were replaced than a text has bytes
-pub record IsShown (d : Data) (aim : Aim) (query text : List ℕ) (at count : ℕ) : Type 0 where
+pub record IsAtMatch (d : Data) (aim : Aim) (query text : List ℕ) (at count : ℕ) : Type 0 where
   pub here : MatchesAtBy d (reading aim) (letters_by d (reading aim) (chars query)) text at
   pub few : count + (length text - at) ≤ largest_text
 
 abbrev pub StandsAt : Data → Aim → List ℕ → List ℕ → Seek → ℕ → ℕ → Type 0
 StandsAt d aim query text WithBegun at count = IsAsked d aim query count
 StandsAt d aim query text WithTyped at count = IsAsked d aim query count
-StandsAt d aim query text Replacing at count = IsShown d aim query text at count
+StandsAt d aim query text Replacing at count = IsAtMatch d aim query text at count
 StandsAt d aim query text _ at count = Unit {0}
+
+-- the query is asked for
+abbrev pub is_queried : Seek → Bool
+is_queried Begun = true
+is_queried Typed = true
+is_queried _ = false
+
+-- the other text is asked for
+abbrev pub asks_other : Seek → Bool
+asks_other WithBegun = true
+asks_other WithTyped = true
+asks_other _ = false

@@ -6,7 +6,7 @@ use Rattle.bx_find.specs.Matches.{first_from_by}
 use Rattle.bx_find.specs.Spans.{match_end, spans_from}
 use Rattle.bx_document.specs.Swapped.{behind_character, last_stop, swapped}
 use Rattle.bx_runs.specs.declared.typing.Typing.{Typing}
-use Rattle.bx_text.specs.Edits.{fits}
+use Rattle.bx_text.specs.Edits.{fits, splice}
 use Rattle.bx_view.specs.Moves.{place_at}
 use Rattle.bx_editor.specs.declared.aim.Aim.{Aim}
 use Rattle.bx_editor.specs.declared.aim.Aim.TheVariants.{Find, Replace}
@@ -14,7 +14,7 @@ use Rattle.bx_editor.specs.declared.matches.Landing.{Landing}
 use Rattle.bx_editor.specs.declared.message.Message.TheVariants.{Replaced, TextFull}
 use Rattle.bx_editor.specs.declared.seek.Seek.{Seek}
 use Rattle.bx_editor.specs.declared.seek.Seek.TheVariants.{Off, Typed, WithBegun, WithTyped, Replacing}
-use Rattle.bx_editor.specs.Editor.{Editor, rows, with_exchange}
+use Rattle.bx_editor.specs.Editor.{Editor, rows, rows_of, with_exchange}
 use Rattle.bx_editor.specs.Putting.{is_paste}
 use Rattle.bx_editor.specs.Region.{region}
 use Rattle.bx_editor.specs.Search.{after_letter, is_no_letter, kept, landed, landing_from, lengthened, reading, shortened, sought}
@@ -65,12 +65,13 @@ shown_at e (Some at) = record e { seek = Replacing; at = at }
 abbrev pub after_showing : Data → Editor → Editor
 after_showing d e = shown_at e (next_match d e e.place)
 
--- a typed character is added to the other text; a line end shows the match, but a pasted one does not
+-- a typed character is added to the other text, unless it is no letter
+abbrev pub other_typed : Data → Editor → ℕ → Editor
+other_typed d e c = if is_no_letter d c then e else with_other e (lengthened longest_other (kept e.seek e.other) c)
+
+-- a line end shows the match, but a pasted one does not
 abbrev pub after_other_letter : Data → Typing → Editor → ℕ → Editor
-after_other_letter d typing e c =
-    if c == 0xA
-    then (if is_paste typing then e else after_showing d e)
-    else if is_no_letter d c then e else with_other e (lengthened longest_other (kept e.seek e.other) c)
+after_other_letter d typing e c = if c == 0xA then (if is_paste typing then e else after_showing d e) else other_typed d e c
 
 -- the other text loses its last character
 abbrev pub after_shorter_other : Editor → Editor
@@ -114,6 +115,16 @@ after_replacing d e =
     if fits e.content.text e.at (match_stop d e) e.other
     then on_from d (e.at + length e.other) (with_matches_replaced d e (match_stop d e) e.other 1)
     else record e { message = Some TextFull }
+
+-- the next match behind `stop` and its place, in the text in which the bytes from this match to `stop` have given way to `new`
+abbrev pub placed_in : Data → Editor → List ℕ → Option ℕ → Option (ℕ × ℕ)
+placed_in d e text None = None
+placed_in d e text (Some at) = Some (at, place_at (rows_of d e text) at)
+
+abbrev pub next_behind : Data → Editor → ℕ → List ℕ → Option (ℕ × ℕ)
+next_behind d e stop new =
+    let text = splice e.content.text e.at stop new in
+    placed_in d e text (first_from_by d (reading e.aim) (sought d e) text (e.at + length new))
 
 -- a typed character: a line end replaces the match, but a pasted one does not; all others do nothing
 abbrev pub after_match_letter : Data → Typing → Editor → ℕ → Editor

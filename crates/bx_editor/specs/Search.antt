@@ -124,7 +124,7 @@ after_find d e = search_from d (next_or_start d e) (record e { seek = Typed })
 -- FindNext: to the next match, and no search is on; if the query has no letters, a search begins
 abbrev pub after_find_next : Data → Editor → Editor
 after_find_next d e =
-    if length (sought d e) == 0 then after_beginning aims.Find e else search_from d (next_or_start d e) (record e { aim = aims.Find })
+    if length (sought d e) == 0 then after_beginning aims.Find e else search_from d (next_or_start d e) (record e { seek = Off; aim = aims.Find })
 
 -- to the previous match
 abbrev pub after_find_back : Data → Editor → Editor

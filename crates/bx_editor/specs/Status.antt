@@ -101,13 +101,13 @@ search_prompt aim WithTyped = codes " with: "
 search_prompt aim Replacing = codes " Enter replace ^W next F4 all ^C end"
 
 -- behind it the query or the other text
-abbrev pub search_glyphs : Data → Editor → Seek → List Glyph
-search_glyphs d e Off = []
-search_glyphs d e Begun = query_glyphs d e.query
-search_glyphs d e Typed = query_glyphs d e.query
-search_glyphs d e WithBegun = query_glyphs d e.other
-search_glyphs d e WithTyped = query_glyphs d e.other
-search_glyphs d e Replacing = []
+abbrev pub search_glyphs : Data → List ℕ → List ℕ → Seek → List Glyph
+search_glyphs d query other Off = []
+search_glyphs d query other Begun = query_glyphs d query
+search_glyphs d query other Typed = query_glyphs d query
+search_glyphs d query other WithBegun = query_glyphs d other
+search_glyphs d query other WithTyped = query_glyphs d other
+search_glyphs d query other Replacing = []
 
 abbrev pub prompt_text : Ask → List ℕ
 prompt_text asks.Off = []
@@ -117,7 +117,7 @@ prompt_text asks.Code = codes " insert: U+"
 
 -- the prompt of a question, and the answer as it was typed; without a question, those of a search
 abbrev pub prompt_glyphs : Data → Editor → Ask → List Glyph
-prompt_glyphs d e asks.Off = letter_glyphs (search_prompt e.aim e.seek) ++ search_glyphs d e e.seek
+prompt_glyphs d e asks.Off = letter_glyphs (search_prompt e.aim e.seek) ++ search_glyphs d e.query e.other e.seek
 prompt_glyphs d e ask = letter_glyphs (prompt_text ask) ++ typed_glyphs e.answer
 
 -- the glyphs of an editor's status row from left to right

@@ -8,6 +8,7 @@ ghost use Rattle.bx_grid.specs.Picture.{is_size};
 ghost use Rattle.bx_editor.specs.Editor.{with_size};
 ghost use Rattle.bx_editor.specs.Search.{without_search};
 
+use crate::aim::Aim;
 use crate::message::Message;
 use crate::seek::Seek;
 use crate::soft::Soft;
@@ -29,7 +30,11 @@ pub struct Editor<D: BidiData + Drop> {
     pub(crate) held: String,
     pub(crate) query: String,
     pub(crate) seek: Seek,
+    pub(crate) aim: Aim,
     pub(crate) origin: usize,
+    pub(crate) other: String,
+    pub(crate) at: usize,
+    pub(crate) count: usize,
     pub(crate) ask: Ask,
     pub(crate) answer: String,
     pub(crate) runs: Runs,
@@ -49,7 +54,7 @@ impl<D: BidiData + Drop> Model for Editor<D> {
     ghost use Rattle.bx_view.specs.Places.{IsTextPlace};
     ghost use Rattle.bx_editor.specs.Answers.{IsAnswer};
     ghost use Rattle.bx_editor.specs.Editor.{EditorState};
-    ghost use Rattle.bx_editor.specs.Origin.{BeganAt};
+    ghost use Rattle.bx_editor.specs.Origin.{BeganAt, StandsAt};
 
     ghost Value = { EditorState D };
 
@@ -63,7 +68,11 @@ impl<D: BidiData + Drop> Model for Editor<D> {
         held = string_bytes e.held;
         query = string_bytes e.query;
         seek = e.seek;
+        aim = e.aim;
         origin = e.origin;
+        other = string_bytes e.other;
+        at = e.at;
+        count = e.count;
         ask = e.ask;
         answer = string_bytes e.answer;
         runs = e.runs.numbers;
@@ -84,8 +93,10 @@ impl<D: BidiData + Drop> Model for Editor<D> {
         × (is_side e.height ≡ true)
         × IfSome e.mark (IsTextPlace (D.data e.document.tables) e.document.document.content.text)
         × (length (chars (string_bytes e.query)) ≤ 64)
+        × (length (chars (string_bytes e.other)) ≤ 64)
         × IsAnswer e.ask (string_bytes e.answer)
-        × BeganAt (D.data e.document.tables) e.document.document.content.text e.seek e.origin };
+        × BeganAt (D.data e.document.tables) e.document.document.content.text e.seek e.origin
+        × StandsAt (D.data e.document.tables) e.aim (string_bytes e.query) e.document.document.content.text e.seek e.at e.count };
 }
 
 impl<D: BidiData + Drop> Editor<D> {
@@ -156,11 +167,25 @@ impl<D: BidiData + Drop> Editor<D> {
         self.query.as_str()
     }
 
+    /// The text that replaces matches. No memory.
+    pub fn other(&self) -> &str
+        ensures { result.now ≡ self.now.editor.other }
+    {
+        self.other.as_str()
+    }
+
     /// Whether a search is on. No memory.
     pub fn seek(&self) -> Seek
         ensures { result ≡ self.now.editor.seek }
     {
         self.seek
+    }
+
+    /// What the search, or the latest one, is for. No memory.
+    pub fn aim(&self) -> Aim
+        ensures { result ≡ self.now.editor.aim }
+    {
+        self.aim
     }
 
     /// What the user is asked. No memory.

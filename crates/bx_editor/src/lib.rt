@@ -1,6 +1,7 @@
 //! The editor: a text, the cursor's place, the effect of keys on them, and the picture of the window.
 #![tactic(auto)]
 
+pub mod aim;
 mod asking;
 mod asking_laws;
 mod editing;
@@ -13,10 +14,13 @@ mod matches;
 pub mod message;
 mod moving;
 mod opening;
+mod other;
 mod picture;
 mod putting;
 mod query;
 mod region;
+mod replace_laws;
+mod replacing;
 mod replay;
 mod run_laws;
 mod runs;
@@ -30,6 +34,7 @@ mod telling;
 mod work_laws;
 mod wrapping;
 
+pub use aim::Aim;
 pub use asking_laws::{
     answer_is_a_run, code_puts_in, isolates_raise, letter_isolates, letter_puts_in, letter_wraps,
     prompts_are_shown, questions_change_themselves, tell_shows, tells_what_stands,
@@ -43,6 +48,10 @@ pub use laws::{
     undo_gives_back,
 };
 pub use message::Message;
+pub use replace_laws::{
+    enter_replaces, find_passes_over, replace_replaces_all, replaced_comes_back, same_letters_stay,
+    shown_stands,
+};
 pub use run_laws::{
     paste_is_a_run, redo_run_mirrors_undo_run, run_keys_are_steps, unchanged_is_stored,
     word_is_a_run,

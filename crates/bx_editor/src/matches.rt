@@ -1,14 +1,14 @@
 //! The next and previous match of a query, and the cursor's place there.
-ghost use Rattle.std.specs.Prelude.{◌≡◌, ◌≤◌, ◌==◌, not, Some, IfOk, IfSome, chars, length};
-ghost use Rattle.bx_find.specs.Letters.{letters};
-ghost use Rattle.bx_find.specs.Matches.{first_from, last_before};
+ghost use Rattle.std.specs.Prelude.{◌≡◌, ◌≤◌, ◌==◌, not, None, Some, IfOk, IsCharBoundary, IfSome, chars, length};
+ghost use Rattle.bx_find.specs.Letters.{letters_by};
+ghost use Rattle.bx_find.specs.Matches.{first_from_by, last_before_by};
 ghost use Rattle.bx_view.specs.Places.{IsTextPlace};
 ghost use Rattle.bx_document.specs.Document.{rows};
 ghost use Rattle.bx_editor.specs.Search.{backward, forward, match_or, not_found};
 
 use crate::message::Message;
 use bx_document::Document;
-use bx_find::Query;
+use bx_find::{Query, Reading};
 use bx_terms::OutOfMemory;
 use bx_ucd::BidiData;
 
@@ -33,11 +33,15 @@ const NOT_FOUND: Landing = Landing {
 };
 
 /// Whether a query of at most 64 characters has letters to be sought. No memory.
-pub(crate) fn has_letters<D: BidiData + Drop>(document: &Document<D>, query: &str) -> bool
+pub(crate) fn has_letters<D: BidiData + Drop>(
+    document: &Document<D>,
+    reading: Reading,
+    query: &str,
+) -> bool
     requires few { length (chars query.now) ≤ 64 }
-    ensures { result ≡ not (length (letters (D.data document.now.tables) (chars query.now)) == 0) }
+    ensures { result ≡ not (length (letters_by (D.data document.now.tables) reading (chars query.now)) == 0) }
 {
-    document.query(query).is_some()
+    document.query(reading, query).is_some()
 }
 
 /// Leads to the place of a match.
@@ -59,39 +63,45 @@ fn at_match<D: BidiData + Drop>(
     })
 }
 
-/// Leads to the first match of the text, if there is one.
+/// Leads to the first match of the text, if there is one; none is at or after `place`.
 ///
 /// Errors: `OutOfMemory`.
 fn from_start<D: BidiData + Drop>(
     document: &mut Document<D>,
+    reading: Reading,
     sought: &Query,
+    place: usize,
 ) -> Result<Landing, OutOfMemory>
+    requires bounds { IsCharBoundary document.old.document.content.text place }
+    requires none_from { first_from_by (D.data document.old.tables) reading sought.now document.old.document.content.text place ≡ None }
     ensures same { document.new ≡ document.old }
     ensures landing { IfOk result (λ l. l ≡ match_or (rows (D.data document.old.tables) document.old.document) (Some Message.FromStart) not_found
-        (first_from (D.data document.old.tables) sought.now document.old.document.content.text 0)) }
+        (first_from_by (D.data document.old.tables) reading sought.now document.old.document.content.text 0)) }
     ensures text_place { IfOk result (λ l. IfSome l.place (IsTextPlace (D.data document.old.tables) document.old.document.content.text)) }
 {
-    // proof only: the text is UTF-8
-    let _utf8 = document.len();
-    match document.first_from(sought, 0) {
+    match document.first_before(reading, sought, place) {
         Some(offset) => at_match(document, offset, Some(Message::FromStart)),
         None => Ok(NOT_FOUND),
     }
 }
 
-/// Leads to the last match of the text, if there is one.
+/// Leads to the last match of the text, if there is one; none is before `place`.
 ///
 /// Errors: `OutOfMemory`.
 fn from_end<D: BidiData + Drop>(
     document: &mut Document<D>,
+    reading: Reading,
     sought: &Query,
+    place: usize,
 ) -> Result<Landing, OutOfMemory>
+    requires bounds { IsCharBoundary document.old.document.content.text place }
+    requires none_before { last_before_by (D.data document.old.tables) reading sought.now document.old.document.content.text place ≡ None }
     ensures same { document.new ≡ document.old }
     ensures landing { IfOk result (λ l. l ≡ match_or (rows (D.data document.old.tables) document.old.document) (Some Message.FromEnd) not_found
-        (last_before (D.data document.old.tables) sought.now document.old.document.content.text (length document.old.document.content.text))) }
+        (last_before_by (D.data document.old.tables) reading sought.now document.old.document.content.text (length document.old.document.content.text))) }
     ensures text_place { IfOk result (λ l. IfSome l.place (IsTextPlace (D.data document.old.tables) document.old.document.content.text)) }
 {
-    match document.last_before(sought, document.len()) {
+    match document.last_from(reading, sought, place) {
         Some(offset) => at_match(document, offset, Some(Message::FromEnd)),
         None => Ok(NOT_FOUND),
     }
@@ -103,24 +113,25 @@ fn from_end<D: BidiData + Drop>(
 /// Errors: `OutOfMemory`.
 pub(crate) fn forward<D: BidiData + Drop>(
     document: &mut Document<D>,
+    reading: Reading,
     query: &str,
     place: usize,
 ) -> Result<Landing, OutOfMemory>
     requires few { length (chars query.now) ≤ 64 }
     requires text_place { IsTextPlace (D.data document.old.tables) document.old.document.content.text place }
     ensures same { document.new ≡ document.old }
-    ensures landing { IfOk result (λ l. l ≡ forward (D.data document.old.tables) (rows (D.data document.old.tables) document.old.document)
-        document.old.document.content.text place (letters (D.data document.old.tables) (chars query.now))) }
+    ensures landing { IfOk result (λ l. l ≡ forward (D.data document.old.tables) reading (rows (D.data document.old.tables) document.old.document)
+        document.old.document.content.text place (letters_by (D.data document.old.tables) reading (chars query.now))) }
     ensures text_place { IfOk result (λ l. IfSome l.place (IsTextPlace (D.data document.old.tables) document.old.document.content.text)) }
 {
     // proof only: the text is UTF-8
     let _utf8 = document.len();
-    let Some(sought) = document.query(query) else {
+    let Some(sought) = document.query(reading, query) else {
         return Ok(NOTHING_SOUGHT);
     };
-    match document.first_from(&sought, place) {
+    match document.first_from(reading, &sought, place) {
         Some(offset) => at_match(document, offset, None),
-        None => from_start(document, &sought),
+        None => from_start(document, reading, &sought, place),
     }
 }
 
@@ -130,20 +141,24 @@ pub(crate) fn forward<D: BidiData + Drop>(
 /// Errors: `OutOfMemory`.
 pub(crate) fn backward<D: BidiData + Drop>(
     document: &mut Document<D>,
+    reading: Reading,
     query: &str,
     place: usize,
 ) -> Result<Landing, OutOfMemory>
     requires few { length (chars query.now) ≤ 64 }
+    requires text_place { IsTextPlace (D.data document.old.tables) document.old.document.content.text place }
     ensures same { document.new ≡ document.old }
-    ensures landing { IfOk result (λ l. l ≡ backward (D.data document.old.tables) (rows (D.data document.old.tables) document.old.document)
-        document.old.document.content.text place (letters (D.data document.old.tables) (chars query.now))) }
+    ensures landing { IfOk result (λ l. l ≡ backward (D.data document.old.tables) reading (rows (D.data document.old.tables) document.old.document)
+        document.old.document.content.text place (letters_by (D.data document.old.tables) reading (chars query.now))) }
     ensures text_place { IfOk result (λ l. IfSome l.place (IsTextPlace (D.data document.old.tables) document.old.document.content.text)) }
 {
-    let Some(sought) = document.query(query) else {
+    // proof only: the text is UTF-8
+    let _utf8 = document.len();
+    let Some(sought) = document.query(reading, query) else {
         return Ok(NOTHING_SOUGHT);
     };
-    match document.last_before(&sought, place) {
+    match document.last_before(reading, &sought, place) {
         Some(offset) => at_match(document, offset, None),
-        None => from_end(document, &sought),
+        None => from_end(document, reading, &sought, place),
     }
 }

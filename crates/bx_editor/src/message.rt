@@ -42,6 +42,8 @@ pub enum Message {
     MoreThanOneLine,
     /// The answer writes no character's code.
     NoSuchCharacter,
+    /// Replacing has ended, and so many matches were replaced.
+    Replaced(usize),
     /// What stands at the cursor's place: the state tells it, and not the message.
     Told,
     /// What the host tells.
@@ -85,7 +87,7 @@ fn notice_text(notice: Notice) -> &'static str
 }
 
 impl Message {
-    /// The message's text in the status row.
+    /// The message's words in the status row, without a number that stands before them.
     pub fn text(self) -> &'static str
         ensures { result.now ≡ message_text self }
     {
@@ -114,6 +116,7 @@ impl Message {
             Message::MoreHelp => "F4 replace ^G line ^K insert ^T tell ^Y redo ^R back ^L paint",
             Message::MoreThanOneLine => "more than one line",
             Message::NoSuchCharacter => "no such character",
+            Message::Replaced(_) => " replaced",
             Message::Told => "",
             Message::Notice(notice) => notice_text(notice),
         }

@@ -5,6 +5,7 @@ ghost use Rattle.bx_grid.specs.Picture.{is_size};
 ghost use Rattle.bx_editor.specs.Editor.{at_start};
 ghost use Rattle.bx_editor.specs.Opening.{Causes, IsLongestUtf8};
 
+use crate::aim::Aim;
 use crate::editor::Editor;
 use crate::error::OpenError;
 use crate::seek::Seek;
@@ -68,7 +69,11 @@ impl<D: BidiData + Drop> Editor<D> {
                 held: String::new(alloc),
                 query: String::new(alloc),
                 seek: Seek::Off,
+                aim: Aim::Find,
                 origin: 0,
+                other: String::new(alloc),
+                at: 0,
+                count: 0,
                 ask: Ask::Off,
                 answer: String::new(alloc),
                 runs: Runs::new(alloc),

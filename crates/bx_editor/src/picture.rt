@@ -62,7 +62,8 @@ impl<D: BidiData + Drop> Editor<D> {
         Ok(())
     }
 
-    /// Scrolls from the offset `top` to the cursor and draws the window, with the region in the other rendition. Returns the
+    /// Scrolls from the offset `top` to the cursor and draws the window, with the region, or the match that is shown, in the other
+    /// rendition. Returns the
     /// offset of the new top row, and the picture. It is drawn on `page`, a grid of the window's size. Rows that `page` shows
     /// already are not written again.
     ///
@@ -92,7 +93,7 @@ impl<D: BidiData + Drop> Editor<D> {
         // proof only: the text is UTF-8
         let _utf8 = self.document.len();
         let count = text_height(self.height);
-        let region = self.region();
+        let region = self.seen();
         let shown = self
             .document
             .show(&mut page, top, self.place, count, region)?;

@@ -1,20 +1,32 @@
-//! The query of a search: a text of at most 64 characters.
+//! The texts of a search: the query and the other text, each of at most 64 characters.
 ghost use Rattle.std.specs.Prelude.{◌≡◌, ◌≤◌, chars, length};
-ghost use Rattle.bx_editor.specs.Search.{kept};
+ghost use Rattle.bx_editor.specs.Search.{kept, reading};
 
+use crate::aim::Aim;
 use crate::seek::Seek;
+use bx_find::Reading;
 
-/// The most characters that a query has.
+/// The most characters that a query, or another text, has.
 pub(crate) const LONGEST_QUERY: usize = 64;
 
-/// The query that a key lengthens or shortens: empty if the search has just begun, so that typing replaces the latest query.
-pub(crate) fn kept(seek: Seek, query: &str) -> &str
-    requires few { length (chars query.now) ≤ 64 }
-    ensures kept { result.now ≡ kept seek query.now }
+/// How letters are read: widely to be found, closely to be replaced.
+pub(crate) fn reading_of(aim: Aim) -> Reading
+    ensures { result ≡ reading aim }
+{
+    match aim {
+        Aim::Find => Reading::Wide,
+        Aim::Replace => Reading::Close,
+    }
+}
+
+/// The text that a key lengthens or shortens: empty if it was just asked for, so that typing replaces the latest one.
+pub(crate) fn kept(seek: Seek, text: &str) -> &str
+    requires few { length (chars text.now) ≤ 64 }
+    ensures kept { result.now ≡ kept seek text.now }
     ensures few { length (chars result.now) ≤ 64 }
 {
     match seek {
-        Seek::Begun => "",
-        Seek::Off | Seek::Typed => query,
+        Seek::Begun | Seek::WithBegun => "",
+        Seek::Off | Seek::Typed | Seek::WithTyped | Seek::Replacing => text,
     }
 }

@@ -6,11 +6,13 @@ ghost use Rattle.bx_editor.specs.Search.{after_beginning, after_find, after_find
 ghost use Rattle.bx_editor.specs.Search.{landed, next_or_start, without_search};
 ghost use Rattle.bx_editor.specs.Selecting.{unselected};
 
+use crate::aim::Aim;
 use crate::editor::Editor;
 use crate::matches::{Landing, backward, forward, has_letters};
-use crate::query::{LONGEST_QUERY, kept};
+use crate::query::{LONGEST_QUERY, kept, reading_of};
 use crate::seek::Seek;
 use bx_asking::{lengthened, shortened};
+use bx_find::Reading;
 use bx_runs::Typing;
 use bx_terms::OutOfMemory;
 use bx_ucd::BidiData;
@@ -18,12 +20,13 @@ use bx_view::{Logical, Move};
 
 impl<D: BidiData + Drop> Editor<D> {
     /// Begins a search at the place, with the query of the latest one. An old selection is taken off.
-    pub(crate) fn begin_search(&mut self)
-        ensures { self.new ≡ record self.old { editor = after_beginning (unselected (cleared self.old.editor)) } }
+    pub(crate) fn begin_search(&mut self, aim: Aim)
+        ensures { self.new ≡ record self.old { editor = after_beginning aim (unselected (cleared self.old.editor)) } }
     {
         self.unselect();
         self.origin = self.place;
         self.seek = Seek::Begun;
+        self.aim = aim;
         self.clear();
     }
 
@@ -45,7 +48,7 @@ impl<D: BidiData + Drop> Editor<D> {
     }
 
     /// Moves the cursor to where a match is, and sets the message. No memory.
-    fn settle_at(&mut self, landing: Landing)
+    pub(crate) fn settle_at(&mut self, landing: Landing)
         requires place { IfSome landing.place (IsTextPlace (D.data self.old.tables) self.old.editor.content.text) }
         ensures { self.new ≡ record self.old { editor = landed (cleared self.old.editor) landing } }
     {
@@ -84,7 +87,13 @@ impl<D: BidiData + Drop> Editor<D> {
         }
         let kept = kept(self.seek, self.query.as_str());
         let query = lengthened(*self.query.allocator(), kept, c, LONGEST_QUERY)?;
-        let landing = forward(&mut self.document, query.as_str(), self.place)?;
+        let landing = forward(
+            &mut self.document,
+            reading_of(self.aim),
+            query.as_str(),
+            self.place,
+        )?;
+        self.seek = Seek::Typed;
         self.query = query;
         self.land(landing);
         Ok(())
@@ -100,7 +109,13 @@ impl<D: BidiData + Drop> Editor<D> {
     {
         let kept = kept(self.seek, self.query.as_str());
         let query = shortened(*self.query.allocator(), kept)?;
-        let landing = forward(&mut self.document, query.as_str(), self.origin)?;
+        let landing = forward(
+            &mut self.document,
+            reading_of(self.aim),
+            query.as_str(),
+            self.origin,
+        )?;
+        self.seek = Seek::Typed;
         self.query = query;
         self.place = self.origin;
         self.land(landing);
@@ -133,7 +148,12 @@ impl<D: BidiData + Drop> Editor<D> {
         ensures err { OnErr result (self.new ≡ self.old) }
     {
         let next = self.next_or_start()?;
-        let landing = forward(&mut self.document, self.query.as_str(), next)?;
+        let landing = forward(
+            &mut self.document,
+            reading_of(self.aim),
+            self.query.as_str(),
+            next,
+        )?;
         self.land(landing);
         Ok(())
     }
@@ -145,13 +165,16 @@ impl<D: BidiData + Drop> Editor<D> {
         }) }
         ensures err { OnErr result (self.new ≡ self.old) }
     {
-        if !has_letters(&self.document, self.query.as_str()) {
-            self.begin_search();
+        if !has_letters(&self.document, reading_of(self.aim), self.query.as_str()) {
+            self.begin_search(Aim::Find);
             return Ok(());
         }
         let next = self.next_or_start()?;
-        let landing = forward(&mut self.document, self.query.as_str(), next)?;
+        let query = self.query.as_str();
+        let landing = forward(&mut self.document, Reading::Wide, query, next)?;
         self.settle_at(landing);
+        self.seek = Seek::Off;
+        self.aim = Aim::Find;
         self.unselect();
         Ok(())
     }
@@ -164,7 +187,12 @@ impl<D: BidiData + Drop> Editor<D> {
         }) }
         ensures err { OnErr result (self.new ≡ self.old) }
     {
-        let landing = backward(&mut self.document, self.query.as_str(), self.place)?;
+        let landing = backward(
+            &mut self.document,
+            reading_of(self.aim),
+            self.query.as_str(),
+            self.place,
+        )?;
         self.land(landing);
         Ok(())
     }

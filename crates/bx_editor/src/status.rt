@@ -2,8 +2,9 @@
 ghost use Rattle.std.specs.Prelude.{◌≡◌, ◌++◌, true, All, IfOk, chars, length, string_bytes};
 ghost use Rattle.bx_terms.specs.Characters.{are_ascii_printable};
 ghost use Rattle.bx_document.specs.QueryRow.{IsNarrow};
-ghost use Rattle.bx_editor.specs.Status.{glyph_row, letter_glyphs, prompt_glyphs, prompt_text, search_glyphs, status_line, typed_glyphs};
+ghost use Rattle.bx_editor.specs.Status.{glyph_row, letter_glyphs, prompt_glyphs, prompt_text, query_prompt, search_glyphs, search_prompt, status_line, typed_glyphs};
 
+use crate::aim::Aim;
 use crate::editor::Editor;
 use crate::seek::Seek;
 use bx_asking::Ask;
@@ -49,25 +50,50 @@ pub(crate) fn status_line(
     Ok(line)
 }
 
-/// Draws a status row whose text has a query after it, while a search is on.
+fn query_prompt(aim: Aim) -> &'static str
+    ensures text { result.now ≡ query_prompt aim }
+    ensures printable { are_ascii_printable result.now ≡ true }
+{
+    match aim {
+        Aim::Find => " find: ",
+        Aim::Replace => " replace: ",
+    }
+}
+
+fn search_prompt(aim: Aim, seek: Seek) -> &'static str
+    ensures text { result.now ≡ search_prompt aim seek }
+    ensures printable { are_ascii_printable result.now ≡ true }
+{
+    match seek {
+        Seek::Off => "",
+        Seek::Begun | Seek::Typed => query_prompt(aim),
+        Seek::WithBegun | Seek::WithTyped => " with: ",
+        Seek::Replacing => " Enter replace ^W next F4 all ^C end",
+    }
+}
+
+/// Draws a status row whose text has the prompt of a search after it, and the query or the other text.
 fn draw_search<D: BidiData + Drop>(
     document: &Document<D>,
     line: String,
+    aim: Aim,
     seek: Seek,
     query: &str,
+    other: &str,
 ) -> Result<OwnedRow, OutOfMemory>
     requires { are_ascii_printable (string_bytes line) ≡ true }
     ensures row { IfOk result (λ row. row ≡ glyph_row document.now.document.w
-        (letter_glyphs (string_bytes line) ++ search_glyphs (D.data document.now.tables) seek query.now)) }
+        (letter_glyphs (string_bytes line)
+        ++ (letter_glyphs (search_prompt aim seek) ++ search_glyphs (D.data document.now.tables) query.now other.now seek))) }
     ensures filled { IfOk result (λ row. length row ≡ document.now.document.w) }
 {
-    if seek == Seek::Off {
-        return document.draw_text(line.as_str());
-    }
     let mut line = line;
-    line.push_str(" find: ")?;
-    let row = document.draw_query(line.as_str(), query)?;
-    Ok(row)
+    line.push_str(search_prompt(aim, seek))?;
+    match seek {
+        Seek::Off | Seek::Replacing => document.draw_text(line.as_str()),
+        Seek::Begun | Seek::Typed => document.draw_query(line.as_str(), query),
+        Seek::WithBegun | Seek::WithTyped => document.draw_query(line.as_str(), other),
+    }
 }
 
 fn prompt_text(ask: Ask) -> &'static str
@@ -102,7 +128,8 @@ fn draw_question<D: BidiData + Drop>(
 }
 
 impl<D: BidiData + Drop> Editor<D> {
-    /// Draws the status row: its text, and the prompt of a question and the answer, or the query while a search is on.
+    /// Draws the status row: its text, and the prompt of a question and the answer, or that of a search and the query or the other
+    /// text.
     ///
     /// Errors: `OutOfMemory`.
     pub(crate) fn draw_status(&self, line: String) -> Result<OwnedRow, OutOfMemory>
@@ -112,7 +139,14 @@ impl<D: BidiData + Drop> Editor<D> {
         ensures filled { IfOk result (λ row. length row ≡ self.now.editor.width) }
     {
         match self.ask {
-            Ask::Off => draw_search(&self.document, line, self.seek, self.query.as_str()),
+            Ask::Off => draw_search(
+                &self.document,
+                line,
+                self.aim,
+                self.seek,
+                self.query.as_str(),
+                self.other.as_str(),
+            ),
             Ask::Line | Ask::Name | Ask::Code => {
                 draw_question(&self.document, line, self.ask, self.answer.as_str())
             }

@@ -1,7 +1,7 @@
 //! What stands at the cursor's place, and the message of the status row.
-ghost use Rattle.std.specs.Prelude.{◌≡◌, ◌++◌, true, IfOk, string_bytes};
+ghost use Rattle.std.specs.Prelude.{◌≡◌, ◌++◌, [], true, IfOk, string_bytes};
 ghost use Rattle.bx_terms.specs.Characters.{are_ascii_printable};
-ghost use Rattle.bx_editor.specs.Status.{message_part};
+ghost use Rattle.bx_editor.specs.Status.{message_part, shown_text};
 ghost use Rattle.bx_editor.specs.Telling.{told_at_place};
 
 use crate::editor::Editor;
@@ -10,6 +10,19 @@ use bx_asking::write_told;
 use bx_terms::OutOfMemory;
 use bx_ucd::BidiData;
 use bx_view::{Logical, Move};
+use itoa::Buffer;
+
+/// Writes how many matches were replaced.
+///
+/// Errors: `OutOfMemory`, and a part is written.
+fn write_replaced(line: &mut String, count: usize) -> Result<(), OutOfMemory>
+    ensures { IfOk result (λ _. string_bytes line.new ≡ string_bytes line.old ++ shown_text [] (Message.Replaced count)) }
+{
+    let mut number = Buffer::new();
+    line.push_str(number.format(count))?;
+    line.push_str(Message::Replaced(count).text())?;
+    Ok(())
+}
 
 impl<D: BidiData + Drop> Editor<D> {
     /// Writes the characters of the unit at the place with their classes, and its level; at the text's end, that.
@@ -46,10 +59,13 @@ impl<D: BidiData + Drop> Editor<D> {
             return Ok(());
         };
         line.push_str(" ")?;
-        if message == Message::Told {
-            return self.write_told(line);
+        match message {
+            Message::Told => self.write_told(line),
+            Message::Replaced(count) => write_replaced(line, count),
+            _ => {
+                line.push_str(message.text())?;
+                Ok(())
+            }
         }
-        line.push_str(message.text())?;
-        Ok(())
     }
 }

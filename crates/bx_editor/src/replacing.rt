@@ -1,0 +1,180 @@
+//! A match that is shown: it is replaced or passed over, or it and all that follow are replaced.
+ghost use Rattle.std.specs.Prelude.{◌≡◌, ◌+◌, ◌≤◌, if◌then◌else◌, None, IfOk, IfSome, IsCharBoundary, MatchOption, OnErr, OnOk, length};
+ghost use Rattle.bx_terms.specs.Sizes.{largest_text};
+ghost use Rattle.bx_text.specs.Edits.{IsRange, fits};
+ghost use Rattle.bx_view.specs.Places.{IsTextPlace};
+ghost use Rattle.bx_editor.specs.Editor.{cleared};
+ghost use Rattle.bx_editor.specs.Replacing.{after_ending, after_passing_over, after_replacing, after_replacing_all, match_stop, next_behind, next_match, seen, with_matches_replaced};
+
+use crate::editing::{settle, stored_behind};
+use crate::editor::Editor;
+use crate::message::Message;
+use crate::query::reading_of;
+use crate::seek::Seek;
+use bx_terms::OutOfMemory;
+use bx_ucd::BidiData;
+
+impl<D: BidiData + Drop> Editor<D> {
+    /// The offset behind the match that is shown. No memory.
+    fn match_stop(&self) -> usize
+        requires shown { self.now.editor.seek ≡ Seek.Replacing }
+        ensures stop { result ≡ match_stop (D.data self.now.tables) self.now.editor }
+        ensures range { IsRange self.now.editor.content.text self.now.editor.at result }
+    {
+        let Some(query) = self.sought() else {
+            unreachable!()
+        };
+        self.document
+            .match_end(reading_of(self.aim), &query, self.at)
+    }
+
+    /// The offsets of the part of the text in the other rendition: the units of the match that is shown, else the region. No memory.
+    pub(crate) fn seen(&self) -> (usize, usize)
+        ensures { result ≡ seen (D.data self.now.tables) self.now.editor }
+    {
+        match self.seek {
+            Seek::Replacing => (self.place, self.match_stop()),
+            _ => self.region(),
+        }
+    }
+
+    /// The first match at or after an offset. No memory.
+    fn next_match(&self, x: usize) -> Option<usize>
+        requires shown { self.now.editor.seek ≡ Seek.Replacing }
+        requires bounds { IsCharBoundary self.now.editor.content.text x }
+        ensures next { result ≡ next_match (D.data self.now.tables) self.now.editor x }
+        ensures boundary { IfSome result (IsCharBoundary self.now.editor.content.text) }
+    {
+        let Some(query) = self.sought() else {
+            unreachable!()
+        };
+        self.document.first_from(reading_of(self.aim), &query, x)
+    }
+
+    /// Ends replacing, and tells how many matches were replaced. No memory.
+    pub(crate) fn end_replacing(&mut self)
+        ensures { self.new ≡ record self.old { editor = after_ending (cleared self.old.editor) } }
+    {
+        self.tell(Message::Replaced(self.count));
+        self.seek = Seek::Off;
+    }
+
+    /// Goes on to the next match behind the first character of this one; if there is none, replacing ends.
+    pub(crate) fn pass_over(&mut self) -> Result<(), OutOfMemory>
+        requires shown { self.old.editor.seek ≡ Seek.Replacing }
+        ensures ok { OnOk result (self.new ≡ record self.old {
+          editor = after_passing_over (D.data self.old.tables) (cleared self.old.editor);
+        }) }
+        ensures err { OnErr result (self.new ≡ self.old) }
+    {
+        let behind = self.document.behind_character(self.at);
+        let Some(at) = self.next_match(behind) else {
+            self.end_replacing();
+            return Ok(());
+        };
+        self.place = self.document.place_at(at)?;
+        self.at = at;
+        self.clear();
+        Ok(())
+    }
+
+    /// The next match behind `stop`, once the bytes from the match to `stop` have given way to `new`: its offset then, and its
+    /// place.
+    ///
+    /// Errors: `OutOfMemory`.
+    fn next_behind(&mut self, stop: usize, new: &str) -> Result<Option<(usize, usize)>, OutOfMemory>
+        requires shown { self.old.editor.seek ≡ Seek.Replacing }
+        requires range { IsRange self.old.editor.content.text self.old.editor.at stop }
+        requires fits { fits self.old.editor.content.text self.old.editor.at stop new.now ≡ true }
+        ensures same { self.new ≡ self.old }
+        ensures next { IfOk result (λ next. next ≡ next_behind (D.data self.old.tables) self.old.editor stop new.now) }
+    {
+        let Some(offset) = self.next_match(stop) else {
+            return Ok(None);
+        };
+        let place = self.document.place_behind(self.at, stop, new, offset)?;
+        Ok(Some((offset - stop + self.at + new.len(), place)))
+    }
+
+    /// Puts other bytes in place of those from the match to `stop`, in which there are `count` matches. Returns whether there was
+    /// room.
+    fn exchange(&mut self, stop: usize, new: &str, count: usize) -> Result<bool, OutOfMemory>
+        requires range { IsRange self.old.editor.content.text self.old.editor.at stop }
+        requires few { self.old.editor.count + count ≤ largest_text }
+        ensures room { IfOk result (λ room. room ≡ fits self.old.editor.content.text self.old.editor.at stop new.now) }
+        ensures ok { IfOk result (λ room. self.new ≡ record self.old {
+          editor = if room then with_matches_replaced (D.data self.old.tables) self.old.editor stop new.now count else self.old.editor;
+        }) }
+        ensures err { OnErr result (self.new ≡ self.old) }
+    {
+        self.runs.reserve()?;
+        let n = self.document.past_len();
+        let Some(place) = self.document.exchange(self.at, stop, new, self.place)? else {
+            return Ok(false);
+        };
+        // A second edit goes on with the first one's run: it changes neither the runs nor what is stored once more.
+        self.runs.edited(n, false);
+        self.stored = stored_behind(n, self.stored);
+        settle(
+            &mut self.place,
+            &mut self.mark,
+            &mut self.soft,
+            &mut self.seek,
+            place,
+        );
+        self.changed = true;
+        self.origin = 0;
+        self.count += count;
+        Ok(true)
+    }
+
+    /// Replaces the match by the other text, and goes on to the next one; if there is none, replacing ends. Without room only sets a
+    /// message.
+    pub(crate) fn replace_match(&mut self) -> Result<(), OutOfMemory>
+        requires shown { self.old.editor.seek ≡ Seek.Replacing }
+        ensures ok { OnOk result (self.new ≡ record self.old {
+          editor = after_replacing (D.data self.old.tables) (cleared self.old.editor);
+        }) }
+        ensures err { OnErr result (self.new ≡ self.old) }
+    {
+        let stop = self.match_stop();
+        if !self.document.has_room(self.at, stop, self.other.as_str()) {
+            self.tell(Message::TextFull);
+            return Ok(());
+        }
+        let other = self.other.clone()?;
+        let next = self.next_behind(stop, other.as_str())?;
+        self.exchange(stop, other.as_str(), 1)?;
+        let Some((at, place)) = next else {
+            self.end_replacing();
+            return Ok(());
+        };
+        self.at = at;
+        self.place = place;
+        self.seek = Seek::Replacing;
+        self.clear();
+        Ok(())
+    }
+
+    /// Replaces the match and all that follow it by the other text, and ends replacing. Without room only sets a message.
+    pub(crate) fn replace_all(&mut self) -> Result<(), OutOfMemory>
+        requires shown { self.old.editor.seek ≡ Seek.Replacing }
+        ensures ok { OnOk result (self.new ≡ record self.old {
+          editor = after_replacing_all (D.data self.old.tables) (cleared self.old.editor);
+        }) }
+        ensures err { OnErr result (self.new ≡ self.old) }
+    {
+        let Some(query) = self.sought() else {
+            unreachable!()
+        };
+        let reading = reading_of(self.aim);
+        let other = self.other.as_str();
+        let Some(swap) = self.document.swap(reading, &query, self.at, other)? else {
+            self.tell(Message::TextFull);
+            return Ok(());
+        };
+        self.exchange(swap.stop, swap.text.as_str(), swap.count)?;
+        self.end_replacing();
+        Ok(())
+    }
+}
