@@ -1,21 +1,15 @@
 //! The effect of each key.
 ghost use Rattle.std.specs.Prelude.{◌≡◌, None, Some, true, false, OnErr, OnOk};
-ghost use Rattle.bx_view.specs.Places.{IsTextPlace};
 ghost use Rattle.bx_editor.specs.Asking.{without_ask};
 ghost use Rattle.bx_editor.specs.Editor.{after_help, after_quit, cleared, next_base, with_base, with_typing};
 ghost use Rattle.bx_editor.specs.Effects.{before};
-ghost use Rattle.bx_editor.specs.Keys.{after_any, after_asking, after_key, after_pressing, after_seeking, answer_of, answered_match, answered_other};
+ghost use Rattle.bx_editor.specs.Keys.{after_any, after_asking, after_key, after_pressing};
 ghost use Rattle.bx_editor.specs.Keys.{is_edit_or_move, is_save, is_size_key, is_told_key};
-ghost use Rattle.bx_editor.specs.Origin.{asks_other, is_queried};
-ghost use Rattle.bx_editor.specs.Putting.{only_paste};
-ghost use Rattle.bx_editor.specs.Replacing.{after_match_letter, after_other_letter, after_sought_letter};
-ghost use Rattle.bx_editor.specs.Search.{without_search};
 
 use crate::aim::Aim;
 use crate::editor::Editor;
 use crate::message::Message;
 use crate::moving::goal_behind;
-use crate::putting::{is_paste, only_paste};
 use crate::seek::Seek;
 use crate::selecting::{aged, soft_behind};
 use bx_asking::Ask;
@@ -161,7 +155,7 @@ impl<D: BidiData + Drop> Editor<D> {
     }
 
     /// Applies a key outside a search.
-    fn press(&mut self, key: Key) -> Result<(), OutOfMemory>
+    pub(crate) fn press(&mut self, key: Key) -> Result<(), OutOfMemory>
         requires no_save { is_save key ≡ false }
         requires typed { is_told_key key ≡ false }
         ensures ok { OnOk result (self.new.editor
@@ -256,207 +250,6 @@ impl<D: BidiData + Drop> Editor<D> {
             }
             Key::Save | Key::Size(..) | Key::Notice(_) => unreachable!(),
             Key::PasteStart | Key::PasteEnd => unreachable!(),
-        }
-    }
-
-    /// Applies a character that is typed in a search; a paste goes on behind it.
-    fn answer(&mut self, c: char) -> Result<(), OutOfMemory>
-        requires origin { IsTextPlace (D.data self.old.tables) self.old.editor.content.text self.old.editor.origin }
-        requires queried { is_queried self.old.editor.seek ≡ true }
-        ensures ok { OnOk result (self.new ≡ record self.old {
-          editor = with_typing (after_sought_letter (D.data self.old.tables) self.old.editor.typing (cleared self.old.editor) c)
-              (only_paste self.old.editor.typing);
-        }) }
-        ensures err { OnErr result (self.new ≡ self.old) }
-    {
-        let typing = self.typing;
-        if c == '\n' && self.aim == Aim::Replace {
-            if is_paste(typing) {
-                self.rest();
-                return Ok(());
-            }
-            return self.ask_other();
-        }
-        self.type_letter(c)?;
-        self.typing = only_paste(typing);
-        Ok(())
-    }
-
-    /// Applies a key in a search, before the other text is asked for.
-    fn press_in_search(&mut self, key: Key) -> Result<(), OutOfMemory>
-        requires no_save { is_save key ≡ false }
-        requires typed { is_told_key key ≡ false }
-        requires origin { IsTextPlace (D.data self.old.tables) self.old.editor.content.text self.old.editor.origin }
-        requires queried { is_queried self.old.editor.seek ≡ true }
-        ensures ok { OnOk result (self.new.editor
-            ≡ after_seeking (D.data self.old.tables) None (before self.old.editor) (cleared self.old.editor) key) }
-        ensures tables { self.new.tables ≡ self.old.tables }
-        ensures err { OnErr result (self.new ≡ self.old) }
-        ensures edits { OnErr result (is_edit_or_move key ≡ true) }
-    {
-        match key {
-            Key::Insert(c) => self.answer(c),
-            Key::NewLine => self.answer('\n'),
-            Key::Erase | Key::Delete | Key::ErasePoint => self.shorten(),
-            Key::Find | Key::FindNext => self.find_next(),
-            Key::FindBack => self.find_previous(),
-            Key::Replace => self.ask_other(),
-            Key::Quit | Key::Copy | Key::Cancel => {
-                self.give_up();
-                Ok(())
-            }
-            Key::Repaint => {
-                self.rest();
-                Ok(())
-            }
-            _ => self.press_last(key),
-        }
-    }
-
-    /// Applies a key with its usual effect, and ends the search.
-    fn press_last(&mut self, key: Key) -> Result<(), OutOfMemory>
-        requires no_save { is_save key ≡ false }
-        requires typed { is_told_key key ≡ false }
-        ensures ok { OnOk result (self.new.editor
-            ≡ without_search (after_pressing (D.data self.old.tables) None (before self.old.editor) (cleared self.old.editor) key)) }
-        ensures tables { self.new.tables ≡ self.old.tables }
-        ensures err { OnErr result (self.new ≡ self.old) }
-        ensures edits { OnErr result (is_edit_or_move key ≡ true) }
-    {
-        self.press(key)?;
-        self.leave_search();
-        Ok(())
-    }
-
-    /// Applies a character that is typed as part of the other text; a paste goes on behind it.
-    fn answer_other(&mut self, c: char) -> Result<(), OutOfMemory>
-        requires asked { asks_other self.old.editor.seek ≡ true }
-        ensures ok { OnOk result (self.new ≡ record self.old {
-          editor = with_typing (after_other_letter (D.data self.old.tables) self.old.editor.typing (cleared self.old.editor) c)
-              (only_paste self.old.editor.typing);
-        }) }
-        ensures err { OnErr result (self.new ≡ self.old) }
-    {
-        let typing = self.typing;
-        if c != '\n' {
-            self.type_other(c)?;
-        } else if is_paste(typing) {
-            self.rest();
-        } else {
-            self.show_match();
-        }
-        self.typing = only_paste(typing);
-        Ok(())
-    }
-
-    /// Applies a key while the other text is asked for.
-    fn press_for_other(&mut self, key: Key) -> Result<(), OutOfMemory>
-        requires no_save { is_save key ≡ false }
-        requires typed { is_told_key key ≡ false }
-        requires origin { IsTextPlace (D.data self.old.tables) self.old.editor.content.text self.old.editor.origin }
-        requires asked { asks_other self.old.editor.seek ≡ true }
-        ensures ok { OnOk result (self.new.editor
-            ≡ answered_other (D.data self.old.tables) None (before self.old.editor) (cleared self.old.editor) key (answer_of key)) }
-        ensures tables { self.new.tables ≡ self.old.tables }
-        ensures err { OnErr result (self.new ≡ self.old) }
-        ensures edits { OnErr result (is_edit_or_move key ≡ true) }
-    {
-        match key {
-            Key::Insert(c) => self.answer_other(c),
-            Key::NewLine => self.answer_other('\n'),
-            Key::Erase | Key::Delete | Key::ErasePoint => self.shorten_other(),
-            Key::Find | Key::FindNext | Key::FindBack => {
-                self.begin_search(Aim::Find);
-                Ok(())
-            }
-            Key::Replace => {
-                self.show_match();
-                Ok(())
-            }
-            Key::Quit | Key::Copy | Key::Cancel => {
-                self.give_up();
-                Ok(())
-            }
-            Key::Repaint => {
-                self.rest();
-                Ok(())
-            }
-            _ => self.press_behind(key),
-        }
-    }
-
-    /// Applies a character that is typed while a match is shown.
-    fn answer_match(&mut self, c: char) -> Result<(), OutOfMemory>
-        requires shown { self.old.editor.seek ≡ Seek.Replacing }
-        ensures ok { OnOk result (self.new ≡ record self.old {
-          editor = with_typing (after_match_letter (D.data self.old.tables) self.old.editor.typing (cleared self.old.editor) c)
-              (only_paste self.old.editor.typing);
-        }) }
-        ensures err { OnErr result (self.new ≡ self.old) }
-    {
-        let typing = self.typing;
-        if c == '\n' && !is_paste(typing) {
-            return self.replace_match();
-        }
-        self.clear();
-        self.typing = only_paste(typing);
-        Ok(())
-    }
-
-    /// Applies a key while a match is shown.
-    fn press_at_match(&mut self, key: Key) -> Result<(), OutOfMemory>
-        requires no_save { is_save key ≡ false }
-        requires typed { is_told_key key ≡ false }
-        requires shown { self.old.editor.seek ≡ Seek.Replacing }
-        ensures ok { OnOk result (self.new.editor
-            ≡ answered_match (D.data self.old.tables) None (before self.old.editor) (cleared self.old.editor) key (answer_of key)) }
-        ensures tables { self.new.tables ≡ self.old.tables }
-        ensures err { OnErr result (self.new ≡ self.old) }
-        ensures edits { OnErr result (is_edit_or_move key ≡ true) }
-    {
-        match key {
-            Key::Insert(c) => self.answer_match(c),
-            Key::NewLine => self.answer_match('\n'),
-            Key::Find | Key::FindNext => self.pass_over(),
-            Key::Replace => self.replace_all(),
-            Key::FindBack => {
-                self.begin_search(Aim::Find);
-                Ok(())
-            }
-            Key::Erase | Key::Delete | Key::ErasePoint => {
-                self.clear();
-                Ok(())
-            }
-            Key::Quit | Key::Copy | Key::Cancel => {
-                self.end_replacing();
-                Ok(())
-            }
-            Key::Repaint => {
-                self.rest();
-                Ok(())
-            }
-            _ => self.press_behind(key),
-        }
-    }
-
-    /// Ends the search, and applies a key with its usual effect. A refused key leaves the search.
-    fn press_behind(&mut self, key: Key) -> Result<(), OutOfMemory>
-        requires no_save { is_save key ≡ false }
-        requires typed { is_told_key key ≡ false }
-        ensures ok { OnOk result (self.new.editor
-            ≡ after_pressing (D.data self.old.tables) None (before self.old.editor) (without_search (cleared self.old.editor)) key) }
-        ensures tables { self.new.tables ≡ self.old.tables }
-        ensures err { OnErr result (self.new ≡ self.old) }
-        ensures edits { OnErr result (is_edit_or_move key ≡ true) }
-    {
-        let seek = self.seek;
-        self.leave_search();
-        match self.press(key) {
-            Ok(()) => Ok(()),
-            Err(refused) => {
-                self.seek = seek;
-                Err(refused)
-            }
         }
     }
 

@@ -24,6 +24,7 @@ mod replacing;
 mod replay;
 mod run_laws;
 mod runs;
+mod search_keys;
 mod searching;
 pub mod seek;
 mod selecting;
