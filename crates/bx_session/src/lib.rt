@@ -23,7 +23,7 @@ mod wired;
 
 pub use action::{Action, ActionBytes};
 pub use bx_asking::Ask;
-pub use bx_editor::{OpenError, Seek};
+pub use bx_editor::{Aim, OpenError, Seek};
 pub use device::{Device, DeviceFault};
 pub use end::{End, RunFault};
 pub use error::Refused;

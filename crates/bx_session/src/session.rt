@@ -6,7 +6,7 @@ ghost use Rattle.bx_session.specs.Session.{after_sending, key_of_byte, status_of
 
 use crate::status::Status;
 use bx_asking::Ask;
-use bx_editor::{Editor, Seek};
+use bx_editor::{Aim, Editor, Seek};
 use bx_grid::{Grid, Picture, Screen};
 use bx_keys::{Decoder, Key};
 use bx_ucd::BidiData;
@@ -127,11 +127,25 @@ impl<D: BidiData + Drop> Session<D> {
         self.editor.query()
     }
 
+    /// The text that replaces matches. Allocates nothing.
+    pub fn other(&self) -> &str
+        ensures { result.now ≡ self.now.session.editor.other }
+    {
+        self.editor.other()
+    }
+
     /// Whether a search is on. Allocates nothing.
     pub fn seek(&self) -> Seek
         ensures { result ≡ self.now.session.editor.seek }
     {
         self.editor.seek()
+    }
+
+    /// What the search, or the latest one, is for. Allocates nothing.
+    pub fn aim(&self) -> Aim
+        ensures { result ≡ self.now.session.editor.aim }
+    {
+        self.editor.aim()
     }
 
     /// What the user is asked. Allocates nothing.

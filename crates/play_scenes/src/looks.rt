@@ -2,7 +2,7 @@
 
 use crate::answers::{add_bytes, add_flag, add_number, add_text};
 use crate::scene::Look;
-use bx_session::{Ask, Seek, Session};
+use bx_session::{Aim, Ask, Seek, Session};
 use bx_store::{MemoryStore, Store};
 use bx_ucd::BidiData;
 use std::alloc::{AllocError, Global};
@@ -22,6 +22,17 @@ fn word_of_search(seek: Seek) -> &'static str {
         Seek::Off => "off",
         Seek::Begun => "begun",
         Seek::Typed => "typed",
+        Seek::WithBegun => "with-begun",
+        Seek::WithTyped => "with-typed",
+        Seek::Replacing => "replacing",
+    }
+}
+
+/// The word for what a search is for.
+fn word_of_aim(aim: Aim) -> &'static str {
+    match aim {
+        Aim::Find => "find",
+        Aim::Replace => "replace",
     }
 }
 
@@ -56,6 +67,8 @@ impl<D: BidiData + Drop> Seen<'_, D> {
             Look::Held => add_bytes(looks, session.held().as_bytes()),
             Look::Query => add_bytes(looks, session.query().as_bytes()),
             Look::Seek => looks.push_str(word_of_search(session.seek())),
+            Look::Aim => looks.push_str(word_of_aim(session.aim())),
+            Look::Other => add_bytes(looks, session.other().as_bytes()),
             Look::Ask => looks.push_str(word_of_question(session.ask())),
             Look::Answer => add_bytes(looks, session.answer().as_bytes()),
             Look::Changed => add_flag(looks, session.changed()),

@@ -19,7 +19,7 @@
 //!     J6178         a journal of these bytes is replayed; each byte is a step
 //!
 //! and words that only look: `place`, `mark` (its place, `-` for none), `held` (what was copied or cut last), `query`, `seek` (`off`,
-//! `begun` or `typed`), `ask` (`off`, `line`, `name` or `code`), `answer`, `changed`, `ended`, `told` (whether the session was told the window's last size), `shown` (whether the
+//! `begun`, `typed`, `with-begun`, `with-typed` or `replacing`), `aim` (`find` or `replace`), `other`, `ask` (`off`, `line`, `name` or `code`), `answer`, `changed`, `ended`, `told` (whether the session was told the window's last size), `shown` (whether the
 //! terminal shows the picture last painted), `text`, `kept` (the store's content), `pending` and `line` (the bytes not yet sent, and
 //! not yet read), and `rows=1;3:ab|cd` (whether the terminal shows these rows, with the cursor in line 1 and column 3; `_` is a
 //! blank, braces enclose the characters of one glyph, and a glyph after a backquote is negative).

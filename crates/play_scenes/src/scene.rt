@@ -29,6 +29,10 @@ pub enum Look<'a> {
     Held,
     Query,
     Seek,
+    /// What the search is for.
+    Aim,
+    /// The text that replaces matches.
+    Other,
     Ask,
     Answer,
     Changed,
@@ -93,6 +97,8 @@ fn look_of(word: &str) -> Result<Look<'_>, WordFault> {
         "held" => Ok(Look::Held),
         "query" => Ok(Look::Query),
         "seek" => Ok(Look::Seek),
+        "aim" => Ok(Look::Aim),
+        "other" => Ok(Look::Other),
         "ask" => Ok(Look::Ask),
         "answer" => Ok(Look::Answer),
         "changed" => Ok(Look::Changed),
