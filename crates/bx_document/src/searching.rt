@@ -62,7 +62,6 @@ impl<D: BidiData + Drop> Document<D> {
 
     /// The byte offset of a query's last match before `x`. Allocates nothing.
     pub fn last_before(&self, reading: Reading, query: &Query, x: usize) -> Option<usize>
-        requires bounds { IsCharBoundary self.now.document.content.text x }
         ensures found { result ≡ last_before_by (D.data self.now.tables) reading query.now self.now.document.content.text x }
         ensures boundary { IfSome result (IsCharBoundary self.now.document.content.text) }
     {
@@ -97,7 +96,12 @@ impl<D: BidiData + Drop> Document<D> {
     }
 
     /// A query's first match at or after `x`, and its end. Allocates nothing.
-    pub(crate) fn first_span(&self, reading: Reading, query: &Query, x: usize) -> Option<(usize, usize)>
+    pub(crate) fn first_span(
+        &self,
+        reading: Reading,
+        query: &Query,
+        x: usize,
+    ) -> Option<(usize, usize)>
         requires bounds { IsCharBoundary self.now.document.content.text x }
         ensures spans { MatchOption result
             (spans_from (D.data self.now.tables) reading query.now self.now.document.content.text x ≡ [])

@@ -10,7 +10,7 @@ use Rattle.bx_keys.specs.declared.key.Key.TheVariants.{Insert, Erase, Delete, Ba
 use Rattle.bx_keys.specs.declared.key.Key.TheVariants.{Quit, Undo, Redo, Repaint, Direction, Size, Mark, Copy, Cut, Put}
 use Rattle.bx_keys.specs.declared.key.Key.TheVariants.{Find, FindBack, WordLeft, WordRight, TextStart, TextEnd, Help, Notice}
 use Rattle.bx_keys.specs.declared.key.Key.TheVariants.{EraseWord, DeleteWord, ErasePoint, NewLine, FindNext, Cancel, LineUp, LineDown, PageBack, PageOn}
-use Rattle.bx_keys.specs.declared.key.Key.TheVariants.{Select, UndoRun, RedoRun, GoTo, Name, Tell, PasteStart, PasteEnd}
+use Rattle.bx_keys.specs.declared.key.Key.TheVariants.{Select, UndoRun, RedoRun, GoTo, Replace, Name, Tell, PasteStart, PasteEnd}
 use Rattle.bx_text.specs.Edits.{fits, splice}
 use Rattle.bx_runs.specs.Typing.{goes_on, kind_of}
 use Rattle.bx_runs.specs.declared.typing.Kind.{Kind}
@@ -105,6 +105,7 @@ removing d e Select is = absurd (cc is)
 removing d e UndoRun is = absurd (cc is)
 removing d e RedoRun is = absurd (cc is)
 removing d e GoTo is = absurd (cc is)
+removing d e Replace is = absurd (cc is)
 removing d e Name is = absurd (cc is)
 removing d e Tell is = absurd (cc is)
 removing d e PasteStart is = absurd (cc is)
@@ -330,6 +331,7 @@ gives-way d e Select has some = absurd (some refl)
 gives-way d e UndoRun has some = absurd (some refl)
 gives-way d e RedoRun has some = absurd (some refl)
 gives-way d e GoTo has some = absurd (some refl)
+gives-way d e Replace has some = absurd (some refl)
 gives-way d e Name has some = absurd (some refl)
 gives-way d e Tell has some = absurd (some refl)
 gives-way d e PasteStart has some = absurd (some refl)

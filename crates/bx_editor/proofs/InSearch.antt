@@ -5,7 +5,7 @@ use Rattle.bx_keys.specs.declared.key.Key.TheVariants.{Insert, Erase, Delete, Ba
 use Rattle.bx_keys.specs.declared.key.Key.TheVariants.{Quit, Undo, Redo, Repaint, Direction, Size, Mark, Copy, Cut, Put}
 use Rattle.bx_keys.specs.declared.key.Key.TheVariants.{Find, FindBack, WordLeft, WordRight, TextStart, TextEnd, Help, Notice}
 use Rattle.bx_keys.specs.declared.key.Key.TheVariants.{EraseWord, DeleteWord, ErasePoint, NewLine, FindNext, Cancel, LineUp, LineDown, PageBack, PageOn}
-use Rattle.bx_keys.specs.declared.key.Key.TheVariants.{Select, UndoRun, RedoRun, GoTo, Name, Tell, PasteStart, PasteEnd}
+use Rattle.bx_keys.specs.declared.key.Key.TheVariants.{Select, UndoRun, RedoRun, GoTo, Replace, Name, Tell, PasteStart, PasteEnd}
 use Rattle.bx_keys.specs.declared.notice.Notice as told
 use Rattle.bx_store.specs.declared.store.StoreFault.{StoreFault}
 use Rattle.bx_ucd.specs.Data.{Data}
@@ -13,7 +13,7 @@ use Rattle.bx_asking.specs.declared.question.Ask.{Ask}
 use Rattle.bx_asking.specs.declared.question.Ask.TheVariants as asks
 use Rattle.bx_editor.specs.Asking.{without_ask}
 use Rattle.bx_editor.specs.declared.seek.Seek.{Seek}
-use Rattle.bx_editor.specs.declared.seek.Seek.TheVariants.{Off, Begun, Typed}
+use Rattle.bx_editor.specs.declared.seek.Seek.TheVariants.{Off, Begun, Typed, WithBegun, WithTyped, Replacing}
 use Rattle.bx_editor.specs.Editor.{Editor, after_save, cleared, with_notice, with_size, with_typing}
 use Rattle.bx_editor.specs.Effects.{Before, before}
 use Rattle.bx_editor.specs.Keys.{after_any, after_key, after_user, is_told_key}
@@ -79,6 +79,7 @@ each-key d fault e P sized noted pasted other Select = other Select refl
 each-key d fault e P sized noted pasted other UndoRun = other UndoRun refl
 each-key d fault e P sized noted pasted other RedoRun = other RedoRun refl
 each-key d fault e P sized noted pasted other GoTo = other GoTo refl
+each-key d fault e P sized noted pasted other Replace = other Replace refl
 each-key d fault e P sized noted pasted other Name = other Name refl
 each-key d fault e P sized noted pasted other Tell = other Tell refl
 each-key d fault e P sized noted pasted other PasteStart = pasted.0
@@ -109,6 +110,9 @@ save-any : (d : Data) (fault : Option StoreFault) (was : Before) (ask : Ask) (se
 save-any d fault was asks.Off Off e unasked unsought one = saved e fault e.ask e.seek unasked unsought
 save-any d fault was asks.Off Begun e unasked on one = searched e fault unasked
 save-any d fault was asks.Off Typed e unasked on one = searched e fault unasked
+save-any d fault was asks.Off WithBegun e unasked on one = saved e fault e.ask Off unasked refl
+save-any d fault was asks.Off WithTyped e unasked on one = saved e fault e.ask Off unasked refl
+save-any d fault was asks.Off Replacing e unasked on one = saved e fault e.ask Off unasked refl
 save-any d fault was asks.Line seek e asked is one = saved e fault asks.Off e.seek refl (one (λ off. let both = sym asked ∙ off in cc both))
 save-any d fault was asks.Name seek e asked is one = saved e fault asks.Off e.seek refl (one (λ off. let both = sym asked ∙ off in cc both))
 save-any d fault was asks.Code seek e asked is one = saved e fault asks.Off e.seek refl (one (λ off. let both = sym asked ∙ off in cc both))

@@ -66,3 +66,4 @@ pub mod AnswersStay
 pub mod ParagraphAround
 pub mod IsolatedRegion
 pub mod CodePut
+mod ReplaceExamples

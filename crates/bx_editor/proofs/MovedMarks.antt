@@ -6,10 +6,11 @@ use Rattle.bx_keys.specs.declared.key.Key.TheVariants.{Insert, Erase, Delete, Ba
 use Rattle.bx_keys.specs.declared.key.Key.TheVariants.{Quit, Undo, Redo, Repaint, Direction, Size, Mark, Copy, Cut, Put}
 use Rattle.bx_keys.specs.declared.key.Key.TheVariants.{Find, FindBack, WordLeft, WordRight, TextStart, TextEnd, Help, Notice}
 use Rattle.bx_keys.specs.declared.key.Key.TheVariants.{EraseWord, DeleteWord, ErasePoint, NewLine, FindNext, Cancel, LineUp, LineDown, PageBack, PageOn}
-use Rattle.bx_keys.specs.declared.key.Key.TheVariants.{Select, UndoRun, RedoRun, GoTo, Name, Tell, PasteStart, PasteEnd}
+use Rattle.bx_keys.specs.declared.key.Key.TheVariants.{Select, UndoRun, RedoRun, GoTo, Replace, Name, Tell, PasteStart, PasteEnd}
 use Rattle.bx_ucd.specs.Data.{Data}
 use Rattle.bx_asking.specs.declared.question.Ask.{Ask}
 use Rattle.bx_asking.specs.declared.question.Ask.TheVariants as asks
+use Rattle.bx_editor.specs.declared.aim.Aim.TheVariants as aims
 use Rattle.bx_editor.specs.declared.seek.Seek.{Seek}
 use Rattle.bx_editor.specs.declared.seek.Seek.TheVariants as searches
 use Rattle.bx_editor.specs.declared.soft.Soft.{Soft}
@@ -77,6 +78,7 @@ each d e Select is = absurd (cc is)
 each d e UndoRun is = absurd (cc is)
 each d e RedoRun is = absurd (cc is)
 each d e GoTo is = absurd (cc is)
+each d e Replace is = absurd (cc is)
 each d e Name is = absurd (cc is)
 each d e Tell is = absurd (cc is)
 each d e PasteStart is = absurd (cc is)
@@ -189,10 +191,16 @@ find-back-mark d was asks.Line e = refl
 find-back-mark d was asks.Name e = refl
 find-back-mark d was asks.Code e = refl
 
+replace-mark : (d : Data) (was : Before) (ask : Ask) (e : Editor) → (after_any d None was ask searches.Off e Replace).mark ≡ mark_left e.soft e.mark
+replace-mark d was asks.Off e = refl
+replace-mark d was asks.Line e = refl
+replace-mark d was asks.Name e = refl
+replace-mark d was asks.Code e = refl
+
 next-mark-by : (d : Data) (e : Editor) → (after_find_next d (unselected e)).mark ≡ mark_left e.soft e.mark
 next-mark-by d e =
     let free = unselected e in
-    either-mark (length (sought d free) == 0) free.mark (after_beginning free) (search_from d (next_or_start d free) free) refl refl
+    either-mark (length (sought d free) == 0) free.mark (after_beginning aims.Find free) (search_from d (next_or_start d free) (record free { seek = searches.Off; aim = aims.Find })) refl refl
 
 next-mark : (d : Data) (was : Before) (ask : Ask) (e : Editor) → (after_any d None was ask searches.Off e FindNext).mark ≡ mark_left e.soft e.mark
 next-mark d was asks.Off e = next-mark-by d e
@@ -248,6 +256,8 @@ sought-mark d e Select off is = absurd (cc is)
 sought-mark d e UndoRun off is = absurd (cc is)
 sought-mark d e RedoRun off is = absurd (cc is)
 sought-mark d e GoTo off is = absurd (cc is)
+sought-mark d e Replace off is =
+    ap (λ s. (after_any d None (before e) e.ask s (cleared e) Replace).mark) off ∙ replace-mark d (before e) e.ask (cleared e)
 sought-mark d e Name off is = absurd (cc is)
 sought-mark d e Tell off is = absurd (cc is)
 sought-mark d e PasteStart off is = absurd (cc is)

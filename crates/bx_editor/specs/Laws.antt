@@ -1,25 +1,27 @@
 -- Laws of the editor.
-use Rattle.std.specs.Prelude.{◌≡◌, ◌≢◌, ◌⊎◌, ℕ, ◌+◌, ◌<◌, ◌≤◌, true, false, List, [], ◌∷◌, ◌++◌, length, take, drop, replicate, Option, Some, None, IsUtf8}
+use Rattle.std.specs.Prelude.{◌≡◌, ◌≢◌, ◌⊎◌, ℕ, ◌+◌, ◌<◌, ◌≤◌, ◌&&◌, Bool, true, false, List, [], ◌∷◌, ◌++◌, length, take, drop, replicate, Option, Some, None, IsUtf8}
 use Rattle.bx_terms.specs.Sizes.{is_side, largest_text}
 use Rattle.bx_terms.specs.declared.base.Base.{Base}
 use Rattle.bx_keys.specs.declared.key.Key.{Key}
-use Rattle.bx_keys.specs.declared.key.Key.TheVariants.{Quit, Undo, Redo, Mark, Copy, Cut, Put, Find, FindBack, TextStart, TextEnd, Cancel}
+use Rattle.bx_keys.specs.declared.key.Key.TheVariants.{Quit, Undo, Redo, Mark, Copy, Cut, Put, Find, FindBack, FindNext, Replace, TextStart, TextEnd, Cancel}
 use Rattle.bx_store.specs.declared.store.StoreFault.{StoreFault}
 use Rattle.bx_text.specs.Edits.{Edit}
 use Rattle.bx_ucd.specs.Data.{Data}
 use Rattle.bx_asking.specs.declared.question.Ask.TheVariants as asks
-use Rattle.bx_find.specs.Laws.{IsFirst, IsLast, MatchesAt}
+use Rattle.bx_find.specs.Laws.{IsFirstBy, IsLastBy, MatchesAtBy}
 use Rattle.bx_view.specs.Moves.{place_at}
 use Rattle.bx_editor.specs.declared.message.Message.{Message}
 use Rattle.bx_editor.specs.declared.message.Message.TheVariants.{FromStart, FromEnd, NotFound}
-use Rattle.bx_editor.specs.declared.seek.Seek.TheVariants.{Off}
+use Rattle.bx_editor.specs.declared.seek.Seek.{Seek}
+use Rattle.bx_editor.specs.declared.seek.Seek.TheVariants.{Off, Replacing}
 use Rattle.bx_editor.specs.declared.soft.Soft.{Soft}
 use Rattle.bx_editor.specs.declared.soft.Soft.TheVariants as softness
 use Rattle.bx_runs.specs.declared.typing.Typing.TheVariants as typings
 use Rattle.bx_editor.specs.Editor.{Editor, at_start, place_after, rows}
 use Rattle.bx_editor.specs.Keys.{after_key, after_keys}
 use Rattle.bx_editor.specs.Region.{bytes_in, region, taken}
-use Rattle.bx_editor.specs.Search.{next_or_start, sought}
+use Rattle.bx_editor.specs.Origin.{asks_other, is_queried}
+use Rattle.bx_editor.specs.Search.{next_or_start, reading, sought}
 use Rattle.bx_editor.specs.Selecting.{mark_left}
 use Rattle.bx_editor.specs.Picture.{next_top}
 
@@ -165,19 +167,19 @@ GoesToBothEnds = (d : Data) (e : Editor) → ReachesBothEnds d e
 
 -- ---- a search
 
--- a search for some letters is on, and nothing is asked
+-- a search for some letters is on, and nothing else is asked
 pub record Seeks (d : Data) (e : Editor) : Type 0 where
   pub text : IsUtf8 e.content.text
   pub unasked : e.ask ≡ asks.Off
-  pub on : e.seek ≢ Off
+  pub on : is_queried e.seek ≡ true
   pub letters : sought d e ≢ []
 
 -- the query has no match at or after x; none before x
 abbrev pub NoneFrom : Data → Editor → ℕ → Type 0
-NoneFrom d e x = (i : ℕ) → x ≤ i → ¬ (MatchesAt d (sought d e) e.content.text i)
+NoneFrom d e x = (i : ℕ) → x ≤ i → ¬ (MatchesAtBy d (reading e.aim) (sought d e) e.content.text i)
 
 abbrev pub NoneBefore : Data → Editor → ℕ → Type 0
-NoneBefore d e x = (i : ℕ) → i < x → ¬ (MatchesAt d (sought d e) e.content.text i)
+NoneBefore d e x = (i : ℕ) → i < x → ¬ (MatchesAtBy d (reading e.aim) (sought d e) e.content.text i)
 
 -- the cursor went to the place of the offset, with the message
 abbrev pub WentTo : Data → Editor → Editor → Option Message → ℕ → Type 0
@@ -191,29 +193,45 @@ Stayed e new = (new.place ≡ e.place) × (new.message ≡ Some NotFound)
 abbrev pub FindGoesToNext : Type 0
 FindGoesToNext =
     (d : Data) (e : Editor) → Seeks d e → let x = next_or_start d e in let new = after_key d None e Find in
-    ((at : ℕ) × IsFirst d (sought d e) e.content.text x at × WentTo d e new None at)
-    ⊎ ((NoneFrom d e x × ((at : ℕ) × IsFirst d (sought d e) e.content.text 0 at × WentTo d e new (Some FromStart) at))
+    ((at : ℕ) × IsFirstBy d (reading e.aim) (sought d e) e.content.text x at × WentTo d e new None at)
+    ⊎ ((NoneFrom d e x × ((at : ℕ) × IsFirstBy d (reading e.aim) (sought d e) e.content.text 0 at × WentTo d e new (Some FromStart) at))
     ⊎ (NoneFrom d e 0 × Stayed e new))
 
 -- FindBack goes to the last match before the place; if there is none, to the last match of the text, with a message
 abbrev pub FindBackGoesToPrevious : Type 0
 FindBackGoesToPrevious =
     (d : Data) (e : Editor) → Seeks d e → let end = length e.content.text in let new = after_key d None e FindBack in
-    ((at : ℕ) × IsLast d (sought d e) e.content.text e.place at × WentTo d e new None at)
-    ⊎ ((NoneBefore d e e.place × ((at : ℕ) × IsLast d (sought d e) e.content.text end at × WentTo d e new (Some FromEnd) at))
+    ((at : ℕ) × IsLastBy d (reading e.aim) (sought d e) e.content.text e.place at × WentTo d e new None at)
+    ⊎ ((NoneBefore d e e.place × ((at : ℕ) × IsLastBy d (reading e.aim) (sought d e) e.content.text end at × WentTo d e new (Some FromEnd) at))
     ⊎ (NoneBefore d e end × Stayed e new))
 
 -- the key begins a search outside one; it gives up a search that is on
 abbrev pub BeginsSearch : Key → Type 0
-BeginsSearch key = (key ≡ Find) ⊎ (key ≡ FindBack)
+BeginsSearch key = (key ≡ Find) ⊎ ((key ≡ FindBack) ⊎ (key ≡ Replace))
 
 abbrev pub GivesUp : Key → Type 0
 GivesUp key = (key ≡ Quit) ⊎ ((key ≡ Copy) ⊎ (key ≡ Cancel))
 
--- a search is on, and stays on while these keys are typed
+-- a search is on, and no match is shown yet
+abbrev pub is_on : Seek → Bool
+is_on Off = false
+is_on Replacing = false
+is_on _ = true
+
+-- the key begins another search: while the other text is asked for
+abbrev pub finds : Key → Bool
+finds Find = true
+finds FindBack = true
+finds FindNext = true
+finds _ = false
+
+abbrev pub begins_anew : Seek → Key → Bool
+begins_anew seek key = asks_other seek && finds key
+
+-- a search is on, and the same one stays on while these keys are typed
 abbrev pub StaysOn : Data → Editor → List (Key × Option StoreFault) → Type 0
-StaysOn d e [] = e.seek ≢ Off
-StaysOn d e (key ∷ typed) = (e.seek ≢ Off) × StaysOn d (after_key d key.1 e key.0) typed
+StaysOn d e [] = is_on e.seek ≡ true
+StaysOn d e (key ∷ typed) = (is_on e.seek ≡ true) × ((begins_anew e.seek key.0 ≡ false) × StaysOn d (after_key d key.1 e key.0) typed)
 
 -- no search is on; place and text with its past and future are as in `e`, and so is the mark, unless it is an old selection's
 pub record IsGivenUp (e new : Editor) : Type 0 where

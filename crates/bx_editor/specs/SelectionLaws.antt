@@ -3,7 +3,7 @@ use Rattle.std.specs.Prelude.{◌≡◌, ◌≢◌, ℕ, ◌+◌, ◌==◌, ◌&
 use Rattle.bx_terms.specs.Sizes.{largest_text}
 use Rattle.bx_keys.specs.declared.key.Key.{Key}
 use Rattle.bx_keys.specs.declared.key.Key.TheVariants.{Insert, Erase, Delete, Back, Forward, Up, Down, Right, Left, RowHome, RowEnd, PageUp, PageDown, Put}
-use Rattle.bx_keys.specs.declared.key.Key.TheVariants.{WordLeft, WordRight, TextStart, TextEnd, Find, FindBack, FindNext, EraseWord, DeleteWord, ErasePoint, NewLine}
+use Rattle.bx_keys.specs.declared.key.Key.TheVariants.{WordLeft, WordRight, TextStart, TextEnd, Find, FindBack, FindNext, Replace, EraseWord, DeleteWord, ErasePoint, NewLine}
 use Rattle.bx_keys.specs.declared.key.Key.TheVariants.{LineUp, LineDown, PageBack, PageOn, Select, UndoRun, PasteStart, PasteEnd}
 use Rattle.bx_store.specs.declared.store.StoreFault.{StoreFault}
 use Rattle.bx_ucd.specs.Data.{Data}
@@ -57,6 +57,7 @@ abbrev pub seeks : Key → Bool
 seeks Find = true
 seeks FindBack = true
 seeks FindNext = true
+seeks Replace = true
 seeks _ = false
 
 -- outside a search a key that seeks does so too

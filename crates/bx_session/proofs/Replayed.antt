@@ -6,7 +6,7 @@ use Rattle.bx_keys.specs.declared.key.Key.TheVariants.{Insert, Erase, Delete, Ba
 use Rattle.bx_keys.specs.declared.key.Key.TheVariants.{Quit, Undo, Redo, Repaint, Direction, Size, Mark, Copy, Cut, Put}
 use Rattle.bx_keys.specs.declared.key.Key.TheVariants.{Find, FindBack, WordLeft, WordRight, TextStart, TextEnd, Help, Notice}
 use Rattle.bx_keys.specs.declared.key.Key.TheVariants.{EraseWord, DeleteWord, ErasePoint, NewLine, FindNext, Cancel, LineUp, LineDown, PageBack, PageOn}
-use Rattle.bx_keys.specs.declared.key.Key.TheVariants.{Select, UndoRun, RedoRun, GoTo, Name, Tell, PasteStart, PasteEnd}
+use Rattle.bx_keys.specs.declared.key.Key.TheVariants.{Select, UndoRun, RedoRun, GoTo, Replace, Name, Tell, PasteStart, PasteEnd}
 use Rattle.bx_keys.specs.Keys.{key_after, rest_after}
 use Rattle.bx_keys.specs.Waiting.{head_of}
 use Rattle.bx_store.specs.declared.store.StoreFault.{StoreFault}
@@ -75,6 +75,7 @@ each-replayed d ask seek e P save quit other Select = other Select refl
 each-replayed d ask seek e P save quit other UndoRun = other UndoRun refl
 each-replayed d ask seek e P save quit other RedoRun = other RedoRun refl
 each-replayed d ask seek e P save quit other GoTo = other GoTo refl
+each-replayed d ask seek e P save quit other Replace = other Replace refl
 each-replayed d ask seek e P save quit other Name = other Name refl
 each-replayed d ask seek e P save quit other Tell = other Tell refl
 each-replayed d ask seek e P save quit other PasteStart = other PasteStart refl
@@ -130,6 +131,7 @@ each-session d ask seek s P save quit other Select = other Select refl
 each-session d ask seek s P save quit other UndoRun = other UndoRun refl
 each-session d ask seek s P save quit other RedoRun = other RedoRun refl
 each-session d ask seek s P save quit other GoTo = other GoTo refl
+each-session d ask seek s P save quit other Replace = other Replace refl
 each-session d ask seek s P save quit other Name = other Name refl
 each-session d ask seek s P save quit other Tell = other Tell refl
 each-session d ask seek s P save quit other PasteStart = other PasteStart refl

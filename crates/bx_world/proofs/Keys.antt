@@ -7,7 +7,7 @@ use Rattle.bx_keys.specs.declared.key.Key.TheVariants.{Insert, Erase, Delete, Ba
 use Rattle.bx_keys.specs.declared.key.Key.TheVariants.{Save, Quit, Undo, Redo, Repaint, Direction, Size, Mark, Copy, Cut, Put}
 use Rattle.bx_keys.specs.declared.key.Key.TheVariants.{Find, FindBack, WordLeft, WordRight, TextStart, TextEnd, Help, Notice}
 use Rattle.bx_keys.specs.declared.key.Key.TheVariants.{EraseWord, DeleteWord, ErasePoint, NewLine, FindNext, Cancel, LineUp, LineDown, PageBack, PageOn}
-use Rattle.bx_keys.specs.declared.key.Key.TheVariants.{Select, UndoRun, RedoRun, GoTo, Name, Tell, PasteStart, PasteEnd}
+use Rattle.bx_keys.specs.declared.key.Key.TheVariants.{Select, UndoRun, RedoRun, GoTo, Replace, Name, Tell, PasteStart, PasteEnd}
 use Rattle.bx_keys.specs.Keys.{rest_after}
 use Rattle.bx_keys.specs.Waiting.{head_of}
 use Rattle.bx_grid.specs.Picture.{PictureState}
@@ -74,6 +74,7 @@ kind_of_key d fault e Select = inl (other_size d fault e Select refl, λ h w t. 
 kind_of_key d fault e UndoRun = inl (other_size d fault e UndoRun refl, λ h w t. refl)
 kind_of_key d fault e RedoRun = inl (other_size d fault e RedoRun refl, λ h w t. refl)
 kind_of_key d fault e GoTo = inl (other_size d fault e GoTo refl, λ h w t. refl)
+kind_of_key d fault e Replace = inl (other_size d fault e Replace refl, λ h w t. refl)
 kind_of_key d fault e Name = inl (other_size d fault e Name refl, λ h w t. refl)
 kind_of_key d fault e Tell = inl (other_size d fault e Tell refl, λ h w t. refl)
 kind_of_key d fault e PasteStart = inl (other_size d fault e PasteStart refl, λ h w t. refl)

@@ -59,6 +59,7 @@ fn name_of(key: Key) -> &'static str {
         Key::UndoRun => "undo_run",
         Key::RedoRun => "redo_run",
         Key::GoTo => "go_to",
+        Key::Replace => "replace",
         Key::Name => "name",
         Key::Tell => "tell",
         Key::PasteStart => "paste_start",
@@ -232,8 +233,9 @@ fn numbers_from_81_to_99_have_keys(rt: HostRuntime) -> Result<(), Fail> {
             (b"\x1B[94~\x1B[95~", "erase_point new_line"),
             (b"\x1B[96~\x1B[97~", "line_up line_down"),
             (b"\x1B[98~\x1B[99~", "page_back page_on"),
-            (b"\x1B[84~\x1B[86~\x1B[87~", "go_to name tell"),
-            (b"\x1B[85~\x1B[100~", ""),
+            (b"\x1B[84~\x1B[85~", "go_to replace"),
+            (b"\x1B[86~\x1B[87~", "name tell"),
+            (b"\x1B[100~", ""),
         ],
     )
 }
