@@ -1,7 +1,7 @@
 //! A match that is shown: it is replaced or passed over, or it and all that follow are replaced.
-ghost use Rattle.std.specs.Prelude.{◌≡◌, ◌+◌, ◌≤◌, if◌then◌else◌, None, IfOk, IfSome, IsCharBoundary, MatchOption, OnErr, OnOk, length};
+ghost use Rattle.std.specs.Prelude.{◌≡◌, ◌+◌, ◌≤◌, if◌then◌else◌, IfOk, IfSome, IsCharBoundary, OnErr, OnOk};
 ghost use Rattle.bx_terms.specs.Sizes.{largest_text};
-ghost use Rattle.bx_text.specs.Edits.{IsRange, fits};
+ghost use Rattle.bx_text.specs.Edits.{IsRange, fits, splice};
 ghost use Rattle.bx_view.specs.Places.{IsTextPlace};
 ghost use Rattle.bx_editor.specs.Editor.{cleared};
 ghost use Rattle.bx_editor.specs.Replacing.{after_ending, after_passing_over, after_replacing, after_replacing_all, match_stop, next_behind, next_match, seen, with_matches_replaced};
@@ -88,6 +88,8 @@ impl<D: BidiData + Drop> Editor<D> {
         requires fits { fits self.old.editor.content.text self.old.editor.at stop new.now ≡ true }
         ensures same { self.new ≡ self.old }
         ensures next { IfOk result (λ next. next ≡ next_behind (D.data self.old.tables) self.old.editor stop new.now) }
+        ensures text_place { IfOk result (λ next. IfSome next (λ found. IsTextPlace (D.data self.old.tables)
+            (splice self.old.editor.content.text self.old.editor.at stop new.now) found.1)) }
     {
         let Some(offset) = self.next_match(stop) else {
             return Ok(None);
