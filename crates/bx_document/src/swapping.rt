@@ -46,7 +46,10 @@ impl<D: BidiData + Drop> Document<D> {
         };
         while let Some((at, end)) = self.first_span(reading, query, measure.stop) {
             let between = at - measure.stop;
-            measure.len = measure.len.saturating_add(between).saturating_add(other.len());
+            measure.len = measure
+                .len
+                .saturating_add(between)
+                .saturating_add(other.len());
             measure.count += 1;
             measure.stop = end;
         }
