@@ -210,7 +210,7 @@ impl<D: BidiData + Drop> Document<D> {
         Ok(Some(after))
     }
 
-    /// Whether the text would be within 16,777,216 bytes with `new` in place of the bytes from `start` to `stop`. No memory.
+    /// Whether the text would be within 16,777,216 bytes with `new` in place of the bytes from `start` to `stop`. Allocates nothing.
     pub fn has_room(&self, start: usize, stop: usize, new: &str) -> bool
         requires range { IsRange self.now.document.content.text start stop }
         ensures { result ≡ fits self.now.document.content.text start stop new.now }

@@ -30,7 +30,7 @@ struct Measure {
 
 impl<D: BidiData + Drop> Document<D> {
     /// Where the last of the matches from `start` on ends, how many there are, and how long the text from `start` to there is with
-    /// `other` in place of each. A length past the limit of numbers is told as that limit. No memory.
+    /// `other` in place of each. A length past the limit of numbers is told as that limit. Allocates nothing.
     fn measure(&self, reading: Reading, query: &Query, start: usize, other: &str) -> Measure
         requires bounds { IsCharBoundary self.now.document.content.text start }
         ensures stop { result.stop ≡ last_stop start (spans_from (D.data self.now.tables) reading query.now self.now.document.content.text start) }

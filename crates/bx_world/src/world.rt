@@ -118,7 +118,7 @@ impl<D: BidiData + Drop> World<D> {
         self.told
     }
 
-    /// Whether the terminal shows the picture last painted: the state's picture, unless a painting is owed. No memory.
+    /// Whether the terminal shows the picture last painted: the state's picture, unless a painting is owed. Allocates nothing.
     pub fn shows(&self) -> bool
         ensures painted { IsTrue result ↔ IsShownOn self.now.world.session.painted self.now.world.screen }
         ensures state { self.now.world.session.painting_owed ≡ false
