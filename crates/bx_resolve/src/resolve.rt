@@ -16,7 +16,7 @@ use crate::neutral::found_level;
 use crate::paragraph::{Level, Levels};
 use crate::scratch::{Ends, Scratch, resolve_neutral};
 use crate::uniform::{are_from_right, are_plain, are_plain_right, are_unformatted};
-use crate::weak::weak_in_one_pass;
+use crate::one_pass::weak_in_one_pass;
 use bx_explicit::base_level;
 use bx_terms::Base;
 use bx_ucd::class::direction;
