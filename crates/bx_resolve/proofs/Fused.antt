@@ -1,6 +1,6 @@
 -- Rules one after another, as one run.
-use Rattle.std.proofs.Common.{append_assoc, ◌≡◌, ◌<◌, ◌-◌, ◌⊎◌, ⊎_elim, ◌+◌, ◌∙◌, ℕ, List, [], ◌∷◌, ◌++◌, length, get_or, set, drop, take, refl, ap, sym, subst, arith, map, Bool}
-use Rattle.std.proofs.Common.{true, false}
+use Rattle.std.proofs.Common.{append_assoc, ◌≡◌, ◌<◌, ◌+◌, ◌∙◌, ℕ, List, [], ◌∷◌, ◌++◌, length, get_or, set, drop, take, refl, ap, subst, arith, map, Bool}
+use Rattle.std.proofs.Common.{true, false, Option, Some, None}
 use Rattle.std.specs.Prelude.{◌&&◌, ◌||◌}
 use Rattle.std.proofs.lemmas.List.{at_drop_more, take_more, take_more_set, drop-set-lt}
 use Rattle.std.proofs.Math.Seq.{drop-length}
@@ -16,9 +16,9 @@ use Rattle.bx_resolve.specs.declared.before.Terminators.{Terminators}
 use Rattle.bx_resolve.specs.declared.before.Terminators.TheVariants.{Numbers, Neutrals, Undecided}
 use Rattle.bx_resolve.specs.Weak.{w1, w2, w3, w4, w5, w6, w7, weak, w3_at, w6_at, is_en, is_an, is_et, is_left_or_right, beside, separator, is_en_past}
 use Rattle.bx_resolve.specs.Weak.{number_after, left_number, terminator_of}
-use Rattle.bx_resolve.specs.Turns.{after_w1, after_w2, after_w4, after_w6, after_w7, begin, decided, is_settled, left_number_by, mark_next}
+use Rattle.bx_resolve.specs.Turns.{after_w1, after_w2, after_w4, after_w6, after_w7, begin, decided, is_separator, is_settled, left_number_by, mark_next}
 use Rattle.bx_resolve.specs.Turns.{neighbour_of, next, number_by, rest_after_w3, strong_next, strong_of, terminator_by, terminators_next, written}
-use Rattle.bx_resolve.specs.Neutral.{n1, n2, n2_at}
+use Rattle.bx_resolve.specs.Neutral.{n1, n2, n2_at, taken, all_taken}
 use Rattle.bx_resolve.proofs.Run.{run, w1_run, w2_run, n1_run, next_mark, out_mark, next_strong, out_number, next_beside, out_separator, next_past}
 use Rattle.bx_resolve.proofs.Run.{out_terminator, next_side, out_left, w4_run, w5_run, w7_run, next_neutral, out_neutral}
 
@@ -54,15 +54,19 @@ pub first_run : (sos : Class) (ts : List Class) → w3 (w2 sos (w1 sos ts)) ≡ 
 first_run sos ts = ap (λ xs. w3 (w2 sos xs)) (w1_run sos ts) ∙ ap w3 (w2_run sos (run next_mark out_mark sos ts))
     ∙ ap w3 (run_run next_mark out_mark next_strong out_number after_w1 (λ s t a. refl) sos sos ts) ∙ map_run _ _ w3_at (sos, sos) ts
 
--- N1 and N2
-abbrev pub out_taken : Class → Class → Class → Class → List Class → Class
-out_taken embedding eos s t a = n2_at embedding (out_neutral eos s t a)
+-- N1, and N2 where an embedding direction is given
+abbrev pub out_taken : Option Class → Class → Class → Class → List Class → Class
+out_taken embedding eos s t a = taken embedding (out_neutral eos s t a)
 
-pub neutral_run : (embedding sos eos : Class) (ts : List Class) → n2 embedding (n1 sos eos ts) ≡ run next_neutral (out_taken embedding eos) sos ts
-neutral_run embedding sos eos ts = ap (n2 embedding) (n1_run sos eos ts) ∙ map_run next_neutral (out_neutral eos) (n2_at embedding) sos ts
+pub neutral_run : (embedding : Option Class) (sos eos : Class) (ts : List Class)
+    → all_taken embedding (n1 sos eos ts) ≡ run next_neutral (out_taken embedding eos) sos ts
+neutral_run None sos eos ts = n1_run sos eos ts
+neutral_run (Some embedding) sos eos ts =
+    ap (n2 embedding) (n1_run sos eos ts) ∙ map_run next_neutral (out_neutral eos) (n2_at embedding) sos ts
 
-pub keeps_other : (embedding t : Class) → is_neutral t ≡ false → n2_at embedding t ≡ t
-keeps_other embedding t e = rw (e, n2_at)
+pub keeps_other : (embedding : Option Class) (t : Class) → is_neutral t ≡ false → taken embedding t ≡ t
+keeps_other None t e = refl
+keeps_other (Some embedding) t e = rw (e, n2_at)
 
 -- a run whose state depends on the rest
 module _ {S : Type 0} (next : S → Class → List Class → S) (out : S → Class → List Class → Class) where
@@ -139,6 +143,11 @@ fourth_is AN CS AN = refl
 fourth_is AN CS _ = refl
 fourth_is _ CS a = refl
 fourth_is b _ a = refl
+
+pub no_separator : (t : Class) (neighbour : Neighbour) (a : Class) → is_separator t ≡ false → after_w4 t neighbour a ≡ t
+no_separator ES neighbour a e = absurd (cc)
+no_separator CS neighbour a e = absurd (cc)
+no_separator _ neighbour a e = refl
 
 -- W5: what is known of a run of ET, where `past` tells whether an EN precedes it and `follows` whether one follows it
 abbrev Agrees : Terminators → Bool → Bool → Type 0
@@ -229,6 +238,10 @@ side_is side Right known neighbour a EN h = h
 side_is side strong known neighbour a t h = kept_side side (after_w6 known (after_w4 (w3_at (after_w2 strong t)) neighbour a)) strong
     (no_side known (w3_at (after_w2 strong t)) neighbour a refl) h
 
+seventh_is : (side t : Class) (strong : Strong) → left_number (next_side side t) ≡ left_number_by strong → out_left side t [] ≡ after_w7 strong t
+seventh_is side EN strong h = h
+seventh_is side _ strong h = refl
+
 -- W4 to W7 on the types after W3
 abbrev last_rules : Class → Bool → Class → List Class → List Class
 last_rules b past side ts = run next_side out_left side (map w6_at (run next_past out_terminator past (run next_beside out_separator b ts)))
@@ -252,11 +265,11 @@ all_from mark strong b known past side (t ∷ ts) h k =
     sixth_is known past x f r (et_of b x (beside r)) k ∙ ap (λ y. after_w6 (terminators_next known y r) y) four in
     let agrees : Agrees u (next_past past g) (is_en_past r) =
     subst (λ y. Agrees (terminators_next known y r) (next_past past y) (is_en_past r)) four (agrees_next known past x f r (et_of b x (beside r)) k) in
+    let sides : left_number (next_side side w) ≡ left_number_by n = side_is side strong u (neighbour_of b) (beside r) (after_w1 mark t) h in
     ap (λ y. out_left side y [] ∷ last_rules x (next_past past f) (next_side side y) r) six
     ∙ ap (λ y. out_left side w [] ∷ last_rules x (next_past past y) (next_side side w) r) four
-    ∙ ap (λ y. elim (is_en w) as (λ _. Class) [ true ↦ y | false ↦ w ] ∷ last_rules x (next_past past g) (next_side side w) r) h
-    ∙ ap (λ ys. after_w7 strong w ∷ ys) (all_from m n x u (next_past past g) (next_side side w) ts
-    (side_is side strong u (neighbour_of b) (beside r) (after_w1 mark t) h) agrees)
+    ∙ ap (λ y. y ∷ last_rules x (next_past past g) (next_side side w) r) (seventh_is side w n sides)
+    ∙ ap (λ ys. after_w7 n w ∷ ys) (all_from m n x u (next_past past g) (next_side side w) ts sides agrees)
 
 left_is : (sos : Class) → left_number sos ≡ left_number_by (strong_of sos)
 left_is L = refl

@@ -10,7 +10,7 @@ use Rattle.bx_resolve.specs.declared.before.Terminators.{Terminators}
 use Rattle.bx_resolve.specs.declared.before.Terminators.TheVariants.{Numbers, Neutrals, Undecided}
 use Rattle.bx_resolve.specs.Weak.{weak, is_nsm, is_en_past, w3_at, beside}
 use Rattle.bx_resolve.specs.Turns.{after_w1, after_w2, after_w4, after_w6, after_w7, begin, decided, left_number_by, mark_next, neighbour_of, next}
-use Rattle.bx_resolve.specs.Turns.{strong_next, terminator_by, terminators_next, third, thirds_behind, written}
+use Rattle.bx_resolve.specs.Turns.{moved, strong_next, terminator_by, terminators_next, third, thirds, written}
 use Rattle.bx_resolve.specs.Neutral.{rise_odd}
 use Rattle.bx_resolve.proofs.Fused.{go, weak_run}
 
@@ -89,7 +89,7 @@ next_low : (before : Before) (t : Class) (ts : List Class) → rise_odd (written
     → rise_odd (written (next before t (NSM ∷ ts)) NSM ts) ≡ 0
 next_low before t ts e =
     let new : Before = next before t (NSM ∷ ts) in
-    two_low before.terminators before.neighbour before.strong new.strong (third before t) (third new NSM) (thirds_behind new NSM ts)
+    two_low before.terminators before.neighbour new.strong (moved new NSM).strong (third before t) (third new NSM) (thirds (moved new NSM) ts)
     (nsm_after before.mark before.strong t) e
 
 marks_low : (before : Before) (t : Class) (ts : List Class) → rise_odd (written before t ts) ≡ 0

@@ -50,6 +50,12 @@ neighbour_of EN = EuropeanNumber
 neighbour_of AN = ArabicNumber
 neighbour_of _ = Other
 
+-- the types that W4 may change
+abbrev pub is_separator : Class → Bool
+is_separator ES = true
+is_separator CS = true
+is_separator _ = false
+
 -- the type after W4, between a neighbour and the type that follows
 abbrev pub after_w4 : Class → Neighbour → Class → Class
 after_w4 ES EuropeanNumber EN = EN
@@ -89,26 +95,37 @@ after_w7 strong t = elim (is_en t) [ true ↦ left_number_by strong | false ↦ 
 abbrev pub begin : Class → Before
 begin sos = record { mark = sos; strong = strong_of sos; neighbour = Other; terminators = Undecided }
 
--- a step: the type after W3 and those that follow, the type after W4, the next state and the type written
+-- a type after W4, where `behind` are the types after W3 that follow it, and `before` has the mark and the strong type of the next step:
+-- the next state and the type written
+abbrev pub next_fourth : Before → Class → List Class → Before
+next_fourth before t behind = record before { terminators = terminators_next before.terminators t behind }
+
+abbrev pub written_fourth : Before → Class → List Class → Class
+written_fourth before t behind = after_w7 before.strong (after_w6 (terminators_next before.terminators t behind) t)
+
+-- the same of a type after W3
+abbrev pub next_third : Before → Class → List Class → Before
+next_third before t behind =
+    next_fourth (record before { neighbour = neighbour_of t }) (after_w4 t before.neighbour (beside behind)) behind
+
+abbrev pub written_third : Before → Class → List Class → Class
+written_third before t behind = written_fourth before (after_w4 t before.neighbour (beside behind)) behind
+
+-- the same of any type, with the rest of the types
 abbrev pub third : Before → Class → Class
 third before t = w3_at (after_w2 before.strong (after_w1 before.mark t))
 
-abbrev pub thirds_behind : Before → Class → List Class → List Class
-thirds_behind before t rest = rest_after_w3 (mark_next before.mark t) (strong_next before.strong (after_w1 before.mark t)) rest
+abbrev pub moved : Before → Class → Before
+moved before t = record before { mark = mark_next before.mark t; strong = strong_next before.strong (after_w1 before.mark t) }
 
-abbrev pub fourth : Before → Class → List Class → Class
-fourth before t rest = after_w4 (third before t) before.neighbour (beside (thirds_behind before t rest))
+abbrev pub thirds : Before → List Class → List Class
+thirds before rest = rest_after_w3 before.mark before.strong rest
 
 abbrev pub next : Before → Class → List Class → Before
-next before t rest = record {
-  mark = mark_next before.mark t;
-  strong = strong_next before.strong (after_w1 before.mark t);
-  neighbour = neighbour_of (third before t);
-  terminators = terminators_next before.terminators (fourth before t rest) (thirds_behind before t rest);
-}
+next before t rest = next_third (moved before t) (third before t) (thirds (moved before t) rest)
 
 abbrev pub written : Before → Class → List Class → Class
-written before t rest = after_w7 before.strong (after_w6 (next before t rest).terminators (fourth before t rest))
+written before t rest = written_third (moved before t) (third before t) (thirds (moved before t) rest)
 
 -- the types that each step keeps, whatever comes before
 abbrev pub is_settled : Class → Bool

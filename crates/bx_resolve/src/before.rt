@@ -2,8 +2,9 @@
 ghost use Rattle.std.specs.Prelude.{◌≡◌, List, true};
 ghost use Rattle.bx_ucd.specs.declared.class.Class.{Class};
 ghost use Rattle.bx_resolve.specs.Weak.{beside, is_en_past, w3_at};
-ghost use Rattle.bx_resolve.specs.Turns.{after_w1, after_w2, after_w4, after_w6, after_w7, begin, is_settled, left_number_by};
-ghost use Rattle.bx_resolve.specs.Turns.{mark_next, neighbour_of, next, number_by, rest_after_w3, strong_next, strong_of, terminators_next, written};
+ghost use Rattle.bx_resolve.specs.Turns.{after_w1, after_w2, after_w4, after_w7, begin, decided, is_separator, is_settled, mark_next, neighbour_of, next};
+ghost use Rattle.bx_resolve.specs.Turns.{next_fourth, next_third, number_by, rest_after_w3, strong_next, strong_of, terminator_by, thirds};
+ghost use Rattle.bx_resolve.specs.Turns.{written, written_fourth, written_third};
 
 use crate::weak::mark_after;
 use bx_ucd::Class;
@@ -140,6 +141,16 @@ fn neighbour_of(t: Class) -> Neighbour
     }
 }
 
+/// Whether W4 may change a type.
+fn is_separator(t: Class) -> bool
+    ensures { result ≡ is_separator t }
+{
+    match t {
+        Class::ES | Class::CS => true,
+        _ => false,
+    }
+}
+
 /// The type after W3 of the first character of the rest, or ON at the end.
 fn beside_ahead(mark: Class, strong: Strong, rest: &[Class]) -> Class
     ensures { result ≡ beside (rest_after_w3 mark strong rest.now) }
@@ -186,38 +197,29 @@ fn is_en_ahead(mark: Class, strong: Strong, types: &[Class]) -> bool
     false
 }
 
-/// What ET become behind `t`, or from `t` on if it is one. Only the first ET of a run without an EN before it looks ahead.
-fn terminators_next(
-    terminators: Terminators,
-    t: Class,
-    mark: Class,
-    strong: Strong,
-    rest: &[Class],
-) -> Terminators
-    ensures { result ≡ terminators_next terminators t (rest_after_w3 mark strong rest.now) }
+/// What the ET of a run become. Only where that is open does it look ahead.
+fn decided(terminators: Terminators, mark: Class, strong: Strong, rest: &[Class]) -> Terminators
+    ensures { result ≡ decided terminators (is_en_past (rest_after_w3 mark strong rest.now)) }
 {
-    match (t, terminators) {
-        (Class::ET, Terminators::Undecided) => {
+    match terminators {
+        Terminators::Numbers | Terminators::Neutrals => terminators,
+        Terminators::Undecided => {
             if is_en_ahead(mark, strong, rest) {
                 Terminators::Numbers
             } else {
                 Terminators::Neutrals
             }
         }
-        (Class::ET, Terminators::Numbers | Terminators::Neutrals) => terminators,
-        (Class::EN, _) => Terminators::Numbers,
-        _ => Terminators::Undecided,
     }
 }
 
-/// The type after W5 and W6, of a type after W4.
-fn after_w6(terminators: Terminators, t: Class) -> Class
-    ensures { result ≡ after_w6 terminators t }
+/// The type of an ET after W5 and W6.
+fn terminator_by(terminators: Terminators) -> Class
+    ensures { result ≡ terminator_by terminators }
 {
-    match (t, terminators) {
-        (Class::ET, Terminators::Numbers) => Class::EN,
-        (Class::ES | Class::ET | Class::CS, _) => Class::ON,
-        _ => t,
+    match terminators {
+        Terminators::Numbers => Class::EN,
+        Terminators::Neutrals | Terminators::Undecided => Class::ON,
     }
 }
 
@@ -256,33 +258,57 @@ impl Before {
         self.terminators = Terminators::Undecided;
     }
 
-    /// Takes an EN, whatever follows it. Returns its type after W1 to W7.
+    /// Takes a type after W4. Returns the type after W7.
     #[inline(always)]
-    pub fn take_number(&mut self) -> Class
-        ensures written { (rest : List Class) → result ≡ written self.old Class.EN rest }
-        ensures next { (rest : List Class) → self.new ≡ next self.old Class.EN rest }
+    fn take_fourth(&mut self, t: Class, rest: &[Class]) -> Class
+        ensures written { result ≡ written_fourth self.old t (thirds self.old rest.now) }
+        ensures next { self.new ≡ next_fourth self.old t (thirds self.old rest.now) }
     {
-        self.mark = Class::EN;
-        match self.strong {
-            Strong::Arabic => {
-                self.neighbour = Neighbour::ArabicNumber;
+        match t {
+            Class::ET => {
+                self.terminators = decided(self.terminators, self.mark, self.strong, rest);
+                after_w7(self.strong, terminator_by(self.terminators))
+            }
+            Class::EN => {
+                self.terminators = Terminators::Numbers;
+                after_w7(self.strong, Class::EN)
+            }
+            Class::ES | Class::CS => {
                 self.terminators = Terminators::Undecided;
-                Class::AN
+                Class::ON
             }
-            Strong::Left => {
-                self.neighbour = Neighbour::EuropeanNumber;
-                self.terminators = Terminators::Numbers;
-                Class::L
-            }
-            Strong::Right => {
-                self.neighbour = Neighbour::EuropeanNumber;
-                self.terminators = Terminators::Numbers;
-                Class::EN
+            _ => {
+                self.terminators = Terminators::Undecided;
+                t
             }
         }
     }
 
-    /// Takes a type, with `rest` behind it. Returns the type after W1 to W7.
+    /// Takes a type after W3. Returns the type after W7.
+    #[inline(always)]
+    fn take_separator(&mut self, t: Class, rest: &[Class]) -> Class
+        ensures written { result ≡ written_third self.old t (thirds self.old rest.now) }
+        ensures next { self.new ≡ next_third self.old t (thirds self.old rest.now) }
+    {
+        let fourth = after_w4(t, self.neighbour, self.mark, self.strong, rest);
+        self.neighbour = neighbour_of(t);
+        self.take_fourth(fourth, rest)
+    }
+
+    /// The same, with a shorter way for types that are no separators.
+    #[inline(always)]
+    fn take_third(&mut self, t: Class, rest: &[Class]) -> Class
+        ensures written { result ≡ written_third self.old t (thirds self.old rest.now) }
+        ensures next { self.new ≡ next_third self.old t (thirds self.old rest.now) }
+    {
+        if is_separator(t) {
+            return self.take_separator(t, rest);
+        }
+        self.neighbour = neighbour_of(t);
+        self.take_fourth(t, rest)
+    }
+
+    /// Takes a type, with `rest` behind it. Returns the type after W7.
     #[inline(always)]
     pub fn take(&mut self, t: Class, rest: &[Class]) -> Class
         ensures written { result ≡ written self.old t rest.now }
@@ -290,17 +316,8 @@ impl Before {
     {
         let first = after_w1(self.mark, t);
         let third = after_w3(after_w2(self.strong, first));
-        let mark = mark_next(self.mark, t);
-        let strong = strong_next(self.strong, first);
-        let fourth = after_w4(third, self.neighbour, mark, strong, rest);
-        let terminators = terminators_next(self.terminators, fourth, mark, strong, rest);
-        let written = after_w7(self.strong, after_w6(terminators, fourth));
-        *self = Before {
-            mark,
-            strong,
-            neighbour: neighbour_of(third),
-            terminators,
-        };
-        written
+        self.mark = mark_next(self.mark, t);
+        self.strong = strong_next(self.strong, first);
+        self.take_third(third, rest)
     }
 }

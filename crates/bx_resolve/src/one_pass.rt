@@ -5,7 +5,8 @@ ghost use Rattle.bx_resolve.specs.Weak.{weak};
 use crate::before::{Before, is_settled};
 use bx_ucd::Class;
 
-/// W1 to W7 in one pass. An inner loop skips settled types.
+/// W1 to W7 in one pass. An inner loop skips settled types, and numbers have a call of their own, which is compiled for them
+/// alone.
 #[tactic(auto, using(crate::proofs::Fused::go_write, crate::proofs::Fused::weak_run, crate::proofs::Fused::settled_keep))]
 pub fn weak_in_one_pass(types: &mut [Class], sos: Class)
     ensures { types.new ≡ weak sos types.old }
@@ -21,7 +22,7 @@ pub fn weak_in_one_pass(types: &mut [Class], sos: Class)
                 i += 1;
             }
         } else if t == Class::EN {
-            types[i] = before.take_number();
+            types[i] = before.take(Class::EN, &whole[i + 1..]);
             i += 1;
         } else {
             types[i] = before.take(t, &whole[i + 1..]);
