@@ -4,7 +4,7 @@ use Rattle.bx_ucd.specs.declared.class.Class.{Class}
 use Rattle.bx_resolve.specs.declared.before.Before.{Before}
 use Rattle.bx_resolve.specs.declared.before.Neighbour.{Neighbour}
 use Rattle.bx_resolve.specs.Weak.{beside}
-use Rattle.bx_resolve.specs.Turns.{after_w4, is_separator, neighbour_of, next_fourth, thirds, written_fourth}
+use Rattle.bx_resolve.specs.Turns.{is_separator, neighbour_of, next_fourth, thirds, written_fourth}
 use Rattle.bx_resolve.proofs.Fused.{no_separator}
 use Rattle.bx_resolve.proofs.before.Before.take_third.Goals as goal
 
