@@ -17,7 +17,6 @@ pub mod PlacesMoved
 pub mod ShownTop
 pub mod FoundOffsets
 pub mod NextCharacters
-pub mod Measured
 pub mod LastPoints
 pub mod FirstSeparators
 pub mod SeparatorsRead

@@ -1,9 +1,9 @@
-use Rattle.bx_find.specs.Spans.{spans_from}
-use Rattle.bx_document.proofs.Measured.{len-told}
+use Rattle.std.proofs.Common.{ap, arith, length}
+use Rattle.bx_document.specs.Swapped.{swapped}
 use Rattle.bx_document.proofs.document.Document.measure.Goals as goal
 
 pub returns-clause-len : goal.returns-clause-len
 returns-clause-len g c =
     let text = c.args.self.now.document.content.text in
-    len-told text c.args.other.now (spans_from (g.D.BidiData.data c.args.self.now.tables) c.args.reading c.args.query.now text) c.args.start
-    c.matches.measure.stop c.matches.measure.count c.matches.measure.len c.matches.invariant c.in_default.ensures.spans
+    let i = c.matches.invariant in
+    omega (arith, i.fits, i.whole, ap (λ ss. length (swapped c.matches.measure.stop text c.args.other.now ss)) c.in_default.ensures.spans)
