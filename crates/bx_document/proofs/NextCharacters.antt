@@ -9,8 +9,8 @@ use Rattle.bx_find.proofs.Offsets.{none_behind, piece_read}
 use Rattle.bx_document.specs.Swapped.{behind_character}
 
 -- a part of the text begins with the character
-pub behind-first : (text part rest : List ℕ) (x c : ℕ) → IsUtf8 part → take (length part) (drop x text) ≡ part → chars part ≡ c ∷ chars rest
-    → x + length (encode_utf8 c) ≡ behind_character text x
+pub behind-first : (text part rest : List ℕ) (x c : ℕ) → IsUtf8 part → take (length part) (drop x text) ≡ part
+    → chars part ≡ c ∷ chars rest → x + length (encode_utf8 c) ≡ behind_character text x
 behind-first text part rest x c u e first =
     let more : List ℕ = chars (drop (x + length part) text) in
     let read : chars (drop x text) ≡ c ∷ (chars rest ++ more) = piece_read text part x u e ∙ ap (λ cs. cs ++ more) first in

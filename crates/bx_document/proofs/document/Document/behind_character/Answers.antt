@@ -10,12 +10,14 @@ returns-then-offset-stop-clause-behind g c =
     behind-end c.args.self.now.document.content.text c.args.offset (omega (arith, len, c.if-offset-stop.true))
 
 -- behind a character that is read
-behind : (g : _) (c : After-len_utf8 g) → c.args.offset + c.len_utf8.result ≡ behind_character c.args.self.now.document.content.text c.args.offset
+behind : (g : _) (c : After-len_utf8 g)
+    → c.args.offset + c.len_utf8.result ≡ behind_character c.args.self.now.document.content.text c.args.offset
 behind g c =
     let part = c.part_at.result.now in
-    let bytes = subst (λ s. take (length part) (drop c.args.offset s.document.content.text) ≡ part) c.self.view_is c.part_at.ensures.bytes in
-    let first = behind-first c.args.self.now.document.content.text part c.in-Some.field-0-1.now c.args.offset c.in-Some.c c.part_at.utf8 bytes
-    c.in-Some.ensures.2 in
+    let bytes = subst (λ s. take (length part) (drop c.args.offset s.document.content.text) ≡ part)
+    c.self.view_is c.part_at.ensures.bytes in
+    let first = behind-first c.args.self.now.document.content.text part c.in-Some.field-0-1.now c.args.offset c.in-Some.c
+    c.part_at.utf8 bytes c.in-Some.ensures.2 in
     omega (arith, first, c.len_utf8.ensures.len)
 
 pub returns-in-Some-clause-behind : goal.returns-in-Some-clause-behind

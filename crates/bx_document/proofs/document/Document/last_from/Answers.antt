@@ -15,7 +15,8 @@ last g c =
     let utf8 = subst (λ s. IsUtf8 s.document.content.text) c.self.view_is c.len-utf8.ensures.utf8 in
     let none = subst (λ s. last_before_by (g.D.BidiData.data s.tables) c.args.reading c.args.query.now text c.args.x ≡ None)
     (sym c.self.view_is) c.requires.none_before in
-    c.last_from.ensures ∙ sym (last_around (g.D.BidiData.data c.self.inside.tables) c.args.reading c.args.query.now text c.args.x utf8 none)
+    c.last_from.ensures
+    ∙ sym (last_around (g.D.BidiData.data c.self.inside.tables) c.args.reading c.args.query.now text c.args.x utf8 none)
 
 pub returns-clause-found : goal.returns-clause-found
 returns-clause-found g c =

@@ -6,4 +6,5 @@ pub returns-clause-len : goal.returns-clause-len
 returns-clause-len g c =
     let text = c.args.self.now.document.content.text in
     let i = c.matches.invariant in
-    omega (arith, i.fits, i.whole, ap (λ ss. length (swapped c.matches.measure.stop text c.args.other.now ss)) c.in_default.ensures.spans)
+    let none = ap (λ ss. length (swapped c.matches.measure.stop text c.args.other.now ss)) c.in_default.ensures.spans in
+    omega (arith, i.fits, i.whole, none)

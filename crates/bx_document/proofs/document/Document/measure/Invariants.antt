@@ -10,9 +10,11 @@ invariant-matches g l = record {
   range : IsRange l.self.document.content.text l.start l.measure.stop;
   enough : l.measure.count ≤ l.measure.stop;
   fits : l.measure.len ≤ 2 ^ 64 - 1;
-  last : last_stop l.measure.stop (spans_from (g.D.BidiData.data l.self.tables) l.reading l.query l.self.document.content.text l.measure.stop)
+  last : last_stop l.measure.stop
+      (spans_from (g.D.BidiData.data l.self.tables) l.reading l.query l.self.document.content.text l.measure.stop)
       ≡ last_stop l.start (spans_from (g.D.BidiData.data l.self.tables) l.reading l.query l.self.document.content.text l.start);
-  all : l.measure.count + length (spans_from (g.D.BidiData.data l.self.tables) l.reading l.query l.self.document.content.text l.measure.stop)
+  all : l.measure.count
+      + length (spans_from (g.D.BidiData.data l.self.tables) l.reading l.query l.self.document.content.text l.measure.stop)
       ≡ length (spans_from (g.D.BidiData.data l.self.tables) l.reading l.query l.self.document.content.text l.start);
   whole : min (2 ^ 64 - 1) (l.measure.len + length (swapped l.measure.stop l.self.document.content.text l.other
       (spans_from (g.D.BidiData.data l.self.tables) l.reading l.query l.self.document.content.text l.measure.stop)))

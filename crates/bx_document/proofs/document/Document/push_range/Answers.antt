@@ -10,8 +10,10 @@ parts-preserved g c =
     let part = c.part_at-part.result.now in
     let old = string_bytes c.parts.copy in
     let rest = slice_range text (at + length part) c.args.stop in
-    let range = subst (λ s. IsRange s.document.content.text (at + length part) c.args.stop) c.self.view_is c.part_at-part.ensures.range in
-    let bytes = subst (λ s. take (length part) (drop at s.document.content.text) ≡ part) c.self.view_is c.part_at-part.ensures.bytes in
+    let range = subst (λ s. IsRange s.document.content.text (at + length part) c.args.stop)
+    c.self.view_is c.part_at-part.ensures.range in
+    let bytes = subst (λ s. take (length part) (drop at s.document.content.text) ≡ part)
+    c.self.view_is c.part_at-part.ensures.bytes in
     record {
       range = range;
       whole = ap (λ bs. bs ++ rest) c.in_ok-push_str.ensures.bytes ∙ append_assoc old part rest
