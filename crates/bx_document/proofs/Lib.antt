@@ -16,6 +16,7 @@ pub mod PlacesKept
 pub mod PlacesMoved
 pub mod ShownTop
 pub mod FoundOffsets
+pub mod NextCharacters
 pub mod LastPoints
 pub mod FirstSeparators
 pub mod SeparatorsRead

@@ -121,9 +121,11 @@ impl<D: BidiData + Drop> Document<D> {
         ensures behind { result ≡ behind_character self.now.document.content.text offset }
         ensures boundary { IsCharBoundary self.now.document.content.text result }
     {
-        // proof only: the text is UTF-8
-        let _utf8 = self.text.len();
-        match first_char(self.text.part_at(offset, self.text.len())) {
+        let stop = self.text.len();
+        if offset == stop {
+            return offset;
+        }
+        match first_char(self.text.part_at(offset, stop)) {
             Some((c, _)) => offset + c.len_utf8(),
             None => offset,
         }

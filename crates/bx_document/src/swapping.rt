@@ -44,7 +44,7 @@ impl<D: BidiData + Drop> Document<D> {
             count: 0,
             len: 0,
         };
-        while let Some((at, end)) = self.first_span(reading, query, measure.stop) {
+        'matches: while let Some((at, end)) = self.first_span(reading, query, measure.stop) {
             let between = at - measure.stop;
             measure.len = measure
                 .len
@@ -62,7 +62,7 @@ impl<D: BidiData + Drop> Document<D> {
         ensures { IfOk result (λ _. string_bytes copy.new ≡ string_bytes copy.old ++ slice_range self.now.document.content.text start stop) }
     {
         let mut at = start;
-        while at < stop {
+        'parts: while at < stop {
             let part = self.text.part_at(at, stop);
             copy.push_str(part)?;
             at += part.len();
@@ -85,7 +85,7 @@ impl<D: BidiData + Drop> Document<D> {
     {
         let mut copy = String::with_capacity(self.alloc, len)?;
         let mut from = start;
-        while let Some((at, end)) = self.first_span(reading, query, from) {
+        'matches: while let Some((at, end)) = self.first_span(reading, query, from) {
             self.push_range(&mut copy, from, at)?;
             copy.push_str(other)?;
             from = end;
@@ -95,8 +95,6 @@ impl<D: BidiData + Drop> Document<D> {
 
     /// The matches of a query from `start` on, with `other` in place of each; none if the text would exceed 16,777,216 bytes by
     /// that, and then nothing is made.
-    ///
-    /// Errors: `OutOfMemory`.
     pub fn swap(
         &self,
         reading: Reading,

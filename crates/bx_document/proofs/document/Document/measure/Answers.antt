@@ -1,0 +1,10 @@
+use Rattle.std.proofs.Common.{ap, arith, length}
+use Rattle.bx_document.specs.Swapped.{swapped}
+use Rattle.bx_document.proofs.document.Document.measure.Goals as goal
+
+pub returns-clause-len : goal.returns-clause-len
+returns-clause-len g c =
+    let text = c.args.self.now.document.content.text in
+    let i = c.matches.invariant in
+    let none = ap (λ ss. length (swapped c.matches.measure.stop text c.args.other.now ss)) c.in_default.ensures.spans in
+    omega (arith, i.fits, i.whole, none)
