@@ -13,7 +13,8 @@ exchanged_text text start stop new inside =
     let back = drop stop text in
     let left : splice text start stop [] ≡ front ++ back = ap (λ xs. xs ++ back) (append-nil front) in
     let size : length front ≡ start = length-take-le start text inside in
-    ap₂ (λ xs ys. xs ++ new ++ ys) (ap (take start) left ∙ take_at front back start size) (ap (drop start) left ∙ drop_at front back start size)
+    ap₂ (λ xs ys. xs ++ new ++ ys) (ap (take start) left ∙ take_at front back start size)
+    (ap (drop start) left ∙ drop_at front back start size)
 
 -- the document after both edits
 exchanged_document : (d : Data) (t : Document) (start stop : ℕ) (new : List ℕ) (place between after : ℕ) → 0 < length new
@@ -22,11 +23,13 @@ exchanged_document : (d : Data) (t : Document) (start stop : ℕ) (new : List �
 exchanged_document d t start stop [] place between after some inside e f = absurd (omega (arith, some))
 exchanged_document d t start stop (b ∷ bs) place between after some inside e f =
     let new : List ℕ = b ∷ bs in
-    let same = ap (λ xs. place_from (rows_of d t xs) (start + length new)) (sym (exchanged_text t.content.text start stop new inside)) in
+    let same = ap (λ xs. place_from (rows_of d t xs) (start + length new))
+    (sym (exchanged_text t.content.text start stop new inside)) in
     ap₂ (λ m n. record t { content = exchanged t.content start stop start new place m n }) e (f ∙ same)
 
 -- `inner` is the opened value of the document `now`
-pub exchanged_state : {D : Type 0} (says : D → Data) (inner now : DocumentState D) (u : Edited) (start stop : ℕ) (new : List ℕ) (place between after : ℕ)
+pub exchanged_state : {D : Type 0} (says : D → Data) (inner now : DocumentState D) (u : Edited) (start stop : ℕ)
+    (new : List ℕ) (place between after : ℕ)
     → inner ≡ now → u ≡ exchanged inner.document.content start stop start new place between after → 0 < length new
     → start ≤ length now.document.content.text → between ≡ place_after (says now.tables) now.document start stop []
     → after ≡ place_after (says now.tables) now.document start stop new

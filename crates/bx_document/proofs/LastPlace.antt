@@ -1,6 +1,6 @@
 -- The last place of a text at or before an offset, from a part of the text that starts or ends at a paragraph's boundary.
-use Rattle.std.proofs.Common.{◌≡◌, ℕ, ◌+◌, ◌-◌, ◌<◌, ◌≤◌, nat_le, cond, Bool, true, false, List, [], ◌∷◌, ◌++◌, map, length, chars, find, reverse}
-use Rattle.std.proofs.Common.{Option, Some, None, unwrap_or, IsUtf8, refl, sym, ap, ◌∙◌, arith, length-append}
+use Rattle.std.proofs.Common.{◌≡◌, ℕ, ◌+◌, ◌-◌, ◌<◌, ◌≤◌, nat_le, cond, Bool, true, false, List, [], ◌∷◌, ◌++◌, map, length}
+use Rattle.std.proofs.Common.{chars, find, reverse, Option, Some, None, unwrap_or, IsUtf8, refl, sym, ap, ◌∙◌, arith, length-append}
 use Rattle.std.specs.List.{concat}
 use Rattle.std.specs.Option.{option_or}
 use Rattle.std.specs.Prelude.{flat_map}
@@ -48,13 +48,15 @@ cond_moved a true o d = refl
 cond_moved a false o d = refl
 
 -- offsets that are moved
-latest_moved : (a offset d : ℕ) (os : List ℕ) → a ≤ offset → latest offset (a + d) (map (λ o. a + o) os) ≡ a + latest (offset - a) d os
+latest_moved : (a offset d : ℕ) (os : List ℕ) → a ≤ offset
+    → latest offset (a + d) (map (λ o. a + o) os) ≡ a + latest (offset - a) d os
 latest_moved a offset d [] h = refl
 latest_moved a offset d (o ∷ os) h =
     let moved = map (λ p. a + p) os in
     let same : nat_le (a + o) offset ≡ nat_le o (offset - a) = grind (arith, nat_tests) in
     ap (λ b. latest offset (cond b (a + o) (a + d)) moved) same
-    ∙ ap (λ n. latest offset n moved) (cond_moved a (nat_le o (offset - a)) o d) ∙ latest_moved a offset (cond (nat_le o (offset - a)) o d) os h
+    ∙ ap (λ n. latest offset n moved) (cond_moved a (nat_le o (offset - a)) o d)
+    ∙ latest_moved a offset (cond (nat_le o (offset - a)) o d) os h
 
 -- ---- the boundaries of pieces
 
@@ -63,7 +65,8 @@ abbrev starts : ℕ → List (List ℕ) → List ℕ
 starts start [] = []
 starts start (p ∷ ps) = start ∷ starts (start + length p) ps
 
-bounds_append : (start : ℕ) (ps qs : List (List ℕ)) → boundaries start (ps ++ qs) ≡ starts start ps ++ boundaries (start + length (concat ps)) qs
+bounds_append : (start : ℕ) (ps qs : List (List ℕ))
+    → boundaries start (ps ++ qs) ≡ starts start ps ++ boundaries (start + length (concat ps)) qs
 bounds_append start [] qs = let none : start ≡ start + 0 = omega arith in ap (λ n. boundaries n qs) none
 bounds_append start (p ∷ ps) qs =
     let next = start + length p in
@@ -88,7 +91,8 @@ latest_past offset d start (p ∷ ps) h =
 latest_from : (offset d start : ℕ) (ps : List (List ℕ)) → start ≤ offset
     → latest offset d (boundaries start ps) ≡ latest offset start (boundaries start ps)
 latest_from offset d start [] h =
-    let e : nat_le start offset ≡ true = grind (arith, nat_tests) in ap (λ b. cond b start d) e ∙ sym (ap (λ b. cond b start start) e)
+    let e : nat_le start offset ≡ true = grind (arith, nat_tests) in
+    ap (λ b. cond b start d) e ∙ sym (ap (λ b. cond b start start) e)
 latest_from offset d start (p ∷ ps) h =
     let e : nat_le start offset ≡ true = grind (arith, nat_tests) in
     let rest = boundaries (start + length p) ps in
@@ -101,8 +105,9 @@ latest_end offset d start [] h =
     let e : nat_le start offset ≡ true = grind (arith, nat_tests) in
     let none : start ≡ start + 0 = omega arith in ap (λ b. cond b start d) e ∙ none
 latest_end offset d start (p ∷ ps) h =
-    let sum : start + length p + length (concat ps) ≡ start + length (concat (p ∷ ps)) = omega (arith, length-append p (concat ps)) in
-    latest_end offset (cond (nat_le start offset) start d) (start + length p) ps (omega (arith, h, sum)) ∙ sum
+    let next = start + length p in
+    let sum : next + length (concat ps) ≡ start + length (concat (p ∷ ps)) = omega (arith, length-append p (concat ps)) in
+    latest_end offset (cond (nat_le start offset) start d) next ps (omega (arith, h, sum)) ∙ sum
 
 -- ---- the places of a text
 
@@ -124,13 +129,16 @@ module _ (says : Data) where
       ap (λ cs. flat_map pieces_of (cut says cs)) (chars-append x v utf8) ∙ ap (flat_map pieces_of) j.together
       ∙ flat_map-append pieces_of j.front (paragraphs says v) in
       let none : concat qs ≡ [] = pieces-bytes (bare [] ∷ []) (record { body = IsUtf8-nil; separator = IsUtf8-nil }, tt) in
-      let whole : concat ps ++ concat qs ≡ x = sym (concat-append ps qs) ∙ ap concat (sym alone) ∙ (places-span says x utf8).whole in
-      let size : 0 + length (concat ps) ≡ length x = omega (arith, ap length whole, length-append (concat ps) (concat qs), ap length none) in
+      let whole : concat ps ++ concat qs ≡ x =
+      sym (concat-append ps qs) ∙ ap concat (sym alone) ∙ (places-span says x utf8).whole in
+      let size : 0 + length (concat ps) ≡ length x =
+      omega (arith, ap length whole, length-append (concat ps) (concat qs), ap length none) in
       record {
         front = ps;
         rest = qs;
         alone = ap (boundaries 0) alone ∙ bounds_append 0 ps qs ∙ ap (λ n. starts 0 ps ++ boundaries n qs) size;
-        together = ap (boundaries 0) together ∙ bounds_append 0 ps (pieces says v) ∙ ap (λ n. starts 0 ps ++ boundaries n (pieces says v)) size;
+        together = ap (boundaries 0) together ∙ bounds_append 0 ps (pieces says v)
+            ∙ ap (λ n. starts 0 ps ++ boundaries n (pieces says v)) size;
       }
 
 module _ (says : Data) (base : Base) (w : ℕ) (h : 1 ≤ w) where
@@ -141,7 +149,8 @@ module _ (says : Data) (base : Base) (w : ℕ) (h : 1 ≤ w) where
   last_is text offset utf8 = latest_is offset 0 (places (rows text)) ∙ ap (latest offset 0) (places-are says base w h text utf8)
 
   -- the text before a paragraph's start
-  pub last_after_front : (x v : List ℕ) (offset : ℕ) → IsUtf8 x → IsUtf8 v → parts says (chars x) (chars v) ≡ true → length x ≤ offset
+  pub last_after_front : (x v : List ℕ) (offset : ℕ) → IsUtf8 x → IsUtf8 v → parts says (chars x) (chars v) ≡ true
+      → length x ≤ offset
       → place_at (rows (x ++ v)) offset ≡ length x + place_at (rows v) (offset - length x)
   last_after_front x v offset ux uv p order =
       let s = split says x v ux p in
@@ -150,11 +159,13 @@ module _ (says : Data) (base : Base) (w : ℕ) (h : 1 ≤ w) where
       last_is (x ++ v) offset (IsUtf8-append x v ux uv) ∙ ap (latest offset 0) s.together
       ∙ latest_append offset 0 (starts 0 s.front) (boundaries a (pieces says v))
       ∙ latest_from offset (latest offset 0 (starts 0 s.front)) a (pieces says v) order
-      ∙ ap (λ n. latest offset n (boundaries n (pieces says v))) none ∙ ap (latest offset (a + 0)) (bounds_moved a 0 (pieces says v))
+      ∙ ap (λ n. latest offset n (boundaries n (pieces says v))) none
+      ∙ ap (latest offset (a + 0)) (bounds_moved a 0 (pieces says v))
       ∙ latest_moved a offset 0 (text_places says v) order ∙ ap (λ n. a + n) (sym (last_is v (offset - a) uv))
 
   -- the text after a paragraph's end
-  pub last_before_back : (x y : List ℕ) (offset : ℕ) → IsUtf8 x → IsUtf8 y → parts says (chars x) (chars y) ≡ true → offset < length x
+  pub last_before_back : (x y : List ℕ) (offset : ℕ) → IsUtf8 x → IsUtf8 y → parts says (chars x) (chars y) ≡ true
+      → offset < length x
       → place_at (rows (x ++ y)) offset ≡ place_at (rows x) offset
   last_before_back x y offset ux uy p within =
       let s = split says x y ux p in
@@ -162,11 +173,13 @@ module _ (says : Data) (base : Base) (w : ℕ) (h : 1 ≤ w) where
       last_is (x ++ y) offset (IsUtf8-append x y ux uy) ∙ ap (latest offset 0) s.together
       ∙ latest_append offset 0 (starts 0 s.front) (boundaries (length x) (pieces says y))
       ∙ latest_past offset ahead (length x) (pieces says y) within
-      ∙ sym (last_is x offset ux ∙ ap (latest offset 0) s.alone ∙ latest_append offset 0 (starts 0 s.front) (boundaries (length x) s.rest)
+      ∙ sym (last_is x offset ux ∙ ap (latest offset 0) s.alone
+      ∙ latest_append offset 0 (starts 0 s.front) (boundaries (length x) s.rest)
       ∙ latest_past offset ahead (length x) s.rest within)
 
   -- a text's end is its last place
   pub last_at_end : (text : List ℕ) → IsUtf8 text → place_at (rows text) (length text) ≡ length text
   last_at_end text utf8 =
-      let size : 0 + length (concat (pieces says text)) ≡ length text = omega (arith, ap length (places-span says text utf8).whole) in
+      let size : 0 + length (concat (pieces says text)) ≡ length text =
+      omega (arith, ap length (places-span says text utf8).whole) in
       last_is text (length text) utf8 ∙ latest_end (length text) 0 0 (pieces says text) (omega (arith, size)) ∙ size

@@ -19,8 +19,8 @@ pub record IsLastOf (says : Data) (v : ViewState) (text : List ℕ) (start stop 
   pub text_place : IsTextPlace says (splice text start stop new) o
   pub boundary : IsCharBoundary (splice text start stop new) o
 
-module _ (says : Data) (v : ViewState) (text : List ℕ) (start stop : ℕ) (new : List ℕ) (side : is_side v.w ≡ true) (utf8 : IsUtf8 text)
-    (range : IsRange text start stop) (new_utf8 : IsUtf8 new) where
+module _ (says : Data) (v : ViewState) (text : List ℕ) (start stop : ℕ) (new : List ℕ)
+    (side : is_side v.w ≡ true) (utf8 : IsUtf8 text) (range : IsRange text start stop) (new_utf8 : IsUtf8 new) where
   abbrev now : List ℕ
   now = splice text start stop new
 
@@ -33,7 +33,8 @@ module _ (says : Data) (v : ViewState) (text : List ℕ) (start stop : ℕ) (new
   last_of : (offset o : ℕ) → o ≡ place_at (rows_by says v now) offset → Is offset o
   last_of offset o is =
       let valid : IsUtf8 now = splice_utf8 says text utf8 start stop new range new_utf8 in
-      let kept : IsTextPlace says now (place_at (rows_by says v now) offset) = (text-places-kept says v.base v.w some now valid).at offset in
+      let kept : IsTextPlace says now (place_at (rows_by says v now) offset) =
+      (text-places-kept says v.base v.w some now valid).at offset in
       let own : IsTextPlace says now o = subst (IsTextPlace says now) (sym is) kept in
       record { place = is; text_place = own; boundary = place-between says now o valid own }
 
@@ -57,7 +58,8 @@ module _ (says : Data) (v : ViewState) (text : List ℕ) (start stop : ℕ) (new
     pub behind : stop ≤ place
     pub is : Is (offset - stop + start + length new) (place - stop + start + length new)
 
-  pub last_moved : (offset last place : ℕ) → last ≡ touched_stop says text stop → stop ≤ last → last ≤ offset → IsCharBoundary text offset
+  pub last_moved : (offset last place : ℕ) → last ≡ touched_stop says text stop → stop ≤ last → last ≤ offset
+      → IsCharBoundary text offset
       → place ≡ place_at (rows_by says v text) offset → IsMovedTo offset place
   last_moved offset last place e reached low bounds f =
       let moved = moved_last says text utf8 start stop new range new_utf8 v.base v.w some offset (omega (arith, e, low)) bounds.0 in

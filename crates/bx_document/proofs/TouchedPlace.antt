@@ -1,4 +1,4 @@
--- The place after an edit can be found in the paragraphs that the edit touches.
+-- The place after an edit can be found in the paragraphs that the edit touches; a place behind these moves with its text.
 use Rattle.std.proofs.Common.{◌≡◌, ℕ, ◌+◌, ◌-◌, ◌<◌, ◌≤◌, ◌⊎◌, inl, inr, true, List, [], ◌++◌, length, take, drop, chars, slice_range}
 use Rattle.std.proofs.Common.{IsUtf8, IsCharBoundary, refl, sym, ap, subst, ◌∙◌, arith, append_assoc, append-nil, length-append, length-drop}
 use Rattle.std.proofs.Common.{⊎_elim}
@@ -176,7 +176,8 @@ module _ (says : Data) (text : List ℕ) (utf8 : IsUtf8 text) where
         ap (λ bs. place_from (text_rows says base w (mine ++ bs)) offset) none
         ∙ ap (λ bs. place_from (text_rows says base w bs) offset) (append-nil mine)
     back_at_end offset base w h within (inr (past, p)) =
-        place_before_back says base w h mine behind_all offset mine_utf8 behind_utf8 (behind_at (head ++ new) head_new_utf8 past p) within
+        place_before_back says base w h mine behind_all offset mine_utf8 behind_utf8
+        (behind_at (head ++ new) head_new_utf8 past p) within
 
     -- a place in or right after the new bytes
     pub touched_place : (base : Base) (w : ℕ) → 1 ≤ w → (offset : ℕ) → start ≤ offset → offset ≤ start + length new
@@ -218,14 +219,16 @@ module _ (says : Data) (text : List ℕ) (utf8 : IsUtf8 text) where
           let none : behind_all ≡ [] = drop_all b text (omega (arith, all)) in
           ap (λ bs. place_at (rows (mine ++ bs)) offset) none ∙ ap (λ bs. place_at (rows bs) offset) (append-nil mine)
       last_at_back offset within (inr (past, p)) =
-          last_before_back says base w h mine behind_all offset mine_utf8 behind_utf8 (behind_at (head ++ new) head_new_utf8 past p) within
+          last_before_back says base w h mine behind_all offset mine_utf8 behind_utf8
+          (behind_at (head ++ new) head_new_utf8 past p) within
 
       -- of an offset in the touched paragraphs
       pub touched_last : (offset : ℕ) → start ≤ offset → offset + stop < b + start + length new
           → place_at (rows (splice text start stop new)) offset ≡ a + place_at (rows mine) (offset - a)
       touched_last offset from inside =
           ap (λ bs. place_at (rows bs) offset) whole
-          ∙ last_after_front says base w h before (mine ++ behind_all) offset before_utf8 (IsUtf8-append mine behind_all mine_utf8 behind_utf8)
+          ∙ last_after_front says base w h before (mine ++ behind_all) offset before_utf8
+          (IsUtf8-append mine behind_all mine_utf8 behind_utf8)
           (front_at front.some) (omega (arith, before_bytes, front.order, from))
           ∙ ap (λ n. n + place_at (rows (mine ++ behind_all)) (offset - n)) before_bytes
           ∙ ap (λ n. a + n) (last_at_back (offset - a) (omega (arith, mine_bytes, tail_bytes, front.order, from, inside)) back.ends)
@@ -241,11 +244,14 @@ module _ (says : Data) (text : List ℕ) (utf8 : IsUtf8 text) where
           let to = offset - stop + start + length new in
           let now = splice text start stop new in
           let size : to ≡ length now = omega (arith, splice_size, last) in
-          let was : place_at (rows text) offset ≡ length text = ap (place_at (rows text)) last ∙ last_at_end says base w h text utf8 in
-          let is : place_at (rows now) to ≡ length now = ap (place_at (rows now)) size ∙ last_at_end says base w h now splice_utf8 in
+          let was : place_at (rows text) offset ≡ length text =
+          ap (place_at (rows text)) last ∙ last_at_end says base w h text utf8 in
+          let is : place_at (rows now) to ≡ length now =
+          ap (place_at (rows now)) size ∙ last_at_end says base w h now splice_utf8 in
           record { reached = omega (arith, was, all); place = omega (arith, is, was, splice_size) }
 
-      moved_behind : (offset : ℕ) → b ≤ offset → stop < b → parts says (chars (take b text)) (chars behind_all) ≡ true → IsMoved offset
+      moved_behind : (offset : ℕ) → b ≤ offset → stop < b
+          → parts says (chars (take b text)) (chars behind_all) ≡ true → IsMoved offset
       moved_behind offset low past p =
           let to = offset - stop + start + length new in
           let kept = before ++ mine in
@@ -261,12 +267,14 @@ module _ (says : Data) (text : List ℕ) (utf8 : IsUtf8 text) where
           ∙ behind_at (before ++ (head ++ new)) (IsUtf8-append before (head ++ new) before_utf8 head_new_utf8) past p in
           let was : place_at (rows text) offset ≡ b + y =
           ap (λ bs. place_at (rows bs) offset) (sym (take-append-drop b text))
-          ∙ last_after_front says base w h (take b text) behind_all offset (IsUtf8-take text b utf8 back.bounds) behind_utf8 p (omega (arith, b_is, low))
+          ∙ last_after_front says base w h (take b text) behind_all offset (IsUtf8-take text b utf8 back.bounds) behind_utf8 p
+          (omega (arith, b_is, low))
           ∙ ap (λ k. k + place_at (rows behind_all) (offset - k)) b_is in
           let inner : to - n ≡ offset - b = omega (arith, n_is, past, low) in
           let is : place_at (rows (splice text start stop new)) to ≡ n + y =
           ap (λ bs. place_at (rows bs) to) (whole ∙ sym (append_assoc before mine behind_all))
-          ∙ last_after_front says base w h kept behind_all to (IsUtf8-append before mine before_utf8 mine_utf8) behind_utf8 q (omega (arith, n_is, past, low))
+          ∙ last_after_front says base w h kept behind_all to (IsUtf8-append before mine before_utf8 mine_utf8) behind_utf8 q
+          (omega (arith, n_is, past, low))
           ∙ ap (λ k. n + place_at (rows behind_all) k) inner in
           record { reached = omega (arith, was); place = omega (arith, is, was, n_is, past) }
 

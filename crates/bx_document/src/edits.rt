@@ -220,9 +220,9 @@ impl<D: BidiData + Drop> Document<D> {
         new.len() <= LARGEST_TEXT - kept
     }
 
-    /// Removes the bytes from `start` to `stop`, then inserts `new`, if it is not empty, where they stood, and returns the new place;
-    /// none, and no change, if the text would exceed 16,777,216 bytes. These are at most two edits, of which undo takes back the
-    /// insertion first; the removal restores the cursor to `place`.
+    /// Removes the bytes from `start` to `stop`, then inserts `new`, if it is not empty, where they stood, and returns the new
+    /// place; none, and no change, if the text would exceed 16,777,216 bytes. These are at most two edits, of which undo takes
+    /// back the insertion first; the removal restores the cursor to `place`.
     ///
     /// Errors: `OutOfMemory`, and nothing has changed.
     pub fn exchange(
@@ -265,8 +265,8 @@ impl<D: BidiData + Drop> Document<D> {
         Ok(Some(after))
     }
 
-    /// The place of an offset at or after `stop` once the bytes from `start` to `stop` have given way to `new`: the last place at or
-    /// before it.
+    /// The place of an offset at or after `stop` once the bytes from `start` to `stop` have given way to `new`: the last place
+    /// at or before it.
     pub fn place_behind(
         &mut self,
         start: usize,

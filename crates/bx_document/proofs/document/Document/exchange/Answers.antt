@@ -40,6 +40,7 @@ returns-clause-ok g c =
       short,
       exchanged_state g.D.BidiData.data _ now c.exchange.new.self.edited start c.args.stop new c.args.place
           c.in_ok-between.between after (c.self-2.view_is ∙ c.place_after-2.ensures.same ∙ c.place_after.ensures.same)
-          (ap (λ (x : TextState). x.edited) c.in-Ok.ensures.ok) some c.requires.range.start_bounds.0 c.in_ok-between.ensures.place place,
+          (ap (λ (x : TextState). x.edited) c.in-Ok.ensures.ok) some c.requires.range.start_bounds.0
+          c.in_ok-between.ensures.place place,
       place,
     )

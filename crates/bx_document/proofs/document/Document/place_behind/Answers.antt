@@ -25,9 +25,12 @@ returns-then-stop_after-offset-clause-place g c =
     c.width-side.ensures.side c.len-utf8.ensures.utf8 range c.utf8.new c.args.offset c.stop_after.result c.in_ok-place.place
     c.stop_after.ensures.stop c.stop_after.ensures.range.in_order (omega (arith, c.if-stop_after-offset.true)) bounds
     c.in_ok-place.ensures.place in
-    subst (λ s. c.in_ok-place.place - c.args.stop + c.args.start + length c.args.new.now ≡ place_at (rows_of (g.D.BidiData.data s.tables) s.document
-    (splice s.document.content.text c.args.start c.args.stop c.args.new.now)) (c.args.offset - c.args.stop + c.args.start + length c.args.new.now))
-    c.self.view_is moved.is.place
+    let start = c.args.start in
+    let stop = c.args.stop in
+    let new = c.args.new.now in
+    subst (λ s. c.in_ok-place.place - stop + start + length new ≡ place_at
+    (rows_of (g.D.BidiData.data s.tables) s.document (splice s.document.content.text start stop new))
+    (c.args.offset - stop + start + length new)) c.self.view_is moved.is.place
 
 pub returns-then-stop_after-offset-clause-text_place : goal.returns-then-stop_after-offset-clause-text_place
 returns-then-stop_after-offset-clause-text_place g c =
