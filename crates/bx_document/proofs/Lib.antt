@@ -8,10 +8,12 @@ pub mod RegionColumns
 pub mod TurnedSlots
 pub mod RegionRow
 pub mod RowsDrawn
+pub mod LastPlace
 pub mod TouchedPlace
 pub mod TouchedSpan
 pub mod LineSpan
 pub mod PlaceAfter
+pub mod PlaceBehind
 pub mod PlacesKept
 pub mod PlacesMoved
 pub mod ShownTop
@@ -29,3 +31,4 @@ mod PlaceExamples
 mod LevelExamples
 pub mod WrappedPlace
 pub mod ReplacedPlace
+pub mod ExchangedPlace

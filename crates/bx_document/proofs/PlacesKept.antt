@@ -171,22 +171,23 @@ keeps_edited {D} says inner now u start stop new before after same e h was is =
     (subst (λ (s : DocumentState D). IsTextPlace (says s.tables) s.document.content.text before) (sym same) was)
     (subst (λ (s : DocumentState D). IsTextPlace (says s.tables) (splice s.document.content.text start stop new) after) (sym same) is))
 
--- after bytes were removed, and others inserted at the place after that
-pub keeps_exchanged : {D : Type 0} (says : D → Data) (inner now : DocumentState D) (u : Edited) (start stop : ℕ) (new : List ℕ) (place between after : ℕ)
-    → inner ≡ now → u ≡ exchanged inner.document.content start stop between new place between after
+-- after bytes were removed, and others inserted at an offset of the text without them
+pub keeps_exchanged : {D : Type 0} (says : D → Data) (inner now : DocumentState D) (u : Edited) (start stop at : ℕ) (new : List ℕ)
+    (place between after : ℕ)
+    → inner ≡ now → u ≡ exchanged inner.document.content start stop at new place between after
     → KeepsPlaces (says inner.tables) inner.document.content
     → IsTextPlace (says now.tables) now.document.content.text place
     → IsTextPlace (says now.tables) (splice now.document.content.text start stop []) between
-    → IsTextPlace (says now.tables) (splice (splice now.document.content.text start stop []) between between new) after → KeepsPlaces (says inner.tables) u
-keeps_exchanged {D} says inner now u start stop new place between after same e h was mid is =
+    → IsTextPlace (says now.tables) (splice (splice now.document.content.text start stop []) at at new) after → KeepsPlaces (says inner.tables) u
+keeps_exchanged {D} says inner now u start stop at new place between after same e h was mid is =
     let t = inner.document.content in
     let by : Data = says inner.tables in
     let was' = subst (λ (s : DocumentState D). IsTextPlace (says s.tables) s.document.content.text place) (sym same) was in
     let mid' = subst (λ (s : DocumentState D). IsTextPlace (says s.tables) (splice s.document.content.text start stop []) between) (sym same) mid in
     let is' = subst (λ (s : DocumentState D). IsTextPlace (says s.tables)
-    (splice (splice s.document.content.text start stop []) between between new) after) (sym same) is in
+    (splice (splice s.document.content.text start stop []) at at new) after) (sym same) is in
     subst (KeepsPlaces by) (sym e)
-    (keeps_replaced by (removed t start stop place between) between between new between after (keeps_replaced by t start stop [] place between h was' mid')
+    (keeps_replaced by (removed t start stop place between) at at new between after (keeps_replaced by t start stop [] place between h was' mid')
     mid' is')
 
 -- after bytes were wrapped

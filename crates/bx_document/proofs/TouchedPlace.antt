@@ -1,10 +1,10 @@
--- The place after an edit can be found in the paragraphs that the edit touches.
+-- The place after an edit can be found in the paragraphs that the edit touches; a place behind these moves with its text.
 use Rattle.std.proofs.Common.{◌≡◌, ℕ, ◌+◌, ◌-◌, ◌<◌, ◌≤◌, ◌⊎◌, inl, inr, true, List, [], ◌++◌, length, take, drop, chars, slice_range}
 use Rattle.std.proofs.Common.{IsUtf8, IsCharBoundary, refl, sym, ap, subst, ◌∙◌, arith, append_assoc, append-nil, length-append, length-drop}
 use Rattle.std.proofs.Common.{⊎_elim}
 use Rattle.std.proofs.lemmas.Bool.{cases_lt}
 use Rattle.std.proofs.lemmas.List.{drop_all}
-use Rattle.std.proofs.lemmas.List.{length-take-le, take_all}
+use Rattle.std.proofs.lemmas.List.{length-take-le, take-append-drop, take_all}
 use Rattle.std.proofs.lemmas.Str.{chars-append, IsUtf8-append, IsUtf8-between, IsUtf8-drop}
 use Rattle.std.proofs.lemmas.Str.{IsUtf8-take, IsCharBoundary-end}
 use Rattle.bx_ucd.specs.Data.{Data}
@@ -14,14 +14,15 @@ use Rattle.bx_index.specs.Paragraphs.{lengths}
 use Rattle.bx_index.specs.Positions.{paragraph_of, total}
 use Rattle.bx_index.proofs.Cuts.{parts}
 use Rattle.bx_index.proofs.Turns.{total_lengths}
-use Rattle.bx_view.specs.Moves.{place_from}
+use Rattle.bx_view.specs.Moves.{place_at, place_from}
 use Rattle.bx_view.specs.Standing.{count, start_at}
-use Rattle.bx_view.specs.TextRows.{text_rows}
+use Rattle.bx_view.specs.TextRows.{TextRow, text_rows}
 use Rattle.bx_view.proofs.Begins.{begin_at, drop_parts, no_chars, some_chars, take_parts}
 use Rattle.bx_view.proofs.Cutting.{parts_ahead, parts_behind}
 use Rattle.bx_view.proofs.LeastPlace.{place_before_back, place_after_front}
 use Rattle.bx_view.proofs.Numbers.{falls-at, holds-of, lengths-count, some-paragraph}
 use Rattle.bx_document.specs.Touched.{touched, touched_start, touched_stop}
+use Rattle.bx_document.proofs.LastPlace.{last_after_front, last_at_end, last_before_back}
 
 module _ (says : Data) (text : List ℕ) (utf8 : IsUtf8 text) where
   -- ---- where the touched paragraphs begin and end
@@ -150,6 +151,22 @@ module _ (says : Data) (text : List ℕ) (utf8 : IsUtf8 text) where
         ∙ parts_ahead says (chars before) (chars head) (chars (drop start text)) (chars rest) some
         (ap (parts says (chars before)) (sym (ap chars was ∙ chars-append head (drop start text) head_utf8)) ∙ front.parts)
 
+    tail_bytes : length tail ≡ b - stop
+    tail_bytes =
+        let bounds : IsCharBoundary text b = back.bounds in
+        length-take-le (b - stop) (drop stop text) (omega (arith, length-drop stop text, bounds.0))
+
+    -- and the paragraphs after them begin as before it, whatever precedes the last touched bytes
+    behind_at : (front : List ℕ) → IsUtf8 front → stop < b → parts says (chars (take b text)) (chars behind_all) ≡ true
+        → parts says (chars (front ++ tail)) (chars behind_all) ≡ true
+    behind_at front front_utf8 past p =
+        let was : take b text ≡ take stop text ++ tail = take_parts stop b text back.reached in
+        let some : 0 < length (chars tail) = some_chars tail (chars tail) tail_utf8 (omega (arith, tail_bytes, past)) refl in
+        ap (λ cs. parts says cs (chars behind_all)) (chars-append front tail front_utf8)
+        ∙ parts_behind says (chars front) (chars (take stop text)) (chars tail) (chars behind_all) some
+        (ap (λ cs. parts says cs (chars behind_all))
+        (sym (ap chars was ∙ chars-append (take stop text) tail (IsUtf8-take text stop utf8 range.stop_bounds))) ∙ p)
+
     -- the place in the touched paragraphs is the same with the bytes after them
     back_at_end : (offset : ℕ) (base : Base) (w : ℕ) → 1 ≤ w → offset ≤ length mine
         → (b ≡ length text) ⊎ ((stop < b) × (parts says (chars (take b text)) (chars (drop b text)) ≡ true))
@@ -159,16 +176,8 @@ module _ (says : Data) (text : List ℕ) (utf8 : IsUtf8 text) where
         ap (λ bs. place_from (text_rows says base w (mine ++ bs)) offset) none
         ∙ ap (λ bs. place_from (text_rows says base w bs) offset) (append-nil mine)
     back_at_end offset base w h within (inr (past, p)) =
-        let was : take b text ≡ take stop text ++ tail = take_parts stop b text back.reached in
-        let bounds : IsCharBoundary text b = back.bounds in
-        let size : length tail ≡ b - stop = length-take-le (b - stop) (drop stop text) (omega (arith, length-drop stop text, bounds.0)) in
-        let some : 0 < length (chars tail) = some_chars tail (chars tail) tail_utf8 (omega (arith, size, past)) refl in
-        let q : parts says (chars mine) (chars behind_all) ≡ true =
-        ap (λ cs. parts says cs (chars behind_all)) (chars-append (head ++ new) tail head_new_utf8)
-        ∙ parts_behind says (chars (head ++ new)) (chars (take stop text)) (chars tail) (chars behind_all) some
-        (ap (λ cs. parts says cs (chars behind_all))
-        (sym (ap chars was ∙ chars-append (take stop text) tail (IsUtf8-take text stop utf8 range.stop_bounds))) ∙ p) in
-        place_before_back says base w h mine behind_all offset mine_utf8 behind_utf8 q within
+        place_before_back says base w h mine behind_all offset mine_utf8 behind_utf8
+        (behind_at (head ++ new) head_new_utf8 past p) within
 
     -- a place in or right after the new bytes
     pub touched_place : (base : Base) (w : ℕ) → 1 ≤ w → (offset : ℕ) → start ≤ offset → offset ≤ start + length new
@@ -185,3 +194,90 @@ module _ (says : Data) (text : List ℕ) (utf8 : IsUtf8 text) where
     pub splice_utf8 : IsUtf8 (splice text start stop new)
     splice_utf8 =
         subst IsUtf8 (sym whole) (IsUtf8-append before (mine ++ behind_all) before_utf8 (IsUtf8-append mine behind_all mine_utf8 behind_utf8))
+
+    -- ---- the last place at or before an offset behind the new bytes
+
+    splice_size : length (splice text start stop new) ≡ length text - stop + start + length new
+    splice_size =
+        omega (
+          arith,
+          length-append (take start text ++ new) (drop stop text),
+          length-append (take start text) new,
+          length-take-le start text start_inside,
+          length-drop stop text,
+          stop_inside,
+        )
+
+    module _ (base : Base) (w : ℕ) (h : 1 ≤ w) where
+      abbrev rows : List ℕ → List TextRow
+      rows bs = text_rows says base w bs
+
+      last_at_back : (offset : ℕ) → offset < length mine
+          → (b ≡ length text) ⊎ ((stop < b) × (parts says (chars (take b text)) (chars (drop b text)) ≡ true))
+          → place_at (rows (mine ++ behind_all)) offset ≡ place_at (rows mine) offset
+      last_at_back offset within (inl all) =
+          let none : behind_all ≡ [] = drop_all b text (omega (arith, all)) in
+          ap (λ bs. place_at (rows (mine ++ bs)) offset) none ∙ ap (λ bs. place_at (rows bs) offset) (append-nil mine)
+      last_at_back offset within (inr (past, p)) =
+          last_before_back says base w h mine behind_all offset mine_utf8 behind_utf8
+          (behind_at (head ++ new) head_new_utf8 past p) within
+
+      -- of an offset in the touched paragraphs
+      pub touched_last : (offset : ℕ) → start ≤ offset → offset + stop < b + start + length new
+          → place_at (rows (splice text start stop new)) offset ≡ a + place_at (rows mine) (offset - a)
+      touched_last offset from inside =
+          ap (λ bs. place_at (rows bs) offset) whole
+          ∙ last_after_front says base w h before (mine ++ behind_all) offset before_utf8
+          (IsUtf8-append mine behind_all mine_utf8 behind_utf8)
+          (front_at front.some) (omega (arith, before_bytes, front.order, from))
+          ∙ ap (λ n. n + place_at (rows (mine ++ behind_all)) (offset - n)) before_bytes
+          ∙ ap (λ n. a + n) (last_at_back (offset - a) (omega (arith, mine_bytes, tail_bytes, front.order, from, inside)) back.ends)
+
+      -- an offset behind the touched paragraphs moves with its place
+      pub record IsMoved (offset : ℕ) : Type 0 where
+        pub reached : b ≤ place_at (rows text) offset
+        pub place : place_at (rows (splice text start stop new)) (offset - stop + start + length new)
+            ≡ place_at (rows text) offset - stop + start + length new
+
+      moved_at_end : (offset : ℕ) → offset ≡ length text → b ≡ length text → IsMoved offset
+      moved_at_end offset last all =
+          let to = offset - stop + start + length new in
+          let now = splice text start stop new in
+          let size : to ≡ length now = omega (arith, splice_size, last) in
+          let was : place_at (rows text) offset ≡ length text =
+          ap (place_at (rows text)) last ∙ last_at_end says base w h text utf8 in
+          let is : place_at (rows now) to ≡ length now =
+          ap (place_at (rows now)) size ∙ last_at_end says base w h now splice_utf8 in
+          record { reached = omega (arith, was, all); place = omega (arith, is, was, splice_size) }
+
+      moved_behind : (offset : ℕ) → b ≤ offset → stop < b
+          → parts says (chars (take b text)) (chars behind_all) ≡ true → IsMoved offset
+      moved_behind offset low past p =
+          let to = offset - stop + start + length new in
+          let kept = before ++ mine in
+          let n = length kept in
+          let y = place_at (rows behind_all) (offset - b) in
+          let bounds : IsCharBoundary text b = back.bounds in
+          let b_is : length (take b text) ≡ b = length-take-le b text bounds.0 in
+          let n_is : n ≡ start + length new + (b - stop) =
+          omega (arith, length-append before mine, before_bytes, mine_bytes, tail_bytes, front.order) in
+          let kept_is : (before ++ (head ++ new)) ++ tail ≡ kept = append_assoc before (head ++ new) tail in
+          let q : parts says (chars kept) (chars behind_all) ≡ true =
+          ap (λ bs. parts says (chars bs) (chars behind_all)) (sym kept_is)
+          ∙ behind_at (before ++ (head ++ new)) (IsUtf8-append before (head ++ new) before_utf8 head_new_utf8) past p in
+          let was : place_at (rows text) offset ≡ b + y =
+          ap (λ bs. place_at (rows bs) offset) (sym (take-append-drop b text))
+          ∙ last_after_front says base w h (take b text) behind_all offset (IsUtf8-take text b utf8 back.bounds) behind_utf8 p
+          (omega (arith, b_is, low))
+          ∙ ap (λ k. k + place_at (rows behind_all) (offset - k)) b_is in
+          let inner : to - n ≡ offset - b = omega (arith, n_is, past, low) in
+          let is : place_at (rows (splice text start stop new)) to ≡ n + y =
+          ap (λ bs. place_at (rows bs) to) (whole ∙ sym (append_assoc before mine behind_all))
+          ∙ last_after_front says base w h kept behind_all to (IsUtf8-append before mine before_utf8 mine_utf8) behind_utf8 q
+          (omega (arith, n_is, past, low))
+          ∙ ap (λ k. n + place_at (rows behind_all) k) inner in
+          record { reached = omega (arith, was); place = omega (arith, is, was, n_is, past) }
+
+      pub moved_last : (offset : ℕ) → b ≤ offset → offset ≤ length text → IsMoved offset
+      moved_last offset low high = ⊎_elim
+          (λ all. moved_at_end offset (omega (arith, low, high, all)) all) (λ (past, p). moved_behind offset low past p) back.ends

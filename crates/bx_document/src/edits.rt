@@ -210,7 +210,8 @@ impl<D: BidiData + Drop> Document<D> {
         Ok(Some(after))
     }
 
-    /// Whether the text would be within 16,777,216 bytes with `new` in place of the bytes from `start` to `stop`. Allocates nothing.
+    /// Whether the text would be within 16,777,216 bytes with `new` in place of the bytes from `start` to `stop`. Allocates
+    /// nothing.
     pub fn has_room(&self, start: usize, stop: usize, new: &str) -> bool
         requires range { IsRange self.now.document.content.text start stop }
         ensures { result ≡ fits self.now.document.content.text start stop new.now }
@@ -219,9 +220,9 @@ impl<D: BidiData + Drop> Document<D> {
         new.len() <= LARGEST_TEXT - kept
     }
 
-    /// Removes the bytes from `start` to `stop`, then inserts `new`, if it is not empty, where they stood, and returns the new place;
-    /// none, and no change, if the text would exceed 16,777,216 bytes. These are at most two edits, of which undo takes back the
-    /// insertion first; the removal restores the cursor to `place`.
+    /// Removes the bytes from `start` to `stop`, then inserts `new`, if it is not empty, where they stood, and returns the new
+    /// place; none, and no change, if the text would exceed 16,777,216 bytes. These are at most two edits, of which undo takes
+    /// back the insertion first; the removal restores the cursor to `place`.
     ///
     /// Errors: `OutOfMemory`, and nothing has changed.
     pub fn exchange(
@@ -243,11 +244,11 @@ impl<D: BidiData + Drop> Document<D> {
         ensures text_place { IfOk result (λ after. IfSome after (IsTextPlace (D.data self.new.tables) self.new.document.content.text)) }
         ensures err { OnErr result (self.new ≡ self.old) }
     {
+        let kept = self.text.len() - (stop - start);
         if new.is_empty() {
             let after = self.remove(start, stop, place)?;
             return Ok(Some(after));
         }
-        let kept = self.text.len() - (stop - start);
         if new.len() > LARGEST_TEXT - kept {
             return Ok(None);
         }
@@ -264,10 +265,8 @@ impl<D: BidiData + Drop> Document<D> {
         Ok(Some(after))
     }
 
-    /// The place of an offset at or after `stop` once the bytes from `start` to `stop` have given way to `new`: the last place at or
-    /// before it.
-    ///
-    /// Errors: `OutOfMemory`.
+    /// The place of an offset at or after `stop` once the bytes from `start` to `stop` have given way to `new`: the last place
+    /// at or before it.
     pub fn place_behind(
         &mut self,
         start: usize,

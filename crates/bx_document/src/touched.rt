@@ -111,8 +111,6 @@ pub(crate) fn place_inside<D: BidiData>(
 
 /// The last place at or before an offset, in bytes from 0, of a text that is laid out alone, with `layout`'s width and base
 /// direction.
-///
-/// Errors: `OutOfMemory`.
 fn last_place_in<D: BidiData>(
     alloc: Global,
     characters: String,
@@ -135,8 +133,6 @@ fn last_place_in<D: BidiData>(
 
 /// The last place at or before an offset behind a range of bytes once `new` has replaced them, in the paragraphs that the edit
 /// touches. A copy of these is laid out.
-///
-/// Errors: `OutOfMemory`.
 pub(crate) fn place_at_inside<D: BidiData>(
     alloc: Global,
     source: &Source<'_, D>,

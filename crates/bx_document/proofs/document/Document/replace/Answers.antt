@@ -40,7 +40,7 @@ invariant_of-self-2 g c =
     c.place_after.ensures.same c.in_ok-after.ensures.text_place in
     let is = subst (λ b. IsTextPlace (g.D.BidiData.data now.tables)
     (splice (splice now.document.content.text c.args.start c.args.stop []) b b c.args.new.now) after) (sym c.in_ok-between.ensures.place) both in
-    let keeps = keeps_exchanged g.D.BidiData.data _ now c.exchange.new.self.edited c.args.start c.args.stop c.args.new.now c.args.place
+    let keeps = keeps_exchanged g.D.BidiData.data _ now c.exchange.new.self.edited c.args.start c.args.stop between c.args.new.now c.args.place
     between after (c.self-2.view_is ∙ c.place_after_both.ensures.same ∙ c.place_after.ensures.same)
     (ap (λ (x : TextState). x.edited) c.in-Ok.ensures.ok) c.self-2.invariant.2
     c.requires.text_place c.in_ok-between.ensures.text_place is in

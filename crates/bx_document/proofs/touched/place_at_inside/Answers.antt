@@ -1,0 +1,35 @@
+use Rattle.std.proofs.Common.{arith, refl, string_bytes}
+use Rattle.bx_document.proofs.PlaceAfter.{splice_short}
+use Rattle.bx_document.proofs.PlaceBehind.{last_found}
+use Rattle.bx_document.proofs.touched.place_at_inside.Goals as goal
+
+pub overflow_add-result : goal.overflow_add-result
+overflow_add-result g c =
+    let s = c.args.source.now in
+    let text = s.text.now.edited.text in
+    let range = c.args.range in
+    let is = last_found (g.D.BidiData.data s.tables.now) c.args.layout.now text range.start range.end c.args.new.now
+    c.width-side.ensures.side s.utf8 c.requires.range c.utf8.new (string_bytes c.in_ok-first.characters) c.in_ok-first.first
+    c.args.offset _ c.in_ok-place.place c.requires.behind c.requires.inside c.in_ok-first.ensures.start
+    c.in_ok-first.ensures.text refl c.in_ok-place.ensures.place in
+    omega (arith, is.boundary.0, splice_short text range.start range.end c.args.new.now c.requires.range c.requires.fits)
+
+pub returns-clause-place : goal.returns-clause-place
+returns-clause-place g c =
+    let s = c.args.source.now in
+    let text = s.text.now.edited.text in
+    let range = c.args.range in
+    (last_found (g.D.BidiData.data s.tables.now) c.args.layout.now text range.start range.end c.args.new.now
+    c.width-side.ensures.side s.utf8 c.requires.range c.utf8.new (string_bytes c.in_ok-first.characters) c.in_ok-first.first
+    c.args.offset _ c.in_ok-place.place c.requires.behind c.requires.inside c.in_ok-first.ensures.start
+    c.in_ok-first.ensures.text refl c.in_ok-place.ensures.place).place
+
+pub returns-clause-text_place : goal.returns-clause-text_place
+returns-clause-text_place g c =
+    let s = c.args.source.now in
+    let text = s.text.now.edited.text in
+    let range = c.args.range in
+    (last_found (g.D.BidiData.data s.tables.now) c.args.layout.now text range.start range.end c.args.new.now
+    c.width-side.ensures.side s.utf8 c.requires.range c.utf8.new (string_bytes c.in_ok-first.characters) c.in_ok-first.first
+    c.args.offset _ c.in_ok-place.place c.requires.behind c.requires.inside c.in_ok-first.ensures.start
+    c.in_ok-first.ensures.text refl c.in_ok-place.ensures.place).text_place
