@@ -108,6 +108,7 @@ check_all_scenes() {
     check_scenes 'a line gone to' 2 20 610a62 "B1b B5b B38 B34 B7e B32 B0a $rest"
     check_scenes 'a region in an isolate' 2 20 616263 "B1b B5b B37 B32 B7e B06 B1b B5b B38 B36 B7e B69 $rest"
     check_scenes 'a character by its code' 2 20 6162 "B1b B5b B38 B36 B7e B75 B35 B64 B0a $rest"
+    check_scenes 'matches replaced' 2 50 6220622062 "B1b B5b B38 B35 B7e B62 B0a B78 B0a B0a B1b B5b B38 B35 B7e $rest"
     check_scenes 'what stands at the cursor' 2 30 6162 "B1b B5b B38 B37 B7e B06 $rest"
     check_scenes 'down' 3 4 310a320a33 "B1b B5b B42 B1b B5b B42 $rest"
 }
