@@ -143,6 +143,10 @@ check_all_worked() {
         "S1000 B$find S1000 B62 pending place query seek text B62 place seek" alone 'oooooooEo\t- 0 - begun 6162 1 typed'
     check_worked 'a shorter query without memory' 2 30 6162 "S1000 B${find}62 S1000 B$delete pending place query seek" alone \
         'oooooooooooE\t- 1 62 typed'
+    # Replace, b, x in its place, and the end of a line at the match
+    check_worked 'a match replaced without memory' 2 60 61626162 \
+        'S1000 B1b5b38357e620a780a S1000 B0a pending text place seek B0a text place seek' alone \
+        'oooooooooooEo\t- 61626162 1 replacing 61786162 3 replacing'
     check_worked 'the terminal without memory' 1 5 6162 'S1000 R5 R5 W1,4 R1000 R1000 W1,5 shown' step 'oMMMMoM\t0'
 }
 
