@@ -1,10 +1,10 @@
 #!/bin/sh
 # check-edits.sh [EDITS [SEED]]: makes random edits in the built program, 20,000 by default, in paragraphs of up to 2,000
 # characters, half of them notes of real words and half of all kinds of characters, in windows of several sizes; some take the
-# place of a selection, are put round it, or undo and redo a run. After each edit the screen is painted twice: with the layout
-# that followed the edit, and with a new one. A change of direction discards the layout, and three changes lead back to the
-# first direction. It is not part of `rt ci`. The last line has the number of edits. Exit status 1: two such paintings differ,
-# or a run ends wrongly; 77: the program is not built or there is no python3.
+# place of a selection, are put round it, replace matches of a search, or undo and redo a run. After each edit the screen is
+# painted twice: with the layout that followed the edit, and with a new one. A change of direction discards the layout, and three
+# changes lead back to the first direction. It is not part of `rt ci`. The last line has the number of edits. Exit status 1: two
+# such paintings differ, or a run ends wrongly; 77: the program is not built or there is no python3.
 #
 # With gdb it counts, in 2,000 more edits of notes, the edits after which only the levels between two strong characters were
 # resolved again. The target of nine in ten is missed (docs/PERFORMANCE.md). Exit status 1: less than four in five, a little

@@ -1,9 +1,9 @@
 #!/bin/sh
 # check-sessions.sh SESSIONS [--only NUMBER] [--max COUNT]: runs the program on recorded sessions, and prints how many agree
 # byte by byte in output, status and the resulting file. For a refused command line only the refusal is compared. No other file
-# may be left. SESSIONS is a folder in the form that sessions.sh describes, or an archive of one. Sessions for a later editor are
-# passed over and counted. --only selects one session, and --max limits the number of differing sessions that are shown, 20 by
-# default. It is not part of `rt ci`. Exit status 1: a session differs or none was run; 77: no sessions are given.
+# may be left. SESSIONS is a folder in the form that sessions.sh describes, or an archive of one. --only selects one session, and
+# --max limits the number of differing sessions that are shown, 20 by default. It is not part of `rt ci`. Exit status 1: a session
+# differs or none was run; 77: no sessions are given.
 set -eu
 export LC_ALL=C
 
@@ -65,16 +65,12 @@ plain() { # NUMBER
     printf '%s\n' "${1#"${1%%[!0]*}"}"
 }
 
-# Runs all sessions, and prints those that differ, the number passed over, and the number that agree.
+# Runs all sessions, and prints those that differ and the number that agree.
 run_sessions() { # FOLDER
-    agreed=0 differing=0 later=0
+    agreed=0 differing=0
     list_sessions "$1" >"$scratch/list"
     while IFS= read -r session; do
         [ -z "$only" ] || [ "$(plain "${session##*/}")" = "$(plain "$only")" ] || continue
-        if is_later "$session"; then
-            later=$((later + 1))
-            continue
-        fi
         run_session "$session"
         if [ ! -s "$scratch/differences" ]; then
             agreed=$((agreed + 1))
@@ -86,7 +82,6 @@ run_sessions() { # FOLDER
         cat "$scratch/differences"
         [ ! -f "$session/notes" ] || sed 's/^/    /' "$session/notes"
     done <"$scratch/list"
-    [ "$later" = 0 ] || echo "skipped $later sessions for a later editor, which have keys or searches that this one lacks"
     echo "$agreed of $((agreed + differing)) sessions agree"
     [ "$differing" = 0 ] && [ "$agreed" -gt 0 ]
 }

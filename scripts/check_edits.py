@@ -6,7 +6,7 @@ It writes files into the working folder.
 import random, re, shutil, subprocess, sys
 
 editor, data, edits, seed = sys.argv[1], sys.argv[2], int(sys.argv[3]), int(sys.argv[4])
-chance, name_chance = random.Random(seed), random.Random(seed)
+chance, name_chance, replace_chance = random.Random(seed), random.Random(seed), random.Random(seed)
 FILES = {"classes": "DerivedBidiClass", "brackets": "BidiBrackets", "mirroring": "BidiMirroring", "joining": "ArabicShaping", "characters": "UnicodeData"}
 TABLES = [f"--{word}={data}/{file}.txt" for word, file in FILES.items()]
 PER_TEXT = 200
@@ -21,6 +21,7 @@ STEPS = {b"\x1a": [b"\x1a", b"\x1b[82~"], b"\x19": [b"\x19", b"\x1b[83~"]}
 SELECT = b"\x1b[81~"
 # characters that begin or end an embedding or isolate, by their names: those that begin one are put round a selection
 NAMED = [b"\x1b[86~" + name.encode() for name in "eEoOiIfpP"]
+REPLACE, CANCEL, DELETE = b"\x1b[85~", b"\x1b[93~", b"\x1b[3~"
 MOVES = [b"\x1b[A", b"\x1b[B", b"\x1b[C", b"\x1b[D", b"\x06", b"\x02", b"\x1b[H", b"\x1b[F", b"\x1b[5~", b"\x1b[6~"]
 HEBREW = "של אני הבית ספר ילדה הולכת לים בערב (ירושלים) מחיר שולחן כיסא".split()
 ARABIC = "السلام عليكم كتاب بيت مدرسة في على كبير صغير يوم".split()
@@ -54,6 +55,15 @@ def edit(is_note, kinds=None):
     return b"\x7f" if kind < 0.75 else b"\x1b[3~" if kind < 0.85 else b"\x1a" if kind < 0.93 else b"\x19" if kind < 0.97 else b"\r"
 
 
+def replacement(is_note):
+    """Replaces a match, two, or all from the place on, if there are any, by nothing or by other letters."""
+    query, other = replace_chance.choice([("ל", "הא"), ("י", ""), ("ال", "a"), ("e", "(א"), ("o ", " "), (" ", "1")])
+    if not is_note:
+        query = chr(replace_chance.choice(KINDS))
+    ending = replace_chance.choice([b"\n", b"\n\n", REPLACE])
+    return REPLACE + query.encode() + b"\n" + DELETE + other.encode() + b"\n" + ending + CANCEL
+
+
 def check(count):
     is_note = chance.random() < 0.5
     size = chance.randrange(1, 2001)
@@ -68,6 +78,8 @@ def check(count):
             keys += SELECT + chance.choice(MOVES)
         change = edit(is_note)
         change = chance.choice(STEPS.get(change, [change]))
+        if replace_chance.random() < 0.1:
+            change = replacement(is_note)
         if selects and name_chance.random() < 0.3:
             change = name_chance.choice(NAMED)
         keys += change + REPAINT + DIRECTIONS + REPAINT

@@ -3,16 +3,19 @@
 import copy
 import re
 
+from recovery_search import CONTROLS, Search
+
 # as the filter of keys lets them through, so that the journal has these very bytes
 BYTES = {"erase": b"\x1b[94~", "delete": b"\x1b[3~", "back": b"\x02", "forward": b"\x06", "undo run": b"\x1b[82~",
          "redo run": b"\x1b[83~", "save": b"\x13", "repaint": b"\x0c", "direction": b"\x1b[9~", "find": b"\x1b[70~",
          "find back": b"\x1b[71~", "mark": b"\x1b[72~", "copy": b"\x1b[73~", "cut": b"\x1b[74~", "put": b"\x1b[75~",
          "text start": b"\x1b[78~", "text end": b"\x1b[79~", "help": b"\x1b[80~", "select": b"\x1b[81~",
          "erase word": b"\x1b[88~", "delete word": b"\x1b[89~", "paste start": b"\x1b[90~", "paste end": b"\x1b[91~",
-         "find next": b"\x1b[92~", "cancel": b"\x1b[93~", "go to": b"\x1b[84~", "name": b"\x1b[86~", "tell": b"\x1b[87~"}
+         "find next": b"\x1b[92~", "cancel": b"\x1b[93~", "go to": b"\x1b[84~", "replace": b"\x1b[85~",
+         "name": b"\x1b[86~", "tell": b"\x1b[87~"}
 MOVES = ["back", "forward", "text start", "text end"]
 # the characters of letters behind Name, each a unit of its own; without the joiners, which are none
-NAMED = dict(zip("eEoOpiIfPlra", "\u202a\u202b\u202d\u202e\u202c\u2066\u2067\u2068\u2069\u200e\u200f\u061c"))
+NAMED = dict(zip("eEoOpiIfPlra", CONTROLS))
 # what ends those that are put round a region
 CLOSERS = dict.fromkeys("eEoO", NAMED["p"]) | dict.fromkeys("iIf", NAMED["P"])
 # what is typed, and the kind of the next letter, which goes on with it
@@ -24,10 +27,11 @@ def kind_of(character):
     return "no" if character == "\n" else "blanks" if character in " \t" else "word"
 
 
-class Editor:
+class Editor(Search):
     """The editor's state, with the keys so far and the text after each."""
 
     def __init__(self, text):
+        super().__init__()
         self.text, self.place, self.changed = text, 0, False
         self.past, self.future = [], []
         # the lengths of the past at which runs begin, and at which the text is the stored one
@@ -36,8 +40,6 @@ class Editor:
         self.typing = "no"
         # a mark that Select set is soft: fresh until the next key, and then old
         self.mark, self.soft, self.held = None, "no", ""
-        # a search is None, begun or typed
-        self.search, self.query, self.origin = None, "", 0
         # a question is None, or for a line, a name or a code; what Tell told stands until the next key
         self.ask, self.answer, self.told = None, "", ""
         # the direction of all paragraphs: auto, ltr and rtl, one after another
@@ -78,10 +80,7 @@ class Editor:
             self.typing = "pasting" if is_paste else kind
         else:
             self.typing = was if is_paste else "no"
-            if letter == "\n":
-                self.search = None
-            elif letter != "\t":
-                self.look_for(self.kept_query() + letter)
+            self.seek_by(letter, is_paste)
         self.age()
         self.typed(byte or letter.encode())
 
@@ -103,53 +102,6 @@ class Editor:
         self.told = ""
         self.keys += keys
         self.ends[len(self.keys)] = self.text
-
-    def kept_query(self):
-        """What a letter is added to: a search that is only begun has the query of the last one."""
-        return "" if self.search == "begun" else self.query
-
-    def look_for(self, query):
-        self.query, self.search = query[:64], "typed"
-        self.look_from(self.place)
-
-    def matches(self):
-        """Where the query stands, whatever named characters are between its letters."""
-        places = [at for at, letter in enumerate(self.text) if letter not in NAMED.values()]
-        letters = "".join(self.text[at] for at in places)
-        return [places[i] for i in range(len(places)) if self.query and letters.startswith(self.query, i)]
-
-    def look_from(self, place):
-        """Goes to the first place from `place` on where the query stands, else to the first of all."""
-        found = self.matches()
-        self.place = next((at for at in found if at >= place), found[0] if found else self.place)
-
-    def look_on(self):
-        self.look_from(self.place + 1 if self.place < len(self.text) else 0)
-
-    def look_back(self):
-        found = self.matches()
-        self.place = next((at for at in reversed(found) if at < self.place), found[-1] if found else self.place)
-
-    def give_up(self):
-        self.search, self.place = None, self.origin
-
-    def takes(self, name):
-        """Whether a search takes a key. Any other key but a repaint ends it first."""
-        if name in ("erase", "delete"):
-            self.place = self.origin
-            self.look_for(self.kept_query()[:-1])
-        elif name in ("find", "find next"):
-            self.search = "typed"
-            self.look_on()
-        elif name == "find back":
-            self.search = "typed"
-            self.look_back()
-        elif name in ("copy", "cancel"):
-            self.give_up()
-        elif name != "repaint":
-            self.search = None
-            return False
-        return True
 
     def answer_by(self, letter, is_paste):
         """What a letter does in a question. A paste answers none."""
@@ -260,13 +212,6 @@ class Editor:
         end = len(self.text)
         self.place = {"back": max(0, self.place - 1), "forward": min(end, self.place + 1), "text start": 0, "text end": end}[name]
 
-    def find(self, name):
-        self.unselect()
-        if name == "find next" and self.query:
-            self.look_on()
-        else:
-            self.search, self.origin = "begun", self.place
-
     def take(self, name):
         start, end = self.taken()
         self.held, self.mark, self.soft = self.text[start:end] or self.held, None, "no"
@@ -297,8 +242,10 @@ class Editor:
             self.step_run(self.future, self.past, 2)
         elif name == "save":
             self.changed, self.stored = False, len(self.past)
-        elif name in ("find", "find back", "find next"):
-            self.find(name)
+        elif name in ("find", "find back", "replace"):
+            self.begin_search("replace" if name == "replace" else "find")
+        elif name == "find next":
+            self.find_next()
         elif name == "select":
             self.select()
         elif name == "cancel":
@@ -342,7 +289,7 @@ class Editor:
         lines = self.text[:self.place].split("\n")
         row = "%s %d:%d" % ("*" if self.changed else "-", len(lines), len(lines[-1]) + 1)
         if self.search:
-            return row + " find: " + (self.query if self.query < "\u05d0" else self.query[::-1])
+            return f"{row} {self.prompt()}".rstrip()
         prompt = {None: self.told, "line": "line: " + self.answer, "name": "insert:", "code": "insert: U+" + self.answer}[self.ask]
         return f"{row} {prompt}".rstrip()
 

@@ -15,14 +15,16 @@ import sys
 from recovery_editor import BYTES, CLOSERS, MOVES, NAMED, Editor
 
 # each letter is a unit of its own in any context
-LETTERS = "abcxyz ,.()0123456789" + "\u05d0\u05d1\u05d2\u05e9\u05dc" + "\u0627\u0628\u062a\u0645"
-NAMES = [*BYTES, "select", "undo run", "redo run", "enter", "tab", "size", "quit", "named"]
+LETTERS = "abcxyz ,.()0123456789" + "\u05d0\u05d1\u05d2\u05e9\u05dc\u05de\u05dd" + "\u0623\u0627\u0628\u062a\u0645"
+NAMES = [*BYTES, "select", "undo run", "redo run", "enter", "tab", "size", "quit", "named", "replaced", "replaced"]
 # how keys1 end
 ENDS = ["no search", "in a search", "a search given up", "a search that a save ended", "in a paste", "a selection", "between runs",
-        "in a question", "a named character", "a region in an isolate", "behind Tell"]
-# the ends without a search
+        "in a question", "a named character", "a region in an isolate", "behind Tell", "the other text asked for", "a match shown",
+        "matches replaced"]
+# the ends that have a method of their own
 PARTS = {"in a paste": "begin_paste", "a selection": "make_selection", "between runs": "type_runs", "in a question": "ask_something",
-         "a named character": "name_character", "a region in an isolate": "wrap_letters", "behind Tell": "tell_letter"}
+         "a named character": "name_character", "a region in an isolate": "wrap_letters", "behind Tell": "tell_letter",
+         "the other text asked for": "ask_for_other", "a match shown": "show_some_match", "matches replaced": "replace_some"}
 # the first bytes of a character or a sequence
 TORN = [b"", b"\xd7", b"\xe2\x80", b"\x1b", b"\x1b[", b"\x1b[7", b"\x1b[8;24;"]
 # the program ignores HUP under the host
@@ -42,6 +44,8 @@ class Session(Editor):
             self.insert("\t")
         elif name == "named":
             self.name_character()
+        elif name == "replaced":
+            self.replace_letters()
         elif name == "size":
             self.typed(b"\x1b[8;%d;%dt" % (random.randint(2, 30), random.randint(5, 90)))
         elif name == "quit":
@@ -52,21 +56,32 @@ class Session(Editor):
         else:
             self.key(name)
 
-    def search_ahead(self):
+    def replace_letters(self):
+        """Asks for letters of the text, and for letters in their place, and replaces or passes over some of them."""
+        start = random.randint(0, len(self.text))
+        self.key("replace")
+        for letter in self.text[start:start + random.randint(1, 2)]:
+            self.insert(letter)
+        self.enter()
+        for letter in random.sample(LETTERS, random.randint(0, 2)):
+            self.insert(letter)
+        self.enter()
+        for name in random.choices(["enter", "find", "replace", "erase", "find back", "cancel"], [6, 4, 2, 1, 1, 1], k=random.randint(1, 4)):
+            self.enter() if name == "enter" else self.key(name)
+
+    def search_ahead(self, name="find"):
         """Searches for letters of one direction that stand behind the place, so that no message comes."""
-        words = "[a-z]+|[\u05d0-\u05ea]+|[\u0627-\u064a]+"
+        words = "[a-z]+|[\u05d0-\u05ea]+|[\u0623-\u064a]+"
         if not re.search(words, self.text[self.place:]):
             self.key("text start")
         word = random.choice(re.findall(words, self.text[self.place:]))
-        self.key("find")
+        self.key(name)
         for letter in word[:random.randint(1, 3)]:
             self.insert(letter)
 
     def end_by(self, end):
         """Ends the first keys, with the size of the tmux window, and with a letter, which removes a message."""
-        if self.search:
-            self.enter()
-        elif self.ask:
+        if self.search or self.ask:
             self.key("cancel")
         self.typed(b"\x1b[8;24;80t")
         self.insert("q")
@@ -127,6 +142,26 @@ class Session(Editor):
             self.key("back")
         self.key("name")
         self.insert(random.choice([*CLOSERS]))
+
+    def ask_for_other(self):
+        """Asks for letters that stand behind the place, and then for those that are to take their place."""
+        self.search_ahead("replace")
+        self.enter()
+        for letter in random.choice(["b", "xy", "\u05d0\u05e9\u05dd", "\u0628\u0623"]):
+            self.insert(letter)
+
+    def show_some_match(self):
+        self.ask_for_other()
+        self.enter()
+
+    def replace_some(self):
+        """Replaces a match, or all behind it too. Where none is left, the number of them is told."""
+        self.show_some_match()
+        if random.random() < 0.5:
+            self.enter()
+        else:
+            self.key("replace")
+        self.told = "" if self.search else f"{self.count} replaced"
 
     def tell_letter(self):
         """Tells a letter that is a line of its own, whose level goes by its class and the direction."""

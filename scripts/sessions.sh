@@ -1,8 +1,7 @@
 # shellcheck shell=sh
 # Recorded sessions. Each is a folder whose name is a number: `args` has the program's words, one a line, `keys` the input, and
 # `file` the edited file, if it exists. `want.stdout`, `want.stderr`, `want.status` and `want.file` have the expected output,
-# status and final `file`. An empty file `later` marks one whose searches find letters as a later editor does, or that replaces. The
-# tables are in the folder `tables` beside the sessions.
+# status and final `file`. The tables are in the folder `tables` beside the sessions.
 
 # Prints the folder of the sessions: SESSIONS itself, or a folder in SCRATCH with SESSIONS unpacked, if it is a tar archive.
 sessions_of() { # SESSIONS SCRATCH
@@ -19,17 +18,6 @@ sessions_of() { # SESSIONS SCRATCH
 # Prints the folders of the sessions in order.
 list_sessions() { # FOLDER
     find "$1" -mindepth 1 -maxdepth 1 -type d -name '[0-9]*' | sort
-}
-
-# Whether a session's keys have a sequence with one of these numbers.
-has_keys() { # SESSION NUMBERS
-    grep -q -a -E "$(printf '\033')\[($2)~" "$1/keys"
-}
-
-# Whether a session is for a later editor: this one has no key yet to replace, and a marked session that searches may find letters
-# that this one takes for others.
-is_later() { # SESSION
-    has_keys "$1" 85 || { [ -e "$1/later" ] && has_keys "$1" '7[01]|92'; }
 }
 
 # Makes a new folder for a session to run in.

@@ -37,9 +37,9 @@ xterm, F2:\033OQ:\033[9~
 rxvt, F2:\033[12~:\033[9~
 the Linux console, F2:\033[[B:\033[9~
 the keypad in application mode:\033Op\033Oq\033Or\033Os\033Ot\033Ou\033Ov\033Ow\033Ox\033Oy:0123456789
-xterm, F1 and F3:\033OP\033OR:\033[80~\033[92~
-rxvt, F1 and F3:\033[11~\033[13~:\033[80~\033[92~
-the Linux console, F1 and F3:\033[[A\033[[C:\033[80~\033[92~
+xterm, F1, F3 and F4:\033OP\033OR\033OS:\033[80~\033[92~\033[85~
+rxvt, F1, F3 and F4:\033[11~\033[13~\033[14~:\033[80~\033[92~\033[85~
+the Linux console, F1, F3 and F4:\033[[A\033[[C\033[[D:\033[80~\033[92~\033[85~
 xterm, Left and Right with Control:\033[1;5D\033[1;5C:\033[76~\033[77~
 rxvt, Left and Right with Control:\033Od\033Oc:\033[76~\033[77~
 an older xterm, Left and Right with Control:\033[5D\033[5C:\033[76~\033[77~
@@ -51,7 +51,7 @@ xterm, rxvt and st, Delete with Control:\033[3;5~\033[3^\033[M:\033[89~\033[89~\
 Enter:a\rb:a\033[95~b
 Control and @, C, R, V, W, X:\000\003\022\026\027\030:\033[72~\033[73~\033[71~\033[75~\033[70~\033[74~
 Control and Y, Z:\031\032:\033[83~\033[82~
-Control and G, K, T:\007\013\024:\033[84~\033[86~\033[87~
+Control and G, K, T, backslash:\007\013\024\034:\033[84~\033[86~\033[87~\033[85~
 Up and Down with Control, which the editor does not know:\033[1;5A\033[1;5B:\033[1;5A\033[1;5B
 Escape, and then a letter:\033a:\033a
 Escape, and then a digit of the keypad:\033\033Oq:\033\0301

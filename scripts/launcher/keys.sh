@@ -1,7 +1,7 @@
 # shellcheck shell=sh
 # shellcheck disable=SC2034,SC2154 # variables shared with other parts
-# The keys for words, points, rows, the text's ends, runs, selections, the mark, copies, searches, questions and help, as terminals
-# send them, and the screens that they make.
+# The keys for words, points, rows, the text's ends, runs, selections, the mark, copies, searches, replacing, questions and help, as
+# terminals send them, and the screens that they make.
 
 # Types keys of tmux, and compares the rows of the screen and the cursor's column and row.
 press() { # NAME ROWS CURSOR [KEY..]
@@ -208,6 +208,42 @@ check_found_again() {
     drop 'found again'
 }
 
+# A search finds a word with other accents, in another case, or with a final letter of Hebrew in its other form. Replacing ignores
+# only the case of A to Z.
+check_letters() {
+    printf 'xCAF\303\211 שלום\n' >note
+    start 4 40 "$top/bidi-edit" note
+    press 'a word with an accent' 'xCAFÉ םולש|||- 1:2 find: cafe' 1,0 C-w c a f e
+    press 'a final letter' 'xCAFÉ םולש|||- 1:7 find: מולש' 9,0 C-q C-w ש ל ו מ
+    press 'the letter with its accent' 'xCAFÉ םולש|||- 1:5 find: é' 4,0 C-q C-w é
+    press 'letters to replace' 'xCAFÉ םולש|||- 1:2 not found replace: cafe' 1,0 C-q F4 c a f e
+    press 'fewer letters to replace' 'xCAFÉ םולש|||- 1:2 replace: caf' 1,0 BSpace
+    drop letters
+}
+
+# F4, or CTRL with the backslash, asks for letters, then for the text that takes their place, and then about each match, which is in
+# negative image. CTRL with Z takes back what one key replaced.
+check_replacing() {
+    printf 'one two one two one\n' >note
+    start 4 60 "$top/bidi-edit" note
+    about='Enter replace ^W next F4 all ^C end'
+    press 'letters asked for' 'one two one two one|||- 1:1 replace:' 0,0 F4
+    press 'their first match' 'one two one two one|||- 1:5 replace: tw' 4,0 t w
+    press 'the other text asked for' 'one two one two one|||- 1:5 with:' 4,0 "C-\\"
+    press 'its letters' 'one two one two one|||- 1:5 with: in' 4,0 i n
+    press 'a match' "one <tw>o one two one|||- 1:5 $about" 4,0 Enter
+    press 'the next match, behind one replaced' "one ino one <tw>o one|||* 1:13 $about" 12,0 Enter
+    press 'the last match passed over' 'one ino one two one|||* 1:13 1 replaced' 12,0 C-w
+    press 'one taken back' 'one two one two one|||- 1:5' 4,0 C-z
+    press 'all replaced' 'one ino one ino one|||* 1:15 2 replaced' 14,0 F4 F4 F4 "C-\\"
+    press 'all taken back' 'one two one two one|||- 1:5' 4,0 C-z
+    press 'the query and the other text kept' 'one two one two one|||- 1:5 with: in' 4,0 F4 Enter
+    press 'given up by Control and Q' 'one two one two one|||- 1:5' 4,0 C-q
+    press 'ended by Control and C' 'one two one two one|||- 1:5 0 replaced' 4,0 F4 Enter Enter C-c
+    press 'nothing in their place' 'one o one o one|||* 1:11 2 replaced' 10,0 F4 Enter DC Enter F4
+    drop replacing
+}
+
 # Enter begins a line with the line end that the text has; a search it ends.
 check_new_line() {
     printf 'ab\r\ncd\nef' >note
@@ -225,15 +261,15 @@ check_new_line() {
     rm -f note
 }
 
-# Lists terminals: a name, and what they send for F1, for F3, for Left and Right, for Home and End, and for Delete with CTRL, in the
-# notation of printf; empty where a terminal sends the same as without CTRL, or nothing.
+# Lists terminals: a name, and what they send for F1, F3 and F4, for Left and Right, for Home and End, and for Delete with CTRL, in
+# the notation of printf; empty where a terminal sends the same as without CTRL, or nothing.
 terminal_sequences() {
     cat <<'TEXT'
-xterm|\033OP|\033OR|\033[1;5D|\033[1;5C|\033[1;5H|\033[1;5F|\033[3;5~
-urxvt|\033[11~|\033[13~|\033Od|\033Oc|\033[7^|\033[8^|\033[3^
-the Linux console|\033[[A|\033[[C|||||
-an older xterm|\033[11~|\033[13~|\033[5D|\033[5C|||
-st|\033OP|\033OR|\033[1;5D|\033[1;5C|||\033[M
+xterm|\033OP|\033OR|\033OS|\033[1;5D|\033[1;5C|\033[1;5H|\033[1;5F|\033[3;5~
+urxvt|\033[11~|\033[13~|\033[14~|\033Od|\033Oc|\033[7^|\033[8^|\033[3^
+the Linux console|\033[[A|\033[[C|\033[[D|||||
+an older xterm|\033[11~|\033[13~|\033[14~|\033[5D|\033[5C|||
+st|\033OP|\033OR|\033OS|\033[1;5D|\033[1;5C|||\033[M
 TEXT
 }
 
@@ -246,24 +282,25 @@ send() { # NAME LAST CURSOR SEQUENCE
     same "keys, $sender, $1" "$(settled_screen person | sed '1s/.*|//' | paste -s -d ' ')" "$2 $3"
 }
 
-check_sequences() { # TERMINAL F1 F3 LEFT RIGHT HOME END DELETE
+check_sequences() { # TERMINAL F1 F3 F4 LEFT RIGHT HOME END DELETE
     sender=$1
     printf 'one two\nשָׁלוֹם עולם' >note
     start 4 80 "$top/bidi-edit" note
     send F1 '- 1:1 ^S save ^Q quit ^Z undo ^W find ^@ mark ^X cut ^C copy ^V put F2 turn' 0,0 "$2"
-    send 'Control and Right' '- 1:5' 4,0 "$5"
-    send 'Control and Left' '- 1:1' 0,0 "$4"
-    send 'Control and Right to the next paragraph' '- 2:1' 79,1 "$5$5$5"
-    send 'Control and Left from right to left' '- 2:6' 74,1 "$4"
-    send 'Control and End' '- 2:10' 70,1 "$7"
-    send 'Control and Home' '- 1:1' 0,0 "$6"
+    send 'Control and Right' '- 1:5' 4,0 "$6"
+    send 'Control and Left' '- 1:1' 0,0 "$5"
+    send 'Control and Right to the next paragraph' '- 2:1' 79,1 "$6$6$6"
+    send 'Control and Left from right to left' '- 2:6' 74,1 "$5"
+    send 'Control and End' '- 2:10' 70,1 "$8"
+    send 'Control and Home' '- 1:1' 0,0 "$7"
     type_keys Up Home
     send F3 '- 1:1 find:' 0,0 "$3"
     send 'a word without points' '- 2:1 find: לש' 79,1 'של'
     send 'F3 in a search' '- 2:1 from the start find: לש' 79,1 "$3"
     type_keys Enter
     send 'F3 behind it' '- 2:1 from the start' 79,1 "$3"
-    send 'Control and Delete' '* 2:1' 79,1 "$8"
+    send F4 '- 2:1 replace: לש' 79,1 "$4"
+    send 'Control and Delete' '* 2:1' 79,1 "$9"
     drop "$sender"
 }
 
@@ -280,9 +317,11 @@ check_keys() {
     check_other_erase_character
     check_columns
     check_found_again
+    check_letters
+    check_replacing
     check_new_line
     terminal_sequences >"$folder/sequences"
-    while IFS='|' read -r name help find left right home end delete <&9; do
-        check_sequences "$name" "$help" "$find" "$left" "$right" "$home" "$end" "$delete"
+    while IFS='|' read -r name help find replace left right home end delete <&9; do
+        check_sequences "$name" "$help" "$find" "$replace" "$left" "$right" "$home" "$end" "$delete"
     done 9<"$folder/sequences"
 }

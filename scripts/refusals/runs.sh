@@ -117,11 +117,11 @@ sweep_session() { # SESSION
     done
 }
 
-# Runs twenty sessions for this editor with accepted command lines, spread over all.
+# Runs twenty sessions with accepted command lines, spread over all.
 check_sessions() { # SESSIONS
     folder=$(sessions_of "$1" "$scratch")
     list_sessions "$folder" | while IFS= read -r session; do
-        [ "$(cat "$session/want.status")" = 2 ] || is_later "$session" || printf '%s\n' "$session"
+        [ "$(cat "$session/want.status")" = 2 ] || printf '%s\n' "$session"
     done >all
     awk '{ name[NR] = $0 } END { for (k = 0; k < 20 && NR; k++) print name[1 + int(k * NR / 20)] }' all | uniq >chosen
     while IFS= read -r session; do

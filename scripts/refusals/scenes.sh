@@ -108,6 +108,7 @@ check_all_scenes() {
     check_scenes 'a line gone to' 2 20 610a62 "B1b B5b B38 B34 B7e B32 B0a $rest"
     check_scenes 'a region in an isolate' 2 20 616263 "B1b B5b B37 B32 B7e B06 B1b B5b B38 B36 B7e B69 $rest"
     check_scenes 'a character by its code' 2 20 6162 "B1b B5b B38 B36 B7e B75 B35 B64 B0a $rest"
+    check_scenes 'matches replaced' 2 50 6220622062 "B1b B5b B38 B35 B7e B62 B0a B78 B0a B0a B1b B5b B38 B35 B7e $rest"
     check_scenes 'what stands at the cursor' 2 30 6162 "B1b B5b B38 B37 B7e B06 $rest"
     check_scenes 'down' 3 4 310a320a33 "B1b B5b B42 B1b B5b B42 $rest"
 }
@@ -142,6 +143,10 @@ check_all_worked() {
         "S1000 B$find S1000 B62 pending place query seek text B62 place seek" alone 'oooooooEo\t- 0 - begun 6162 1 typed'
     check_worked 'a shorter query without memory' 2 30 6162 "S1000 B${find}62 S1000 B$delete pending place query seek" alone \
         'oooooooooooE\t- 1 62 typed'
+    # Replace, b, x in its place, and the end of a line at the match
+    check_worked 'a match replaced without memory' 2 60 61626162 \
+        'S1000 B1b5b38357e620a780a S1000 B0a pending text place seek B0a text place seek' alone \
+        'oooooooooooEo\t- 61626162 1 replacing 61786162 3 replacing'
     check_worked 'the terminal without memory' 1 5 6162 'S1000 R5 R5 W1,4 R1000 R1000 W1,5 shown' step 'oMMMMoM\t0'
 }
 

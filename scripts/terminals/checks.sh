@@ -189,6 +189,7 @@ check_keys() { # KIND
 check_changes() { # KIND
     check_runs "$1"
     check_questions "$1"
+    check_replacing "$1"
     ! sends_shift "$1" || check_selecting "$1"
     ! sends_control_shift "$1" || check_selected_words "$1"
     check_paste "$1"
@@ -217,6 +218,22 @@ check_questions() { # KIND
     leave_editor "$1, questions"
     same "$1, questions" "$(paste -s -d '|' "$room/files/typed")" "$(printf 'ab|X\342\200\216\327\220Ycd|ef')"
     other_picture "$1, what is told" "$1-questions-before" "$1-questions-told"
+}
+
+# A match that Enter replaces after F4, and all behind it, which Control and the backslash replace and Control and Z takes back, each
+# followed by what shows it.
+check_replacing() { # KIND
+    printf 'one two two two\n' >"$room/files/typed"
+    open_editor typed "$1-replacing"
+    press F4 t w Return x
+    take_picture "$1-replacing-asked"
+    press Return Return
+    take_picture "$1-replacing-shown"
+    press ctrl+backslash ctrl+z Y ctrl+s
+    sleep 0.5
+    leave_editor "$1, replacing"
+    same "$1, replacing" "$(cat "$room/files/typed")" 'one xo Ytwo two'
+    other_picture "$1, a match is shown" "$1-replacing-asked" "$1-replacing-shown"
 }
 
 # Selections with Shift that letters, Delete, a move without Shift and Escape end, each followed by what shows it.

@@ -18,15 +18,30 @@
 //!     R11           the terminal reads at most 11 bytes of the line
 //!     J6178         a journal of these bytes is replayed; each byte is a step
 //!
-//! and words that only look: `place`, `mark` (its place, `-` for none), `held` (what was copied or cut last), `query`, `seek` (`off`,
-//! `begun`, `typed`, `with-begun`, `with-typed` or `replacing`), `aim` (`find` or `replace`), `other`, `ask` (`off`, `line`, `name` or `code`), `answer`, `changed`, `ended`, `told` (whether the session was told the window's last size), `shown` (whether the
-//! terminal shows the picture last painted), `text`, `kept` (the store's content), `pending` and `line` (the bytes not yet sent, and
-//! not yet read), and `rows=1;3:ab|cd` (whether the terminal shows these rows, with the cursor in line 1 and column 3; `_` is a
-//! blank, braces enclose the characters of one glyph, and a glyph after a backquote is negative).
+//! and words that only look:
+//!
+//!     place  mark   the offsets of the cursor and of the mark, `-` for no mark
+//!     held          what was copied or cut last
+//!     seek          `off`, `begun`, `typed`, `with-begun`, `with-typed` or `replacing`
+//!     aim           `find` or `replace`
+//!     query  other  the text that is sought, and the one in its place
+//!     ask           `off`, `line`, `name` or `code`
+//!     answer        the answer to that question so far
+//!     changed       whether there are changes that are not saved
+//!     ended         whether the session has ended
+//!     told          whether the session was told the window's last size
+//!     shown         whether the terminal shows the picture last painted
+//!     text  kept    the text, and what the store has
+//!     pending       the bytes that are not sent yet
+//!     line          the bytes that are sent and not read yet
+//!     rows=1;3:ab|cd
+//!                   whether the terminal shows these rows, with the cursor in line 1 and column 3; `_` is a blank, braces enclose
+//!                   the characters of one glyph, and a glyph after a backquote is negative
 //!
 //! MODE is `both` if it is left out: one world takes the steps one by one, another takes them all by `play`, and the line says so
 //! if their answers or final states differ. `step` and `play` do one of these alone; `play` looks only at the text, last. `alone`
-//! takes the steps in a session without a world: it has no `W` and `R`, and looks only at a session's own state. Only `alone` has `J`.
+//! takes the steps in a session without a world: it has no `W` and `R`, and looks only at a session's own state. Only `alone` has
+//! `J`.
 //!
 //! TABLES turns joined letters on. It is the word `joined`, maybe followed by lines that the scene adds to the program's files:
 //! `joined|classes:0041 ; R|joining:0628; BEH; D; BEH`. The other files are `brackets`, `mirroring` and `characters`.
