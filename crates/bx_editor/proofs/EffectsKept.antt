@@ -1,5 +1,5 @@
 -- What keys keep outside a search and a question.
-use Rattle.std.proofs.Common.{◌≡◌, ℕ, Bool, true, false, List, [], length, Option, Some, None, refl, if◌then◌else◌}
+use Rattle.std.proofs.Common.{◌≡◌, ℕ, Bool, true, false, List, [], ◌∷◌, length, Option, Some, None, refl, if◌then◌else◌}
 use Rattle.std.specs.Prelude.{◌&&◌, ◌||◌, ◌==◌, not, encode_utf8}
 use Rattle.bx_terms.specs.declared.base.Base.{Base}
 use Rattle.bx_store.specs.declared.store.StoreFault.{StoreFault}

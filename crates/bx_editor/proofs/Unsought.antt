@@ -38,13 +38,13 @@ is_seeking _ = false
 
 asking : (d : Data) (fault : Option StoreFault) (was : Before) (e : Editor) (one : Effect) → is_seeking one ≡ false → kept.asks_or_seeks one ≡ true → IsUnsought e
     → IsUnsought (by d fault was e one)
-asking d fault was e (Seeks aim) no is h = absurd (cc no)
-asking d fault was e SeeksNext no is h = absurd (cc no)
-asking d fault was e AsksLine no is h = h
-asking d fault was e AsksName no is h = h
-asking d fault was e _ no is h = absurd (cc is)
+asking d fault was e (Seeks aim) plain is h = absurd (cc plain)
+asking d fault was e SeeksNext plain is h = absurd (cc plain)
+asking d fault was e AsksLine plain is h = h
+asking d fault was e AsksName plain is h = h
+asking d fault was e _ plain is h = absurd (cc is)
 
 pub effect-unsought : (d : Data) (fault : Option StoreFault) (was : Before) (e : Editor) (one : Effect) → is_seeking one ≡ false → IsUnsought e
     → IsUnsought (by d fault was e one)
-effect-unsought d fault was e one no h =
-    kept.effect-keeps d IsUnsought (pressing d) fault was e one h (λ is. asking d fault was e one no is h)
+effect-unsought d fault was e one plain h =
+    kept.effect-keeps d IsUnsought (pressing d) fault was e one h (λ is. asking d fault was e one plain is h)
