@@ -34,17 +34,18 @@ use Rattle.bx_editor.specs.declared.seek.Seek.TheVariants as seeks
 use Rattle.bx_editor.specs.Asking.{after_answer_letter, after_code, after_code_letter, after_going, after_line_letter, after_name_letter, after_named, after_shorter_answer}
 use Rattle.bx_editor.specs.Asking.{gone_to, longest_code, longest_line, with_answer, with_character, without_ask}
 use Rattle.bx_editor.specs.AskingLaws.{IsShown, PromptsAreShown}
-use Rattle.bx_editor.specs.Editor.{Editor, at_start, cleared, with_insertion, with_typing}
+use Rattle.bx_editor.specs.Editor.{Editor, at_start, cleared, with_exchange, with_insertion, with_typing}
 use Rattle.bx_editor.specs.Effects.{Effect, AsksLine, AsksName, Before, before, by}
-use Rattle.bx_editor.specs.Keys.{Answer, Letter, Shortens, GoesBack, Next, Previous, Stays, Ends, after_any, after_key, answer_of, answered, answered_question, effect_of}
+use Rattle.bx_editor.specs.Keys.{Answer, Letter, Shortens, GoesBack, Stays, after_any, after_key, after_searching, answer_of, answered_question, effect_of}
 use Rattle.bx_editor.specs.Laws.{after_typing}
 use Rattle.bx_editor.specs.Putting.{is_paste}
 use Rattle.bx_editor.specs.Region.{is_empty, region}
-use Rattle.bx_editor.specs.Search.{after_letter, is_no_letter, kept, longest_query, search_from, with_query, without_search}
+use Rattle.bx_editor.specs.Search.{without_search}
 use Rattle.bx_editor.specs.Status.{prompt_glyphs, prompt_text}
 use Rattle.bx_editor.specs.Wrapping.{after_wrapping, spans_lines, with_wrap}
 use Rattle.bx_editor.proofs.InSearch.{each-key}
 use Rattle.bx_editor.proofs.QuestionKept.{Asks, effect-keeps}
+use Rattle.bx_editor.proofs.Searches.{IsKeptSeeking, match-keeps, other-keeps, query-keeps}
 use Rattle.bx_editor.proofs.Narrow.{narrow-code, narrow-line, narrow-longer, narrow-shorter}
 
 -- ---- an answer
@@ -153,19 +154,30 @@ effect-good d fault was e AsksName h = good-empty Name
 effect-good d fault was e one h = good-as e.ask e.answer (by d fault was e one) (effect-keeps d fault was e one refl) h
 
 -- in a search
-search-letter : (d : Data) (e : Editor) (c : ℕ) → Good e → Good (after_letter d e c)
-search-letter d e c h =
-    let longer : Editor = search_from d e.place (with_query e (lengthened longest_query (kept e.seek e.query) c)) in
-    either (c == 0xA) (without_search e) (if is_no_letter d c then e else longer) h (either (is_no_letter d c) e longer h h)
+exchange-good : (d : Data) (e : Editor) (start stop : ℕ) (new : List ℕ) → Good e → Good (with_exchange d e start stop new)
+exchange-good d e start stop [] h = h
+exchange-good d e start stop (b ∷ bs) h = h
 
-search-good : (d : Data) (fault : Option StoreFault) (was : Before) (e : Editor) (key : Key) (answer : Answer) → Good e → Good (answered d fault was e key answer)
-search-good d fault was e key (Letter c) h = search-letter d e c h
-search-good d fault was e key Shortens h = h
-search-good d fault was e key GoesBack h = h
-search-good d fault was e key Next h = h
-search-good d fault was e key Previous h = h
-search-good d fault was e key Stays h = h
-search-good d fault was e key Ends h = effect-good d fault was e (effect_of d e key) h
+sought-good : (d : Data) → IsKeptSeeking d Good
+sought-good d = record {
+  exchanged = exchange-good d;
+  told = λ e message h. h;
+  placed = λ e place h. h;
+  typed = λ e typing h. h;
+  sought = λ e seek aim origin query other at count h. h;
+}
+
+search-good : (d : Data) (fault : Option StoreFault) (was : Before) (seek : Seek) (e : Editor) (key : Key) → Good e
+    → Good (after_searching d fault was seek e key)
+search-good d fault was seeks.Off e key h = effect-good d fault was e (effect_of d e key) h
+search-good d fault was seeks.WithBegun e key h =
+    other-keeps d Good (sought-good d) fault was e key (answer_of key) h h (λ ends. effect-good d fault was (without_search e) (effect_of d (without_search e) key) h)
+search-good d fault was seeks.WithTyped e key h =
+    other-keeps d Good (sought-good d) fault was e key (answer_of key) h h (λ ends. effect-good d fault was (without_search e) (effect_of d (without_search e) key) h)
+search-good d fault was seeks.Replacing e key h =
+    match-keeps d Good (sought-good d) fault was e key (answer_of key) h h (λ ends. effect-good d fault was (without_search e) (effect_of d (without_search e) key) h)
+search-good d fault was _ e key h =
+    query-keeps d Good (sought-good d) fault was e key (answer_of key) h (λ ends. effect-good d fault was e (effect_of d e key) h)
 
 -- in a question
 going-good : (d : Data) (e : Editor) (target : Option Target) → Good e → Good (gone_to d e target)
@@ -262,9 +274,7 @@ question-good d fault was e key _ h = effect-good d fault was (without_ask e) (e
 
 any-good : (d : Data) (fault : Option StoreFault) (was : Before) (ask : Ask) (seek : Seek) (e : Editor) (key : Key) → Good e
     → Good (after_any d fault was ask seek e key)
-any-good d fault was Off seeks.Off e key h = effect-good d fault was e (effect_of d e key) h
-any-good d fault was Off seeks.Begun e key h = search-good d fault was e key (answer_of key) h
-any-good d fault was Off seeks.Typed e key h = search-good d fault was e key (answer_of key) h
+any-good d fault was Off seek e key h = search-good d fault was seek e key h
 any-good d fault was Line seek e key h = question-good d fault was e key (answer_of key) h
 any-good d fault was Name seek e key h = question-good d fault was e key (answer_of key) h
 any-good d fault was Code seek e key h = question-good d fault was e key (answer_of key) h

@@ -6,7 +6,7 @@ use Rattle.bx_asking.specs.declared.question.Ask.TheVariants as asks
 use Rattle.bx_keys.specs.declared.key.Key.TheVariants.{GoTo, Name}
 use Rattle.bx_ucd.specs.Data.{Data}
 use Rattle.bx_editor.specs.declared.seek.Seek.{Seek}
-use Rattle.bx_editor.specs.declared.seek.Seek.TheVariants.{Off, Begun, Typed}
+use Rattle.bx_editor.specs.declared.seek.Seek.TheVariants.{Off, Begun, Typed, WithBegun, WithTyped, Replacing}
 use Rattle.bx_editor.specs.Editor.{Editor, cleared}
 use Rattle.bx_editor.specs.Effects.{Before, before}
 use Rattle.bx_editor.specs.Keys.{after_any, after_key, as_left}
@@ -25,6 +25,9 @@ name-any : (d : Data) (was : Before) (ask : Ask) (seek : Seek) (e : Editor) → 
 name-any d was asks.Off Off e = refl
 name-any d was asks.Off Begun e = refl
 name-any d was asks.Off Typed e = refl
+name-any d was asks.Off WithBegun e = refl
+name-any d was asks.Off WithTyped e = refl
+name-any d was asks.Off Replacing e = refl
 name-any d was asks.Line seek e = refl
 name-any d was asks.Name seek e = refl
 name-any d was asks.Code seek e = refl
@@ -34,6 +37,9 @@ line-any : (d : Data) (was : Before) (ask : Ask) (seek : Seek) (e : Editor) → 
 line-any d was asks.Off Off e = refl
 line-any d was asks.Off Begun e = refl
 line-any d was asks.Off Typed e = refl
+line-any d was asks.Off WithBegun e = refl
+line-any d was asks.Off WithTyped e = refl
+line-any d was asks.Off Replacing e = refl
 line-any d was asks.Line seek e = refl
 line-any d was asks.Name seek e = refl
 line-any d was asks.Code seek e = refl

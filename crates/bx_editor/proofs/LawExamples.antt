@@ -3,12 +3,15 @@ use Rattle.std.proofs.Common.{◌≡◌, ℕ, ◌≤◌, ◌<◌, [], ◌∷◌,
 use Rattle.std.specs.Prelude.{codes, IsCharBoundary, Some, None}
 use Rattle.std.proofs.lemmas.Bool.{cases_lt}
 use Rattle.std.specs.Fmt.{digits}
+use Rattle.ucd_case.proofs.Computing.{ucd_case}
+use Rattle.unicode_normalization.proofs.Computing.{unicode_normalization}
 use Rattle.unicode_segmentation.proofs.Computing.{unicode_segmentation}
 use Rattle.unicode_width.proofs.Computing.{unicode_width}
 use Rattle.bx_terms.specs.declared.base.Base.TheVariants.{Auto}
 use Rattle.bx_keys.specs.declared.key.Key.TheVariants.{Insert, Erase, Delete, Down, Forward, Find, FindBack, Mark, Save, TextEnd, Undo, Redo}
 use Rattle.bx_text.specs.Edits.{Edited, edit_of}
-use Rattle.bx_find.specs.Laws.{MatchesAt}
+use Rattle.bx_find.specs.Laws.{MatchesAtBy}
+use Rattle.bx_find.specs.declared.reading.Reading.TheVariants.{Wide}
 use Rattle.bx_view.specs.Moves.{place_at}
 use Rattle.bx_editor.specs.Editor.{Editor, rows}
 use Rattle.bx_editor.specs.Laws.{FindBackGoesToPrevious, FindGoesToNext, RedoMirrorsUndo, TopStays, UndoGivesBack}
@@ -84,11 +87,11 @@ abbrev at_the_first_c : Editor
 at_the_first_c = after (start (codes "abcabc") 2 20) (Find ∷ Insert 0x63 ∷ [])
 
 abbrev matches_at : ℕ → Type 0
-matches_at at = MatchesAt tables (codes "c") (codes "abcabc") at
+matches_at at = MatchesAtBy tables Wide (codes "c") (codes "abcabc") at
 
 -- c is found at 5, and from 3 on at no other offset before
 at_five : (at : ℕ) → 3 ≤ at → at ≤ 5 → matches_at at → at ≡ 5
-unfolding unicode_segmentation unicode_width digits
+unfolding unicode_segmentation unicode_width digits unicode_normalization ucd_case
 at_five at low high here =
     ⊎_elim (λ less. (let three : at ≡ 3 = omega (arith, low, less) in absurd (cc (subst matches_at three here).1)))
     (λ more. ⊎_elim (λ less. (let four : at ≡ 4 = omega (arith, more, less) in absurd (cc (subst matches_at four here).1)))
@@ -96,13 +99,13 @@ at_five at low high here =
     (cases_lt at 4)
 
 pub find_goes_to_five : FindGoesToNext → (after at_the_first_c (Find ∷ [])).place ≡ 5
-unfolding unicode_segmentation unicode_width digits
+unfolding unicode_segmentation unicode_width digits unicode_normalization ucd_case
 find_goes_to_five law =
     let bounds : IsCharBoundary (codes "abcabc") 5 = (omega arith, λ inside high. absurd (omega (arith, high))) in
     let five : matches_at 5 = (bounds, refl) in
     ⊎_elim (λ next. next.2.0 ∙ ap (place_at (rows tables at_the_first_c)) (at_five next.0 next.1.not_before (next.1.least 5 (omega arith) five) next.1.is_match))
     (λ round. ⊎_elim (λ first. absurd (first.0 5 (omega arith) five)) (λ none. absurd (none.0 5 (omega arith) five)) round)
-    (law tables at_the_first_c (record { text = (codes "abcabc", (refl, refl)); unasked = refl; on = λ e. cc e; letters = λ e. cc e }))
+    (law tables at_the_first_c (record { text = (codes "abcabc", (refl, refl)); unasked = refl; on = refl; letters = λ e. cc e }))
 
 -- after another Find the place is 5
 abbrev at_the_last_c : Editor
@@ -110,7 +113,7 @@ at_the_last_c = after (start (codes "abcabc") 2 20) (Find ∷ Insert 0x63 ∷ Fi
 
 -- c is found at 2, and from there to 5 at no other offset before
 at_two : (at : ℕ) → 2 ≤ at → at < 5 → matches_at at → at ≡ 2
-unfolding unicode_segmentation unicode_width digits
+unfolding unicode_segmentation unicode_width digits unicode_normalization ucd_case
 at_two at low high here =
     ⊎_elim (λ less. omega (arith, low, less))
     (λ more. ⊎_elim (λ less. (let three : at ≡ 3 = omega (arith, more, less) in absurd (cc (subst matches_at three here).1)))
@@ -119,10 +122,10 @@ at_two at low high here =
     (cases_lt at 3)
 
 pub find_back_goes_to_two : FindBackGoesToPrevious → (after at_the_last_c (FindBack ∷ [])).place ≡ 2
-unfolding unicode_segmentation unicode_width digits
+unfolding unicode_segmentation unicode_width digits unicode_normalization ucd_case
 find_back_goes_to_two law =
     let bounds : IsCharBoundary (codes "abcabc") 2 = (omega arith, λ inside high. absurd (omega (arith, high))) in
     let two : matches_at 2 = (bounds, refl) in
     ⊎_elim (λ last. last.2.0 ∙ ap (place_at (rows tables at_the_last_c)) (at_two last.0 (last.1.greatest 2 (omega arith) two) last.1.before last.1.is_match))
     (λ round. ⊎_elim (λ first. absurd (first.0 2 (omega arith) two)) (λ none. absurd (none.0 2 (omega arith) two)) round)
-    (law tables at_the_last_c (record { text = (codes "abcabc", (refl, refl)); unasked = refl; on = λ e. cc e; letters = λ e. cc e }))
+    (law tables at_the_last_c (record { text = (codes "abcabc", (refl, refl)); unasked = refl; on = refl; letters = λ e. cc e }))

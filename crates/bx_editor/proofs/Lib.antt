@@ -21,6 +21,9 @@ pub mod Queries
 pub mod Sought
 pub mod InSearch
 pub mod Questions
+pub mod Searches
+pub mod EffectsKept
+pub mod Unsought
 pub mod OnePrompt
 pub mod Nearest
 pub mod TakenBack

@@ -9,7 +9,7 @@ use Rattle.bx_asking.specs.declared.question.Ask.TheVariants as asks
 use Rattle.bx_editor.specs.declared.message.Message.{Message}
 use Rattle.bx_editor.specs.declared.message.Message.TheVariants.{MarkOff, MarkSet}
 use Rattle.bx_editor.specs.declared.seek.Seek.{Seek}
-use Rattle.bx_editor.specs.declared.seek.Seek.TheVariants.{Off, Begun, Typed}
+use Rattle.bx_editor.specs.declared.seek.Seek.TheVariants.{Off, Begun, Typed, WithBegun, WithTyped, Replacing}
 use Rattle.bx_editor.specs.declared.soft.Soft.{Soft}
 use Rattle.bx_editor.specs.declared.soft.Soft.TheVariants as softness
 use Rattle.bx_runs.specs.declared.typing.Typing.TheVariants as typings
@@ -43,6 +43,10 @@ search-ended : (there : Bool) (e : Editor) → e.ask ≡ asks.Off → without_se
 search-ended true e unasked = ap (λ a. record (mark-by true e) { ask = a; seek = Off }) unasked
 search-ended false e unasked = ap (λ a. record (mark-by false e) { ask = a; seek = Off }) unasked
 
+-- where the search ends first
+free-ended : (there : Bool) (e : Editor) → e.ask ≡ asks.Off → mark-by there (without_search e) ≡ ended Off (mark-by there e)
+free-ended there e unasked = ap (λ a. mark-by there (record e { ask = a; seek = Off })) unasked ∙ mark-ended there e Off
+
 mark-free : (d : Data) (was : Before) (seek : Seek) (e : Editor) → e.ask ≡ asks.Off → e.seek ≡ seek
     → after_any d None was asks.Off seek e Mark ≡ ended Off (after_mark e)
 mark-free d was Off e unasked unsought =
@@ -50,6 +54,9 @@ mark-free d was Off e unasked unsought =
     ap₂ (λ a s. mark-by there (record e { ask = a; seek = s })) unasked unsought ∙ mark-ended there e Off
 mark-free d was Begun e unasked on = search-ended (is_at_mark e.mark e.place) e unasked
 mark-free d was Typed e unasked on = search-ended (is_at_mark e.mark e.place) e unasked
+mark-free d was WithBegun e unasked on = free-ended (is_at_mark e.mark e.place) e unasked
+mark-free d was WithTyped e unasked on = free-ended (is_at_mark e.mark e.place) e unasked
+mark-free d was Replacing e unasked on = free-ended (is_at_mark e.mark e.place) e unasked
 
 -- it ends a question alone, or a search
 mark-any : (d : Data) (was : Before) (ask : Ask) (seek : Seek) (e : Editor) → e.ask ≡ ask → e.seek ≡ seek
@@ -135,6 +142,9 @@ end-free : (d : Data) (was : Before) (seek : Seek) (e : Editor) → e.ask ≡ as
 end-free d was Off e unasked unsought = ap₂ (λ a s. record (with_place (unselected e) (length e.content.text)) { ask = a; seek = s }) unasked unsought
 end-free d was Begun e unasked on = ap (λ a. record (with_place (unselected e) (length e.content.text)) { ask = a; seek = Off }) unasked
 end-free d was Typed e unasked on = ap (λ a. record (with_place (unselected e) (length e.content.text)) { ask = a; seek = Off }) unasked
+end-free d was WithBegun e unasked on = ap (λ a. record (with_place (unselected e) (length e.content.text)) { ask = a; seek = Off }) unasked
+end-free d was WithTyped e unasked on = ap (λ a. record (with_place (unselected e) (length e.content.text)) { ask = a; seek = Off }) unasked
+end-free d was Replacing e unasked on = ap (λ a. record (with_place (unselected e) (length e.content.text)) { ask = a; seek = Off }) unasked
 
 end-any : (d : Data) (was : Before) (ask : Ask) (seek : Seek) (e : Editor) → e.ask ≡ ask → e.seek ≡ seek
     → (s : Seek) × (after_any d None was ask seek e TextEnd ≡ ended s (with_place (unselected e) (length e.content.text)))
@@ -148,6 +158,9 @@ start-free : (d : Data) (was : Before) (seek : Seek) (e : Editor) → e.ask ≡ 
 start-free d was Off e unasked unsought = ap₂ (λ a s. record (with_place (unselected e) 0) { ask = a; seek = s }) unasked unsought
 start-free d was Begun e unasked on = ap (λ a. record (with_place (unselected e) 0) { ask = a; seek = Off }) unasked
 start-free d was Typed e unasked on = ap (λ a. record (with_place (unselected e) 0) { ask = a; seek = Off }) unasked
+start-free d was WithBegun e unasked on = ap (λ a. record (with_place (unselected e) 0) { ask = a; seek = Off }) unasked
+start-free d was WithTyped e unasked on = ap (λ a. record (with_place (unselected e) 0) { ask = a; seek = Off }) unasked
+start-free d was Replacing e unasked on = ap (λ a. record (with_place (unselected e) 0) { ask = a; seek = Off }) unasked
 
 start-any : (d : Data) (was : Before) (ask : Ask) (seek : Seek) (e : Editor) → e.ask ≡ ask → e.seek ≡ seek
     → (s : Seek) × (after_any d None was ask seek e TextStart ≡ ended s (with_place (unselected e) 0))

@@ -19,8 +19,8 @@ use Rattle.bx_editor.specs.Asking.{without_ask}
 use Rattle.bx_editor.specs.Editor.{Editor, cleared}
 use Rattle.bx_editor.specs.Effects.{Effect, Types, BeginsLine, Puts, Removes, RemovesWord, Steps, StepsRun, Goes, GoesByRows, Marks, Selects}
 use Rattle.bx_editor.specs.Effects.{Unmarks, Copies, Cuts, Seeks, SeeksNext, Saves, Quits, Turns, Helps, AsksLine, AsksName, Tells, Rests, Before, before, by}
-use Rattle.bx_editor.specs.Keys.{Ends, after_any, after_asking, after_key, answer_of, answered, answered_question, effect_of, is_told_key}
-use Rattle.bx_editor.specs.Search.{after_beginning, after_find_next, next_or_start, search_from, sought}
+use Rattle.bx_editor.specs.Keys.{Ends, after_any, after_asking, after_key, after_pressing, answer_of, answered, answered_match, answered_other, answered_question, effect_of, is_told_key}
+use Rattle.bx_editor.specs.Search.{after_beginning, after_find_next, next_or_start, search_from, sought, without_search}
 use Rattle.bx_editor.specs.Selecting.{mark_left, selecting, unselected}
 use Rattle.bx_editor.specs.SelectionLaws.{is_move, seeks, LeavesMark, MoveTakesSelectionOff, SeekingTakesSelectionOff}
 use Rattle.bx_editor.proofs.InSearch.{any-key}
@@ -101,7 +101,7 @@ effect d was e Selects is = absurd (cc is)
 effect d was e Unmarks is = absurd (cc is)
 effect d was e Copies is = absurd (cc is)
 effect d was e Cuts is = absurd (cc is)
-effect d was e Seeks is = absurd (cc is)
+effect d was e (Seeks aim) is = absurd (cc is)
 effect d was e SeeksNext is = absurd (cc is)
 effect d was e Saves is = absurd (cc is)
 effect d was e Quits is = absurd (cc is)
@@ -119,6 +119,11 @@ in-question d was e key is =
     ap (λ a. (answered_question d None was e key a).mark) ((each d e key is).1.0)
     ∙ effect d was free (effect_of d free key) ((each d free key is).0)
 
+-- and a search
+from-search : (d : Data) (was : Before) (e : Editor) (key : Key) → is_move key ≡ true
+    → (after_pressing d None was (without_search e) key).mark ≡ mark_left e.soft e.mark
+from-search d was e key is = let off = without_search e in effect d was off (effect_of d off key) ((each d off key is).0)
+
 any : (d : Data) (was : Before) (ask : Ask) (seek : Seek) (e : Editor) (key : Key) → is_move key ≡ true
     → (after_any d None was ask seek e key).mark ≡ mark_left e.soft e.mark
 any d was asks.Off searches.Off e key is = effect d was e (effect_of d e key) ((each d e key is).0)
@@ -126,6 +131,12 @@ any d was asks.Off searches.Begun e key is =
     ap (λ a. (answered d None was e key a).mark) ((each d e key is).1.0) ∙ effect d was e (effect_of d e key) ((each d e key is).0)
 any d was asks.Off searches.Typed e key is =
     ap (λ a. (answered d None was e key a).mark) ((each d e key is).1.0) ∙ effect d was e (effect_of d e key) ((each d e key is).0)
+any d was asks.Off searches.WithBegun e key is =
+    ap (λ a. (answered_other d None was e key a).mark) ((each d e key is).1.0) ∙ from-search d was e key is
+any d was asks.Off searches.WithTyped e key is =
+    ap (λ a. (answered_other d None was e key a).mark) ((each d e key is).1.0) ∙ from-search d was e key is
+any d was asks.Off searches.Replacing e key is =
+    ap (λ a. (answered_match d None was e key a).mark) ((each d e key is).1.0) ∙ from-search d was e key is
 any d was asks.Line seek e key is = in-question d was e key is
 any d was asks.Name seek e key is = in-question d was e key is
 any d was asks.Code seek e key is = in-question d was e key is
@@ -153,6 +164,9 @@ select-any : (d : Data) (was : Before) (ask : Ask) (seek : Seek) (e : Editor) �
 select-any d was asks.Off searches.Off e = selected e e.mark e.soft refl refl
 select-any d was asks.Off searches.Begun e = selected e e.mark e.soft refl refl
 select-any d was asks.Off searches.Typed e = selected e e.mark e.soft refl refl
+select-any d was asks.Off searches.WithBegun e = selected (without_search e) e.mark e.soft refl refl
+select-any d was asks.Off searches.WithTyped e = selected (without_search e) e.mark e.soft refl refl
+select-any d was asks.Off searches.Replacing e = selected (without_search e) e.mark e.soft refl refl
 select-any d was asks.Line seek e = selected (without_ask e) e.mark e.soft refl refl
 select-any d was asks.Name seek e = selected (without_ask e) e.mark e.soft refl refl
 select-any d was asks.Code seek e = selected (without_ask e) e.mark e.soft refl refl

@@ -2,6 +2,7 @@
 use Rattle.std.proofs.Common.{◌≡◌, ℕ, false, List, [], ◌∷◌, length, refl, sym, ap, ◌∙◌, arith, ne_eqb}
 use Rattle.std.specs.Prelude.{◌≢◌, ◌==◌, None, if◌then◌else◌}
 use Rattle.bx_keys.specs.declared.key.Key.TheVariants.{Find, FindNext}
+use Rattle.bx_editor.specs.declared.aim.Aim.TheVariants as aims
 use Rattle.bx_editor.specs.declared.seek.Seek.TheVariants.{Off, Typed}
 use Rattle.bx_editor.specs.declared.soft.Soft.{Soft}
 use Rattle.bx_editor.specs.declared.soft.Soft.TheVariants as softness
@@ -37,15 +38,14 @@ next-any d was asks.Code e is = refl
 pub find-next-is-find-twice : FindNextIsFindTwice
 find-next-is-find-twice d e off some =
     let was = unselected (without_ask (cleared e)) in
-    let gone = search_from d (next_or_start d was) was in
+    let gone = search_from d (next_or_start d was) (record was { seek = Off; aim = aims.Find }) in
     let pressed : after_key d None e FindNext ≡ behind gone =
     ap (λ s. behind (after_any d None (before e) e.ask s (cleared e) FindNext)) off
     ∙ ap behind (next-any d (before e) e.ask (cleared e) refl)
-    ∙ ap (λ b. behind (if b then after_beginning was else gone)) (some-letters (sought d e) some) in
-    let begun : after_key d None e Find ≡ behind (after_beginning was) = find-begins d e off in
+    ∙ ap (λ b. behind (if b then after_beginning aims.Find was else gone)) (some-letters (sought d e) some) in
+    let begun : after_key d None e Find ≡ behind (after_beginning aims.Find was) = find-begins d e off in
     let twice : after_keys d None e (Find ∷ Find ∷ [])
     ≡ record gone { seek = Typed; origin = e.place; goal = None; soft = aged (aged (soft_left e.soft)) } =
     ap (λ new. after_key d None new Find) begun in
-    pressed ∙ ap (λ s. record gone { seek = s; goal = None; soft = aged (soft_left e.soft) }) off
-    ∙ ap (λ s. record gone { seek = Off; goal = None; soft = s }) (sym (aged-twice (soft_left e.soft)))
+    pressed ∙ ap (λ s. record gone { seek = Off; goal = None; soft = s }) (sym (aged-twice (soft_left e.soft)))
     ∙ sym (ap (λ (new : Editor). record new { seek = Off; origin = e.origin }) twice)

@@ -13,7 +13,7 @@ use Rattle.bx_ucd.specs.Data.{Data}
 use Rattle.bx_asking.specs.declared.question.Ask.{Ask}
 use Rattle.bx_asking.specs.declared.question.Ask.TheVariants as asks
 use Rattle.bx_editor.specs.declared.seek.Seek.{Seek}
-use Rattle.bx_editor.specs.declared.seek.Seek.TheVariants.{Off, Begun, Typed}
+use Rattle.bx_editor.specs.declared.seek.Seek.TheVariants.{Off, Begun, Typed, WithBegun, WithTyped, Replacing}
 use Rattle.bx_editor.specs.Asking.{without_ask}
 use Rattle.bx_editor.specs.Editor.{Editor, cleared, place_after, with_insertion, with_removal}
 use Rattle.bx_editor.specs.declared.soft.Soft.TheVariants as softness
@@ -145,16 +145,19 @@ copy-puts-twice d e unasked off is fit =
 
 -- a Cut that removes something ends a search and a question
 cut-any : (d : Data) (was : Before) (ask : Ask) (seek : Seek) (e cut : Editor) → e.ask ≡ ask
-    → ((a : Ask) → after_cut d (record e { ask = a }) ≡ record cut { ask = a }) → cut ≡ without_search cut
+    → ((a : Ask) (s : Seek) → after_cut d (record e { ask = a; seek = s }) ≡ record cut { ask = a }) → cut ≡ without_search cut
     → after_any d None was ask seek e Cut ≡ without_ask cut
-cut-any d was asks.Off Off e cut unasked is over = is e.ask ∙ ap (λ a. record cut { ask = a }) unasked
+cut-any d was asks.Off Off e cut unasked is over = is e.ask e.seek ∙ ap (λ a. record cut { ask = a }) unasked
 cut-any d was asks.Off Begun e cut unasked is over =
-    ap without_search (is e.ask) ∙ ap (λ a. record cut { ask = a; seek = Off }) unasked ∙ ap without_ask (sym over)
+    ap without_search (is e.ask e.seek) ∙ ap (λ a. record cut { ask = a; seek = Off }) unasked ∙ ap without_ask (sym over)
 cut-any d was asks.Off Typed e cut unasked is over =
-    ap without_search (is e.ask) ∙ ap (λ a. record cut { ask = a; seek = Off }) unasked ∙ ap without_ask (sym over)
-cut-any d was asks.Line seek e cut asked is over = is asks.Off
-cut-any d was asks.Name seek e cut asked is over = is asks.Off
-cut-any d was asks.Code seek e cut asked is over = is asks.Off
+    ap without_search (is e.ask e.seek) ∙ ap (λ a. record cut { ask = a; seek = Off }) unasked ∙ ap without_ask (sym over)
+cut-any d was asks.Off WithBegun e cut unasked is over = is e.ask Off ∙ ap (λ a. record cut { ask = a }) unasked
+cut-any d was asks.Off WithTyped e cut unasked is over = is e.ask Off ∙ ap (λ a. record cut { ask = a }) unasked
+cut-any d was asks.Off Replacing e cut unasked is over = is e.ask Off ∙ ap (λ a. record cut { ask = a }) unasked
+cut-any d was asks.Line seek e cut asked is over = is asks.Off e.seek
+cut-any d was asks.Name seek e cut asked is over = is asks.Off e.seek
+cut-any d was asks.Code seek e cut asked is over = is asks.Off e.seek
 
 pub put-restores-cut : PutRestoresCut
 put-restores-cut d e is short there =
@@ -172,7 +175,7 @@ put-restores-cut d e is short there =
     let same : after_key d None e Cut ≡ cut =
     ap left_behind
     (cut-any d (before e) e.ask e.seek was taken-out refl
-    (λ ask. (let asked : Editor = record was { ask = ask } in
+    (λ ask seek. (let asked : Editor = record was { ask = ask; seek = seek } in
     ap (λ x. if x then after_copy d asked else record (with_removal d asked a b false) { held = r }) (is-there e (taken d e) is))) refl) in
     let at : after ≡ a = sym (ap (λ (c : Editor). c.place) same) ∙ there in
     let size : length (splice text a b []) + length r ≡ length text =

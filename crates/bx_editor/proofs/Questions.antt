@@ -21,7 +21,7 @@ use Rattle.bx_editor.specs.Asking.{after_answer_letter, after_code, after_code_l
 use Rattle.bx_editor.specs.Asking.{gone_to, longest_code, longest_line, unless_paste, with_answer, with_character, without_ask}
 use Rattle.bx_editor.specs.Editor.{Editor, with_insertion, with_place, with_typing}
 use Rattle.bx_editor.specs.Effects.{Before}
-use Rattle.bx_editor.specs.Keys.{Answer, Letter, Shortens, GoesBack, Next, Previous, Stays, Ends, after_pressing, answered_question}
+use Rattle.bx_editor.specs.Keys.{Answer, Letter, Shortens, GoesBack, Next, Previous, Replaces, Stays, Ends, after_pressing, answered_question}
 use Rattle.bx_editor.specs.Putting.{is_paste, only_paste}
 use Rattle.bx_editor.specs.Region.{is_empty, region}
 use Rattle.bx_editor.specs.Wrapping.{after_wrapping, spans_lines, with_wrap}
@@ -126,5 +126,6 @@ module _ (d : Data) (P : Editor → Type 0) (keeps : IsKept d P) where
   question-keeps fault was e key GoesBack h pressed = unasked e h
   question-keeps fault was e key Next h pressed = pressed
   question-keeps fault was e key Previous h pressed = pressed
+  question-keeps fault was e key Replaces h pressed = pressed
   question-keeps fault was e key Stays h pressed = keeps.typed e was.typing h
   question-keeps fault was e key Ends h pressed = pressed

@@ -2,6 +2,8 @@
 use Rattle.std.proofs.Common.{◌≡◌, ℕ, List, [], ◌∷◌, length, ◌<◌, ◌≤◌, refl, ap, ◌∙◌, arith, inl, inr}
 use Rattle.std.specs.Prelude.{codes, Option, Some, None}
 use Rattle.std.specs.Fmt.{digits}
+use Rattle.ucd_case.proofs.Computing.{ucd_case}
+use Rattle.unicode_normalization.proofs.Computing.{unicode_normalization}
 use Rattle.unicode_segmentation.proofs.Computing.{unicode_segmentation}
 use Rattle.unicode_width.proofs.Computing.{unicode_width}
 use Rattle.bx_ucd.specs.Data.{Data}
@@ -126,12 +128,12 @@ abbrev given_up_by : Key → Key → Editor
 given_up_by begin give = after_key tables None (after_typing tables (after_key tables None marked_at_1 begin) in_search) give
 
 stays_on_after_find : StaysOn tables (after_key tables None marked_at_1 Find) in_search
-unfolding unicode_segmentation unicode_width digits
-stays_on_after_find = ((λ e. cc e), ((λ e. cc e), ((λ e. cc e), ((λ e. cc e), ((λ e. cc e), λ e. cc e)))))
+unfolding unicode_segmentation unicode_width digits unicode_normalization ucd_case
+stays_on_after_find = (refl, (refl, (refl, (refl, (refl, (refl, (refl, (refl, (refl, (refl, refl))))))))))
 
 stays_on_after_find_back : StaysOn tables (after_key tables None marked_at_1 FindBack) in_search
-unfolding unicode_segmentation unicode_width digits
-stays_on_after_find_back = ((λ e. cc e), ((λ e. cc e), ((λ e. cc e), ((λ e. cc e), ((λ e. cc e), λ e. cc e)))))
+unfolding unicode_segmentation unicode_width digits unicode_normalization ucd_case
+stays_on_after_find_back = (refl, (refl, (refl, (refl, (refl, (refl, (refl, (refl, (refl, (refl, refl))))))))))
 
 -- text, place and mark of an editor that gave a search up are those of another
 given_up_now : (e new : Editor) → e.soft ≡ softness.Off → IsGivenUp e new → now new ≡ now e
@@ -140,13 +142,13 @@ given_up_now e new hard is =
     (is.mark_is ∙ ap (λ s. mark_left s e.mark) hard)
 
 pub quit_goes_back : GivingUpGoesBack → now (given_up_by Find Quit) ≡ (codes "abcc", 1, Some 1)
-unfolding unicode_segmentation unicode_width digits
+unfolding unicode_segmentation unicode_width digits unicode_normalization ucd_case
 quit_goes_back law =
     given_up_now marked_at_1 (given_up_by Find Quit) refl
     (law tables marked_at_1 Find Quit in_search refl (inl refl) (inl refl) stays_on_after_find)
 
 pub copy_goes_back : GivingUpGoesBack → now (given_up_by FindBack Copy) ≡ (codes "abcc", 1, Some 1)
-unfolding unicode_segmentation unicode_width digits
+unfolding unicode_segmentation unicode_width digits unicode_normalization ucd_case
 copy_goes_back law =
     given_up_now marked_at_1 (given_up_by FindBack Copy) refl
-    (law tables marked_at_1 FindBack Copy in_search refl (inr refl) (inr (inl refl)) stays_on_after_find_back)
+    (law tables marked_at_1 FindBack Copy in_search refl (inr (inl refl)) (inr (inl refl)) stays_on_after_find_back)

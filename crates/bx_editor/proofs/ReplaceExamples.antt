@@ -2,6 +2,8 @@
 use Rattle.std.proofs.Common.{◌≡◌, ℕ, true, false, List, [], ◌∷◌, ◌++◌, length, map, replicate, Option, Some, None, refl}
 use Rattle.std.specs.Prelude.{codes, encode_utf8, encode_utf8_all}
 use Rattle.std.specs.Fmt.{digits}
+use Rattle.ucd_case.proofs.Computing.{ucd_case}
+use Rattle.unicode_normalization.proofs.Computing.{unicode_normalization}
 use Rattle.unicode_segmentation.proofs.Computing.{unicode_segmentation}
 use Rattle.unicode_width.proofs.Computing.{unicode_width}
 use Rattle.bx_grid.specs.Columns.{Col, Glyph}
@@ -100,15 +102,15 @@ a_run_comes_again = refl
 -- ---- one is passed over, and all are replaced
 
 pub one_is_passed_over : replaced (codes "b b b") (showing (codes "b") (codes "x") ++ (Find ∷ enter ∷ [])) ≡ (codes "b x b", 4, Replacing, None)
-unfolding unicode_segmentation unicode_width digits
+unfolding unicode_segmentation unicode_width digits unicode_normalization ucd_case
 one_is_passed_over = refl
 
 pub the_last_one_is_passed_over : replaced (codes "b b b") (showing (codes "b") (codes "x") ++ (Find ∷ enter ∷ Find ∷ [])) ≡ (codes "b x b", 4, Off, Some (Replaced 1))
-unfolding unicode_segmentation unicode_width digits
+unfolding unicode_segmentation unicode_width digits unicode_normalization ucd_case
 the_last_one_is_passed_over = refl
 
 pub all_after_some_count_together : replaced (codes "b b b b") (showing (codes "b") (codes "x") ++ (enter ∷ Find ∷ Replace ∷ [])) ≡ (codes "x b x x", 7, Off, Some (Replaced 3))
-unfolding unicode_segmentation unicode_width digits
+unfolding unicode_segmentation unicode_width digits unicode_normalization ucd_case
 all_after_some_count_together = refl
 
 pub all_from_the_place_on : replaced (codes "b b b") (Forward ∷ Forward ∷ showing (codes "b") (codes "xy") ++ (Replace ∷ [])) ≡ (codes "b xy xy", 7, Off, Some (Replaced 2))
@@ -160,7 +162,7 @@ unfolding unicode_segmentation unicode_width digits
 matches_lie_apart = refl
 
 pub but_for_one_that_was_passed_over : replaced (codes "aaaaa") (showing (codes "aa") (codes "b") ++ (Find ∷ enter ∷ enter ∷ [])) ≡ (codes "abb", 3, Off, Some (Replaced 2))
-unfolding unicode_segmentation unicode_width digits
+unfolding unicode_segmentation unicode_width digits unicode_normalization ucd_case
 but_for_one_that_was_passed_over = refl
 
 -- ---- a mark and where the search began
@@ -204,7 +206,7 @@ unfolding unicode_segmentation unicode_width digits
 two_in_a_cluster = refl
 
 pub one_in_a_cluster_is_passed_over : replaced (0x915 ∷ 0x93f ∷ 0x93f ∷ 0x78 ∷ []) (showing (0x93f ∷ []) (codes "k") ++ (Find ∷ enter ∷ [])) ≡ (encode_utf8_all (0x915 ∷ 0x93f ∷ 0x6b ∷ 0x78 ∷ []), 7, Off, Some (Replaced 1))
-unfolding unicode_segmentation unicode_width digits
+unfolding unicode_segmentation unicode_width digits unicode_normalization ucd_case
 one_in_a_cluster_is_passed_over = refl
 
 pub places_are_the_least : replaced (0x61 ∷ 0x62 ∷ 0x93f ∷ []) (showing (codes "b") (codes "k") ++ (enter ∷ [])) ≡ (encode_utf8_all (0x61 ∷ 0x6b ∷ 0x93f ∷ []), 5, Off, Some (Replaced 1))
@@ -250,23 +252,23 @@ unfolding unicode_segmentation unicode_width digits
 the_old_query_is_sought_from_the_place = refl
 
 pub find_back_before_the_question : asked (codes "abab") (Replace ∷ Insert 0x62 ∷ Quit ∷ Replace ∷ Find ∷ FindBack ∷ []) ≡ (Typed, aims.Replace, 3, Some FromEnd)
-unfolding unicode_segmentation unicode_width digits
+unfolding unicode_segmentation unicode_width digits unicode_normalization ucd_case
 find_back_before_the_question = refl
 
 pub replace_asks_in_a_search : asked (codes "abab") (Find ∷ Insert 0x62 ∷ Replace ∷ []) ≡ (WithBegun, aims.Replace, 1, None)
-unfolding unicode_segmentation unicode_width digits
+unfolding unicode_segmentation unicode_width digits unicode_normalization ucd_case
 replace_asks_in_a_search = refl
 
 pub a_search_without_a_match_is_one_to_replace : asked (codes "abab") (Find ∷ Insert 0x7a ∷ Replace ∷ []) ≡ (Typed, aims.Replace, 0, Some NotFound)
-unfolding unicode_segmentation unicode_width digits
+unfolding unicode_segmentation unicode_width digits unicode_normalization ucd_case
 a_search_without_a_match_is_one_to_replace = refl
 
 pub asking_goes_round : asked (codes "b a") (Find ∷ Insert 0x62 ∷ enter ∷ TextEnd ∷ Replace ∷ enter ∷ []) ≡ (WithBegun, aims.Replace, 0, Some FromStart)
-unfolding unicode_segmentation unicode_width digits
+unfolding unicode_segmentation unicode_width digits unicode_normalization ucd_case
 asking_goes_round = refl
 
 pub giving_the_question_up : asked (codes "b a") (Find ∷ Insert 0x62 ∷ enter ∷ TextEnd ∷ Replace ∷ enter ∷ Cancel ∷ []) ≡ (Off, aims.Replace, 3, None)
-unfolding unicode_segmentation unicode_width digits
+unfolding unicode_segmentation unicode_width digits unicode_normalization ucd_case
 giving_the_question_up = refl
 
 pub tabs_and_separators_are_no_letters_of_it : typed (codes "ab") (Replace ∷ Insert 0x61 ∷ enter ∷ Insert 9 ∷ Insert 0x2029 ∷ []) ≡ (WithBegun, aims.Replace, [])
@@ -300,15 +302,15 @@ unfolding unicode_segmentation unicode_width digits
 a_move_ends_it = refl
 
 pub find_back_begins_a_search : asked (codes "abab") (showing (codes "b") (codes "x") ++ (Right ∷ Replace ∷ Find ∷ enter ∷ enter ∷ FindBack ∷ [])) ≡ (Begun, aims.Find, 3, None)
-unfolding unicode_segmentation unicode_width digits
+unfolding unicode_segmentation unicode_width digits unicode_normalization ucd_case
 find_back_begins_a_search = refl
 
 pub find_begins_a_search_while_the_other_text_is_asked : typed (codes "abab") (Replace ∷ Insert 0x62 ∷ enter ∷ Insert 0x7a ∷ Find ∷ []) ≡ (Begun, aims.Find, codes "z")
-unfolding unicode_segmentation unicode_width digits
+unfolding unicode_segmentation unicode_width digits unicode_normalization ucd_case
 find_begins_a_search_while_the_other_text_is_asked = refl
 
 pub find_next_does_so_too : typed (codes "abab") (Replace ∷ Insert 0x62 ∷ enter ∷ Insert 0x7a ∷ FindNext ∷ []) ≡ (Begun, aims.Find, codes "z")
-unfolding unicode_segmentation unicode_width digits
+unfolding unicode_segmentation unicode_width digits unicode_normalization ucd_case
 find_next_does_so_too = refl
 
 pub undo_ends_it : replaced (codes "b b") (showing (codes "b") (codes "x") ++ (enter ∷ UndoRun ∷ [])) ≡ (codes "b b", 0, Off, None)
@@ -330,13 +332,13 @@ unfolding unicode_segmentation unicode_width digits
 a_paste_replaces_nothing = refl
 
 pub a_paste_ends_a_search_to_find : asked (codes "abab") (Find ∷ PasteStart ∷ Insert 0x62 ∷ enter ∷ []) ≡ (Off, aims.Find, 1, None)
-unfolding unicode_segmentation unicode_width digits
+unfolding unicode_segmentation unicode_width digits unicode_normalization ucd_case
 a_paste_ends_a_search_to_find = refl
 
 -- ---- the next match
 
 pub find_next_finds_again : asked (codes "abab") (Replace ∷ Insert 0x62 ∷ Cancel ∷ FindNext ∷ []) ≡ (Off, aims.Find, 1, None)
-unfolding unicode_segmentation unicode_width digits
+unfolding unicode_segmentation unicode_width digits unicode_normalization ucd_case
 find_next_finds_again = refl
 
 -- ---- what is seen
@@ -357,11 +359,11 @@ unfolding unicode_segmentation unicode_width digits
 the_match_is_seen = refl
 
 pub and_the_next_one : seen (codes "b b") 1 4 (showing (codes "b") [] ++ (Find ∷ [])) ≡ normal (codes "b ") ++ negative (codes "b") ++ normal (codes " ")
-unfolding unicode_segmentation unicode_width digits
+unfolding unicode_segmentation unicode_width digits unicode_normalization ucd_case
 and_the_next_one = refl
 
 pub and_then_none : seen (codes "b b") 1 4 (showing (codes "b") [] ++ (Find ∷ enter ∷ [])) ≡ normal (codes "b   ")
-unfolding unicode_segmentation unicode_width digits
+unfolding unicode_segmentation unicode_width digits unicode_normalization ucd_case
 and_then_none = refl
 
 pub before_it_the_region : seen (codes "a b") 1 4 (RowEnd ∷ Mark ∷ TextStart ∷ Replace ∷ letters (codes "b") ++ (enter ∷ [])) ≡ normal (codes "a ") ++ negative (codes "b") ++ normal (codes " ")

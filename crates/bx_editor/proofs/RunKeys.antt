@@ -43,6 +43,9 @@ undo-first : (d : Data) (was : Before) (ask : Ask) (seek : Seek) (e : Editor) (t
 undo-first d was asks.Off seeks.Off e text edit past future is = ap (λ a. record (stepped_to e (version edit.before.text past (edit ∷ future)) edit.before.place) { ask = a }) is
 undo-first d was asks.Off seeks.Begun e text edit past future is = ap (λ a. record (stepped_to e (version edit.before.text past (edit ∷ future)) edit.before.place) { ask = a }) is
 undo-first d was asks.Off seeks.Typed e text edit past future is = ap (λ a. record (stepped_to e (version edit.before.text past (edit ∷ future)) edit.before.place) { ask = a }) is
+undo-first d was asks.Off seeks.WithBegun e text edit past future is = ap (λ a. record (stepped_to e (version edit.before.text past (edit ∷ future)) edit.before.place) { ask = a }) is
+undo-first d was asks.Off seeks.WithTyped e text edit past future is = ap (λ a. record (stepped_to e (version edit.before.text past (edit ∷ future)) edit.before.place) { ask = a }) is
+undo-first d was asks.Off seeks.Replacing e text edit past future is = ap (λ a. record (stepped_to e (version edit.before.text past (edit ∷ future)) edit.before.place) { ask = a }) is
 undo-first d was asks.Line seek e text edit past future is = refl
 undo-first d was asks.Name seek e text edit past future is = refl
 undo-first d was asks.Code seek e text edit past future is = refl
@@ -53,6 +56,9 @@ redo-first : (d : Data) (was : Before) (ask : Ask) (seek : Seek) (e : Editor) (t
 redo-first d was asks.Off seeks.Off e text edit past future is = ap (λ a. record (stepped_to e (version edit.after.text (edit ∷ past) future) edit.after.place) { ask = a }) is
 redo-first d was asks.Off seeks.Begun e text edit past future is = ap (λ a. record (stepped_to e (version edit.after.text (edit ∷ past) future) edit.after.place) { ask = a }) is
 redo-first d was asks.Off seeks.Typed e text edit past future is = ap (λ a. record (stepped_to e (version edit.after.text (edit ∷ past) future) edit.after.place) { ask = a }) is
+redo-first d was asks.Off seeks.WithBegun e text edit past future is = ap (λ a. record (stepped_to e (version edit.after.text (edit ∷ past) future) edit.after.place) { ask = a }) is
+redo-first d was asks.Off seeks.WithTyped e text edit past future is = ap (λ a. record (stepped_to e (version edit.after.text (edit ∷ past) future) edit.after.place) { ask = a }) is
+redo-first d was asks.Off seeks.Replacing e text edit past future is = ap (λ a. record (stepped_to e (version edit.after.text (edit ∷ past) future) edit.after.place) { ask = a }) is
 redo-first d was asks.Line seek e text edit past future is = refl
 redo-first d was asks.Name seek e text edit past future is = refl
 redo-first d was asks.Code seek e text edit past future is = refl
@@ -90,28 +96,42 @@ all-redos d e n text edit past future few =
 -- ---- a run at once
 
 undo-found : (d : Data) (was : Before) (ask : Ask) (seek : Seek) (e : Editor) (content : Edited) (place : ℕ) (changed : Bool) → e.ask ≡ ask
-    → ((a : Ask) → after_run_step steps.Undo (record e { ask = a }) ≡ with_step (record e { ask = a }) content place changed)
+    → ((a : Ask) (s : Seek) → after_run_step steps.Undo (record e { ask = a; seek = s }) ≡ with_step (record e { ask = a; seek = s }) content place changed)
     → after_any d None was ask seek e UndoRun ≡ without_ask (with_step e content place changed)
-undo-found d was asks.Off seeks.Off e content place changed unasked h = h e.ask ∙ ap (λ a. record (with_step e content place changed) { ask = a }) unasked
+undo-found d was asks.Off seeks.Off e content place changed unasked h =
+    h e.ask e.seek ∙ ap (λ a. record (with_step e content place changed) { ask = a }) unasked
 undo-found d was asks.Off seeks.Begun e content place changed unasked h =
-    ap without_search (h e.ask) ∙ ap (λ a. record (with_step e content place changed) { ask = a }) unasked
+    ap without_search (h e.ask e.seek) ∙ ap (λ a. record (with_step e content place changed) { ask = a }) unasked
 undo-found d was asks.Off seeks.Typed e content place changed unasked h =
-    ap without_search (h e.ask) ∙ ap (λ a. record (with_step e content place changed) { ask = a }) unasked
-undo-found d was asks.Line seek e content place changed asked h = h asks.Off
-undo-found d was asks.Name seek e content place changed asked h = h asks.Off
-undo-found d was asks.Code seek e content place changed asked h = h asks.Off
+    ap without_search (h e.ask e.seek) ∙ ap (λ a. record (with_step e content place changed) { ask = a }) unasked
+undo-found d was asks.Off seeks.WithBegun e content place changed unasked h =
+    h e.ask seeks.Off ∙ ap (λ a. record (with_step e content place changed) { ask = a }) unasked
+undo-found d was asks.Off seeks.WithTyped e content place changed unasked h =
+    h e.ask seeks.Off ∙ ap (λ a. record (with_step e content place changed) { ask = a }) unasked
+undo-found d was asks.Off seeks.Replacing e content place changed unasked h =
+    h e.ask seeks.Off ∙ ap (λ a. record (with_step e content place changed) { ask = a }) unasked
+undo-found d was asks.Line seek e content place changed asked h = h asks.Off e.seek
+undo-found d was asks.Name seek e content place changed asked h = h asks.Off e.seek
+undo-found d was asks.Code seek e content place changed asked h = h asks.Off e.seek
 
 redo-found : (d : Data) (was : Before) (ask : Ask) (seek : Seek) (e : Editor) (content : Edited) (place : ℕ) (changed : Bool) → e.ask ≡ ask
-    → ((a : Ask) → after_run_step steps.Redo (record e { ask = a }) ≡ with_step (record e { ask = a }) content place changed)
+    → ((a : Ask) (s : Seek) → after_run_step steps.Redo (record e { ask = a; seek = s }) ≡ with_step (record e { ask = a; seek = s }) content place changed)
     → after_any d None was ask seek e RedoRun ≡ without_ask (with_step e content place changed)
-redo-found d was asks.Off seeks.Off e content place changed unasked h = h e.ask ∙ ap (λ a. record (with_step e content place changed) { ask = a }) unasked
+redo-found d was asks.Off seeks.Off e content place changed unasked h =
+    h e.ask e.seek ∙ ap (λ a. record (with_step e content place changed) { ask = a }) unasked
 redo-found d was asks.Off seeks.Begun e content place changed unasked h =
-    ap without_search (h e.ask) ∙ ap (λ a. record (with_step e content place changed) { ask = a }) unasked
+    ap without_search (h e.ask e.seek) ∙ ap (λ a. record (with_step e content place changed) { ask = a }) unasked
 redo-found d was asks.Off seeks.Typed e content place changed unasked h =
-    ap without_search (h e.ask) ∙ ap (λ a. record (with_step e content place changed) { ask = a }) unasked
-redo-found d was asks.Line seek e content place changed asked h = h asks.Off
-redo-found d was asks.Name seek e content place changed asked h = h asks.Off
-redo-found d was asks.Code seek e content place changed asked h = h asks.Off
+    ap without_search (h e.ask e.seek) ∙ ap (λ a. record (with_step e content place changed) { ask = a }) unasked
+redo-found d was asks.Off seeks.WithBegun e content place changed unasked h =
+    h e.ask seeks.Off ∙ ap (λ a. record (with_step e content place changed) { ask = a }) unasked
+redo-found d was asks.Off seeks.WithTyped e content place changed unasked h =
+    h e.ask seeks.Off ∙ ap (λ a. record (with_step e content place changed) { ask = a }) unasked
+redo-found d was asks.Off seeks.Replacing e content place changed unasked h =
+    h e.ask seeks.Off ∙ ap (λ a. record (with_step e content place changed) { ask = a }) unasked
+redo-found d was asks.Line seek e content place changed asked h = h asks.Off e.seek
+redo-found d was asks.Name seek e content place changed asked h = h asks.Off e.seek
+redo-found d was asks.Code seek e content place changed asked h = h asks.Off e.seek
 
 pub undo-run : (d : Data) (e : Editor) (n : ℕ) (text : List ℕ) (edit : Edit) (past future : List Edit)
     → let t : Edited = version text (edit ∷ past) future in let now : Editor = record e { content = t } in run_length steps.Undo now ≡ suc n
@@ -124,9 +144,11 @@ undo-run d e n text edit past future long =
     let changed = is_changed_at (run_goal steps.Undo was) e.stored in
     let one : next_changes steps.Undo (run_length steps.Undo was) t ≡ Some whole = ap (λ k. next_undos k t) long in
     let place = place-back n edit.before.text past (edit ∷ future) (change_back edit) in
-    let stepped : (a : Ask)
-    → after_run_step steps.Undo (record was { ask = a }) ≡ with_step (record was { ask = a }) (undone_times (suc n) t) ((iterate back (suc n) (t, e.place)).1) changed =
-    λ a. ap (by_run steps.Undo (record was { ask = a })) one ∙ ap₂ (λ k p. with_step (record was { ask = a }) (undone_times k t) p changed) long place in
+    let stepped : (a : Ask) (s : Seek)
+    → after_run_step steps.Undo (record was { ask = a; seek = s })
+    ≡ with_step (record was { ask = a; seek = s }) (undone_times (suc n) t) ((iterate back (suc n) (t, e.place)).1) changed =
+    λ a s. ap (by_run steps.Undo (record was { ask = a; seek = s })) one
+    ∙ ap₂ (λ k p. with_step (record was { ask = a; seek = s }) (undone_times k t) p changed) long place in
     ap (as_left UndoRun) (undo-found d (before e) e.ask e.seek was (undone_times (suc n) t) ((iterate back (suc n) (t, e.place)).1) changed refl stepped)
 
 pub redo-run : (d : Data) (e : Editor) (n : ℕ) (text : List ℕ) (edit : Edit) (past future : List Edit)
@@ -140,9 +162,11 @@ redo-run d e n text edit past future long =
     let changed = is_changed_at (run_goal steps.Redo was) e.stored in
     let one : next_changes steps.Redo (run_length steps.Redo was) t ≡ Some whole = ap (λ k. next_redos k t) long in
     let place = place-again n edit.after.text (edit ∷ past) future (change_of edit) in
-    let stepped : (a : Ask)
-    → after_run_step steps.Redo (record was { ask = a }) ≡ with_step (record was { ask = a }) (redone_times (suc n) t) ((iterate again (suc n) (t, e.place)).1) changed =
-    λ a. ap (by_run steps.Redo (record was { ask = a })) one ∙ ap₂ (λ k p. with_step (record was { ask = a }) (redone_times k t) p changed) long place in
+    let stepped : (a : Ask) (s : Seek)
+    → after_run_step steps.Redo (record was { ask = a; seek = s })
+    ≡ with_step (record was { ask = a; seek = s }) (redone_times (suc n) t) ((iterate again (suc n) (t, e.place)).1) changed =
+    λ a s. ap (by_run steps.Redo (record was { ask = a; seek = s })) one
+    ∙ ap₂ (λ k p. with_step (record was { ask = a; seek = s }) (redone_times k t) p changed) long place in
     ap (as_left RedoRun) (redo-found d (before e) e.ask e.seek was (redone_times (suc n) t) ((iterate again (suc n) (t, e.place)).1) changed refl stepped)
 
 -- ---- nothing to undo, or to redo
@@ -156,24 +180,30 @@ no-redos zero text past = refl
 no-redos (suc n) text past = refl
 
 undo-either : (d : Data) (was : Before) (ask : Ask) (seek : Seek) (e : Editor)
-    → ((a : Ask) → after_run_step steps.Undo (record e { ask = a }) ≡ after_step steps.Undo (record e { ask = a }))
+    → ((a : Ask) (s : Seek) → after_run_step steps.Undo (record e { ask = a; seek = s }) ≡ after_step steps.Undo (record e { ask = a; seek = s }))
     → after_any d None was ask seek e UndoRun ≡ after_any d None was ask seek e Undo
-undo-either d was asks.Off seeks.Off e h = h e.ask
-undo-either d was asks.Off seeks.Begun e h = ap without_search (h e.ask)
-undo-either d was asks.Off seeks.Typed e h = ap without_search (h e.ask)
-undo-either d was asks.Line seek e h = h asks.Off
-undo-either d was asks.Name seek e h = h asks.Off
-undo-either d was asks.Code seek e h = h asks.Off
+undo-either d was asks.Off seeks.Off e h = h e.ask e.seek
+undo-either d was asks.Off seeks.Begun e h = ap without_search (h e.ask e.seek)
+undo-either d was asks.Off seeks.Typed e h = ap without_search (h e.ask e.seek)
+undo-either d was asks.Off seeks.WithBegun e h = h e.ask seeks.Off
+undo-either d was asks.Off seeks.WithTyped e h = h e.ask seeks.Off
+undo-either d was asks.Off seeks.Replacing e h = h e.ask seeks.Off
+undo-either d was asks.Line seek e h = h asks.Off e.seek
+undo-either d was asks.Name seek e h = h asks.Off e.seek
+undo-either d was asks.Code seek e h = h asks.Off e.seek
 
 redo-either : (d : Data) (was : Before) (ask : Ask) (seek : Seek) (e : Editor)
-    → ((a : Ask) → after_run_step steps.Redo (record e { ask = a }) ≡ after_step steps.Redo (record e { ask = a }))
+    → ((a : Ask) (s : Seek) → after_run_step steps.Redo (record e { ask = a; seek = s }) ≡ after_step steps.Redo (record e { ask = a; seek = s }))
     → after_any d None was ask seek e RedoRun ≡ after_any d None was ask seek e Redo
-redo-either d was asks.Off seeks.Off e h = h e.ask
-redo-either d was asks.Off seeks.Begun e h = ap without_search (h e.ask)
-redo-either d was asks.Off seeks.Typed e h = ap without_search (h e.ask)
-redo-either d was asks.Line seek e h = h asks.Off
-redo-either d was asks.Name seek e h = h asks.Off
-redo-either d was asks.Code seek e h = h asks.Off
+redo-either d was asks.Off seeks.Off e h = h e.ask e.seek
+redo-either d was asks.Off seeks.Begun e h = ap without_search (h e.ask e.seek)
+redo-either d was asks.Off seeks.Typed e h = ap without_search (h e.ask e.seek)
+redo-either d was asks.Off seeks.WithBegun e h = h e.ask seeks.Off
+redo-either d was asks.Off seeks.WithTyped e h = h e.ask seeks.Off
+redo-either d was asks.Off seeks.Replacing e h = h e.ask seeks.Off
+redo-either d was asks.Line seek e h = h asks.Off e.seek
+redo-either d was asks.Name seek e h = h asks.Off e.seek
+redo-either d was asks.Code seek e h = h asks.Off e.seek
 
 -- ---- how long a run is
 
@@ -201,7 +231,7 @@ undo-steps d e text [] future =
     let was = cleared now in
     no-steps d now UndoRun Undo (undos now)
     (ap (as_left Undo) (undo-either d (before e) e.ask e.seek was
-    (λ a. ap (by_run steps.Undo (record was { ask = a })) (no-undos (run_length steps.Undo was) text future))))
+    (λ a s. ap (by_run steps.Undo (record was { ask = a; seek = s })) (no-undos (run_length steps.Undo was) text future))))
 undo-steps d e text (edit ∷ past) future =
     let now : Editor = record e { content = version text (edit ∷ past) future } in
     let n = length past - run_start e.runs (suc (length past)) in
@@ -226,7 +256,7 @@ redo-steps d e text past [] =
     let was = cleared now in
     no-steps d now RedoRun Redo (redos now)
     (ap (as_left Redo) (redo-either d (before e) e.ask e.seek was
-    (λ a. ap (by_run steps.Redo (record was { ask = a })) (no-redos (run_length steps.Redo was) text past))))
+    (λ a s. ap (by_run steps.Redo (record was { ask = a; seek = s })) (no-redos (run_length steps.Redo was) text past))))
 redo-steps d e text past (edit ∷ future) =
     let now : Editor = record e { content = version text past (edit ∷ future) } in
     let last = length past + suc (length future) in

@@ -3,6 +3,8 @@ use Rattle.std.proofs.Common.{◌≡◌, ℕ, ◌<◌, ◌≤◌, Bool, true, fa
 use Rattle.std.specs.Prelude.{codes, Option, Some, None}
 use Rattle.std.specs.Fmt.{digits}
 use Rattle.std.proofs.lemmas.List.Elements.{All-cons, All-nil}
+use Rattle.ucd_case.proofs.Computing.{ucd_case}
+use Rattle.unicode_normalization.proofs.Computing.{unicode_normalization}
 use Rattle.unicode_segmentation.proofs.Computing.{unicode_segmentation}
 use Rattle.unicode_width.proofs.Computing.{unicode_width}
 use Rattle.bx_terms.specs.Sizes.{largest_text}
@@ -112,7 +114,7 @@ unfolding unicode_segmentation unicode_width digits
 cut_and_put_are_runs = refl
 
 pub letters_of_a_query_are_of_no_run : run_at (codes "ab") (Insert 0x78 ∷ Find ∷ Insert 0x62 ∷ Insert 0xA ∷ Insert 0x79 ∷ []) ≡ (0 ∷ 1 ∷ [], Word)
-unfolding unicode_segmentation unicode_width digits
+unfolding unicode_segmentation unicode_width digits unicode_normalization ucd_case
 letters_of_a_query_are_of_no_run = refl
 
 pub each_paste_is_a_run : run_at [] (PasteStart ∷ letters (codes "a") ++ Repaint ∷ letters (codes "b") ++ PasteEnd ∷ PasteStart ∷ letters (codes "c") ++ PasteEnd ∷ []) ≡ (0 ∷ 2 ∷ [], Off)
@@ -140,7 +142,7 @@ unfolding unicode_segmentation unicode_width digits
 without_an_edit_the_mark_stays = refl
 
 pub a_paste_ends_a_search : edited (codes "ab") (Find ∷ PasteStart ∷ letters (codes "b\nyz") ++ PasteEnd ∷ []) ≡ (codes "ayzb", 3)
-unfolding unicode_segmentation unicode_width digits
+unfolding unicode_segmentation unicode_width digits unicode_normalization ucd_case
 a_paste_ends_a_search = refl
 
 -- ---- what counts as changed

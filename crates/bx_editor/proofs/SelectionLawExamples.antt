@@ -2,6 +2,8 @@
 use Rattle.std.proofs.Common.{◌≡◌, ℕ, ◌<◌, ◌≤◌, List, [], ◌∷◌, ◌++◌, refl, ap, arith}
 use Rattle.std.specs.Prelude.{codes, Option, Some, None}
 use Rattle.std.specs.Fmt.{digits}
+use Rattle.ucd_case.proofs.Computing.{ucd_case}
+use Rattle.unicode_normalization.proofs.Computing.{unicode_normalization}
 use Rattle.unicode_segmentation.proofs.Computing.{unicode_segmentation}
 use Rattle.unicode_width.proofs.Computing.{unicode_width}
 use Rattle.bx_terms.specs.Sizes.{largest_text}
@@ -60,11 +62,11 @@ unfolding unicode_segmentation unicode_width digits
 cancel_takes_it_off = refl
 
 pub cancel_ends_a_search_first : selected (codes "abcd") (Select ∷ Find ∷ Insert 0x63 ∷ Cancel ∷ []) ≡ (Some 0, Old)
-unfolding unicode_segmentation unicode_width digits
+unfolding unicode_segmentation unicode_width digits unicode_normalization ucd_case
 cancel_ends_a_search_first = refl
 
 pub then_the_selection : selected (codes "abcd") (Select ∷ Find ∷ Insert 0x63 ∷ Cancel ∷ Cancel ∷ []) ≡ (None, Off)
-unfolding unicode_segmentation unicode_width digits
+unfolding unicode_segmentation unicode_width digits unicode_normalization ucd_case
 then_the_selection = refl
 
 -- ---- what is typed and put in
@@ -114,11 +116,11 @@ unfolding unicode_segmentation unicode_width digits
 a_paste_takes_its_place = refl
 
 pub letters_of_a_query_take_no_place : edited (codes "abcd") (Select ∷ Find ∷ Insert 0x64 ∷ Erase ∷ []) ≡ (codes "abcd", (0, Some 0))
-unfolding unicode_segmentation unicode_width digits
+unfolding unicode_segmentation unicode_width digits unicode_normalization ucd_case
 letters_of_a_query_take_no_place = refl
 
 pub behind_a_search_it_gives_way : edited (codes "abcd") (Select ∷ Find ∷ Insert 0x64 ∷ Insert 0xA ∷ Insert 0x78 ∷ []) ≡ (codes "xd", (1, None))
-unfolding unicode_segmentation unicode_width digits
+unfolding unicode_segmentation unicode_width digits unicode_normalization ucd_case
 behind_a_search_it_gives_way = refl
 
 -- ---- what is removed

@@ -2,12 +2,13 @@
 use Rattle.std.proofs.Common.{◌≡◌, ℕ, ◌<◌, Bool, true, false, nat_lt, cond, List, [], ◌∷◌, length, Some, None, refl, arith, ltb-true}
 use Rattle.std.specs.Prelude.{find, unwrap_or}
 use Rattle.bx_ucd.specs.Data.{Data}
-use Rattle.bx_find.specs.Matches.{first_from, last_before}
+use Rattle.bx_find.specs.declared.reading.Reading.{Reading}
+use Rattle.bx_find.specs.Matches.{first_from_by, last_before_by}
 use Rattle.bx_view.specs.Places.{IsTextPlace}
 use Rattle.bx_view.specs.TextRows.{TextRow}
 use Rattle.bx_editor.specs.declared.message.Message.TheVariants.{FromEnd, FromStart}
 use Rattle.bx_editor.specs.declared.seek.Seek.{Seek}
-use Rattle.bx_editor.specs.declared.seek.Seek.TheVariants.{Off, Begun, Typed}
+use Rattle.bx_editor.specs.declared.seek.Seek.TheVariants.{Off, Begun, Typed, WithBegun, WithTyped, Replacing}
 use Rattle.bx_editor.specs.Origin.{BeganAt}
 use Rattle.bx_editor.specs.Search.{backward, forward, match_or, not_found}
 
@@ -15,19 +16,23 @@ pub began : (d : Data) (text : List ℕ) (seek : Seek) (origin : ℕ) → IsText
 began d text Off origin is = tt
 began d text Begun origin is = is
 began d text Typed origin is = is
+began d text WithBegun origin is = is
+began d text WithTyped origin is = is
+began d text Replacing origin is = is
 
 -- ---- some letters are sought
 
-pub forward-some : (d : Data) (rows : List TextRow) (text : List ℕ) (x : ℕ) (sought : List ℕ) → (sought ≡ [] → ⊥)
-    → forward d rows text x sought ≡ match_or rows None (match_or rows (Some FromStart) not_found (first_from d sought text 0)) (first_from d sought text x)
-forward-some d rows text x [] some = absurd (some refl)
-forward-some d rows text x (c ∷ cs) some = refl
+pub forward-some : (d : Data) (r : Reading) (rows : List TextRow) (text : List ℕ) (x : ℕ) (sought : List ℕ) → (sought ≡ [] → ⊥)
+    → forward d r rows text x sought
+    ≡ match_or rows None (match_or rows (Some FromStart) not_found (first_from_by d r sought text 0)) (first_from_by d r sought text x)
+forward-some d r rows text x [] some = absurd (some refl)
+forward-some d r rows text x (c ∷ cs) some = refl
 
-pub backward-some : (d : Data) (rows : List TextRow) (text : List ℕ) (x : ℕ) (sought : List ℕ) → (sought ≡ [] → ⊥)
-    → backward d rows text x sought
-    ≡ match_or rows None (match_or rows (Some FromEnd) not_found (last_before d sought text (length text))) (last_before d sought text x)
-backward-some d rows text x [] some = absurd (some refl)
-backward-some d rows text x (c ∷ cs) some = refl
+pub backward-some : (d : Data) (r : Reading) (rows : List TextRow) (text : List ℕ) (x : ℕ) (sought : List ℕ) → (sought ≡ [] → ⊥)
+    → backward d r rows text x sought
+    ≡ match_or rows None (match_or rows (Some FromEnd) not_found (last_before_by d r sought text (length text))) (last_before_by d r sought text x)
+backward-some d r rows text x [] some = absurd (some refl)
+backward-some d r rows text x (c ∷ cs) some = refl
 
 -- ---- the next place
 

@@ -21,7 +21,7 @@ use Rattle.bx_document.specs.Drawing.{with_rows}
 use Rattle.bx_editor.specs.declared.message.Message.{Message}
 use Rattle.bx_editor.specs.declared.message.Message.TheVariants.{Saved, SaveFailed, TextFull, NothingToUndo, NothingToRedo, Unsaved, Direction, MarkSet, MarkOff}
 use Rattle.bx_editor.specs.declared.message.Message.TheVariants.{Copied, LineCopied, NothingToCopy, NothingToPut, FromStart, FromEnd, NotFound, Help}
-use Rattle.bx_editor.specs.declared.message.Message.TheVariants.{MoreHelp, MoreThanOneLine, NoSuchCharacter, Told, Notice}
+use Rattle.bx_editor.specs.declared.message.Message.TheVariants.{MoreHelp, MoreThanOneLine, NoSuchCharacter, Replaced, Told, Notice}
 use Rattle.bx_editor.specs.Status.{failed_text, letter_glyphs, message_text, notice_text, prompt_text, status_line}
 
 -- ---- all its characters are from SPACE to TILDE
@@ -86,6 +86,7 @@ message-printable Help = refl
 message-printable MoreHelp = refl
 message-printable MoreThanOneLine = refl
 message-printable NoSuchCharacter = refl
+message-printable (Replaced n) = refl
 message-printable Told = refl
 message-printable (Notice notice) = notice-printable notice
 

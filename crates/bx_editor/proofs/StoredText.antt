@@ -27,30 +27,32 @@ use Rattle.bx_text.specs.Edits.{inserted, splice}
 use Rattle.bx_ucd.specs.Data.{Data}
 use Rattle.bx_asking.specs.declared.question.Ask.{Ask}
 use Rattle.bx_asking.specs.declared.question.Ask.TheVariants as asks
+use Rattle.bx_editor.specs.declared.aim.Aim.TheVariants as aims
 use Rattle.bx_editor.specs.declared.message.Message.TheVariants as messages
 use Rattle.bx_editor.specs.declared.seek.Seek.{Seek}
 use Rattle.bx_editor.specs.declared.seek.Seek.TheVariants as seeks
 use Rattle.bx_editor.specs.declared.soft.Soft.{Soft}
 use Rattle.bx_editor.specs.declared.soft.Soft.TheVariants as softness
 use Rattle.bx_editor.specs.Asking.{without_ask}
-use Rattle.bx_editor.specs.Editor.{Editor, after_redo, after_quit, after_save, after_step, after_undo, at_start, cleared, place_after, stored_behind, with_insertion, with_removal}
+use Rattle.bx_editor.specs.Editor.{Editor, after_redo, after_quit, after_save, after_step, after_undo, at_start, cleared, place_after, stored_behind, with_exchange, with_insertion, with_insertion_at, with_removal}
 use Rattle.bx_editor.specs.Effects.{Effect, Types, BeginsLine, Puts, Removes, RemovesWord, Steps, StepsRun, Goes, GoesByRows, Marks, Selects}
 use Rattle.bx_editor.specs.Effects.{Unmarks, Copies, Cuts, Seeks, SeeksNext, Saves, Quits, Turns, Helps, AsksLine, AsksName, Tells, Rests, Before, before, by}
 use Rattle.bx_editor.specs.Erasing.{after_erasing, after_erasing_word, after_removing, removed_on}
-use Rattle.bx_editor.specs.Keys.{Answer, Letter, Shortens, GoesBack, Next, Previous, Stays, Ends, after_any, after_asking, after_key, after_pressing}
-use Rattle.bx_editor.specs.Keys.{answer_of, answered, answered_question, effect_of, is_save}
+use Rattle.bx_editor.specs.Keys.{Answer, Letter, Shortens, GoesBack, Next, Previous, Replaces, Stays, Ends, after_any, after_asking, after_key, after_pressing}
+use Rattle.bx_editor.specs.Keys.{answer_of, answered, answered_match, answered_other, answered_question, effect_of, is_save}
 use Rattle.bx_editor.specs.Laws.{after_typing}
 use Rattle.bx_editor.specs.Putting.{after_character, after_new_line, after_put, has_room, is_paste, line_end, put_in, typed, with_selection_replaced, yielding}
 use Rattle.bx_editor.specs.Region.{after_copy, after_cut, bytes_in, is_at_mark, is_empty, line, region, taken}
 use Rattle.bx_editor.specs.RunLaws.{stored_last, UnchangedIsStored}
 use Rattle.bx_editor.specs.Runs.{by_run, is_changed_at, run_goal, run_length}
-use Rattle.bx_editor.specs.Search.{after_beginning, after_letter, is_no_letter, kept, lengthened, longest_query, next_or_start, search_from, sought, with_query, without_search}
+use Rattle.bx_editor.specs.Search.{after_beginning, next_or_start, search_from, sought, without_search}
 use Rattle.bx_editor.specs.Selecting.{is_selection, selecting, unselected}
 use Rattle.bx_editor.proofs.Chains.{Chain, opened-chain, redone-chain, replaced-chain, stored-chain, undone-chain}
 use Rattle.bx_editor.specs.Wrapping.{with_wrap}
 use Rattle.bx_editor.proofs.InSearch.{each-key}
 use Rattle.bx_editor.proofs.ManySteps.{past-again, past-back}
 use Rattle.bx_editor.proofs.Questions.{IsKept, letter-keeps, shorter-keeps}
+use Rattle.bx_editor.proofs.Searches.{IsKeptSeeking, is_end, match-keeps, other-keeps, query-keeps}
 use Rattle.bx_editor.proofs.TwoEdits.{stored-of-two}
 
 -- the history is a chain, and what counts as unchanged is the text that was stored
@@ -67,9 +69,9 @@ either false s p q h k = k
 
 -- ---- edits
 
-insertion : (s : List ℕ) (d : Data) (e : Editor) (new : List ℕ) (on : Bool) → Has s e → Has s (with_insertion d e new on)
-insertion s d e new on h = record {
-  chain = replaced-chain s e.content e.stored e.place e.place new e.place ((with_insertion d e new on).place) h.chain;
+insertion : (s : List ℕ) (d : Data) (e : Editor) (at : ℕ) (new : List ℕ) (on : Bool) → Has s e → Has s (with_insertion_at d e at new on)
+insertion s d e at new on h = record {
+  chain = replaced-chain s e.content e.stored at at new e.place ((with_insertion_at d e at new on).place) h.chain;
   unchanged = λ is. absurd (cc is);
 }
 
@@ -85,7 +87,7 @@ putting s d e new on h =
     let one = with_insertion d e new on in
     let without = with_removal d e (region e).0 (region e).1 false in
     either (has_room e new) s (if is_selection e then two else one) (record e { message = Some messages.TextFull })
-    (either (is_selection e) s two one (insertion s d without new true (removal s d e (region e).0 (region e).1 false h)) (insertion s d e new on h)) h
+    (either (is_selection e) s two one (insertion s d without without.place new true (removal s d e (region e).0 (region e).1 false h)) (insertion s d e e.place new on h)) h
 
 typing-has : (s : List ℕ) (d : Data) (typing : Typing) (e : Editor) (new : List ℕ) (kind : Kind) → Has s e → Has s (typed d typing e new kind)
 typing-has s d typing e new kind h = putting s d e new (goes_on typing kind) h
@@ -216,10 +218,10 @@ effect s d fault was e Selects h = select s e e.mark e.soft h
 effect s d fault was e Unmarks h = h
 effect s d fault was e Copies h = copy s d e h
 effect s d fault was e Cuts h = cut s d e h
-effect s d fault was e Seeks h = h
+effect s d fault was e (Seeks aim) h = h
 effect s d fault was e SeeksNext h =
     let free = unselected e in
-    either (length (sought d free) == 0) s (after_beginning free) (search_from d (next_or_start d free) free) h h
+    either (length (sought d free) == 0) s (after_beginning aims.Find free) (search_from d (next_or_start d free) (record free { seek = seeks.Off; aim = aims.Find })) h h
 effect s d fault was e Saves h = save s e fault h
 effect s d fault was e Quits h = quit s e was.again h
 effect s d fault was e Turns h = h
@@ -230,15 +232,6 @@ effect s d fault was e Tells h = h
 effect s d fault was e Rests h = h
 
 -- ---- each key
-
-letter : (s : List ℕ) (d : Data) (e : Editor) (c : ℕ) → Has s e → Has s (after_letter d e c)
-letter s d e c h =
-    let longer : Editor = search_from d e.place (with_query e (lengthened longest_query (kept e.seek e.query) c)) in
-    either (c == 0xA) s (without_search e) (if is_no_letter d c then e else longer) h (either (is_no_letter d c) s e longer h h)
-
-abbrev is_end : Answer → Bool
-is_end Ends = true
-is_end _ = false
 
 -- Save alone saves, and it ends a search
 each : (d : Data) (e : Editor) (key : Key) → (is_saves (effect_of d e key) ≡ is_save key) × ((is_end (answer_of key) || not (is_save key)) ≡ true)
@@ -304,16 +297,39 @@ pressed : (s : List ℕ) (d : Data) (fault : Option StoreFault) (was : Before) (
 pressed s d fault was e key h =
     subst (λ b. Has (stored_by s e b fault) (by d fault was e (effect_of d e key))) ((each d e key).0) (effect s d fault was e (effect_of d e key) h)
 
-answer : (s : List ℕ) (d : Data) (fault : Option StoreFault) (was : Before) (e : Editor) (key : Key) (one : Answer)
-    → (is_end one || not (is_save key)) ≡ true → Has s e → Has (stored_by s e (is_save key) fault) (answered d fault was e key one)
-answer s d fault was e key (Letter c) it h =
-    no-save s e (answered d fault was e key (Letter c)) fault (is_save key) it (letter s d e c h)
-answer s d fault was e key Shortens it h = no-save s e (answered d fault was e key Shortens) fault (is_save key) it h
-answer s d fault was e key GoesBack it h = no-save s e (answered d fault was e key GoesBack) fault (is_save key) it h
-answer s d fault was e key Next it h = no-save s e (answered d fault was e key Next) fault (is_save key) it h
-answer s d fault was e key Previous it h = no-save s e (answered d fault was e key Previous) fault (is_save key) it h
-answer s d fault was e key Stays it h = no-save s e (answered d fault was e key Stays) fault (is_save key) it h
-answer s d fault was e key Ends it h = pressed s d fault was e key h
+-- ---- in a search
+
+exchange : (s : List ℕ) (d : Data) (e : Editor) (start stop : ℕ) (new : List ℕ) → Has s e → Has s (with_exchange d e start stop new)
+exchange s d e start stop [] h = removal s d e start stop false h
+exchange s d e start stop (b ∷ bs) h = insertion s d (with_removal d e start stop false) start (b ∷ bs) true (removal s d e start stop false h)
+
+sought-has : (s : List ℕ) (d : Data) → IsKeptSeeking d (Has s)
+sought-has s d = record {
+  exchanged = exchange s d;
+  told = λ e message h. h;
+  placed = λ e place h. h;
+  typed = λ e typing h. h;
+  sought = λ e seek aim origin query other at count h. h;
+}
+
+module _ (s : List ℕ) (d : Data) (fault : Option StoreFault) (was : Before) (e : Editor) (key : Key) (h : Has s e) where
+  query : (one : Answer) → (is_end one || not (is_save key)) ≡ true → Has (stored_by s e (is_save key) fault) (answered d fault was e key one)
+  query Ends it = pressed s d fault was e key h
+  query one it =
+      no-save s e (answered d fault was e key one) fault (is_save key) it
+      (query-keeps d (Has s) (sought-has s d) fault was e key one h (λ ends. absurd (cc ends)))
+
+  other-text : (one : Answer) → (is_end one || not (is_save key)) ≡ true → Has (stored_by s e (is_save key) fault) (answered_other d fault was e key one)
+  other-text Ends it = pressed s d fault was (without_search e) key h
+  other-text one it =
+      no-save s e (answered_other d fault was e key one) fault (is_save key) it
+      (other-keeps d (Has s) (sought-has s d) fault was e key one h h (λ ends. absurd (cc ends)))
+
+  at-match : (one : Answer) → (is_end one || not (is_save key)) ≡ true → Has (stored_by s e (is_save key) fault) (answered_match d fault was e key one)
+  at-match Ends it = pressed s d fault was (without_search e) key h
+  at-match one it =
+      no-save s e (answered_match d fault was e key one) fault (is_save key) it
+      (match-keeps d (Has s) (sought-has s d) fault was e key one h h (λ ends. absurd (cc ends)))
 
 -- ---- in a question
 
@@ -333,7 +349,7 @@ wrapping s d e opener closer h =
 
 question : (s : List ℕ) (d : Data) → IsKept d (Has s)
 question s d = record {
-  inserted = λ e new h. insertion s d e new false h;
+  inserted = λ e new h. insertion s d e e.place new false h;
   wrapped = wrapping s d;
   told = λ e message h. h;
   placed = λ e place h. h;
@@ -351,6 +367,7 @@ question-answer s d fault was e key Shortens it h =
 question-answer s d fault was e key GoesBack it h = no-save s e (answered_question d fault was e key GoesBack) fault (is_save key) it h
 question-answer s d fault was e key Next it h = pressed s d fault was (without_ask e) key h
 question-answer s d fault was e key Previous it h = pressed s d fault was (without_ask e) key h
+question-answer s d fault was e key Replaces it h = pressed s d fault was (without_ask e) key h
 question-answer s d fault was e key Stays it h = no-save s e (answered_question d fault was e key Stays) fault (is_save key) it h
 question-answer s d fault was e key Ends it h = pressed s d fault was (without_ask e) key h
 
@@ -361,8 +378,11 @@ asking s d fault was e key h = question-answer s d fault was e key (answer_of ke
 any : (s : List ℕ) (d : Data) (fault : Option StoreFault) (was : Before) (ask : Ask) (seek : Seek) (e : Editor) (key : Key) → Has s e
     → Has (stored_by s e (is_save key) fault) (after_any d fault was ask seek e key)
 any s d fault was asks.Off seeks.Off e key h = pressed s d fault was e key h
-any s d fault was asks.Off seeks.Begun e key h = answer s d fault was e key (answer_of key) ((each d e key).1) h
-any s d fault was asks.Off seeks.Typed e key h = answer s d fault was e key (answer_of key) ((each d e key).1) h
+any s d fault was asks.Off seeks.Begun e key h = query s d fault was e key h (answer_of key) ((each d e key).1)
+any s d fault was asks.Off seeks.Typed e key h = query s d fault was e key h (answer_of key) ((each d e key).1)
+any s d fault was asks.Off seeks.WithBegun e key h = other-text s d fault was e key h (answer_of key) ((each d e key).1)
+any s d fault was asks.Off seeks.WithTyped e key h = other-text s d fault was e key h (answer_of key) ((each d e key).1)
+any s d fault was asks.Off seeks.Replacing e key h = at-match s d fault was e key h (answer_of key) ((each d e key).1)
 any s d fault was asks.Line seek e key h = asking s d fault was e key h
 any s d fault was asks.Name seek e key h = asking s d fault was e key h
 any s d fault was asks.Code seek e key h = asking s d fault was e key h

@@ -1,43 +1,35 @@
 -- Undo and redo restore earlier versions: past and future are chains of versions that begin with the opened text.
 use Rattle.std.proofs.Common.{◌≡◌, ℕ, zero, suc, Bool, true, false, List, [], ◌∷◌, length, replicate, refl, sym, ap, subst, ◌∙◌, if◌then◌else◌}
-use Rattle.std.specs.Prelude.{◌≢◌, ◌==◌, ◌||◌, ◌&&◌, not, encode_utf8, Option, Some, None}
+use Rattle.std.specs.Prelude.{◌≢◌, ◌==◌, Option, Some, None}
 use Rattle.bx_terms.specs.declared.base.Base.{Base}
 use Rattle.bx_keys.specs.declared.key.Key.{Key}
 use Rattle.bx_keys.specs.declared.key.Key.TheVariants.{Undo, Redo}
 use Rattle.bx_store.specs.declared.store.StoreFault.{StoreFault}
 use Rattle.bx_text.specs.declared.change.Change.{Change}
-use Rattle.bx_text.specs.Edits.{Edit, Edited, redone, redone_in, splice, undone, undone_in}
+use Rattle.bx_text.specs.Edits.{Edit, Edited, redone, redone_in, undone, undone_in}
 use Rattle.bx_text.specs.Times.{redone_times, undone_times}
-use Rattle.bx_runs.specs.declared.typing.Kind.{Kind}
-use Rattle.bx_runs.specs.declared.typing.Kind.TheVariants.{Separator}
-use Rattle.bx_runs.specs.declared.typing.Removal.{Removal}
-use Rattle.bx_runs.specs.declared.typing.Typing.{Typing}
-use Rattle.bx_runs.specs.Typing.{after_removal, goes_on, goes_on_removing, kind_of}
 use Rattle.bx_document.specs.declared.history.HistoryStep.{HistoryStep}
 use Rattle.bx_document.specs.declared.history.HistoryStep.TheVariants as steps
 use Rattle.bx_document.specs.History.{next_changes, stepped_times}
-use Rattle.bx_editor.specs.declared.message.Message.TheVariants.{TextFull, Unsaved, Copied, LineCopied, MarkOff, MarkSet, NothingToCopy, NothingToPut}
 use Rattle.bx_ucd.specs.Data.{Data}
 use Rattle.bx_asking.specs.declared.question.Ask.{Ask}
 use Rattle.bx_asking.specs.declared.question.Ask.TheVariants as asks
+use Rattle.bx_editor.specs.declared.aim.Aim.TheVariants as aims
 use Rattle.bx_editor.specs.declared.seek.Seek.{Seek}
-use Rattle.bx_editor.specs.declared.seek.Seek.TheVariants.{Off, Begun, Typed}
-use Rattle.bx_editor.specs.declared.soft.Soft.{Soft}
+use Rattle.bx_editor.specs.declared.seek.Seek.TheVariants.{Off, Begun, Typed, WithBegun, WithTyped, Replacing}
 use Rattle.bx_editor.specs.declared.soft.Soft.TheVariants as softness
 use Rattle.bx_editor.specs.Asking.{without_ask}
-use Rattle.bx_editor.specs.Editor.{Editor, after_undo, after_redo, after_save, after_step, after_quit, at_start, cleared, with_insertion, with_removal}
-use Rattle.bx_editor.specs.Effects.{Effect, Types, BeginsLine, Puts, Removes, RemovesWord, Steps, StepsRun, Goes, GoesByRows, Marks, Selects}
-use Rattle.bx_editor.specs.Effects.{Unmarks, Copies, Cuts, Seeks, SeeksNext, Saves, Quits, Turns, Helps, AsksLine, AsksName, Tells, Rests, Before, before, by}
-use Rattle.bx_editor.specs.Erasing.{after_erasing, after_erasing_word, after_removing, or_selection, removed_on}
-use Rattle.bx_editor.specs.Keys.{Answer, Letter, Shortens, GoesBack, Next, Previous, Stays, Ends, after_any, after_asking, after_key, after_keys, answer_of, answered, effect_of}
-use Rattle.bx_editor.specs.Putting.{after_character, after_new_line, after_put, has_room, is_paste, line_end, put_in, typed, yielding}
-use Rattle.bx_editor.specs.Region.{after_copy, after_cut, after_mark, bytes_in, is_at_mark, is_empty, line, region, taken}
+use Rattle.bx_editor.specs.Editor.{Editor, after_undo, after_redo, after_save, after_step, at_start, cleared, with_exchange, with_insertion, with_removal}
+use Rattle.bx_editor.specs.Effects.{Effect, Seeks, SeeksNext, AsksLine, AsksName, Before, before, by}
+use Rattle.bx_editor.specs.Keys.{after_any, after_asking, after_key, after_keys, after_seeking, answer_of, answered_match, answered_other, effect_of}
 use Rattle.bx_editor.specs.Runs.{by_run, run_length}
-use Rattle.bx_editor.specs.Search.{after_beginning, after_letter, is_no_letter, kept, lengthened, longest_query, next_or_start, search_from, sought, with_query, without_search}
-use Rattle.bx_editor.specs.Selecting.{is_selection, selecting, unselected}
+use Rattle.bx_editor.specs.Search.{after_beginning, next_or_start, search_from, sought, without_search}
+use Rattle.bx_editor.specs.Selecting.{unselected}
 use Rattle.bx_editor.specs.Laws.{after_typing, IsBackAt, IsUnmarkedAt, mark_behind, UndoGivesBack, RedoMirrorsUndo}
+use Rattle.bx_editor.proofs.EffectsKept.{IsKeptPressing, asks_or_seeks, effect-keeps}
 use Rattle.bx_editor.proofs.InSearch.{behind, each-key}
 use Rattle.bx_editor.proofs.Questions.{IsKept, question-keeps}
+use Rattle.bx_editor.proofs.Searches.{IsKeptSeeking, match-keeps, other-keeps, query-keeps}
 
 -- ---- chains of versions
 
@@ -73,52 +65,10 @@ removal_has : (first : List ℕ) (d : Data) (e : Editor) (start stop : ℕ) (goe
     → HasVersions first (with_removal d e start stop goes_on).content
 removal_has first d e start stop goes_on h = record { past = (refl, h.past); future = tt }
 
-put_in_has : (first : List ℕ) (d : Data) (e : Editor) (new : List ℕ) (goes_on : Bool) → HasVersions first e.content
-    → HasVersions first (put_in d e new goes_on).content
-put_in_has first d e new goes_on h =
-    let without = with_removal d e (region e).0 (region e).1 false in
-    let in_place = with_insertion d without new true in
-    let here = with_insertion d e new goes_on in
-    either_has (has_room e new) first (if is_selection e then in_place else here) (record e { message = Some TextFull })
-    (either_has (is_selection e) first in_place here (insertion_has first d without new true (removal_has first d e (region e).0 (region e).1 false h))
-    (insertion_has first d e new goes_on h)) h
-
-typed_has : (first : List ℕ) (d : Data) (typing : Typing) (e : Editor) (new : List ℕ) (kind : Kind) → HasVersions first e.content
-    → HasVersions first (typed d typing e new kind).content
-typed_has first d typing e new kind h = put_in_has first d e new (goes_on typing kind) h
-
-new_line_has : (first : List ℕ) (d : Data) (typing : Typing) (e : Editor) → HasVersions first e.content
-    → HasVersions first (after_new_line d typing e).content
-new_line_has first d typing e h = typed_has first d typing e (line_end d (splice e.content.text (yielding e).0 (yielding e).1 [])) Separator h
-
-character_has : (first : List ℕ) (d : Data) (typing : Typing) (e : Editor) (c : ℕ) → HasVersions first e.content
-    → HasVersions first (after_character d typing e c).content
-character_has first d typing e c h =
-    either_has ((c == 0xA) && is_paste typing) first (after_new_line d typing e) (typed d typing e (encode_utf8 c) (kind_of (d.class c)))
-    (new_line_has first d typing e h) (typed_has first d typing e (encode_utf8 c) (kind_of (d.class c)) h)
-
-put_has : (first : List ℕ) (d : Data) (e : Editor) → HasVersions first e.content → HasVersions first (after_put d e).content
-put_has first d e h =
-    either_has (length e.held == 0) first (record e { message = Some NothingToPut }) (put_in d e e.held false) h (put_in_has first d e e.held false h)
-
-selection_has : (first : List ℕ) (d : Data) (e other : Editor) → HasVersions first e.content → HasVersions first other.content
-    → HasVersions first (or_selection d e other).content
-selection_has first d e other h k =
-    let without = with_removal d e (region e).0 (region e).1 false in
-    either_has (is_selection e) first without other (removal_has first d e (region e).0 (region e).1 false h) k
-
-erasing_has : (first : List ℕ) (d : Data) (typing : Typing) (how : Removal) (e : Editor) (start stop : ℕ) → HasVersions first e.content
-    → HasVersions first (after_erasing d typing how e start stop).content
-erasing_has first d typing how e start stop h =
-    let without : Editor = record (with_removal d e start stop (goes_on_removing typing how)) { typing = after_removal how } in
-    selection_has first d e (removed_on d typing how e start stop) h
-    (either_has (start == stop) first e without h (removal_has first d e start stop (goes_on_removing typing how) h))
-
-word_has : (first : List ℕ) (d : Data) (e : Editor) (start stop : ℕ) → HasVersions first e.content
-    → HasVersions first (after_erasing_word d e start stop).content
-word_has first d e start stop h =
-    selection_has first d e (after_removing d e start stop false) h
-    (either_has (start == stop) first e (with_removal d e start stop false) h (removal_has first d e start stop false h))
+exchange_has : (first : List ℕ) (d : Data) (e : Editor) (start stop : ℕ) (new : List ℕ) → HasVersions first e.content
+    → HasVersions first (with_exchange d e start stop new).content
+exchange_has first d e start stop [] h = removal_has first d e start stop false h
+exchange_has first d e start stop (b ∷ bs) h = record { past = (refl, (refl, h.past)); future = tt }
 
 -- ---- undo and redo keep them
 
@@ -165,85 +115,69 @@ run_has : (first : List ℕ) (step : HistoryStep) (e : Editor) (change : Option 
 run_has first step e None h = h
 run_has first step e (Some change) h = stepped_has first step (run_length step e) e.content h
 
--- ---- the other effects
-
-select_has : (first : List ℕ) (e : Editor) (mark : Option ℕ) (soft : Soft) → HasVersions first e.content
-    → HasVersions first (selecting e mark soft).content
-select_has first e None soft h = h
-select_has first e (Some mark) softness.Off h = h
-select_has first e (Some mark) softness.Fresh h = h
-select_has first e (Some mark) softness.Old h = h
-
 save_has : (first : List ℕ) (e : Editor) (fault : Option StoreFault) → HasVersions first e.content → HasVersions first (after_save e fault).content
 save_has first e None h = h
 save_has first e (Some fault) h = h
 
-quit_has : (first : List ℕ) (e : Editor) (again : Bool) → HasVersions first e.content → HasVersions first (after_quit e again).content
-quit_has first e again h = either_has (not e.changed || again) first (record e { quit_before = true; ended = true })
-    (record e { quit_before = true; message = Some Unsaved }) h h
-
-mark_has : (first : List ℕ) (e : Editor) → HasVersions first e.content → HasVersions first (after_mark e).content
-mark_has first e h = either_has (is_at_mark e.mark e.place) first (record e { mark = None; soft = softness.Off; message = Some MarkOff })
-    (record e { mark = Some e.place; soft = softness.Off; message = Some MarkSet }) h h
-
-copy_has : (first : List ℕ) (d : Data) (e : Editor) → HasVersions first e.content → HasVersions first (after_copy d e).content
-copy_has first d e h =
-    let none : Editor = record e { mark = None; soft = softness.Off; message = Some NothingToCopy } in
-    let one : Editor = record e { mark = None; soft = softness.Off; held = bytes_in e (line d e); message = Some LineCopied } in
-    either_has (is_empty (region e)) first (if is_empty (line d e) then none else one)
-    (record e { mark = None; soft = softness.Off; held = bytes_in e (region e); message = Some Copied }) (either_has (is_empty (line d e)) first none one h h) h
-
-cut_has : (first : List ℕ) (d : Data) (e : Editor) → HasVersions first e.content → HasVersions first (after_cut d e).content
-cut_has first d e h =
-    let part = taken d e in
-    either_has (is_empty part) first (after_copy d e) (record (with_removal d e (part.0) (part.1) false) { held = bytes_in e part }) (copy_has first d e h)
-    (removal_has first d e (part.0) (part.1) false h)
-
 -- ---- a key keeps them
+
+pressing_has : (d : Data) (first : List ℕ) → IsKeptPressing d (λ e. HasVersions first e.content)
+pressing_has d first = record {
+  inserted = insertion_has first d;
+  removed = removal_has first d;
+  stepped = step_has first;
+  run = λ step e h. run_has first step e (next_changes step (run_length step e) e.content) h;
+  saved = save_has first;
+  quit = λ e ended message h. h;
+  based = λ e base h. h;
+  gone = λ e place goal h. h;
+  marked = λ e mark soft held h. h;
+  told = λ e message typing h. h;
+}
+
+asking_has : (d : Data) (fault : Option StoreFault) (was : Before) (first : List ℕ) (e : Editor) (effect : Effect) → HasVersions first e.content
+    → asks_or_seeks effect ≡ true → HasVersions first (by d fault was e effect).content
+asking_has d fault was first e (Seeks aim) h is = h
+asking_has d fault was first e SeeksNext h is =
+    let free = unselected e in
+    either_has (length (sought d free) == 0) first (after_beginning aims.Find free)
+    (search_from d (next_or_start d free) (record free { seek = Off; aim = aims.Find })) h h
+asking_has d fault was first e AsksLine h is = h
+asking_has d fault was first e AsksName h is = h
+asking_has d fault was first e _ h is = absurd (cc is)
 
 by_has : (d : Data) (fault : Option StoreFault) (was : Before) (first : List ℕ) (e : Editor) (effect : Effect) → HasVersions first e.content
     → HasVersions first (by d fault was e effect).content
-by_has d fault was first e (Types c) h = character_has first d was.typing e c h
-by_has d fault was first e BeginsLine h = new_line_has first d was.typing e h
-by_has d fault was first e Puts h = put_has first d e h
-by_has d fault was first e (Removes how start stop) h = erasing_has first d was.typing how e start stop h
-by_has d fault was first e (RemovesWord start stop) h = word_has first d e start stop h
-by_has d fault was first e (Steps step) h = step_has first step e h
-by_has d fault was first e (StepsRun step) h = run_has first step e (next_changes step (run_length step e) e.content) h
-by_has d fault was first e (Goes place) h = h
-by_has d fault was first e (GoesByRows way n) h = h
-by_has d fault was first e Marks h = mark_has first e h
-by_has d fault was first e Selects h = select_has first e e.mark e.soft h
-by_has d fault was first e Unmarks h = h
-by_has d fault was first e Copies h = copy_has first d e h
-by_has d fault was first e Cuts h = cut_has first d e h
-by_has d fault was first e Seeks h = h
-by_has d fault was first e SeeksNext h =
-    let free = unselected e in
-    either_has (length (sought d free) == 0) first (after_beginning free) (search_from d (next_or_start d free) free) h h
-by_has d fault was first e Saves h = save_has first e fault h
-by_has d fault was first e Quits h = quit_has first e was.again h
-by_has d fault was first e Turns h = h
-by_has d fault was first e Helps h = h
-by_has d fault was first e AsksLine h = h
-by_has d fault was first e AsksName h = h
-by_has d fault was first e Tells h = h
-by_has d fault was first e Rests h = h
+by_has d fault was first e effect h =
+    effect-keeps d (λ x. HasVersions first x.content) (pressing_has d first) fault was e effect h (asking_has d fault was first e effect h)
 
-letter_has : (first : List ℕ) (d : Data) (e : Editor) (c : ℕ) → HasVersions first e.content → HasVersions first (after_letter d e c).content
-letter_has first d e c h =
-    let longer : Editor = search_from d e.place (with_query e (lengthened longest_query (kept e.seek e.query) c)) in
-    either_has (c == 0xA) first (without_search e) (if is_no_letter d c then e else longer) h (either_has (is_no_letter d c) first e longer h h)
+-- in a search
+sought_has : (d : Data) (first : List ℕ) → IsKeptSeeking d (λ e. HasVersions first e.content)
+sought_has d first = record {
+  exchanged = λ e start stop new h. exchange_has first d e start stop new h;
+  told = λ e message h. h;
+  placed = λ e place h. h;
+  typed = λ e typing h. h;
+  sought = λ e seek aim origin query other at count h. h;
+}
 
-answered_has : (d : Data) (fault : Option StoreFault) (was : Before) (first : List ℕ) (e : Editor) (key : Key) (answer : Answer)
-    → HasVersions first e.content → HasVersions first (answered d fault was e key answer).content
-answered_has d fault was first e key (Letter c) h = letter_has first d e c h
-answered_has d fault was first e key Shortens h = h
-answered_has d fault was first e key GoesBack h = h
-answered_has d fault was first e key Next h = h
-answered_has d fault was first e key Previous h = h
-answered_has d fault was first e key Stays h = h
-answered_has d fault was first e key Ends h = by_has d fault was first e (effect_of d e key) h
+answered_has : (d : Data) (fault : Option StoreFault) (was : Before) (first : List ℕ) (e : Editor) (key : Key) → HasVersions first e.content
+    → HasVersions first (after_seeking d fault was e key).content
+answered_has d fault was first e key h =
+    query-keeps d (λ x. HasVersions first x.content) (sought_has d first) fault was e key (answer_of key) h
+    (λ ends. by_has d fault was first e (effect_of d e key) h)
+
+other_has : (d : Data) (fault : Option StoreFault) (was : Before) (first : List ℕ) (e : Editor) (key : Key) → HasVersions first e.content
+    → HasVersions first (answered_other d fault was e key (answer_of key)).content
+other_has d fault was first e key h =
+    other-keeps d (λ x. HasVersions first x.content) (sought_has d first) fault was e key (answer_of key) h h
+    (λ ends. by_has d fault was first (without_search e) (effect_of d (without_search e) key) h)
+
+match_has : (d : Data) (fault : Option StoreFault) (was : Before) (first : List ℕ) (e : Editor) (key : Key) → HasVersions first e.content
+    → HasVersions first (answered_match d fault was e key (answer_of key)).content
+match_has d fault was first e key h =
+    match-keeps d (λ x. HasVersions first x.content) (sought_has d first) fault was e key (answer_of key) h h
+    (λ ends. by_has d fault was first (without_search e) (effect_of d (without_search e) key) h)
 
 -- in a question
 question_has : (d : Data) (first : List ℕ) → IsKept d (λ e. HasVersions first e.content)
@@ -265,8 +199,11 @@ asked_has d fault was first e key h =
 any_has : (d : Data) (fault : Option StoreFault) (was : Before) (first : List ℕ) (ask : Ask) (seek : Seek) (e : Editor) (key : Key) → HasVersions first e.content
     → HasVersions first (after_any d fault was ask seek e key).content
 any_has d fault was first asks.Off Off e key h = by_has d fault was first e (effect_of d e key) h
-any_has d fault was first asks.Off Begun e key h = answered_has d fault was first e key (answer_of key) h
-any_has d fault was first asks.Off Typed e key h = answered_has d fault was first e key (answer_of key) h
+any_has d fault was first asks.Off Begun e key h = answered_has d fault was first e key h
+any_has d fault was first asks.Off Typed e key h = answered_has d fault was first e key h
+any_has d fault was first asks.Off WithBegun e key h = other_has d fault was first e key h
+any_has d fault was first asks.Off WithTyped e key h = other_has d fault was first e key h
+any_has d fault was first asks.Off Replacing e key h = match_has d fault was first e key h
 any_has d fault was first asks.Line seek e key h = asked_has d fault was first e key h
 any_has d fault was first asks.Name seek e key h = asked_has d fault was first e key h
 any_has d fault was first asks.Code seek e key h = asked_has d fault was first e key h
@@ -298,6 +235,9 @@ undone_is : (d : Data) (was : Before) (ask : Ask) (seek : Seek) (e : Editor) (te
 undone_is d was asks.Off Off e text edit past future is = ap (λ a. record (stepped e (version edit.before.text past (edit ∷ future)) edit.before.place) { ask = a }) is
 undone_is d was asks.Off Begun e text edit past future is = ap (λ a. record (stepped e (version edit.before.text past (edit ∷ future)) edit.before.place) { ask = a }) is
 undone_is d was asks.Off Typed e text edit past future is = ap (λ a. record (stepped e (version edit.before.text past (edit ∷ future)) edit.before.place) { ask = a }) is
+undone_is d was asks.Off WithBegun e text edit past future is = ap (λ a. record (stepped e (version edit.before.text past (edit ∷ future)) edit.before.place) { ask = a }) is
+undone_is d was asks.Off WithTyped e text edit past future is = ap (λ a. record (stepped e (version edit.before.text past (edit ∷ future)) edit.before.place) { ask = a }) is
+undone_is d was asks.Off Replacing e text edit past future is = ap (λ a. record (stepped e (version edit.before.text past (edit ∷ future)) edit.before.place) { ask = a }) is
 undone_is d was asks.Line seek e text edit past future is = refl
 undone_is d was asks.Name seek e text edit past future is = refl
 undone_is d was asks.Code seek e text edit past future is = refl
@@ -308,6 +248,9 @@ redone_is : (d : Data) (was : Before) (ask : Ask) (seek : Seek) (e : Editor) (te
 redone_is d was asks.Off Off e text edit past future is = ap (λ a. record (stepped e (version edit.after.text (edit ∷ past) future) edit.after.place) { ask = a }) is
 redone_is d was asks.Off Begun e text edit past future is = ap (λ a. record (stepped e (version edit.after.text (edit ∷ past) future) edit.after.place) { ask = a }) is
 redone_is d was asks.Off Typed e text edit past future is = ap (λ a. record (stepped e (version edit.after.text (edit ∷ past) future) edit.after.place) { ask = a }) is
+redone_is d was asks.Off WithBegun e text edit past future is = ap (λ a. record (stepped e (version edit.after.text (edit ∷ past) future) edit.after.place) { ask = a }) is
+redone_is d was asks.Off WithTyped e text edit past future is = ap (λ a. record (stepped e (version edit.after.text (edit ∷ past) future) edit.after.place) { ask = a }) is
+redone_is d was asks.Off Replacing e text edit past future is = ap (λ a. record (stepped e (version edit.after.text (edit ∷ past) future) edit.after.place) { ask = a }) is
 redone_is d was asks.Line seek e text edit past future is = refl
 redone_is d was asks.Name seek e text edit past future is = refl
 redone_is d was asks.Code seek e text edit past future is = refl

@@ -27,7 +27,7 @@ use Rattle.bx_document.specs.PlaceLevel.{level_from, place_level}
 use Rattle.bx_document.proofs.PlaceLevels.{units_have}
 use Rattle.bx_editor.specs.declared.message.Message.TheVariants.{Told}
 use Rattle.bx_editor.specs.declared.seek.Seek.{Seek}
-use Rattle.bx_editor.specs.declared.seek.Seek.TheVariants.{Off, Begun, Typed}
+use Rattle.bx_editor.specs.declared.seek.Seek.TheVariants.{Off, Begun, Typed, WithBegun, WithTyped, Replacing}
 use Rattle.bx_editor.specs.AskingLaws.{IsUntouched, TellShows, TellsWhatStands}
 use Rattle.bx_editor.specs.Editor.{Editor, cleared, rows}
 use Rattle.bx_editor.specs.Effects.{Before, before}
@@ -141,6 +141,9 @@ tell-any : (d : Data) (was : Before) (ask : Ask) (seek : Seek) (e : Editor) → 
 tell-any d was asks.Off Off e = refl
 tell-any d was asks.Off Begun e = refl
 tell-any d was asks.Off Typed e = refl
+tell-any d was asks.Off WithBegun e = refl
+tell-any d was asks.Off WithTyped e = refl
+tell-any d was asks.Off Replacing e = refl
 tell-any d was asks.Line seek e = refl
 tell-any d was asks.Name seek e = refl
 tell-any d was asks.Code seek e = refl

@@ -2,6 +2,8 @@
 use Rattle.std.proofs.Common.{◌≡◌, ℕ, List, [], ◌∷◌, ◌++◌, Option, Some, None, refl, replicate}
 use Rattle.std.specs.Prelude.{codes}
 use Rattle.std.specs.Fmt.{digits}
+use Rattle.ucd_case.proofs.Computing.{ucd_case}
+use Rattle.unicode_normalization.proofs.Computing.{unicode_normalization}
 use Rattle.unicode_segmentation.proofs.Computing.{unicode_segmentation}
 use Rattle.unicode_width.proofs.Computing.{unicode_width}
 use Rattle.bx_keys.specs.declared.key.Key.{Key}
@@ -111,7 +113,7 @@ unfolding unicode_segmentation unicode_width digits
 lf_where_the_first_is_cr = refl
 
 pub cr_lf_is_one_edit : edited (codes "a\r\nb") (TextEnd ∷ NewLine ∷ Undo ∷ []) ≡ (codes "a\r\nb", 4)
-unfolding unicode_segmentation unicode_width digits
+unfolding unicode_segmentation unicode_width digits unicode_normalization ucd_case
 cr_lf_is_one_edit = refl
 
 -- ---- the next match, and Cancel
@@ -129,15 +131,15 @@ unfolding unicode_segmentation unicode_width digits
 without_a_query_a_search_begins = refl
 
 pub with_one_no_search_is_on : found (codes "abab") (sought_b ++ FindNext ∷ []) ≡ (3, (Off, None))
-unfolding unicode_segmentation unicode_width digits
+unfolding unicode_segmentation unicode_width digits unicode_normalization ucd_case
 with_one_no_search_is_on = refl
 
 pub behind_the_last_from_the_start : found (codes "abab") (sought_b ++ FindNext ∷ FindNext ∷ []) ≡ (1, (Off, Some FromStart))
-unfolding unicode_segmentation unicode_width digits
+unfolding unicode_segmentation unicode_width digits unicode_normalization ucd_case
 behind_the_last_from_the_start = refl
 
 pub cancel_leaves_a_search : found (codes "abab") (Forward ∷ Find ∷ Insert 0x61 ∷ Cancel ∷ []) ≡ (1, (Off, None))
-unfolding unicode_segmentation unicode_width digits
+unfolding unicode_segmentation unicode_width digits unicode_normalization ucd_case
 cancel_leaves_a_search = refl
 
 pub cancel_takes_the_mark : (after (start (codes "abcd") 2 40) (Mark ∷ Forward ∷ Cancel ∷ [])).mark ≡ None
@@ -145,15 +147,15 @@ unfolding unicode_segmentation unicode_width digits
 cancel_takes_the_mark = refl
 
 pub cancel_in_a_search_leaves_the_mark : (after (start (codes "abcd") 2 40) (Mark ∷ Find ∷ Insert 0x63 ∷ Cancel ∷ [])).mark ≡ Some 0
-unfolding unicode_segmentation unicode_width digits
+unfolding unicode_segmentation unicode_width digits unicode_normalization ucd_case
 cancel_in_a_search_leaves_the_mark = refl
 
 pub in_a_search_a_point_is_a_letter_of_the_query : (after (start (codes "xab") 2 40) (Find ∷ Insert 0x61 ∷ Insert 0x62 ∷ ErasePoint ∷ [])).query ≡ codes "a"
-unfolding unicode_segmentation unicode_width digits
+unfolding unicode_segmentation unicode_width digits unicode_normalization ucd_case
 in_a_search_a_point_is_a_letter_of_the_query = refl
 
 pub a_new_line_ends_a_search : found (codes "a\nb") (Find ∷ Insert 0x62 ∷ NewLine ∷ []) ≡ (2, (Off, None))
-unfolding unicode_segmentation unicode_width digits
+unfolding unicode_segmentation unicode_width digits unicode_normalization ucd_case
 a_new_line_ends_a_search = refl
 
 -- ---- the kept column

@@ -2,6 +2,8 @@
 use Rattle.std.proofs.Common.{◌≡◌, ℕ, zero, suc, ◌+◌, ◌<◌, [], ◌∷◌, true, get_or, refl, sym, ap, subst, ◌∙◌, arith}
 use Rattle.std.specs.Prelude.{codes, Some}
 use Rattle.std.specs.Fmt.{digits}
+use Rattle.ucd_case.proofs.Computing.{ucd_case}
+use Rattle.unicode_normalization.proofs.Computing.{unicode_normalization}
 use Rattle.unicode_segmentation.proofs.Computing.{unicode_segmentation}
 use Rattle.unicode_width.proofs.Computing.{unicode_width}
 use Rattle.bx_keys.specs.declared.key.Key.TheVariants.{Insert, Down, Forward, Find, RowEnd, ErasePoint, FindNext, LineDown, LineUp}
@@ -33,12 +35,12 @@ abbrev at_the_second_b : Editor
 at_the_second_b = after at_the_first_b (FindNext ∷ [])
 
 pub the_next_b_is_at_three : FindNextIsFindTwice → (after at_the_first_b (FindNext ∷ [])).place ≡ 3
-unfolding unicode_segmentation unicode_width digits
+unfolding unicode_segmentation unicode_width digits unicode_normalization ucd_case
 the_next_b_is_at_three law = ap (λ (e : Editor). e.place) (law tables at_the_first_b refl (λ e. cc e))
 
 pub from_the_last_the_first_is_next : FindNextIsFindTwice
     → let e = after at_the_second_b (FindNext ∷ []) in (e.place ≡ 1) × (e.message ≡ Some FromStart)
-unfolding unicode_segmentation unicode_width digits
+unfolding unicode_segmentation unicode_width digits unicode_normalization ucd_case
 from_the_last_the_first_is_next law =
     let twice = law tables at_the_second_b refl (λ e. cc e) in (ap (λ (e : Editor). e.place) twice, ap (λ (e : Editor). e.message) twice)
 

@@ -13,7 +13,7 @@ use Rattle.bx_document.specs.Document.{rows as document_rows}
 use Rattle.bx_ucd.specs.Data.{Data}
 use Rattle.bx_editor.specs.Editor.{Editor, rows, text_height}
 use Rattle.bx_editor.specs.Picture.{blank_picture, next_top, picture, text_picture}
-use Rattle.bx_editor.specs.Region.{region}
+use Rattle.bx_editor.specs.Replacing.{seen}
 use Rattle.bx_editor.specs.Status.{status_columns}
 use Rattle.bx_editor.proofs.OnItsCell.{stands}
 use Rattle.bx_editor.proofs.Shown.{all-blank, drawn-front, picture-is}
@@ -30,7 +30,11 @@ put_status-requires-clause-position g c =
       held = string_bytes i.held;
       query = string_bytes i.query;
       seek = i.seek;
+      aim = i.aim;
       origin = i.origin;
+      other = string_bytes i.other;
+      at = i.at;
+      count = i.count;
       ask = i.ask;
       answer = string_bytes i.answer;
       runs = i.runs.numbers;
@@ -58,7 +62,11 @@ returns-clause-top g c =
       held = string_bytes i.held;
       query = string_bytes i.query;
       seek = i.seek;
+      aim = i.aim;
       origin = i.origin;
+      other = string_bytes i.other;
+      at = i.at;
+      count = i.count;
       ask = i.ask;
       answer = string_bytes i.answer;
       runs = i.runs.numbers;
@@ -90,7 +98,11 @@ returns-clause-picture g c =
       held = string_bytes i.held;
       query = string_bytes i.query;
       seek = i.seek;
+      aim = i.aim;
       origin = i.origin;
+      other = string_bytes i.other;
+      at = i.at;
+      count = i.count;
       ask = i.ask;
       answer = string_bytes i.answer;
       runs = i.runs.numbers;
@@ -123,7 +135,11 @@ returns-clause-picture g c =
         held = string_bytes i.held;
         query = string_bytes i.query;
         seek = i.seek;
+        aim = i.aim;
         origin = i.origin;
+        other = string_bytes i.other;
+        at = i.at;
+        count = i.count;
         ask = i.ask;
         answer = string_bytes i.answer;
         runs = i.runs.numbers;
@@ -141,16 +157,16 @@ returns-clause-picture g c =
     }) c.show.ensures.same c.in_ok-put_status.ensures.status in
     let high = c.requires.height ∙ sym (ap (λ s. s.editor.height) c.self.view_is) in
     let wide = ap (λ x. x.width) drawn ∙ c.requires.width ∙ sym (ap (λ s. s.editor.width) c.self.view_is) in
-    let part = c.region-region.result in
-    let told : part ≡ region e = c.region-region.ensures.region ∙ ap (λ s. region s.editor) (sym c.self.view_is) in
+    let part = c.seen-region.result in
+    let told : part ≡ seen d e = c.seen-region.ensures ∙ ap (λ s. seen (g.D.BidiData.data s.tables) s.editor) (sym c.self.view_is) in
     let front = drawn-front was mid (shown_columns d i.document.document top part n) n (omega (arith, high, c.text_height-count.ensures.inside))
     c.columns-columns.ensures.grid.sized.each c.columns-columns-2.ensures.grid.sized.each drawn in
     let shown : take (text_height i.height * i.document.document.w) mid.columns
-    ≡ region_rows d e.width (region e) (text_height i.height) (shown_rows all top (text_height i.height)) =
+    ≡ region_rows d e.width (seen d e) (text_height i.height) (shown_rows all top (text_height i.height)) =
     ap₂ (λ t w. take (t * w) mid.columns) (sym c.text_height-count.ensures.rows) (sym wide) ∙ front
     ∙ ap₂ (λ p t. region_rows d e.width p t (shown_rows all top t)) told c.text_height-count.ensures.rows in
     subst (λ s. c.new-2.result ≡ picture (g.D.BidiData.data s.tables) s.editor top) c.self.view_is
-    (picture-is new (region_rows d e.width (region e) (text_height e.height) (shown_rows all top (text_height e.height)) ++ status_columns d e) e.height e.width
+    (picture-is new (region_rows d e.width (seen d e) (text_height e.height) (shown_rows all top (text_height e.height)) ++ status_columns d e) e.height e.width
     (row_of all e.place - row_of all top) (cell_of e.width all e.place) (c.in_ok-shown.shown.row + 1) c.in_ok-shown.shown.position.column c.new-2.result c.new-2.ensures
     (ap (λ x. x.height) status ∙ ap (λ x. x.height) drawn ∙ high) (ap (λ x. x.width) status ∙ wide)
     (ap (λ x. x.columns) status ∙ ap (λ cs. cs ++ status_columns d e) shown) (ap (λ k. k + 1) row) cell

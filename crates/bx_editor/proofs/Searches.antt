@@ -1,0 +1,184 @@
+-- What the keys of a search keep: while the query is asked for, while the other text is, and while a match is shown.
+use Rattle.std.proofs.Common.{◌≡◌, ℕ, ◌+◌, Bool, true, false, List, length, Option, Some, None, refl, if◌then◌else◌}
+use Rattle.std.specs.Prelude.{◌==◌, ◌&&◌, not, unwrap_or}
+use Rattle.bx_keys.specs.declared.key.Key.{Key}
+use Rattle.bx_store.specs.declared.store.StoreFault.{StoreFault}
+use Rattle.bx_runs.specs.declared.typing.Typing.{Typing}
+use Rattle.bx_text.specs.Edits.{fits}
+use Rattle.bx_ucd.specs.Data.{Data}
+use Rattle.bx_document.specs.Swapped.{behind_character, last_stop, swapped}
+use Rattle.bx_view.specs.Moves.{place_at}
+use Rattle.bx_editor.specs.declared.aim.Aim.{Aim}
+use Rattle.bx_editor.specs.declared.aim.Aim.TheVariants as aims
+use Rattle.bx_editor.specs.declared.matches.Landing.{Landing}
+use Rattle.bx_editor.specs.declared.message.Message.{Message}
+use Rattle.bx_editor.specs.declared.message.Message.TheVariants as messages
+use Rattle.bx_editor.specs.declared.seek.Seek.{Seek}
+use Rattle.bx_editor.specs.declared.seek.Seek.TheVariants.{Off, Typed, WithBegun, WithTyped, Replacing}
+use Rattle.bx_editor.specs.Editor.{Editor, rows, with_exchange, with_place, with_typing}
+use Rattle.bx_editor.specs.Effects.{Before, Seeks, by}
+use Rattle.bx_editor.specs.Keys.{Answer, Letter, Shortens, GoesBack, Next, Previous, Replaces, Stays, Ends, after_pressing, answered, answered_match, answered_other}
+use Rattle.bx_editor.specs.Putting.{is_paste, only_paste}
+use Rattle.bx_editor.specs.Replacing.{after_asking_other, after_ending, after_match_letter, after_other_letter, after_passing_over, after_replacing, after_replacing_all}
+use Rattle.bx_editor.specs.Replacing.{after_showing, after_sought_letter, asked_at, at_match, is_replacing, longest_other, match_stop, matches_on, next_match, on_from}
+use Rattle.bx_editor.specs.Replacing.{other_typed, shown_at, with_matches_replaced, with_other}
+use Rattle.bx_editor.specs.Search.{after_letter, backward, is_no_letter, kept, landed, landing_from, lengthened, longest_query, next_or_start, reading, search_from, shortened, sought}
+use Rattle.bx_editor.specs.Search.{with_query, without_search}
+
+-- matches that give way, moves, and what is told, sought and typed keep this property of editors
+pub record IsKeptSeeking (d : Data) (P : Editor → Type 0) : Type 0 where
+  pub exchanged : (e : Editor) (start stop : ℕ) (new : List ℕ) → P e → P (with_exchange d e start stop new)
+  pub told : (e : Editor) (message : Option Message) → P e → P (record e { message = message })
+  pub placed : (e : Editor) (place : ℕ) → P e → P (with_place e place)
+  pub typed : (e : Editor) (typing : Typing) → P e → P (with_typing e typing)
+  pub sought : (e : Editor) (seek : Seek) (aim : Aim) (origin : ℕ) (query other : List ℕ) (at count : ℕ) → P e
+      → P (record e { seek = seek; aim = aim; origin = origin; query = query; other = other; at = at; count = count })
+
+-- the key ends the search
+abbrev pub is_end : Answer → Bool
+is_end Ends = true
+is_end _ = false
+
+module _ (d : Data) (P : Editor → Type 0) (keeps : IsKeptSeeking d P) where
+  either : (b : Bool) (p q : Editor) → P p → P q → P (if b then p else q)
+  either true p q h k = h
+  either false p q h k = k
+
+  -- in this state of the search
+  seeking : (e : Editor) (seek : Seek) → P e → P (record e { seek = seek })
+  seeking e seek h = keeps.sought e seek e.aim e.origin e.query e.other e.at e.count h
+
+  landing : (e : Editor) (l : Landing) → P e → P (landed e l)
+  landing e l h = let place = unwrap_or l.place e.place in keeps.told (with_place e place) l.message (keeps.placed e place h)
+
+  queried : (e : Editor) (query : List ℕ) → P e → P (with_query e query)
+  queried e query h = keeps.sought e Typed e.aim e.origin query e.other e.at e.count h
+
+  searching : (e : Editor) (x : ℕ) → P e → P (search_from d x e)
+  searching e x h = landing e (landing_from d x e) h
+
+  -- ---- while the query is asked for
+
+  letter : (e : Editor) (c : ℕ) → P e → P (after_letter d e c)
+  letter e c h =
+      let query = lengthened longest_query (kept e.seek e.query) c in
+      let longer = with_query e query in
+      either (c == 0xA) (without_search e) (if is_no_letter d c then e else search_from d e.place longer) (seeking e Off h)
+      (either (is_no_letter d c) e (search_from d e.place longer) h (searching longer e.place (queried e query h)))
+
+  asked : (e : Editor) (place : Option ℕ) → P e → P (asked_at place e)
+  asked e None h = seeking e Typed h
+  asked e (Some place) h = keeps.sought e WithBegun e.aim e.origin e.query e.other e.at 0 h
+
+  asking : (e : Editor) → P e → P (after_asking_other d e)
+  asking e h =
+      let aimed : Editor = record e { aim = aims.Replace } in
+      let l = landing_from d aimed.place aimed in
+      let k : P aimed = keeps.sought e e.seek aims.Replace e.origin e.query e.other e.at e.count h in
+      either (length (sought d aimed) == 0) aimed (asked_at l.place (landed aimed l)) k (asked (landed aimed l) l.place (landing aimed l k))
+
+  sought-letter : (typing : Typing) (e : Editor) (c : ℕ) → P e → P (after_sought_letter d typing e c)
+  sought-letter typing e c h =
+      either ((c == 0xA) && is_replacing e.aim) (if is_paste typing then e else after_asking_other d e) (after_letter d e c)
+      (either (is_paste typing) e (after_asking_other d e) h (asking e h)) (letter e c h)
+
+  -- `pressed`: a key that ends the search
+  pub query-keeps : (fault : Option StoreFault) (was : Before) (e : Editor) (key : Key) (answer : Answer) → P e
+      → (is_end answer ≡ true → P (after_pressing d fault was e key)) → P (answered d fault was e key answer)
+  query-keeps fault was e key (Letter c) h pressed =
+      keeps.typed (after_sought_letter d was.typing e c) (only_paste was.typing) (sought-letter was.typing e c h)
+  query-keeps fault was e key Shortens h pressed =
+      let query = shortened (kept e.seek e.query) in
+      searching (with_place (with_query e query) e.origin) e.origin (keeps.placed (with_query e query) e.origin (queried e query h))
+  query-keeps fault was e key GoesBack h pressed = keeps.placed (without_search e) e.origin (seeking e Off h)
+  query-keeps fault was e key Next h pressed = searching (record e { seek = Typed }) (next_or_start d e) (seeking e Typed h)
+  query-keeps fault was e key Previous h pressed =
+      landing (record e { seek = Typed }) (backward d (reading e.aim) (rows d e) e.content.text e.place (sought d e)) (seeking e Typed h)
+  query-keeps fault was e key Replaces h pressed = asking e h
+  query-keeps fault was e key Stays h pressed = keeps.typed e was.typing h
+  query-keeps fault was e key Ends h pressed = seeking (after_pressing d fault was e key) Off (pressed refl)
+
+  -- ---- while the other text is asked for
+
+  othered : (e : Editor) (other : List ℕ) → P e → P (with_other e other)
+  othered e other h = keeps.sought e WithTyped e.aim e.origin e.query other e.at e.count h
+
+  shown : (e : Editor) (at : Option ℕ) → P e → P (shown_at e at)
+  shown e None h = h
+  shown e (Some at) h = keeps.sought e Replacing e.aim e.origin e.query e.other at e.count h
+
+  showing : (e : Editor) → P e → P (after_showing d e)
+  showing e h = shown e (next_match d e e.place) h
+
+  other-letter : (typing : Typing) (e : Editor) (c : ℕ) → P e → P (after_other_letter d typing e c)
+  other-letter typing e c h =
+      let longer = with_other e (lengthened longest_other (kept e.seek e.other) c) in
+      either (c == 0xA) (if is_paste typing then e else after_showing d e) (other_typed d e c)
+      (either (is_paste typing) e (after_showing d e) h (showing e h))
+      (either (is_no_letter d c) e longer h (othered e (lengthened longest_other (kept e.seek e.other) c) h))
+
+  -- `begun`: another search begins; `pressed`: a key that ends the search
+  pub other-keeps : (fault : Option StoreFault) (was : Before) (e : Editor) (key : Key) (answer : Answer) → P e
+      → P (by d fault was (without_search e) (Seeks aims.Find)) → (is_end answer ≡ true → P (after_pressing d fault was (without_search e) key))
+      → P (answered_other d fault was e key answer)
+  other-keeps fault was e key (Letter c) h begun pressed =
+      keeps.typed (after_other_letter d was.typing e c) (only_paste was.typing) (other-letter was.typing e c h)
+  other-keeps fault was e key Shortens h begun pressed = othered e (shortened (kept e.seek e.other)) h
+  other-keeps fault was e key GoesBack h begun pressed = keeps.placed (without_search e) e.origin (seeking e Off h)
+  other-keeps fault was e key Next h begun pressed = begun
+  other-keeps fault was e key Previous h begun pressed = begun
+  other-keeps fault was e key Replaces h begun pressed = showing e h
+  other-keeps fault was e key Stays h begun pressed = keeps.typed e was.typing h
+  other-keeps fault was e key Ends h begun pressed = pressed refl
+
+  -- ---- while a match is shown
+
+  ending : (e : Editor) → P e → P (after_ending e)
+  ending e h = keeps.told (without_search e) (Some (messages.Replaced e.count)) (seeking e Off h)
+
+  full : (e : Editor) → P e → P (record e { message = Some messages.TextFull })
+  full e h = keeps.told e (Some messages.TextFull) h
+
+  there : (e : Editor) (at : Option ℕ) → P e → P (at_match d e at)
+  there e None h = ending e h
+  there e (Some at) h =
+      keeps.placed (record e { seek = Replacing; at = at }) (place_at (rows d e) at) (keeps.sought e Replacing e.aim e.origin e.query e.other at e.count h)
+
+  onward : (e : Editor) (x : ℕ) → P e → P (on_from d x e)
+  onward e x h = there e (next_match d e x) h
+
+  replaced : (e : Editor) (stop : ℕ) (new : List ℕ) (n : ℕ) → P e → P (with_matches_replaced d e stop new n)
+  replaced e stop new n h =
+      let x = with_exchange d e e.at stop new in
+      keeps.sought x x.seek x.aim 0 x.query x.other x.at (e.count + n) (keeps.exchanged e e.at stop new h)
+
+  replacing : (e : Editor) → P e → P (after_replacing d e)
+  replacing e h =
+      let stop = match_stop d e in
+      let new = with_matches_replaced d e stop e.other 1 in
+      either (fits e.content.text e.at stop e.other) (on_from d (e.at + length e.other) new) (record e { message = Some messages.TextFull })
+      (onward new (e.at + length e.other) (replaced e stop e.other 1 h)) (full e h)
+
+  replacing-all : (e : Editor) → P e → P (after_replacing_all d e)
+  replacing-all e h =
+      let all = matches_on d e in
+      let stop = last_stop e.at all in
+      let new = swapped e.at e.content.text e.other all in
+      either (fits e.content.text e.at stop new) (after_ending (with_matches_replaced d e stop new (length all))) (record e { message = Some messages.TextFull })
+      (ending (with_matches_replaced d e stop new (length all)) (replaced e stop new (length all) h)) (full e h)
+
+  match-letter : (typing : Typing) (e : Editor) (c : ℕ) → P e → P (after_match_letter d typing e c)
+  match-letter typing e c h = either ((c == 0xA) && not (is_paste typing)) (after_replacing d e) e (replacing e h) h
+
+  pub match-keeps : (fault : Option StoreFault) (was : Before) (e : Editor) (key : Key) (answer : Answer) → P e
+      → P (by d fault was (without_search e) (Seeks aims.Find)) → (is_end answer ≡ true → P (after_pressing d fault was (without_search e) key))
+      → P (answered_match d fault was e key answer)
+  match-keeps fault was e key (Letter c) h begun pressed =
+      keeps.typed (after_match_letter d was.typing e c) (only_paste was.typing) (match-letter was.typing e c h)
+  match-keeps fault was e key Shortens h begun pressed = h
+  match-keeps fault was e key GoesBack h begun pressed = ending e h
+  match-keeps fault was e key Next h begun pressed = onward e (behind_character e.content.text e.at) h
+  match-keeps fault was e key Previous h begun pressed = begun
+  match-keeps fault was e key Replaces h begun pressed = replacing-all e h
+  match-keeps fault was e key Stays h begun pressed = keeps.typed e was.typing h
+  match-keeps fault was e key Ends h begun pressed = pressed refl
