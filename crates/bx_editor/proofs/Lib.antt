@@ -69,4 +69,11 @@ pub mod AnswersStay
 pub mod ParagraphAround
 pub mod IsolatedRegion
 pub mod CodePut
+pub mod MatchLetters
+pub mod MatchesApart
+pub mod PlacesBetween
+pub mod QuietSearch
+pub mod ShownMatch
+pub mod ShownStands
+pub mod ReplacedBack
 mod ReplaceExamples

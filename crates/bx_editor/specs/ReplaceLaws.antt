@@ -17,7 +17,7 @@ use Rattle.bx_editor.specs.declared.seek.Seek.TheVariants.{Off, Replacing}
 use Rattle.bx_editor.specs.AskingLaws.{is_enter}
 use Rattle.bx_editor.specs.Editor.{Editor, at_start, place_after, rows}
 use Rattle.bx_editor.specs.Keys.{after_key, after_keys}
-use Rattle.bx_editor.specs.Laws.{after_typing}
+use Rattle.bx_editor.specs.Laws.{after_typing, HasRows}
 use Rattle.bx_editor.specs.Putting.{is_paste}
 use Rattle.bx_editor.specs.Replacing.{match_stop}
 use Rattle.bx_editor.specs.RunLaws.{IsBackBefore}
@@ -31,11 +31,17 @@ pub record StandsThere (d : Data) (e : Editor) : Type 0 where
   pub here : MatchesAt d (sought d e) e.content.text e.at
   pub place_is : e.place ≡ place_at (rows d e) e.at
 
+-- while these keys are typed the text is UTF-8 and the window has from 1 to 500 columns, as in every editor of the code
+abbrev pub HaveRows : Data → Editor → List (Key × Option StoreFault) → Type 0
+HaveRows d e [] = HasRows e
+HaveRows d e (key ∷ typed) = HasRows e × HaveRows d (after_key d key.1 e key.0) typed
+
 -- a match is shown only where the query stands, whatever was typed over an opened text
 abbrev pub ShownStands : Type 0
 ShownStands =
-    (d : Data) (text : List ℕ) (height width : ℕ) (base : Base) (typed : List (Key × Option StoreFault)) → IsUtf8 text
-    → let e = after_typing d (at_start text height width base) typed in e.seek ≡ Replacing → StandsThere d e
+    (d : Data) (text : List ℕ) (height width : ℕ) (base : Base) (typed : List (Key × Option StoreFault))
+    → let start = at_start text height width base in HaveRows d start typed
+    → let e = after_typing d start typed in e.seek ≡ Replacing → StandsThere d e
 
 -- a match is shown, as in an editor of the code
 pub record IsShowing (d : Data) (e : Editor) : Type 0 where

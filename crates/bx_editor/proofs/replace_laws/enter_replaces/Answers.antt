@@ -1,0 +1,5 @@
+use Rattle.bx_editor.proofs.ShownMatch.{enter-replaces}
+use Rattle.bx_editor.proofs.replace_laws.enter_replaces.Goals as goal
+
+pub returns : goal.returns
+returns c = enter-replaces
