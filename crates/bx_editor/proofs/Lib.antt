@@ -74,3 +74,4 @@ pub mod ShownMatch
 pub mod ShownStands
 pub mod ReplacedBack
 mod ReplaceExamples
+mod ReplaceLawExamples
