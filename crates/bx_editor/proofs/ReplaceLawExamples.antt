@@ -1,6 +1,6 @@
 -- Worked examples, each from a law of replacing alone.
-use Rattle.std.proofs.Common.{◌≡◌, ℕ, zero, suc, ◌-◌, ◌<◌, ◌≤◌, List, [], ◌∷◌, ◌++◌, length, map, get_or, take, drop, refl, sym, ap, ap₂, subst, ◌∙◌, arith, inl, inr}
-use Rattle.std.specs.Prelude.{codes, encode_utf8_all, slice_range, All, IsUtf8, Option, None}
+use Rattle.std.proofs.Common.{◌≡◌, ℕ, zero, suc, ◌<◌, ◌≤◌, List, [], ◌∷◌, ◌++◌, length, map, get_or, refl, sym, ap, ap₂, subst, ◌∙◌, arith, inl, inr}
+use Rattle.std.specs.Prelude.{codes, encode_utf8_all, All, IsUtf8, Option, None}
 use Rattle.std.specs.Fmt.{digits}
 use Rattle.std.specs.Str.{chars}
 use Rattle.std.proofs.lemmas.List.Elements.{All-cons, All-contains, All-head, All-nil, All-tail, All-weaker}
@@ -13,9 +13,11 @@ use Rattle.bx_keys.specs.declared.key.Key.TheVariants.{Find, Insert, Replace, Un
 use Rattle.bx_store.specs.declared.store.StoreFault.{StoreFault}
 use Rattle.bx_find.specs.Laws.{MatchesAt}
 use Rattle.bx_find.specs.Letters.{letters_by}
+use Rattle.bx_find.specs.Spans.{match_end}
 use Rattle.bx_find.specs.declared.reading.Reading.TheVariants.{Close}
-use Rattle.bx_editor.specs.Editor.{Editor}
-use Rattle.bx_editor.specs.ReplaceLaws.{with_all, AreApart, EnterReplaces, FindPassesOver, IsShowing, LiesIn, ReplacedComesBack, ReplaceReplacesAll, SameLettersStay, ShownStands}
+use Rattle.bx_view.specs.Moves.{place_at}
+use Rattle.bx_editor.specs.Editor.{Editor, rows}
+use Rattle.bx_editor.specs.ReplaceLaws.{with_all, AreApart, EnterReplaces, FindPassesOver, IsMatch, IsShowing, LiesIn, ReplacedComesBack, ReplaceReplacesAll, SameLettersStay, ShownStands}
 use Rattle.bx_editor.proofs.Computed.{tables, start, after, letters}
 
 abbrev enter : Key
@@ -103,14 +105,17 @@ is_three (suc (suc zero)) from to here = absurd (not_at_two here)
 is_three (suc (suc (suc zero))) from to here = refl
 is_three (suc (suc (suc (suc at)))) from to here = absurd (omega (arith, to))
 
-pub the_next_b_is_at_three : FindPassesOver → let e = after at_b (Find ∷ []) in (e.content.text ≡ codes "abcb") × (e.at ≡ 3)
+pub the_next_b_is_at_three : FindPassesOver → let e = after at_b (Find ∷ []) in (e.content.text ≡ codes "abcb") × (e.place ≡ 3)
 unfolding unicode_segmentation unicode_width digits
 the_next_b_is_at_three law =
     let passed = law tables at_b b_is_shown in
     let e = after at_b (Find ∷ []) in (
       ap (λ t. t.text) passed.content_is,
       elim passed.goes_on [
-        | inl shown ↦ is_three e.at shown.1.not_before (shown.1.least 3 (omega arith) b_stands_at_three) shown.1.is_match
+        | inl shown ↦
+            let first = shown.1.0 in
+            let at = is_three e.at first.not_before (first.least 3 (omega arith) b_stands_at_three) first.is_match in
+            shown.1.1 ∙ ap (place_at (rows tables at_b)) at
         | inr ended ↦ absurd (ended.1.1 3 (omega arith) b_stands_at_three)
       ],
     )
@@ -163,9 +168,6 @@ both_are_shown = record {
   stands = record { aim_is = refl; here = ((omega arith, λ inside high. absurd (omega (arith, high))), refl); place_is = refl };
 }
 
-abbrev HasB : ℕ × ℕ → Type 0
-HasB s = spelt (slice_range (codes "bb") s.0 s.1) ≡ codes "b"
-
 -- matches that lie apart begin in order
 later : (from : ℕ) (spans : List (ℕ × ℕ)) → AreApart from spans → All (λ t. from ≤ t.0) spans
 later from [] apart = All-nil (λ (t : ℕ × ℕ). from ≤ t.0)
@@ -179,47 +181,41 @@ first_begins i from s ss apart before lies =
     let order = All-contains (λ (t : ℕ × ℕ). s.0 ≤ t.0) (s ∷ ss) lies.0 (later s.0 (s ∷ ss) (omega arith, apart.1)) lies.1 in
     omega (arith, apart.0, before, order, lies.2)
 
-taken_from_none : (n : ℕ) → take n (let none : List ℕ = [] in none) ≡ []
-taken_from_none zero = refl
-taken_from_none (suc n) = refl
-
-dropped_from_none : (n : ℕ) → drop n (let none : List ℕ = [] in none) ≡ []
-dropped_from_none zero = refl
-dropped_from_none (suc n) = refl
-
-behind_both : (n : ℕ) → 2 ≤ n → drop n (codes "bb") ≡ []
-behind_both zero h = absurd (omega (arith, h))
-behind_both (suc zero) h = absurd (omega (arith, h))
-behind_both (suc (suc n)) h = dropped_from_none n
-
-two_are_not_one : (n : ℕ) → spelt (take (suc (suc n)) (codes "bb")) ≡ codes "b" → ⊥
+-- behind both nothing stands
+none_at : (n : ℕ) → 2 ≤ n → ¬ (MatchesAt tables (codes "b") (codes "bb") n)
 unfolding unicode_segmentation unicode_width digits
-two_are_not_one n is = let both = ap (λ (rest : List ℕ). spelt (0x62 ∷ 0x62 ∷ rest)) (taken_from_none n) in absurd (cc (sym both ∙ is))
+none_at zero past here = absurd (omega (arith, past))
+none_at (suc zero) past here = absurd (omega (arith, past))
+none_at (suc (suc zero)) past here = absurd (cc here.1)
+none_at (suc (suc (suc n))) past here = absurd (omega (arith, here.0.0))
 
-one_wide : (stop : ℕ) → 0 < stop → HasB (0, stop) → stop ≡ 1
-one_wide zero some is = absurd (omega (arith, some))
-one_wide (suc zero) some is = refl
-one_wide (suc (suc n)) some is =
-    let wide : suc (suc n) - 0 ≡ suc (suc n) = omega arith in absurd (two_are_not_one n (ap (λ m. spelt (take m (codes "bb"))) (sym wide) ∙ is))
+abbrev AreMatches : List (ℕ × ℕ) → Type 0
+AreMatches spans = All (IsMatch tables at_both) spans
 
-none_behind : (from : ℕ) (spans : List (ℕ × ℕ)) → 2 ≤ from → AreApart from spans → All HasB spans → spans ≡ []
+none_behind : (from : ℕ) (spans : List (ℕ × ℕ)) → 2 ≤ from → AreApart from spans → AreMatches spans → spans ≡ []
 unfolding unicode_segmentation unicode_width digits
-none_behind from [] past apart have = refl
-none_behind from (s ∷ ss) past apart have =
-    let nothing : slice_range (codes "bb") s.0 s.1 ≡ [] =
-    ap (take (s.1 - s.0)) (behind_both s.0 (omega (arith, past, apart.0))) ∙ taken_from_none (s.1 - s.0) in
-    absurd (cc (sym (ap spelt nothing) ∙ All-head HasB s ss have))
+none_behind from [] past apart are = refl
+none_behind from (s ∷ ss) past apart are =
+    absurd (none_at s.0 (omega (arith, past, apart.0)) (All-head (IsMatch tables at_both) s ss are).0)
 
--- the second is behind the first, and the last
-abbrev AreBoth : List (ℕ × ℕ) → Type 0
-AreBoth spans = (stop : ℕ) × (2 ≤ stop) × (spans ≡ (0, 1) ∷ (1, stop) ∷ [])
+-- the match that begins at an offset
+begins_at : (s : ℕ × ℕ) (n : ℕ) → IsMatch tables at_both s → s.0 ≡ n → s ≡ (n, match_end tables Close (codes "b") (codes "bb") n)
+unfolding unicode_segmentation unicode_width digits
+begins_at s n is begins = ap₂ (λ (a b : ℕ). (a, b)) begins (is.1 ∙ ap (match_end tables Close (codes "b") (codes "bb")) begins)
 
-second : (spans : List (ℕ × ℕ)) → AreApart 1 spans → All HasB spans → LiesIn 1 spans → (stop : ℕ) × (2 ≤ stop) × (spans ≡ (1, stop) ∷ [])
-second [] apart have lies = absurd (omega (arith, lies.1.1))
-second (s ∷ ss) apart have lies =
-    let begins = first_begins 1 1 s ss apart (omega arith) lies in
-    let stop : 2 ≤ s.1 = omega (arith, begins, apart.1.0) in
-    let none = none_behind s.1 ss stop apart.1.1 (All-tail HasB s ss have) in (s.1, stop, ap₂ (λ n (rest : List (ℕ × ℕ)). (n, s.1) ∷ rest) begins none)
+first_at : (i from : ℕ) (s : ℕ × ℕ) (ss : List (ℕ × ℕ)) → AreApart from (s ∷ ss) → AreMatches (s ∷ ss) → i ≤ from → LiesIn i (s ∷ ss)
+    → s ≡ (i, match_end tables Close (codes "b") (codes "bb") i)
+first_at i from s ss apart are before lies =
+    begins_at s i (All-head (IsMatch tables at_both) s ss are) (first_begins i from s ss apart before lies)
+
+-- the second is the last
+second : (spans : List (ℕ × ℕ)) → AreApart 1 spans → AreMatches spans → LiesIn 1 spans → spans ≡ (1, 2) ∷ []
+unfolding unicode_segmentation unicode_width digits
+second [] apart are lies = absurd (omega (arith, lies.1.1))
+second (s ∷ ss) apart are lies =
+    let here : s ≡ (1, 2) = first_at 1 1 s ss apart are (omega arith) lies in
+    let stop : 2 ≤ s.1 = omega (arith, ap (λ (t : ℕ × ℕ). t.1) here) in
+    let none = none_behind s.1 ss stop apart.1.1 (All-tail (IsMatch tables at_both) s ss are) in ap₂ (λ (t : ℕ × ℕ) (ts : List (ℕ × ℕ)). t ∷ ts) here none
 
 lies_behind : (s t : ℕ × ℕ) (ss : List (ℕ × ℕ)) (i : ℕ) → s.1 ≤ 1 → i < length (s ∷ ss) → get_or (s ∷ ss) i t ≡ t → t.0 ≤ 1 → 1 < t.1 → LiesIn 1 ss
 lies_behind s t ss zero stop inside is before after = absurd (omega (arith, stop, after, ap (λ (u : ℕ × ℕ). u.1) is))
@@ -228,25 +224,22 @@ lies_behind s t ss (suc i) stop inside is before after = (t, (i, omega (arith, i
 behind_first : (s : ℕ × ℕ) (ss : List (ℕ × ℕ)) → s.1 ≤ 1 → LiesIn 1 (s ∷ ss) → LiesIn 1 ss
 behind_first s ss stop lies = lies_behind s lies.0 ss lies.1.0 stop lies.1.1 lies.1.2 lies.2 lies.3
 
-both : (spans : List (ℕ × ℕ)) → AreApart 0 spans → All HasB spans → LiesIn 0 spans → LiesIn 1 spans → AreBoth spans
-both [] apart have lies later = absurd (omega (arith, lies.1.1))
-both (s ∷ ss) apart have lies later =
-    let begins = first_begins 0 0 s ss apart (omega arith) lies in
-    let one = one_wide s.1 (omega (arith, apart.1.0)) (ap (λ n. spelt (slice_range (codes "bb") n s.1)) (sym begins) ∙ All-head HasB s ss have) in
-    let rest = second ss (subst (λ n. AreApart n ss) one apart.1.1) (All-tail HasB s ss have) (behind_first s ss (omega (arith, one)) later) in
-    (rest.0, rest.1, ap₂ (λ (t : ℕ × ℕ) (ts : List (ℕ × ℕ)). t ∷ ts) (ap₂ (λ a b. (a, b)) begins one) rest.2)
-
-all_are : (stop : ℕ) → 2 ≤ stop → with_all at_both ((0, 1) ∷ (1, stop) ∷ []) ≡ codes "xx"
+both : (spans : List (ℕ × ℕ)) → AreApart 0 spans → AreMatches spans → LiesIn 0 spans → LiesIn 1 spans → spans ≡ (0, 1) ∷ (1, 2) ∷ []
 unfolding unicode_segmentation unicode_width digits
-all_are stop past = ap (λ (rest : List ℕ). codes "xx" ++ rest) (behind_both stop past)
+both [] apart are lies also = absurd (omega (arith, lies.1.1))
+both (s ∷ ss) apart are lies also =
+    let here : s ≡ (0, 1) = first_at 0 0 s ss apart are (omega arith) lies in
+    let stop : s.1 ≡ 1 = ap (λ (t : ℕ × ℕ). t.1) here in
+    let rest = second ss (subst (λ n. AreApart n ss) stop apart.1.1) (All-tail (IsMatch tables at_both) s ss are) (behind_first s ss (omega (arith, stop)) also) in
+    ap₂ (λ (t : ℕ × ℕ) (ts : List (ℕ × ℕ)). t ∷ ts) here rest
 
 pub both_are_replaced : ReplaceReplacesAll → let e = after at_both (Replace ∷ []) in (e.content.text ≡ codes "xx") × (e.count ≡ 2)
 unfolding unicode_segmentation unicode_width digits
 both_are_replaced law =
     let all = law tables at_both both_are_shown in
     let first : MatchesAt tables (codes "b") (codes "bb") 0 = ((omega arith, λ inside high. absurd (omega (arith, high))), refl) in
-    let second : MatchesAt tables (codes "b") (codes "bb") 1 = ((omega arith, λ inside high. absurd (omega (arith, high))), refl) in
-    let are = both all.spans all.are.apart all.are.letters_are (all.are.all 0 (omega arith) first) (all.are.all 1 (omega arith) second) in
-    let text : with_all at_both all.spans ≡ codes "xx" = ap (with_all at_both) are.2 ∙ all_are are.0 are.1 in
+    let next : MatchesAt tables (codes "b") (codes "bb") 1 = ((omega arith, λ inside high. absurd (omega (arith, high))), refl) in
+    let are = both all.spans all.are.apart all.are.are_matches (all.are.all 0 (omega arith) first) (all.are.all 1 (omega arith) next) in
+    let text : with_all at_both all.spans ≡ codes "xx" = ap (with_all at_both) are in
     let put = all.fits (subst (λ bytes. length bytes ≤ largest_text) (sym text) (omega arith)) in
-    (put.text_is ∙ text, omega (arith, put.count_is, ap (λ (ss : List (ℕ × ℕ)). length ss) are.2))
+    (put.text_is ∙ text, omega (arith, put.count_is, ap (λ (ss : List (ℕ × ℕ)). length ss) are))
