@@ -73,7 +73,8 @@ pub mod MatchLetters
 pub mod MatchesApart
 pub mod PlacesBetween
 pub mod QuietSearch
-pub mod ShownMatch
+pub mod MatchReplaced
 pub mod ShownStands
 pub mod ReplacedBack
 mod ReplaceExamples
+mod ReplaceLawExamples

@@ -22,7 +22,7 @@ use Rattle.bx_find.proofs.SpansOf.{spans_are}
 use Rattle.bx_document.specs.Swapped.{behind_character, last_stop, swapped}
 use Rattle.bx_editor.specs.declared.aim.Aim.TheVariants as aims
 use Rattle.bx_editor.specs.declared.message.Message.TheVariants.{TextFull}
-use Rattle.bx_editor.specs.declared.seek.Seek.TheVariants.{Replacing}
+use Rattle.bx_editor.specs.declared.seek.Seek.TheVariants.{Off, Replacing}
 use Rattle.bx_editor.specs.AskingLaws.{is_enter}
 use Rattle.bx_editor.specs.Editor.{Editor, cleared, place_after, with_exchange, with_typing}
 use Rattle.bx_editor.specs.Effects.{before}
@@ -32,7 +32,7 @@ use Rattle.bx_editor.specs.ReplaceLaws.{AreTheMatches, DoesReplace, EnterReplace
 use Rattle.bx_editor.specs.ReplaceLaws.{IsFull, IsShowing, PassesOver, ReplaceReplacesAll, ReplacesMatch, ReplacesMatches, SameLettersStay}
 use Rattle.bx_editor.specs.Replacing.{after_ending, after_match_letter, after_passing_over, after_replacing, after_replacing_all, at_match, match_stop, matches_on, next_match, on_from, with_matches_replaced}
 use Rattle.bx_editor.specs.Search.{reading, sought}
-use Rattle.bx_editor.proofs.MatchesApart.{all-lie, apart, last-after, last-bound, letters-are}
+use Rattle.bx_editor.proofs.MatchesApart.{all-lie, apart, are-spans, last-after, last-bound, letters-are}
 use Rattle.bx_editor.proofs.MatchLetters.{all-swapped, end-letters, match-bound, match-letters, match-some, one-swapped, spelt}
 
 -- ---- which key it is
@@ -133,11 +133,12 @@ record WentOn (d : Data) (e : Editor) (z : ℕ) (new : Editor) : Type 0 where
   pub content_is : new.content ≡ e.content
   pub count_is : new.count ≡ e.count
   pub goes_on : GoesOn d new z
+  pub ended : new.seek ≡ Off → new.place ≡ e.place
 
 went-to : (d : Data) (e : Editor) (z : ℕ) (o : Option ℕ)
     → MatchOption o ((i : ℕ) → z ≤ i → ¬ (MatchesAt d (sought d e) e.content.text i)) (IsFirst d (sought d e) e.content.text z) → WentOn d e z (at_match d e o)
-went-to d e z None none = record { content_is = refl; count_is = refl; goes_on = inr (refl, (refl, none)) }
-went-to d e z (Some at) first = record { content_is = refl; count_is = refl; goes_on = inl (refl, first) }
+went-to d e z None none = record { content_is = refl; count_is = refl; goes_on = inr (refl, (refl, none)); ended = λ off. refl }
+went-to d e z (Some at) first = record { content_is = refl; count_is = refl; goes_on = inl (refl, (first, refl)); ended = λ off. absurd (cc off) }
 
 went-on : (d : Data) (e : Editor) (z : ℕ) → IsUtf8 e.content.text → e.aim ≡ aims.Replace → WentOn d e z (on_from d z e)
 went-on d e z u aim =
@@ -181,7 +182,7 @@ module _ (d : Data) (e : Editor) (h : IsShowing d e) where
   there = has-match d e h
 
   full : (key : Key) (typing : Typing) → IsFull e (as_left key (record was { message = Some TextFull; typing = typing }))
-  full key typing = record { content_is = refl; place_is = refl; shown = h.shown; count_is = refl; message_is = refl }
+  full key typing = record { content_is = refl; place_is = refl; shown = h.shown; at_is = refl; count_is = refl; message_is = refl }
 
   one-is : (key : Key) (typing : Typing) → fits e.content.text e.at (match_stop d e) e.other ≡ true
       → HasReplacedOne d e (as_left key (with_typing (after_replacing d was) typing))
@@ -199,6 +200,7 @@ module _ (d : Data) (e : Editor) (h : IsShowing d e) where
         text_is = ap (λ t. t.text) went.content_is ∙ put.text_is;
         count_is = went.count_is;
         goes_on = went.goes_on;
+        ended = λ off. went.ended off ∙ put.place_is;
       })
 
   one-full : (key : Key) (typing : Typing) → fits e.content.text e.at (match_stop d e) e.other ≡ false
@@ -245,6 +247,7 @@ module _ (d : Data) (e : Editor) (h : IsShowing d e) where
 
   are-matches : AreTheMatches d e all
   are-matches = record {
+    are_matches = are-spans d (sought d e) e.content.text h.text e.at all (follow d e h);
     apart = apart d (sought d e) e.content.text h.text e.at all (follow d e h);
     letters_are = letters-are d (sought d e) e.content.text h.text e.at all (follow d e h);
     all = all-lie d (sought d e) e.content.text h.text e.at all (follow d e h);
@@ -299,7 +302,7 @@ pub find-passes-over : FindPassesOver
 find-passes-over d e h =
     let went = went-on d (cleared e) (behind_character e.content.text e.at) h.text h.stands.aim_is in
     subst (PassesOver d e) (sym (passed-over d e h.unasked h.shown))
-    (record { content_is = went.content_is; count_is = went.count_is; goes_on = went.goes_on })
+    (record { content_is = went.content_is; count_is = went.count_is; goes_on = went.goes_on; ended = went.ended })
 
 pub replace-replaces-all : ReplaceReplacesAll
 replace-replaces-all d e h =
