@@ -36,6 +36,11 @@ pub mod PointErased
 pub mod NextMatch
 pub mod WorkLawExamples
 pub mod TwoEdits
+pub mod MovedMatches
+pub mod MatchSpans
+pub mod ShownMatch
+pub mod Exchanged
+pub mod NextShown
 pub mod RunSteps
 pub mod HeldApart
 pub mod ManySteps
