@@ -41,6 +41,7 @@ pub mod MatchSpans
 pub mod ShownMatch
 pub mod Exchanged
 pub mod NextShown
+pub mod AskedOther
 pub mod RunSteps
 pub mod HeldApart
 pub mod ManySteps

@@ -18,6 +18,7 @@ use Rattle.bx_document.proofs.PlaceAfter.{splice_bytes}
 use Rattle.bx_editor.specs.declared.aim.Aim.{Aim}
 use Rattle.bx_editor.specs.declared.seek.Seek.{Seek}
 use Rattle.bx_editor.specs.declared.seek.Seek.TheVariants.{Off, Begun, Typed, WithBegun, WithTyped, Replacing}
+use Rattle.bx_editor.specs.Editor.{EditorState}
 use Rattle.bx_editor.specs.Origin.{BeganAt, IsAsked, IsAtMatch, StandsAt, asks_other, is_queried}
 use Rattle.bx_editor.specs.Search.{reading}
 use Rattle.bx_editor.proofs.MatchSpans.{no-more-than-bytes}
@@ -57,6 +58,16 @@ module _ (d : Data) (r : Reading) (sought text : List ℕ) (u : IsUtf8 text) whe
   end-behind at h = (span_found d r sought text u at at (here-by at _ (first_by_is d r sought text at u) h)).1.0
 
 -- ---- while it is shown
+
+-- an editor's state that is seen in another way shows the same match
+pub shown-in : {D : Type 0} (says : D → Data) (was now : EditorState D) → was ≡ now → now.editor.seek ≡ Replacing
+    → StandsAt (says was.tables) was.editor.aim was.editor.query was.editor.content.text was.editor.seek was.editor.at was.editor.count
+    → IsAtMatch (says now.tables) now.editor.aim now.editor.query now.editor.content.text now.editor.at now.editor.count
+shown-in {D = D} says was now same is h =
+    let stands : EditorState D → Type 0 = λ s.
+    StandsAt (says s.tables) s.editor.aim s.editor.query s.editor.content.text s.editor.seek s.editor.at s.editor.count in
+    subst (λ seek. StandsAt (says now.tables) now.editor.aim now.editor.query now.editor.content.text seek now.editor.at now.editor.count) is
+    (subst stands same h)
 
 module _ (d : Data) (aim : Aim) (query text : List ℕ) where
   -- the query's letters
