@@ -92,9 +92,9 @@ impl<D: BidiData + Drop> Editor<D> {
         requires asked { asks_other self.old.editor.seek ≡ true }
         ensures { self.new ≡ record self.old { editor = after_showing (D.data self.old.tables) (cleared self.old.editor) } }
     {
+        self.clear();
         // proof only: the text is UTF-8 and within its limit
         let _utf8 = self.document.len();
-        self.clear();
         let Some(query) = self.sought() else {
             return;
         };

@@ -1,5 +1,5 @@
 //! A match that is shown: it is replaced or passed over, or it and all that follow are replaced.
-ghost use Rattle.std.specs.Prelude.{◌≡◌, ◌+◌, ◌≤◌, if◌then◌else◌, IfOk, IfSome, IsCharBoundary, OnErr, OnOk};
+ghost use Rattle.std.specs.Prelude.{◌≡◌, ◌+◌, ◌≤◌, true, if◌then◌else◌, IfOk, IfSome, IsCharBoundary, OnErr, OnOk};
 ghost use Rattle.bx_terms.specs.Sizes.{largest_text};
 ghost use Rattle.bx_text.specs.Edits.{IsRange, fits, splice};
 ghost use Rattle.bx_view.specs.Places.{IsTextPlace};
@@ -21,11 +21,11 @@ impl<D: BidiData + Drop> Editor<D> {
         ensures stop { result ≡ match_stop (D.data self.now.tables) self.now.editor }
         ensures range { IsRange self.now.editor.content.text self.now.editor.at result }
     {
+        let (reading, at) = (reading_of(self.aim), self.at);
         let Some(query) = self.sought() else {
             unreachable!()
         };
-        self.document
-            .match_end(reading_of(self.aim), &query, self.at)
+        self.document.match_end(reading, &query, at)
     }
 
     /// The offsets of the part of the text in the other rendition: the units of the match that is shown, else the region. No memory.
@@ -45,10 +45,11 @@ impl<D: BidiData + Drop> Editor<D> {
         ensures next { result ≡ next_match (D.data self.now.tables) self.now.editor x }
         ensures boundary { IfSome result (IsCharBoundary self.now.editor.content.text) }
     {
+        let reading = reading_of(self.aim);
         let Some(query) = self.sought() else {
             unreachable!()
         };
-        self.document.first_from(reading_of(self.aim), &query, x)
+        self.document.first_from(reading, &query, x)
     }
 
     /// Ends replacing, and tells how many matches were replaced. No memory.
@@ -67,6 +68,8 @@ impl<D: BidiData + Drop> Editor<D> {
         }) }
         ensures err { OnErr result (self.new ≡ self.old) }
     {
+        // proof only: the text is UTF-8 and within its limit
+        let _utf8 = self.document.len();
         let behind = self.document.behind_character(self.at);
         let Some(at) = self.next_match(behind) else {
             self.end_replacing();
@@ -91,6 +94,8 @@ impl<D: BidiData + Drop> Editor<D> {
         ensures text_place { IfOk result (λ next. IfSome next (λ found. IsTextPlace (D.data self.old.tables)
             (splice self.old.editor.content.text self.old.editor.at stop new.now) found.1)) }
     {
+        // proof only: the text is UTF-8 and within its limit
+        let _utf8 = self.document.len();
         let Some(offset) = self.next_match(stop) else {
             return Ok(None);
         };
@@ -139,6 +144,8 @@ impl<D: BidiData + Drop> Editor<D> {
         }) }
         ensures err { OnErr result (self.new ≡ self.old) }
     {
+        // proof only: the text is UTF-8 and within its limit
+        let _utf8 = self.document.len();
         let stop = self.match_stop();
         if !self.document.has_room(self.at, stop, self.other.as_str()) {
             self.tell(Message::TextFull);
@@ -166,10 +173,12 @@ impl<D: BidiData + Drop> Editor<D> {
         }) }
         ensures err { OnErr result (self.new ≡ self.old) }
     {
+        // proof only: the text is UTF-8 and within its limit
+        let _utf8 = self.document.len();
+        let reading = reading_of(self.aim);
         let Some(query) = self.sought() else {
             unreachable!()
         };
-        let reading = reading_of(self.aim);
         let other = self.other.as_str();
         let Some(swap) = self.document.swap(reading, &query, self.at, other)? else {
             self.tell(Message::TextFull);

@@ -1,0 +1,142 @@
+-- What holds while a match is shown, and while the other text is asked for.
+use Rattle.std.proofs.Common.{◌≡◌, ◌≢◌, ◌≤◌, ◌<◌, ◌+◌, ◌-◌, ◌∙◌, ℕ, Bool, true, false, List, [], ◌∷◌, length, chars, drop, refl, ap, sym, subst, arith, IsUtf8}
+use Rattle.std.specs.Prelude.{Option, Some, None, MatchOption}
+use Rattle.std.proofs.lemmas.Bool.{and_parts}
+use Rattle.bx_terms.specs.Sizes.{largest_text}
+use Rattle.bx_ucd.specs.Data.{Data}
+use Rattle.bx_find.specs.Laws.{MatchesAtBy, IsFirstBy}
+use Rattle.bx_find.specs.Letters.{letters_of, letters_by}
+use Rattle.bx_find.specs.Matches.{is_match_by, is_some, first_from_by}
+use Rattle.bx_find.specs.Spans.{match_end, spans_from}
+use Rattle.bx_find.specs.declared.reading.Reading.{Reading}
+use Rattle.bx_find.proofs.Nearest.{first_by_is}
+use Rattle.bx_find.proofs.SpansOf.{span_found}
+use Rattle.bx_text.specs.Edits.{IsRange, splice}
+use Rattle.bx_view.specs.Places.{IsTextPlace}
+use Rattle.bx_document.specs.Swapped.{behind_character, last_stop}
+use Rattle.bx_document.proofs.PlaceAfter.{splice_bytes}
+use Rattle.bx_editor.specs.declared.aim.Aim.{Aim}
+use Rattle.bx_editor.specs.declared.seek.Seek.{Seek}
+use Rattle.bx_editor.specs.declared.seek.Seek.TheVariants.{Off, Begun, Typed, WithBegun, WithTyped, Replacing}
+use Rattle.bx_editor.specs.Editor.{EditorState}
+use Rattle.bx_editor.specs.Origin.{BeganAt, IsAsked, IsAtMatch, StandsAt, asks_other, is_queried}
+use Rattle.bx_editor.specs.Search.{reading}
+use Rattle.bx_editor.proofs.MatchSpans.{no-more-than-bytes}
+
+-- ---- a match
+
+none-matches : (d : Data) (r : Reading) (cs : List ℕ) → is_match_by d r [] cs ≡ true → ⊥
+none-matches d r [] h = absurd (cc)
+none-matches d r (c ∷ cs) h = let both = and_parts (is_some (letters_of d r c)) false h in absurd (cc)
+
+-- a match is one of some letters
+pub some-letters : (d : Data) (r : Reading) (sought text : List ℕ) (at : ℕ) → MatchesAtBy d r sought text at → sought ≢ []
+some-letters d r sought text at h none =
+    none-matches d r (chars (drop at text)) (subst (λ (ls : List ℕ). is_match_by d r ls (chars (drop at text)) ≡ true) none h.1)
+
+module _ (d : Data) (r : Reading) (sought text : List ℕ) (u : IsUtf8 text) where
+  abbrev IsTold : ℕ → Option ℕ → Type 0
+  IsTold x o = MatchOption o ((i : ℕ) → x ≤ i → ¬ (MatchesAtBy d r sought text i)) (IsFirstBy d r sought text x)
+
+  first-by : (x a : ℕ) (o : Option ℕ) → Some a ≡ o → IsTold x o → IsFirstBy d r sought text x a
+  first-by x a None e h = absurd (cc)
+  first-by x a (Some b) e h = let same : b ≡ a = cc in subst (IsFirstBy d r sought text x) same h
+
+  -- what is found is the first
+  pub first-is : (x a : ℕ) → Some a ≡ first_from_by d r sought text x → IsFirstBy d r sought text x a
+  first-is x a e = first-by x a (first_from_by d r sought text x) e (first_by_is d r sought text x u)
+
+  here-by : (at : ℕ) (o : Option ℕ) → IsTold at o → MatchesAtBy d r sought text at → Some at ≡ o
+  here-by at None none h = absurd (none at (omega arith) h)
+  here-by at (Some a) first h =
+      let low : a ≤ at = first.least at (omega arith) h in
+      let same : at ≡ a = omega (arith, low, first.not_before) in
+      ap (λ n. Some n) same
+
+  -- the end of a match is behind its start
+  pub end-behind : (at : ℕ) → MatchesAtBy d r sought text at → at < match_end d r sought text at
+  end-behind at h = (span_found d r sought text u at at (here-by at _ (first_by_is d r sought text at u) h)).1.0
+
+-- ---- while it is shown
+
+-- an editor's state that is seen in another way shows the same match
+pub shown-in : {D : Type 0} (says : D → Data) (was now : EditorState D) → was ≡ now → now.editor.seek ≡ Replacing
+    → StandsAt (says was.tables) was.editor.aim was.editor.query was.editor.content.text was.editor.seek was.editor.at was.editor.count
+    → IsAtMatch (says now.tables) now.editor.aim now.editor.query now.editor.content.text now.editor.at now.editor.count
+shown-in {D = D} says was now same is h =
+    let stands : EditorState D → Type 0 = λ s.
+    StandsAt (says s.tables) s.editor.aim s.editor.query s.editor.content.text s.editor.seek s.editor.at s.editor.count in
+    subst (λ seek. StandsAt (says now.tables) now.editor.aim now.editor.query now.editor.content.text seek now.editor.at now.editor.count) is
+    (subst stands same h)
+
+module _ (d : Data) (aim : Aim) (query text : List ℕ) where
+  -- the query's letters
+  abbrev pub letters : List ℕ
+  letters = letters_by d (reading aim) (chars query)
+
+  pub at-match : (seek : Seek) (at count : ℕ) → seek ≡ Replacing → StandsAt d aim query text seek at count → IsAtMatch d aim query text at count
+  at-match seek at count is h = subst (λ s. StandsAt d aim query text s at count) is h
+
+  -- one more may be replaced
+  pub room-for-one : (at count : ℕ) → IsUtf8 text → IsAtMatch d aim query text at count → (stop : ℕ)
+      → stop ≡ match_end d (reading aim) letters text at → stop ≤ length text → count + 1 ≤ largest_text
+  room-for-one at count u h stop is inside = omega (arith, h.few, inside, is, end-behind d (reading aim) letters text u at h.here)
+
+  -- all that follow may be replaced
+  pub room-for-all : (at count : ℕ) → IsUtf8 text → IsAtMatch d aim query text at count
+      → last_stop at (spans_from d (reading aim) letters text at) ≤ length text
+      → count + length (spans_from d (reading aim) letters text at) ≤ largest_text
+  room-for-all at count u h inside = omega (arith, h.few, inside, no-more-than-bytes d (reading aim) letters text u at)
+
+  -- at a later match
+  pub passed-over : (at count x next : ℕ) → IsUtf8 text → IsAtMatch d aim query text at count → at ≤ x
+      → Some next ≡ first_from_by d (reading aim) letters text x → IsAtMatch d aim query text next count
+  passed-over at count x next u h on is =
+      let first = first-is d (reading aim) letters text u x next is in
+      record { here = first.is_match; few = omega (arith, h.few, on, first.not_before) }
+
+  -- at the next match once this one was replaced
+  pub replaced-one : (at count stop next : ℕ) (new : List ℕ) → IsUtf8 text → IsUtf8 (splice text at stop new) → IsAtMatch d aim query text at count
+      → IsRange text at stop → stop ≡ match_end d (reading aim) letters text at
+      → Some next ≡ first_from_by d (reading aim) letters (splice text at stop new) (at + length new)
+      → IsAtMatch d aim query (splice text at stop new) next (count + 1)
+  replaced-one at count stop next new u v h range is found =
+      let first = first-is d (reading aim) letters (splice text at stop new) v (at + length new) next found in
+      let less = end-behind d (reading aim) letters text u at h.here in
+      let bounds = range.stop_bounds in
+      record {
+        here = first.is_match;
+        few = omega (arith, h.few, is, less, first.not_before, bounds.0, splice_bytes text at stop new range);
+      }
+
+  -- ---- the other text is asked for
+
+  pub asked : (seek : Seek) (at count : ℕ) → asks_other seek ≡ true → StandsAt d aim query text seek at count → IsAsked d aim query count
+  asked Off at count is h = absurd (cc)
+  asked Begun at count is h = absurd (cc)
+  asked Typed at count is h = absurd (cc)
+  asked WithBegun at count is h = h
+  asked WithTyped at count is h = h
+  asked Replacing at count is h = absurd (cc)
+
+  -- the first match is shown
+  pub shown : (at count x : ℕ) → IsUtf8 text → length text ≤ largest_text → IsAsked d aim query count
+      → Some at ≡ first_from_by d (reading aim) letters text x → IsAtMatch d aim query text at count
+  shown at count x u short h is =
+      record { here = (first-is d (reading aim) letters text u x at is).is_match; few = omega (arith, h.none, short) }
+
+  pub queried-stands : (seek : Seek) (at count : ℕ) → is_queried seek ≡ true → StandsAt d aim query text seek at count
+  queried-stands Off at count is = tt
+  queried-stands Begun at count is = tt
+  queried-stands Typed at count is = tt
+  queried-stands WithBegun at count is = absurd (cc)
+  queried-stands WithTyped at count is = absurd (cc)
+  queried-stands Replacing at count is = absurd (cc)
+
+pub asked-began : (d : Data) (text : List ℕ) (seek : Seek) (origin : ℕ) → asks_other seek ≡ true → BeganAt d text seek origin → IsTextPlace d text origin
+asked-began d text Off origin is h = absurd (cc)
+asked-began d text Begun origin is h = absurd (cc)
+asked-began d text Typed origin is h = absurd (cc)
+asked-began d text WithBegun origin is h = h
+asked-began d text WithTyped origin is h = h
+asked-began d text Replacing origin is h = absurd (cc)
