@@ -15,7 +15,7 @@ use bx_terms::OutOfMemory;
 use bx_ucd::BidiData;
 
 impl<D: BidiData + Drop> Editor<D> {
-    /// The offset behind the match that is shown. No memory.
+    /// The offset behind the match that is shown. Allocates nothing.
     fn match_stop(&self) -> usize
         requires shown { self.now.editor.seek ≡ Seek.Replacing }
         ensures stop { result ≡ match_stop (D.data self.now.tables) self.now.editor }
@@ -28,7 +28,7 @@ impl<D: BidiData + Drop> Editor<D> {
         self.document.match_end(reading, &query, at)
     }
 
-    /// The offsets of the part of the text in the other rendition: the units of the match that is shown, else the region. No memory.
+    /// The offsets of the part of the text in the other rendition: the units of the match that is shown, else the region. Allocates nothing.
     pub(crate) fn seen(&self) -> (usize, usize)
         ensures { result ≡ seen (D.data self.now.tables) self.now.editor }
     {
@@ -38,7 +38,7 @@ impl<D: BidiData + Drop> Editor<D> {
         }
     }
 
-    /// The first match at or after an offset. No memory.
+    /// The first match at or after an offset. Allocates nothing.
     fn next_match(&self, x: usize) -> Option<usize>
         requires shown { self.now.editor.seek ≡ Seek.Replacing }
         requires bounds { IsCharBoundary self.now.editor.content.text x }
@@ -52,7 +52,7 @@ impl<D: BidiData + Drop> Editor<D> {
         self.document.first_from(reading, &query, x)
     }
 
-    /// Ends replacing, and tells how many matches were replaced. No memory.
+    /// Ends replacing, and tells how many matches were replaced. Allocates nothing.
     pub(crate) fn end_replacing(&mut self)
         ensures { self.new ≡ record self.old { editor = after_ending (cleared self.old.editor) } }
     {
@@ -83,8 +83,6 @@ impl<D: BidiData + Drop> Editor<D> {
 
     /// The next match behind `stop`, once the bytes from the match to `stop` have given way to `new`: its offset then, and its
     /// place.
-    ///
-    /// Errors: `OutOfMemory`.
     fn next_behind(&mut self, stop: usize, new: &str) -> Result<Option<(usize, usize)>, OutOfMemory>
         requires shown { self.old.editor.seek ≡ Seek.Replacing }
         requires range { IsRange self.old.editor.content.text self.old.editor.at stop }
