@@ -1,6 +1,6 @@
 -- Bytes of the text give way to others, in one step of the state, which has at most two edits in the past.
-use Rattle.std.proofs.Common.{◌≡◌, ◌≤◌, ◌+◌, ◌∙◌, ℕ, suc, true, false, List, [], ◌∷◌, ◌++◌, length, take, drop, refl, ap, ap₂, sym, subst, arith, append-nil}
-use Rattle.std.specs.Prelude.{Option}
+use Rattle.std.proofs.Common.{◌≡◌, ◌≤◌, ◌+◌, ◌∙◌, ℕ, false, List, [], ◌∷◌, ◌++◌, length, take, drop}
+use Rattle.std.proofs.Common.{refl, ap, ap₂, sym, subst, arith, append-nil}
 use Rattle.std.proofs.lemmas.List.{length-take-le, take_at, drop_at}
 use Rattle.bx_ucd.specs.Data.{Data}
 use Rattle.bx_text.specs.Edits.{inserted, removed, splice}
@@ -14,10 +14,12 @@ use Rattle.bx_editor.proofs.TwoEdits.{runs-of-two, stored-of-two}
 pub out-and-in : (text : List ℕ) (start stop : ℕ) (new : List ℕ) → start ≤ length text
     → splice (splice text start stop []) start start new ≡ splice text start stop new
 out-and-in text start stop new inside =
-    let front : splice text start stop [] ≡ take start text ++ drop stop text = ap (λ xs. xs ++ drop stop text) (append-nil (take start text)) in
+    let front : splice text start stop [] ≡ take start text ++ drop stop text =
+    ap (λ xs. xs ++ drop stop text) (append-nil (take start text)) in
     let long = length-take-le start text inside in
     ap (λ xs. take start xs ++ new ++ drop start xs) front
-    ∙ ap₂ (λ xs ys. xs ++ new ++ ys) (take_at (take start text) (drop stop text) start long) (drop_at (take start text) (drop stop text) start long)
+    ∙ ap₂ (λ xs ys. xs ++ new ++ ys) (take_at (take start text) (drop stop text) start long)
+    (drop_at (take start text) (drop stop text) start long)
 
 module _ (d : Data) (e : Editor) (start stop : ℕ) where
   pub exchanged-text : (new : List ℕ) → start ≤ length e.content.text
@@ -53,7 +55,8 @@ module _ (d : Data) (e : Editor) (start stop : ℕ) where
       let once : ℕ → ℕ → Editor =
       λ p after. with_edit e (inserted (removed e.content start stop e.place p) start (b ∷ bs) p (goes twice)) after false in
       ap₂ once (ap between at) (ap goes (sym (out-and-in e.content.text start stop (b ∷ bs) inside)))
-      ∙ ap₂ (λ runs stored. record (once (between start) (goes twice)) { runs = runs; stored = stored }) (sym (runs-of-two e.runs n))
+      ∙ ap₂ (λ runs stored. record (once (between start) (goes twice)) { runs = runs; stored = stored })
+      (sym (runs-of-two e.runs n))
       (sym (stored-of-two n e.stored))
 
 -- a key's message is cleared before or behind
@@ -65,8 +68,7 @@ cleared-replaced d e stop (b ∷ bs) n = refl
 -- what holds of the text with `new` put in holds once it was put in
 pub held-in : (d : Data) (e : Editor) (stop : ℕ) (new : List ℕ) (n : ℕ) (P : Aim → List ℕ → List ℕ → ℕ → ℕ → Type 0)
     → e.at ≤ length e.content.text → P e.aim e.query (splice e.content.text e.at stop new) (e.count + n) 0
-    → P (with_matches_replaced d e stop new n).aim (with_matches_replaced d e stop new n).query (with_matches_replaced d e stop new n).content.text
-    (with_matches_replaced d e stop new n).count (with_matches_replaced d e stop new n).origin
+    → (let x = with_matches_replaced d e stop new n in P x.aim x.query x.content.text x.count x.origin)
 held-in d e stop [] n P inside h = h
 held-in d e stop (b ∷ bs) n P inside h =
     subst (λ text. P e.aim e.query text (e.count + n) 0) (sym (out-and-in e.content.text e.at stop (b ∷ bs) inside)) h

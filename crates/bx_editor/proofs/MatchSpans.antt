@@ -1,5 +1,5 @@
 -- How many matches follow one another: no more than there are bytes from the first to the end of the last.
-use Rattle.std.proofs.Common.{◌≡◌, ◌≤◌, ◌<◌, ◌+◌, ◌∙◌, ℕ, List, [], ◌∷◌, length, refl, ap, sym, subst, arith, IsUtf8}
+use Rattle.std.proofs.Common.{◌≡◌, ◌≤◌, ◌+◌, ◌∙◌, ℕ, List, [], ◌∷◌, length, refl, ap, sym, arith, IsUtf8}
 use Rattle.std.specs.Prelude.{Option, Some, None}
 use Rattle.bx_ucd.specs.Data.{Data}
 use Rattle.bx_find.specs.Matches.{first_from_by}
@@ -15,7 +15,8 @@ module _ (says : Data) (reading : Reading) (sought text : List ℕ) (u : IsUtf8 
   heads : (s t : ℕ × ℕ) (ss ts : List (ℕ × ℕ)) → s ∷ ss ≡ t ∷ ts → (s ≡ t) × (ss ≡ ts)
   heads s t ss ts e = (cc, cc)
 
-  counted-by : (s : ℕ × ℕ) (ss : List (ℕ × ℕ)) (x : ℕ) (o : Option ℕ) → o ≡ first_from_by says reading sought text x → s ∷ ss ≡ from x
+  counted-by : (s : ℕ × ℕ) (ss : List (ℕ × ℕ)) (x : ℕ) (o : Option ℕ) → o ≡ first_from_by says reading sought text x
+      → s ∷ ss ≡ from x
       → ((y : ℕ) → ss ≡ from y → y + length ss ≤ last_stop y ss) → x + length (s ∷ ss) ≤ last_stop x (s ∷ ss)
   counted-by s ss x None is e more = let no = e ∙ none_found says reading sought text u x is in absurd (cc)
   counted-by s ss x (Some a) is e more =

@@ -1,5 +1,6 @@
 -- The matches in two texts that end alike are the same, moved.
-use Rattle.std.proofs.Common.{◌≡◌, ◌≤◌, ◌+◌, ◌-◌, ◌∙◌, ℕ, Bool, true, false, List, [], ◌∷◌, length, chars, drop, map, refl, ap, ap₂, sym, subst, arith, IsCharBoundary}
+use Rattle.std.proofs.Common.{◌≡◌, ◌+◌, ◌-◌, ◌∙◌, ℕ, Bool, true, false, List, [], ◌∷◌, length, chars, drop, map}
+use Rattle.std.proofs.Common.{refl, ap, sym, subst, arith, IsCharBoundary}
 use Rattle.std.specs.Prelude.{Option, Some, None, slice_get, option_map, encode_utf8, IsUtf8}
 use Rattle.bx_ucd.specs.Data.{Data}
 use Rattle.bx_find.specs.Matches.{is_match_by, matches_by, first_from_by}
@@ -46,9 +47,11 @@ module _ (says : Data) (reading : Reading) (sought : List ℕ) where
       ∙ ap (λ n. matches_by says reading sought n cs) next ∙ more
       ∙ sym (ap (map (λ n. x + n)) (matches-not says reading sought at c cs e))
 
-  shifted : (x at : ℕ) (cs : List ℕ) → matches_by says reading sought (x + at) cs ≡ map (λ n. x + n) (matches_by says reading sought at cs)
+  shifted : (x at : ℕ) (cs : List ℕ)
+      → matches_by says reading sought (x + at) cs ≡ map (λ n. x + n) (matches_by says reading sought at cs)
   shifted x at [] = refl
-  shifted x at (c ∷ cs) = shifted-by x at c cs (is_match_by says reading sought (c ∷ cs)) refl (shifted x (at + length (encode_utf8 c)) cs)
+  shifted x at (c ∷ cs) =
+      shifted-by x at c cs (is_match_by says reading sought (c ∷ cs)) refl (shifted x (at + length (encode_utf8 c)) cs)
 
   -- the first match of what is behind an offset
   first-behind : (text : List ℕ) (x : ℕ) → IsUtf8 text → IsCharBoundary text x

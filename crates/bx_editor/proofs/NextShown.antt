@@ -1,5 +1,5 @@
 -- The next match that is shown once one, or more, were replaced.
-use Rattle.std.proofs.Common.{◌≡◌, ◌≤◌, ◌+◌, ◌∙◌, ℕ, Bool, true, List, [], ◌∷◌, length, refl, ap, ap₂, sym}
+use Rattle.std.proofs.Common.{◌≡◌, ◌≤◌, ◌+◌, ◌∙◌, ℕ, true, List, [], ◌∷◌, length, refl, ap, sym}
 use Rattle.std.specs.Prelude.{Option, Some, None, option_map, IsUtf8, if◌then◌else◌}
 use Rattle.bx_ucd.specs.Data.{Data}
 use Rattle.bx_find.specs.Matches.{first_from_by}
@@ -9,7 +9,8 @@ use Rattle.bx_view.specs.TextRows.{TextRow}
 use Rattle.bx_editor.specs.declared.seek.Seek.TheVariants.{Replacing}
 use Rattle.bx_editor.specs.declared.message.Message.TheVariants.{TextFull}
 use Rattle.bx_editor.specs.Editor.{Editor, cleared, rows, rows_of}
-use Rattle.bx_editor.specs.Replacing.{after_ending, after_replacing, at_match, match_stop, next_behind, next_match, on_from, placed_in, with_matches_replaced}
+use Rattle.bx_editor.specs.Replacing.{after_ending, after_replacing, at_match, match_stop, next_behind, next_match, on_from}
+use Rattle.bx_editor.specs.Replacing.{placed_in, with_matches_replaced}
 use Rattle.bx_editor.specs.Search.{reading, sought}
 use Rattle.bx_editor.proofs.Exchanged.{cleared-replaced, out-and-in}
 use Rattle.bx_editor.proofs.MovedMatches.{first-behind-new, moved}
@@ -74,7 +75,8 @@ module _ (d : Data) (e : Editor) (stop : ℕ) where
       → next_behind d e stop new ≡ placed_in d e (text_with new) (option_map (moved stop (e.at + length new)) o)
   placed-behind new o u v range is =
       ap (placed_in d e (text_with new))
-      (first-behind-new d (reading e.aim) (sought d e) e.content.text e.at stop new u v range ∙ ap (option_map (moved stop (e.at + length new))) (sym is))
+      (first-behind-new d (reading e.aim) (sought d e) e.content.text e.at stop new u v range
+      ∙ ap (option_map (moved stop (e.at + length new))) (sym is))
 
 -- the match has given way to the other text
 module _ (d : Data) (e : Editor) (stop : ℕ) (is : stop ≡ match_stop d e) (room : fits e.content.text e.at stop e.other ≡ true) where
@@ -86,11 +88,14 @@ module _ (d : Data) (e : Editor) (stop : ℕ) (is : stop ≡ match_stop d e) (ro
       (sym (ap (λ s. fits e.content.text e.at s e.other) (sym is) ∙ room))
 
   pub replaced-next : (at place : ℕ) → e.at ≤ length e.content.text → Some (at, place) ≡ next_behind d e stop e.other
-      → cleared (record (with_matches_replaced d e stop e.other 1) { seek = Replacing; at = at; place = place }) ≡ after_replacing d (cleared e)
+      → cleared (record (with_matches_replaced d e stop e.other 1) { seek = Replacing; at = at; place = place })
+      ≡ after_replacing d (cleared e)
   replaced-next at place inside found =
-      ap (λ (x : Editor). (let y : Editor = record x { seek = Replacing; at = at; place = place } in y)) (cleared-replaced d e stop e.other 1)
+      ap (λ (x : Editor). (let y : Editor = record x { seek = Replacing; at = at; place = place } in y))
+      (cleared-replaced d e stop e.other 1)
       ∙ shown-behind d (cleared e) stop e.other 1 at place inside found ∙ on-is
 
   pub replaced-last : e.at ≤ length e.content.text → None ≡ next_behind d e stop e.other
       → after_ending (cleared (with_matches_replaced d e stop e.other 1)) ≡ after_replacing d (cleared e)
-  replaced-last inside none = ap after_ending (cleared-replaced d e stop e.other 1) ∙ ended-behind d (cleared e) stop e.other 1 inside none ∙ on-is
+  replaced-last inside none =
+      ap after_ending (cleared-replaced d e stop e.other 1) ∙ ended-behind d (cleared e) stop e.other 1 inside none ∙ on-is

@@ -1,5 +1,6 @@
 -- What holds while a match is shown, and while the other text is asked for.
-use Rattle.std.proofs.Common.{◌≡◌, ◌≢◌, ◌≤◌, ◌<◌, ◌+◌, ◌-◌, ◌∙◌, ℕ, Bool, true, false, List, [], ◌∷◌, length, chars, drop, refl, ap, sym, subst, arith, IsUtf8}
+use Rattle.std.proofs.Common.{◌≡◌, ◌≢◌, ◌≤◌, ◌<◌, ◌+◌, ℕ, true, false, List, [], ◌∷◌, length, chars, drop}
+use Rattle.std.proofs.Common.{ap, subst, arith, IsUtf8}
 use Rattle.std.specs.Prelude.{Option, Some, None, MatchOption}
 use Rattle.std.proofs.lemmas.Bool.{and_parts}
 use Rattle.bx_terms.specs.Sizes.{largest_text}
@@ -13,13 +14,13 @@ use Rattle.bx_find.proofs.Nearest.{first_by_is}
 use Rattle.bx_find.proofs.SpansOf.{span_found}
 use Rattle.bx_text.specs.Edits.{IsRange, splice}
 use Rattle.bx_view.specs.Places.{IsTextPlace}
-use Rattle.bx_document.specs.Swapped.{behind_character, last_stop}
+use Rattle.bx_document.specs.Swapped.{last_stop}
 use Rattle.bx_document.proofs.PlaceAfter.{splice_bytes}
 use Rattle.bx_editor.specs.declared.aim.Aim.{Aim}
 use Rattle.bx_editor.specs.declared.seek.Seek.{Seek}
 use Rattle.bx_editor.specs.declared.seek.Seek.TheVariants.{Off, Begun, Typed, WithBegun, WithTyped, Replacing}
 use Rattle.bx_editor.specs.Editor.{EditorState}
-use Rattle.bx_editor.specs.Origin.{BeganAt, IsAsked, IsAtMatch, StandsAt, asks_other, is_queried}
+use Rattle.bx_editor.specs.Origin.{BeganAt, IsAsked, IsAtMatch, StandsAt, asks_other}
 use Rattle.bx_editor.specs.Search.{reading}
 use Rattle.bx_editor.proofs.MatchSpans.{no-more-than-bytes}
 
@@ -61,20 +62,22 @@ module _ (d : Data) (r : Reading) (sought text : List ℕ) (u : IsUtf8 text) whe
 
 -- an editor's state that is seen in another way shows the same match
 pub shown-in : {D : Type 0} (says : D → Data) (was now : EditorState D) → was ≡ now → now.editor.seek ≡ Replacing
-    → StandsAt (says was.tables) was.editor.aim was.editor.query was.editor.content.text was.editor.seek was.editor.at was.editor.count
+    → StandsAt (says was.tables) was.editor.aim was.editor.query was.editor.content.text was.editor.seek was.editor.at
+    was.editor.count
     → IsAtMatch (says now.tables) now.editor.aim now.editor.query now.editor.content.text now.editor.at now.editor.count
 shown-in {D = D} says was now same is h =
     let stands : EditorState D → Type 0 = λ s.
     StandsAt (says s.tables) s.editor.aim s.editor.query s.editor.content.text s.editor.seek s.editor.at s.editor.count in
-    subst (λ seek. StandsAt (says now.tables) now.editor.aim now.editor.query now.editor.content.text seek now.editor.at now.editor.count) is
-    (subst stands same h)
+    let e = now.editor in
+    subst (λ seek. StandsAt (says now.tables) e.aim e.query e.content.text seek e.at e.count) is (subst stands same h)
 
 module _ (d : Data) (aim : Aim) (query text : List ℕ) where
   -- the query's letters
   abbrev pub letters : List ℕ
   letters = letters_by d (reading aim) (chars query)
 
-  pub at-match : (seek : Seek) (at count : ℕ) → seek ≡ Replacing → StandsAt d aim query text seek at count → IsAtMatch d aim query text at count
+  pub at-match : (seek : Seek) (at count : ℕ) → seek ≡ Replacing → StandsAt d aim query text seek at count
+      → IsAtMatch d aim query text at count
   at-match seek at count is h = subst (λ s. StandsAt d aim query text s at count) is h
 
   -- one more may be replaced
@@ -96,8 +99,8 @@ module _ (d : Data) (aim : Aim) (query text : List ℕ) where
       record { here = first.is_match; few = omega (arith, h.few, on, first.not_before) }
 
   -- at the next match once this one was replaced
-  pub replaced-one : (at count stop next : ℕ) (new : List ℕ) → IsUtf8 text → IsUtf8 (splice text at stop new) → IsAtMatch d aim query text at count
-      → IsRange text at stop → stop ≡ match_end d (reading aim) letters text at
+  pub replaced-one : (at count stop next : ℕ) (new : List ℕ) → IsUtf8 text → IsUtf8 (splice text at stop new)
+      → IsAtMatch d aim query text at count → IsRange text at stop → stop ≡ match_end d (reading aim) letters text at
       → Some next ≡ first_from_by d (reading aim) letters (splice text at stop new) (at + length new)
       → IsAtMatch d aim query (splice text at stop new) next (count + 1)
   replaced-one at count stop next new u v h range is found =
@@ -111,7 +114,8 @@ module _ (d : Data) (aim : Aim) (query text : List ℕ) where
 
   -- ---- the other text is asked for
 
-  pub asked : (seek : Seek) (at count : ℕ) → asks_other seek ≡ true → StandsAt d aim query text seek at count → IsAsked d aim query count
+  pub asked : (seek : Seek) (at count : ℕ) → asks_other seek ≡ true → StandsAt d aim query text seek at count
+      → IsAsked d aim query count
   asked Off at count is h = absurd (cc)
   asked Begun at count is h = absurd (cc)
   asked Typed at count is h = absurd (cc)
@@ -125,15 +129,8 @@ module _ (d : Data) (aim : Aim) (query text : List ℕ) where
   shown at count x u short h is =
       record { here = (first-is d (reading aim) letters text u x at is).is_match; few = omega (arith, h.none, short) }
 
-  pub queried-stands : (seek : Seek) (at count : ℕ) → is_queried seek ≡ true → StandsAt d aim query text seek at count
-  queried-stands Off at count is = tt
-  queried-stands Begun at count is = tt
-  queried-stands Typed at count is = tt
-  queried-stands WithBegun at count is = absurd (cc)
-  queried-stands WithTyped at count is = absurd (cc)
-  queried-stands Replacing at count is = absurd (cc)
-
-pub asked-began : (d : Data) (text : List ℕ) (seek : Seek) (origin : ℕ) → asks_other seek ≡ true → BeganAt d text seek origin → IsTextPlace d text origin
+pub asked-began : (d : Data) (text : List ℕ) (seek : Seek) (origin : ℕ) → asks_other seek ≡ true → BeganAt d text seek origin
+    → IsTextPlace d text origin
 asked-began d text Off origin is h = absurd (cc)
 asked-began d text Begun origin is h = absurd (cc)
 asked-began d text Typed origin is h = absurd (cc)

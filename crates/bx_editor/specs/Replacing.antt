@@ -1,6 +1,6 @@
 -- Replacing: the other text is asked for, and then each match is replaced or passed over, or all that follow are replaced. Offsets
 -- and places count bytes of the text.
-use Rattle.std.specs.Prelude.{ℕ, ◌+◌, ◌==◌, not, ◌&&◌, Bool, true, false, List, [], length, Option, Some, None, if◌then◌else◌}
+use Rattle.std.specs.Prelude.{ℕ, ◌+◌, ◌==◌, not, ◌&&◌, Bool, true, false, List, length, Option, Some, None, if◌then◌else◌}
 use Rattle.bx_ucd.specs.Data.{Data}
 use Rattle.bx_find.specs.Matches.{first_from_by}
 use Rattle.bx_find.specs.Spans.{match_end, spans_from}
@@ -10,7 +10,6 @@ use Rattle.bx_text.specs.Edits.{fits, splice}
 use Rattle.bx_view.specs.Moves.{place_at}
 use Rattle.bx_editor.specs.declared.aim.Aim.{Aim}
 use Rattle.bx_editor.specs.declared.aim.Aim.TheVariants.{Find, Replace}
-use Rattle.bx_editor.specs.declared.matches.Landing.{Landing}
 use Rattle.bx_editor.specs.declared.message.Message.TheVariants.{Replaced, TextFull}
 use Rattle.bx_editor.specs.declared.seek.Seek.{Seek}
 use Rattle.bx_editor.specs.declared.seek.Seek.TheVariants.{Off, Typed, WithBegun, WithTyped, Replacing}

@@ -4,7 +4,8 @@ ghost use Rattle.bx_terms.specs.Sizes.{largest_text};
 ghost use Rattle.bx_text.specs.Edits.{IsRange, fits, splice};
 ghost use Rattle.bx_view.specs.Places.{IsTextPlace};
 ghost use Rattle.bx_editor.specs.Editor.{cleared};
-ghost use Rattle.bx_editor.specs.Replacing.{after_ending, after_passing_over, after_replacing, after_replacing_all, match_stop, next_behind, next_match, seen, with_matches_replaced};
+ghost use Rattle.bx_editor.specs.Replacing.{after_ending, after_passing_over, after_replacing, after_replacing_all};
+ghost use Rattle.bx_editor.specs.Replacing.{match_stop, next_behind, next_match, seen, with_matches_replaced};
 
 use crate::editing::{settle, stored_behind};
 use crate::editor::Editor;
@@ -109,7 +110,9 @@ impl<D: BidiData + Drop> Editor<D> {
         requires few { self.old.editor.count + count ≤ largest_text }
         ensures room { IfOk result (λ room. room ≡ fits self.old.editor.content.text self.old.editor.at stop new.now) }
         ensures ok { IfOk result (λ room. self.new ≡ record self.old {
-          editor = if room then with_matches_replaced (D.data self.old.tables) self.old.editor stop new.now count else self.old.editor;
+          editor = if room
+              then with_matches_replaced (D.data self.old.tables) self.old.editor stop new.now count
+              else self.old.editor;
         }) }
         ensures err { OnErr result (self.new ≡ self.old) }
     {
@@ -134,8 +137,8 @@ impl<D: BidiData + Drop> Editor<D> {
         Ok(true)
     }
 
-    /// Replaces the match by the other text, and goes on to the next one; if there is none, replacing ends. Without room only sets a
-    /// message.
+    /// Replaces the match by the other text, and goes on to the next one; if there is none, replacing ends. Without room only sets
+    /// a message.
     pub(crate) fn replace_match(&mut self) -> Result<(), OutOfMemory>
         requires shown { self.old.editor.seek ≡ Seek.Replacing }
         ensures ok { OnOk result (self.new ≡ record self.old {

@@ -1,8 +1,9 @@
-use Rattle.std.proofs.Common.{◌≡◌, ◌∙◌, ap, ap₂, chars, false, length, string_bytes, sym}
+use Rattle.std.proofs.Common.{◌≡◌, ◌∙◌, Bool, ap, chars, false, length, string_bytes, sym}
 use Rattle.std.specs.Prelude.{◌==◌, not}
 use Rattle.bx_find.specs.Letters.{letters_by}
 use Rattle.bx_find.specs.declared.reading.Reading.TheVariants.{Close}
 use Rattle.bx_document.specs.Document.{DocumentState, rows as document_rows}
+use Rattle.bx_editor.specs.declared.matches.Landing.{Landing}
 use Rattle.bx_editor.specs.Editor.{Editor, EditorState, cleared}
 use Rattle.bx_editor.specs.Search.{forward, landed, landing_from, sought}
 use Rattle.bx_editor.specs.declared.aim.Aim.TheVariants.{Replace}
@@ -20,18 +21,24 @@ returns-in-None-clause-ok g c =
     let typed : EditorState g.row.D.Denot → EditorState g.row.D.Denot = λ s. record s {
       editor = record (landed (record (cleared s.editor) { aim = Replace }) landing) { seek = Typed };
     } in
+    let says = g.D.BidiData.data t.tables in
+    let has : EditorState g.row.D.Denot → Bool = λ s.
+    not (length (letters_by (g.D.BidiData.data s.tables) Close (chars s.editor.query)) == 0) in
     let some : (length (sought d (record now.editor { aim = Replace })) == 0) ≡ false =
     is-false _ (sym (c.has_letters.ensures
-    ∙ ap (λ ls. not (length (letters_by (g.D.BidiData.data t.tables) Close (chars ls)) == 0)) c.as_str-query.ensures.value
-    ∙ ap (λ (s : EditorState g.row.D.Denot). not (length (letters_by (g.D.BidiData.data s.tables) Close (chars s.editor.query)) == 0)) c.self.view_is)
+    ∙ ap (λ ls. not (length (letters_by says Close (chars ls)) == 0)) c.as_str-query.ensures.value ∙ ap has c.self.view_is)
     ∙ c.if-not-has_letters.false) in
+    let leads : EditorState g.row.D.Denot → Landing = λ s.
+    landing_from (g.D.BidiData.data s.tables) s.editor.place (record s.editor { aim = Replace }) in
     let is : landing ≡ landing_from d now.editor.place (record now.editor { aim = Replace }) =
     c.in_ok-landing.ensures.landing
-    ∙ ap (λ ls. forward (g.D.BidiData.data t.tables) Close (document_rows (g.D.BidiData.data t.tables) t.document) t.document.content.text i.place
-    (letters_by (g.D.BidiData.data t.tables) Close (chars ls))) c.as_str-query.ensures.value
-    ∙ ap (λ (s : EditorState g.row.D.Denot). landing_from (g.D.BidiData.data s.tables) s.editor.place (record s.editor { aim = Replace })) c.self.view_is in
-    ap (λ (s : EditorState g.row.D.Denot). (let x : EditorState g.row.D.Denot = record s { editor = record s.editor { seek = Typed } } in x))
-    (c.self-2.view_is ∙ c.settle_at.ensures)
+    ∙ ap (λ ls. forward says Close (document_rows says t.document) t.document.content.text i.place
+    (letters_by says Close (chars ls)))
+    c.as_str-query.ensures.value
+    ∙ ap leads c.self.view_is in
+    ap (λ (s : EditorState g.row.D.Denot). (let x : EditorState g.row.D.Denot = record s {
+      editor = record s.editor { seek = Typed };
+    } in x)) (c.self-2.view_is ∙ c.settle_at.ensures)
     ∙ ap (λ (x : DocumentState g.row.D.Denot). typed (record {
       tables = x.tables;
       editor = record {

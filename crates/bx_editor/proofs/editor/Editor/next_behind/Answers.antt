@@ -1,4 +1,4 @@
-use Rattle.std.proofs.Common.{◌≡◌, ◌+◌, ◌-◌, ◌∙◌, ℕ, length, ap, arith, subst, sym, IsUtf8}
+use Rattle.std.proofs.Common.{◌≡◌, ◌+◌, ◌-◌, ◌∙◌, length, ap, arith, subst, sym, IsUtf8}
 use Rattle.std.specs.Prelude.{Some, None}
 use Rattle.bx_text.specs.Edits.{splice}
 use Rattle.bx_view.specs.Moves.{place_at}

@@ -30,7 +30,8 @@ invariant_of-self-2 g c =
     ∙ sym (ap (λ (s : EditorState g.row.D.Denot). next_match (g.D.BidiData.data s.tables) s.editor behind) c.self.view_is) in
     let on : i.at ≤ behind = omega (arith, c.behind_character-behind.ensures.behind) in
     let next = passed-over d i.aim query text i.at i.count behind at c.len-utf8.ensures.utf8 shown on found in
-    subst (λ (x : DocumentState g.row.D.Denot). IsTextPlace (g.D.BidiData.data x.tables) x.document.content.text c.in_ok-self-inside.field-0
+    let place = c.in_ok-self-inside.field-0 in
+    subst (λ (x : DocumentState g.row.D.Denot). IsTextPlace (g.D.BidiData.data x.tables) x.document.content.text place
     × (is_side i.height ≡ true)
     × IfSome i.mark (IsTextPlace (g.D.BidiData.data x.tables) x.document.content.text)
     × (length (chars (string_bytes i.query)) ≤ 64)

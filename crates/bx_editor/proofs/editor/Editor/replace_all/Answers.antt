@@ -1,4 +1,4 @@
-use Rattle.std.proofs.Common.{◌≡◌, ◌≤◌, ◌∙◌, ap, ap₂, arith, length, string_bytes, sym}
+use Rattle.std.proofs.Common.{◌≤◌, ◌∙◌, ap, ap₂, arith, length, string_bytes, sym}
 use Rattle.bx_find.specs.Spans.{spans_from}
 use Rattle.bx_document.specs.Swapped.{last_stop}
 use Rattle.bx_editor.specs.Editor.{EditorState}
@@ -16,7 +16,8 @@ exchange-requires-clause-few g c =
     let shown = at-match d i.aim query text i.seek i.at i.count
     (ap (λ (s : EditorState g.row.D.Denot). s.editor.seek) c.self.view_is ∙ c.requires.shown) c.self.invariant.7 in
     let same = ap₂ (λ r q. spans_from d r q text i.at) c.reading_of-reading.ensures
-    (c.in-Some.ensures.letters ∙ sym (ap (λ (s : EditorState g.row.D.Denot). sought (g.D.BidiData.data s.tables) s.editor) c.self.view_is)) in
+    (c.in-Some.ensures.letters
+    ∙ sym (ap (λ (s : EditorState g.row.D.Denot). sought (g.D.BidiData.data s.tables) s.editor) c.self.view_is)) in
     let told = rw c.in-Some-2.is at (c.in_ok-swap.ensures.swap all (sym same)) in
     let range = rw c.in-Some-2.is at c.in_ok-swap.ensures.range in
     let bounds = range.stop_bounds in

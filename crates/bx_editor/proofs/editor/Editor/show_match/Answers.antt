@@ -2,7 +2,7 @@ use Rattle.std.proofs.Common.{◌≡◌, ◌∙◌, true, ap, ap₂, string_byte
 use Rattle.std.specs.Prelude.{Some}
 use Rattle.bx_find.specs.Matches.{first_from_by}
 use Rattle.bx_view.proofs.TextPlaces.{place-between}
-use Rattle.bx_editor.specs.Editor.{Editor, EditorState, cleared}
+use Rattle.bx_editor.specs.Editor.{EditorState, cleared}
 use Rattle.bx_editor.specs.Origin.{asks_other}
 use Rattle.bx_editor.specs.Replacing.{next_match, shown_at}
 use Rattle.bx_editor.specs.Search.{reading, sought}
@@ -12,8 +12,10 @@ use Rattle.bx_editor.proofs.editor.Editor.show_match.Goals as goal
 
 pub first_from-requires : goal.first_from-requires
 first_from-requires g c =
-    let t = c.self.inside.document in
-    record { bounds = place-between (g.D.BidiData.data t.tables) t.document.content.text c.self.inside.place c.len-utf8.ensures.utf8 c.self.invariant.0 }
+    let i = c.self.inside in
+    let t = i.document in
+    let d = g.D.BidiData.data t.tables in
+    record { bounds = place-between d t.document.content.text i.place c.len-utf8.ensures.utf8 c.self.invariant.0 }
 
 pub invariant_of-self : goal.invariant_of-self
 invariant_of-self g c =
@@ -28,7 +30,8 @@ invariant_of-self g c =
     let found : Some at ≡ first_from_by d (reading i.aim) (letters d i.aim query text) text i.place =
     sym c.in-Some-first_from.is ∙ c.first_from.ensures.found
     ∙ ap₂ (λ r q. first_from_by d r q text i.place) c.reading_of-reading.ensures
-    (c.in-Some.ensures.letters ∙ sym (ap (λ (s : EditorState g.row.D.Denot). sought (g.D.BidiData.data s.tables) s.editor) c.self.view_is)) in (
+    (c.in-Some.ensures.letters
+    ∙ sym (ap (λ (s : EditorState g.row.D.Denot). sought (g.D.BidiData.data s.tables) s.editor) c.self.view_is)) in (
       kept.0,
       kept.1,
       kept.2,
@@ -51,7 +54,10 @@ returns-in-Some-first_from g c =
     let found : Some at ≡ first_from_by d (reading i.aim) (letters d i.aim (string_bytes i.query) text) text i.place =
     sym c.in-Some-first_from.is ∙ c.first_from.ensures.found
     ∙ ap₂ (λ r q. first_from_by d r q text i.place) c.reading_of-reading.ensures
-    (c.in-Some.ensures.letters ∙ sym (ap (λ (s : EditorState g.row.D.Denot). sought (g.D.BidiData.data s.tables) s.editor) c.self.view_is)) in
-    ap (λ (s : EditorState g.row.D.Denot). (let t : EditorState g.row.D.Denot = record s { editor = record s.editor { seek = Replacing; at = at } } in t)) was
+    (c.in-Some.ensures.letters
+    ∙ sym (ap (λ (s : EditorState g.row.D.Denot). sought (g.D.BidiData.data s.tables) s.editor) c.self.view_is)) in
+    ap (λ (s : EditorState g.row.D.Denot). (let t : EditorState g.row.D.Denot = record s {
+      editor = record s.editor { seek = Replacing; at = at };
+    } in t)) was
     ∙ ap (λ o. record now { editor = shown_at (cleared now.editor) o })
     (found ∙ ap (λ (s : EditorState g.row.D.Denot). next_match (g.D.BidiData.data s.tables) s.editor s.editor.place) was)
