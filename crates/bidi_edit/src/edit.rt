@@ -39,8 +39,6 @@ fn outcome_of(end: Result<End, RunFault>, changed: bool) -> Result<Changes, Prog
 }
 
 /// Replays keys and paints the result.
-///
-/// Errors: `OutOfMemory`.
 fn begin<D: BidiData + Drop>(
     session: &mut Session<D>,
     keys: &[u8],

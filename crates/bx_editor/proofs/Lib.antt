@@ -39,6 +39,12 @@ pub mod PointErased
 pub mod NextMatch
 pub mod WorkLawExamples
 pub mod TwoEdits
+pub mod MovedMatches
+pub mod MatchSpans
+pub mod ShownMatch
+pub mod Exchanged
+pub mod NextShown
+pub mod AskedOther
 pub mod RunSteps
 pub mod HeldApart
 pub mod ManySteps
@@ -73,7 +79,8 @@ pub mod MatchLetters
 pub mod MatchesApart
 pub mod PlacesBetween
 pub mod QuietSearch
-pub mod ShownMatch
+pub mod MatchReplaced
 pub mod ShownStands
 pub mod ReplacedBack
 mod ReplaceExamples
+mod ReplaceLawExamples

@@ -28,6 +28,13 @@ module _ (d : Data) (sought text : List ℕ) (u : IsUtf8 text) where
       All-cons (λ (t : ℕ × ℕ). spelt d (slice_range text t.0 t.1) ≡ sought) s ss
       (ap (λ n. spelt d (slice_range text s.0 n)) are.1 ∙ match-letters d text u sought s.0 are.0.is_match) (letters-are s.1 ss are.2)
 
+  abbrev IsSpan : ℕ × ℕ → Type 0
+  IsSpan s = MatchesAt d sought text s.0 × (s.1 ≡ match_end d Close sought text s.0)
+
+  pub are-spans : (x : ℕ) (spans : List (ℕ × ℕ)) → Follow x spans → All IsSpan spans
+  are-spans x [] are = All-nil IsSpan
+  are-spans x (s ∷ ss) are = All-cons IsSpan s ss (are.0.is_match, are.1) (are-spans s.1 ss are.2)
+
   lies-behind : (i : ℕ) (s : ℕ × ℕ) (ss : List (ℕ × ℕ)) → LiesIn i ss → LiesIn i (s ∷ ss)
   lies-behind i s ss h = (h.0, Contains-append_right (s ∷ []) ss h.0 h.1, h.2, h.3)
 

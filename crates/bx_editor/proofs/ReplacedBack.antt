@@ -12,10 +12,10 @@ use Rattle.bx_editor.specs.declared.message.Message.TheVariants.{TextFull}
 use Rattle.bx_editor.specs.Editor.{Editor, cleared, rows, with_exchange, with_removal}
 use Rattle.bx_editor.specs.Keys.{after_key}
 use Rattle.bx_editor.specs.ReplaceLaws.{ReplacedComesBack}
-use Rattle.bx_editor.specs.Replacing.{after_ending, after_replacing, after_replacing_all, at_match, match_stop, matches_on, next_match, on_from, with_matches_replaced}
+use Rattle.bx_editor.specs.Replacing.{after_ending, at_match, match_stop, matches_on, next_match, on_from, with_matches_replaced}
 use Rattle.bx_editor.specs.RunLaws.{IsBackBefore}
 use Rattle.bx_editor.proofs.OneRun.{goes-back, removal-begins, IsOneRun, IsOver, Nothing}
-use Rattle.bx_editor.proofs.ShownMatch.{each-replaces}
+use Rattle.bx_editor.proofs.MatchReplaced.{each-replaces}
 
 -- nothing was edited, or edits of one run were made
 abbrev InRun : Editor → Editor → Type 0

@@ -1,323 +1,142 @@
--- What the keys do to a match that is shown.
-use Rattle.std.proofs.Common.{◌≡◌, ℕ, ◌+◌, ◌-◌, ◌<◌, ◌≤◌, Bool, true, false, List, [], ◌∷◌, ◌++◌, length, take, drop, Option, Some, None, refl, sym, ap, ap₂, subst, ◌∙◌}
-use Rattle.std.proofs.Common.{arith, inl, inr, if◌then◌else◌, append-nil, append_assoc, length-append, IsCharBoundary}
-use Rattle.std.specs.Prelude.{◌==◌, ◌&&◌, not, nat_le, slice_range, IsUtf8, MatchOption}
-use Rattle.std.proofs.lemmas.Bool.Decides.{nat_tests}
-use Rattle.std.proofs.lemmas.List.{drop_at, length-drop, length-take-le, take_at}
-use Rattle.std.proofs.lemmas.Str.{IsUtf8-append, IsUtf8-drop, IsUtf8-take}
+-- What holds while a match is shown, and while the other text is asked for.
+use Rattle.std.proofs.Common.{◌≡◌, ◌≢◌, ◌≤◌, ◌<◌, ◌+◌, ◌-◌, ◌∙◌, ℕ, Bool, true, false, List, [], ◌∷◌, length, chars, drop, refl, ap, sym, subst, arith, IsUtf8}
+use Rattle.std.specs.Prelude.{Option, Some, None, MatchOption}
+use Rattle.std.proofs.lemmas.Bool.{and_parts}
 use Rattle.bx_terms.specs.Sizes.{largest_text}
-use Rattle.bx_keys.specs.declared.key.Key.{Key}
-use Rattle.bx_keys.specs.declared.key.Key.TheVariants.{Find, Insert, NewLine, Replace}
-use Rattle.bx_text.specs.Edits.{fits, splice}
-use Rattle.bx_runs.specs.declared.typing.Typing.{Typing}
 use Rattle.bx_ucd.specs.Data.{Data}
-use Rattle.bx_asking.specs.declared.question.Ask.TheVariants as asks
-use Rattle.bx_find.specs.Laws.{AreSpans, IsFirst, MatchesAt}
-use Rattle.bx_find.specs.Matches.{first_from, first_from_by}
-use Rattle.bx_find.specs.Spans.{match_end}
+use Rattle.bx_find.specs.Laws.{MatchesAtBy, IsFirstBy}
+use Rattle.bx_find.specs.Letters.{letters_of, letters_by}
+use Rattle.bx_find.specs.Matches.{is_match_by, is_some, first_from_by}
+use Rattle.bx_find.specs.Spans.{match_end, spans_from}
 use Rattle.bx_find.specs.declared.reading.Reading.{Reading}
-use Rattle.bx_find.specs.declared.reading.Reading.TheVariants.{Close}
-use Rattle.bx_find.proofs.Nearest.{first_is}
-use Rattle.bx_find.proofs.SpansOf.{spans_are}
-use Rattle.bx_document.specs.Swapped.{behind_character, last_stop, swapped}
-use Rattle.bx_editor.specs.declared.aim.Aim.TheVariants as aims
-use Rattle.bx_editor.specs.declared.message.Message.TheVariants.{TextFull}
-use Rattle.bx_editor.specs.declared.seek.Seek.TheVariants.{Replacing}
-use Rattle.bx_editor.specs.AskingLaws.{is_enter}
-use Rattle.bx_editor.specs.Editor.{Editor, cleared, place_after, with_exchange, with_typing}
-use Rattle.bx_editor.specs.Effects.{before}
-use Rattle.bx_editor.specs.Keys.{after_any, after_key, as_left}
-use Rattle.bx_editor.specs.Putting.{is_paste, only_paste}
-use Rattle.bx_editor.specs.ReplaceLaws.{AreTheMatches, DoesReplace, EnterReplaces, FindPassesOver, GoesOn, HasReplacedAll, HasReplacedOne}
-use Rattle.bx_editor.specs.ReplaceLaws.{IsFull, IsShowing, PassesOver, ReplaceReplacesAll, ReplacesMatch, ReplacesMatches, SameLettersStay}
-use Rattle.bx_editor.specs.Replacing.{after_ending, after_match_letter, after_passing_over, after_replacing, after_replacing_all, at_match, match_stop, matches_on, next_match, on_from, with_matches_replaced}
-use Rattle.bx_editor.specs.Search.{reading, sought}
-use Rattle.bx_editor.proofs.MatchesApart.{all-lie, apart, last-after, last-bound, letters-are}
-use Rattle.bx_editor.proofs.MatchLetters.{all-swapped, end-letters, match-bound, match-letters, match-some, one-swapped, spelt}
+use Rattle.bx_find.proofs.Nearest.{first_by_is}
+use Rattle.bx_find.proofs.SpansOf.{span_found}
+use Rattle.bx_text.specs.Edits.{IsRange, splice}
+use Rattle.bx_view.specs.Places.{IsTextPlace}
+use Rattle.bx_document.specs.Swapped.{behind_character, last_stop}
+use Rattle.bx_document.proofs.PlaceAfter.{splice_bytes}
+use Rattle.bx_editor.specs.declared.aim.Aim.{Aim}
+use Rattle.bx_editor.specs.declared.seek.Seek.{Seek}
+use Rattle.bx_editor.specs.declared.seek.Seek.TheVariants.{Off, Begun, Typed, WithBegun, WithTyped, Replacing}
+use Rattle.bx_editor.specs.Editor.{EditorState}
+use Rattle.bx_editor.specs.Origin.{BeganAt, IsAsked, IsAtMatch, StandsAt, asks_other, is_queried}
+use Rattle.bx_editor.specs.Search.{reading}
+use Rattle.bx_editor.proofs.MatchSpans.{no-more-than-bytes}
 
--- ---- which key it is
+-- ---- a match
 
-pub entered : (d : Data) (e : Editor) (enter : Key) → e.ask ≡ asks.Off → e.seek ≡ Replacing → is_enter enter ≡ true
-    → after_key d None e enter ≡ as_left enter (with_typing (after_match_letter d e.typing (cleared e) 0xA) (only_paste e.typing))
-entered d e (Insert c) unasked shown end =
-    let same : c ≡ 0xA = grind (arith, nat_tests, end) in
-    ap₂ (λ a s. as_left (Insert c) (after_any d None (before e) a s (cleared e) (Insert c))) unasked shown
-    ∙ ap (λ x. as_left (Insert c) (with_typing (after_match_letter d e.typing (cleared e) x) (only_paste e.typing))) same
-entered d e NewLine unasked shown end = ap₂ (λ a s. as_left NewLine (after_any d None (before e) a s (cleared e) NewLine)) unasked shown
-entered d e _ unasked shown end = absurd (cc end)
+none-matches : (d : Data) (r : Reading) (cs : List ℕ) → is_match_by d r [] cs ≡ true → ⊥
+none-matches d r [] h = absurd (cc)
+none-matches d r (c ∷ cs) h = let both = and_parts (is_some (letters_of d r c)) false h in absurd (cc)
 
-pub replaced-on : (d : Data) (e : Editor) → e.ask ≡ asks.Off → e.seek ≡ Replacing → after_key d None e Replace ≡ as_left Replace (after_replacing_all d (cleared e))
-replaced-on d e unasked shown = ap₂ (λ a s. as_left Replace (after_any d None (before e) a s (cleared e) Replace)) unasked shown
+-- a match is one of some letters
+pub some-letters : (d : Data) (r : Reading) (sought text : List ℕ) (at : ℕ) → MatchesAtBy d r sought text at → sought ≢ []
+some-letters d r sought text at h none =
+    none-matches d r (chars (drop at text)) (subst (λ (ls : List ℕ). is_match_by d r ls (chars (drop at text)) ≡ true) none h.1)
 
-passed-over : (d : Data) (e : Editor) → e.ask ≡ asks.Off → e.seek ≡ Replacing → after_key d None e Find ≡ as_left Find (after_passing_over d (cleared e))
-passed-over d e unasked shown = ap₂ (λ a s. as_left Find (after_any d None (before e) a s (cleared e) Find)) unasked shown
+module _ (d : Data) (r : Reading) (sought text : List ℕ) (u : IsUtf8 text) where
+  abbrev IsTold : ℕ → Option ℕ → Type 0
+  IsTold x o = MatchOption o ((i : ℕ) → x ≤ i → ¬ (MatchesAtBy d r sought text i)) (IsFirstBy d r sought text x)
 
--- whatever becomes of a match by a line end or by Replace
-pub each-replaces : (P : Editor → Type 0) (d : Data) (e : Editor) (key : Key) → e.ask ≡ asks.Off → e.seek ≡ Replacing → DoesReplace key
-    → ((typing : Typing) → P (as_left key (with_typing (cleared e) typing)))
-    → ((typing : Typing) → P (as_left key (with_typing (after_replacing d (cleared e)) typing)))
-    → P (as_left key (after_replacing_all d (cleared e))) → P (after_key d None e key)
-each-replaces P d e key unasked shown (inl enter) nothing one all =
-    let was = cleared e in
-    let put = only_paste e.typing in
-    subst P (sym (entered d e key unasked shown enter))
-    (elim ((0xA == 0xA) && not (is_paste e.typing)) as (λ b. P (as_left key (with_typing (if b then after_replacing d was else was) put))) [
-      | true ↦ one put
-      | false ↦ nothing put
-    ])
-each-replaces P d e key unasked shown (inr is) nothing one all =
-    subst (λ k. P (as_left k (after_replacing_all d (cleared e))) → P (after_key d None e k)) (sym is)
-    (λ h. subst P (sym (replaced-on d e unasked shown)) h) all
+  first-by : (x a : ℕ) (o : Option ℕ) → Some a ≡ o → IsTold x o → IsFirstBy d r sought text x a
+  first-by x a None e h = absurd (cc)
+  first-by x a (Some b) e h = let same : b ≡ a = cc in subst (IsFirstBy d r sought text x) same h
 
--- ---- a stretch of the text gives way
+  -- what is found is the first
+  pub first-is : (x a : ℕ) → Some a ≡ first_from_by d r sought text x → IsFirstBy d r sought text x a
+  first-is x a e = first-by x a (first_from_by d r sought text x) e (first_by_is d r sought text x u)
 
-spliced-again : (text new : List ℕ) (start stop : ℕ) → start ≤ length text → splice (splice text start stop []) start start new ≡ splice text start stop new
-spliced-again text new start stop inside =
-    let front = length-take-le start text inside in
-    let without : splice text start stop [] ≡ take start text ++ drop stop text = ap (λ xs. xs ++ drop stop text) (append-nil (take start text)) in
-    ap (λ xs. take start xs ++ new ++ drop start xs) without
-    ∙ ap₂ (λ (xs ys : List ℕ). xs ++ new ++ ys) (take_at (take start text) (drop stop text) start front) (drop_at (take start text) (drop stop text) start front)
+  here-by : (at : ℕ) (o : Option ℕ) → IsTold at o → MatchesAtBy d r sought text at → Some at ≡ o
+  here-by at None none h = absurd (none at (omega arith) h)
+  here-by at (Some a) first h =
+      let low : a ≤ at = first.least at (omega arith) h in
+      let same : at ≡ a = omega (arith, low, first.not_before) in
+      ap (λ n. Some n) same
 
-pub record IsExchanged (d : Data) (e : Editor) (start stop : ℕ) (new : List ℕ) (now : Editor) : Type 0 where
-  pub text_is : now.content.text ≡ splice e.content.text start stop new
-  pub place_is : now.place ≡ place_after d e (splice e.content.text start stop new) (start + length new)
-  pub aim_is : now.aim ≡ e.aim
+  -- the end of a match is behind its start
+  pub end-behind : (at : ℕ) → MatchesAtBy d r sought text at → at < match_end d r sought text at
+  end-behind at h = (span_found d r sought text u at at (here-by at _ (first_by_is d r sought text at u) h)).1.0
 
-pub exchanged : (d : Data) (e : Editor) (start stop : ℕ) (new : List ℕ) → start ≤ length e.content.text → IsExchanged d e start stop new (with_exchange d e start stop new)
-exchanged d e start stop [] inside =
-    let none : start ≡ start + 0 = omega arith in
-    record { text_is = refl; place_is = ap (place_after d e (splice e.content.text start stop [])) none; aim_is = refl }
-exchanged d e start stop (b ∷ bs) inside =
-    let again = spliced-again e.content.text (b ∷ bs) start stop inside in
-    record { text_is = again; place_is = ap (λ text. place_after d e text (start + length (b ∷ bs))) again; aim_is = refl }
+-- ---- while it is shown
 
-spliced-utf8 : (text new : List ℕ) (start stop : ℕ) → IsUtf8 text → IsUtf8 new → IsCharBoundary text start → IsCharBoundary text stop
-    → IsUtf8 (splice text start stop new)
-spliced-utf8 text new start stop u v b c =
-    IsUtf8-append (take start text ++ new) (drop stop text) (IsUtf8-append (take start text) new (IsUtf8-take text start u b) v) (IsUtf8-drop text stop u c)
+-- an editor's state that is seen in another way shows the same match
+pub shown-in : {D : Type 0} (says : D → Data) (was now : EditorState D) → was ≡ now → now.editor.seek ≡ Replacing
+    → StandsAt (says was.tables) was.editor.aim was.editor.query was.editor.content.text was.editor.seek was.editor.at was.editor.count
+    → IsAtMatch (says now.tables) now.editor.aim now.editor.query now.editor.content.text now.editor.at now.editor.count
+shown-in {D = D} says was now same is h =
+    let stands : EditorState D → Type 0 = λ s.
+    StandsAt (says s.tables) s.editor.aim s.editor.query s.editor.content.text s.editor.seek s.editor.at s.editor.count in
+    subst (λ seek. StandsAt (says now.tables) now.editor.aim now.editor.query now.editor.content.text seek now.editor.at now.editor.count) is
+    (subst stands same h)
 
--- ---- whether there is room
+module _ (d : Data) (aim : Aim) (query text : List ℕ) where
+  -- the query's letters
+  abbrev pub letters : List ℕ
+  letters = letters_by d (reading aim) (chars query)
 
-sized : (text : List ℕ) (start stop : ℕ) (new : List ℕ) → start ≤ stop → stop ≤ length text
-    → length (splice text start stop new) ≡ length text - (stop - start) + length new
-sized text start stop new order inside =
-    omega (
-      arith,
-      order,
-      inside,
-      length-append (take start text ++ new) (drop stop text),
-      length-append (take start text) new,
-      length-take-le start text (omega (arith, order, inside)),
-      length-drop stop text,
-    )
+  pub at-match : (seek : Seek) (at count : ℕ) → seek ≡ Replacing → StandsAt d aim query text seek at count → IsAtMatch d aim query text at count
+  at-match seek at count is h = subst (λ s. StandsAt d aim query text s at count) is h
 
-within : (n limit : ℕ) → n ≤ limit → nat_le n limit ≡ true
-within n limit few = grind (arith, nat_tests, few)
+  -- one more may be replaced
+  pub room-for-one : (at count : ℕ) → IsUtf8 text → IsAtMatch d aim query text at count → (stop : ℕ)
+      → stop ≡ match_end d (reading aim) letters text at → stop ≤ length text → count + 1 ≤ largest_text
+  room-for-one at count u h stop is inside = omega (arith, h.few, inside, is, end-behind d (reading aim) letters text u at h.here)
 
-beyond : (n limit : ℕ) → limit < n → nat_le n limit ≡ false
-beyond n limit many = grind (arith, nat_tests, many)
+  -- all that follow may be replaced
+  pub room-for-all : (at count : ℕ) → IsUtf8 text → IsAtMatch d aim query text at count
+      → last_stop at (spans_from d (reading aim) letters text at) ≤ length text
+      → count + length (spans_from d (reading aim) letters text at) ≤ largest_text
+  room-for-all at count u h inside = omega (arith, h.few, inside, no-more-than-bytes d (reading aim) letters text u at)
 
-has-room : (text : List ℕ) (start stop : ℕ) (new : List ℕ) → start ≤ stop → stop ≤ length text → length (splice text start stop new) ≤ largest_text
-    → fits text start stop new ≡ true
-has-room text start stop new order inside few =
-    within (length text - (stop - start) + length new) largest_text (subst (λ n. n ≤ largest_text) (sized text start stop new order inside) few)
+  -- at a later match
+  pub passed-over : (at count x next : ℕ) → IsUtf8 text → IsAtMatch d aim query text at count → at ≤ x
+      → Some next ≡ first_from_by d (reading aim) letters text x → IsAtMatch d aim query text next count
+  passed-over at count x next u h on is =
+      let first = first-is d (reading aim) letters text u x next is in
+      record { here = first.is_match; few = omega (arith, h.few, on, first.not_before) }
 
-has-none : (text : List ℕ) (start stop : ℕ) (new : List ℕ) → start ≤ stop → stop ≤ length text → largest_text < length (splice text start stop new)
-    → fits text start stop new ≡ false
-has-none text start stop new order inside many =
-    beyond (length text - (stop - start) + length new) largest_text (subst (λ n. largest_text < n) (sized text start stop new order inside) many)
-
--- ---- on to the next match
-
-record WentOn (d : Data) (e : Editor) (z : ℕ) (new : Editor) : Type 0 where
-  pub content_is : new.content ≡ e.content
-  pub count_is : new.count ≡ e.count
-  pub goes_on : GoesOn d new z
-
-went-to : (d : Data) (e : Editor) (z : ℕ) (o : Option ℕ)
-    → MatchOption o ((i : ℕ) → z ≤ i → ¬ (MatchesAt d (sought d e) e.content.text i)) (IsFirst d (sought d e) e.content.text z) → WentOn d e z (at_match d e o)
-went-to d e z None none = record { content_is = refl; count_is = refl; goes_on = inr (refl, (refl, none)) }
-went-to d e z (Some at) first = record { content_is = refl; count_is = refl; goes_on = inl (refl, first) }
-
-went-on : (d : Data) (e : Editor) (z : ℕ) → IsUtf8 e.content.text → e.aim ≡ aims.Replace → WentOn d e z (on_from d z e)
-went-on d e z u aim =
-    let closely : next_match d e z ≡ first_from d (sought d e) e.content.text z = ap (λ a. first_from_by d (reading a) (sought d e) e.content.text z) aim in
-    subst (λ o. WentOn d e z (at_match d e o)) (sym closely)
-    (went-to d e z (first_from d (sought d e) e.content.text z) (first_is d (sought d e) e.content.text z u))
-
--- ---- the match
-
-record HasMatch (d : Data) (e : Editor) : Type 0 where
-  pub begins : IsCharBoundary e.content.text e.at
-  pub ends : IsCharBoundary e.content.text (match_stop d e)
-  pub some : e.at < match_stop d e
-  pub letters_are : spelt d (slice_range e.content.text e.at (match_stop d e)) ≡ sought d e
-
-has-match : (d : Data) (e : Editor) → IsShowing d e → HasMatch d e
-has-match d e h =
-    let text = e.content.text in
-    let here = h.stands.here in
-    let closely : match_stop d e ≡ match_end d Close (sought d e) text e.at = ap (λ a. match_end d (reading a) (sought d e) text e.at) h.stands.aim_is in
-    record {
-      begins = here.0;
-      ends = subst (IsCharBoundary text) (sym closely) (match-bound d text h.text (sought d e) e.at here);
-      some = omega (arith, closely, match-some d text h.text (sought d e) e.at here);
-      letters_are = ap (λ n. spelt d (slice_range text e.at n)) closely ∙ match-letters d text h.text (sought d e) e.at here;
-    }
-
-follow : (d : Data) (e : Editor) → IsShowing d e → AreSpans d Close (sought d e) e.content.text e.at (matches_on d e)
-follow d e h =
-    let closely : reading e.aim ≡ Close = ap reading h.stands.aim_is in
-    subst (λ (r : Reading). AreSpans d r (sought d e) e.content.text e.at (matches_on d e)) closely
-    (spans_are d (reading e.aim) (sought d e) e.content.text h.text e.at)
-
--- ---- it is replaced
-
-module _ (d : Data) (e : Editor) (h : IsShowing d e) where
-  abbrev was : Editor
-  was = cleared e
-
-  abbrev there : HasMatch d e
-  there = has-match d e h
-
-  full : (key : Key) (typing : Typing) → IsFull e (as_left key (record was { message = Some TextFull; typing = typing }))
-  full key typing = record { content_is = refl; place_is = refl; shown = h.shown; count_is = refl; message_is = refl }
-
-  one-is : (key : Key) (typing : Typing) → fits e.content.text e.at (match_stop d e) e.other ≡ true
-      → HasReplacedOne d e (as_left key (with_typing (after_replacing d was) typing))
-  one-is key typing room =
-      let stop = match_stop d e in
-      let now = with_matches_replaced d was stop e.other 1 in
-      let put = exchanged d was e.at stop e.other there.begins.0 in
-      let utf8 : IsUtf8 now.content.text =
-      subst IsUtf8 (sym put.text_is) (spliced-utf8 e.content.text e.other e.at stop h.text h.other there.begins there.ends) in
-      let went = went-on d now (e.at + length e.other) utf8 (put.aim_is ∙ h.stands.aim_is) in
-      subst (λ (x : Editor). HasReplacedOne d e (as_left key (with_typing x typing)))
-      (sym (ap (λ b. if b then on_from d (e.at + length e.other) now else record was { message = Some TextFull }) room))
-      (record {
-        letters_are = there.letters_are;
-        text_is = ap (λ t. t.text) went.content_is ∙ put.text_is;
-        count_is = went.count_is;
-        goes_on = went.goes_on;
-      })
-
-  one-full : (key : Key) (typing : Typing) → fits e.content.text e.at (match_stop d e) e.other ≡ false
-      → IsFull e (as_left key (with_typing (after_replacing d was) typing))
-  one-full key typing none =
-      let now = on_from d (e.at + length e.other) (with_matches_replaced d was (match_stop d e) e.other 1) in
-      subst (λ (x : Editor). IsFull e (as_left key (with_typing x typing))) (sym (ap (λ b. if b then now else record was { message = Some TextFull }) none))
-      (full key typing)
-
-  one-replaced : (key : Key) (typing : Typing) → ReplacesMatch d e (as_left key (with_typing (after_replacing d was) typing))
-  one-replaced key typing =
-      let stop = match_stop d e in
-      let order : e.at ≤ stop = omega (arith, there.some) in
+  -- at the next match once this one was replaced
+  pub replaced-one : (at count stop next : ℕ) (new : List ℕ) → IsUtf8 text → IsUtf8 (splice text at stop new) → IsAtMatch d aim query text at count
+      → IsRange text at stop → stop ≡ match_end d (reading aim) letters text at
+      → Some next ≡ first_from_by d (reading aim) letters (splice text at stop new) (at + length new)
+      → IsAtMatch d aim query (splice text at stop new) next (count + 1)
+  replaced-one at count stop next new u v h range is found =
+      let first = first-is d (reading aim) letters (splice text at stop new) v (at + length new) next found in
+      let less = end-behind d (reading aim) letters text u at h.here in
+      let bounds = range.stop_bounds in
       record {
-        fits = λ few. one-is key typing (has-room e.content.text e.at stop e.other order there.ends.0 few);
-        full = λ many. one-full key typing (has-none e.content.text e.at stop e.other order there.ends.0 many);
+        here = first.is_match;
+        few = omega (arith, h.few, is, less, first.not_before, bounds.0, splice_bytes text at stop new range);
       }
 
-  -- ---- all are replaced
+  -- ---- the other text is asked for
 
-  abbrev all : List (ℕ × ℕ)
-  all = matches_on d e
+  pub asked : (seek : Seek) (at count : ℕ) → asks_other seek ≡ true → StandsAt d aim query text seek at count → IsAsked d aim query count
+  asked Off at count is h = absurd (cc)
+  asked Begun at count is h = absurd (cc)
+  asked Typed at count is h = absurd (cc)
+  asked WithBegun at count is h = h
+  asked WithTyped at count is h = h
+  asked Replacing at count is h = absurd (cc)
 
-  abbrev put_in : List ℕ
-  put_in = swapped e.at e.content.text e.other all
+  -- the first match is shown
+  pub shown : (at count x : ℕ) → IsUtf8 text → length text ≤ largest_text → IsAsked d aim query count
+      → Some at ≡ first_from_by d (reading aim) letters text x → IsAtMatch d aim query text at count
+  shown at count x u short h is =
+      record { here = (first-is d (reading aim) letters text u x at is).is_match; few = omega (arith, h.none, short) }
 
-  all-is : fits e.content.text e.at (last_stop e.at all) put_in ≡ true → HasReplacedAll d e all (as_left Replace (after_replacing_all d was))
-  all-is room =
-      let put = exchanged d was e.at (last_stop e.at all) put_in there.begins.0 in
-      subst (λ b. HasReplacedAll d e all (as_left Replace (if b then after_ending (with_matches_replaced d was (last_stop e.at all) put_in (length all)) else record was { message = Some TextFull })))
-      (sym room)
-      (record { text_is = put.text_is; place_is = put.place_is; count_is = refl; seek_is = refl; message_is = refl })
+  pub queried-stands : (seek : Seek) (at count : ℕ) → is_queried seek ≡ true → StandsAt d aim query text seek at count
+  queried-stands Off at count is = tt
+  queried-stands Begun at count is = tt
+  queried-stands Typed at count is = tt
+  queried-stands WithBegun at count is = absurd (cc)
+  queried-stands WithTyped at count is = absurd (cc)
+  queried-stands Replacing at count is = absurd (cc)
 
-  all-full : fits e.content.text e.at (last_stop e.at all) put_in ≡ false → IsFull e (as_left Replace (after_replacing_all d was))
-  all-full none =
-      subst (λ b. IsFull e (as_left Replace (if b then after_ending (with_matches_replaced d was (last_stop e.at all) put_in (length all)) else record was { message = Some TextFull })))
-      (sym none) (full Replace was.typing)
-
-  all-order : e.at ≤ last_stop e.at all
-  all-order = last-after d (sought d e) e.content.text h.text e.at all (follow d e h)
-
-  all-ends : IsCharBoundary e.content.text (last_stop e.at all)
-  all-ends = last-bound d (sought d e) e.content.text h.text e.at all there.begins (follow d e h)
-
-  are-matches : AreTheMatches d e all
-  are-matches = record {
-    apart = apart d (sought d e) e.content.text h.text e.at all (follow d e h);
-    letters_are = letters-are d (sought d e) e.content.text h.text e.at all (follow d e h);
-    all = all-lie d (sought d e) e.content.text h.text e.at all (follow d e h);
-  }
-
-  -- ---- the letters stay
-
-  abbrev Same : Editor → Type 0
-  Same new = spelt d new.content.text ≡ spelt d e.content.text
-
-  one-same : spelt d e.other ≡ sought d e → (room : Bool)
-      → Same (if room then on_from d (e.at + length e.other) (with_matches_replaced d was (match_stop d e) e.other 1) else record was { message = Some TextFull })
-  one-same same false = refl
-  one-same same true =
-      let stop = match_stop d e in
-      let text = e.content.text in
-      let now = with_matches_replaced d was stop e.other 1 in
-      let put = exchanged d was e.at stop e.other there.begins.0 in
-      let order : e.at ≤ stop = omega (arith, there.some) in
-      ap (λ t. spelt d t.text) (on-content d now (next_match d now (e.at + length e.other))) ∙ ap (spelt d) put.text_is
-      ∙ ap (spelt d) (append_assoc (take e.at text) e.other (drop stop text))
-      ∙ end-letters d text h.text e.at (e.other ++ drop stop text) there.begins
-      (one-swapped d text h.text e.at stop e.other order there.begins there.ends h.other (same ∙ sym there.letters_are))
-    where
-      on-content : (d : Data) (now : Editor) (o : Option ℕ) → (at_match d now o).content ≡ now.content
-      on-content d now None = refl
-      on-content d now (Some at) = refl
-
-  all-same : spelt d e.other ≡ sought d e → (room : Bool)
-      → Same (if room then after_ending (with_matches_replaced d was (last_stop e.at all) put_in (length all)) else record was { message = Some TextFull })
-  all-same same false = refl
-  all-same same true =
-      let text = e.content.text in
-      let stop = last_stop e.at all in
-      let put = exchanged d was e.at stop put_in there.begins.0 in
-      ap (spelt d) put.text_is ∙ ap (spelt d) (append_assoc (take e.at text) put_in (drop stop text))
-      ∙ end-letters d text h.text e.at (put_in ++ drop stop text) there.begins
-      (all-swapped d text h.text (sought d e) e.other h.other same e.at all there.begins (follow d e h))
-
--- ---- the laws
-
-pub enter-replaces : EnterReplaces
-enter-replaces d e enter h plain end =
-    let was = cleared e in
-    let put = only_paste e.typing in
-    subst (ReplacesMatch d e)
-    (sym (entered d e enter h.unasked h.shown end
-    ∙ ap (λ b. as_left enter (with_typing (if (0xA == 0xA) && not b then after_replacing d was else was) put)) plain))
-    (one-replaced d e h enter put)
-
-pub find-passes-over : FindPassesOver
-find-passes-over d e h =
-    let went = went-on d (cleared e) (behind_character e.content.text e.at) h.text h.stands.aim_is in
-    subst (PassesOver d e) (sym (passed-over d e h.unasked h.shown))
-    (record { content_is = went.content_is; count_is = went.count_is; goes_on = went.goes_on })
-
-pub replace-replaces-all : ReplaceReplacesAll
-replace-replaces-all d e h =
-    let stop = last_stop e.at (matches_on d e) in
-    let new = swapped e.at e.content.text e.other (matches_on d e) in
-    let order = all-order d e h in
-    let inside = (all-ends d e h).0 in
-    subst (ReplacesMatches d e) (sym (replaced-on d e h.unasked h.shown))
-    (record {
-      spans = matches_on d e;
-      are = are-matches d e h;
-      fits = λ few. all-is d e h (has-room e.content.text e.at stop new order inside few);
-      full = λ many. all-full d e h (has-none e.content.text e.at stop new order inside many);
-    })
-
-pub same-letters-stay : SameLettersStay
-same-letters-stay d e key h does same =
-    let was = cleared e in
-    each-replaces (λ (new : Editor). spelt d new.content.text ≡ spelt d e.content.text) d e key h.unasked h.shown does (λ typing. refl)
-    (λ typing. one-same d e h same (fits e.content.text e.at (match_stop d e) e.other))
-    (all-same d e h same (fits e.content.text e.at (last_stop e.at (matches_on d e)) (swapped e.at e.content.text e.other (matches_on d e))))
+pub asked-began : (d : Data) (text : List ℕ) (seek : Seek) (origin : ℕ) → asks_other seek ≡ true → BeganAt d text seek origin → IsTextPlace d text origin
+asked-began d text Off origin is h = absurd (cc)
+asked-began d text Begun origin is h = absurd (cc)
+asked-began d text Typed origin is h = absurd (cc)
+asked-began d text WithBegun origin is h = h
+asked-began d text WithTyped origin is h = h
+asked-began d text Replacing origin is h = absurd (cc)

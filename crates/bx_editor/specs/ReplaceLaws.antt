@@ -6,6 +6,8 @@ use Rattle.bx_ucd.specs.Data.{Data}
 use Rattle.bx_asking.specs.declared.question.Ask.TheVariants as asks
 use Rattle.bx_find.specs.Laws.{IsFirst, MatchesAt}
 use Rattle.bx_find.specs.Letters.{letters}
+use Rattle.bx_find.specs.Spans.{match_end}
+use Rattle.bx_find.specs.declared.reading.Reading.TheVariants.{Close}
 use Rattle.bx_document.specs.Swapped.{behind_character, last_stop, swapped}
 use Rattle.bx_keys.specs.declared.key.Key.{Key}
 use Rattle.bx_keys.specs.declared.key.Key.TheVariants.{Find, Replace, UndoRun}
@@ -53,11 +55,11 @@ pub record IsShowing (d : Data) (e : Editor) : Type 0 where
 
 -- ---- where replacing leads
 
--- The first match at or after an offset of the new text is shown; if there is none, replacing has ended, and the number of the
--- replaced matches is told.
+-- The first match at or after an offset of the new text is shown, with the cursor at its place; if there is none, replacing has
+-- ended, and the number of the replaced matches is told.
 abbrev pub GoesOn : Data → Editor → ℕ → Type 0
 GoesOn d new x =
-    ((new.seek ≡ Replacing) × IsFirst d (sought d new) new.content.text x new.at)
+    ((new.seek ≡ Replacing) × (IsFirst d (sought d new) new.content.text x new.at × (new.place ≡ place_at (rows d new) new.at)))
     ⊎ ((new.seek ≡ Off) × ((new.message ≡ Some (Replaced new.count)) × ((i : ℕ) → x ≤ i → ¬ (MatchesAt d (sought d new) new.content.text i))))
 
 -- without room text, place and number stay, and the match is shown further
@@ -65,6 +67,7 @@ pub record IsFull (e new : Editor) : Type 0 where
   pub content_is : new.content ≡ e.content
   pub place_is : new.place ≡ e.place
   pub shown : new.seek ≡ Replacing
+  pub at_is : new.at ≡ e.at
   pub count_is : new.count ≡ e.count
   pub message_is : new.message ≡ Some TextFull
 
@@ -74,12 +77,14 @@ pub record IsFull (e new : Editor) : Type 0 where
 abbrev pub with_one : Data → Editor → List ℕ
 with_one d e = take e.at e.content.text ++ e.other ++ drop (match_stop d e) e.content.text
 
--- the match is the query's letters, and gives way to the other text; before it and behind it nothing has changed
+-- The match is the query's letters, and gives way to the other text; before it and behind it nothing has changed. Where
+-- replacing has ended, the cursor is at the first place at or after the end of the other text.
 pub record HasReplacedOne (d : Data) (e new : Editor) : Type 0 where
   pub letters_are : letters d (chars (slice_range e.content.text e.at (match_stop d e))) ≡ sought d e
   pub text_is : new.content.text ≡ with_one d e
   pub count_is : new.count ≡ e.count + 1
   pub goes_on : GoesOn d new (e.at + length e.other)
+  pub ended : new.seek ≡ Off → new.place ≡ place_after d e (with_one d e) (e.at + length e.other)
 
 pub record ReplacesMatch (d : Data) (e new : Editor) : Type 0 where
   pub fits : length (with_one d e) ≤ largest_text → HasReplacedOne d e new
@@ -89,11 +94,12 @@ pub record ReplacesMatch (d : Data) (e new : Editor) : Type 0 where
 abbrev pub EnterReplaces : Type 0
 EnterReplaces = (d : Data) (e : Editor) (enter : Key) → IsShowing d e → is_paste e.typing ≡ false → is_enter enter ≡ true → ReplacesMatch d e (after_key d None e enter)
 
--- Find passes the match over: nothing is replaced
+-- Find passes the match over: nothing is replaced. Where replacing has ended, the cursor stays.
 pub record PassesOver (d : Data) (e new : Editor) : Type 0 where
   pub content_is : new.content ≡ e.content
   pub count_is : new.count ≡ e.count
   pub goes_on : GoesOn d new (behind_character e.content.text e.at)
+  pub ended : new.seek ≡ Off → new.place ≡ e.place
 
 abbrev pub FindPassesOver : Type 0
 FindPassesOver = (d : Data) (e : Editor) → IsShowing d e → PassesOver d e (after_key d None e Find)
@@ -109,9 +115,14 @@ AreApart from (s ∷ ss) = (from ≤ s.0) × ((s.0 < s.1) × AreApart s.1 ss)
 abbrev pub LiesIn : ℕ → List (ℕ × ℕ) → Type 0
 LiesIn i spans = (s : ℕ × ℕ) × Contains spans s × (s.0 ≤ i) × (i < s.1)
 
+-- an offset and the end of the match there
+abbrev pub IsMatch : Data → Editor → ℕ × ℕ → Type 0
+IsMatch d e s = MatchesAt d (sought d e) e.content.text s.0 × (s.1 ≡ match_end d Close (sought d e) e.content.text s.0)
+
 -- The matches from the one that is shown on. They are apart, each is the query's letters, and wherever the query stands from
 -- there on is in one of them.
 pub record AreTheMatches (d : Data) (e : Editor) (spans : List (ℕ × ℕ)) : Type 0 where
+  pub are_matches : All (IsMatch d e) spans
   pub apart : AreApart e.at spans
   pub letters_are : All (λ s. letters d (chars (slice_range e.content.text s.0 s.1)) ≡ sought d e) spans
   pub all : (i : ℕ) → e.at ≤ i → MatchesAt d (sought d e) e.content.text i → LiesIn i spans

@@ -29,7 +29,7 @@ const LONGEST_LINE: usize = 16;
 const LONGEST_CODE: usize = 6;
 
 impl<D: BidiData + Drop> Editor<D> {
-    /// Asks, with an empty answer. No memory.
+    /// Asks, with an empty answer. Allocates nothing.
     pub(crate) fn begin_question(&mut self, ask: Ask)
         ensures { self.new ≡ record self.old { editor = asking (cleared self.old.editor) ask } }
     {
@@ -38,7 +38,7 @@ impl<D: BidiData + Drop> Editor<D> {
         self.clear();
     }
 
-    /// Ends the question, if there is one. No memory.
+    /// Ends the question, if there is one. Allocates nothing.
     pub(crate) fn leave_question(&mut self)
         ensures { self.new ≡ record self.old { editor = without_ask self.old.editor } }
     {
@@ -61,8 +61,6 @@ impl<D: BidiData + Drop> Editor<D> {
     }
 
     /// The place of a paragraph and a unit in it; without a paragraph, in the place's own.
-    ///
-    /// Errors: `OutOfMemory`.
     fn place_of(&mut self, target: Target) -> Result<usize, OutOfMemory>
         ensures same { self.new ≡ self.old }
         ensures place { IfOk result (λ o. o ≡ target_place (D.data self.old.tables) self.old.editor target) }

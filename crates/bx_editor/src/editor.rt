@@ -100,7 +100,7 @@ impl<D: BidiData + Drop> Model for Editor<D> {
 }
 
 impl<D: BidiData + Drop> Editor<D> {
-    /// Sets the window's size, in rows and columns. No memory.
+    /// Sets the window's size, in rows and columns. Allocates nothing.
     pub fn resize(&mut self, height: u16, width: u16)
         requires sized { is_size height width ≡ true }
         ensures { self.new ≡ record self.old { editor = with_size self.old.editor height width } }
@@ -109,7 +109,7 @@ impl<D: BidiData + Drop> Editor<D> {
         self.height = height;
     }
 
-    /// Counts the text as changed since the last save, and no undo as leading to the stored text. No memory.
+    /// Counts the text as changed since the last save, and no undo as leading to the stored text. Allocates nothing.
     pub fn count_as_changed(&mut self)
         ensures { self.new ≡ record self.old { editor = record self.old.editor { stored = None; changed = true } } }
     {
@@ -117,7 +117,7 @@ impl<D: BidiData + Drop> Editor<D> {
         self.changed = true;
     }
 
-    /// The text in consecutive pieces. No memory.
+    /// The text in consecutive pieces. Allocates nothing.
     pub fn pieces(&self) -> Slices<'_>
         ensures text { result ≡ self.now.editor.content.text }
         ensures joined { (slices : List (Bor (List ℕ))) → Drains lends result slices → joined slices ≡ self.now.editor.content.text }
@@ -125,84 +125,84 @@ impl<D: BidiData + Drop> Editor<D> {
         self.document.pieces()
     }
 
-    /// Whether Quit has ended the editor. No memory.
+    /// Whether Quit has ended the editor. Allocates nothing.
     pub fn ended(&self) -> bool
         ensures { result ≡ self.now.editor.ended }
     {
         self.ended
     }
 
-    /// Whether there was an edit since the opening or the last save. No memory.
+    /// Whether there was an edit since the opening or the last save. Allocates nothing.
     pub fn changed(&self) -> bool
         ensures { result ≡ self.now.editor.changed }
     {
         self.changed
     }
 
-    /// The cursor's place, in bytes from 0. No memory.
+    /// The cursor's place, in bytes from 0. Allocates nothing.
     pub fn place(&self) -> usize
         ensures { result ≡ self.now.editor.place }
     {
         self.place
     }
 
-    /// The mark's place, if there is a mark. No memory.
+    /// The mark's place, if there is a mark. Allocates nothing.
     pub fn mark(&self) -> Option<usize>
         ensures { result ≡ self.now.editor.mark }
     {
         self.mark
     }
 
-    /// The text that was copied or cut last. No memory.
+    /// The text that was copied or cut last. Allocates nothing.
     pub fn held(&self) -> &str
         ensures { result.now ≡ self.now.editor.held }
     {
         self.held.as_str()
     }
 
-    /// The query of the search, or of the latest one. No memory.
+    /// The query of the search, or of the latest one. Allocates nothing.
     pub fn query(&self) -> &str
         ensures { result.now ≡ self.now.editor.query }
     {
         self.query.as_str()
     }
 
-    /// The text that replaces matches. No memory.
+    /// The text that replaces matches. Allocates nothing.
     pub fn other(&self) -> &str
         ensures { result.now ≡ self.now.editor.other }
     {
         self.other.as_str()
     }
 
-    /// Whether a search is on. No memory.
+    /// Whether a search is on. Allocates nothing.
     pub fn seek(&self) -> Seek
         ensures { result ≡ self.now.editor.seek }
     {
         self.seek
     }
 
-    /// What the search, or the latest one, is for. No memory.
+    /// What the search, or the latest one, is for. Allocates nothing.
     pub fn aim(&self) -> Aim
         ensures { result ≡ self.now.editor.aim }
     {
         self.aim
     }
 
-    /// What the user is asked. No memory.
+    /// What the user is asked. Allocates nothing.
     pub fn ask(&self) -> Ask
         ensures { result ≡ self.now.editor.ask }
     {
         self.ask
     }
 
-    /// The answer to the question, or to the latest one. No memory.
+    /// The answer to the question, or to the latest one. Allocates nothing.
     pub fn typed_answer(&self) -> &str
         ensures { result.now ≡ self.now.editor.answer }
     {
         self.answer.as_str()
     }
 
-    /// The window's rows. No memory.
+    /// The window's rows. Allocates nothing.
     pub fn height(&self) -> u16
         ensures height { result ≡ self.now.editor.height }
         ensures side { is_side self.now.editor.height ≡ true }
@@ -210,7 +210,7 @@ impl<D: BidiData + Drop> Editor<D> {
         self.height
     }
 
-    /// The window's columns. No memory.
+    /// The window's columns. Allocates nothing.
     pub fn width(&self) -> u16
         ensures width { result ≡ self.now.editor.width }
         ensures side { is_side self.now.editor.width ≡ true }
@@ -218,7 +218,7 @@ impl<D: BidiData + Drop> Editor<D> {
         self.document.width()
     }
 
-    /// Ends the search, if one is on. The cursor stays. No memory.
+    /// Ends the search, if one is on. The cursor stays. Allocates nothing.
     pub(crate) fn leave_search(&mut self)
         ensures { self.new ≡ record self.old { editor = without_search self.old.editor } }
     {

@@ -92,8 +92,6 @@ impl<D: BidiData + Drop> Editor<D> {
     }
 
     /// Where a move back from the place leads.
-    ///
-    /// Errors: `OutOfMemory`.
     fn back_by(&mut self, back: Move) -> Result<usize, OutOfMemory>
         requires back { goes_back back ≡ true }
         ensures same { self.new ≡ self.old }
@@ -108,8 +106,6 @@ impl<D: BidiData + Drop> Editor<D> {
     }
 
     /// Where a move forward from the place leads.
-    ///
-    /// Errors: `OutOfMemory`.
     pub(crate) fn on_by(&mut self, on: Move) -> Result<usize, OutOfMemory>
         requires on { goes_on on ≡ true }
         ensures same { self.new ≡ self.old }

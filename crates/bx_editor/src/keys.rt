@@ -91,7 +91,7 @@ impl<D: BidiData + Drop> Editor<D> {
         self.tell(Message::Direction(base));
     }
 
-    /// Reports the end of a Save, with its fault if it failed, and ends a search or a question. No memory.
+    /// Reports the end of a Save, with its fault if it failed, and ends a search or a question. Allocates nothing.
     pub fn finish_save(&mut self, fault: Option<StoreFault>)
         ensures { self.new ≡ record self.old { editor = after_key (D.data self.old.tables) fault self.old.editor Key.Save } }
     {

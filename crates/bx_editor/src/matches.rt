@@ -32,7 +32,7 @@ const NOT_FOUND: Landing = Landing {
     message: Some(Message::NotFound),
 };
 
-/// Whether a query of at most 64 characters has letters to be sought. No memory.
+/// Whether a query of at most 64 characters has letters to be sought. Allocates nothing.
 pub(crate) fn has_letters<D: BidiData + Drop>(
     document: &Document<D>,
     reading: Reading,
@@ -45,8 +45,6 @@ pub(crate) fn has_letters<D: BidiData + Drop>(
 }
 
 /// Leads to the place of a match.
-///
-/// Errors: `OutOfMemory`.
 fn at_match<D: BidiData + Drop>(
     document: &mut Document<D>,
     offset: usize,
@@ -64,8 +62,6 @@ fn at_match<D: BidiData + Drop>(
 }
 
 /// Leads to the first match of the text, if there is one; none is at or after `place`.
-///
-/// Errors: `OutOfMemory`.
 fn from_start<D: BidiData + Drop>(
     document: &mut Document<D>,
     reading: Reading,
@@ -86,8 +82,6 @@ fn from_start<D: BidiData + Drop>(
 }
 
 /// Leads to the last match of the text, if there is one; none is before `place`.
-///
-/// Errors: `OutOfMemory`.
 fn from_end<D: BidiData + Drop>(
     document: &mut Document<D>,
     reading: Reading,
@@ -109,8 +103,6 @@ fn from_end<D: BidiData + Drop>(
 
 /// Seeks a query of at most 64 characters from a place on, and then from the text's start. A query without letters leads
 /// nowhere.
-///
-/// Errors: `OutOfMemory`.
 pub(crate) fn forward<D: BidiData + Drop>(
     document: &mut Document<D>,
     reading: Reading,
@@ -137,8 +129,6 @@ pub(crate) fn forward<D: BidiData + Drop>(
 
 /// Seeks a query of at most 64 characters before a place, and then before the text's end. A query without letters leads
 /// nowhere.
-///
-/// Errors: `OutOfMemory`.
 pub(crate) fn backward<D: BidiData + Drop>(
     document: &mut Document<D>,
     reading: Reading,

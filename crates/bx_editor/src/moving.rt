@@ -72,8 +72,6 @@ impl<D: BidiData + Drop> Editor<D> {
     }
 
     /// The column that moves from row to row keep: the kept one, else the cursor's.
-    ///
-    /// Errors: `OutOfMemory`.
     fn goal_column(&mut self) -> Result<u16, OutOfMemory>
         ensures same { self.new ≡ self.old }
         ensures column { IfOk result (λ column. column ≡ goal_column (D.data self.old.tables) self.old.editor) }

@@ -17,7 +17,7 @@ use bx_terms::OutOfMemory;
 use bx_ucd::BidiData;
 
 impl<D: BidiData + Drop> Editor<D> {
-    /// The query as the search reads it; none if it has no letters. No memory.
+    /// The query as the search reads it; none if it has no letters. Allocates nothing.
     pub(crate) fn sought(&self) -> Option<Query>
         ensures letters { IfSome result (λ q. q ≡ sought (D.data self.now.tables) self.now.editor) }
         ensures none { IsNone result ↔ (sought (D.data self.now.tables) self.now.editor ≡ []) }
@@ -87,14 +87,14 @@ impl<D: BidiData + Drop> Editor<D> {
         Ok(())
     }
 
-    /// Shows the match of the place. No memory.
+    /// Shows the match of the place. Allocates nothing.
     pub(crate) fn show_match(&mut self)
         requires asked { asks_other self.old.editor.seek ≡ true }
         ensures { self.new ≡ record self.old { editor = after_showing (D.data self.old.tables) (cleared self.old.editor) } }
     {
+        self.clear();
         // proof only: the text is UTF-8 and within its limit
         let _utf8 = self.document.len();
-        self.clear();
         let Some(query) = self.sought() else {
             return;
         };

@@ -27,8 +27,6 @@ pub(crate) fn text_height(height: u16) -> u16
 impl<D: BidiData + Drop> Editor<D> {
     /// Draws the status row below the text rows, with the prompt of a question or of a search. A window of a single row has
     /// none.
-    ///
-    /// Errors: `OutOfMemory`.
     fn put_status(
         &mut self,
         alloc: Global,
@@ -66,8 +64,6 @@ impl<D: BidiData + Drop> Editor<D> {
     /// rendition. Returns the
     /// offset of the new top row, and the picture. It is drawn on `page`, a grid of the window's size. Rows that `page` shows
     /// already are not written again.
-    ///
-    /// Errors: `OutOfMemory`.
     pub fn picture(
         &mut self,
         alloc: Global,

@@ -1,5 +1,5 @@
 //! A match that is shown: it is replaced or passed over, or it and all that follow are replaced.
-ghost use Rattle.std.specs.Prelude.{◌≡◌, ◌+◌, ◌≤◌, if◌then◌else◌, IfOk, IfSome, IsCharBoundary, OnErr, OnOk};
+ghost use Rattle.std.specs.Prelude.{◌≡◌, ◌+◌, ◌≤◌, true, if◌then◌else◌, IfOk, IfSome, IsCharBoundary, OnErr, OnOk};
 ghost use Rattle.bx_terms.specs.Sizes.{largest_text};
 ghost use Rattle.bx_text.specs.Edits.{IsRange, fits, splice};
 ghost use Rattle.bx_view.specs.Places.{IsTextPlace};
@@ -15,20 +15,21 @@ use bx_terms::OutOfMemory;
 use bx_ucd::BidiData;
 
 impl<D: BidiData + Drop> Editor<D> {
-    /// The offset behind the match that is shown. No memory.
+    /// The offset behind the match that is shown. Allocates nothing.
     fn match_stop(&self) -> usize
         requires shown { self.now.editor.seek ≡ Seek.Replacing }
         ensures stop { result ≡ match_stop (D.data self.now.tables) self.now.editor }
         ensures range { IsRange self.now.editor.content.text self.now.editor.at result }
     {
+        let (reading, at) = (reading_of(self.aim), self.at);
         let Some(query) = self.sought() else {
             unreachable!()
         };
-        self.document
-            .match_end(reading_of(self.aim), &query, self.at)
+        self.document.match_end(reading, &query, at)
     }
 
-    /// The offsets of the part of the text in the other rendition: the units of the match that is shown, else the region. No memory.
+    /// The offsets of the part of the text in the other rendition: the units of the match that is shown, else the region. Allocates
+    /// nothing.
     pub(crate) fn seen(&self) -> (usize, usize)
         ensures { result ≡ seen (D.data self.now.tables) self.now.editor }
     {
@@ -38,20 +39,21 @@ impl<D: BidiData + Drop> Editor<D> {
         }
     }
 
-    /// The first match at or after an offset. No memory.
+    /// The first match at or after an offset. Allocates nothing.
     fn next_match(&self, x: usize) -> Option<usize>
         requires shown { self.now.editor.seek ≡ Seek.Replacing }
         requires bounds { IsCharBoundary self.now.editor.content.text x }
         ensures next { result ≡ next_match (D.data self.now.tables) self.now.editor x }
         ensures boundary { IfSome result (IsCharBoundary self.now.editor.content.text) }
     {
+        let reading = reading_of(self.aim);
         let Some(query) = self.sought() else {
             unreachable!()
         };
-        self.document.first_from(reading_of(self.aim), &query, x)
+        self.document.first_from(reading, &query, x)
     }
 
-    /// Ends replacing, and tells how many matches were replaced. No memory.
+    /// Ends replacing, and tells how many matches were replaced. Allocates nothing.
     pub(crate) fn end_replacing(&mut self)
         ensures { self.new ≡ record self.old { editor = after_ending (cleared self.old.editor) } }
     {
@@ -67,6 +69,8 @@ impl<D: BidiData + Drop> Editor<D> {
         }) }
         ensures err { OnErr result (self.new ≡ self.old) }
     {
+        // proof only: the text is UTF-8 and within its limit
+        let _utf8 = self.document.len();
         let behind = self.document.behind_character(self.at);
         let Some(at) = self.next_match(behind) else {
             self.end_replacing();
@@ -80,8 +84,6 @@ impl<D: BidiData + Drop> Editor<D> {
 
     /// The next match behind `stop`, once the bytes from the match to `stop` have given way to `new`: its offset then, and its
     /// place.
-    ///
-    /// Errors: `OutOfMemory`.
     fn next_behind(&mut self, stop: usize, new: &str) -> Result<Option<(usize, usize)>, OutOfMemory>
         requires shown { self.old.editor.seek ≡ Seek.Replacing }
         requires range { IsRange self.old.editor.content.text self.old.editor.at stop }
@@ -91,6 +93,8 @@ impl<D: BidiData + Drop> Editor<D> {
         ensures text_place { IfOk result (λ next. IfSome next (λ found. IsTextPlace (D.data self.old.tables)
             (splice self.old.editor.content.text self.old.editor.at stop new.now) found.1)) }
     {
+        // proof only: the text is UTF-8 and within its limit
+        let _utf8 = self.document.len();
         let Some(offset) = self.next_match(stop) else {
             return Ok(None);
         };
@@ -139,6 +143,8 @@ impl<D: BidiData + Drop> Editor<D> {
         }) }
         ensures err { OnErr result (self.new ≡ self.old) }
     {
+        // proof only: the text is UTF-8 and within its limit
+        let _utf8 = self.document.len();
         let stop = self.match_stop();
         if !self.document.has_room(self.at, stop, self.other.as_str()) {
             self.tell(Message::TextFull);
@@ -166,10 +172,12 @@ impl<D: BidiData + Drop> Editor<D> {
         }) }
         ensures err { OnErr result (self.new ≡ self.old) }
     {
+        // proof only: the text is UTF-8 and within its limit
+        let _utf8 = self.document.len();
+        let reading = reading_of(self.aim);
         let Some(query) = self.sought() else {
             unreachable!()
         };
-        let reading = reading_of(self.aim);
         let other = self.other.as_str();
         let Some(swap) = self.document.swap(reading, &query, self.at, other)? else {
             self.tell(Message::TextFull);

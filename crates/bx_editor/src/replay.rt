@@ -10,7 +10,7 @@ use bx_runs::Typing;
 use bx_ucd::BidiData;
 
 impl<D: BidiData + Drop> Editor<D> {
-    /// Passes over a Quit of a journal, outside a search: it ends what any key ends. No memory.
+    /// Passes over a Quit of a journal, outside a search: it ends what any key ends. Allocates nothing.
     pub fn pass_quit(&mut self)
         ensures { self.new ≡ record self.old { editor = after_passed_quit self.old.editor } }
     {
@@ -20,7 +20,7 @@ impl<D: BidiData + Drop> Editor<D> {
     }
 
     /// Passes over a Save of a journal: it ends a search and what any key ends. No undo counts as leading to the stored text, since
-    /// a journal does not tell whether the save succeeded. No memory.
+    /// a journal does not tell whether the save succeeded. Allocates nothing.
     pub fn pass_save(&mut self)
         ensures { self.new ≡ record self.old { editor = after_passed_save self.old.editor } }
     {

@@ -47,7 +47,7 @@ impl<D: BidiData + Drop> Editor<D> {
         self.end_search();
     }
 
-    /// Moves the cursor to where a match is, and sets the message. No memory.
+    /// Moves the cursor to where a match is, and sets the message. Allocates nothing.
     pub(crate) fn settle_at(&mut self, landing: Landing)
         requires place { IfSome landing.place (IsTextPlace (D.data self.old.tables) self.old.editor.content.text) }
         ensures { self.new ≡ record self.old { editor = landed (cleared self.old.editor) landing } }
@@ -123,8 +123,6 @@ impl<D: BidiData + Drop> Editor<D> {
     }
 
     /// The place after the cursor's, or the text's start if there is none.
-    ///
-    /// Errors: `OutOfMemory`.
     fn next_or_start(&mut self) -> Result<usize, OutOfMemory>
         ensures same { self.new ≡ self.old }
         ensures next { IfOk result (λ x. x ≡ next_or_start (D.data self.old.tables) self.old.editor) }

@@ -130,8 +130,6 @@ fn draw_question<D: BidiData + Drop>(
 impl<D: BidiData + Drop> Editor<D> {
     /// Draws the status row: its text, and the prompt of a question and the answer, or that of a search and the query or the other
     /// text.
-    ///
-    /// Errors: `OutOfMemory`.
     pub(crate) fn draw_status(&self, line: String) -> Result<OwnedRow, OutOfMemory>
         requires { are_ascii_printable (string_bytes line) ≡ true }
         ensures row { IfOk result (λ row. row ≡ glyph_row self.now.editor.width

@@ -12,8 +12,6 @@ use bx_ucd::BidiData;
 
 impl<D: BidiData + Drop> Editor<D> {
     /// Whether the region has a separator of paragraphs.
-    ///
-    /// Errors: `OutOfMemory`.
     fn spans_lines(&self) -> Result<bool, OutOfMemory>
         ensures { IfOk result (λ spans. spans ≡ spans_lines (D.data self.now.tables) self.now.editor) }
     {

@@ -39,8 +39,6 @@ fn append(
 }
 
 /// A page of `height` rows and `width` columns: the spare one if it has this size, else a blank one.
-///
-/// Errors: `OutOfMemory`.
 fn page_of(alloc: Global, spare: Option<Grid>, height: u16, width: u16) -> Result<Grid, OutOfMemory>
     requires sized { is_size height width ≡ true }
     ensures height { IfOk result (λ page. page.height ≡ height) }

@@ -1,4 +1,4 @@
-use Rattle.bx_editor.proofs.ShownMatch.{replace-replaces-all}
+use Rattle.bx_editor.proofs.MatchReplaced.{replace-replaces-all}
 use Rattle.bx_editor.proofs.replace_laws.replace_replaces_all.Goals as goal
 
 pub returns : goal.returns

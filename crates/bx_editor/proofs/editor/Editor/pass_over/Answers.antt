@@ -1,0 +1,50 @@
+use Rattle.std.proofs.Common.{◌≡◌, ◌≤◌, ◌∙◌, true, ap, arith, chars, length, string_bytes, subst, sym, IfSome}
+use Rattle.std.specs.Prelude.{Some}
+use Rattle.bx_terms.specs.Sizes.{is_side}
+use Rattle.bx_find.specs.Matches.{first_from_by}
+use Rattle.bx_document.specs.Document.{DocumentState}
+use Rattle.bx_view.specs.Places.{IsTextPlace}
+use Rattle.bx_editor.specs.Answers.{IsAnswer}
+use Rattle.bx_editor.specs.Editor.{EditorState}
+use Rattle.bx_editor.specs.Origin.{BeganAt, StandsAt}
+use Rattle.bx_editor.specs.Replacing.{next_match}
+use Rattle.bx_editor.specs.Search.{reading}
+use Rattle.bx_editor.specs.declared.seek.Seek.TheVariants.{Replacing}
+use Rattle.bx_editor.proofs.ShownMatch.{at-match, letters, passed-over}
+use Rattle.bx_editor.proofs.editor.Editor.pass_over.Goals as goal
+
+pub invariant_of-self-2 : goal.invariant_of-self-2
+invariant_of-self-2 g c =
+    let i = c.self.inside in
+    let t : DocumentState g.row.D.Denot = i.document in
+    let d = g.D.BidiData.data t.tables in
+    let text = t.document.content.text in
+    let query = string_bytes i.query in
+    let at = c.in-Some.at in
+    let behind = c.behind_character-behind.result in
+    let kept = c.self.invariant in
+    let seek : i.seek ≡ Replacing = ap (λ (s : EditorState g.row.D.Denot). s.editor.seek) c.self.view_is ∙ c.requires.shown in
+    let shown = at-match d i.aim query text i.seek i.at i.count seek kept.7 in
+    let found : Some at ≡ first_from_by d (reading i.aim) (letters d i.aim query text) text behind =
+    sym c.in-Some.is ∙ c.next_match.ensures.next
+    ∙ sym (ap (λ (s : EditorState g.row.D.Denot). next_match (g.D.BidiData.data s.tables) s.editor behind) c.self.view_is) in
+    let on : i.at ≤ behind = omega (arith, c.behind_character-behind.ensures.behind) in
+    let next = passed-over d i.aim query text i.at i.count behind at c.len-utf8.ensures.utf8 shown on found in
+    subst (λ (x : DocumentState g.row.D.Denot). IsTextPlace (g.D.BidiData.data x.tables) x.document.content.text c.in_ok-self-inside.field-0
+    × (is_side i.height ≡ true)
+    × IfSome i.mark (IsTextPlace (g.D.BidiData.data x.tables) x.document.content.text)
+    × (length (chars (string_bytes i.query)) ≤ 64)
+    × (length (chars (string_bytes i.other)) ≤ 64)
+    × IsAnswer i.ask (string_bytes i.answer)
+    × BeganAt (g.D.BidiData.data x.tables) x.document.content.text i.seek i.origin
+    × StandsAt (g.D.BidiData.data x.tables) i.aim (string_bytes i.query) x.document.content.text i.seek at i.count)
+    (sym c.in_ok-self-inside.ensures.same) (
+      c.in_ok-self-inside.ensures.text_place,
+      kept.1,
+      kept.2,
+      kept.3,
+      kept.4,
+      kept.5,
+      kept.6,
+      subst (λ s. StandsAt d i.aim query text s at i.count) (sym seek) next,
+    )
