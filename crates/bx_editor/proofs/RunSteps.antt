@@ -1,11 +1,11 @@
 -- Where no step is made the text stays; behind a run's steps the past has the length that the run leads to.
-use Rattle.std.proofs.Common.{◌≡◌, ℕ, length, refl, ap}
+use Rattle.std.proofs.Common.{◌≡◌, ℕ, List, [], ◌∷◌, length, refl, ap}
 use Rattle.std.specs.Prelude.{Option, Some, None, is_some}
 use Rattle.std.specs.Option.{option_map}
 use Rattle.bx_text.specs.declared.change.Change.{Change}
-use Rattle.bx_text.specs.Edits.{Edited}
+use Rattle.bx_text.specs.Edits.{Edit, Edited, first_again, first_back, redone_in, undone_in}
 use Rattle.bx_text.proofs.UndoneTimes.{nothing_redone, nothing_undone}
-use Rattle.bx_document.specs.History.{next_changes, stepped_times}
+use Rattle.bx_document.specs.History.{next_change, next_changes, stepped, stepped_times}
 use Rattle.bx_document.specs.declared.history.HistoryStep.{HistoryStep}
 use Rattle.bx_document.specs.declared.history.HistoryStep.TheVariants.{Undo, Redo}
 use Rattle.bx_editor.specs.Editor.{Editor, cleared, nothing_left, with_step}
@@ -15,6 +15,18 @@ use Rattle.bx_editor.proofs.StoredText.{run-ends}
 pub no-step : (step : HistoryStep) (n : ℕ) (t : Edited) → next_changes step n t ≡ None → stepped_times step n t ≡ t
 no-step Undo n t none = nothing_undone n t.text t.past t.future (ap (λ c. is_some c) none)
 no-step Redo n t none = nothing_redone n t.text t.past t.future (ap (λ c. is_some c) none)
+
+undo-none : (t : Edited) (past : List Edit) → first_back past ≡ None → undone_in t past ≡ t
+undo-none t [] none = refl
+undo-none t (edit ∷ past) none = absurd (cc none)
+
+redo-none : (t : Edited) (future : List Edit) → first_again future ≡ None → redone_in t future ≡ t
+redo-none t [] none = refl
+redo-none t (edit ∷ future) none = absurd (cc none)
+
+pub not-stepped : (step : HistoryStep) (t : Edited) → next_change step t ≡ None → stepped step t ≡ t
+not-stepped Undo t none = undo-none t t.past none
+not-stepped Redo t none = redo-none t t.future none
 
 pub none-mapped : (change : Option Change) → option_map (λ (c : Change). c.place) change ≡ None → change ≡ None
 none-mapped None is = refl

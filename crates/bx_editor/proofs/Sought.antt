@@ -1,16 +1,19 @@
 -- Where a search leads, and where it starts.
-use Rattle.std.proofs.Common.{◌≡◌, ℕ, ◌<◌, Bool, true, false, nat_lt, cond, List, [], ◌∷◌, length, Some, None, refl, arith, ltb-true}
-use Rattle.std.specs.Prelude.{find, unwrap_or}
+use Rattle.std.proofs.Common.{◌≡◌, ℕ, ◌<◌, Bool, true, false, nat_lt, cond, List, [], ◌∷◌, length, Some, None, refl, ap, ◌∙◌, arith, ltb-true, ne_eqb, if◌then◌else◌}
+use Rattle.std.specs.Prelude.{◌==◌, find, not, unwrap_or}
 use Rattle.bx_ucd.specs.Data.{Data}
 use Rattle.bx_find.specs.declared.reading.Reading.{Reading}
 use Rattle.bx_find.specs.Matches.{first_from_by, last_before_by}
 use Rattle.bx_view.specs.Places.{IsTextPlace}
 use Rattle.bx_view.specs.TextRows.{TextRow}
+use Rattle.bx_editor.specs.declared.aim.Aim.TheVariants as aims
 use Rattle.bx_editor.specs.declared.message.Message.TheVariants.{FromEnd, FromStart}
 use Rattle.bx_editor.specs.declared.seek.Seek.{Seek}
 use Rattle.bx_editor.specs.declared.seek.Seek.TheVariants.{Off, Begun, Typed, WithBegun, WithTyped, Replacing}
 use Rattle.bx_editor.specs.Origin.{BeganAt}
-use Rattle.bx_editor.specs.Search.{backward, forward, match_or, not_found}
+use Rattle.bx_editor.specs.Editor.{Editor}
+use Rattle.bx_editor.specs.Search.{after_beginning, after_find_next, after_letter, backward, forward, is_no_letter, kept, lengthened, longest_query, match_or, next_or_start}
+use Rattle.bx_editor.specs.Search.{not_found, search_from, sought, with_query, without_search}
 
 pub began : (d : Data) (text : List ℕ) (seek : Seek) (origin : ℕ) → IsTextPlace d text origin → BeganAt d text seek origin
 began d text Off origin is = tt
@@ -57,3 +60,21 @@ over place p ps false e on not-less = on not-less
 pub next-is-start : (place : ℕ) (ps : List ℕ) → ¬ (place < next place ps place) → next place ps 0 ≡ 0
 next-is-start place [] not-less = refl
 next-is-start place (p ∷ ps) not-less = over place p ps (nat_lt place p) refl (next-is-start place ps) not-less
+
+-- ---- what a key seeks
+
+pub letter-sought : (d : Data) (e : Editor) (c : ℕ) → (c ≡ 10 → ⊥) → is_no_letter d c ≡ false
+    → after_letter d e c ≡ search_from d e.place (with_query e (lengthened longest_query (kept e.seek e.query) c))
+letter-sought d e c other plain =
+    let longer = search_from d e.place (with_query e (lengthened longest_query (kept e.seek e.query) c)) in
+    ap (λ b. if b then without_search e else if is_no_letter d c then e else longer) (ne_eqb c 10 other)
+    ∙ ap (λ b. if b then e else longer) plain
+
+pub find-next-sought : (d : Data) (e : Editor) → (length (sought d e) == 0) ≡ false
+    → after_find_next d e ≡ search_from d (next_or_start d e) (record e { seek = Off; aim = aims.Find })
+find-next-sought d e some =
+    ap (λ b. if b then after_beginning aims.Find e else search_from d (next_or_start d e) (record e { seek = Off; aim = aims.Find })) some
+
+pub not-true : (b : Bool) → not b ≡ true → b ≡ false
+not-true true h = absurd (cc h)
+not-true false h = refl

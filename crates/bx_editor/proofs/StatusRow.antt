@@ -22,7 +22,7 @@ use Rattle.bx_editor.specs.declared.message.Message.{Message}
 use Rattle.bx_editor.specs.declared.message.Message.TheVariants.{Saved, SaveFailed, TextFull, NothingToUndo, NothingToRedo, Unsaved, Direction, MarkSet, MarkOff}
 use Rattle.bx_editor.specs.declared.message.Message.TheVariants.{Copied, LineCopied, NothingToCopy, NothingToPut, FromStart, FromEnd, NotFound, Help}
 use Rattle.bx_editor.specs.declared.message.Message.TheVariants.{MoreHelp, MoreThanOneLine, NoSuchCharacter, Replaced, Told, Notice}
-use Rattle.bx_editor.specs.Status.{failed_text, letter_glyphs, message_text, notice_text, prompt_text, status_line}
+use Rattle.bx_editor.specs.Status.{failed_text, letter_glyphs, message_text, notice_text, prompt_text, shown_text, status_line}
 
 -- ---- all its characters are from SPACE to TILDE
 
@@ -89,6 +89,9 @@ message-printable NoSuchCharacter = refl
 message-printable (Replaced n) = refl
 message-printable Told = refl
 message-printable (Notice notice) = notice-printable notice
+
+pub replaced-printable : (told : List ℕ) (n : ℕ) → n < 2 ^ 64 → are_ascii_printable (shown_text told (Replaced n)) ≡ true
+replaced-printable told n h = printable-append (decimal n) (codes " replaced") (decimal-printable n h) refl
 
 mark-printable : (changed : Bool) → are_ascii_printable (if changed then codes "* " else codes "- ") ≡ true
 mark-printable true = refl

@@ -11,12 +11,16 @@ use Rattle.bx_view.specs.declared.moves.Logical.TheVariants.{Forward}
 use Rattle.bx_editor.specs.Editor.{Editor, rows}
 use Rattle.bx_editor.specs.Telling.{told_at_place}
 
+pub told-is : (d : Data) (e : Editor) (unit : List ℕ) (level : Option ℕ) → (e.place ≡ length e.content.text → ⊥)
+    → unit ≡ slice_range e.content.text e.place (step_logical (rows d e) Forward e.place) → level ≡ place_level d e.base e.content.text e.place
+    → told_at_place d e ≡ told_text d (chars unit) level
+told-is d e unit level inside is-unit is-level =
+    let here = slice_range e.content.text e.place (step_logical (rows d e) Forward e.place) in
+    let not-end = ne_eqb e.place (length e.content.text) inside in
+    ap (λ b. if b then codes "end of text" else told_text d (chars here) (place_level d e.base e.content.text e.place)) not-end
+    ∙ ap₂ (λ u l. told_text d (chars u) l) (sym is-unit) (sym is-level)
+
 pub told-here : (d : Data) (e : Editor) (unit : List ℕ) (level : Option ℕ) → (e.place ≡ length e.content.text → ⊥)
     → unit ≡ slice_range e.content.text e.place (step_logical (rows d e) Forward e.place) → level ≡ place_level d e.base e.content.text e.place
     → are_ascii_printable (told_text d (chars unit) level) ≡ true → are_ascii_printable (told_at_place d e) ≡ true
-told-here d e unit level inside is-unit is-level h =
-    let here = slice_range e.content.text e.place (step_logical (rows d e) Forward e.place) in
-    let not-end = ne_eqb e.place (length e.content.text) inside in
-    ap (λ b. are_ascii_printable (if b then codes "end of text" else told_text d (chars here) (place_level d e.base e.content.text e.place))) not-end
-    ∙ ap₂ (λ u l. are_ascii_printable (told_text d (chars u) l)) (sym is-unit) (sym is-level)
-    ∙ h
+told-here d e unit level inside is-unit is-level h = ap are_ascii_printable (told-is d e unit level inside is-unit is-level) ∙ h

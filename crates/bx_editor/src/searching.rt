@@ -1,9 +1,9 @@
 //! The keys of a search.
-ghost use Rattle.std.specs.Prelude.{◌≡◌, IfOk, IfSome, OnErr, OnOk};
+ghost use Rattle.std.specs.Prelude.{◌≡◌, ◌==◌, not, length, IfOk, IfSome, OnErr, OnOk};
 ghost use Rattle.bx_view.specs.Places.{IsTextPlace};
 ghost use Rattle.bx_editor.specs.Editor.{cleared};
 ghost use Rattle.bx_editor.specs.Search.{after_beginning, after_find, after_find_back, after_find_next, after_giving_up, after_letter, after_shortening};
-ghost use Rattle.bx_editor.specs.Search.{landed, next_or_start, without_search};
+ghost use Rattle.bx_editor.specs.Search.{landed, next_or_start, sought, without_search};
 ghost use Rattle.bx_editor.specs.Selecting.{unselected};
 
 use crate::aim::Aim;
@@ -156,6 +156,13 @@ impl<D: BidiData + Drop> Editor<D> {
         Ok(())
     }
 
+    /// Whether the query has letters, as the latest search read it.
+    fn has_query(&self) -> bool
+        ensures { result ≡ not (length (sought (D.data self.now.tables) self.now.editor) == 0) }
+    {
+        has_letters(&self.document, reading_of(self.aim), self.query.as_str())
+    }
+
     /// Goes to the next match, and no search is on. If the query has no letters, begins a search. An old selection is taken off.
     pub(crate) fn go_to_next(&mut self) -> Result<(), OutOfMemory>
         ensures ok { OnOk result (self.new ≡ record self.old {
@@ -163,7 +170,7 @@ impl<D: BidiData + Drop> Editor<D> {
         }) }
         ensures err { OnErr result (self.new ≡ self.old) }
     {
-        if !has_letters(&self.document, reading_of(self.aim), self.query.as_str()) {
+        if !self.has_query() {
             self.begin_search(Aim::Find);
             return Ok(());
         }

@@ -16,7 +16,8 @@ use itoa::Buffer;
 ///
 /// Errors: `OutOfMemory`, and a part is written.
 fn write_replaced(line: &mut String, count: usize) -> Result<(), OutOfMemory>
-    ensures { IfOk result (λ _. string_bytes line.new ≡ string_bytes line.old ++ shown_text [] (Message.Replaced count)) }
+    ensures text { IfOk result (λ _. string_bytes line.new ≡ string_bytes line.old ++ shown_text [] (Message.Replaced count)) }
+    ensures printable { IfOk result (λ _. are_ascii_printable (shown_text [] (Message.Replaced count)) ≡ true) }
 {
     let mut number = Buffer::new();
     line.push_str(number.format(count))?;

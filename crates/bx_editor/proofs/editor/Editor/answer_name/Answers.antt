@@ -32,4 +32,4 @@ invariant_of-self g c =
     let kept = c.self-then-asks_code.invariant in
     let ask : i.ask ≡ Name =
     ap (λ s. s.editor.ask) c.self-then-asks_code.view_is ∙ ap (λ s. s.editor.ask) c.clear.ensures ∙ c.requires.ask in
-    (kept.0, kept.1, kept.2, kept.3, answer-coded _ (subst (λ a. IsAnswer a (string_bytes i.answer)) ask kept.4), kept.5)
+    (kept.0, kept.1, kept.2, kept.3, kept.4, answer-coded _ (subst (λ a. IsAnswer a (string_bytes i.answer)) ask kept.5), kept.6, kept.7)

@@ -16,7 +16,9 @@ invariant_of-self g c =
       kept.1,
       kept.2,
       kept.3,
+      kept.4,
       answer-longer i.ask c.args.limit (string_bytes i.answer) (string_bytes new) c.args.c (IsUtf8-string_bytes i.answer)
-          (IsUtf8-encode c.args.c c.ranges.c.0) limit kept.4 c.requires.narrow longer c.in_ok-answer.ensures.few,
-      kept.5,
+          (IsUtf8-encode c.args.c c.ranges.c.0) limit kept.5 c.requires.narrow longer c.in_ok-answer.ensures.few,
+      kept.6,
+      kept.7,
     )

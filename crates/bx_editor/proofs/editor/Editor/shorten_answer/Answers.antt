@@ -10,7 +10,7 @@ invariant_of-self g c =
     let i = c.self.inside in
     let kept = c.self.invariant in
     let none = eqb-true i.answer.bytes.len 0 (sym c.is_empty.ensures ∙ c.if-is_empty.true) in
-    (kept.0, kept.1, kept.2, kept.3, empty-name _ (sym i.answer.bytes.ok.0 ∙ none), kept.5)
+    (kept.0, kept.1, kept.2, kept.3, kept.4, empty-name _ (sym i.answer.bytes.ok.0 ∙ none), kept.6, kept.7)
 
 pub invariant_of-self-in-Line : goal.invariant_of-self-in-Line
 invariant_of-self-in-Line g c =
@@ -23,6 +23,8 @@ invariant_of-self-in-Line g c =
       kept.1,
       kept.2,
       kept.3,
-      answer-shorter i.ask (string_bytes i.answer) (string_bytes new) (IsUtf8-string_bytes new) kept.4 shorter fewer,
-      kept.5,
+      kept.4,
+      answer-shorter i.ask (string_bytes i.answer) (string_bytes new) (IsUtf8-string_bytes new) kept.5 shorter fewer,
+      kept.6,
+      kept.7,
     )

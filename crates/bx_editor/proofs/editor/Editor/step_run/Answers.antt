@@ -7,7 +7,7 @@ use Rattle.bx_view.specs.Places.{IsTextPlace}
 use Rattle.bx_editor.specs.declared.message.Message.{Message}
 use Rattle.bx_editor.specs.Editor.{Editor, EditorState, cleared}
 use Rattle.bx_editor.specs.Answers.{IsAnswer}
-use Rattle.bx_editor.specs.Origin.{BeganAt}
+use Rattle.bx_editor.specs.Origin.{BeganAt, StandsAt}
 use Rattle.bx_editor.specs.Runs.{by_run, run_length}
 use Rattle.bx_editor.proofs.RunSteps.{by-length-is, cleared-length, no-step, none-mapped}
 use Rattle.bx_editor.proofs.editor.Editor.step_run.Goals as goal
@@ -24,8 +24,10 @@ invariant_of-self-in_default g c =
     × (is_side i.height ≡ true)
     × IfSome i.mark (IsTextPlace (g.D.BidiData.data x.tables) x.document.content.text)
     × (length (chars (string_bytes i.query)) ≤ 64)
+    × (length (chars (string_bytes i.other)) ≤ 64)
     × IsAnswer i.ask (string_bytes i.answer)
-    × BeganAt (g.D.BidiData.data x.tables) x.document.content.text i.seek i.origin) (sym same) c.self.invariant
+    × BeganAt (g.D.BidiData.data x.tables) x.document.content.text i.seek i.origin
+    × StandsAt (g.D.BidiData.data x.tables) i.aim (string_bytes i.query) x.document.content.text i.seek i.at i.count) (sym same) c.self.invariant
 
 pub returns-in_default-clause-ok : goal.returns-in_default-clause-ok
 returns-in_default-clause-ok g c =
