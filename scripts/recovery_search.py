@@ -19,8 +19,13 @@ class Search:
         self.unselect()
         self.search, self.origin, self.aim = "begun", self.place, aim
 
+    def letters_of(self, text):
+        """The letters that a search compares, each as the one that it is found as."""
+        letters = "".join(letter for letter in text if letter not in CONTROLS)
+        return letters.translate(FOUND_AS) if self.aim == "find" else letters
+
     def find_next(self):
-        if self.query:
+        if self.letters_of(self.query):
             self.unselect()
             self.aim = "find"
             self.look_on()
@@ -61,8 +66,7 @@ class Search:
     def spans(self):
         """Where the query stands, and where it ends there, whatever named characters are between its letters."""
         places = [at for at, letter in enumerate(self.text) if letter not in CONTROLS]
-        table = FOUND_AS if self.aim == "find" else {}
-        letters, query = "".join(self.text[at] for at in places).translate(table), self.query.translate(table)
+        letters, query = self.letters_of(self.text), self.letters_of(self.query)
         starts = [i for i in range(len(places)) if query and letters.startswith(query, i)]
         return [(places[i], places[i + len(query) - 1] + 1) for i in starts]
 
@@ -145,7 +149,7 @@ class Search:
     def ask_other(self):
         """Asks for the text that takes a match's place, where the query stands somewhere."""
         self.aim = "replace"
-        if self.query:
+        if self.letters_of(self.query):
             self.search = "typed"
             self.look_from(self.place)
             if self.matches():
