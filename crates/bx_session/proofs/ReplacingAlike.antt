@@ -20,7 +20,8 @@ use Rattle.bx_editor.specs.Effects.{Before}
 use Rattle.bx_editor.specs.Keys.{Answer, Letter, Shortens, GoesBack, Next, Previous, Replaces, Stays, Ends, answered_match, answered_other}
 use Rattle.bx_editor.specs.Putting.{is_paste, only_paste}
 use Rattle.bx_editor.specs.Replacing.{after_asking_other, after_ending, after_match_letter, after_other_letter, after_passing_over, after_replacing, after_replacing_all}
-use Rattle.bx_editor.specs.Replacing.{after_showing, asked_at, at_match, longest_other, match_stop, matches_on, next_match, on_from, other_typed, shown_at, with_matches_replaced, with_other}
+use Rattle.bx_editor.specs.Replacing.{after_showing, asked_at, at_match, longest_other, match_stop, matches_on, next_match, on_from, other_typed}
+use Rattle.bx_editor.specs.Replacing.{shown_at, with_matches_replaced, with_other}
 use Rattle.bx_editor.specs.Search.{is_no_letter, kept, landed, landing_from, lengthened, reading, sought, without_search}
 use Rattle.bx_session.proofs.Lasting.{Lasting, lasting, having, is_other}
 use Rattle.bx_session.proofs.Alike.{Alike, Edits, either_alike, idle, going_on, pressed_alike, removal_alike}
