@@ -21,6 +21,13 @@ returns-clause-ok g c =
       tables = s.tables;
       editor = search_from (g.D.BidiData.data s.tables) s.editor.place (with_query (cleared s.editor) (lengthened longest_query (kept s.editor.seek s.editor.query) letter));
     }) c.self-2.view_is
-    (simp (c.in_ok-landing.ensures.same, c.in_ok-landing.ensures.landing, c.reading_of.ensures, c.as_str-2.ensures.value,
-    c.in_ok-query.ensures.longer, c.kept-kept.ensures.kept, c.as_str.ensures.value) at c.land.ensures)
+    (simp (
+      c.in_ok-landing.ensures.same,
+      c.in_ok-landing.ensures.landing,
+      c.reading_of.ensures,
+      c.as_str-2.ensures.value,
+      c.in_ok-query.ensures.longer,
+      c.kept-kept.ensures.kept,
+      c.as_str.ensures.value,
+    ) at c.land.ensures)
     ∙ ap (λ (x : Editor). (let s : EditorState g.row.D.Denot = record now { editor = x } in s)) (sym (letter-sought d e letter c.if-c-eq10.false plain))
