@@ -8,8 +8,8 @@ use Rattle.unicode_segmentation.proofs.Computing.{unicode_segmentation}
 use Rattle.unicode_width.proofs.Computing.{unicode_width}
 use Rattle.bx_grid.specs.Columns.{Col, Glyph}
 use Rattle.bx_keys.specs.declared.key.Key.{Key}
-use Rattle.bx_keys.specs.declared.key.Key.TheVariants.{Insert, Erase, Delete, Copy, Find, FindBack, FindNext, Forward, Mark, Quit, Replace, Repaint, Right, RowEnd, TextEnd, TextStart, Undo, Redo}
-use Rattle.bx_keys.specs.declared.key.Key.TheVariants.{Cancel, NewLine, PasteStart, PasteEnd, RedoRun, Select, UndoRun}
+use Rattle.bx_keys.specs.declared.key.Key.TheVariants.{Insert, Erase, Delete, Copy, Find, FindBack, FindNext, Forward, Mark, Quit, Replace, Repaint, Right, RowEnd, TextEnd, TextStart, Undo}
+use Rattle.bx_keys.specs.declared.key.Key.TheVariants.{Cancel, NewLine, PasteStart, PasteEnd, RedoRun, UndoRun}
 use Rattle.bx_editor.specs.declared.aim.Aim.{Aim}
 use Rattle.bx_editor.specs.declared.aim.Aim.TheVariants as aims
 use Rattle.bx_editor.specs.declared.message.Message.{Message}
