@@ -1,5 +1,5 @@
 -- Find and FindBack go to the nearest match.
-use Rattle.std.proofs.Common.{◌≡◌, ◌⊎◌, inl, inr, ℕ, true, length, Option, Some, None, refl, ap}
+use Rattle.std.proofs.Common.{◌≡◌, ◌⊎◌, inl, inr, ℕ, true, length, Option, Some, None, ap}
 use Rattle.std.specs.Prelude.{MatchOption, unwrap_or}
 use Rattle.bx_ucd.specs.Data.{Data}
 use Rattle.bx_asking.specs.declared.question.Ask.{Ask}

@@ -19,7 +19,7 @@ use Rattle.bx_editor.specs.Editor.{Editor, rows, with_exchange, with_place, with
 use Rattle.bx_editor.specs.Effects.{Before, Seeks, by}
 use Rattle.bx_editor.specs.Keys.{Answer, Letter, Shortens, GoesBack, Next, Previous, Replaces, Stays, Ends, after_pressing, answered, answered_match, answered_other}
 use Rattle.bx_editor.specs.Putting.{is_paste, only_paste}
-use Rattle.bx_editor.specs.Replacing.{after_asking_other, after_ending, after_match_letter, after_other_letter, after_passing_over, after_replacing, after_replacing_all}
+use Rattle.bx_editor.specs.Replacing.{after_asking_other, after_ending, after_match_letter, after_other_letter, after_replacing, after_replacing_all}
 use Rattle.bx_editor.specs.Replacing.{after_showing, after_sought_letter, asked_at, at_match, is_replacing, longest_other, match_stop, matches_on, next_match, on_from}
 use Rattle.bx_editor.specs.Replacing.{other_typed, shown_at, with_matches_replaced, with_other}
 use Rattle.bx_editor.specs.Search.{after_letter, backward, is_no_letter, kept, landed, landing_from, lengthened, longest_query, next_or_start, reading, search_from, shortened, sought}

@@ -1,5 +1,4 @@
 use Rattle.std.proofs.Common.{◌≡◌, ◌∙◌, ◌||◌, ap, subst, sym, false}
-use Rattle.std.specs.Prelude.{◌==◌}
 use Rattle.std.proofs.lemmas.Bool.{ne_eqb}
 use Rattle.bx_index.specs.Paragraphs.{is_separator}
 use Rattle.bx_editor.specs.Editor.{Editor, EditorState, cleared}
