@@ -20,7 +20,7 @@ use Rattle.bx_editor.specs.Asking.{after_answer_letter, after_code, after_code_l
 use Rattle.bx_editor.specs.Asking.{gone_to, longest_code, longest_line, unless_paste, with_answer, with_character, without_ask}
 use Rattle.bx_editor.specs.Editor.{Editor, place_after, with_insertion, with_typing}
 use Rattle.bx_editor.specs.Effects.{Before}
-use Rattle.bx_editor.specs.Keys.{Answer, Letter, Shortens, GoesBack, Next, Previous, Stays, Ends, after_pressing, answered_question}
+use Rattle.bx_editor.specs.Keys.{Answer, Letter, Shortens, GoesBack, Next, Previous, Replaces, Stays, Ends, after_pressing, answered_question}
 use Rattle.bx_editor.specs.Putting.{is_paste, only_paste}
 use Rattle.bx_editor.specs.Region.{is_empty, region}
 use Rattle.bx_editor.specs.Search.{lengthened, shortened}
@@ -174,5 +174,6 @@ question_alike d fault was was' e f key Shortens other = shorter_alike e.ask e f
 question_alike d fault was was' e f key GoesBack other = record { lasts = refl; deeds = []; first = refl; other = refl }
 question_alike d fault was was' e f key Next other = ends_alike d fault was was' e f key other
 question_alike d fault was was' e f key Previous other = ends_alike d fault was was' e f key other
+question_alike d fault was was' e f key Replaces other = ends_alike d fault was was' e f key other
 question_alike d fault was was' e f key Stays other = record { lasts = refl; deeds = []; first = refl; other = refl }
 question_alike d fault was was' e f key Ends other = ends_alike d fault was was' e f key other

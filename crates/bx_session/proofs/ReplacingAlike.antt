@@ -1,13 +1,11 @@
 -- A key in replacing does the same to two editors of which the same lasts.
-use Rattle.std.proofs.Common.{◌≡◌, ℕ, Bool, true, false, List, [], ◌∷◌, ◌+◌, length, chars, Option, Some, None, refl, ap, subst, if◌then◌else◌}
+use Rattle.std.proofs.Common.{◌≡◌, ℕ, Bool, true, false, List, [], ◌∷◌, ◌+◌, length, Option, Some, None, refl, ap, subst, if◌then◌else◌}
 use Rattle.std.specs.Prelude.{◌==◌, ◌&&◌, not}
 use Rattle.bx_keys.specs.declared.key.Key.{Key}
 use Rattle.bx_store.specs.declared.store.StoreFault.{StoreFault}
 use Rattle.bx_text.specs.Edits.{fits, splice}
 use Rattle.bx_ucd.specs.Data.{Data}
 use Rattle.bx_document.specs.Swapped.{behind_character, last_stop, swapped}
-use Rattle.bx_find.specs.Letters.{letters_by}
-use Rattle.bx_find.specs.Matches.{first_from_by}
 use Rattle.bx_runs.specs.declared.typing.Typing.{Typing}
 use Rattle.bx_view.specs.Moves.{place_at}
 use Rattle.bx_view.specs.TextRows.{text_rows}
@@ -22,7 +20,7 @@ use Rattle.bx_editor.specs.Putting.{is_paste, only_paste}
 use Rattle.bx_editor.specs.Replacing.{after_asking_other, after_ending, after_match_letter, after_other_letter, after_passing_over, after_replacing, after_replacing_all}
 use Rattle.bx_editor.specs.Replacing.{after_showing, asked_at, at_match, longest_other, match_stop, matches_on, next_match, on_from, other_typed}
 use Rattle.bx_editor.specs.Replacing.{shown_at, with_matches_replaced, with_other}
-use Rattle.bx_editor.specs.Search.{is_no_letter, kept, landed, landing_from, lengthened, reading, sought, without_search}
+use Rattle.bx_editor.specs.Search.{is_no_letter, kept, landed, landing_from, lengthened, sought, without_search}
 use Rattle.bx_session.proofs.Lasting.{Lasting, lasting, having, is_other}
 use Rattle.bx_session.proofs.Alike.{Alike, Edits, either_alike, idle, going_on, pressed_alike, removal_alike}
 
@@ -71,12 +69,10 @@ at_alike d (Some at) e new f new' h = record {
   other = h.other;
 }
 
-abbrev next_of : Data → ℕ → Lasting → Option ℕ
-next_of d z l = first_from_by d (reading l.aim) (letters_by d (reading l.aim) (chars l.query)) l.content.text z
-
 on_alike : (d : Data) (z : ℕ) (e new f new' : Editor) → Alike e new f new' → Alike e (on_from d z new) f (on_from d z new')
 on_alike d z e new f new' h =
-    subst (λ (at : Option ℕ). Alike e (at_match d new (next_match d new z)) f (at_match d new' at)) (ap (next_of d z) h.lasts)
+    subst (λ (at : Option ℕ). Alike e (at_match d new (next_match d new z)) f (at_match d new' at))
+    (ap (λ (l : Lasting). next_match d (having l e) z) h.lasts)
     (at_alike d (next_match d new z) e new f new' h)
 
 same : (e f : Editor) → Alike e e (having (lasting e) f) (having (lasting e) f)

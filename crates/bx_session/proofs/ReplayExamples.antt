@@ -2,6 +2,8 @@
 use Rattle.std.proofs.Common.{◌≡◌, ℕ, Bool, true, false, List, [], ◌∷◌, ◌++◌, Option, Some, None, refl}
 use Rattle.std.specs.Prelude.{codes}
 use Rattle.std.specs.Fmt.{digits}
+use Rattle.ucd_case.proofs.Computing.{ucd_case}
+use Rattle.unicode_normalization.proofs.Computing.{unicode_normalization}
 use Rattle.unicode_segmentation.proofs.Computing.{unicode_segmentation}
 use Rattle.unicode_width.proofs.Computing.{unicode_width}
 use Rattle.bx_runs.specs.declared.typing.Typing.{Typing}
@@ -37,15 +39,15 @@ abbrev finding_c : List ℕ
 finding_c = csi (codes "70~") ++ codes "c"
 
 pub a_quit_gives_a_search_up : left (finding_c ++ 0x11 ∷ codes "x") ≡ (codes "xabc", 1, Off)
-unfolding unicode_segmentation unicode_width digits
+unfolding unicode_segmentation unicode_width digits unicode_normalization ucd_case
 a_quit_gives_a_search_up = refl
 
 pub a_save_ends_a_search : left (finding_c ++ 0x13 ∷ codes "x") ≡ (codes "abxc", 3, Off)
-unfolding unicode_segmentation unicode_width digits
+unfolding unicode_segmentation unicode_width digits unicode_normalization ucd_case
 a_save_ends_a_search = refl
 
 pub a_copy_gives_a_search_up : left (finding_c ++ csi (codes "73~") ++ csi (codes "75~") ++ codes "x") ≡ (codes "xabc", 1, Off)
-unfolding unicode_segmentation unicode_width digits
+unfolding unicode_segmentation unicode_width digits unicode_normalization ucd_case
 a_copy_gives_a_search_up = refl
 
 pub other_quits_are_passed_over : left (codes "x" ++ 0x11 ∷ 0x11 ∷ codes "y") ≡ (codes "xyabc", 2, Off)
@@ -53,7 +55,7 @@ unfolding unicode_segmentation unicode_width digits
 other_quits_are_passed_over = refl
 
 pub an_open_search_ends_where_it_stands : left finding_c ≡ (codes "abc", 2, Off)
-unfolding unicode_segmentation unicode_width digits
+unfolding unicode_segmentation unicode_width digits unicode_normalization ucd_case
 an_open_search_ends_where_it_stands = refl
 
 pub the_query_is_kept : (replayed (csi (codes "70~") ++ codes "C")).query ≡ codes "C"
