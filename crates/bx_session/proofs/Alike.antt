@@ -109,7 +109,7 @@ insertion_alike d e f new goes_on =
     let after = place_after d e (splice e.content.text e.place e.place new) (e.place + length new) in
     record { lasts = refl; deeds = Edits e.place e.place new e.place after goes_on ∷ []; first = refl; other = refl }
 
-removal_alike : (d : Data) (e f : Editor) (start stop : ℕ) (goes_on : Bool)
+pub removal_alike : (d : Data) (e f : Editor) (start stop : ℕ) (goes_on : Bool)
     → Alike e (with_removal d e start stop goes_on) (having (lasting e) f) (with_removal d (having (lasting e) f) start stop goes_on)
 removal_alike d e f start stop goes_on =
     let after = place_after d e (splice e.content.text start stop []) start in
