@@ -152,6 +152,7 @@ find_parts() {
 }
 
 tell_parts() {
+    [ -f "$clone/out/proving.times" ] || return 0
     find_parts
     awk -v cores="$(nproc)" -f "$parts/crates.awk" "$clone/crates.txt" "$clone/out/proving.times" "$folder/parts"
 }
@@ -173,8 +174,8 @@ start_again() { # WHAT
     mkdir -p "$clone/out"
     find_parts
     awk '
-        $1 == "parts" { crates++; if ($7) { anew += $7; text = text " " $2 " " $7 } }
-        END { print "    " crates + 0 " crates built; functions proved anew: " anew + 0 (text == "" ? "" : ":" text) }' "$folder/parts"
+        $1 == "parts" { crates++; if ($7) { anew += $7; list = list " " $2 " " $7 } }
+        END { print "    " crates + 0 " crates built; functions proved anew: " anew + 0 (anew ? ":" list : "") }' "$folder/parts"
 }
 
 # Runs the gate in the clone, and prints what it said of what it did.

@@ -67,6 +67,7 @@ END {
         is_free[who] = named[i] ~ /\.(Met|TheLink)$/
     }
     if (!stop) first = stop = latest
+    if (ended < latest) ended = latest
     for (of in spent) if (of != "") {
         proofs += spent[of]
         printf "function %s %.2f %s\n", crate, spent[of], of
