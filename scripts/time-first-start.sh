@@ -139,30 +139,38 @@ modules_of() { # CRATE
     find "$clone/crates/$1/out/incremental" -name '*.oantt' ! -name '*.decls.oantt' -printf '%T@ %f\n' 2>/dev/null | sort -n
 }
 
-# Writes to `parts` what each crate's time went to.
+# Prints a line for each crate that was built: its name, start, end, jobs and processor time.
+crate_times() {
+    awk '
+        function seconds(time,    part) { split(time, part, /[ms]/); return part[1] * 60 + part[2] }
+        { print $1, $2, $3, $4, seconds($5) + seconds($6) + seconds($7) + seconds($8) }' "$clone/out/proving.times"
+}
+
+# Writes to `times` and `parts` what was built, and what each crate's time went to.
 find_parts() {
     : >"$folder/parts"
-    : >>"$clone/out/proving.times"
+    : >"$folder/times"
+    [ ! -f "$clone/out/proving.times" ] || crate_times >"$folder/times"
     copies_seen >"$folder/seen"
-    while read -r crate from to _; do
+    while read -r crate from to _ processor; do
         modules_of "$crate" |
-            awk -v crate="$crate" -v begun="$from" -v ended="$to" -v top="$clone" -f "$parts/functions.awk" "$folder/seen" - |
-            sort -k1,1r -k3,3nr >>"$folder/parts"
-    done <"$clone/out/proving.times"
+            awk -v crate="$crate" -v begun="$from" -v ended="$to" -v processor="$processor" -v top="$clone" \
+                -f "$parts/functions.awk" "$folder/seen" - |
+            sort -k1,1 -k3,3nr >>"$folder/parts"
+    done <"$folder/times"
 }
 
 tell_parts() {
-    [ -f "$clone/out/proving.times" ] || return 0
     find_parts
-    awk -v cores="$(nproc)" -f "$parts/crates.awk" "$clone/crates.txt" "$clone/out/proving.times" "$folder/parts"
+    awk -v cores="$(nproc)" -f "$parts/crates.awk" "$clone/crates.txt" "$folder/times" "$folder/parts"
 }
 
 tell_selftest() {
     begun=$(date +%s)
-    (rt selftest >/dev/null && times) >"$folder/times"
+    (rt selftest >/dev/null && times) >"$folder/selftest"
     awk -v wall="$(($(date +%s) - begun))" '
         { for (i = 1; i <= 2; i++) { split($i, part, /[ms]/); sum += part[1] * 60 + part[2] } }
-        END { printf "rt selftest: %d seconds, %.1f of processor time\n", wall, sum }' "$folder/times"
+        END { printf "rt selftest: %d seconds, %.1f of processor time\n", wall, sum }' "$folder/selftest"
 }
 
 # ---- again
@@ -171,10 +179,9 @@ tell_selftest() {
 start_again() { # WHAT
     rm -f "$clone/out/proving.times"
     start "$1" || return 1
-    mkdir -p "$clone/out"
     find_parts
     awk '
-        $1 == "parts" { crates++; if ($7) { anew += $7; list = list " " $2 " " $7 } }
+        $1 == "proved" { crates++; if ($3) { anew += $3; list = list " " $2 " " $3 } }
         END { print "    " crates + 0 " crates built; functions proved anew: " anew + 0 (anew ? ":" list : "") }' "$folder/parts"
 }
 
@@ -213,7 +220,7 @@ done
 socket="bf$$" folder=$BIDI_EDIT_HIDDEN child=''
 trap '[ -z "$child" ] || kill "$child" 2>/dev/null || :; in_terminal kill-server 2>/dev/null || :; rm -rf "$folder"' EXIT
 trap 'exit 1' HUP INT TERM
-export XDG_STATE_HOME="$folder/state"
+export XDG_STATE_HOME="$folder/state" LC_ALL=C.UTF-8
 echo 'some words' >"$folder/note"
 failed=0
 tell_selftest

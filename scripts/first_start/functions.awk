@@ -1,11 +1,11 @@
-# Reads the copies of the prover that were seen, and then the modules that a crate stored, by time. Writes a line with the parts of
-# the crate's time, and a line for each function and each file of lemmas. Given are `crate`, its times `begun` and `ended` in
-# seconds, and `top`, the repository.
+# Reads the copies of the prover that were seen, and then the modules that a crate stored, by time. Writes a line for each part of
+# the crate's time, for each function and each file of lemmas, and for the functions proved now and all. Given are `crate`, its
+# times `begun` and `ended` in seconds, the `processor` time of all its processes, and `top`, the repository.
 #
 # The prover checks a crate alone, or by copies of itself side by side, and stores each module once it is checked. So a module
 # took the time since the same process stored another. Which process that was is not stored: it is taken for one that is at
-# the same function, else for the one between two functions that stored last. So where copies ran side by side, the time of one
-# function is an estimate, and the sum is not.
+# the same function, else for the one between two functions that stored last. These times by the clock are then shortened or
+# lengthened alike, so that their sum is the processor time. So one function's time is an estimate, and the sum is not.
 
 FILENAME == ARGV[1] {
     if ($1 == crate) {
@@ -59,18 +59,19 @@ END {
     for (i = 1; i <= modules; i++) {
         of = owner(named[i])
         who = process(at[i], of)
-        spent[of] += at[i] - (who ? last[who] : latest)
-        if (!first && named[i] ~ /^proofs/) first = at[i]
-        if (of != "") stop = at[i]
+        took = at[i] - (who ? last[who] : latest)
+        if (of != "") { spent[of] += took; part["proofs"] += took; part["other"] += part["end"]; part["end"] = 0 }
+        else if (is_begun) part["end"] += took
+        else part["head"] += took
+        if (named[i] ~ /^proofs/) is_begun = 1
+        clock += took
         last[who] = latest = at[i]
         works_at[who] = of
         is_free[who] = named[i] ~ /\.(Met|TheLink)$/
     }
-    if (!stop) first = stop = latest
-    if (ended < latest) ended = latest
-    for (of in spent) if (of != "") {
-        proofs += spent[of]
-        printf "function %s %.2f %s\n", crate, spent[of], of
-    }
-    printf "parts %s %.1f %.1f %.1f %.1f %d %d\n", crate, first - begun, proofs, latest - stop, ended - latest, anew, functions
+    if (ended > latest) { part["build"] = ended - latest; clock += part["build"] }
+    share = clock ? processor / clock : 0
+    for (of in part) printf "%s %s %.2f\n", of, crate, part[of] * share
+    for (of in spent) printf "function %s %.2f %s\n", crate, spent[of] * share, of
+    print "proved", crate, anew + 0, functions + 0
 }
