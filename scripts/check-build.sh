@@ -149,6 +149,8 @@ check_order() {
     test -x "$folder/tree/crates/d/out/d" && test -f "$folder/tree/crates/a/out/rlib/stamp"
     report 'order, what was built is in its place' $? "$(ls "$folder/tree/crates/d/out" 2>&1)"
     nothing_left order
+    same 'order, a line of times for each' "$(awk '{ print $1, NF, ($3 >= $2) }' "$folder/tree/out/proving.times" | sort | paste -s -d ',')" \
+        'a 8 1,b 8 1,c 8 1,d 8 1'
     same 'lines, one a crate' "$(grep -c 'bidi-edit: crate [1-4] of 4, [a-d]: 10 functions proved; ' "$folder/said")" 4
     same 'lines, the program is the last' "$(grep -c 'crate 4 of 4, d:' "$folder/said")" 1
     same 'lines, no line is written over' "$(tr -d -c '\r' <"$folder/said" | wc -c)" 0

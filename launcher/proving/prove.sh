@@ -95,11 +95,13 @@ prove_one() { # CRATE JOBS NICENESS
     trap give_up TERM
     exec 8<"$top/crates/$crate" 9>&-
     ! command -v flock >/dev/null || await flock 8
+    started=$(date +%s)
     make_tree
     prove "$2" "$3" 8<&-
     result=$?
     cd "$top" || exit 1
     bring_back "$tree" "$crate"
+    { echo "$crate $started $(date +%s) $2" && times; } >"$room/$crate.times"
     echo "$result" >"$room/$crate.new" && mv "$room/$crate.new" "$room/$crate.ended"
 }
 
@@ -141,7 +143,7 @@ take_lock() {
     exec 9<>"$room.lock"
     flock -n 9 || fail "process $(cat "$room.lock") is building the editor already: wait for it"
     echo $$ >"$room.lock"
-    rm -f -- "$room.log"
+    rm -f -- "$room.log" "$room.times"
 }
 
 # Moves back the work that a killed start left in its trees.
@@ -195,6 +197,12 @@ start_ready() {
     done <"$room/plan"
 }
 
+# Adds what a crate took to one file, a line a crate, which scripts/time-first-start.sh reads: the name, start and end in seconds,
+# the jobs, and the processor times that `times` prints.
+keep_times() { # CRATE
+    tr '\n' ' ' <"$room/$1.times" && echo
+} >>"$room.times"
+
 # Removes ended crates from the list of running ones.
 collect() {
     still=''
@@ -203,6 +211,7 @@ collect() {
         if [ -f "$room/$name.ended" ]; then
             [ "$(cat "$room/$name.ended")" = 0 ] || stop_at "$name"
             tell_end "$name"
+            keep_times "$name"
         elif kill -0 "${each#*:}" 2>/dev/null; then
             still="$still $each"
         else

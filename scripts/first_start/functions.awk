@@ -1,0 +1,77 @@
+# Reads the copies of the prover that were seen, and then the modules that a crate stored, by time. Writes a line for each part of
+# the crate's time, for each function and each file of lemmas, and for the functions proved now and all. Given are `crate`, its
+# times `begun` and `ended` in seconds, the `processor` time of all its processes, and `top`, the repository.
+#
+# The prover checks a crate alone, or by copies of itself side by side, and stores each module once it is checked. So a module
+# took the time since the same process stored another. Which process that was is not stored: it is taken for one that is at
+# the same function, else for the one between two functions that stored last. These times by the clock are then shortened or
+# lengthened alike, so that their sum is the processor time. So one function's time is an estimate, and the sum is not.
+
+FILENAME == ARGV[1] {
+    if ($1 == crate) {
+        copies++
+        from[copies] = last[copies] = $2
+        to[copies] = $3
+        is_free[copies] = 1
+    }
+    next
+}
+
+{
+    name = $2
+    sub(/\.oantt$/, "", name)
+    sub("^Rattle-" crate "-?", "", name)
+    if (name !~ /\.TheImpl\./ && match(name, /\.(Proof|Code)$/)) is_function[substr(name, 1, RSTART - 1)] = 1
+    if (name !~ /\.TheImpl\./ && name ~ /\.Proof$/) { functions++; if ($1 >= begun) anew++ }
+    if ($1 >= begun) { modules++; at[modules] = $1; named[modules] = name }
+}
+
+function is_file(path,    line, found) {
+    found = (getline line < path) >= 0
+    close(path)
+    return found
+}
+
+# Returns the function or the file of lemmas that a module belongs to, or nothing. A function's first module waits for what is
+# loaded, and belongs to none.
+function owner(module,    path) {
+    if (module !~ /^proofs\./ || module in is_function) return ""
+    for (path = module; match(path, /\.[^.]*$/); path = substr(path, 1, RSTART - 1))
+        if (path in is_function) return substr(path, 8)
+    path = substr(module, 8)
+    gsub(/\./, "/", path)
+    path = "proofs/" path ".antt"
+    return is_file(top "/crates/" crate "/" path) ? path : ""
+}
+
+# Returns the process that most likely stored a module of `of` at this time. 0 is the prover itself, which waits for its copies.
+function process(time, of,    i, best) {
+    for (i = 1; i <= copies; i++) {
+        if (from[i] > time || to[i] + 1.5 < time) continue
+        if (of != "" && works_at[i] == of) return i
+        if (!best || is_free[i] > is_free[best] || (is_free[i] == is_free[best] && last[i] > last[best])) best = i
+    }
+    return best + 0
+}
+
+END {
+    latest = begun
+    for (i = 1; i <= modules; i++) {
+        of = owner(named[i])
+        who = process(at[i], of)
+        took = at[i] - (who ? last[who] : latest)
+        if (of != "") { spent[of] += took; part["proofs"] += took; part["other"] += part["end"]; part["end"] = 0 }
+        else if (is_begun) part["end"] += took
+        else part["head"] += took
+        if (named[i] ~ /^proofs/) is_begun = 1
+        clock += took
+        last[who] = latest = at[i]
+        works_at[who] = of
+        is_free[who] = named[i] ~ /\.(Met|TheLink)$/
+    }
+    if (ended > latest) { part["build"] = ended - latest; clock += part["build"] }
+    share = clock ? processor / clock : 0
+    for (of in part) printf "%s %s %.2f\n", of, crate, part[of] * share
+    for (of in spent) printf "function %s %.2f %s\n", crate, spent[of] * share, of
+    print "proved", crate, anew + 0, functions + 0
+}
