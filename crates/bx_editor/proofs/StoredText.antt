@@ -365,11 +365,8 @@ question-answer s d fault was e key (Letter c) it h =
 question-answer s d fault was e key Shortens it h =
     no-save s e (answered_question d fault was e key Shortens) fault (is_save key) it (shorter-keeps d (Has s) (question s d) e.ask e h)
 question-answer s d fault was e key GoesBack it h = no-save s e (answered_question d fault was e key GoesBack) fault (is_save key) it h
-question-answer s d fault was e key Next it h = pressed s d fault was (without_ask e) key h
-question-answer s d fault was e key Previous it h = pressed s d fault was (without_ask e) key h
-question-answer s d fault was e key Replaces it h = pressed s d fault was (without_ask e) key h
 question-answer s d fault was e key Stays it h = no-save s e (answered_question d fault was e key Stays) fault (is_save key) it h
-question-answer s d fault was e key Ends it h = pressed s d fault was (without_ask e) key h
+question-answer s d fault was e key _ it h = pressed s d fault was (without_ask e) key h
 
 asking : (s : List ℕ) (d : Data) (fault : Option StoreFault) (was : Before) (e : Editor) (key : Key) → Has s e
     → Has (stored_by s e (is_save key) fault) (after_asking d fault was e key)
