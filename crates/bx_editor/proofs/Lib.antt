@@ -82,5 +82,6 @@ pub mod QuietSearch
 pub mod MatchReplaced
 pub mod ShownStands
 pub mod ReplacedBack
-mod ReplaceExamples
+pub mod ReplaceExamples
+mod SeenMatchExamples
 mod ReplaceLawExamples

@@ -30,7 +30,8 @@ use Rattle.bx_editor.specs.Keys.{after_any, after_key, as_left}
 use Rattle.bx_editor.specs.Putting.{is_paste, only_paste}
 use Rattle.bx_editor.specs.ReplaceLaws.{AreTheMatches, DoesReplace, EnterReplaces, FindPassesOver, GoesOn, HasReplacedAll, HasReplacedOne}
 use Rattle.bx_editor.specs.ReplaceLaws.{IsFull, IsShowing, PassesOver, ReplaceReplacesAll, ReplacesMatch, ReplacesMatches, SameLettersStay}
-use Rattle.bx_editor.specs.Replacing.{after_ending, after_match_letter, after_passing_over, after_replacing, after_replacing_all, at_match, match_stop, matches_on, next_match, on_from, with_matches_replaced}
+use Rattle.bx_editor.specs.Replacing.{after_ending, after_match_letter, after_passing_over, after_replacing, after_replacing_all, at_match}
+use Rattle.bx_editor.specs.Replacing.{match_stop, matches_on, next_match, on_from, with_matches_replaced}
 use Rattle.bx_editor.specs.Search.{reading, sought}
 use Rattle.bx_editor.proofs.MatchesApart.{all-lie, apart, are-spans, last-after, last-bound, letters-are}
 use Rattle.bx_editor.proofs.MatchLetters.{all-swapped, end-letters, match-bound, match-letters, match-some, one-swapped, spelt}

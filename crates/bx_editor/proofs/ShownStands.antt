@@ -27,12 +27,16 @@ use Rattle.bx_editor.specs.declared.seek.Seek.TheVariants.{Off, Begun, Typed, Wi
 use Rattle.bx_editor.specs.Asking.{without_ask}
 use Rattle.bx_editor.specs.Editor.{Editor, at_start, cleared, rows, with_exchange, with_size, with_typing}
 use Rattle.bx_editor.specs.Effects.{Before, before}
-use Rattle.bx_editor.specs.Keys.{Answer, Letter, Shortens, GoesBack, Next, Previous, Replaces, Stays, Ends, after_any, after_asking, after_key, after_pressing, answer_of, answered, answered_match, answered_other, effect_of}
+use Rattle.bx_editor.specs.Keys.{Answer, Letter, Shortens, GoesBack, Next, Previous, Replaces, Stays, Ends, after_any, after_asking, after_key}
+use Rattle.bx_editor.specs.Keys.{after_pressing, answer_of, answered, answered_match, answered_other, effect_of}
 use Rattle.bx_editor.specs.Laws.{after_typing, HasRows}
 use Rattle.bx_editor.specs.Putting.{is_paste}
 use Rattle.bx_editor.specs.ReplaceLaws.{HaveRows, ShownStands}
-use Rattle.bx_editor.specs.Replacing.{after_asking_other, after_ending, after_other_letter, after_replacing, after_replacing_all, after_shorter_other, after_showing, after_sought_letter, asked_at, at_match, is_replacing, longest_other, match_stop, matches_on, next_match, on_from, shown_at, with_matches_replaced, with_other}
-use Rattle.bx_editor.specs.Search.{forward, is_no_letter, kept, landed, landing_from, lengthened, longest_query, match_or, not_found, reading, search_from, sought, with_query, without_search}
+use Rattle.bx_editor.specs.Replacing.{after_asking_other, after_ending, after_other_letter, after_replacing, after_replacing_all}
+use Rattle.bx_editor.specs.Replacing.{after_shorter_other, after_showing, after_sought_letter, asked_at, at_match, is_replacing, longest_other}
+use Rattle.bx_editor.specs.Replacing.{match_stop, matches_on, next_match, on_from, shown_at, with_matches_replaced, with_other}
+use Rattle.bx_editor.specs.Search.{forward, is_no_letter, kept, landed, landing_from, lengthened, longest_query, match_or, not_found, reading}
+use Rattle.bx_editor.specs.Search.{search_from, sought, with_query, without_search}
 use Rattle.bx_editor.proofs.InSearch.{each-key}
 use Rattle.bx_editor.proofs.PlacesBetween.{place-before, place-between}
 use Rattle.bx_editor.proofs.Questions.{question-keeps, IsKept}

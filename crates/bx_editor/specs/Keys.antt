@@ -28,7 +28,8 @@ use Rattle.bx_editor.specs.Effects.{Unmarks, Copies, Cuts, Seeks, SeeksNext, Sav
 use Rattle.bx_editor.specs.Erasing.{point_before}
 use Rattle.bx_editor.specs.Goal.{goal_behind}
 use Rattle.bx_editor.specs.Putting.{only_paste}
-use Rattle.bx_editor.specs.Replacing.{after_asking_other, after_ending, after_match_letter, after_other_letter, after_passing_over, after_replacing_all, after_shorter_other, after_showing, after_sought_letter}
+use Rattle.bx_editor.specs.Replacing.{after_asking_other, after_ending, after_match_letter, after_other_letter, after_passing_over}
+use Rattle.bx_editor.specs.Replacing.{after_replacing_all, after_shorter_other, after_showing, after_sought_letter}
 use Rattle.bx_editor.specs.Search.{after_find, after_find_back, after_giving_up, after_shortening, without_search}
 use Rattle.bx_editor.specs.Selecting.{soft_behind}
 

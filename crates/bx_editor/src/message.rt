@@ -42,7 +42,7 @@ pub enum Message {
     MoreThanOneLine,
     /// The answer writes no character's code.
     NoSuchCharacter,
-    /// Replacing has ended, and so many matches were replaced.
+    /// Replacing has ended, with the number of matches that were replaced.
     Replaced(usize),
     /// What stands at the cursor's place: the state tells it, and not the message.
     Told,

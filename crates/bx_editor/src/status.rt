@@ -128,8 +128,7 @@ fn draw_question<D: BidiData + Drop>(
 }
 
 impl<D: BidiData + Drop> Editor<D> {
-    /// Draws the status row: its text, and the prompt of a question and the answer, or that of a search and the query or the other
-    /// text.
+    /// Draws the status row: its text, then the prompt of a question or a search, with what was typed after it.
     pub(crate) fn draw_status(&self, line: String) -> Result<OwnedRow, OutOfMemory>
         requires { are_ascii_printable (string_bytes line) ≡ true }
         ensures row { IfOk result (λ row. row ≡ glyph_row self.now.editor.width

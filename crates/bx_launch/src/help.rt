@@ -28,7 +28,7 @@ opens what cannot be saved, -n keeps no session, --no-joining joins no letters.
   Ctrl-Z Ctrl-Y Ctrl-L  undo, redo a typed word, a paste; paint the screen anew
   Ctrl-Space or Ctrl-@  mark where a region begins, or select: Shift with a move
   Ctrl-X Ctrl-C Ctrl-V  cut, copy the region, or else the line; put it in
-  Ctrl-W Ctrl-R F3      find forward, back, next; Enter ends it, Escape gives up
+  Ctrl-W Ctrl-R F3 F4   find forward, back, next; replace; Escape gives it up
   Ctrl-K Ctrl-T         insert by a mark's letter; tell what is at the cursor
   F1, F2                show keys; turn: auto, ltr, rtl. More: man bidi_edit
 

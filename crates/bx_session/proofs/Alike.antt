@@ -16,7 +16,9 @@ use Rattle.bx_runs.specs.declared.typing.Removal.{Removal}
 use Rattle.bx_runs.specs.declared.typing.Typing.{Typing}
 use Rattle.bx_runs.specs.Runs.{edited, run_end, run_start}
 use Rattle.bx_runs.specs.Typing.{after_insertion, after_removal, goes_on, goes_on_removing, kind_of}
+use Rattle.bx_editor.specs.declared.aim.Aim.TheVariants as aims
 use Rattle.bx_editor.specs.declared.message.Message.TheVariants.{TextFull, Copied, LineCopied, MarkOff, MarkSet, NothingToCopy, NothingToPut}
+use Rattle.bx_editor.specs.declared.seek.Seek.TheVariants as seeks
 use Rattle.bx_editor.specs.declared.soft.Soft.{Soft}
 use Rattle.bx_editor.specs.declared.soft.Soft.TheVariants as softness
 use Rattle.bx_editor.specs.Editor.{Editor, after_redo, after_step, after_undo, place_after, stored_behind, with_insertion, with_removal, with_typing}
@@ -262,9 +264,9 @@ next_alike d e f =
     let g = having (lasting e) f in
     let free = unselected e in
     let free' = unselected g in
-    let found : Editor → Editor = λ x. search_from d (next_or_start d x) x in
-    either_alike (length (sought d free) == 0) e (after_beginning free) (found free) g (after_beginning free') (found free')
-    (idle e (after_beginning free) g (after_beginning free') refl refl refl) (idle e (found free) g (found free') refl refl refl)
+    let found : Editor → Editor = λ x. search_from d (next_or_start d x) (record x { seek = seeks.Off; aim = aims.Find }) in
+    either_alike (length (sought d free) == 0) e (after_beginning aims.Find free) (found free) g (after_beginning aims.Find free') (found free')
+    (idle e (after_beginning aims.Find free) g (after_beginning aims.Find free') refl refl refl) (idle e (found free) g (found free') refl refl refl)
 
 -- ---- a key outside a search
 
@@ -286,7 +288,7 @@ by_alike d fault was was' e f Selects s q = select_alike e f e.mark e.soft
 by_alike d fault was was' e f Unmarks s q = record { lasts = refl; deeds = []; first = refl; other = refl }
 by_alike d fault was was' e f Copies s q = copy_alike d e f
 by_alike d fault was was' e f Cuts s q = cut_alike d e f
-by_alike d fault was was' e f Seeks s q = record { lasts = refl; deeds = []; first = refl; other = refl }
+by_alike d fault was was' e f (Seeks aim) s q = record { lasts = refl; deeds = []; first = refl; other = refl }
 by_alike d fault was was' e f SeeksNext s q = next_alike d e f
 by_alike d fault was was' e f Saves s q = absurd (cc s)
 by_alike d fault was was' e f Quits s q = absurd (cc q)

@@ -6,13 +6,14 @@ use Rattle.bx_ucd.specs.Data.{Data}
 use Rattle.bx_asking.specs.declared.question.Ask.{Ask}
 use Rattle.bx_asking.specs.declared.question.Ask.TheVariants as asks
 use Rattle.bx_editor.specs.declared.seek.Seek.{Seek}
-use Rattle.bx_editor.specs.declared.seek.Seek.TheVariants.{Off, Begun, Typed}
+use Rattle.bx_editor.specs.declared.seek.Seek.TheVariants.{Off, Begun, Typed, WithBegun, WithTyped, Replacing}
 use Rattle.bx_editor.specs.Asking.{without_ask}
 use Rattle.bx_editor.specs.Editor.{Editor, EditorState, after_save, cleared}
 use Rattle.bx_editor.specs.Effects.{Effect, Types, BeginsLine, Puts, Removes, RemovesWord, Steps, StepsRun, Goes, GoesByRows, Marks, Selects}
 use Rattle.bx_editor.specs.Effects.{Unmarks, Copies, Cuts, Seeks, SeeksNext, Saves, Quits, Turns, Helps, AsksLine, AsksName, Tells, Rests, Before, before, by}
 use Rattle.bx_editor.specs.Goal.{goal_behind}
-use Rattle.bx_editor.specs.Keys.{Answer, Letter, Shortens, GoesBack, Next, Previous, Stays, Ends, after_any, after_key, answer_of, answered, answered_question, effect_of, is_save}
+use Rattle.bx_editor.specs.Keys.{Answer, Letter, Shortens, GoesBack, Next, Previous, Replaces, Stays, Ends, after_any, after_key, answer_of}
+use Rattle.bx_editor.specs.Keys.{answered, answered_match, answered_other, answered_question, effect_of, is_save}
 use Rattle.bx_editor.specs.Search.{without_search}
 use Rattle.bx_editor.specs.Selecting.{soft_behind}
 use Rattle.bx_editor.proofs.InSearch.{any-key, each-key}
@@ -36,7 +37,7 @@ by_alike d fault was e Selects other = refl
 by_alike d fault was e Unmarks other = refl
 by_alike d fault was e Copies other = refl
 by_alike d fault was e Cuts other = refl
-by_alike d fault was e Seeks other = refl
+by_alike d fault was e (Seeks aim) other = refl
 by_alike d fault was e SeeksNext other = refl
 by_alike d fault was e Saves other = absurd (cc other)
 by_alike d fault was e Quits other = refl
@@ -58,8 +59,33 @@ answered_alike d fault was e key Shortens other = refl
 answered_alike d fault was e key GoesBack other = refl
 answered_alike d fault was e key Next other = refl
 answered_alike d fault was e key Previous other = refl
+answered_alike d fault was e key Replaces other = refl
 answered_alike d fault was e key Stays other = refl
 answered_alike d fault was e key Ends other = ap without_search (pressed_alike d fault was e key other)
+
+-- while the other text is asked for
+other_alike : (d : Data) (fault : Option StoreFault) (was : Before) (e : Editor) (key : Key) (answer : Answer) → is_save key ≡ false
+    → answered_other d None was e key answer ≡ answered_other d fault was e key answer
+other_alike d fault was e key (Letter c) other = refl
+other_alike d fault was e key Shortens other = refl
+other_alike d fault was e key GoesBack other = refl
+other_alike d fault was e key Next other = refl
+other_alike d fault was e key Previous other = refl
+other_alike d fault was e key Replaces other = refl
+other_alike d fault was e key Stays other = refl
+other_alike d fault was e key Ends other = pressed_alike d fault was (without_search e) key other
+
+-- while a match is shown
+match_alike : (d : Data) (fault : Option StoreFault) (was : Before) (e : Editor) (key : Key) (answer : Answer) → is_save key ≡ false
+    → answered_match d None was e key answer ≡ answered_match d fault was e key answer
+match_alike d fault was e key (Letter c) other = refl
+match_alike d fault was e key Shortens other = refl
+match_alike d fault was e key GoesBack other = refl
+match_alike d fault was e key Next other = refl
+match_alike d fault was e key Previous other = refl
+match_alike d fault was e key Replaces other = refl
+match_alike d fault was e key Stays other = refl
+match_alike d fault was e key Ends other = pressed_alike d fault was (without_search e) key other
 
 -- in a question
 question_alike : (d : Data) (fault : Option StoreFault) (was : Before) (e : Editor) (key : Key) (answer : Answer) → is_save key ≡ false
@@ -69,6 +95,7 @@ question_alike d fault was e key Shortens other = refl
 question_alike d fault was e key GoesBack other = refl
 question_alike d fault was e key Next other = pressed_alike d fault was (without_ask e) key other
 question_alike d fault was e key Previous other = pressed_alike d fault was (without_ask e) key other
+question_alike d fault was e key Replaces other = pressed_alike d fault was (without_ask e) key other
 question_alike d fault was e key Stays other = refl
 question_alike d fault was e key Ends other = pressed_alike d fault was (without_ask e) key other
 
@@ -77,6 +104,9 @@ alike : (d : Data) (fault : Option StoreFault) (was : Before) (ask : Ask) (seek 
 alike d fault was asks.Off Off e key other = pressed_alike d fault was e key other
 alike d fault was asks.Off Begun e key other = answered_alike d fault was e key (answer_of key) other
 alike d fault was asks.Off Typed e key other = answered_alike d fault was e key (answer_of key) other
+alike d fault was asks.Off WithBegun e key other = other_alike d fault was e key (answer_of key) other
+alike d fault was asks.Off WithTyped e key other = other_alike d fault was e key (answer_of key) other
+alike d fault was asks.Off Replacing e key other = match_alike d fault was e key (answer_of key) other
 alike d fault was asks.Line seek e key other = question_alike d fault was e key (answer_of key) other
 alike d fault was asks.Name seek e key other = question_alike d fault was e key (answer_of key) other
 alike d fault was asks.Code seek e key other = question_alike d fault was e key (answer_of key) other
@@ -111,7 +141,7 @@ by_ended d fault was e Selects = refl
 by_ended d fault was e Unmarks = refl
 by_ended d fault was e Copies = refl
 by_ended d fault was e Cuts = refl
-by_ended d fault was e Seeks = refl
+by_ended d fault was e (Seeks aim) = refl
 by_ended d fault was e SeeksNext = refl
 by_ended d fault was e Saves = save_ended e fault
 by_ended d fault was e Quits = refl
@@ -129,8 +159,31 @@ answered_ended d fault was e key Shortens = refl
 answered_ended d fault was e key GoesBack = refl
 answered_ended d fault was e key Next = refl
 answered_ended d fault was e key Previous = refl
+answered_ended d fault was e key Replaces = refl
 answered_ended d fault was e key Stays = refl
 answered_ended d fault was e key Ends = by_ended d fault was e (effect_of d e key)
+
+other_ended : (d : Data) (fault : Option StoreFault) (was : Before) (e : Editor) (key : Key) (answer : Answer)
+    → (answered_other d fault was e key answer).ended ≡ (answered_other d None was e key answer).ended
+other_ended d fault was e key (Letter c) = refl
+other_ended d fault was e key Shortens = refl
+other_ended d fault was e key GoesBack = refl
+other_ended d fault was e key Next = refl
+other_ended d fault was e key Previous = refl
+other_ended d fault was e key Replaces = refl
+other_ended d fault was e key Stays = refl
+other_ended d fault was e key Ends = by_ended d fault was (without_search e) (effect_of d (without_search e) key)
+
+match_ended : (d : Data) (fault : Option StoreFault) (was : Before) (e : Editor) (key : Key) (answer : Answer)
+    → (answered_match d fault was e key answer).ended ≡ (answered_match d None was e key answer).ended
+match_ended d fault was e key (Letter c) = refl
+match_ended d fault was e key Shortens = refl
+match_ended d fault was e key GoesBack = refl
+match_ended d fault was e key Next = refl
+match_ended d fault was e key Previous = refl
+match_ended d fault was e key Replaces = refl
+match_ended d fault was e key Stays = refl
+match_ended d fault was e key Ends = by_ended d fault was (without_search e) (effect_of d (without_search e) key)
 
 question_ended : (d : Data) (fault : Option StoreFault) (was : Before) (e : Editor) (key : Key) (answer : Answer)
     → (answered_question d fault was e key answer).ended ≡ (answered_question d None was e key answer).ended
@@ -139,6 +192,7 @@ question_ended d fault was e key Shortens = refl
 question_ended d fault was e key GoesBack = refl
 question_ended d fault was e key Next = by_ended d fault was (without_ask e) (effect_of d (without_ask e) key)
 question_ended d fault was e key Previous = by_ended d fault was (without_ask e) (effect_of d (without_ask e) key)
+question_ended d fault was e key Replaces = by_ended d fault was (without_ask e) (effect_of d (without_ask e) key)
 question_ended d fault was e key Stays = refl
 question_ended d fault was e key Ends = by_ended d fault was (without_ask e) (effect_of d (without_ask e) key)
 
@@ -147,6 +201,9 @@ any_ended : (d : Data) (fault : Option StoreFault) (was : Before) (ask : Ask) (s
 any_ended d fault was asks.Off Off e key = by_ended d fault was e (effect_of d e key)
 any_ended d fault was asks.Off Begun e key = answered_ended d fault was e key (answer_of key)
 any_ended d fault was asks.Off Typed e key = answered_ended d fault was e key (answer_of key)
+any_ended d fault was asks.Off WithBegun e key = other_ended d fault was e key (answer_of key)
+any_ended d fault was asks.Off WithTyped e key = other_ended d fault was e key (answer_of key)
+any_ended d fault was asks.Off Replacing e key = match_ended d fault was e key (answer_of key)
 any_ended d fault was asks.Line seek e key = question_ended d fault was e key (answer_of key)
 any_ended d fault was asks.Name seek e key = question_ended d fault was e key (answer_of key)
 any_ended d fault was asks.Code seek e key = question_ended d fault was e key (answer_of key)

@@ -20,7 +20,7 @@ use Rattle.bx_editor.specs.Effects.{before}
 use Rattle.bx_editor.specs.Replay as replay
 use Rattle.bx_editor.specs.Replay.{after_passed_save}
 use Rattle.bx_editor.specs.declared.seek.Seek.{Seek}
-use Rattle.bx_editor.specs.declared.seek.Seek.TheVariants.{Off, Begun, Typed}
+use Rattle.bx_editor.specs.declared.seek.Seek.TheVariants.{Off, Begun, Typed, WithBegun, WithTyped, Replacing}
 use Rattle.bx_editor.specs.Keys.{after_any, after_key, is_save}
 use Rattle.bx_session.specs.declared.error.Refused.{Refused}
 use Rattle.bx_session.specs.declared.error.Refused.TheVariants as refused
@@ -88,6 +88,9 @@ quit_leaves d fault asks.Off Off e = by_end (not e.changed || e.quit_before) whe
   by_end false = (e.ended, refl)
 quit_leaves d fault asks.Off Begun e = (e.ended, refl)
 quit_leaves d fault asks.Off Typed e = (e.ended, refl)
+quit_leaves d fault asks.Off WithBegun e = (e.ended, refl)
+quit_leaves d fault asks.Off WithTyped e = (e.ended, refl)
+quit_leaves d fault asks.Off Replacing e = (e.ended, refl)
 quit_leaves d fault asks.Line seek e = (e.ended, refl)
 quit_leaves d fault asks.Name seek e = (e.ended, refl)
 quit_leaves d fault asks.Code seek e = (e.ended, refl)
@@ -256,6 +259,8 @@ begins_alike d b settled = record {
     soft = refl;
     held = refl;
     query = refl;
+    aim = refl;
+    other = refl;
     base = refl;
     goal = refl;
     height = refl;
@@ -265,6 +270,8 @@ begins_alike d b settled = record {
   };
   seek = settled.seek;
   origin = refl;
+  at = refl;
+  count = refl;
   ask = settled.ask;
   answer = refl;
   one = λ asked. refl;
@@ -324,6 +331,8 @@ unsent all new replayed is h = subst (λ (x : Session). HasBack x replayed) (sym
   soft = h.soft;
   held = h.held;
   query = h.query;
+  aim = h.aim;
+  other = h.other;
   base = h.base;
   goal = h.goal;
   height = h.height;

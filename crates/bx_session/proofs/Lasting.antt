@@ -11,6 +11,7 @@ use Rattle.bx_text.specs.Edits.{Edited}
 use Rattle.bx_ucd.specs.Data.{Data}
 use Rattle.bx_asking.specs.declared.question.Ask.{Ask}
 use Rattle.bx_runs.specs.declared.typing.Typing.{Typing}
+use Rattle.bx_editor.specs.declared.aim.Aim.{Aim}
 use Rattle.bx_editor.specs.declared.seek.Seek.{Seek}
 use Rattle.bx_editor.specs.declared.soft.Soft.{Soft}
 use Rattle.bx_editor.specs.Editor.{Editor}
@@ -30,7 +31,11 @@ pub record Lasting : Type 0 where
   pub held : List ℕ
   pub query : List ℕ
   pub seek : Seek
+  pub aim : Aim
   pub origin : ℕ
+  pub other : List ℕ
+  pub at : ℕ
+  pub count : ℕ
   pub ask : Ask
   pub answer : List ℕ
   pub typing : Typing
@@ -49,7 +54,11 @@ lasting e = record {
   held = e.held;
   query = e.query;
   seek = e.seek;
+  aim = e.aim;
   origin = e.origin;
+  other = e.other;
+  at = e.at;
+  count = e.count;
   ask = e.ask;
   answer = e.answer;
   typing = e.typing;
@@ -70,7 +79,11 @@ having l e = record e {
   held = l.held;
   query = l.query;
   seek = l.seek;
+  aim = l.aim;
   origin = l.origin;
+  other = l.other;
+  at = l.at;
+  count = l.count;
   ask = l.ask;
   answer = l.answer;
   typing = l.typing;

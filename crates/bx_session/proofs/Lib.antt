@@ -1,6 +1,7 @@
 pub mod Lasting
 pub mod Alike
 pub mod AskedAlike
+pub mod ReplacingAlike
 pub mod KeysAlike
 pub mod Versions
 pub mod Deeds

@@ -14,7 +14,7 @@ use Rattle.bx_asking.specs.declared.question.Ask.{Ask}
 use Rattle.bx_asking.specs.declared.question.Ask.TheVariants as asks
 use Rattle.bx_editor.specs.declared.message.Message.TheVariants.{Unsaved}
 use Rattle.bx_editor.specs.declared.seek.Seek.{Seek}
-use Rattle.bx_editor.specs.declared.seek.Seek.TheVariants.{Off, Begun, Typed}
+use Rattle.bx_editor.specs.declared.seek.Seek.TheVariants.{Off, Begun, Typed, WithBegun, WithTyped, Replacing}
 use Rattle.bx_editor.specs.Asking.{without_ask}
 use Rattle.bx_editor.specs.Editor.{Editor, after_save, cleared}
 use Rattle.bx_editor.specs.Effects.{before}
@@ -61,6 +61,9 @@ quit_lasts : (d : Data) (fault : Option StoreFault) (ask : Ask) (seek : Seek) (e
 quit_lasts d fault asks.Off Off e f asked is = quit_by (not e.changed || e.quit_before) (cleared e)
 quit_lasts d fault asks.Off Begun e f asked is = ap₂ (given_up d (having (lasting e) f)) (sym asked) (sym is)
 quit_lasts d fault asks.Off Typed e f asked is = ap₂ (given_up d (having (lasting e) f)) (sym asked) (sym is)
+quit_lasts d fault asks.Off WithBegun e f asked is = ap₂ (given_up d (having (lasting e) f)) (sym asked) (sym is)
+quit_lasts d fault asks.Off WithTyped e f asked is = ap₂ (given_up d (having (lasting e) f)) (sym asked) (sym is)
+quit_lasts d fault asks.Off Replacing e f asked is = ap₂ (given_up d (having (lasting e) f)) (sym asked) (sym is)
 quit_lasts d fault asks.Line seek e f asked is = ap (λ (a : Ask). given_up d (having (lasting e) f) a e.seek) (sym asked)
 quit_lasts d fault asks.Name seek e f asked is = ap (λ (a : Ask). given_up d (having (lasting e) f) a e.seek) (sym asked)
 quit_lasts d fault asks.Code seek e f asked is = ap (λ (a : Ask). given_up d (having (lasting e) f) a e.seek) (sym asked)
@@ -158,14 +161,16 @@ all_follow d s r store store' (a ∷ answered) new before feeds none =
 -- ---- for each part
 
 same_lasts : (e f : Editor) → f.content ≡ e.content → f.runs ≡ e.runs → f.place ≡ e.place → f.mark ≡ e.mark → f.soft ≡ e.soft → f.held ≡ e.held → f.query ≡ e.query
-    → f.seek ≡ e.seek → f.origin ≡ e.origin → f.ask ≡ e.ask → f.answer ≡ e.answer → f.typing ≡ e.typing
+    → f.seek ≡ e.seek → f.aim ≡ e.aim → f.origin ≡ e.origin → f.other ≡ e.other → f.at ≡ e.at → f.count ≡ e.count
+    → f.ask ≡ e.ask → f.answer ≡ e.answer → f.typing ≡ e.typing
     → f.base ≡ e.base → f.goal ≡ e.goal → f.height ≡ e.height → f.width ≡ e.width → lasting e ≡ lasting f
-same_lasts e f content runs place mark soft held query seek origin ask answer typing base goal height width =
+same_lasts e f content runs place mark soft held query seek aim origin other at count ask answer typing base goal height width =
     let was = lasting e in
     let placed : Lasting = record was { content = f.content; runs = f.runs; place = f.place } in
     let filled : Lasting = record placed { mark = f.mark; soft = f.soft; held = f.held; query = f.query } in
-    let sought : Lasting = record filled { seek = f.seek; origin = f.origin; ask = f.ask; answer = f.answer; typing = f.typing } in
-    let searched : Lasting = record filled { seek = f.seek; origin = f.origin } in
+    let began : Lasting = record filled { seek = f.seek; aim = f.aim; origin = f.origin } in
+    let searched : Lasting = record began { other = f.other; at = f.at; count = f.count } in
+    let sought : Lasting = record searched { ask = f.ask; answer = f.answer; typing = f.typing } in
     ap (λ x. record was { content = x }) (sym content)
     ∙ ap (λ x. record was { content = f.content; runs = x }) (sym runs)
     ∙ ap (λ x. record was { content = f.content; runs = f.runs; place = x }) (sym place)
@@ -174,7 +179,11 @@ same_lasts e f content runs place mark soft held query seek origin ask answer ty
     ∙ ap (λ x. record placed { mark = f.mark; soft = f.soft; held = x }) (sym held)
     ∙ ap (λ x. record placed { mark = f.mark; soft = f.soft; held = f.held; query = x }) (sym query)
     ∙ ap (λ x. record filled { seek = x }) (sym seek)
-    ∙ ap (λ x. record filled { seek = f.seek; origin = x }) (sym origin)
+    ∙ ap (λ x. record filled { seek = f.seek; aim = x }) (sym aim)
+    ∙ ap (λ x. record filled { seek = f.seek; aim = f.aim; origin = x }) (sym origin)
+    ∙ ap (λ x. record began { other = x }) (sym other)
+    ∙ ap (λ x. record began { other = f.other; at = x }) (sym at)
+    ∙ ap (λ x. record began { other = f.other; at = f.at; count = x }) (sym count)
     ∙ ap (λ x. record searched { ask = x }) (sym ask)
     ∙ ap (λ x. record searched { ask = f.ask; answer = x }) (sym answer)
     ∙ ap (λ x. record searched { ask = f.ask; answer = f.answer; typing = x }) (sym typing)
@@ -186,7 +195,7 @@ same_lasts e f content runs place mark soft held query seek origin ask answer ty
 pub follows : (s r : Session) → HasBackMidway s r → Follows s r
 follows s r h =
     let p = h.parts in record {
-      lasts = same_lasts s.editor r.editor p.content p.runs p.place p.mark p.soft p.held p.query h.seek h.origin h.ask h.answer h.typing p.base p.goal p.height p.width;
+      lasts = same_lasts s.editor r.editor p.content p.runs p.place p.mark p.soft p.held p.query h.seek p.aim h.origin p.other h.at h.count h.ask h.answer h.typing p.base p.goal p.height p.width;
       rest_is = sym p.rest;
       goes_on = p.goes_on;
       one = h.one;
@@ -202,6 +211,8 @@ has_back s r h = record {
     soft = ap (λ (l : Lasting). l.soft) (sym h.lasts);
     held = ap (λ (l : Lasting). l.held) (sym h.lasts);
     query = ap (λ (l : Lasting). l.query) (sym h.lasts);
+    aim = ap (λ (l : Lasting). l.aim) (sym h.lasts);
+    other = ap (λ (l : Lasting). l.other) (sym h.lasts);
     base = ap (λ (l : Lasting). l.base) (sym h.lasts);
     goal = ap (λ (l : Lasting). l.goal) (sym h.lasts);
     height = ap (λ (l : Lasting). l.height) (sym h.lasts);
@@ -211,6 +222,8 @@ has_back s r h = record {
   };
   seek = ap (λ (l : Lasting). l.seek) (sym h.lasts);
   origin = ap (λ (l : Lasting). l.origin) (sym h.lasts);
+  at = ap (λ (l : Lasting). l.at) (sym h.lasts);
+  count = ap (λ (l : Lasting). l.count) (sym h.lasts);
   ask = ap (λ (l : Lasting). l.ask) (sym h.lasts);
   answer = ap (λ (l : Lasting). l.answer) (sym h.lasts);
   one = h.one;
@@ -227,6 +240,8 @@ ended_back s r h =
       soft = p.soft;
       held = p.held;
       query = p.query;
+      aim = p.aim;
+      other = p.other;
       base = p.base;
       goal = p.goal;
       height = p.height;

@@ -16,10 +16,11 @@ use Rattle.bx_asking.specs.declared.question.Ask.TheVariants as asks
 use Rattle.bx_editor.specs.Asking.{without_ask}
 use Rattle.bx_editor.specs.Editor.{Editor, after_save, cleared}
 use Rattle.bx_editor.specs.declared.seek.Seek.{Seek}
-use Rattle.bx_editor.specs.declared.seek.Seek.TheVariants.{Off, Begun, Typed}
+use Rattle.bx_editor.specs.declared.seek.Seek.TheVariants.{Off, Begun, Typed, WithBegun, WithTyped, Replacing}
 use Rattle.bx_editor.specs.Effects.{Before, before}
 use Rattle.bx_editor.specs.Keys.{after_any, after_key}
 use Rattle.bx_editor.specs.Replay.{after_passed_save}
+use Rattle.bx_editor.specs.Search.{without_search}
 use Rattle.bx_session.specs.Laws.{keys_from, after_replaying, ReplaysKeys}
 use Rattle.bx_session.specs.Session.{Session, after_all_replayed, after_replay, after_replayed, after_replayed_key, session_after_key, session_after_replayed, with_painting_owed}
 use Rattle.bx_session.proofs.Alike.{Work, work}
@@ -149,6 +150,9 @@ quit_editor : (d : Data) (ask : Ask) (seek : Seek) (s : Session) → (session_af
 quit_editor d asks.Off Off s = refl
 quit_editor d asks.Off Begun s = refl
 quit_editor d asks.Off Typed s = refl
+quit_editor d asks.Off WithBegun s = refl
+quit_editor d asks.Off WithTyped s = refl
+quit_editor d asks.Off Replacing s = refl
 quit_editor d asks.Line seek s = refl
 quit_editor d asks.Name seek s = refl
 quit_editor d asks.Code seek s = refl
@@ -157,6 +161,9 @@ quit_rest : (d : Data) (ask : Ask) (seek : Seek) (s : Session) → (session_afte
 quit_rest d asks.Off Off s = refl
 quit_rest d asks.Off Begun s = refl
 quit_rest d asks.Off Typed s = refl
+quit_rest d asks.Off WithBegun s = refl
+quit_rest d asks.Off WithTyped s = refl
+quit_rest d asks.Off Replacing s = refl
 quit_rest d asks.Line seek s = refl
 quit_rest d asks.Name seek s = refl
 quit_rest d asks.Code seek s = refl
@@ -176,6 +183,9 @@ pub quit_works : (d : Data) (ask : Ask) (seek : Seek) (e : Editor) → e.ask ≡
 quit_works d asks.Off Off e asked is = refl
 quit_works d asks.Off Begun e asked is = ap₂ (λ (a : Ask) (s : Seek). work (after_any d None (before e) a s (cleared e) Quit)) asked is
 quit_works d asks.Off Typed e asked is = ap₂ (λ (a : Ask) (s : Seek). work (after_any d None (before e) a s (cleared e) Quit)) asked is
+quit_works d asks.Off WithBegun e asked is = ap₂ (λ (a : Ask) (s : Seek). work (after_any d None (before e) a s (cleared e) Quit)) asked is
+quit_works d asks.Off WithTyped e asked is = ap₂ (λ (a : Ask) (s : Seek). work (after_any d None (before e) a s (cleared e) Quit)) asked is
+quit_works d asks.Off Replacing e asked is = ap₂ (λ (a : Ask) (s : Seek). work (after_any d None (before e) a s (cleared e) Quit)) asked is
 quit_works d asks.Line seek e asked is = ap (λ (a : Ask). work (after_any d None (before e) a e.seek (cleared e) Quit)) asked
 quit_works d asks.Name seek e asked is = ap (λ (a : Ask). work (after_any d None (before e) a e.seek (cleared e) Quit)) asked
 quit_works d asks.Code seek e asked is = ap (λ (a : Ask). work (after_any d None (before e) a e.seek (cleared e) Quit)) asked
@@ -185,11 +195,18 @@ saved_work : (e : Editor) (fault : Option StoreFault) → work (after_save (with
 saved_work e None = refl
 saved_work e (Some fault) = refl
 
+sought_work : (e : Editor) (fault : Option StoreFault) → work (after_save (without_search e) fault) ≡ work (after_save e fault)
+sought_work e None = refl
+sought_work e (Some fault) = refl
+
 save_any : (d : Data) (fault : Option StoreFault) (was : Before) (ask : Ask) (seek : Seek) (e : Editor)
     → work (after_any d fault was ask seek e Save) ≡ work (after_save e fault)
 save_any d fault was asks.Off Off e = refl
 save_any d fault was asks.Off Begun e = refl
 save_any d fault was asks.Off Typed e = refl
+save_any d fault was asks.Off WithBegun e = sought_work e fault
+save_any d fault was asks.Off WithTyped e = sought_work e fault
+save_any d fault was asks.Off Replacing e = sought_work e fault
 save_any d fault was asks.Line seek e = saved_work e fault
 save_any d fault was asks.Name seek e = saved_work e fault
 save_any d fault was asks.Code seek e = saved_work e fault

@@ -22,8 +22,9 @@ use Rattle.bx_session.specs.Session.{Session, after_all_replayed, after_replay, 
 abbrev pub RefusesNoKey : List ByteAnswer → Type 0
 RefusesNoKey answered = All (λ (a : ByteAnswer). a.1 ≢ Err refused.Edit) answered
 
--- a replayed session has the other's text with its past and future, its runs, cursor's place, mark, softness, held bytes, query,
--- direction, kept column, window and unfinished input; and it has not ended
+-- a replayed session has the other's text with its past and future, its runs, cursor's place, mark, softness, held bytes, query
+-- with what it was sought for, the text that replaces matches, direction, kept column, window and unfinished input; and it has not
+-- ended
 pub record HasBack (had replayed : Session) : Type 0 where
   pub content : replayed.editor.content ≡ had.editor.content
   pub runs : replayed.editor.runs ≡ had.editor.runs
@@ -32,6 +33,8 @@ pub record HasBack (had replayed : Session) : Type 0 where
   pub soft : replayed.editor.soft ≡ had.editor.soft
   pub held : replayed.editor.held ≡ had.editor.held
   pub query : replayed.editor.query ≡ had.editor.query
+  pub aim : replayed.editor.aim ≡ had.editor.aim
+  pub other : replayed.editor.other ≡ had.editor.other
   pub base : replayed.editor.base ≡ had.editor.base
   pub goal : replayed.editor.goal ≡ had.editor.goal
   pub height : replayed.editor.height ≡ had.editor.height
@@ -39,12 +42,14 @@ pub record HasBack (had replayed : Session) : Type 0 where
   pub rest : replayed.rest ≡ had.rest
   pub goes_on : replayed.editor.ended ≡ false
 
--- in the middle of a replay also the states of search and question, one of which at most is on, the answer, and what the next
--- edit may go on with
+-- in the middle of a replay also the states of search and question, one of which at most is on, the match that is shown and the
+-- number of those that were replaced, the answer, and what the next edit may go on with
 pub record HasBackMidway (had replayed : Session) : Type 0 where
   pub parts : HasBack had replayed
   pub seek : replayed.editor.seek ≡ had.editor.seek
   pub origin : replayed.editor.origin ≡ had.editor.origin
+  pub at : replayed.editor.at ≡ had.editor.at
+  pub count : replayed.editor.count ≡ had.editor.count
   pub ask : replayed.editor.ask ≡ had.editor.ask
   pub answer : replayed.editor.answer ≡ had.editor.answer
   pub one : HasOnePrompt had.editor

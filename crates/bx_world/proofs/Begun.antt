@@ -13,7 +13,7 @@ use Rattle.bx_editor.specs.Editor.{Editor}
 use Rattle.bx_asking.specs.declared.question.Ask.{Ask}
 use Rattle.bx_asking.specs.declared.question.Ask.TheVariants as asks
 use Rattle.bx_editor.specs.declared.seek.Seek.{Seek}
-use Rattle.bx_editor.specs.declared.seek.Seek.TheVariants.{Off, Begun, Typed}
+use Rattle.bx_editor.specs.declared.seek.Seek.TheVariants.{Off, Begun, Typed, WithBegun, WithTyped, Replacing}
 use Rattle.bx_editor.specs.Replay.{after_passed_quit, after_passed_save}
 use Rattle.bx_editor.specs.Replay as replay
 use Rattle.bx_session.specs.Session.{Session, after_all_replayed, at_opening, at_replay_end, after_replay, after_replayed_key, after_spending, key_of_byte, session_after_key, session_after_replayed}
@@ -102,6 +102,9 @@ quit_stays : (d : Data) (t : Terminal) (ask : Ask) (seek : Seek) (s : Session) â
 quit_stays d t asks.Off Off s = passed_stays t s (after_passed_quit s.editor) refl refl
 quit_stays d t asks.Off Begun s = key_stays d t s Quit
 quit_stays d t asks.Off Typed s = key_stays d t s Quit
+quit_stays d t asks.Off WithBegun s = key_stays d t s Quit
+quit_stays d t asks.Off WithTyped s = key_stays d t s Quit
+quit_stays d t asks.Off Replacing s = key_stays d t s Quit
 quit_stays d t asks.Line seek s = key_stays d t s Quit
 quit_stays d t asks.Name seek s = key_stays d t s Quit
 quit_stays d t asks.Code seek s = key_stays d t s Quit
