@@ -18,12 +18,15 @@ use Rattle.bx_editor.specs.declared.message.Message.{Message}
 use Rattle.bx_editor.specs.declared.message.Message.TheVariants as messages
 use Rattle.bx_editor.specs.declared.soft.Soft.{Soft}
 use Rattle.bx_editor.specs.declared.soft.Soft.TheVariants as softness
-use Rattle.bx_editor.specs.Editor.{Editor, after_help, after_quit, after_redo, after_save, after_step, after_undo, next_base, nothing_left, with_base, with_insertion, with_removal, with_step}
-use Rattle.bx_editor.specs.Effects.{Effect, Types, BeginsLine, Puts, Removes, RemovesWord, Steps, StepsRun, Goes, GoesByRows, Marks, Selects}
-use Rattle.bx_editor.specs.Effects.{Unmarks, Copies, Cuts, Seeks, SeeksNext, Saves, Quits, Turns, Helps, AsksLine, AsksName, Tells, Rests, Before, by}
+use Rattle.bx_editor.specs.Editor.{Editor, after_help, after_quit, after_redo, after_save, after_step, after_undo, next_base}
+use Rattle.bx_editor.specs.Editor.{nothing_left, with_base, with_insertion, with_removal, with_step}
+use Rattle.bx_editor.specs.Effects.{Effect, Types, BeginsLine, Puts, Removes, RemovesWord, Steps, StepsRun, Goes, GoesByRows, Marks}
+use Rattle.bx_editor.specs.Effects.{Selects, Unmarks, Copies, Cuts, Seeks, SeeksNext, Saves, Quits, Turns, Helps, AsksLine, AsksName}
+use Rattle.bx_editor.specs.Effects.{Tells, Rests, Before, by}
 use Rattle.bx_editor.specs.Erasing.{after_erasing, after_erasing_word, after_removing, removed_on}
 use Rattle.bx_editor.specs.Goal.{after_row_move}
-use Rattle.bx_editor.specs.Putting.{after_character, after_new_line, after_put, has_room, is_paste, line_end, only_paste, put_in, typed, with_selection_replaced, yielding}
+use Rattle.bx_editor.specs.Putting.{after_character, after_new_line, after_put, has_room, is_paste, line_end, only_paste, put_in}
+use Rattle.bx_editor.specs.Putting.{typed, with_selection_replaced, yielding}
 use Rattle.bx_editor.specs.Region.{after_copy, after_cut, after_mark, bytes_in, is_at_mark, is_empty, line, region, taken}
 use Rattle.bx_editor.specs.Runs.{after_run_step, by_run, is_changed_at, run_goal, run_length}
 use Rattle.bx_editor.specs.Selecting.{is_selection, selecting, unselected}
@@ -35,10 +38,12 @@ pub record IsKeptPressing (d : Data) (P : Editor → Type 0) : Type 0 where
   pub stepped : (way : HistoryStep) (e : Editor) → P e → P (after_step way e)
   pub run : (way : HistoryStep) (e : Editor) → P e → P (after_run_step way e)
   pub saved : (e : Editor) (fault : Option StoreFault) → P e → P (after_save e fault)
-  pub quit : (e : Editor) (ended : Bool) (message : Option Message) → P e → P (record e { quit_before = true; ended = ended; message = message })
+  pub quit : (e : Editor) (ended : Bool) (message : Option Message) → P e
+      → P (record e { quit_before = true; ended = ended; message = message })
   pub based : (e : Editor) (base : Base) → P e → P (with_base e base)
   pub gone : (e : Editor) (place : ℕ) (goal : Option ℕ) → P e → P (record e { place = place; goal = goal })
-  pub marked : (e : Editor) (mark : Option ℕ) (soft : Soft) (held : List ℕ) → P e → P (record e { mark = mark; soft = soft; held = held })
+  pub marked : (e : Editor) (mark : Option ℕ) (soft : Soft) (held : List ℕ) → P e
+      → P (record e { mark = mark; soft = soft; held = held })
   pub told : (e : Editor) (message : Option Message) (typing : Typing) → P e → P (record e { message = message; typing = typing })
 
 -- the effect begins a search or a question, or seeks
@@ -65,13 +70,15 @@ module _ (d : Data) (P : Editor → Type 0) (keeps : IsKeptPressing d P) where
       let one = with_insertion d e new on in
       let without = with_removal d e (region e).0 (region e).1 false in
       either (has_room e new) (if is_selection e then two else one) (record e { message = Some messages.TextFull })
-      (either (is_selection e) two one (keeps.inserted without new true (keeps.removed e (region e).0 (region e).1 false h)) (keeps.inserted e new on h))
+      (either (is_selection e) two one (keeps.inserted without new true (keeps.removed e (region e).0 (region e).1 false h))
+      (keeps.inserted e new on h))
       (message e messages.TextFull h)
 
   typing-keeps : (typing : Typing) (e : Editor) (new : List ℕ) (kind : Kind) → P e → P (typed d typing e new kind)
   typing-keeps typing e new kind h =
       let put = put_in d e new (goes_on typing kind) in
-      keeps.told put put.message (if has_room e new then after_insertion typing kind else only_paste typing) (putting e new (goes_on typing kind) h)
+      keeps.told put put.message (if has_room e new then after_insertion typing kind else only_paste typing)
+      (putting e new (goes_on typing kind) h)
 
   new-line : (typing : Typing) (e : Editor) → P e → P (after_new_line d typing e)
   new-line typing e h = typing-keeps typing e (line_end d (splice e.content.text (yielding e).0 (yielding e).1 [])) Separator h
@@ -79,24 +86,29 @@ module _ (d : Data) (P : Editor → Type 0) (keeps : IsKeptPressing d P) where
   character : (typing : Typing) (e : Editor) (c : ℕ) → P e → P (after_character d typing e c)
   character typing e c h =
       let kind = kind_of (d.class c) in
-      either ((c == 0xA) && is_paste typing) (after_new_line d typing e) (typed d typing e (encode_utf8 c) kind) (new-line typing e h)
+      either ((c == 0xA) && is_paste typing) (after_new_line d typing e) (typed d typing e (encode_utf8 c) kind)
+      (new-line typing e h)
       (typing-keeps typing e (encode_utf8 c) kind h)
 
   put : (e : Editor) → P e → P (after_put d e)
   put e h =
-      either (length e.held == 0) (record e { message = Some messages.NothingToPut }) (put_in d e e.held false) (message e messages.NothingToPut h)
+      either (length e.held == 0) (record e { message = Some messages.NothingToPut }) (put_in d e e.held false)
+      (message e messages.NothingToPut h)
       (putting e e.held false h)
 
-  instead : (e other : Editor) → P e → P other → P (if is_selection e then with_removal d e (region e).0 (region e).1 false else other)
+  instead : (e other : Editor) → P e → P other
+      → P (if is_selection e then with_removal d e (region e).0 (region e).1 false else other)
   instead e other h k =
-      either (is_selection e) (with_removal d e (region e).0 (region e).1 false) other (keeps.removed e (region e).0 (region e).1 false h) k
+      either (is_selection e) (with_removal d e (region e).0 (region e).1 false) other
+      (keeps.removed e (region e).0 (region e).1 false h) k
 
   erasing : (typing : Typing) (how : Removal) (e : Editor) (start stop : ℕ) → P e → P (after_erasing d typing how e start stop)
   erasing typing how e start stop h =
       let gone = with_removal d e start stop (goes_on_removing typing how) in
       let left = keeps.removed e start stop (goes_on_removing typing how) h in
       instead e (removed_on d typing how e start stop) h
-      (either (start == stop) e (record gone { typing = after_removal how }) h (keeps.told gone gone.message (after_removal how) left))
+      (either (start == stop) e (record gone { typing = after_removal how }) h
+      (keeps.told gone gone.message (after_removal how) left))
 
   erasing-word : (e : Editor) (start stop : ℕ) → P e → P (after_erasing_word d e start stop)
   erasing-word e start stop h =
@@ -105,16 +117,25 @@ module _ (d : Data) (P : Editor → Type 0) (keeps : IsKeptPressing d P) where
 
   -- ---- the mark and the held text
 
-  unmarked : (e : Editor) (held : List ℕ) (m : Message) → P e → P (record e { mark = None; soft = softness.Off; held = held; message = Some m })
-  unmarked e held m h = message (record e { mark = None; soft = softness.Off; held = held }) m (keeps.marked e None softness.Off held h)
+  unmarked : (e : Editor) (held : List ℕ) (m : Message) → P e
+      → P (record e { mark = None; soft = softness.Off; held = held; message = Some m })
+  unmarked e held m h =
+      message (record e { mark = None; soft = softness.Off; held = held }) m (keeps.marked e None softness.Off held h)
 
   copy : (e : Editor) → P e → P (after_copy d e)
   copy e h =
       let none : Editor = record e { mark = None; soft = softness.Off; message = Some messages.NothingToCopy } in
-      let one : Editor = record e { mark = None; soft = softness.Off; held = bytes_in e (line d e); message = Some messages.LineCopied } in
+      let one : Editor = record e {
+        mark = None;
+        soft = softness.Off;
+        held = bytes_in e
+            (line d e);
+        message = Some messages.LineCopied;
+      } in
       either (is_empty (region e)) (if is_empty (line d e) then none else one)
       (record e { mark = None; soft = softness.Off; held = bytes_in e (region e); message = Some messages.Copied })
-      (either (is_empty (line d e)) none one (unmarked e e.held messages.NothingToCopy h) (unmarked e (bytes_in e (line d e)) messages.LineCopied h))
+      (either (is_empty (line d e)) none one (unmarked e e.held messages.NothingToCopy h)
+      (unmarked e (bytes_in e (line d e)) messages.LineCopied h))
       (unmarked e (bytes_in e (region e)) messages.Copied h)
 
   cut : (e : Editor) → P e → P (after_cut d e)
@@ -144,7 +165,8 @@ module _ (d : Data) (P : Editor → Type 0) (keeps : IsKeptPressing d P) where
 
   ending : (e : Editor) (again : Bool) → P e → P (after_quit e again)
   ending e again h =
-      either (not e.changed || again) (record e { quit_before = true; ended = true }) (record e { quit_before = true; message = Some messages.Unsaved })
+      either (not e.changed || again) (record e { quit_before = true; ended = true })
+      (record e { quit_before = true; message = Some messages.Unsaved })
       (keeps.quit e true e.message h) (keeps.quit e e.ended (Some messages.Unsaved) h)
 
   -- `asking`: an effect that begins a search or a question, or seeks
@@ -178,7 +200,8 @@ module _ (d : Data) (P : Editor → Type 0) (keeps : IsKeptPressing d P) where
 
 -- ---- undo and redo, where any other text of the history keeps the property
 
-module _ (P : Editor → Type 0) (stepped : (e : Editor) (content : Edited) (place : ℕ) (changed : Bool) → P e → P (with_step e content place changed))
+module _ (P : Editor → Type 0)
+    (stepped : (e : Editor) (content : Edited) (place : ℕ) (changed : Bool) → P e → P (with_step e content place changed))
     (told : (e : Editor) (message : Message) → P e → P (record e { message = Some message })) where
   undo : (e : Editor) (past : List Edit) → P e → P (after_undo e past)
   undo e [] h = told e messages.NothingToUndo h
@@ -194,7 +217,8 @@ module _ (P : Editor → Type 0) (stepped : (e : Editor) (content : Edited) (pla
 
   by-run : (way : HistoryStep) (e : Editor) (change : Option Change) → P e → P (by_run way e change)
   by-run way e None h = told e (nothing_left way) h
-  by-run way e (Some change) h = stepped e (stepped_times way (run_length way e) e.content) change.place (is_changed_at (run_goal way e) e.stored) h
+  by-run way e (Some change) h =
+      stepped e (stepped_times way (run_length way e) e.content) change.place (is_changed_at (run_goal way e) e.stored) h
 
   pub run-keeps : (way : HistoryStep) (e : Editor) → P e → P (after_run_step way e)
   run-keeps way e h = by-run way e (next_changes way (run_length way e) e.content) h

@@ -15,11 +15,15 @@ use Rattle.bx_editor.specs.declared.seek.Seek.{Seek}
 use Rattle.bx_editor.specs.declared.seek.Seek.TheVariants.{Off, Begun, Typed, WithBegun, WithTyped, Replacing}
 use Rattle.bx_editor.specs.Editor.{Editor, cleared}
 use Rattle.bx_editor.specs.Effects.{Before, before}
-use Rattle.bx_editor.specs.Keys.{Answer, Letter, Shortens, GoesBack, Next, Previous, Replaces, Stays, Ends, after_any, after_key, answer_of, answered, answered_other, effect_of}
-use Rattle.bx_editor.specs.Laws.{after_typing, begins_anew, finds, is_on, BeginsSearch, GivesUp, GivingUpGoesBack, IsGivenUp, StaysOn}
+use Rattle.bx_editor.specs.Keys.{Answer, Letter, Shortens, GoesBack, Next, Previous, Replaces, Stays, Ends, after_any, after_key}
+use Rattle.bx_editor.specs.Keys.{answer_of, answered, answered_other, effect_of}
+use Rattle.bx_editor.specs.Laws.{after_typing, begins_anew, finds, is_on}
+use Rattle.bx_editor.specs.Laws.{BeginsSearch, GivesUp, GivingUpGoesBack, IsGivenUp, StaysOn}
 use Rattle.bx_editor.specs.Putting.{is_paste}
-use Rattle.bx_editor.specs.Replacing.{after_asking_other, after_other_letter, after_showing, after_sought_letter, asked_at, is_replacing, longest_other, next_match, other_typed, shown_at, with_other}
-use Rattle.bx_editor.specs.Search.{after_beginning, after_giving_up, after_letter, is_no_letter, kept, landed, landing_from, lengthened, longest_query, search_from, sought, with_query, without_search}
+use Rattle.bx_editor.specs.Replacing.{after_asking_other, after_other_letter, after_showing, after_sought_letter, asked_at}
+use Rattle.bx_editor.specs.Replacing.{is_replacing, longest_other, next_match, other_typed, shown_at, with_other}
+use Rattle.bx_editor.specs.Search.{after_beginning, after_giving_up, after_letter, is_no_letter, kept, landed, landing_from}
+use Rattle.bx_editor.specs.Search.{lengthened, longest_query, search_from, sought, with_query, without_search}
 use Rattle.bx_editor.specs.Selecting.{unselected}
 use Rattle.bx_editor.proofs.InSearch.{behind, each-key}
 use Rattle.bx_editor.proofs.Searches.{is_end}
@@ -56,7 +60,8 @@ letter-keeps d e c =
 
 asked-keeps : (e went : Editor) (place : Option ℕ) → KeepsSearch e went → KeepsSearch e (asked_at place went)
 asked-keeps e went None h = record { origin_is = h.origin_is; mark_is = h.mark_is; content_is = h.content_is; ask_is = h.ask_is }
-asked-keeps e went (Some place) h = record { origin_is = h.origin_is; mark_is = h.mark_is; content_is = h.content_is; ask_is = h.ask_is }
+asked-keeps e went (Some place) h =
+    record { origin_is = h.origin_is; mark_is = h.mark_is; content_is = h.content_is; ask_is = h.ask_is }
 
 asking-keeps : (d : Data) (e : Editor) → KeepsSearch e (after_asking_other d e)
 asking-keeps d e =
@@ -106,7 +111,8 @@ is_search Next = true
 is_search Previous = true
 is_search _ = false
 
-other-keeps : (d : Data) (fault : Option StoreFault) (was : Before) (e : Editor) (key : Key) (answer : Answer) → is_search answer ≡ false
+other-keeps : (d : Data) (fault : Option StoreFault) (was : Before) (e : Editor) (key : Key) (answer : Answer)
+    → is_search answer ≡ false
     → (is_end answer ≡ true → is_seeking (effect_of d (without_search e) key) ≡ false)
     → is_on (answered_other d fault was e key answer).seek ≡ true → KeepsSearch e (answered_other d fault was e key answer)
 other-keeps d fault was e key (Letter c) other ends on =
@@ -139,8 +145,10 @@ ends-all d e _ h = refl
 
 -- ---- any key
 
-any-keeps : (d : Data) (fault : Option StoreFault) (was : Before) (ask : Ask) (seek : Seek) (e : Editor) (key : Key) → ask ≡ asks.Off → is_on seek ≡ true
-    → begins_anew seek key ≡ false → is_on (after_any d fault was ask seek e key).seek ≡ true → KeepsSearch e (after_any d fault was ask seek e key)
+any-keeps : (d : Data) (fault : Option StoreFault) (was : Before) (ask : Ask) (seek : Seek) (e : Editor) (key : Key)
+    → ask ≡ asks.Off → is_on seek ≡ true
+    → begins_anew seek key ≡ false → is_on (after_any d fault was ask seek e key).seek ≡ true
+    → KeepsSearch e (after_any d fault was ask seek e key)
 any-keeps d fault was asks.Off Off e key unasked sought same on = absurd (cc sought)
 any-keeps d fault was asks.Off Begun e key unasked sought same on = answered-keeps d fault was e key (answer_of key) on
 any-keeps d fault was asks.Off Typed e key unasked sought same on = answered-keeps d fault was e key (answer_of key) on
@@ -153,7 +161,8 @@ any-keeps d fault was asks.Line seek e key unasked sought same on = absurd (cc u
 any-keeps d fault was asks.Name seek e key unasked sought same on = absurd (cc unasked)
 any-keeps d fault was asks.Code seek e key unasked sought same on = absurd (cc unasked)
 
-key-keeps : (d : Data) (fault : Option StoreFault) (e : Editor) (key : Key) → e.ask ≡ asks.Off → is_on e.seek ≡ true → begins_anew e.seek key ≡ false
+key-keeps : (d : Data) (fault : Option StoreFault) (e : Editor) (key : Key) → e.ask ≡ asks.Off → is_on e.seek ≡ true
+    → begins_anew e.seek key ≡ false
     → is_on (after_key d fault e key).seek ≡ true → KeepsSearch e (after_key d fault e key)
 key-keeps d fault e key unasked sought =
     each-key d fault e (λ k new. begins_anew e.seek k ≡ false → is_on new.seek ≡ true → KeepsSearch e new)
@@ -173,11 +182,13 @@ on-at-first : (d : Data) (e : Editor) (typed : List (Key × Option StoreFault)) 
 on-at-first d e [] on = on
 on-at-first d e (key ∷ typed) on = on.0
 
-on-at-last : (d : Data) (e : Editor) (typed : List (Key × Option StoreFault)) → StaysOn d e typed → is_on (after_typing d e typed).seek ≡ true
+on-at-last : (d : Data) (e : Editor) (typed : List (Key × Option StoreFault)) → StaysOn d e typed
+    → is_on (after_typing d e typed).seek ≡ true
 on-at-last d e [] on = on
 on-at-last d e (key ∷ typed) on = on-at-last d (after_key d key.1 e key.0) typed on.1.1
 
-typing-keeps : (d : Data) (e : Editor) (typed : List (Key × Option StoreFault)) → e.ask ≡ asks.Off → StaysOn d e typed → KeepsSearch e (after_typing d e typed)
+typing-keeps : (d : Data) (e : Editor) (typed : List (Key × Option StoreFault)) → e.ask ≡ asks.Off → StaysOn d e typed
+    → KeepsSearch e (after_typing d e typed)
 typing-keeps d e [] unasked on = keeps-all e
 typing-keeps d e (key ∷ typed) unasked on =
     let next = after_key d key.1 e key.0 in
@@ -192,7 +203,8 @@ typing-keeps d e (key ∷ typed) unasked on =
 
 -- ---- the first key and the last
 
-same-key : (d : Data) (e : Editor) (key other : Key) (new : Editor) → key ≡ other → after_key d None e other ≡ new → after_key d None e key ≡ new
+same-key : (d : Data) (e : Editor) (key other : Key) (new : Editor) → key ≡ other → after_key d None e other ≡ new
+    → after_key d None e key ≡ new
 same-key d e key other new is done = subst (λ k. after_key d None e k ≡ new) (sym is) done
 
 -- an editor in which a search begins
@@ -222,20 +234,26 @@ replace-any d was asks.Code e is = refl
 
 pub find-begins : (d : Data) (e : Editor) → e.seek ≡ Off → after_key d None e Find ≡ behind (begun-at aims.Find e)
 find-begins d e off =
-    ap (λ s. behind (after_any d None (before e) e.ask s (cleared e) Find)) off ∙ ap behind (find-any d (before e) e.ask (cleared e) refl)
+    ap (λ s. behind (after_any d None (before e) e.ask s (cleared e) Find)) off
+    ∙ ap behind (find-any d (before e) e.ask (cleared e) refl)
 
 pub find-back-begins : (d : Data) (e : Editor) → e.seek ≡ Off → after_key d None e FindBack ≡ behind (begun-at aims.Find e)
 find-back-begins d e off =
-    ap (λ s. behind (after_any d None (before e) e.ask s (cleared e) FindBack)) off ∙ ap behind (find-back-any d (before e) e.ask (cleared e) refl)
+    ap (λ s. behind (after_any d None (before e) e.ask s (cleared e) FindBack)) off
+    ∙ ap behind (find-back-any d (before e) e.ask (cleared e) refl)
 
 pub replace-begins : (d : Data) (e : Editor) → e.seek ≡ Off → after_key d None e Replace ≡ behind (begun-at aims.Replace e)
 replace-begins d e off =
-    ap (λ s. behind (after_any d None (before e) e.ask s (cleared e) Replace)) off ∙ ap behind (replace-any d (before e) e.ask (cleared e) refl)
+    ap (λ s. behind (after_any d None (before e) e.ask s (cleared e) Replace)) off
+    ∙ ap behind (replace-any d (before e) e.ask (cleared e) refl)
 
-begin-is : (d : Data) (e : Editor) (begin : Key) → e.seek ≡ Off → BeginsSearch begin → (aim : Aim) × (after_key d None e begin ≡ behind (begun-at aim e))
+begin-is : (d : Data) (e : Editor) (begin : Key) → e.seek ≡ Off → BeginsSearch begin
+    → (aim : Aim) × (after_key d None e begin ≡ behind (begun-at aim e))
 begin-is d e begin off (inl is) = (aims.Find, same-key d e begin Find (behind (begun-at aims.Find e)) is (find-begins d e off))
-begin-is d e begin off (inr (inl is)) = (aims.Find, same-key d e begin FindBack (behind (begun-at aims.Find e)) is (find-back-begins d e off))
-begin-is d e begin off (inr (inr is)) = (aims.Replace, same-key d e begin Replace (behind (begun-at aims.Replace e)) is (replace-begins d e off))
+begin-is d e begin off (inr (inl is)) =
+    (aims.Find, same-key d e begin FindBack (behind (begun-at aims.Find e)) is (find-back-begins d e off))
+begin-is d e begin off (inr (inr is)) =
+    (aims.Replace, same-key d e begin Replace (behind (begun-at aims.Replace e)) is (replace-begins d e off))
 
 quit-any : (d : Data) (was : Before) (ask : Ask) (seek : Seek) (e : Editor) → ask ≡ asks.Off → is_on seek ≡ true
     → after_any d None was ask seek e Quit ≡ after_giving_up e
@@ -273,11 +291,14 @@ cancel-any d was asks.Line seek e unasked on = absurd (cc unasked)
 cancel-any d was asks.Name seek e unasked on = absurd (cc unasked)
 cancel-any d was asks.Code seek e unasked on = absurd (cc unasked)
 
-give-is : (d : Data) (e : Editor) (give : Key) → e.ask ≡ asks.Off → is_on e.seek ≡ true → GivesUp give → after_key d None e give ≡ behind (after_giving_up (cleared e))
+give-is : (d : Data) (e : Editor) (give : Key) → e.ask ≡ asks.Off → is_on e.seek ≡ true → GivesUp give
+    → after_key d None e give ≡ behind (after_giving_up (cleared e))
 give-is d e give unasked on (inl is) =
-    same-key d e give Quit (behind (after_giving_up (cleared e))) is (ap behind (quit-any d (before e) e.ask e.seek (cleared e) unasked on))
+    same-key d e give Quit (behind (after_giving_up (cleared e))) is
+    (ap behind (quit-any d (before e) e.ask e.seek (cleared e) unasked on))
 give-is d e give unasked on (inr (inl is)) =
-    same-key d e give Copy (behind (after_giving_up (cleared e))) is (ap behind (copy-any d (before e) e.ask e.seek (cleared e) unasked on))
+    same-key d e give Copy (behind (after_giving_up (cleared e))) is
+    (ap behind (copy-any d (before e) e.ask e.seek (cleared e) unasked on))
 give-is d e give unasked on (inr (inr is)) =
     same-key d e give Cancel (behind (after_giving_up (cleared e))) is
     (ap behind (cancel-any d (before e) e.ask e.seek (cleared e) unasked on))

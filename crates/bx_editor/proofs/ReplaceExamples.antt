@@ -16,7 +16,7 @@ use Rattle.bx_editor.specs.declared.message.Message.TheVariants.{FromStart, From
 use Rattle.bx_editor.specs.declared.seek.Seek.{Seek}
 use Rattle.bx_editor.specs.declared.seek.Seek.TheVariants.{Off, Begun, Typed, WithBegun, WithTyped, Replacing}
 use Rattle.bx_editor.specs.Editor.{Editor}
-use Rattle.bx_editor.proofs.Computed.{start, after, letters, shown}
+use Rattle.bx_editor.proofs.Computed.{start, after, letters}
 
 abbrev from : List ℕ → List Key → Editor
 from text keys = after (start text 2 60) keys

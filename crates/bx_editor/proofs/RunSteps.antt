@@ -46,4 +46,5 @@ by_length step e (Some change) =
 pub by-length-is : (step : HistoryStep) (e : Editor) (change : Option Change) → by_length step e change ≡ by_run step e change
 by-length-is step e None = refl
 by-length-is step e (Some change) =
-    ap (λ n. with_step e (stepped_times step (run_length step e) e.content) change.place (is_changed_at n e.stored)) (run-ends step e)
+    ap (λ n. with_step e (stepped_times step (run_length step e) e.content) change.place (is_changed_at n e.stored))
+    (run-ends step e)

@@ -17,12 +17,15 @@ use Rattle.bx_editor.specs.declared.seek.Seek.{Seek}
 use Rattle.bx_editor.specs.declared.seek.Seek.TheVariants.{Off, Typed, WithBegun, WithTyped, Replacing}
 use Rattle.bx_editor.specs.Editor.{Editor, rows, with_exchange, with_place, with_typing}
 use Rattle.bx_editor.specs.Effects.{Before, Seeks, by}
-use Rattle.bx_editor.specs.Keys.{Answer, Letter, Shortens, GoesBack, Next, Previous, Replaces, Stays, Ends, after_pressing, answered, answered_match, answered_other}
+use Rattle.bx_editor.specs.Keys.{Answer, Letter, Shortens, GoesBack, Next, Previous, Replaces, Stays, Ends, after_pressing}
+use Rattle.bx_editor.specs.Keys.{answered, answered_match, answered_other}
 use Rattle.bx_editor.specs.Putting.{is_paste, only_paste}
-use Rattle.bx_editor.specs.Replacing.{after_asking_other, after_ending, after_match_letter, after_other_letter, after_replacing, after_replacing_all}
-use Rattle.bx_editor.specs.Replacing.{after_showing, after_sought_letter, asked_at, at_match, is_replacing, longest_other, match_stop, matches_on, next_match, on_from}
-use Rattle.bx_editor.specs.Replacing.{other_typed, shown_at, with_matches_replaced, with_other}
-use Rattle.bx_editor.specs.Search.{after_letter, backward, is_no_letter, kept, landed, landing_from, lengthened, longest_query, next_or_start, reading, search_from, shortened, sought}
+use Rattle.bx_editor.specs.Replacing.{after_asking_other, after_ending, after_match_letter, after_other_letter, after_replacing}
+use Rattle.bx_editor.specs.Replacing.{after_replacing_all, after_showing, after_sought_letter, asked_at, at_match, is_replacing}
+use Rattle.bx_editor.specs.Replacing.{longest_other, match_stop, matches_on, next_match, on_from, other_typed, shown_at}
+use Rattle.bx_editor.specs.Replacing.{with_matches_replaced, with_other}
+use Rattle.bx_editor.specs.Search.{after_letter, backward, is_no_letter, kept, landed, landing_from, lengthened, longest_query}
+use Rattle.bx_editor.specs.Search.{next_or_start, reading, search_from, shortened, sought}
 use Rattle.bx_editor.specs.Search.{with_query, without_search}
 
 -- matches that give way, moves, and what is told, sought and typed keep this property of editors
@@ -75,7 +78,8 @@ module _ (d : Data) (P : Editor → Type 0) (keeps : IsKeptSeeking d P) where
       let aimed : Editor = record e { aim = aims.Replace } in
       let l = landing_from d aimed.place aimed in
       let k : P aimed = keeps.sought e e.seek aims.Replace e.origin e.query e.other e.at e.count h in
-      either (length (sought d aimed) == 0) aimed (asked_at l.place (landed aimed l)) k (asked (landed aimed l) l.place (landing aimed l k))
+      either (length (sought d aimed) == 0) aimed (asked_at l.place (landed aimed l)) k
+      (asked (landed aimed l) l.place (landing aimed l k))
 
   sought-letter : (typing : Typing) (e : Editor) (c : ℕ) → P e → P (after_sought_letter d typing e c)
   sought-letter typing e c h =
@@ -93,7 +97,8 @@ module _ (d : Data) (P : Editor → Type 0) (keeps : IsKeptSeeking d P) where
   query-keeps fault was e key GoesBack h pressed = keeps.placed (without_search e) e.origin (seeking e Off h)
   query-keeps fault was e key Next h pressed = searching (record e { seek = Typed }) (next_or_start d e) (seeking e Typed h)
   query-keeps fault was e key Previous h pressed =
-      landing (record e { seek = Typed }) (backward d (reading e.aim) (rows d e) e.content.text e.place (sought d e)) (seeking e Typed h)
+      landing (record e { seek = Typed }) (backward d (reading e.aim) (rows d e) e.content.text e.place (sought d e))
+      (seeking e Typed h)
   query-keeps fault was e key Replaces h pressed = asking e h
   query-keeps fault was e key Stays h pressed = keeps.typed e was.typing h
   query-keeps fault was e key Ends h pressed = seeking (after_pressing d fault was e key) Off (pressed refl)
@@ -119,7 +124,8 @@ module _ (d : Data) (P : Editor → Type 0) (keeps : IsKeptSeeking d P) where
 
   -- `begun`: another search begins; `pressed`: a key that ends the search
   pub other-keeps : (fault : Option StoreFault) (was : Before) (e : Editor) (key : Key) (answer : Answer) → P e
-      → P (by d fault was (without_search e) (Seeks aims.Find)) → (is_end answer ≡ true → P (after_pressing d fault was (without_search e) key))
+      → P (by d fault was (without_search e) (Seeks aims.Find))
+      → (is_end answer ≡ true → P (after_pressing d fault was (without_search e) key))
       → P (answered_other d fault was e key answer)
   other-keeps fault was e key (Letter c) h begun pressed =
       keeps.typed (after_other_letter d was.typing e c) (only_paste was.typing) (other-letter was.typing e c h)
@@ -142,7 +148,8 @@ module _ (d : Data) (P : Editor → Type 0) (keeps : IsKeptSeeking d P) where
   there : (e : Editor) (at : Option ℕ) → P e → P (at_match d e at)
   there e None h = ending e h
   there e (Some at) h =
-      keeps.placed (record e { seek = Replacing; at = at }) (place_at (rows d e) at) (keeps.sought e Replacing e.aim e.origin e.query e.other at e.count h)
+      keeps.placed (record e { seek = Replacing; at = at }) (place_at (rows d e) at)
+      (keeps.sought e Replacing e.aim e.origin e.query e.other at e.count h)
 
   onward : (e : Editor) (x : ℕ) → P e → P (on_from d x e)
   onward e x h = there e (next_match d e x) h
@@ -156,7 +163,8 @@ module _ (d : Data) (P : Editor → Type 0) (keeps : IsKeptSeeking d P) where
   replacing e h =
       let stop = match_stop d e in
       let new = with_matches_replaced d e stop e.other 1 in
-      either (fits e.content.text e.at stop e.other) (on_from d (e.at + length e.other) new) (record e { message = Some messages.TextFull })
+      either (fits e.content.text e.at stop e.other) (on_from d (e.at + length e.other) new)
+      (record e { message = Some messages.TextFull })
       (onward new (e.at + length e.other) (replaced e stop e.other 1 h)) (full e h)
 
   replacing-all : (e : Editor) → P e → P (after_replacing_all d e)
@@ -164,14 +172,16 @@ module _ (d : Data) (P : Editor → Type 0) (keeps : IsKeptSeeking d P) where
       let all = matches_on d e in
       let stop = last_stop e.at all in
       let new = swapped e.at e.content.text e.other all in
-      either (fits e.content.text e.at stop new) (after_ending (with_matches_replaced d e stop new (length all))) (record e { message = Some messages.TextFull })
+      either (fits e.content.text e.at stop new) (after_ending (with_matches_replaced d e stop new (length all)))
+      (record e { message = Some messages.TextFull })
       (ending (with_matches_replaced d e stop new (length all)) (replaced e stop new (length all) h)) (full e h)
 
   match-letter : (typing : Typing) (e : Editor) (c : ℕ) → P e → P (after_match_letter d typing e c)
   match-letter typing e c h = either ((c == 0xA) && not (is_paste typing)) (after_replacing d e) e (replacing e h) h
 
   pub match-keeps : (fault : Option StoreFault) (was : Before) (e : Editor) (key : Key) (answer : Answer) → P e
-      → P (by d fault was (without_search e) (Seeks aims.Find)) → (is_end answer ≡ true → P (after_pressing d fault was (without_search e) key))
+      → P (by d fault was (without_search e) (Seeks aims.Find))
+      → (is_end answer ≡ true → P (after_pressing d fault was (without_search e) key))
       → P (answered_match d fault was e key answer)
   match-keeps fault was e key (Letter c) h begun pressed =
       keeps.typed (after_match_letter d was.typing e c) (only_paste was.typing) (match-letter was.typing e c h)

@@ -1,5 +1,6 @@
 -- Where a search leads, and where it starts.
-use Rattle.std.proofs.Common.{◌≡◌, ℕ, ◌<◌, Bool, true, false, nat_lt, cond, List, [], ◌∷◌, length, Some, None, refl, ap, ◌∙◌, arith, ltb-true, ne_eqb, if◌then◌else◌}
+use Rattle.std.proofs.Common.{◌≡◌, ℕ, ◌<◌, Bool, true, false, nat_lt, cond, List, [], ◌∷◌, length, Some, None, refl, ap, ◌∙◌, arith}
+use Rattle.std.proofs.Common.{ltb-true, ne_eqb, if◌then◌else◌}
 use Rattle.std.specs.Prelude.{◌==◌, find, not, unwrap_or}
 use Rattle.bx_ucd.specs.Data.{Data}
 use Rattle.bx_find.specs.declared.reading.Reading.{Reading}
@@ -12,7 +13,8 @@ use Rattle.bx_editor.specs.declared.seek.Seek.{Seek}
 use Rattle.bx_editor.specs.declared.seek.Seek.TheVariants.{Off, Begun, Typed, WithBegun, WithTyped, Replacing}
 use Rattle.bx_editor.specs.Origin.{BeganAt}
 use Rattle.bx_editor.specs.Editor.{Editor}
-use Rattle.bx_editor.specs.Search.{after_beginning, after_find_next, after_letter, backward, forward, is_no_letter, kept, lengthened, longest_query, match_or, next_or_start}
+use Rattle.bx_editor.specs.Search.{after_beginning, after_find_next, after_letter, backward, forward, is_no_letter, kept}
+use Rattle.bx_editor.specs.Search.{lengthened, longest_query, match_or, next_or_start}
 use Rattle.bx_editor.specs.Search.{not_found, search_from, sought, with_query, without_search}
 
 pub began : (d : Data) (text : List ℕ) (seek : Seek) (origin : ℕ) → IsTextPlace d text origin → BeganAt d text seek origin
@@ -27,13 +29,15 @@ began d text Replacing origin is = is
 
 pub forward-some : (d : Data) (r : Reading) (rows : List TextRow) (text : List ℕ) (x : ℕ) (sought : List ℕ) → (sought ≡ [] → ⊥)
     → forward d r rows text x sought
-    ≡ match_or rows None (match_or rows (Some FromStart) not_found (first_from_by d r sought text 0)) (first_from_by d r sought text x)
+    ≡ match_or rows None (match_or rows (Some FromStart) not_found (first_from_by d r sought text 0))
+    (first_from_by d r sought text x)
 forward-some d r rows text x [] some = absurd (some refl)
 forward-some d r rows text x (c ∷ cs) some = refl
 
 pub backward-some : (d : Data) (r : Reading) (rows : List TextRow) (text : List ℕ) (x : ℕ) (sought : List ℕ) → (sought ≡ [] → ⊥)
     → backward d r rows text x sought
-    ≡ match_or rows None (match_or rows (Some FromEnd) not_found (last_before_by d r sought text (length text))) (last_before_by d r sought text x)
+    ≡ match_or rows None (match_or rows (Some FromEnd) not_found (last_before_by d r sought text (length text)))
+    (last_before_by d r sought text x)
 backward-some d r rows text x [] some = absurd (some refl)
 backward-some d r rows text x (c ∷ cs) some = refl
 
@@ -42,7 +46,8 @@ backward-some d r rows text x (c ∷ cs) some = refl
 abbrev next : ℕ → List ℕ → ℕ → ℕ
 next place ps otherwise = unwrap_or (find (nat_lt place) ps) otherwise
 
-found : (place p : ℕ) (ps : List ℕ) (b : Bool) → nat_lt place p ≡ b → (place < next place ps place → next place ps place ≡ next place ps 0)
+found : (place p : ℕ) (ps : List ℕ) (b : Bool) → nat_lt place p ≡ b
+    → (place < next place ps place → next place ps place ≡ next place ps 0)
     → place < unwrap_or (cond b (Some p) (find (nat_lt place) ps)) place
     → unwrap_or (cond b (Some p) (find (nat_lt place) ps)) place ≡ unwrap_or (cond b (Some p) (find (nat_lt place) ps)) 0
 found place p ps true e on less = refl
@@ -53,7 +58,8 @@ next-is place [] less = absurd (omega (arith, less))
 next-is place (p ∷ ps) less = found place p ps (nat_lt place p) refl (next-is place ps) less
 
 over : (place p : ℕ) (ps : List ℕ) (b : Bool) → nat_lt place p ≡ b → (¬ (place < next place ps place) → next place ps 0 ≡ 0)
-    → ¬ (place < unwrap_or (cond b (Some p) (find (nat_lt place) ps)) place) → unwrap_or (cond b (Some p) (find (nat_lt place) ps)) 0 ≡ 0
+    → ¬ (place < unwrap_or (cond b (Some p) (find (nat_lt place) ps)) place)
+    → unwrap_or (cond b (Some p) (find (nat_lt place) ps)) 0 ≡ 0
 over place p ps true e on not-less = absurd (not-less (ltb-true place p e))
 over place p ps false e on not-less = on not-less
 
@@ -73,7 +79,8 @@ letter-sought d e c other plain =
 pub find-next-sought : (d : Data) (e : Editor) → (length (sought d e) == 0) ≡ false
     → after_find_next d e ≡ search_from d (next_or_start d e) (record e { seek = Off; aim = aims.Find })
 find-next-sought d e some =
-    ap (λ b. if b then after_beginning aims.Find e else search_from d (next_or_start d e) (record e { seek = Off; aim = aims.Find })) some
+    ap (λ b. if b then after_beginning aims.Find e else search_from d (next_or_start d e)
+    (record e { seek = Off; aim = aims.Find })) some
 
 pub not-true : (b : Bool) → not b ≡ true → b ≡ false
 not-true true h = absurd (cc h)

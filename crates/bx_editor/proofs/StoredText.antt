@@ -39,7 +39,7 @@ use Rattle.bx_editor.specs.Editor.{with_exchange, with_insertion, with_insertion
 use Rattle.bx_editor.specs.Effects.{Effect, Types, BeginsLine, Puts, Removes, RemovesWord, Steps, StepsRun, Goes, GoesByRows, Marks, Selects}
 use Rattle.bx_editor.specs.Effects.{Unmarks, Copies, Cuts, Seeks, SeeksNext, Saves, Quits, Turns, Helps, AsksLine, AsksName, Tells, Rests, Before, before, by}
 use Rattle.bx_editor.specs.Erasing.{after_erasing, after_erasing_word, after_removing, removed_on}
-use Rattle.bx_editor.specs.Keys.{Answer, Letter, Shortens, GoesBack, Next, Previous, Replaces, Stays, Ends, after_any, after_asking, after_key, after_pressing}
+use Rattle.bx_editor.specs.Keys.{Answer, Letter, Shortens, GoesBack, Stays, Ends, after_any, after_asking, after_key, after_pressing}
 use Rattle.bx_editor.specs.Keys.{answer_of, answered, answered_match, answered_other, answered_question, effect_of, is_save}
 use Rattle.bx_editor.specs.Laws.{after_typing}
 use Rattle.bx_editor.specs.Putting.{after_character, after_new_line, after_put, has_room, is_paste, line_end, put_in, typed, with_selection_replaced, yielding}
@@ -366,11 +366,8 @@ question-answer s d fault was e key (Letter c) it h =
 question-answer s d fault was e key Shortens it h =
     no-save s e (answered_question d fault was e key Shortens) fault (is_save key) it (shorter-keeps d (Has s) (question s d) e.ask e h)
 question-answer s d fault was e key GoesBack it h = no-save s e (answered_question d fault was e key GoesBack) fault (is_save key) it h
-question-answer s d fault was e key Next it h = pressed s d fault was (without_ask e) key h
-question-answer s d fault was e key Previous it h = pressed s d fault was (without_ask e) key h
-question-answer s d fault was e key Replaces it h = pressed s d fault was (without_ask e) key h
 question-answer s d fault was e key Stays it h = no-save s e (answered_question d fault was e key Stays) fault (is_save key) it h
-question-answer s d fault was e key Ends it h = pressed s d fault was (without_ask e) key h
+question-answer s d fault was e key _ it h = pressed s d fault was (without_ask e) key h
 
 asking : (s : List ℕ) (d : Data) (fault : Option StoreFault) (was : Before) (e : Editor) (key : Key) → Has s e
     → Has (stored_by s e (is_save key) fault) (after_asking d fault was e key)

@@ -12,7 +12,8 @@ use Rattle.bx_editor.specs.Editor.{Editor, rows}
 use Rattle.bx_editor.specs.Telling.{told_at_place}
 
 pub told-is : (d : Data) (e : Editor) (unit : List ℕ) (level : Option ℕ) → (e.place ≡ length e.content.text → ⊥)
-    → unit ≡ slice_range e.content.text e.place (step_logical (rows d e) Forward e.place) → level ≡ place_level d e.base e.content.text e.place
+    → unit ≡ slice_range e.content.text e.place (step_logical (rows d e) Forward e.place)
+    → level ≡ place_level d e.base e.content.text e.place
     → told_at_place d e ≡ told_text d (chars unit) level
 told-is d e unit level inside is-unit is-level =
     let here = slice_range e.content.text e.place (step_logical (rows d e) Forward e.place) in
@@ -21,6 +22,7 @@ told-is d e unit level inside is-unit is-level =
     ∙ ap₂ (λ u l. told_text d (chars u) l) (sym is-unit) (sym is-level)
 
 pub told-here : (d : Data) (e : Editor) (unit : List ℕ) (level : Option ℕ) → (e.place ≡ length e.content.text → ⊥)
-    → unit ≡ slice_range e.content.text e.place (step_logical (rows d e) Forward e.place) → level ≡ place_level d e.base e.content.text e.place
+    → unit ≡ slice_range e.content.text e.place (step_logical (rows d e) Forward e.place)
+    → level ≡ place_level d e.base e.content.text e.place
     → are_ascii_printable (told_text d (chars unit) level) ≡ true → are_ascii_printable (told_at_place d e) ≡ true
 told-here d e unit level inside is-unit is-level h = ap are_ascii_printable (told-is d e unit level inside is-unit is-level) ∙ h

@@ -36,7 +36,8 @@ is_seeking (Seeks aim) = true
 is_seeking SeeksNext = true
 is_seeking _ = false
 
-asking : (d : Data) (fault : Option StoreFault) (was : Before) (e : Editor) (one : Effect) → is_seeking one ≡ false → kept.asks_or_seeks one ≡ true → IsUnsought e
+asking : (d : Data) (fault : Option StoreFault) (was : Before) (e : Editor) (one : Effect) → is_seeking one ≡ false
+    → kept.asks_or_seeks one ≡ true → IsUnsought e
     → IsUnsought (by d fault was e one)
 asking d fault was e (Seeks aim) plain is h = absurd (cc plain)
 asking d fault was e SeeksNext plain is h = absurd (cc plain)
@@ -44,7 +45,8 @@ asking d fault was e AsksLine plain is h = h
 asking d fault was e AsksName plain is h = h
 asking d fault was e _ plain is h = absurd (cc is)
 
-pub effect-unsought : (d : Data) (fault : Option StoreFault) (was : Before) (e : Editor) (one : Effect) → is_seeking one ≡ false → IsUnsought e
+pub effect-unsought : (d : Data) (fault : Option StoreFault) (was : Before) (e : Editor) (one : Effect) → is_seeking one ≡ false
+    → IsUnsought e
     → IsUnsought (by d fault was e one)
 effect-unsought d fault was e one plain h =
     kept.effect-keeps d IsUnsought (pressing d) fault was e one h (λ is. asking d fault was e one plain is h)

@@ -5,6 +5,12 @@ use Rattle.bx_editor.proofs.editor.Editor.find_previous.Goals as goal
 
 pub returns-clause-ok : goal.returns-clause-ok
 returns-clause-ok g c =
-    subst (λ (s : EditorState g.row.D.Denot). c.land.new.self ≡ record { tables = s.tables; editor = after_find_back (g.D.BidiData.data s.tables) (cleared s.editor) })
+    subst (λ (s : EditorState g.row.D.Denot). c.land.new.self
+    ≡ record { tables = s.tables; editor = after_find_back (g.D.BidiData.data s.tables) (cleared s.editor) })
     c.self.view_is
-    (simp (c.in_ok-landing.ensures.same, c.in_ok-landing.ensures.landing, c.reading_of.ensures, c.as_str.ensures.value) at c.land.ensures)
+    (simp (
+      c.in_ok-landing.ensures.same,
+      c.in_ok-landing.ensures.landing,
+      c.reading_of.ensures,
+      c.as_str.ensures.value,
+    ) at c.land.ensures)

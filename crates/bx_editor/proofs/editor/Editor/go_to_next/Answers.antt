@@ -15,15 +15,26 @@ returns-clause-ok g c =
     let now : EditorState g.row.D.Denot = c.args.self.now in
     let d = g.D.BidiData.data now.tables in
     let view = c.self.view_is ∙ c.in_ok-next.ensures.same in
-    let next = c.in_ok-next.ensures.next ∙ ap (λ (s : EditorState g.row.D.Denot). next_or_start (g.D.BidiData.data s.tables) s.editor) (sym view) in
+    let next = c.in_ok-next.ensures.next
+    ∙ ap (λ (s : EditorState g.row.D.Denot). next_or_start (g.D.BidiData.data s.tables) s.editor) (sym view) in
     let some : (length (sought d now.editor) == 0) ≡ false = not-true _ (sym c.has_query.ensures ∙ c.if-not-has_query.false) in
     let settled = subst (λ (s : EditorState g.row.D.Denot). (let says = g.D.BidiData.data s.tables in
     let x = s.editor in
     c.settle_at.new.self ≡ record {
       tables = s.tables;
-      editor = landed (cleared x) (forward says Wide (rows says x) x.content.text (next_or_start says x) (letters_by says Wide (chars x.query)));
+      editor = landed (cleared x)
+          (forward says Wide (rows says x) x.content.text (next_or_start says x) (letters_by says Wide (chars x.query)));
     })) view
-    (simp (c.in_ok-landing.ensures.same, c.in_ok-landing.ensures.landing, next, c.as_str-query.ensures.value) at c.settle_at.ensures) in
-    let left : EditorState g.row.D.Denot → EditorState g.row.D.Denot = λ s. record s { editor = unselected (record s.editor { seek = Off; aim = Find }) } in
+    (simp (
+      c.in_ok-landing.ensures.same,
+      c.in_ok-landing.ensures.landing,
+      next,
+      c.as_str-query.ensures.value,
+    ) at c.settle_at.ensures) in
+    let left : EditorState g.row.D.Denot → EditorState g.row.D.Denot = λ s. record s {
+      editor = unselected
+          (record s.editor { seek = Off; aim = Find });
+    } in
     c.unselect.ensures ∙ ap left (c.self-2.view_is ∙ settled)
-    ∙ ap (λ (x : Editor). (let s : EditorState g.row.D.Denot = record now { editor = x } in s)) (sym (find-next-sought d (unselected (cleared now.editor)) some))
+    ∙ ap (λ (x : Editor). (let s : EditorState g.row.D.Denot = record now { editor = x } in s))
+    (sym (find-next-sought d (unselected (cleared now.editor)) some))

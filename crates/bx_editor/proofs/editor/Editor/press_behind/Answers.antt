@@ -7,5 +7,6 @@ use Rattle.bx_editor.proofs.editor.Editor.press_behind.Goals as goal
 pub returns-in-Ok-clause-ok : goal.returns-in-Ok-clause-ok
 returns-in-Ok-clause-ok g c =
     c.in-Ok.ensures.ok
-    ∙ ap (λ (s : EditorState g.row.D.Denot). after_pressing (g.D.BidiData.data s.tables) None (before s.editor) (cleared s.editor) c.args.key)
+    ∙ ap (λ (s : EditorState g.row.D.Denot). after_pressing (g.D.BidiData.data s.tables) None (before s.editor)
+    (cleared s.editor) c.args.key)
     c.leave_search.ensures

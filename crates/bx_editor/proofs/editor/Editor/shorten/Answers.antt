@@ -5,7 +5,8 @@ use Rattle.bx_editor.proofs.editor.Editor.shorten.Goals as goal
 
 pub returns-clause-ok : goal.returns-clause-ok
 returns-clause-ok g c =
-    subst (λ (s : EditorState g.row.D.Denot). c.land.new.self ≡ record { tables = s.tables; editor = after_shortening (g.D.BidiData.data s.tables) (cleared s.editor) })
+    subst (λ (s : EditorState g.row.D.Denot). c.land.new.self
+    ≡ record { tables = s.tables; editor = after_shortening (g.D.BidiData.data s.tables) (cleared s.editor) })
     c.self.view_is
     (simp (
       c.in_ok-landing.ensures.same,

@@ -14,7 +14,8 @@ invariant_of-self-in_default g c =
     let t : DocumentState g.row.D.Denot = i.document in
     let none = none-mapped (next_change c.args.step t.document.content) (sym c.in_ok-place.ensures.place ∙ c.in_default.is) in
     let same : c.step.new.self ≡ t =
-    c.in_ok-place.ensures.ok ∙ ap (λ x. record t { document = record t.document { content = x } }) (not-stepped c.args.step t.document.content none) in
+    c.in_ok-place.ensures.ok
+    ∙ ap (λ x. record t { document = record t.document { content = x } }) (not-stepped c.args.step t.document.content none) in
     subst (λ (x : DocumentState g.row.D.Denot). IsTextPlace (g.D.BidiData.data x.tables) x.document.content.text i.place
     × (is_side i.height ≡ true)
     × IfSome i.mark (IsTextPlace (g.D.BidiData.data x.tables) x.document.content.text)
@@ -22,4 +23,5 @@ invariant_of-self-in_default g c =
     × (length (chars (string_bytes i.other)) ≤ 64)
     × IsAnswer i.ask (string_bytes i.answer)
     × BeganAt (g.D.BidiData.data x.tables) x.document.content.text i.seek i.origin
-    × StandsAt (g.D.BidiData.data x.tables) i.aim (string_bytes i.query) x.document.content.text i.seek i.at i.count) (sym same) c.self.invariant
+    × StandsAt (g.D.BidiData.data x.tables) i.aim
+    (string_bytes i.query) x.document.content.text i.seek i.at i.count) (sym same) c.self.invariant

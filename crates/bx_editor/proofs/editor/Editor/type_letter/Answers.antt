@@ -15,10 +15,12 @@ returns-clause-ok g c =
     let apart = sym c.separates.ensures ∙ c.if-separates.false in
     let plain : is_no_letter d letter ≡ false =
     ap (λ b. b || is_separator (d.class letter)) (ne_eqb letter 9 c.if-c-eq9.false)
-    ∙ ap (λ (s : EditorState g.row.D.Denot). is_separator ((g.D.BidiData.data s.tables).class letter)) (sym c.self.view_is) ∙ apart in
+    ∙ ap (λ (s : EditorState g.row.D.Denot). is_separator ((g.D.BidiData.data s.tables).class letter)) (sym c.self.view_is)
+    ∙ apart in
     subst (λ (s : EditorState g.row.D.Denot). c.land.new.self ≡ record {
       tables = s.tables;
-      editor = search_from (g.D.BidiData.data s.tables) s.editor.place (with_query (cleared s.editor) (lengthened longest_query (kept s.editor.seek s.editor.query) letter));
+      editor = search_from (g.D.BidiData.data s.tables) s.editor.place
+          (with_query (cleared s.editor) (lengthened longest_query (kept s.editor.seek s.editor.query) letter));
     }) c.self-2.view_is
     (simp (
       c.in_ok-landing.ensures.same,
@@ -29,4 +31,5 @@ returns-clause-ok g c =
       c.kept-kept.ensures.kept,
       c.as_str.ensures.value,
     ) at c.land.ensures)
-    ∙ ap (λ (x : Editor). (let s : EditorState g.row.D.Denot = record now { editor = x } in s)) (sym (letter-sought d e letter c.if-c-eq10.false plain))
+    ∙ ap (λ (x : Editor). (let s : EditorState g.row.D.Denot = record now { editor = x } in s))
+    (sym (letter-sought d e letter c.if-c-eq10.false plain))

@@ -18,7 +18,8 @@ returns-clause-printable g c =
     let printable : are_ascii_printable (told_text d (chars (string_bytes unit)) level) ≡ true = search rules in
     let told-level =
     c.in_ok-level.ensures
-    ∙ ap (λ s. place_level (g.D.BidiData.data s.tables) s.editor.base s.editor.content.text c.self.inside.place) (c.self-2.view_is ∙ c.in_ok-stop.ensures.same)
+    ∙ ap (λ s. place_level (g.D.BidiData.data s.tables) s.editor.base s.editor.content.text c.self.inside.place)
+    (c.self-2.view_is ∙ c.in_ok-stop.ensures.same)
     ∙ ap (place_level d e.base e.content.text) place in
     told-here d e (string_bytes unit) level (λ at. c.if-place-len.false (place ∙ at ∙ sym len)) (search rules) told-level printable
 
@@ -38,6 +39,7 @@ returns-clause-told g c =
     ∙ ap (place_level d e.base e.content.text) place in
     let tables = c.tables.ensures ∙ ap (λ (s : EditorState g.row.D.Denot). s.tables) same in
     c.in_ok-write_told.ensures.told
-    ∙ ap₂ (λ (t : g.row.D.Denot) (us : List ℕ). string_bytes c.args.line.now ++ told_text (g.D.BidiData.data t) (chars us) level) tables c.as_str.ensures.value
+    ∙ ap₂ (λ (t : g.row.D.Denot) (us : List ℕ). string_bytes c.args.line.now ++ told_text (g.D.BidiData.data t)
+    (chars us) level) tables c.as_str.ensures.value
     ∙ ap (λ (t : List ℕ). string_bytes c.args.line.now ++ t)
     (sym (told-is d e (string_bytes unit) level (λ at. c.if-place-len.false (place ∙ at ∙ sym len)) (search rules) told-level))
