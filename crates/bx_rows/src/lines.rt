@@ -1,6 +1,7 @@
 //! A body's rows, read by their numbers.
-ghost use Rattle.std.specs.Prelude.{◌≡◌, ⊤, IsUtf8, chars};
+ghost use Rattle.std.specs.Prelude.{◌≡◌, ◌<◌, ⊤, IsUtf8, chars, length, slice_index_or};
 ghost use Rattle.bx_resolve.specs.Levels.{levels_under, paragraph_level_under};
+ghost use Rattle.bx_rows.specs.declared.start_search.RowStart.{RowStart};
 ghost use Rattle.bx_rows.specs.RowStarts.{row_starts};
 ghost use Rattle.std.proofs.Props.{props};
 
@@ -39,6 +40,14 @@ impl<'a, 't, D: BidiData> Clone for Lines<'a, 't, D> {
 }
 
 impl<'a, 't, D: BidiData> Lines<'a, 't, D> {
+    /// The start of row `number`, from 0.
+    pub(crate) fn start(&self, number: usize) -> RowStart
+        requires { number < length self.now.starts.now }
+        ensures { (d : RowStart) → result ≡ slice_index_or self.now.starts.now number d }
+    {
+        self.starts[number]
+    }
+
     /// The place of a row's start.
     pub(crate) fn place(&self, start: RowStart) -> TextAt<'a, 'a>
         ensures offset { result.offset ≡ start.offset }

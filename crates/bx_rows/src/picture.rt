@@ -49,16 +49,19 @@ fn push_units<'a, D: BidiData>(
         row.now.lines.levels.now.each.items row.now.units.items columns.now row.now.levels.items) k []) order.now) }
 {
     let lines = &row.lines;
-    let mut near = lines.place(lines.starts[row.number]);
+    let units = row.units.as_slice();
+    let levels = row.levels.as_slice();
+    let first = lines.start(row.number);
+    let mut near = lines.place(first);
     for number in order {
-        let unit = row.units[*number];
+        let unit = units[*number];
         near = moved(near, unit.start);
         let face = LeveledFace {
             face: unit.face,
             columns: columns[*number],
             at: UnitAt {
                 place: near,
-                level: row.levels[*number],
+                level: levels[*number],
             },
         };
         let text = &lines.body[unit.start..unit.stop];

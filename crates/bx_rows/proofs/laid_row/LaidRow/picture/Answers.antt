@@ -1,5 +1,4 @@
-use Rattle.std.proofs.Common.{◌≡◌, ◌∙◌, ap, ap₂, map, subst}
-use Rattle.std.specs.Prelude.{IfOk}
+use Rattle.std.proofs.Common.{◌∙◌, ap, ap₂}
 use Rattle.bx_rows.specs.Lines.{levels_of}
 use Rattle.bx_rows.specs.RowPicture.{draw}
 use Rattle.bx_rows.proofs.PictureLaws.{one_if_drawn, sum_if_drawn}

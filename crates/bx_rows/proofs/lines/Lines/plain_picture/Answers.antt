@@ -1,4 +1,4 @@
-use Rattle.std.proofs.Common.{refl, sym, length, ap, ◌∙◌, arith, map}
+use Rattle.std.proofs.Common.{refl, sym, get_or, length, ap, ◌∙◌, arith, map}
 use Rattle.bx_rows.specs.RowLevels.{row_levels}
 use Rattle.bx_rows.specs.RowPicture.{with_blanks}
 use Rattle.bx_rows.specs.RowStarts.{units_of_row}
@@ -27,7 +27,7 @@ columns_left-blanks-requires g c =
     let part = part-at says c.args.self.now.w body c.args.self.now.starts.now c.args.number _ c.start_of.result c.args.self.now.utf8 c.args.self.now.rows c.requires
     c.start_of.ensures in
     let within = single-fits says c.args.self.now.w body c.args.number c.most_units-count.result _ c.start_of.result _ c.args.self.now.utf8 part c.most_units-count.ensures
-    c.in-Some.found.items (if_some _ _ (c.in-Some.found, c.in-Some.levels) c.in-Some.is c.in_ok-plain_row.ensures.units) in
+    c.in-Some.found.items (if_some _ _ _ c.in-Some.is c.in_ok-found.ensures.units) in
     let counted = c.in_ok-glyphs.ensures.count in
     omega (arith, within, counted, c.len.ensures, c.in_ok-glyphs.glyphs.ok.0)
 
@@ -52,17 +52,16 @@ returns-clause-picture g c =
     let part = part-at says c.args.self.now.w body c.args.self.now.starts.now c.args.number _ c.start_of.result c.args.self.now.utf8 c.args.self.now.rows c.requires
     c.start_of.ensures in
     let here = units_of_row says c.args.self.now.w body c.args.number in
-    let both = (c.in-Some.found, c.in-Some.levels) in
     let told = taken says c.args.self.now.w body c.args.number c.most_units-count.result _ c.start_of.result _ c.args.self.now.utf8 part c.most_units-count.ensures in
     drawn-single says c.args.self.now.w body c.args.number c.most_units-count.result _ c.start_of.result _ c.args.self.now.utf8 part c.most_units-count.ensures
     c.args.self.now.levels.now.paragraph _ c.args.self.now.levels.now.each.items c.in-Some.found.items _ _
     c.deref.result.now
     (starts-at says c.args.self.now.w body c.args.self.now.starts.now c.args.number _ c.args.self.now.utf8 c.args.self.now.rows c.requires)
-    (if_some _ _ both c.in-Some.is c.in_ok-plain_row.ensures.units)
-    (ap length c.deref.ensures.value ∙ if_some _ _ both c.in-Some.is c.in_ok-plain_row.ensures.count)
-    (c.deref.ensures.value ∙ if_some _ _ both c.in-Some.is c.in_ok-plain_row.ensures.levels here (sym told) part.chars)
+    (if_some _ _ _ c.in-Some.is c.in_ok-found.ensures.units)
+    (ap length c.deref.ensures.value ∙ if_some _ _ _ c.in-Some.is c.in_ok-found.ensures.count)
+    (c.deref.ensures.value ∙ if_some _ _ _ c.in-Some.is c.in_ok-found.ensures.levels here (sym told) part.chars)
     (same-row (ShowsRow says c.args.self.now.w c.in-Some.found.items c.deref.result.now (map glyph_of c.in_ok-glyphs.glyphs.items))
-    c.place.result _ body c.args.self.now.levels.now.each.items c.place.ensures.offset c.place.ensures.number c.place.ensures.text c.place.ensures.each
+    c.place.result (get_or c.args.self.now.starts.now c.args.number _) body c.args.self.now.levels.now.each.items c.place.ensures.offset c.place.ensures.number c.place.ensures.text c.place.ensures.each
     c.in_ok-glyphs.ensures.order)
     (c.len.ensures ∙ c.in_ok-glyphs.glyphs.ok.0 ∙ c.in_ok-glyphs.ensures.count)
     (c.in_ok-glyphs-2.ensures ∙ ap (λ b. with_blanks c.args.self.now.levels.now.paragraph b (map glyph_of c.in_ok-glyphs.glyphs.items)) c.columns_left-blanks.ensures)
