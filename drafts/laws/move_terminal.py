@@ -94,6 +94,12 @@ new_head = ["//! Lists of columns, some of them unknown: filling them, putting g
 write("crates/bx_terminal/src/columns.rt", "\n\n".join(new_head + moved) + "\n")
 for name in MOVED:
     m.function(OLD, f"columns.{name}", NEW)
+for place, changes in (
+    ("forget_left", (("c.after.", "c.columns_after."), ("if-after-count", "if-columns_after-count"), ("else-after-count", "else-columns_after-count"))),
+    ("forget_right", (("c.before-in-loop-next.", "c.columns_before."), ("if-before-next", "if-columns_before-next"), ("else-before-next", "else-columns_before-next"))),
+):
+    for old, new in (*changes, ("c.forget.new.self", "c.forget.new.column")):
+        m.replace(f"crates/bx_terminal/proofs/columns/{place}/Answers.antt", old, new, None)
 m.prune_source(OLD, "columns")
 m.prune_source(NEW, "columns")
 

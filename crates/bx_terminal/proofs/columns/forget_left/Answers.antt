@@ -21,16 +21,16 @@ loop-first-preserved c =
     let kept = c.loop-first.invariant in
     record {
       low = omega (arith, kept.low);
-      cut = left_more c.args.row.now c.loop-first.row first (first - 1) c.index-row-first.result c.forget.new.self c.forget.ensures
-          (omega (arith, c.loop-first-test.true)) kept.low c.loop-first.auto.row kept.cut (omega (arith, c.if-after-count.true, c.after.ensures));
+      cut = left_more c.args.row.now c.loop-first.row first (first - 1) c.index-row-first.result c.forget.new.column c.forget.ensures
+          (omega (arith, c.loop-first-test.true)) kept.low c.loop-first.auto.row kept.cut (omega (arith, c.if-columns_after-count.true, c.columns_after.ensures));
     }
 
-pub returns-else-after-count : goal.returns-else-after-count
-returns-else-after-count c =
+pub returns-else-columns_after-count : goal.returns-else-columns_after-count
+returns-else-columns_after-count c =
     let first = c.loop-first.first in
     let kept = c.loop-first.invariant in
     left_all c.args.row.now c.loop-first.row first (first - 1) c.index-row-first.result c.requires (omega (arith, c.loop-first-test.true)) kept.low
-    c.loop-first.auto.row kept.cut (omega (arith, c.if-after-count.false, c.after.ensures))
+    c.loop-first.auto.row kept.cut (omega (arith, c.if-columns_after-count.false, c.columns_after.ensures))
 
 pub returns-after-loop-first : goal.returns-after-loop-first
 returns-after-loop-first c =

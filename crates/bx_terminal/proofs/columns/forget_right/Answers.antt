@@ -12,16 +12,16 @@ loop-next-preserved c =
     let kept = c.loop-next.invariant in
     record {
       low = omega (arith, c.loop-next-test.true, c.loop-next.auto.row);
-      cut = right_forgot c.args.row.now c.loop-next.row next c.index-row-next.result c.forget.new.self c.forget.ensures
+      cut = right_forgot c.args.row.now c.loop-next.row next c.index-row-next.result c.forget.new.column c.forget.ensures
           (omega (arith, c.loop-next-test.true, c.loop-next.auto.row)) c.loop-next.auto.row kept.cut
-          (omega (arith, c.if-before-next.true, c.before-in-loop-next.ensures));
+          (omega (arith, c.if-columns_before-next.true, c.columns_before.ensures));
     }
 
-pub returns-else-before-next : goal.returns-else-before-next
-returns-else-before-next c =
+pub returns-else-columns_before-next : goal.returns-else-columns_before-next
+returns-else-columns_before-next c =
     right_all c.args.row.now c.loop-next.row c.loop-next.next c.index-row-next.result c.requires
     (omega (arith, c.loop-next-test.true, c.loop-next.auto.row)) c.loop-next.auto.row c.loop-next.invariant.cut
-    (omega (arith, c.if-before-next.false, c.before-in-loop-next.ensures))
+    (omega (arith, c.if-columns_before-next.false, c.columns_before.ensures))
 
 pub returns-after-loop-next : goal.returns-after-loop-next
 returns-after-loop-next c =
