@@ -1,5 +1,5 @@
 -- Columns after the new ones, of which one may be cut.
-use Rattle.std.proofs.Common.{◌≡◌, ℕ, ◌+◌, ◌-◌, List, [], ◌∷◌, length, suc, refl, ap, drop, zero, ◌∙◌, arith}
+use Rattle.std.proofs.Common.{◌≡◌, ℕ, ◌+◌, List, [], ◌∷◌, length, suc, refl, ap, drop, zero, ◌∙◌, arith}
 use Rattle.bx_grid.specs.Columns.{Col, cut_after}
 
 pub length-cut_after : (d : ℕ) (xs : List Col) → length (cut_after d xs) ≡ length xs

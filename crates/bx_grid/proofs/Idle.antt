@@ -4,7 +4,6 @@ use Rattle.bx_grid.specs.Picture.{IsIdle}
 use Rattle.bx_grid.specs.Terminal.{Terminal, after_clear, after_command, after_erase}
 use Rattle.bx_grid.specs.declared.command.Command.{Command}
 use Rattle.bx_grid.specs.declared.command.Command.TheVariants.{Move, Clear, Erase, Render, Other as Unread}
-use Rattle.bx_grid.proofs.RunEnds.{no_run}
 
 idle_move : (b : Bool) (t : Terminal) (line column : ℕ) → IsIdle t
     → nat_le 1 line && nat_le line t.height && nat_le 1 column && nat_le column t.width ≡ b → IsIdle (after_command t (Move line column))

@@ -1,6 +1,5 @@
 -- Starts of rows behind other rows.
 use Rattle.std.specs.Prelude.{◌+◌, ◌-◌}
-use Rattle.bx_cells.specs.Units.{units}
 use Rattle.bx_rows.specs.declared.start_search.RowStart.{RowStart}
 
 -- the start `r` of a row in the rest of a body after the start `s`, as a start in the body

@@ -4,7 +4,7 @@ use Rattle.std.specs.Str.{IsUtf8}
 use Rattle.bx_bytes.specs.Utf8.{are_printable}
 use Rattle.bx_grid.specs.Effects.{Effect}
 use Rattle.bx_grid.specs.Terminal.{Terminal, reads}
-use Rattle.bx_grid.proofs.Doing.{run, run_is}
+use Rattle.bx_grid.proofs.Doing.{run_is}
 use Rattle.bx_grid.proofs.Texts.{text_does}
 
 pub text_read : (t : Terminal) (text : List ℕ) → IsUtf8 text → are_printable text ≡ true → t.half_read ≡ []
