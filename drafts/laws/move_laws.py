@@ -118,6 +118,7 @@ def keep_run_ends():
     for module, names in [("Rattle.bx_runs.specs.Runs", ["run_end"]), ("Rattle.bx_runs.proofs.Steps", ["end-bound", "end-last", "end-same", "start-bound"]), (f"Rattle.{OLD}.proofs.ManySteps", ["past-again", "past-back"])]:
         drop_names(stored, module, names)
         add_names(steps, module, names)
+    drop_names(stored, "Rattle.std.proofs.Common", ["zero", "suc", "◌≤◌", "◌∙◌"])
     add_names(steps, "Rattle.std.proofs.Common", ["zero", "suc", "◌+◌", "◌≤◌", "◌∙◌", "arith"])
     add_names(steps, f"Rattle.{OLD}.specs.Runs", ["run_goal"])
     change(steps, "-- what a run's steps leave, by", "\n\n".join(lemmas) + "\n\n-- what a run's steps leave, by")
