@@ -2,6 +2,7 @@
 
 use crate::scene::document_of;
 use bx_document::Document;
+use bx_find::Reading;
 use bx_rows::char_count;
 use bx_terms::Base;
 use bx_ucd::{Tables, sample_tables};
@@ -19,7 +20,7 @@ fn with_place(document: &mut Document<Tables>, offset: Option<usize>) -> Result<
     }
 }
 
-/// The first offset of a query from a place on, and the last one before it.
+/// The first offset of a query, closely read, from a place on, and the last one before it.
 fn nearest(
     document: &mut Document<Tables>,
     query: &str,
@@ -29,11 +30,11 @@ fn nearest(
         return Err(Fail::new("a long query"));
     }
     let x = document.place_from(place)?;
-    let Some(query) = document.query(query) else {
+    let Some(query) = document.query(Reading::Close, query) else {
         return Ok((None, None));
     };
-    let next = document.first_from(&query, x);
-    let last = document.last_before(&query, x);
+    let next = document.first_from(Reading::Close, &query, x);
+    let last = document.last_before(Reading::Close, &query, x);
     Ok((with_place(document, next)?, with_place(document, last)?))
 }
 
