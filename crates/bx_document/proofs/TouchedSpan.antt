@@ -1,7 +1,6 @@
--- The start and end of the touched paragraphs, from the paragraph index, and a copy of them after an edit.
-use Rattle.std.proofs.Common.{◌≡◌, ℕ, ◌+◌, ◌-◌, ◌<◌, ◌≤◌, List, ◌++◌, length, take, drop, get_or, slice_get, slice_range, Some, IsUtf8, IsCharBoundary}
+-- The start and end of the touched paragraphs, from the paragraph index.
+use Rattle.std.proofs.Common.{◌≡◌, ℕ, ◌+◌, ◌-◌, ◌<◌, ◌≤◌, List, length, take, get_or, slice_get, Some, IsUtf8, IsCharBoundary}
 use Rattle.std.proofs.Common.{sym, ap, subst, ◌∙◌, arith}
-use Rattle.std.proofs.lemmas.List.{drop-drop, drop-take, take-take}
 use Rattle.std.proofs.lemmas.Option.{same_Some, some_pair_parts}
 use Rattle.bx_ucd.specs.Data.{Data}
 use Rattle.bx_text.specs.Edits.{IsRange}
@@ -14,20 +13,6 @@ use Rattle.bx_view.specs.Standing.{start_at}
 use Rattle.bx_view.proofs.Numbers.{falls-at, lengths-count}
 use Rattle.bx_document.specs.Touched.{touched_start, touched_stop}
 use Rattle.bx_document.proofs.TouchedPlace.{back_is, front_is}
-
--- a part of a text is copied, and the bytes from `start` to `stop` are replaced in the copy
-pub edited_copy : (text copy new : List ℕ) (a start stop b : ℕ) → a ≤ start → start ≤ stop → stop ≤ b → copy ≡ slice_range text a b
-    → (take (start - a) copy ++ new) ++ drop (stop - a) copy ≡ slice_range text a start ++ new ++ slice_range text stop b
-edited_copy text copy new a start stop b low order high e =
-    let rest = drop a text in
-    let sum : b - a ≡ (stop - a) + (b - stop) = omega (arith, low, order, high) in
-    let there : a + (stop - a) ≡ stop = omega (arith, low, order) in
-    let front : take (start - a) (take (b - a) rest) ≡ take (start - a) rest = take-take (start - a) (b - a) rest (omega (arith, order, high)) in
-    let back : drop (stop - a) (take (b - a) rest) ≡ slice_range text stop b =
-    ap (λ n. drop (stop - a) (take n rest)) sum ∙ drop-take (stop - a) (b - stop) rest
-    ∙ ap (take (b - stop)) (drop-drop (stop - a) a text ∙ ap (λ n. drop n text) there) in
-    ap (λ bs. (take (start - a) bs ++ new) ++ drop (stop - a) bs) e
-    ∙ ap (λ bs. (bs ++ new) ++ drop (stop - a) (take (b - a) rest)) front ∙ ap (λ bs. (slice_range text a start ++ new) ++ bs) back
 
 abbrev none : Lengths
 none = record { body = 0; separator = 0 }

@@ -50,11 +50,15 @@ fn touched<D: BidiData>(
 {
     let first = start_before(source, start);
     let last = stop_after(source, stop);
-    // Both ends are between characters, so only memory can run out.
-    let Ok(mut characters) = source.text.copy_range(first, last) else {
+    // All four ends are between characters, so only memory can run out.
+    let Ok(mut characters) = source.text.copy_range(first, start) else {
         return Err(OutOfMemory);
     };
-    characters.replace_range(start - first..stop - first, new)?;
+    let Ok(rest) = source.text.copy_range(stop, last) else {
+        return Err(OutOfMemory);
+    };
+    characters.push_str(new)?;
+    characters.push_str(rest.as_str())?;
     Ok((first, characters))
 }
 
