@@ -1,5 +1,5 @@
 -- The editor's state, and its changes. Offsets and places count bytes of the text.
-use Rattle.std.specs.Prelude.{ℕ, ◌+◌, ◌-◌, Bool, true, false, not, ◌||◌, nat_le, nat_lt, List, [], ◌∷◌, length, Option, Some, None, if◌then◌else◌}
+use Rattle.std.specs.Prelude.{ℕ, ◌+◌, ◌-◌, Bool, true, false, not, ◌||◌, nat_le, nat_lt, List, [], ◌∷◌, length, Option, Some, None, if◌then◌else◌, ◌≡◌, IsUtf8}
 use Rattle.bx_terms.specs.declared.base.Base.{Base}
 use Rattle.bx_terms.specs.declared.base.Base.TheVariants.{Auto, Ltr, Rtl}
 use Rattle.bx_asking.specs.declared.question.Ask.{Ask}
@@ -23,6 +23,7 @@ use Rattle.bx_runs.specs.declared.typing.Typing.{Typing}
 use Rattle.bx_runs.specs.declared.typing.Typing.TheVariants as typings
 use Rattle.bx_runs.specs.Runs.{edited}
 use Rattle.bx_ucd.specs.Data.{Data}
+use Rattle.bx_terms.specs.Sizes.{is_side}
 
 pub record Editor : Type 0 where
   -- the text, with its past and its future
@@ -236,3 +237,8 @@ with_notice e notice = record e { message = Some (messages.Notice notice) }
 -- what a key that the user presses finds: no message, no earlier Quit, and nothing that the next edit goes on with
 abbrev pub cleared : Editor → Editor
 cleared e = record e { message = None; quit_before = false; typing = typings.Off }
+
+-- the text is UTF-8 and the window has from 1 to 500 columns, as in every editor of the code
+pub record HasRows (e : Editor) : Type 0 where
+  pub text : IsUtf8 e.content.text
+  pub columns : is_side e.width ≡ true
