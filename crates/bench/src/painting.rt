@@ -8,8 +8,9 @@ ghost use Rattle.bx_grid.specs.Columns.{is_one_glyph, run_width};
 use crate::glyphs::{Glyph, Script};
 use crate::outcome::{Outcome, number};
 use anyhow::{Context, Result, bail};
-use bx_grid::{Cell, Grid, Picture, Screen};
+use bx_grid::{Cell, Grid, Picture};
 use bx_paint::{changes, whole};
+use bx_terminal::Screen;
 use std::alloc::Global;
 use std::time::CpuClock;
 

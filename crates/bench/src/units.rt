@@ -4,7 +4,8 @@
 use crate::outcome::{Outcome, number};
 use anyhow::{Context, Result, bail};
 use bx_cells::{face, units};
-use bx_rows::{has_one_row, row_starts, wrap};
+use bx_rows::row_starts;
+use bx_rows_laws::{has_one_row, wrap};
 use bx_ucd::{Tables, sample_tables};
 use std::alloc::{AllocError, Global};
 use std::time::CpuClock;

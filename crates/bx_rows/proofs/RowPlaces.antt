@@ -1,22 +1,21 @@
 -- Where the rows of a body, and their units and characters, stand in it.
-use Rattle.std.proofs.Common.{◌≡◌, ℕ, ◌+◌, ◌-◌, ◌<◌, ◌≤◌, List, [], ◌∷◌, ◌++◌, length, map, get_or, take, drop, chars, encode_utf8, All, refl, sym, subst, ap, ap₂, ◌∙◌, arith}
-use Rattle.std.specs.Prelude.{Option, slice_get, true}
+use Rattle.std.proofs.Common.{◌≡◌, ℕ, ◌+◌, ◌-◌, ◌<◌, ◌≤◌, List, [], ◌∷◌, ◌++◌, length, get_or, take, drop, chars, encode_utf8, refl, sym, subst, ap, ap₂, ◌∙◌, arith}
+use Rattle.std.specs.Prelude.{Option, slice_get}
 use Rattle.std.specs.List.{slice_range}
 use Rattle.std.specs.Str.{IsCharBoundary, IsUtf8}
 use Rattle.std.proofs.Math.Seq.{take-append_seam, drop-append_seam}
 use Rattle.std.proofs.lemmas.List.{drop-drop, length-drop, length-take-le}
-use Rattle.std.proofs.lemmas.List.Elements.{All-cons, All-nil, All-take}
 use Rattle.std.proofs.lemmas.Option.{slice_get-get_or}
 use Rattle.std.proofs.lemmas.Str.{IsCharBoundary-past_char, IsUtf8-between, IsUtf8-drop, length-encode}
 use Rattle.bx_ucd.specs.Data.{Data}
 use Rattle.bx_cells.specs.declared.unit.Unit.{Unit}
-use Rattle.bx_cells.specs.Units.{StandsIn, unit_at, unit_text, units, units_from}
+use Rattle.bx_cells.specs.Units.{StandsIn, unit_text, units}
 use Rattle.bx_joining.specs.Joining.{text_forms}
 use Rattle.bx_joining.specs.Places.{StandsAt}
 use Rattle.bx_joining.specs.declared.forms.TextAt.{TextAt}
 use Rattle.bx_rows.specs.declared.row.Row.{Row}
 use Rattle.bx_rows.specs.declared.start_search.RowStart.{RowStart}
-use Rattle.bx_rows.specs.RowStarts.{most_units, row_starts, start_of, units_of_row}
+use Rattle.bx_rows.specs.RowStarts.{row_starts, start_of}
 use Rattle.bx_rows.specs.RowPicture.{face_glyphs}
 use Rattle.bx_rows.specs.RowStarts.{StartsRow}
 use Rattle.bx_rows.specs.RowPicture.{unit_forms}
@@ -24,8 +23,6 @@ use Rattle.bx_rows.specs.Wrapping.{wrap}
 use Rattle.bx_rows.proofs.EachRow.{found-row, part-at}
 use Rattle.bx_rows.proofs.RowUnits.{chars-behind}
 use Rattle.unicode_segmentation.proofs.TextLemmas.{chars-encode_utf8}
-use Rattle.unicode_segmentation.specs.Grapheme.{graphemes}
-use Rattle.unicode_segmentation.specs.Segments.{with_offsets}
 
 -- ---- rows
 

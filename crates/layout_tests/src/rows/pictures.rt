@@ -2,7 +2,8 @@
 use crate::words::{field_of, two_of, with_tabs};
 use bx_cells::units;
 use bx_resolve::levels;
-use bx_rows::{LeveledRow, Lines, RowPicture, RowStart, draw, row_levels, row_starts, wrap};
+use bx_rows::{LeveledRow, Lines, RowPicture, RowStart, draw, row_starts};
+use bx_rows_laws::{row_levels, wrap};
 use bx_terms::Base;
 use bx_ucd::sample::{BRACKETS, CLASSES};
 use bx_ucd::{Tables, sample_tables};
