@@ -8,7 +8,6 @@ use Rattle.std.proofs.lemmas.List.Sums.{count_by_more_no, count_by_more_yes, sum
 use Rattle.std.proofs.lemmas.Option.{slice_get-get_or}
 use Rattle.std.proofs.lemmas.Str.{IsUtf8-take}
 use Rattle.bx_ucd.specs.Data.{Data}
-use Rattle.bx_ucd.specs.declared.class.Class.{Class}
 use Rattle.bx_resolve.proofs.Small.{few_chars}
 use Rattle.bx_cells.specs.Units.{units}
 use Rattle.bx_cells.proofs.Rest.{few-units}

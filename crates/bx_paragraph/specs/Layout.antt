@@ -1,8 +1,6 @@
 -- The model of a paragraph's layout, and its rows.
 use Rattle.std.specs.Prelude.{◌≡◌, ℕ, Bool, true, List, Option, chars}
 use Rattle.bx_ucd.specs.Data.{Data}
-use Rattle.bx_ucd.specs.declared.class.Class.{Class}
-use Rattle.bx_ucd.specs.declared.data.Side.{Side}
 use Rattle.bx_terms.specs.declared.base.Base.{Base}
 use Rattle.bx_resolve.specs.Edited.{HasNoFormatting}
 use Rattle.bx_resolve.specs.Levels.{paragraph_level_under, levels_under}

@@ -91,6 +91,26 @@ pub record IsNear (body : List ℕ) (each : List (Option ℕ)) (p : TextAt) : Ty
   pub boundary : IsCharBoundary body p.offset
   pub number : p.number ≡ length (chars (take p.offset body))
 
+-- the place of a row's start
+pub near-start : (says : Data) (w : ℕ) (body : List ℕ) (each : List (Option ℕ)) (starts : List RowStart) (k : ℕ) (d : RowStart) (p : TextAt)
+    → IsUtf8 body → starts ≡ row_starts says w body → k < length starts → p.body.text.now ≡ body → p.body.each.now ≡ each
+    → p.offset ≡ (get_or starts k d).offset → p.number ≡ (get_or starts k d).chars → IsNear body each p
+near-start says w body each starts k d p u e within text levels at counted =
+    let starts_row = starts-at says w body starts k d u e within in
+    record {
+      text = text;
+      levels = levels;
+      boundary = subst (IsCharBoundary body) (sym at) starts_row.boundary;
+      number = counted ∙ starts_row.chars ∙ ap (λ o. length (chars (take o body))) (sym at);
+    }
+
+-- in its own body
+pub boundary-near : (body : List ℕ) (each : List (Option ℕ)) (p : TextAt) → IsNear body each p → IsCharBoundary p.body.text.now p.offset
+boundary-near body each p near = subst (λ b. IsCharBoundary b p.offset) (sym near.text) near.boundary
+
+pub number-near : (body : List ℕ) (each : List (Option ℕ)) (p : TextAt) → IsNear body each p → p.number ≡ length (chars (take p.offset p.body.text.now))
+number-near body each p near = near.number ∙ ap (λ b. length (chars (take p.offset b))) (sym near.text)
+
 -- a place counted from another one
 pub near-moved : (body : List ℕ) (each : List (Option ℕ)) (p q : TextAt) (offset : ℕ) → IsNear body each p → IsCharBoundary body offset → q.offset ≡ offset
     → q.number ≡ length (chars (take offset p.body.text.now)) → q.body.text.now ≡ p.body.text.now → q.body.each.now ≡ p.body.each.now → IsNear body each q

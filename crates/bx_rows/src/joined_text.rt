@@ -6,7 +6,6 @@ ghost use Rattle.std.specs.Str.{IsCharBoundary};
 ghost use Rattle.bx_joining.specs.JoinedText.{joined_image};
 ghost use Rattle.bx_joining.specs.Joining.{body_forms, text_forms};
 ghost use Rattle.bx_joining.specs.Places.{StandsAt};
-ghost use Rattle.bx_rows.specs.RowStarts.{StartsRow};
 ghost use Rattle.bx_rows.specs.PlainRows.{char_forms, joined_glyph, leveled_glyphs, mirrored_glyphs};
 ghost use Rattle.bx_rows.specs.RowPicture.{joined_image_within, mirror_image_within, mirrored_chars};
 ghost use Rattle.bx_rows.specs.Shown.{glyph_of};
@@ -15,7 +14,6 @@ ghost use Rattle.bx_ucd.specs.declared.joining.Form.{Form};
 use crate::drawn::Drawn;
 use crate::glyphs::is_own;
 use crate::mirrors::fixed_text;
-use crate::row_at::RowAt;
 use bx_cells::face;
 use bx_joining::{LeveledBody, TextAt, joined_image, shown_form};
 use bx_terms::first_char;
@@ -100,30 +98,31 @@ fn join_at<D: BidiData>(
     Ok(())
 }
 
-/// Shows the glyphs at odd levels, each of a single letter of the row, in their forms.
+/// Shows the glyphs at odd levels, each of a single letter of the row that starts at `row`, in their forms.
 pub(crate) fn join_odd<D: BidiData>(
     glyphs: &mut [Drawn<'_>],
     alloc: Global,
     levels: &[u8],
-    row: RowAt<'_, '_>,
+    row: TextAt<'_, '_>,
     tables: &D,
     w: u16,
 ) -> Result<(), AllocError>
     requires count { length glyphs.old ≡ length levels.now }
-    requires starts { StartsRow row.body.text.now row.start }
+    requires boundary { IsCharBoundary row.body.text.now row.offset }
+    requires number { row.number ≡ length (chars (take row.offset row.body.text.now)) }
     ensures count { length glyphs.new ≡ length glyphs.old }
-    ensures joined { (cs rest : List ℕ) → drop row.entry.start.offset row.entry.body.text.now ≡ encode_utf8_all cs ++ rest
+    ensures joined { (cs rest : List ℕ) → drop row.entry.offset row.entry.body.text.now ≡ encode_utf8_all cs ++ rest
         → length cs ≡ length levels.now → map glyph_of glyphs.old ≡ mirrored_glyphs (D.data tables.now) w cs levels.now
         → OnOk result (map glyph_of glyphs.new ≡ leveled_glyphs (D.data tables.now) w cs levels.now
-        (char_forms (D.data tables.now) row.entry.body.text.now row.entry.body.each.now row.entry.start.chars cs)) }
+        (char_forms (D.data tables.now) row.entry.body.text.now row.entry.body.each.now row.entry.number cs)) }
 {
     let body = LeveledBody {
         text: row.body.text(),
         each: row.body.each,
     };
-    let mut rest = &body.text[row.start.offset..];
-    let mut offset = row.start.offset;
-    let mut number = row.start.chars;
+    let mut rest = &body.text[row.offset..];
+    let mut offset = row.offset;
+    let mut number = row.number;
     for i in 0..glyphs.len() {
         let Some((letter, behind)) = first_char(rest) else {
             return Ok(());

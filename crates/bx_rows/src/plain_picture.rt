@@ -1,8 +1,8 @@
 //! The picture of a row in which each unit is one character of one column.
-ghost use Rattle.std.specs.Prelude.{◌≡◌, ◌≤◌, ◌<◌, ◌-◌, ◌++◌, All, IfOk, IfSome, List, OnOk, ℕ, drop, encode_utf8_all, length, map, slice_index_or, sum_by, true};
+ghost use Rattle.std.specs.Prelude.{◌≡◌, ◌≤◌, ◌<◌, ◌-◌, ◌++◌, All, IfOk, IfSome, List, OnOk, ℕ, chars, drop, encode_utf8_all, length, map, slice_index_or, sum_by, take, true};
 ghost use Rattle.std.specs.Cow.{cow_str_bytes};
+ghost use Rattle.std.specs.Str.{IsCharBoundary};
 ghost use Rattle.bx_terms.specs.Glyphs.{is_one_glyph, run_width};
-ghost use Rattle.bx_rows.specs.RowStarts.{StartsRow};
 ghost use Rattle.bx_rows.specs.Lines.{glyphs_at};
 ghost use Rattle.bx_rows.specs.PlainRows.{char_forms, leveled_glyphs, single_glyph};
 ghost use Rattle.bx_rows.specs.RowPicture.{blank};
@@ -14,10 +14,9 @@ use crate::glyphs::with_blanks;
 use crate::joined_text::join_odd;
 use crate::lines::Lines;
 use crate::mirrors::mirror_odd;
-use crate::plain_row::PlainRow;
-use crate::row_at::RowAt;
 use crate::row_part::{most_units, start_of};
 use crate::visual_order::reorder;
+use bx_joining::TextAt;
 use bx_terms::OutOfMemory;
 use bx_ucd::BidiData;
 use std::alloc::{AllocError, Global};
@@ -27,17 +26,18 @@ fn show_levels<D: BidiData>(
     glyphs: &mut [Drawn<'_>],
     alloc: Global,
     levels: &[u8],
-    row: RowAt<'_, '_>,
+    row: TextAt<'_, '_>,
     tables: &D,
     w: u16,
 ) -> Result<(), AllocError>
     requires count { length glyphs.old ≡ length levels.now }
-    requires starts { StartsRow row.body.text.now row.start }
+    requires boundary { IsCharBoundary row.body.text.now row.offset }
+    requires number { row.number ≡ length (chars (take row.offset row.body.text.now)) }
     ensures count { length glyphs.new ≡ length glyphs.old }
-    ensures shown { (cs rest : List ℕ) → drop row.entry.start.offset row.entry.body.text.now ≡ encode_utf8_all cs ++ rest
+    ensures shown { (cs rest : List ℕ) → drop row.entry.offset row.entry.body.text.now ≡ encode_utf8_all cs ++ rest
         → map glyph_of glyphs.old ≡ map single_glyph cs → OnOk result (map glyph_of glyphs.new
         ≡ leveled_glyphs (D.data tables.now) w cs levels.now
-        (char_forms (D.data tables.now) row.entry.body.text.now row.entry.body.each.now row.entry.start.chars cs)) }
+        (char_forms (D.data tables.now) row.entry.body.text.now row.entry.body.each.now row.entry.number cs)) }
 {
     if !mirror_odd(glyphs, alloc, levels, tables, w)? {
         return Ok(());
@@ -45,26 +45,28 @@ fn show_levels<D: BidiData>(
     join_odd(glyphs, alloc, levels, row, tables, w)
 }
 
-/// The glyphs of a plain row in visual order, mirrored and joined at odd levels.
+/// The glyphs of a plain row in visual order, mirrored and joined at odd levels. The row starts at `at`.
 fn arranged<'a, D: BidiData>(
     alloc: Global,
-    row: PlainRow<'a>,
-    at: RowAt<'_, '_>,
+    glyphs: Vec<Drawn<'a>>,
+    levels: &[u8],
+    at: TextAt<'_, '_>,
     tables: &D,
     w: u16,
 ) -> Result<Vec<Drawn<'a>>, AllocError>
-    requires levels { length row.levels.items ≡ length row.glyphs.items }
-    requires starts { StartsRow at.body.text.now at.start }
-    ensures count { IfOk result (λ v. length v.items ≡ length row.entry.glyphs.items) }
-    ensures order { (cs rest : List ℕ) → drop at.entry.start.offset at.entry.body.text.now ≡ encode_utf8_all cs ++ rest
-        → map glyph_of row.entry.glyphs.items ≡ map single_glyph cs → IfOk result (λ v. map glyph_of v.items
-        ≡ map (λ k. slice_index_or (leveled_glyphs (D.data tables.now) w cs row.entry.levels.items
-        (char_forms (D.data tables.now) at.entry.body.text.now at.entry.body.each.now at.entry.start.chars cs)) k blank)
-        (visual row.entry.levels.items)) }
+    requires levels { length levels.now ≡ length glyphs.items }
+    requires boundary { IsCharBoundary at.body.text.now at.offset }
+    requires number { at.number ≡ length (chars (take at.offset at.body.text.now)) }
+    ensures count { IfOk result (λ v. length v.items ≡ length glyphs.entry.items) }
+    ensures order { (cs rest : List ℕ) → drop at.entry.offset at.entry.body.text.now ≡ encode_utf8_all cs ++ rest
+        → map glyph_of glyphs.entry.items ≡ map single_glyph cs → IfOk result (λ v. map glyph_of v.items
+        ≡ map (λ k. slice_index_or (leveled_glyphs (D.data tables.now) w cs levels.now
+        (char_forms (D.data tables.now) at.entry.body.text.now at.entry.body.each.now at.entry.number cs)) k blank)
+        (visual levels.now)) }
 {
-    let PlainRow { mut glyphs, levels } = row;
-    show_levels(&mut glyphs, alloc, &levels, at, tables, w)?;
-    reorder(&mut glyphs, &levels);
+    let mut glyphs = glyphs;
+    show_levels(&mut glyphs, alloc, levels, at, tables, w)?;
+    reorder(&mut glyphs, levels);
     Ok(glyphs)
 }
 
@@ -92,10 +94,10 @@ impl<'a, 't, D: BidiData> Lines<'a, 't, D> {
         let w = self.w;
         let start = self.starts[number];
         let count = most_units(start, start_of(self.starts, number + 1), self.body, w);
-        let Some(row) = self.plain_row(alloc, start, count)? else {
+        let Some((found, levels)) = self.plain_row(alloc, start, count)? else {
             return Ok(None);
         };
-        let glyphs = arranged(alloc, row, self.row_at(start), self.tables, w)?;
+        let glyphs = arranged(alloc, found, &levels, self.place(start), self.tables, w)?;
         let blanks = columns_left(w, glyphs.len());
         let glyphs = with_blanks(alloc, glyphs, blanks, self.levels.paragraph)?;
         Ok(Some(RowPicture { glyphs }))

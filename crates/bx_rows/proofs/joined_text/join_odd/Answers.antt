@@ -16,16 +16,16 @@ use Rattle.bx_rows.proofs.joined_text.join_odd.Goals as goal
 
 pub loop-i-init : goal.loop-i-init
 loop-i-init g c =
-    let start = c.args.row.start in
+    let start = c.args.row in
     let body = c.args.row.body.text.now in
     let rest_is : c.range_from-rest.result.now ≡ drop start.offset body = c.range_from-rest.ensures.value ∙ ap (drop start.offset) c.text.ensures in
     record {
       text = c.range_from-rest.utf8;
       count = refl;
       stands = record {
-        boundary = c.requires.starts.boundary;
+        boundary = c.requires.boundary;
         here = rest_is ∙ sym (ap (λ n. take n (drop start.offset body)) (ap length rest_is) ∙ take-length (drop start.offset body));
-        before = c.requires.starts.chars;
+        before = c.requires.number;
       };
       number = omega arith;
       left = ap chars rest_is;
@@ -44,7 +44,7 @@ overflow_add-number g c =
 pub loop-i-preserved : goal.loop-i-preserved
 loop-i-preserved g c =
     let says = g.D.BidiData.data c.args.tables.now in
-    let start = c.args.row.start in
+    let start = c.args.row in
     let body = c.args.row.body.text.now in
     let each = c.args.row.body.each.now in
     let levels = c.args.levels.now in
@@ -58,9 +58,9 @@ loop-i-preserved g c =
     let u : IsUtf8 body = subst IsUtf8 c.text.ensures c.text.utf8 in
     let next = stand_on body rest behind c.loop-i.offset number letter u c.loop-i.invariant.stands read.0 in
     let within : i < length levels = omega (arith, c.loop-i-test.true, c.loop-i.invariant.count, c.requires.count) in
-    let at = given-at says body each start.chars i letter letters levels (chars behind) within (sym c.loop-i.invariant.left ∙ read.2) in
-    let x : ℕ × (ℕ × Form) = (get_or levels i 0, (letter, get_or (body_forms says body each) (start.chars + i) Isolated)) in
-    let form : get_or (body_forms says c.text.result.now each) number Isolated ≡ get_or (body_forms says body each) (start.chars + i) Isolated =
+    let at = given-at says body each start.number i letter letters levels (chars behind) within (sym c.loop-i.invariant.left ∙ read.2) in
+    let x : ℕ × (ℕ × Form) = (get_or levels i 0, (letter, get_or (body_forms says body each) (start.number + i) Isolated)) in
+    let form : get_or (body_forms says c.text.result.now each) number Isolated ≡ get_or (body_forms says body each) (start.number + i) Isolated =
     ap₂ (λ (t : List ℕ) n. get_or (body_forms says t each) n Isolated) c.text.ensures c.loop-i.invariant.number in
     record {
       text = IsUtf8-past_char rest behind letter c.loop-i.invariant.text read.0;
@@ -69,7 +69,7 @@ loop-i-preserved g c =
       number = omega (arith, c.loop-i.invariant.number);
       left = letters-on letters (chars rest) (chars behind) i letter c.loop-i.invariant.left read.2;
       same =
-          turn (joined_glyph says c.args.w) (map glyph_of c.args.glyphs.now) (given says body each start.chars letters levels)
+          turn (joined_glyph says c.args.w) (map glyph_of c.args.glyphs.now) (given says body each start.number letters levels)
           c.loop-i.glyphs i c.index-glyphs-i.result c.join_at.new.drawn x (omega arith) at.within c.loop-i.invariant.same
           (c.in_ok-join_at.ensures
           ∙ ap (λ f. joined_glyph says c.args.w (glyph_of (get_or c.loop-i.glyphs i c.index-glyphs-i.result)) (get_or levels i 0, (letter, f))) form
@@ -78,21 +78,21 @@ loop-i-preserved g c =
 
 pub returns-in_default-clause-joined : goal.returns-in_default-clause-joined
 returns-in_default-clause-joined g c cs rest bytes many mirrored =
-    let start = c.args.row.start in
+    let start = c.args.row in
     let body = c.args.row.body.text.now in
     let u : IsUtf8 body = subst IsUtf8 c.text.ensures c.text.utf8 in
     let letters = chars (drop start.offset body) in
-    let all = letters-are body cs rest start.offset (IsUtf8-drop body start.offset u c.requires.starts.boundary) bytes in
+    let all = letters-are body cs rest start.offset (IsUtf8-drop body start.offset u c.requires.boundary) bytes in
     absurd (none-left cs (chars rest) letters (chars c.loop-i.rest.now) c.loop-i.i all
     (omega (arith, c.loop-i-test.true, c.loop-i.invariant.count, c.requires.count, many)) (sym c.loop-i.invariant.left)
     (no_chars c.loop-i.rest.now c.in_default.ensures))
 
 pub returns-clause-joined : goal.returns-clause-joined
 returns-clause-joined g c cs rest bytes many mirrored =
-    let start = c.args.row.start in
+    let start = c.args.row in
     let body = c.args.row.body.text.now in
-    let u : IsUtf8 (drop start.offset body) = IsUtf8-drop body start.offset (subst IsUtf8 c.text.ensures c.text.utf8) c.requires.starts.boundary in
+    let u : IsUtf8 (drop start.offset body) = IsUtf8-drop body start.offset (subst IsUtf8 c.text.ensures c.text.utf8) c.requires.boundary in
     let letters = chars (drop start.offset body) in
-    all-joined (g.D.BidiData.data c.args.tables.now) c.args.w body c.args.row.body.each.now start.chars c.loop-i.i cs (chars rest) letters c.args.levels.now
+    all-joined (g.D.BidiData.data c.args.tables.now) c.args.w body c.args.row.body.each.now start.number c.loop-i.i cs (chars rest) letters c.args.levels.now
     (map glyph_of c.args.glyphs.now) (map glyph_of c.loop-i.glyphs) (letters-alone cs rest (drop start.offset body) u bytes)
     (letters-are body cs rest start.offset u bytes) many (omega (arith, c.loop-i.invariant.count, c.requires.count)) mirrored c.loop-i.invariant.same

@@ -12,15 +12,15 @@ use Rattle.bx_rows.proofs.joined_text.join_odd.Given as goal
 abbrev pub invariant-loop-i : goal.invariant-loop-i
 invariant-loop-i g l =
     let says = g.D.BidiData.data l.tables in
-    let start = l.fn.row.start in
+    let start = l.fn.row in
     let body = l.fn.row.body.text.now in
     let letters = chars (drop start.offset body) in
     record {
       text : shadow (Utf8 l.rest);
       count : length l.glyphs ≡ length l.initial.glyphs;
       stands : StandsAt body l.rest l.offset l.number;
-      number : l.number ≡ start.chars + l.i;
+      number : l.number ≡ start.number + l.i;
       left : chars l.rest ≡ drop l.i letters;
       same : map glyph_of l.glyphs ≡ changed (joined_glyph says l.w) (map glyph_of l.initial.glyphs)
-          (take l.i (given says body l.fn.row.body.each.now start.chars letters l.levels));
+          (take l.i (given says body l.fn.row.body.each.now start.number letters l.levels));
     }

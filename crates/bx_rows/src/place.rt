@@ -1,33 +1,9 @@
-//! The place of a row, and of a unit, in their body.
+//! Places of a body.
 ghost use Rattle.std.specs.Prelude.{◌≡◌, chars, length, take};
 ghost use Rattle.std.specs.Str.{IsCharBoundary};
 
-use crate::start_search::RowStart;
 use crate::unit_levels::char_count;
 use bx_joining::{LeveledBody, TextAt};
-
-/// A body, and the start of one of its rows.
-#[derive(Clone, Copy)]
-pub(crate) struct RowAt<'t, 'e> {
-    pub(crate) body: LeveledBody<'t, 'e>,
-    pub(crate) start: RowStart,
-}
-
-impl<'t, 'e> RowAt<'t, 'e> {
-    /// The place of the row's start.
-    pub(crate) fn first(self) -> TextAt<'t, 'e>
-        ensures offset { result.offset ≡ self.entry.start.offset }
-        ensures number { result.number ≡ self.entry.start.chars }
-        ensures text { result.body.text.now ≡ self.entry.body.text.now }
-        ensures each { result.body.each.now ≡ self.entry.body.each.now }
-    {
-        TextAt {
-            body: self.body,
-            offset: self.start.offset,
-            number: self.start.chars,
-        }
-    }
-}
 
 /// The number of characters before an offset of a text, counted from a place before or after it.
 fn number_at(text: &str, near: usize, number: usize, offset: usize) -> usize
