@@ -181,7 +181,7 @@ a_letter_for_one_with_a_mark : (after_replacement small (at_opening (0x61 ∷ 0x
 unfolding unicode_segmentation unicode_width
 a_letter_for_one_with_a_mark = refl
 
--- without the separator the mark after it stands on a, so x is put in after the mark
+-- Removing the separator joins the mark to a, so x is inserted after the mark.
 behind_a_mark_that_joins : (after_replacement small (at_opening (0x61 ∷ 0x0a ∷ 0xcc ∷ 0x81 ∷ []) 4 Auto) 1 2 (codes "x") 2).content
     ≡ exchanged (opened (0x61 ∷ 0x0a ∷ 0xcc ∷ 0x81 ∷ [])) 1 2 3 (codes "x") 2 3 4
 unfolding unicode_segmentation unicode_width

@@ -1,10 +1,12 @@
 //! Insertions and removals, each with the cursor's place after it. Each allocates first and then changes the text.
-ghost use Rattle.std.specs.Prelude.{◌≡◌, ℕ, List, [], ◌++◌, ◌+◌, ◌-◌, ◌≤◌, IsCharBoundary, length, slice_range, string_bytes, Some, true, false, IfOk, IfSome, IsErrOf, IsUtf8, MatchOption, OnErr, OnOk};
+ghost use Rattle.std.specs.Prelude.{◌≡◌, ℕ, List, [], ◌++◌, ◌+◌, ◌-◌, ◌≤◌, IsCharBoundary, length, slice_range, string_bytes, Some, true, false};
+ghost use Rattle.std.specs.Prelude.{IfOk, IfSome, IsErrOf, IsUtf8, MatchOption, OnErr, OnOk};
 ghost use Rattle.bx_index.specs.Paragraphs.{lengths};
 ghost use Rattle.bx_text.specs.Edits.{IsRange, IsChange, fits, fits_both, largest_text, splice};
 ghost use Rattle.bx_view.specs.Moves.{place_at};
 ghost use Rattle.bx_view.specs.Places.{IsTextPlace};
-ghost use Rattle.bx_document.specs.Document.{after_exchange, after_insertion, after_removal, after_replacement, after_wrap, place_after, place_after_replacement, place_after_wrap, replaced_text, rows_of, wrapped_end, wrapped_text};
+ghost use Rattle.bx_document.specs.Document.{after_exchange, after_insertion, after_removal, after_replacement, after_wrap, place_after};
+ghost use Rattle.bx_document.specs.Document.{place_after_replacement, place_after_wrap, replaced_text, rows_of, wrapped_end, wrapped_text};
 
 use crate::document::Document;
 use crate::touched::{place_after, place_at_inside, place_inside, stop_after};

@@ -44,7 +44,7 @@ use Rattle.bx_editor.proofs.QuietSearch.{effect-quiet, is_quiet, IsQuiet}
 
 -- ---- what holds in each state of a search
 
--- the place is that of a match, of letters that are read closely
+-- the query stands, closely read, at an offset whose place this is
 abbrev IsNear : Data → Editor → Type 0
 IsNear d e = (e.aim ≡ aims.Replace) × ((at : ℕ) × MatchesAt d (sought d e) e.content.text at × (e.place ≡ place_at (rows d e) at))
 

@@ -119,8 +119,8 @@ LiesIn i spans = (s : ℕ × ℕ) × Contains spans s × (s.0 ≤ i) × (i < s.1
 abbrev pub IsMatch : Data → Editor → ℕ × ℕ → Type 0
 IsMatch d e s = MatchesAt d (sought d e) e.content.text s.0 × (s.1 ≡ match_end d Close (sought d e) e.content.text s.0)
 
--- The matches from the one that is shown on. They are apart, each is the query's letters, and wherever the query stands from
--- there on is in one of them.
+-- The spans are the matches from the shown one on: they are apart, each has the query's letters, and each offset from there on at
+-- which the query stands lies in one of them.
 pub record AreTheMatches (d : Data) (e : Editor) (spans : List (ℕ × ℕ)) : Type 0 where
   pub are_matches : All (IsMatch d e) spans
   pub apart : AreApart e.at spans

@@ -51,7 +51,7 @@ longest_other = 64
 abbrev pub with_other : Editor → List ℕ → Editor
 with_other e other = record e { other = other; seek = WithTyped }
 
--- where the query stands from an offset on
+-- the first offset, at or after x, at which the query stands
 abbrev pub next_match : Data → Editor → ℕ → Option ℕ
 next_match d e x = first_from_by d (reading e.aim) (sought d e) e.content.text x
 

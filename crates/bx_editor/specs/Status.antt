@@ -115,7 +115,7 @@ prompt_text asks.Line = codes " line: "
 prompt_text asks.Name = codes " insert: "
 prompt_text asks.Code = codes " insert: U+"
 
--- the prompt of a question, and the answer as it was typed; without a question, those of a search
+-- a question has its prompt and the answer as it was typed; without a question the search has its prompt and its text
 abbrev pub prompt_glyphs : Data → Editor → Ask → List Glyph
 prompt_glyphs d e asks.Off = letter_glyphs (search_prompt e.aim e.seek) ++ search_glyphs d e.query e.other e.seek
 prompt_glyphs d e ask = letter_glyphs (prompt_text ask) ++ typed_glyphs e.answer

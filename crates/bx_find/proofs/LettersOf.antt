@@ -1,5 +1,6 @@
 -- The letters of one character.
-use Rattle.std.proofs.Common.{drop, ◌<◌, length-drop, ◌≡◌, ◌≤◌, ◌+◌, ◌∙◌, ℕ, Bool, true, false, List, [], ◌∷◌, ◌++◌, length, map, flat_map, refl, ap, sym, arith, append-nil, length-append, if◌then◌else◌}
+use Rattle.std.proofs.Common.{drop, ◌<◌, length-drop, ◌≡◌, ◌≤◌, ◌+◌, ◌∙◌, ℕ, Bool, true, false, List, [], ◌∷◌, ◌++◌, length, map, flat_map, refl, ap}
+use Rattle.std.proofs.Common.{sym, arith, append-nil, length-append, if◌then◌else◌}
 use Rattle.std.specs.Prelude.{filter}
 use Rattle.std.proofs.lemmas.List.{length-map}
 use Rattle.std.specs.Char.{to_ascii_lowercase}

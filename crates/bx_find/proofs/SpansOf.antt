@@ -1,5 +1,6 @@
 -- The end of a match, and the matches that follow one another.
-use Rattle.std.proofs.Common.{◌≡◌, ◌≤◌, ◌<◌, ◌+◌, ◌-◌, ◌∙◌, ◌&&◌, ℕ, zero, suc, Bool, true, false, List, [], ◌∷◌, ◌++◌, length, chars, drop, refl, ap, ap₂, sym, subst, arith, inl, inr, IsCharBoundary, Option, Some, None}
+use Rattle.std.proofs.Common.{◌≡◌, ◌≤◌, ◌<◌, ◌+◌, ◌-◌, ◌∙◌, ◌&&◌, ℕ, zero, suc, Bool, true, false, List, [], ◌∷◌, ◌++◌, length, chars, drop, refl}
+use Rattle.std.proofs.Common.{ap, ap₂, sym, subst, arith, inl, inr, IsCharBoundary, Option, Some, None}
 use Rattle.std.specs.Prelude.{MatchOption, IsUtf8, encode_utf8, find, nat_le}
 use Rattle.std.proofs.lemmas.Bool.{cases_lt, and_parts}
 use Rattle.std.proofs.lemmas.Bool.Decides.{nat_tests}
@@ -167,7 +168,7 @@ module _ (says : Data) (reading : Reading) where
     next x at [] = refl
     next x at (c ∷ cs) = next-by x at c cs (is_match_by says reading sought (c ∷ cs)) refl (next x (at + length (encode_utf8 c)) cs)
 
-    -- ---- those of a text
+    -- ---- the spans of a text
 
     abbrev pub IsNext : List ℕ → ℕ → ℕ → Type 0
     IsNext text x a =

@@ -1,5 +1,6 @@
 -- Facts of Unicode's tables, each shown by a computation.
-use Rattle.std.proofs.Common.{◌≡◌, ◌≤◌, ◌<◌, ◌+◌, ◌-◌, ◌∙◌, ℕ, Bool, true, false, not, ◌%◌, ◌/◌, ◌&&◌, nat_le, nat_lt, List, [], ◌∷◌, length, flat_map, refl, ap, ap₂, sym, subst, inl, inr, arith, leb-true, eqb-true, append-nil, length-append}
+use Rattle.std.proofs.Common.{◌≡◌, ◌≤◌, ◌<◌, ◌+◌, ◌-◌, ◌∙◌, ℕ, Bool, true, false, not, ◌%◌, ◌/◌, ◌&&◌, nat_le, nat_lt, List, [], ◌∷◌, length}
+use Rattle.std.proofs.Common.{flat_map, refl, ap, ap₂, sym, subst, inl, inr, arith, leb-true, eqb-true, append-nil, length-append}
 use Rattle.std.proofs.lemmas.Bool.{cases_Bool, cases_eq, cases_lt, cond-false}
 use Rattle.std.proofs.lemmas.Bool.Decides.{nat_tests}
 use Rattle.std.specs.Char.{to_ascii_lowercase}

@@ -1,4 +1,4 @@
--- The letters so far, and those of the parts that are left.
+-- The letters found and the letters of the parts that remain are all the letters.
 use Rattle.std.proofs.Common.{◌≡◌, ◌++◌, drop}
 use Rattle.bx_find.specs.Letters.{letters_of_parts}
 use Rattle.bx_find.proofs.letters.wide_letters.Given as goal
