@@ -15,7 +15,6 @@ set -eu
 export LC_ALL=C
 
 top=$(cd "$(dirname "$0")/.." && pwd)
-editor=$top/crates/bidi_edit/out/bidi_edit
 part=1
 if [ "${1:-}" = --quick ]; then
     part=10
@@ -31,19 +30,8 @@ for run in $asked; do
         ;;
     esac
 done
-if ! [ -x "$editor" ]; then
-    echo 'skipped: the program is not built (rt run in crates/bidi_edit builds it)'
-    exit 77
-fi
-if ! command -v python3 >/dev/null 2>&1; then
-    echo 'skipped: there is no python3'
-    exit 77
-fi
-
-folder=$(mktemp -d)
-trap 'rm -rf "$folder"' EXIT
-trap 'exit 1' HUP INT TERM
-cd "$folder"
+# shellcheck source=scripts/own_folder.sh
+. "$top/scripts/own_folder.sh"
 passed=0 failed=0
 
 # Limits of a run, in seconds of processor time and of wall time on a busy machine.

@@ -274,7 +274,7 @@ fn report<R: AllocGlobal>(rt: &R, text: &Text, time: Duration) -> Result<Outcome
 }
 
 /// Runs a task with `turns` edits of a text of `bytes` bytes.
-fn after_opening<R: CpuClock + AllocGlobal>(
+fn measure_edits<R: CpuClock + AllocGlobal>(
     rt: &R,
     name: &str,
     bytes: usize,
@@ -287,7 +287,7 @@ fn after_opening<R: CpuClock + AllocGlobal>(
 }
 
 /// Measures opening a text of `bytes` bytes.
-fn opened<R: CpuClock + AllocGlobal>(rt: &R, bytes: usize) -> Result<Outcome> {
+fn measure_opening<R: CpuClock + AllocGlobal>(rt: &R, bytes: usize) -> Result<Outcome> {
     let lines = lines(rt.alloc(), bytes)?;
     let start = rt.thread_cpu_time()?;
     let text = Text::open(rt.alloc(), lines)?;
@@ -309,8 +309,8 @@ fn report_since<R: CpuClock + AllocGlobal>(
 /// Reports the text's bytes and pieces.
 pub(crate) fn run<R: CpuClock + AllocGlobal>(rt: &R, words: &[String]) -> Result<Outcome> {
     match words {
-        [open, bytes] if open.as_str() == "open" => opened(rt, number(bytes)?),
-        [name, bytes, turns] => after_opening(rt, name.as_str(), number(bytes)?, number(turns)?),
+        [open, bytes] if open.as_str() == "open" => measure_opening(rt, number(bytes)?),
+        [name, bytes, turns] => measure_edits(rt, name.as_str(), number(bytes)?, number(turns)?),
         _ => bail!("usage: bench text TASK BYTES [EDITS]"),
     }
 }

@@ -51,12 +51,7 @@ fn outcome_of<R: CpuClock + AllocGlobal>(
 ) -> Result<Outcome> {
     let start = rt.thread_cpu_time()?;
     let sum = sum(rt.alloc(), tables, body, times)?;
-    let end = rt.thread_cpu_time()?;
-    let line = format!(in rt.alloc(); "{sum}")?;
-    Ok(Outcome {
-        line,
-        time: end.saturating_sub(start),
-    })
+    Outcome::since(rt, start, sum)
 }
 
 /// Carries out the words. Reports the sum of the levels.

@@ -34,7 +34,7 @@ use std::rt::Env;
 use std::time::CpuClock;
 
 /// Carries out the words.
-fn measured<R: CpuClock + AllocGlobal>(rt: &R, words: &[String]) -> Result<Outcome> {
+fn measure<R: CpuClock + AllocGlobal>(rt: &R, words: &[String]) -> Result<Outcome> {
     match words {
         [layer, rest @ ..] if layer.as_str() == "text" => edits::run(rt, rest),
         [layer, rest @ ..] if layer.as_str() == "paragraphs" => paragraphs::run(rt, rest),
@@ -69,7 +69,7 @@ fn each<R: Print + CpuClock + AllocGlobal>(rt: &R) -> Result<()> {
         for word in line.split(' ') {
             words.push(String::from_str(rt.alloc(), word)?)?;
         }
-        let outcome = measured(rt, &words)?;
+        let outcome = measure(rt, &words)?;
         let line = outcome.line.as_str();
         println!(rt; "{line}")?;
     }
@@ -78,7 +78,7 @@ fn each<R: Print + CpuClock + AllocGlobal>(rt: &R) -> Result<()> {
 
 /// Runs the layer that the words name.
 fn one<R: Print + CpuClock + AllocGlobal>(rt: &R, words: &[String], is_timed: bool) -> Result<()> {
-    let outcome = measured(rt, words)?;
+    let outcome = measure(rt, words)?;
     let line = outcome.line.as_str();
     println!(rt; "{line}")?;
     if is_timed {

@@ -8,8 +8,9 @@ ghost use Rattle.bx_grid.specs.Columns.{is_one_glyph, run_width};
 use crate::glyphs::{Glyph, Script};
 use crate::outcome::{Outcome, number};
 use anyhow::{Context, Result, bail};
-use bx_grid::{Cell, Grid, Picture, Screen};
+use bx_grid::{Cell, Grid, Picture};
 use bx_paint::{changes, whole};
+use bx_terminal::Screen;
 use std::alloc::Global;
 use std::time::CpuClock;
 
@@ -177,10 +178,5 @@ pub(crate) fn run<R: CpuClock + AllocGlobal>(rt: &R, words: &[String]) -> Result
     let times = number(times)?;
     let start = rt.thread_cpu_time()?;
     let sum = sum(rt.alloc(), task, script, times)?;
-    let end = rt.thread_cpu_time()?;
-    let line = format!(in rt.alloc(); "{sum}")?;
-    Ok(Outcome {
-        line,
-        time: end.saturating_sub(start),
-    })
+    Outcome::since(rt, start, sum)
 }

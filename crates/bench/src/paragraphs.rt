@@ -41,22 +41,6 @@ fn edit<D: BidiData>(text: &mut Text, index: &mut Index, tables: &D) -> Result<(
     Ok(())
 }
 
-/// Makes `edits` such edits.
-fn edit_often<D: BidiData>(
-    text: &mut Text,
-    index: &mut Index,
-    tables: &D,
-    edits: usize,
-) -> Result<()>
-    requires { index.old.paragraphs ≡ lengths (D.data tables.now) text.old.edited.text }
-    ensures { OnOk result (index.new.paragraphs ≡ lengths (D.data tables.now) text.new.edited.text) }
-{
-    for _ in 0..edits {
-        edit(text, index, tables)?;
-    }
-    Ok(())
-}
-
 /// Removes the whole text, and updates the index.
 fn clear<D: BidiData>(text: &mut Text, index: &mut Index, tables: &D) -> Result<()>
     requires { index.old.paragraphs ≡ lengths (D.data tables.now) text.old.edited.text }
@@ -89,21 +73,13 @@ fn take_back<D: BidiData>(text: &mut Text, index: &mut Index, tables: &D) -> Res
     Ok(())
 }
 
-/// Removes the whole text and undoes that, `edits` times.
-fn restore_often<D: BidiData>(
-    text: &mut Text,
-    index: &mut Index,
-    tables: &D,
-    edits: usize,
-) -> Result<()>
+/// Removes the whole text and undoes that.
+fn restore<D: BidiData>(text: &mut Text, index: &mut Index, tables: &D) -> Result<()>
     requires { index.old.paragraphs ≡ lengths (D.data tables.now) text.old.edited.text }
     ensures { OnOk result (index.new.paragraphs ≡ lengths (D.data tables.now) text.new.edited.text) }
 {
-    for _ in 0..edits {
-        clear(text, index, tables)?;
-        take_back(text, index, tables)?;
-    }
-    Ok(())
+    clear(text, index, tables)?;
+    take_back(text, index, tables)
 }
 
 /// The work measured after the index is built.
@@ -116,7 +92,7 @@ enum Task {
 }
 
 /// Walks over all paragraphs and back to the first. Returns their number.
-fn walked(index: &Index) -> usize {
+fn walk(index: &Index) -> usize {
     let mut seen: usize = 1;
     let mut walk = index.walk_at_offset(0);
     for _ in 0..index.count() {
@@ -137,15 +113,23 @@ fn follow<D: BidiData>(text: &mut Text, index: &mut Index, tables: &D, task: Tas
 {
     match task {
         Task::Build => {}
-        Task::Edit(edits) => edit_often(text, index, tables, edits)?,
-        Task::Restore(edits) => restore_often(text, index, tables, edits)?,
-        Task::Walk => return Ok(walked(index)),
+        Task::Edit(edits) => {
+            for _ in 0..edits {
+                edit(text, index, tables)?;
+            }
+        }
+        Task::Restore(edits) => {
+            for _ in 0..edits {
+                restore(text, index, tables)?;
+            }
+        }
+        Task::Walk => return Ok(walk(index)),
     }
     Ok(index.count())
 }
 
 /// The number of paragraphs, and the times after building the index and at the end.
-fn ended<R: CpuClock, D: BidiData>(
+fn time_task<R: CpuClock, D: BidiData>(
     rt: &R,
     text: &mut Text,
     index: &mut Index,
@@ -161,7 +145,7 @@ fn ended<R: CpuClock, D: BidiData>(
 }
 
 /// The number of paragraphs, and the time of building the index or of the work after that.
-fn measured<R: CpuClock + AllocGlobal>(
+fn measure<R: CpuClock + AllocGlobal>(
     rt: &R,
     text: &mut Text,
     task: Task,
@@ -169,8 +153,8 @@ fn measured<R: CpuClock + AllocGlobal>(
     let tables = sample_tables(rt.alloc())?;
     let start = rt.thread_cpu_time()?;
     let mut index = Index::build(rt.alloc(), text, &tables)?;
-    let ended = ended(rt, text, &mut index, &tables, task);
-    ended.map(|(count, built, end)| match task {
+    let timed = time_task(rt, text, &mut index, &tables, task);
+    timed.map(|(count, built, end)| match task {
         Task::Build => (count, built.saturating_sub(start)),
         _ => (count, end.saturating_sub(built)),
     })
@@ -188,7 +172,7 @@ fn task_of(name: &str, edits: Option<usize>) -> Option<Task> {
 }
 
 /// Parses the task, and the text's length and line length.
-fn asked(words: &[String]) -> Result<(Task, usize, usize)> {
+fn parse(words: &[String]) -> Result<(Task, usize, usize)> {
     let (name, bytes, line, edits) = match words {
         [name, bytes, line] => (name, bytes, line, None),
         [name, bytes, line, edits] => (name, bytes, line, Some(number(edits)?)),
@@ -200,14 +184,14 @@ fn asked(words: &[String]) -> Result<(Task, usize, usize)> {
 
 /// Measures a task over a text. Reports the number of paragraphs.
 fn outcome_of<R: CpuClock + AllocGlobal>(rt: &R, text: &mut Text, task: Task) -> Result<Outcome> {
-    let (count, time) = measured(rt, text, task)?;
+    let (count, time) = measure(rt, text, task)?;
     let line = format!(in rt.alloc(); "{count} paragraphs")?;
     Ok(Outcome { line, time })
 }
 
 /// Carries out the words. Reports the number of paragraphs.
 pub(crate) fn run<R: CpuClock + AllocGlobal>(rt: &R, words: &[String]) -> Result<Outcome> {
-    let (task, bytes, line) = asked(words)?;
+    let (task, bytes, line) = parse(words)?;
     let mut text = Text::open(rt.alloc(), lines(rt.alloc(), bytes, line)?)?;
     outcome_of(rt, &mut text, task)
 }

@@ -16,7 +16,7 @@ mod fault;
 mod look;
 mod telling;
 
-use bx_cli::{is_text_of, refuse, refuse_words, text_of};
+use bx_cli::{is_text_of, refuse, refuse_words, text_of, words_of};
 use bx_command::{Files, JournalFile, Options, TextFault, check_text, command_line, empty_journal};
 use bx_recovery::{Beginning, is_foreign, recover};
 use bx_session::{Recorder, WrittenJournal};
@@ -24,8 +24,7 @@ use bx_store::{FileStore, Store, StoreFault};
 use edit::{Changes, edit};
 use fault::ProgramFault;
 use look::Look;
-use std::env;
-use std::io::{self, Read, Write};
+use std::io::{Read, Write};
 use std::process::ExitCode;
 use telling::{finish, journal_notes, tell_look, tell_lost_journal};
 
@@ -221,11 +220,6 @@ fn program<'a, R: Read + Drop, W: Write>(
         return check_file(rt, options.file);
     }
     run(rt, options, reader, writer)
-}
-
-/// The command line's words after the program's name.
-fn words_of(rt: &HostRuntime) -> io::Result<Vec<String>> {
-    Ok(env::args(rt)?.skip(1).collect(rt.alloc())?)
 }
 
 fn main(rt: HostRuntime) -> ExitCode {

@@ -9,11 +9,10 @@ mod fault;
 mod printing;
 mod words;
 
-use bx_cli::{FileFault, UnicodeBytes, finish, refuse, refuse_words, text_of};
+use bx_cli::{FileFault, UnicodeBytes, finish, refuse, refuse_words, text_of, words_of};
 use fault::ProgramFault;
 use printing::print_bytes;
-use std::env;
-use std::io::{self, Write};
+use std::io::Write;
 use std::process::ExitCode;
 use words::{Options, command_line};
 
@@ -37,11 +36,6 @@ fn program<'a, W: Write>(
         unicode.lend(),
         options.style,
     )
-}
-
-/// The command line's words after the program's name.
-fn words_of(rt: &HostRuntime) -> io::Result<Vec<String>> {
-    Ok(env::args(rt)?.skip(1).collect(rt.alloc())?)
 }
 
 fn main(rt: HostRuntime) -> ExitCode {

@@ -38,7 +38,7 @@ kept_by : (d : Data) (text : List ℕ) (direction : Base) (k w : ℕ) (columns :
     → IsDrawnBy d (record { body = text; base = direction; number = k; columns = columns })
 kept_by d text direction k w columns h = record { columns_are = h.are ∙ ap (numbered_row_columns d text direction k) (sym h.wide) }
 
--- ---- as a row of the text is found, under the base direction of a layout and in its columns
+-- ---- as a row of the text is found, under the base direction of a view and in its columns
 
 module _ (d : Data) (text : List ℕ) (direction base : Base) (k w width : ℕ) (r : BodyRow)
     (told : r ≡ row_at (body_rows d direction w text) k) (based : base ≡ direction) (sized : width ≡ w) where

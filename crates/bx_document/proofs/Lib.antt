@@ -15,7 +15,7 @@ pub mod LineSpan
 pub mod PlaceAfter
 pub mod PlaceBehind
 pub mod PlacesKept
-pub mod PlacesMoved
+pub mod SameState
 pub mod ShownTop
 pub mod FoundOffsets
 pub mod NextCharacters

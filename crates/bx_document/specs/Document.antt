@@ -1,4 +1,4 @@
--- An editable text and its layout in a window. Offsets and places count bytes of the text.
+-- An editable text and its view in a window. Offsets and places count bytes of the text.
 use Rattle.std.specs.Prelude.{ℕ, ◌+◌, List, [], ◌∷◌, length}
 use Rattle.bx_terms.specs.declared.base.Base.{Base}
 use Rattle.bx_document.specs.declared.edits.RegionEnd.{RegionEnd}
@@ -23,7 +23,7 @@ pub record DocumentState (D : Type 0) : Type 0 where
 abbrev pub at_opening : List ℕ → ℕ → Base → Document
 at_opening text w base = record { content = opened text; base = base; w = w }
 
--- the rows of any text in the document's layout
+-- the rows of any text in the document's view
 abbrev pub rows_of : Data → Document → List ℕ → List TextRow
 rows_of d t text = text_rows d t.base t.w text
 

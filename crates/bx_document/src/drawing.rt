@@ -12,7 +12,7 @@ use bx_grid::{Cell, Grid, OwnedRow};
 use bx_rows::Drawn;
 use bx_terms::OutOfMemory;
 use bx_ucd::BidiData;
-use bx_view::{Layout, RowAt, Source};
+use bx_view::{RowAt, Source, View};
 use std::alloc::Global;
 
 /// Draws glyphs into a row of `width` columns, from its left end, and fills the row with blanks. The glyphs must fit.
@@ -45,14 +45,14 @@ pub(crate) fn draw_glyphs(
 /// Draws a row of the text.
 pub(crate) fn draw_row<D: BidiData>(
     alloc: Global,
-    layout: &Layout,
+    view: &View,
     source: &Source<'_, D>,
     at: RowAt,
 ) -> Result<OwnedRow, OutOfMemory>
-    requires row { Stands source.now layout.now at }
-    ensures drawn { OfRow source.now layout.now at (λ r. IfOk result (λ row. row ≡ row_columns (D.data source.now.tables.now) layout.now.w r)) }
-    ensures filled { IfOk result (λ row. length row ≡ layout.now.w) }
+    requires row { Stands source.now view.now at }
+    ensures drawn { OfRow source.now view.now at (λ r. IfOk result (λ row. row ≡ row_columns (D.data source.now.tables.now) view.now.w r)) }
+    ensures filled { IfOk result (λ row. length row ≡ view.now.w) }
 {
-    let picture = layout.picture(source, at)?;
-    draw_glyphs(alloc, &picture.glyphs, layout.width())
+    let picture = view.picture(source, at)?;
+    draw_glyphs(alloc, &picture.glyphs, view.width())
 }

@@ -97,14 +97,13 @@ impl<D: BidiData + Drop> Document<D> {
     pub fn has_crlf_first(&self) -> bool
         ensures { result ≡ has_crlf_first (D.data self.now.tables) self.now.document.content.text }
     {
-        // proof only: the text is UTF-8
-        let _utf8 = self.text.len();
-        let (_, stop) = self.index.span(0);
+        let source = self.own.source();
+        let walk = source.index.walk_at(0, 0);
         // A separator of two bytes is CR LF or one character past ASCII.
-        if self.index.separator(0) != 2 {
+        if walk.separator() != 2 {
             return false;
         }
-        match self.text.piece_at(stop) {
+        match source.text.piece_at(walk.span().1) {
             Some(separator) => separator.as_bytes()[0] == b'\r',
             None => false,
         }
@@ -116,8 +115,9 @@ impl<D: BidiData + Drop> Document<D> {
         requires range { IsRange self.now.document.content.text start stop }
         ensures { result ≡ has_crlf_first (D.data self.now.tables) (splice self.now.document.content.text start stop []) }
     {
-        let len = self.text.len();
-        let before = after_range(Seen::Nothing, &self.text, 0, start, &self.tables);
-        is_crlf(after_range(before, &self.text, stop, len, &self.tables))
+        let source = self.own.source();
+        let len = source.text.len();
+        let before = after_range(Seen::Nothing, source.text, 0, start, source.tables);
+        is_crlf(after_range(before, source.text, stop, len, source.tables))
     }
 }

@@ -46,12 +46,11 @@ impl<D: BidiData + Drop> Document<D> {
         requires text_place { IsTextPlace (D.data self.now.tables) self.now.document.content.text place }
         ensures { IfOk result (λ l. l ≡ place_level (D.data self.now.tables) self.now.document.base self.now.document.content.text place) }
     {
-        // proof only: the text is UTF-8
-        let _utf8 = self.text.len();
-        let (_, (start, stop)) = self.index.span_at(place);
+        let source = self.own.source();
+        let (_, (start, stop)) = source.index.span_at(place);
         let copy = self.copy(start, stop)?;
         let body = copy.as_str();
-        let levels = levels(self.alloc, body, &self.tables, self.layout.base())?;
+        let levels = levels(self.alloc, body, source.tables, self.view.base())?;
         Ok(unit_level(body, levels.each.as_slice(), place - start))
     }
 }

@@ -88,6 +88,7 @@ fn text_and_query<'a, D: BidiData>(
         paragraph: query,
         tables,
         number: 0,
+        start: 0,
     };
     let mut found = row.own_glyphs()?;
     let mut picture = RowPicture::of_letters(alloc, text)?;
@@ -143,8 +144,8 @@ impl<D: BidiData + Drop> Document<D> {
             (letter_glyphs text.now ++ query_glyphs (D.data self.now.tables) query.now)) }
         ensures filled { IfOk result (λ row. length row ≡ self.now.document.w) }
     {
-        let layout = lay_out(self.alloc, query, &self.tables)?;
-        let picture = text_and_query(self.alloc, text, &layout, &self.tables)?;
+        let layout = lay_out(self.alloc, query, self.own.tables())?;
+        let picture = text_and_query(self.alloc, text, &layout, self.own.tables())?;
         let row = glyph_row(self.alloc, &picture, self.width())?;
         Ok(row)
     }

@@ -9,7 +9,7 @@ use crate::drawing::draw_row;
 use bx_grid::{Grid, OwnedRow};
 use bx_terms::{Base, OutOfMemory};
 use bx_ucd::BidiData;
-use bx_view::{Layout, RowAt, Source};
+use bx_view::{RowAt, Source, View};
 use std::alloc::{AllocError, Global};
 use std::marker::Model;
 
@@ -200,35 +200,35 @@ impl RowCache {
     /// Puts a row of the text into row `row` of a grid, from 0. A cached row is copied; any other is drawn and cached.
     pub(crate) fn put_row<D: BidiData>(
         &mut self,
-        layout: &Layout,
+        view: &View,
         source: &Source<'_, D>,
         at: RowAt,
         grid: &mut Grid,
         row: u16,
     ) -> Result<(), OutOfMemory>
-        requires row { Stands source.now layout.now at }
+        requires row { Stands source.now view.now at }
         requires inside { row < grid.old.height }
-        requires width { grid.old.width ≡ layout.now.w }
+        requires width { grid.old.width ≡ view.now.w }
         requires cache { AreDrawnBy (D.data source.now.tables.now) self.old }
-        ensures drawn { OfRow source.now layout.now at (λ r.
-            OnOk result (grid.new ≡ with_rows grid.old row (row_columns (D.data source.now.tables.now) layout.now.w r))) }
-        ensures filled { OfRow source.now layout.now at (λ r.
-            OnOk result (length (row_columns (D.data source.now.tables.now) layout.now.w r) ≡ layout.now.w)) }
+        ensures drawn { OfRow source.now view.now at (λ r.
+            OnOk result (grid.new ≡ with_rows grid.old row (row_columns (D.data source.now.tables.now) view.now.w r))) }
+        ensures filled { OfRow source.now view.now at (λ r.
+            OnOk result (length (row_columns (D.data source.now.tables.now) view.now.w r) ≡ view.now.w)) }
         ensures cache { AreDrawnBy (D.data source.now.tables.now) self.new }
     {
-        let (body, number) = layout.row_in_body(source, at);
+        let (body, number) = view.row_in_body(source, at);
         let key = RowKey {
             body,
-            base: layout.base(),
+            base: view.base(),
             number,
-            width: layout.width(),
+            width: view.width(),
         };
         if let Some(i) = self.find(row, &key) {
             grid.put_row(row, self.columns(i))?;
             self.bring(i, row);
             return Ok(());
         }
-        let new = draw_row(self.allocator(), layout, source, at)?;
+        let new = draw_row(self.allocator(), view, source, at)?;
         grid.put_row(row, &new)?;
         self.keep(&key, new, row);
         Ok(())

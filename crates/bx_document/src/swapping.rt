@@ -63,7 +63,7 @@ impl<D: BidiData + Drop> Document<D> {
     {
         let mut at = start;
         'parts: while at < stop {
-            let part = self.text.part_at(at, stop);
+            let part = self.own.part_at(at, stop);
             copy.push_str(part)?;
             at += part.len();
         }
@@ -113,7 +113,7 @@ impl<D: BidiData + Drop> Document<D> {
         ensures range { IfOk result (λ swap. IfSome swap (λ s. IsRange self.now.document.content.text start s.stop)) }
     {
         let Measure { stop, count, len } = self.measure(reading, query, start, other);
-        let kept = self.text.len() - (stop - start);
+        let kept = self.own.len() - (stop - start);
         if len > LARGEST_TEXT - kept {
             return Ok(None);
         }

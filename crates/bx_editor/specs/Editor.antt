@@ -1,5 +1,5 @@
 -- The editor's state, and its changes. Offsets and places count bytes of the text.
-use Rattle.std.specs.Prelude.{ℕ, ◌+◌, ◌-◌, Bool, true, false, not, ◌||◌, nat_le, nat_lt, List, [], ◌∷◌, length, Option, Some, None, if◌then◌else◌}
+use Rattle.std.specs.Prelude.{ℕ, ◌+◌, ◌-◌, Bool, true, false, not, ◌||◌, nat_le, nat_lt, List, [], ◌∷◌, length, Option, Some, None, if◌then◌else◌, ◌≡◌, IsUtf8}
 use Rattle.bx_terms.specs.declared.base.Base.{Base}
 use Rattle.bx_terms.specs.declared.base.Base.TheVariants.{Auto, Ltr, Rtl}
 use Rattle.bx_asking.specs.declared.question.Ask.{Ask}
@@ -23,6 +23,7 @@ use Rattle.bx_runs.specs.declared.typing.Typing.{Typing}
 use Rattle.bx_runs.specs.declared.typing.Typing.TheVariants as typings
 use Rattle.bx_runs.specs.Runs.{edited}
 use Rattle.bx_ucd.specs.Data.{Data}
+use Rattle.bx_terms.specs.Sizes.{is_side}
 
 pub record Editor : Type 0 where
   -- the text, with its past and its future
@@ -31,12 +32,13 @@ pub record Editor : Type 0 where
   pub place : ℕ
   -- the mark's place: the region lies between it and the cursor's place
   pub mark : Option ℕ
-  -- whether the mark was set by a selection, and a key was pressed since
+  -- how fresh a selection is
   pub soft : Soft
   -- the text copied or cut last, in UTF-8
   pub held : List ℕ
   -- the query of the search, or of the latest one: at most 64 characters, in UTF-8
   pub query : List ℕ
+  -- how far the search is
   pub seek : Seek
   -- what the search, or the latest one, is for
   pub aim : Aim
@@ -236,3 +238,8 @@ with_notice e notice = record e { message = Some (messages.Notice notice) }
 -- what a key that the user presses finds: no message, no earlier Quit, and nothing that the next edit goes on with
 abbrev pub cleared : Editor → Editor
 cleared e = record e { message = None; quit_before = false; typing = typings.Off }
+
+-- the text is UTF-8 and the window has from 1 to 500 columns, as in every editor of the code
+pub record HasRows (e : Editor) : Type 0 where
+  pub text : IsUtf8 e.content.text
+  pub columns : is_side e.width ≡ true

@@ -2,7 +2,7 @@
 -- and places count bytes of the text.
 use Rattle.std.specs.Prelude.{ℕ, ◌+◌, ◌==◌, not, ◌&&◌, Bool, true, false, List, length, Option, Some, None, if◌then◌else◌}
 use Rattle.bx_ucd.specs.Data.{Data}
-use Rattle.bx_find.specs.Matches.{first_from_by}
+use Rattle.bx_find.specs.Matches.{first_from}
 use Rattle.bx_find.specs.Spans.{match_end, spans_from}
 use Rattle.bx_document.specs.Swapped.{behind_character, last_stop, swapped}
 use Rattle.bx_runs.specs.declared.typing.Typing.{Typing}
@@ -53,7 +53,7 @@ with_other e other = record e { other = other; seek = WithTyped }
 
 -- the first offset, at or after x, at which the query stands
 abbrev pub next_match : Data → Editor → ℕ → Option ℕ
-next_match d e x = first_from_by d (reading e.aim) (sought d e) e.content.text x
+next_match d e x = first_from d (reading e.aim) (sought d e) e.content.text x
 
 -- a match is shown
 abbrev pub shown_at : Editor → Option ℕ → Editor
@@ -123,7 +123,7 @@ placed_in d e text (Some at) = Some (at, place_at (rows_of d e text) at)
 abbrev pub next_behind : Data → Editor → ℕ → List ℕ → Option (ℕ × ℕ)
 next_behind d e stop new =
     let text = splice e.content.text e.at stop new in
-    placed_in d e text (first_from_by d (reading e.aim) (sought d e) text (e.at + length new))
+    placed_in d e text (first_from d (reading e.aim) (sought d e) text (e.at + length new))
 
 -- a typed character: a line end replaces the match, but a pasted one does not; all others do nothing
 abbrev pub after_match_letter : Data → Typing → Editor → ℕ → Editor

@@ -6,8 +6,8 @@ use Rattle.bx_index.specs.Paragraphs.{is_separator}
 pub use Rattle.bx_asking.specs.Answers.{lengthened, shortened}
 use Rattle.bx_find.specs.declared.reading.Reading.{Reading}
 use Rattle.bx_find.specs.declared.reading.Reading.TheVariants.{Wide, Close}
-use Rattle.bx_find.specs.Letters.{letters_by}
-use Rattle.bx_find.specs.Matches.{first_from_by, last_before_by}
+use Rattle.bx_find.specs.Letters.{letters}
+use Rattle.bx_find.specs.Matches.{first_from, last_before}
 use Rattle.bx_view.specs.Moves.{place_at}
 use Rattle.bx_view.specs.TextRows.{TextRow, places}
 use Rattle.bx_editor.specs.declared.aim.Aim.{Aim}
@@ -28,7 +28,7 @@ reading aims.Replace = Close
 
 -- the query's letters
 abbrev pub sought : Data → Editor → List ℕ
-sought d e = letters_by d (reading e.aim) (chars e.query)
+sought d e = letters d (reading e.aim) (chars e.query)
 
 -- the query, or the other text, that a key lengthens or shortens: empty if it was just asked for, so that typing replaces the
 -- latest one
@@ -63,13 +63,13 @@ match_or rows message otherwise (Some offset) = record { place = Some (place_at 
 abbrev pub forward : Data → Reading → List TextRow → List ℕ → ℕ → List ℕ → Landing
 forward d r rows text x [] = nothing_sought
 forward d r rows text x (c ∷ cs) =
-    match_or rows None (match_or rows (Some FromStart) not_found (first_from_by d r (c ∷ cs) text 0)) (first_from_by d r (c ∷ cs) text x)
+    match_or rows None (match_or rows (Some FromStart) not_found (first_from d r (c ∷ cs) text 0)) (first_from d r (c ∷ cs) text x)
 
 -- the last match before an offset, else the text's last
 abbrev pub backward : Data → Reading → List TextRow → List ℕ → ℕ → List ℕ → Landing
 backward d r rows text x [] = nothing_sought
 backward d r rows text x (c ∷ cs) =
-    match_or rows None (match_or rows (Some FromEnd) not_found (last_before_by d r (c ∷ cs) text (length text))) (last_before_by d r (c ∷ cs) text x)
+    match_or rows None (match_or rows (Some FromEnd) not_found (last_before d r (c ∷ cs) text (length text))) (last_before d r (c ∷ cs) text x)
 
 abbrev pub landed : Editor → Landing → Editor
 landed e landing = record e { place = unwrap_or landing.place e.place; message = landing.message }

@@ -30,7 +30,7 @@ impl<D: BidiData + Drop> Editor<D> {
         requires text_place { IsTextPlace (D.data self.old.tables) self.old.editor.content.text place }
         ensures { self.new ≡ record self.old { editor = with_place (cleared self.old.editor) place } }
     {
-        self.place = place;
+        self.cursor.place = place;
         self.clear();
     }
 
@@ -65,7 +65,7 @@ impl<D: BidiData + Drop> Editor<D> {
         }) }
         ensures err { OnErr result (self.new ≡ self.old) }
     {
-        let place = self.document.moved(m, self.place)?;
+        let place = self.document.moved(m, self.cursor.place)?;
         self.set_place(place);
         self.unselect();
         Ok(())
@@ -78,7 +78,7 @@ impl<D: BidiData + Drop> Editor<D> {
     {
         match self.goal {
             Some(column) => Ok(column),
-            None => self.document.column(self.place),
+            None => self.document.column(self.cursor.place),
         }
     }
 

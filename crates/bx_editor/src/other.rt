@@ -41,15 +41,15 @@ impl<D: BidiData + Drop> Editor<D> {
             self.clear();
             return Ok(());
         }
-        let landing = forward(&mut self.document, Reading::Close, query, self.place)?;
+        let landing = forward(&mut self.document, Reading::Close, query, self.cursor.place)?;
         self.aim = Aim::Replace;
         self.settle_at(landing);
         match landing.place {
             Some(_) => {
-                self.seek = Seek::WithBegun;
+                self.cursor.seek = Seek::WithBegun;
                 self.count = 0;
             }
-            None => self.seek = Seek::Typed,
+            None => self.cursor.seek = Seek::Typed,
         }
         Ok(())
     }
@@ -64,10 +64,10 @@ impl<D: BidiData + Drop> Editor<D> {
         ensures err { OnErr result (self.new ≡ self.old) }
     {
         if c != '\t' && !self.document.separates(c) {
-            let kept = kept(self.seek, self.other.as_str());
+            let kept = kept(self.cursor.seek, self.other.as_str());
             let other = lengthened(*self.other.allocator(), kept, c, LONGEST_QUERY)?;
             self.other = other;
-            self.seek = Seek::WithTyped;
+            self.cursor.seek = Seek::WithTyped;
         }
         self.clear();
         Ok(())
@@ -79,10 +79,10 @@ impl<D: BidiData + Drop> Editor<D> {
         ensures ok { OnOk result (self.new ≡ record self.old { editor = after_shorter_other (cleared self.old.editor) }) }
         ensures err { OnErr result (self.new ≡ self.old) }
     {
-        let kept = kept(self.seek, self.other.as_str());
+        let kept = kept(self.cursor.seek, self.other.as_str());
         let other = shortened(*self.other.allocator(), kept)?;
         self.other = other;
-        self.seek = Seek::WithTyped;
+        self.cursor.seek = Seek::WithTyped;
         self.clear();
         Ok(())
     }
@@ -99,9 +99,9 @@ impl<D: BidiData + Drop> Editor<D> {
             return;
         };
         let reading = reading_of(self.aim);
-        if let Some(at) = self.document.first_from(reading, &query, self.place) {
+        if let Some(at) = self.document.first_from(reading, &query, self.cursor.place) {
             self.at = at;
-            self.seek = Seek::Replacing;
+            self.cursor.seek = Seek::Replacing;
         }
     }
 }

@@ -53,7 +53,7 @@ impl<D: BidiData + Drop> Editor<D> {
             unit,
             ..
         } = position;
-        let mut line = status_line(alloc, self.changed, paragraph, unit)?;
+        let mut line = status_line(alloc, self.past.changed, paragraph, unit)?;
         self.write_message(&mut line)?;
         let row = self.draw_status(line)?;
         page.put_row(self.height - 1, &row)?;
@@ -92,7 +92,7 @@ impl<D: BidiData + Drop> Editor<D> {
         let region = self.seen();
         let shown = self
             .document
-            .show(&mut page, top, self.place, count, region)?;
+            .show(&mut page, top, self.cursor.place, count, region)?;
         // proof only: the number is unchanged
         let _columns = page.columns();
         self.put_status(alloc, &mut page, shown.position)?;

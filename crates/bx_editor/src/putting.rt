@@ -5,7 +5,6 @@ ghost use Rattle.bx_editor.specs.Editor.{cleared, with_insertion};
 ghost use Rattle.bx_editor.specs.Putting.{after_character, after_new_line, after_put, has_room, is_paste, only_paste, put_in, typed, with_selection_replaced};
 ghost use Rattle.bx_editor.specs.Region.{region};
 
-use crate::editing::{settle, stored_behind};
 use crate::editor::Editor;
 use crate::message::Message;
 use bx_runs::{Kind, Typing};
@@ -39,21 +38,13 @@ impl<D: BidiData + Drop> Editor<D> {
         }) }
         ensures err { OnErr result (self.new ≡ self.old) }
     {
-        self.runs.reserve()?;
+        self.past.runs.reserve()?;
         let n = self.document.past_len();
-        let Some(place) = self.document.insert(self.place, new)? else {
+        let Some(place) = self.document.insert(self.cursor.place, new)? else {
             return Ok(false);
         };
-        self.runs.edited(n, goes_on);
-        self.stored = stored_behind(n, self.stored);
-        settle(
-            &mut self.place,
-            &mut self.mark,
-            &mut self.soft,
-            &mut self.seek,
-            place,
-        );
-        self.changed = true;
+        self.past.edited(n, goes_on);
+        self.cursor.settle(place);
         Ok(true)
     }
 
@@ -66,22 +57,14 @@ impl<D: BidiData + Drop> Editor<D> {
         ensures err { OnErr result (self.new ≡ self.old) }
     {
         let (start, stop) = self.region();
-        self.runs.reserve()?;
+        self.past.runs.reserve()?;
         let n = self.document.past_len();
-        let Some(place) = self.document.replace(start, stop, new, self.place)? else {
+        let Some(place) = self.document.replace(start, stop, new, self.cursor.place)? else {
             return Ok(false);
         };
         // The second edit goes on with the first one's run: it changes neither the runs nor what is stored once more.
-        self.runs.edited(n, false);
-        self.stored = stored_behind(n, self.stored);
-        settle(
-            &mut self.place,
-            &mut self.mark,
-            &mut self.soft,
-            &mut self.seek,
-            place,
-        );
-        self.changed = true;
+        self.past.edited(n, false);
+        self.cursor.settle(place);
         Ok(true)
     }
 

@@ -15,7 +15,7 @@ impl<D: BidiData + Drop> Editor<D> {
         ensures { self.new ≡ record self.old { editor = after_passed_quit self.old.editor } }
     {
         self.typing = Typing::Off;
-        self.soft = aged(self.soft);
+        self.cursor.soft = aged(self.cursor.soft);
         self.goal = None;
     }
 
@@ -25,9 +25,9 @@ impl<D: BidiData + Drop> Editor<D> {
         ensures { self.new ≡ record self.old { editor = after_passed_save self.old.editor } }
     {
         self.pass_quit();
-        self.seek = Seek::Off;
+        self.cursor.seek = Seek::Off;
         self.ask = Ask::Off;
-        self.stored = None;
+        self.past.stored = None;
     }
 
     /// Ends a replay: no search is on, the next edit begins a run, and the text is the stored one unless it counts as changed. No
@@ -35,10 +35,10 @@ impl<D: BidiData + Drop> Editor<D> {
     pub fn end_replay(&mut self)
         ensures { self.new ≡ record self.old { editor = at_replay_end self.old.editor } }
     {
-        self.seek = Seek::Off;
+        self.cursor.seek = Seek::Off;
         self.ask = Ask::Off;
         self.typing = Typing::Off;
-        self.stored = if self.changed {
+        self.past.stored = if self.past.changed {
             None
         } else {
             Some(self.document.past_len())

@@ -208,12 +208,12 @@ impl<D: BidiData + Drop> Editor<D> {
         ensures err { OnErr result (self.new ≡ self.old) }
         ensures edits { OnErr result (is_edit_or_move key ≡ true) }
     {
-        let seek = self.seek;
+        let seek = self.cursor.seek;
         self.leave_search();
         match self.press(key) {
             Ok(()) => Ok(()),
             Err(refused) => {
-                self.seek = seek;
+                self.cursor.seek = seek;
                 Err(refused)
             }
         }

@@ -24,8 +24,8 @@ impl<D: BidiData + Drop> Editor<D> {
         ensures { self.new ≡ record self.old { editor = after_beginning aim (unselected (cleared self.old.editor)) } }
     {
         self.unselect();
-        self.origin = self.place;
-        self.seek = Seek::Begun;
+        self.origin = self.cursor.place;
+        self.cursor.seek = Seek::Begun;
         self.aim = aim;
         self.clear();
     }
@@ -43,7 +43,7 @@ impl<D: BidiData + Drop> Editor<D> {
         requires origin { IsTextPlace (D.data self.old.tables) self.old.editor.content.text self.old.editor.origin }
         ensures { self.new ≡ record self.old { editor = after_giving_up (cleared self.old.editor) } }
     {
-        self.place = self.origin;
+        self.cursor.place = self.origin;
         self.end_search();
     }
 
@@ -52,7 +52,7 @@ impl<D: BidiData + Drop> Editor<D> {
         requires place { IfSome landing.place (IsTextPlace (D.data self.old.tables) self.old.editor.content.text) }
         ensures { self.new ≡ record self.old { editor = landed (cleared self.old.editor) landing } }
     {
-        self.place = landing.place.unwrap_or(self.place);
+        self.cursor.place = landing.place.unwrap_or(self.cursor.place);
         self.message = landing.message;
         self.quit_before = false;
         self.typing = Typing::Off;
@@ -65,7 +65,7 @@ impl<D: BidiData + Drop> Editor<D> {
         ensures { self.new ≡ record self.old { editor = landed (record (cleared self.old.editor) { seek = Seek.Typed }) landing } }
     {
         self.settle_at(landing);
-        self.seek = Seek::Typed;
+        self.cursor.seek = Seek::Typed;
     }
 
     /// Appends a character to the query, and seeks it from the place on. A line feed ends the search; a tab or another character
@@ -85,15 +85,15 @@ impl<D: BidiData + Drop> Editor<D> {
             self.clear();
             return Ok(());
         }
-        let kept = kept(self.seek, self.query.as_str());
+        let kept = kept(self.cursor.seek, self.query.as_str());
         let query = lengthened(*self.query.allocator(), kept, c, LONGEST_QUERY)?;
         let landing = forward(
             &mut self.document,
             reading_of(self.aim),
             query.as_str(),
-            self.place,
+            self.cursor.place,
         )?;
-        self.seek = Seek::Typed;
+        self.cursor.seek = Seek::Typed;
         self.query = query;
         self.land(landing);
         Ok(())
@@ -107,7 +107,7 @@ impl<D: BidiData + Drop> Editor<D> {
         }) }
         ensures err { OnErr result (self.new ≡ self.old) }
     {
-        let kept = kept(self.seek, self.query.as_str());
+        let kept = kept(self.cursor.seek, self.query.as_str());
         let query = shortened(*self.query.allocator(), kept)?;
         let landing = forward(
             &mut self.document,
@@ -115,9 +115,9 @@ impl<D: BidiData + Drop> Editor<D> {
             query.as_str(),
             self.origin,
         )?;
-        self.seek = Seek::Typed;
+        self.cursor.seek = Seek::Typed;
         self.query = query;
-        self.place = self.origin;
+        self.cursor.place = self.origin;
         self.land(landing);
         Ok(())
     }
@@ -130,8 +130,8 @@ impl<D: BidiData + Drop> Editor<D> {
     {
         let next = self
             .document
-            .moved(Move::Logical(Logical::Forward), self.place)?;
-        if self.place < next {
+            .moved(Move::Logical(Logical::Forward), self.cursor.place)?;
+        if self.cursor.place < next {
             return Ok(next);
         }
         Ok(0)
@@ -178,7 +178,7 @@ impl<D: BidiData + Drop> Editor<D> {
         let query = self.query.as_str();
         let landing = forward(&mut self.document, Reading::Wide, query, next)?;
         self.settle_at(landing);
-        self.seek = Seek::Off;
+        self.cursor.seek = Seek::Off;
         self.aim = Aim::Find;
         self.unselect();
         Ok(())
@@ -196,7 +196,7 @@ impl<D: BidiData + Drop> Editor<D> {
             &mut self.document,
             reading_of(self.aim),
             self.query.as_str(),
-            self.place,
+            self.cursor.place,
         )?;
         self.land(landing);
         Ok(())

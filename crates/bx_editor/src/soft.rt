@@ -1,6 +1,6 @@
 //! Selections.
 
-/// Whether the mark is a selection's, which gives way to what is typed.
+/// How fresh a selection is. It gives way to what is typed.
 #[derive(Clone, Copy, PartialEq, Eq, Debug, Default)]
 pub enum Soft {
     /// No selection: there is no mark, or Mark set it.

@@ -140,7 +140,7 @@ impl<D: BidiData + Drop> Editor<D> {
                 &self.document,
                 line,
                 self.aim,
-                self.seek,
+                self.cursor.seek,
                 self.query.as_str(),
                 self.other.as_str(),
             ),

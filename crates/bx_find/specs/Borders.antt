@@ -1,4 +1,4 @@
--- The borders of a query: the number of letters that a search still holds after a mismatch.
+-- The borders of a query: the number of letters that remain of a prefix after a mismatch.
 use Rattle.std.specs.Prelude.{◌≡◌, ℕ, ◌<◌, ◌-◌, ◌+◌, ◌≤◌, List, length, take, slice_range, get_or}
 
 -- the first i letters are the last i of the first k

@@ -48,9 +48,5 @@ letters_of says Wide c = letters_of_parts says (nfd (c ∷ []))
 letters_of says Close c = if is_passed_over says c then [] else to_ascii_lowercase c ∷ []
 
 -- the letters of characters, in order
-abbrev pub letters_by : Data → Reading → List ℕ → List ℕ
-letters_by says reading cs = flat_map (letters_of says reading) cs
-
--- the same, closely read
-abbrev pub letters : Data → List ℕ → List ℕ
-letters says cs = letters_by says Close cs
+abbrev pub letters : Data → Reading → List ℕ → List ℕ
+letters says reading cs = flat_map (letters_of says reading) cs

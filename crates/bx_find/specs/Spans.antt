@@ -4,7 +4,7 @@ use Rattle.bx_ucd.specs.Data.{Data}
 use Rattle.bx_ucd.specs.declared.class.Class.{Class}
 use Rattle.bx_ucd.specs.declared.class.Class.TheVariants.{NSM}
 use Rattle.bx_find.specs.Letters.{letters_of}
-use Rattle.bx_find.specs.Matches.{is_match_by}
+use Rattle.bx_find.specs.Matches.{is_match}
 use Rattle.bx_find.specs.declared.reading.Reading.{Reading}
 
 abbrev pub is_nonspacing : Class → Bool
@@ -35,7 +35,7 @@ match_end says reading sought text at = behind_letters says reading (length soug
 -- one before; the first character is at the offset `at`
 abbrev pub spans_of : Data → Reading → List ℕ → ℕ → ℕ → List ℕ → List (ℕ × ℕ)
 spans_of says reading sought x at [] = []
-spans_of says reading sought x at (c ∷ cs) = elim (nat_le x at && is_match_by says reading sought (c ∷ cs)) [
+spans_of says reading sought x at (c ∷ cs) = elim (nat_le x at && is_match says reading sought (c ∷ cs)) [
   | true ↦
       let end = behind_letters says reading (length sought) at (c ∷ cs) in (at, end) ∷ spans_of says reading sought end (at + length (encode_utf8 c)) cs
   | false ↦ spans_of says reading sought x (at + length (encode_utf8 c)) cs

@@ -2,8 +2,7 @@
 ghost use Rattle.std.specs.Prelude.{◌≡◌, chars, length};
 
 use crate::{
-    Pieces, Query, Reading, first_before, first_from, first_from_by, first_span, last_before,
-    last_from,
+    Haystack, Query, Reading, first_before, first_from, first_span, last_before, last_from,
 };
 use bx_ucd::{Tables, sample_tables};
 use std::test::Fail;
@@ -12,7 +11,7 @@ use std::test::Fail;
 #[derive(Drop)]
 struct Cut<'t>(&'t str);
 
-impl<'t> Pieces for Cut<'t> {
+impl<'t> Haystack for Cut<'t> {
     ghost text = { λ w. w.0.now };
 
     fn len(&self) -> usize {
@@ -42,12 +41,12 @@ fn nearest(tables: &Tables, text: &str, query: &str, x: usize) -> (Option<usize>
     if count(query) > 64 || !text.is_char_boundary(x) {
         return (None, None);
     }
-    match Query::new(tables, query) {
+    match Query::new(tables, Reading::Close, query) {
         None => (None, None),
         Some(query) => {
             let source = Cut(text);
-            let next = first_from(&source, tables, &query, x);
-            let last = last_before(&source, tables, &query, x);
+            let next = first_from(&source, tables, Reading::Close, &query, x);
+            let last = last_before(&source, tables, Reading::Close, &query, x);
             (next, last)
         }
     }
@@ -106,11 +105,11 @@ fn wide(
     if count(query) > 64 || !text.is_char_boundary(x) {
         return (None, None, None);
     }
-    match Query::by(tables, Reading::Wide, query) {
+    match Query::new(tables, Reading::Wide, query) {
         None => (None, None, None),
         Some(query) => {
             let source = Cut(text);
-            let next = first_from_by(&source, tables, Reading::Wide, &query, x);
+            let next = first_from(&source, tables, Reading::Wide, &query, x);
             let first = first_before(&source, tables, Reading::Wide, &query, x);
             let last = last_from(&source, tables, Reading::Wide, &query, x);
             (next, first, last)
@@ -179,7 +178,7 @@ fn span(tables: &Tables, text: &str, query: &str, x: usize) -> Option<(usize, us
     if count(query) > 64 || !text.is_char_boundary(x) {
         return None;
     }
-    match Query::new(tables, query) {
+    match Query::new(tables, Reading::Close, query) {
         None => None,
         Some(query) => first_span(&Cut(text), tables, Reading::Close, &query, x),
     }

@@ -6,8 +6,8 @@ use Rattle.bx_grid.specs.Terminal.{Terminal, all_unknown, byte_read}
 use Rattle.bx_bytes.specs.Utf8.{are_printable}
 use Rattle.bx_bytes.specs.declared.fate.Fate.{Fate}
 use Rattle.bx_bytes.specs.declared.fate.Fate.TheVariants.{Waits, Ends, Breaks}
-use Rattle.bx_grid.specs.declared.token.Command.{Command}
-use Rattle.bx_grid.specs.declared.token.Command.TheVariants.{Move, Clear, Erase, Render, Other}
+use Rattle.bx_grid.specs.declared.command.Command.{Command}
+use Rattle.bx_grid.specs.declared.command.Command.TheVariants.{Move, Clear, Erase, Render, Other}
 
 -- indices count columns, row by row, from 0
 pub data Effect : Type 0 where

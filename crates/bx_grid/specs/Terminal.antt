@@ -5,8 +5,8 @@ use Rattle.bx_bytes.specs.Utf8.{are_printable}
 use Rattle.bx_bytes.specs.declared.fate.Fate.{Fate}
 use Rattle.bx_bytes.specs.declared.fate.Fate.TheVariants.{Waits, Ends, Breaks}
 use Rattle.bx_grid.specs.Columns.{Col, Unknown, blank, put, run_columns}
-use Rattle.bx_grid.specs.declared.token.Command.{Command}
-use Rattle.bx_grid.specs.declared.token.Command.TheVariants.{Move, Clear, Erase, Render, Other}
+use Rattle.bx_grid.specs.declared.command.Command.{Command}
+use Rattle.bx_grid.specs.declared.command.Command.TheVariants.{Move, Clear, Erase, Render, Other}
 use Rattle.bx_grid.specs.Tokens.{fate, command}
 
 pub record Terminal : Type 0 where

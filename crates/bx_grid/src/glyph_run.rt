@@ -5,10 +5,10 @@ ghost use Rattle.bx_grid.specs.Columns.{run_width};
 
 /// A run of text in one rendition, and its width in columns.
 #[derive(Clone, Copy)]
-pub(crate) struct GlyphRun<'t> {
-    pub(crate) text: &'t str,
-    pub(crate) width: u16,
+pub struct GlyphRun<'t> {
+    pub text: &'t str,
+    pub width: u16,
     /// Whether it is in reverse video.
-    pub(crate) negative: bool,
-    pub(crate) ghost measured: { width ≡ run_width text.now },
+    pub negative: bool,
+    pub ghost measured: { width ≡ run_width text.now },
 }

@@ -13,7 +13,6 @@ mod fault;
 mod filter;
 mod filter_state;
 mod in_paste;
-mod laws;
 mod output;
 mod over_reader;
 mod paste_tail;
@@ -24,11 +23,6 @@ mod wired;
 
 pub use fault::FilterFault;
 pub use filter::Filter;
-pub use laws::{
-    grows_five_times, in_any_pieces, others_pass, pastes_are_clean, pastes_become_text,
-    pastes_insert, pastes_keep_characters, rows_add_keys, rows_become, rows_have_keys,
-    waits_for_five,
-};
 pub use output::Output;
 pub use over_reader::run;
 pub use pipe::{Pipe, PipeFault};

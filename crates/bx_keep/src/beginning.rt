@@ -107,11 +107,11 @@ impl Begun {
             self.unkept = edited.shelf.unkept.take();
             return Ok(());
         };
-        // what cannot be removed stays
+        // a folder that cannot be removed is tried again at the next start
         let _ = sweep(around.rt, sessions);
         match begin(around.rt, sessions) {
             Ok(kept) => {
-                // without it other starts find the session once it is filled
+                // if this fails, other starts find the session only once it has its files
                 let _ = kept.announce(
                     around.rt,
                     edited.destination.path.as_str(),
@@ -124,15 +124,24 @@ impl Begun {
                 return Ok(());
             }
         }
-        let size = around
-            .rt
-            .metadata(edited.destination.path.as_str())
-            .map_or(0, |found| found.len());
+        self.look_for_room(around, host, edited.path(), sessions.path())
+    }
+
+    /// Has the session wait where its folder has no room for FILE's text.
+    fn look_for_room<H: Host>(
+        &mut self,
+        around: Around<'_>,
+        host: &mut H,
+        path: &str,
+        folder: &str,
+    ) -> Result<(), Stop> {
+        let alloc = around.alloc();
+        let size = around.rt.metadata(path).map_or(0, |found| found.len());
         let wanted = size.saturating_add(BESIDE_TEXT);
-        if !has_room(host, sessions.path(), wanted).unwrap_or(true) {
-            let folder = Shown(sessions.path());
+        if !has_room(host, folder, wanted).unwrap_or(true) {
+            let shown = Shown(folder);
             self.is_waiting = true;
-            let why = format!(in alloc; "{folder} has no room for it")?;
+            let why = format!(in alloc; "{shown} has no room for it")?;
             self.unkept = Some(Unkept::new(alloc, why.as_str(), Notice::NoSpace)?);
         }
         Ok(())
@@ -144,7 +153,7 @@ impl Begun {
             return;
         }
         if let Some(kept) = self.kept.take() {
-            // an empty folder is swept later
+            // an empty folder that stays is removed at a later start
             let _ = kept.session.remove(around.rt);
         }
         self.is_waiting = false;
@@ -258,7 +267,7 @@ impl Begun {
     /// Goes on with a session.
     ///
     /// Errors: as `fresh`.
-    pub fn resumed<H: Host>(
+    pub fn resume<H: Host>(
         around: Around<'_>,
         host: &mut H,
         edited: &Edited,
@@ -272,9 +281,9 @@ impl Begun {
         begun.is_resumed = true;
         begun.is_joined = begun.is_joined && !kept.session.has(around.rt, Part::Unjoined);
         let window = around.start.window;
-        // without room the host tells the program the window, which journals it like keys
+        // if the disk is full, the host still tells the program the window, and the program writes it into the journal
         let _ = kept.session.resume(around.rt, window.rows, window.cols);
-        // joined letters change no text and no place
+        // if this fails nothing is lost: whether letters are joined changes neither the text nor the cursor's place
         let _ = kept.session.put_joining(around.rt, begun.is_joined);
         begun.lost_mode = lost_mode(around, edited, &kept);
         begun.kept = Some(kept);

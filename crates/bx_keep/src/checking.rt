@@ -44,39 +44,6 @@ pub fn mended_line(
     }
 }
 
-/// The folder and the last name of an absolute path.
-fn split_path(path: &str) -> (&str, &str) {
-    match path.rsplit_once('/') {
-        Some((folder, name)) => (folder, name),
-        None => ("", path),
-    }
-}
-
-/// Where the saves of a FILE go whose folder is gone, as the system resolves its path.
-fn lost_destination<H: Host>(
-    around: Around<'_>,
-    host: &mut H,
-    file: &str,
-) -> Result<Destination, Stop> {
-    let alloc = around.alloc();
-    let facts = host.facts(file)?;
-    let path = String::from_str(alloc, facts.real_path.as_str())?;
-    let target = String::from_str(alloc, path.as_str())?;
-    let (folder, name) = split_path(target.as_str());
-    let folder_facts = host.facts(folder)?;
-    let folder = String::from_str(alloc, folder)?;
-    let name = String::from_str(alloc, name)?;
-    Ok(Destination {
-        file: String::from_str(alloc, file)?,
-        target,
-        folder,
-        name,
-        path,
-        facts,
-        folder_facts,
-    })
-}
-
 /// Whether FILE's folder is not there.
 fn has_no_folder(found: &Result<Destination, FileFault>) -> bool {
     matches!(found, Err(FileFault::NoFolder(_)))
@@ -106,11 +73,12 @@ impl Edited {
         let alloc = around.alloc();
         check_kind(around.rt, alloc, file).map_err(|fault| Stop::of_file(alloc, fault))?;
         let found = Destination::find(around.rt, host, alloc, file);
-        let destination = if has_no_folder(&found) {
-            lost_destination(around, host, file)?
+        let found = if has_no_folder(&found) {
+            Destination::find_lost(host, alloc, file)
         } else {
-            found.map_err(|fault| Stop::of_file(alloc, fault))?
+            found
         };
+        let destination = found.map_err(|fault| Stop::of_file(alloc, fault))?;
         Edited::at(around, host, destination)
     }
 

@@ -85,7 +85,7 @@ fn edit_with<R: Read + Drop, W: Write + Drop, P: Replayer>(
             } = taken;
             let file = file.as_str();
             edited = Edited::check(around, wire, file, options.is_forced)?;
-            let mut begun = Begun::resumed(around, wire, &edited, options, kept)?;
+            let mut begun = Begun::resume(around, wire, &edited, options, kept)?;
             begun.aside_of = aside_of;
             begun
         }
@@ -106,7 +106,7 @@ pub fn edit<R: Read + Drop, W: Write + Drop, P: Replayer>(
     check_terminal(around)?;
     edited.tell_unusual(around, wire)?;
     let met = meet(around, wire, &edited, replayer)?;
-    // an answer takes time
+    // FILE may have changed while the user was asked
     if met.was_asked && met.taken.is_none() {
         edited = Edited::check(around, wire, file, options.is_forced)?;
     }

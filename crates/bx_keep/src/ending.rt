@@ -137,7 +137,7 @@ impl Running<'_> {
 
     /// Removes the session.
     fn forget(&self, kept: &Kept) {
-        // what stays is removed at another start
+        // a folder that cannot be removed now is removed at a later start
         let _ = kept.session.remove(self.around.rt);
     }
 
@@ -222,7 +222,7 @@ impl Running<'_> {
             kept.session.path_of(Part::Begin),
             kept.session.path_of(Part::Cut),
         ) {
-            // without it the recovery does not tell that the session is cut, and the end does
+            // if this fails, only the end of this run tells that the journal lacks its end, and the recovery does not
             let _ = self.around.rt.hard_link(from.as_str(), to.as_str());
         }
     }
@@ -241,7 +241,7 @@ impl Running<'_> {
     }
 
     /// Replays the session, unless that takes too long, or other tables may make another text.
-    fn replayed<P: Replayer>(&self, kept: &Kept, replayer: &P) -> Option<Replay> {
+    fn replay<P: Replayer>(&self, kept: &Kept, replayer: &P) -> Option<Replay> {
         let is_long = self.signal.is_some() && self.journal_size(kept) > QUICK;
         if is_long || !self.has_same_tables() {
             return None;
@@ -253,10 +253,10 @@ impl Running<'_> {
 
     /// Leaves the session's text beside its keys, for a recovery by another version. Whether FILE has the same text.
     fn leave_text<P: Replayer>(&self, kept: &Kept, replayer: &P) -> bool {
-        let Some(replayed) = self.replayed(kept, replayer) else {
+        let Some(replayed) = self.replay(kept, replayer) else {
             return false;
         };
-        // without it another version recovers by the keys
+        // if this fails, another version of the editor recovers the text by the keys
         let _ = kept
             .session
             .put(self.around.rt, Part::Snapshot, replayed.text.as_slice());
@@ -273,10 +273,10 @@ impl Running<'_> {
     fn drop_changes<H: Host>(&self, host: &mut H, kept: &Kept) -> Result<(), Stop> {
         self.note_cut(kept);
         if let Some(sessions) = &self.edited.shelf.sessions {
-            // what stays is dropped at another end
+            // sessions that cannot be removed now are removed at a later end
             let _ = forget_dropped(self.around.rt, sessions, &kept.session);
         }
-        // without it the next start asks about the session
+        // if this fails, the next start asks about the session
         let _ = kept.session.note_that(self.around.rt, Part::Dropped);
         self.tell_kept(host, "what was dropped can be had back", "")
     }
@@ -315,7 +315,7 @@ impl Running<'_> {
     /// Gives a recovered FILE that was gone the permissions that it had.
     fn give_mode(&self) {
         if let Some(mode) = self.begun.lost_mode {
-            // what cannot be given leaves it to the user alone, at most
+            // if this fails, only the user can read and write the file
             let _ = give_mode(self.around.rt, self.edited.path(), mode);
         }
     }

@@ -158,7 +158,7 @@ pub fn keep_text(
     look: Option<Look>,
 ) -> Text {
     let read = match look {
-        // what cannot be read is opened empty
+        // a FILE that cannot be read is opened as an empty text
         Some(look) if !edited.is_closed => Some(AsRead {
             rt: around.rt,
             path: edited.path(),

@@ -30,7 +30,7 @@ pub fn give_mode(rt: &HostRuntime, path: &str, mode: u32) -> io::Result<()> {
     }
     let file = File::open(rt, path)?;
     let opened = file.metadata()?;
-    // by its path it may be another one by now
+    // another file may be at this path by now
     if opened.dev() != found.dev() || opened.ino() != found.ino() || !wants(&opened, mode) {
         return Ok(());
     }

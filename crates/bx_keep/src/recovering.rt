@@ -6,7 +6,7 @@ use crate::checking::Edited;
 use crate::free_name::is_free;
 use crate::meeting::{ask_beside_live, tell_missed};
 use crate::mode::give_mode;
-use crate::parts::{unwritten, write_new_file};
+use crate::parts::unwritten;
 use crate::replaying::{ReplayFault, Replayer};
 use crate::saying::tell;
 use crate::shelf::unwritable;
@@ -14,7 +14,7 @@ use crate::stop::Stop;
 use crate::taking::{Outcome, Taken, Taking, tell_cut, tell_unsure};
 use crate::telling::{machine_text, number_of_keys, process_text};
 use bx_cli::Shown;
-use bx_sessions::{Found, LockFault, Part, Session, Sessions, find};
+use bx_sessions::{Found, LockFault, Part, Session, Sessions, find, write_new_file};
 use bx_wire::Host;
 
 /// The exit status of a refusal that was reported before.
@@ -69,33 +69,41 @@ fn ask_of_elsewhere<H: Host>(
     ask_to_go_on(host, alloc, "Has it ended")
 }
 
-/// Picks the session to recover: an unfinished one, else one whose changes were dropped, else one of another machine that ended.
-fn pick<H: Host>(
-    around: Around<'_>,
-    host: &mut H,
-    edited: &Edited,
-    found: Found,
-) -> Result<Session, Stop> {
-    let is_elsewhere = found.unfinished.is_none() && found.dropped.is_none();
-    if !is_elsewhere {
-        ask_beside_live(around, host, edited.file(), &found)?;
-    }
+/// Whether no session was found that ended on this machine.
+fn is_none_here(found: &Found) -> bool {
+    found.unfinished.is_none() && found.dropped.is_none()
+}
+
+/// Picks a session: an unfinished one, else one whose changes were dropped, else one of another machine.
+fn pick(around: Around<'_>, edited: &Edited, found: Found) -> Result<Session, Stop> {
     let Found {
         live,
         elsewhere,
         unfinished,
         dropped,
     } = found;
-    if let Some(session) = unfinished.or(dropped) {
-        return Ok(session);
-    }
-    match elsewhere {
-        Some(session) => {
-            ask_of_elsewhere(around, host, edited.file(), &session)?;
-            Ok(session)
-        }
+    match unfinished.or(dropped).or(elsewhere) {
+        Some(session) => Ok(session),
         None => Err(no_session(around, edited, live.is_some())?),
     }
+}
+
+/// The session to recover. Asks whether one of another machine has ended.
+fn session_to_recover<H: Host>(
+    around: Around<'_>,
+    host: &mut H,
+    edited: &Edited,
+    found: Found,
+) -> Result<Session, Stop> {
+    let is_elsewhere = is_none_here(&found);
+    if !is_elsewhere {
+        ask_beside_live(around, host, edited.file(), &found)?;
+    }
+    let session = pick(around, edited, found)?;
+    if is_elsewhere {
+        ask_of_elsewhere(around, host, edited.file(), &session)?;
+    }
+    Ok(session)
 }
 
 /// Recovers FILE's session without asking which. None if FILE has all of it, or the session is left.
@@ -122,7 +130,7 @@ pub fn recover<H: Host, P: Replayer>(
     };
     for _ in 0..u64::MAX {
         let found = find_all(around, sessions, edited.path())?;
-        let session = pick(around, host, &edited, found)?;
+        let session = session_to_recover(around, host, &edited, found)?;
         match taking.take(host, session)? {
             Outcome::Taken(taken) => return Ok(Some(taken)),
             Outcome::Opened => return Ok(None),
@@ -178,23 +186,16 @@ fn text_of<H: Host, P: Replayer>(
 /// The session whose text is stored elsewhere, which is locked.
 fn session_to_store(around: Around<'_>, edited: &Edited, found: Found) -> Result<Session, Stop> {
     let alloc = around.alloc();
-    let file = Shown(edited.file());
-    let Found {
-        live,
-        elsewhere,
-        unfinished,
-        dropped,
-    } = found;
-    if let Some(session) = unfinished.or(dropped) {
-        return Ok(session);
-    }
-    if elsewhere.is_some() {
+    let is_elsewhere = is_none_here(&found);
+    let session = pick(around, edited, found)?;
+    if is_elsewhere {
+        let file = Shown(edited.file());
         let cause = format!(in alloc;
             "the session of {file} began on another machine: bidi-edit --recover {file} asks of it"
         )?;
         return Err(Stop::fault(alloc, cause.as_str()));
     }
-    Err(no_session(around, edited, live.is_some())?)
+    Ok(session)
 }
 
 /// Stores the text of FILE's session as a new file. The session stays.

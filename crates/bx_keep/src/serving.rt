@@ -159,7 +159,7 @@ fn status_of<H: Host>(rt: &HostRuntime, host: &mut H, stop: Stop) -> Option<u64>
     match stop {
         Stop::Told(status) => Some(u64::from(status)),
         Stop::Cause(cause, status) => {
-            // without memory the status tells it
+            // without memory for the line, the exit status alone tells of it
             let _ = warn(host, rt.alloc(), cause.as_str());
             Some(u64::from(status))
         }
@@ -178,7 +178,7 @@ fn tell_status<R: Read + Drop, W: Write + Drop>(
     status: u64,
 ) {
     if let Ok(status) = format!(in rt.alloc(); "{status}") {
-        // a host that is gone needs none
+        // a host that is gone needs no status
         let _ = wire.say(Said::Exit, status.as_str());
     }
 }

@@ -147,7 +147,7 @@ impl<P: Replayer> Taking<'_, P> {
         let file = Shown(self.edited.file());
         let line = format!(in alloc; "{file} holds all that was typed in its last session")?;
         tell(host, alloc, line.as_str())?;
-        // what stays is removed at another start
+        // a folder that cannot be removed now is removed at a later start
         let _ = session.remove(self.around.rt);
         Ok(Outcome::Opened)
     }
@@ -252,7 +252,7 @@ impl<P: Replayer> Taking<'_, P> {
             Ok(renewed) => renewed,
             Err(fault) => return Err(self.unwritten(kind_of(&fault))?),
         };
-        // what stays of the old one is asked about at another start
+        // if the old session cannot be removed, the next start asks about it
         let _ = kept.session.remove(around.rt);
         self.go_on(host, renewed, found)
     }

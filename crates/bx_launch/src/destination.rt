@@ -150,4 +150,27 @@ impl Destination {
             folder_facts,
         })
     }
+
+    /// Where the saves of a FILE go whose folder is gone, as the system resolves its path.
+    ///
+    /// Errors: `FolderNotUtf8`; `Host`; `OutOfMemory`.
+    pub fn find_lost(
+        host: &mut impl Host,
+        alloc: Global,
+        file: &str,
+    ) -> Result<Destination, FileFault> {
+        let facts = facts_of(host, alloc, file, file)?;
+        let path = String::from_str(alloc, facts.real_path.as_str())?;
+        let (folder, name) = split_path(path.as_str());
+        let folder_facts = facts_of(host, alloc, file, folder)?;
+        Ok(Destination {
+            file: String::from_str(alloc, file)?,
+            target: String::from_str(alloc, path.as_str())?,
+            folder: String::from_str(alloc, folder)?,
+            name: String::from_str(alloc, name)?,
+            path,
+            facts,
+            folder_facts,
+        })
+    }
 }

@@ -57,15 +57,15 @@ pub fn line_of(value: &[u8]) -> Result<Option<u64>, WordFault<'_>> {
 
 /// What the word `+..` says of the line, after the `+`, as other editors take it: nothing for the last one, a number, or a
 /// number with a column after a comma or colon, which is passed over. None for another command, which is ignored.
-pub fn line_of_plus(place: &[u8]) -> Option<Option<u64>> {
-    if place.is_empty() {
+pub fn line_of_plus(words: &[u8]) -> Option<Option<u64>> {
+    if words.is_empty() {
         return Some(Some(LAST_LINE));
     }
-    let end = place
+    let end = words
         .iter()
         .position(|b| *b == b',' || *b == b':')
-        .unwrap_or(place.len());
-    line_of_digits(&place[..end]).map(line_option)
+        .unwrap_or(words.len());
+    line_of_digits(&words[..end]).map(line_option)
 }
 
 /// The direction that the value of `--direction` names.

@@ -53,8 +53,8 @@ enum Setting<'a> {
     Unjoined,
     Recover,
     Forget,
-    /// A place, after its `+`.
-    Place(&'a [u8]),
+    /// A line, after its `+`.
+    Plus(&'a [u8]),
     /// An option of other editors: no new window, wait for the end.
     Ignored,
     /// No option that there is.
@@ -91,7 +91,7 @@ fn word_of(word: &[u8]) -> Word<'_> {
         b"-f" | b"-w" | b"-nw" | b"--nofork" | b"--wait" => Word::Option(Setting::Ignored),
         b"--" => Word::End,
         [b'-', _, ..] => Word::Option(setting_of(word)),
-        [b'+', place @ ..] => Word::Option(Setting::Place(place)),
+        [b'+', line @ ..] => Word::Option(Setting::Plus(line)),
         _ => Word::Name,
     }
 }
@@ -140,8 +140,8 @@ impl<'a> Before<'a> {
             Setting::Unjoined => self.options.is_unjoined = true,
             Setting::Recover => self.is_recovery = true,
             Setting::Forget => self.is_forgetting = true,
-            Setting::Place(place) => {
-                if let Some(line) = line_of_plus(place) {
+            Setting::Plus(line) => {
+                if let Some(line) = line_of_plus(line) {
                     self.options.line = line;
                 }
             }

@@ -233,25 +233,6 @@ fn write_tail(
 }
 
 /// Sends the changes of a row, before its tail and in it.
-fn write_changed_row(
-    out: &mut Output,
-    row: u16,
-    negative: bool,
-    old: &BorrowedRow<'_>,
-    new: &BorrowedRow<'_>,
-) -> Result<bool, AllocError>
-    requires small { (row < 65535) × (length new.now < 65535) }
-    requires same { length old.now ≡ length new.now }
-    ensures bytes { OnOk result (out.new.painting ≡ out.old.painting ++ (row_sent row negative old.now new.now).bytes) }
-    ensures before { out.new.before ≡ out.old.before }
-    ensures rendition { IfOk result (λ after. after ≡ (row_sent row negative old.now new.now).negative) }
-{
-    let front = front_len(new.columns());
-    let negative = write_columns(out, row, negative, &old.front(front), &new.front(front))?;
-    write_tail(out, row, front as u16, negative, old.rest(front).columns())
-}
-
-/// Sends the changes of a row, if it has any.
 fn write_row(
     out: &mut Output,
     row: u16,
@@ -268,7 +249,9 @@ fn write_row(
     if old.is_same(new) {
         return Ok(negative);
     }
-    write_changed_row(out, row, negative, old, new)
+    let front = front_len(new.columns());
+    let negative = write_columns(out, row, negative, &old.front(front), &new.front(front))?;
+    write_tail(out, row, front as u16, negative, old.rest(front).columns())
 }
 
 /// Sends the changes of all rows between two grids of one size.

@@ -1,11 +1,10 @@
 -- Edits cut off by strong characters: the levels of all characters outside these stay.
-use Rattle.std.specs.Prelude.{◌≡◌, ◌⊎◌, ◌<◌, ◌+◌, ◌&&◌, ℕ, Bool, true, not, List, ◌++◌, Option, chars, drop, length, slice_index_or, take}
+use Rattle.std.specs.Prelude.{◌≡◌, ◌⊎◌, ◌<◌, ◌+◌, ◌&&◌, ℕ, Bool, true, not, List, ◌++◌, chars, drop, length, slice_index_or, take}
 use Rattle.std.specs.List.{list_all}
 use Rattle.std.specs.Str.{IsUtf8}
 use Rattle.bx_ucd.specs.Data.{Data}
 use Rattle.bx_ucd.specs.declared.class.Class.{Class}
 use Rattle.bx_ucd.specs.declared.class.Class.TheVariants.{L}
-use Rattle.bx_ucd.specs.declared.data.Side.{Side}
 use Rattle.bx_ucd.specs.Class.{is_strong}
 use Rattle.bx_terms.specs.declared.base.Base.{Base}
 use Rattle.bx_resolve.specs.declared.paragraph.Levels.{Levels}

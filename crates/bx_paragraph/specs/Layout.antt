@@ -1,8 +1,7 @@
 -- The model of a paragraph's layout, and its rows.
-use Rattle.std.specs.Prelude.{◌≡◌, ℕ, Bool, true, List, Option, chars}
+use Rattle.std.specs.Prelude.{◌≡◌, ℕ, Bool, true, List, Option, IsUtf8, chars}
 use Rattle.bx_ucd.specs.Data.{Data}
-use Rattle.bx_ucd.specs.declared.class.Class.{Class}
-use Rattle.bx_ucd.specs.declared.data.Side.{Side}
+use Rattle.bx_terms.specs.Sizes.{is_side}
 use Rattle.bx_terms.specs.declared.base.Base.{Base}
 use Rattle.bx_resolve.specs.Edited.{HasNoFormatting}
 use Rattle.bx_resolve.specs.Levels.{paragraph_level_under, levels_under}
@@ -27,6 +26,11 @@ pub record IsLayoutBy (says : Data) (l : LayoutState) : Type 0 where
   pub each : l.each ≡ levels_under says l.base (chars l.body)
   pub starts : l.starts ≡ row_starts says l.w l.body
   pub unformatted : l.is_unformatted ≡ true → HasNoFormatting says (chars l.body)
+
+-- what holds of every layout: its width is within its limits, and its body is UTF-8
+pub record IsSound (l : LayoutState) : Type 0 where
+  pub side : is_side l.w ≡ true
+  pub utf8 : IsUtf8 l.body
 
 -- the rows of the layout's body
 abbrev pub rows_by : Data → LayoutState → List BodyRow

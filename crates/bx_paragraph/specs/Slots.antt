@@ -1,5 +1,5 @@
 -- The slots of a row of a body: its places from left to right, each with its columns.
-use Rattle.std.specs.Prelude.{◌≡◌, ℕ, zero, suc, ◌+◌, ◌-◌, ◌%◌, ◌==◌, ◌&&◌, nat_le, nat_lt, min, max, true, false}
+use Rattle.std.specs.Prelude.{ℕ, zero, suc, ◌+◌, ◌-◌, ◌%◌, ◌==◌, ◌&&◌, nat_le, nat_lt, min, max, true, false}
 use Rattle.std.specs.Prelude.{Bool, List, [], ◌∷◌, ◌++◌, map, length, reverse, find, slice_index_or, Option, Some, None, option_map, unwrap_or}
 use Rattle.std.specs.List.{zip}
 use Rattle.bx_cells.specs.declared.unit.Unit.{Unit}

@@ -2,7 +2,7 @@
 ghost use Rattle.std.specs.Prelude.{◌≡◌, ◌≤◌, ◌<◌, ◌+◌, ◌^◌, ◌++◌, All, IfSome, OnOk, drop, length, map, take, true};
 ghost use Rattle.std.specs.Str.{IsCharBoundary};
 ghost use Rattle.bx_terms.specs.Sizes.{is_side};
-ghost use Rattle.bx_rows.specs.Laws.{behind};
+ghost use Rattle.bx_rows.specs.LaterRows.{behind};
 ghost use Rattle.bx_rows.specs.RowStarts.{row_starts};
 ghost use Rattle.bx_paragraph.specs.BodyEdits.{IsEdit, changed};
 ghost use Rattle.bx_paragraph.specs.RowEdits.{DoMeetNear, HasRoom};

@@ -1,9 +1,9 @@
 //! The layout of one paragraph.
-ghost use Rattle.std.specs.Prelude.{◌≡◌, ◌≤◌, ◌<◌, true, IfOk, OnErr, OnOk, count_by, length, nat_le, map, slice_index_or, string_bytes};
+ghost use Rattle.std.specs.Prelude.{◌≡◌, ◌≤◌, ◌<◌, ◌^◌, true, IfOk, OnErr, OnOk, count_by, length, nat_le, map, slice_index_or, string_bytes};
 ghost use Rattle.std.specs.List.Sorted.{IsNonDecreasingBy};
 ghost use Rattle.bx_terms.specs.Sizes.{is_side};
 ghost use Rattle.bx_paragraph.specs.BodyRows.{first_of, row_at, row_of};
-ghost use Rattle.bx_paragraph.specs.Layout.{IsLayoutBy, OfRows};
+ghost use Rattle.bx_paragraph.specs.Layout.{IsLayoutBy, IsSound, OfRows};
 ghost use Rattle.bx_paragraph.specs.Lent.{IsLent};
 
 use bx_resolve::{Levels, levels};
@@ -132,6 +132,8 @@ impl ParagraphLayout {
         ensures starts { result ≡ length self.now.starts }
         ensures some { 0 < result }
         ensures rows { OfRows self.now (λ rows. result ≡ length rows) }
+        ensures sound { IsSound self.now }
+        ensures short { length self.now.body < 2 ^ 64 }
     {
         self.starts.len()
     }
@@ -141,6 +143,8 @@ impl ParagraphLayout {
     pub fn row_of(&self, offset: usize) -> usize
         ensures within { result < length self.now.starts }
         ensures row { OfRows self.now (λ rows. result ≡ row_of rows offset) }
+        ensures sound { IsSound self.now }
+        ensures short { length self.now.body < 2 ^ 64 }
     {
         starts_up_to(&self.starts, offset).saturating_sub(1)
     }

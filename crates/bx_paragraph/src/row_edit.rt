@@ -1,6 +1,6 @@
 //! Rows before an edit that stay, and rows after it that meet the old ones.
 ghost use Rattle.std.specs.Prelude.{◌≡◌, ◌≤◌, ◌<◌, ◌+◌, ◌++◌, All, IfSome, OnOk, length, map, true};
-ghost use Rattle.bx_rows.specs.Laws.{behind, moved};
+ghost use Rattle.bx_rows.specs.LaterRows.{behind, moved};
 ghost use Rattle.bx_paragraph.specs.RowEdits.{DoMeet, HasRoom, IsSamePlace, IsWellBefore};
 
 use bx_rows::RowStart;

@@ -31,11 +31,10 @@ impl<'a, 't, D: BidiData> LentRow<'a, 't, D> {
         ensures column { IfOk result (λ s. s.column ≡ column_of self.now.paragraph.now.w (row self.now) offset) }
         ensures units { IfOk result (λ s. s.units_before ≡ count_by (λ u. nat_lt u.start offset) (row self.now).units) }
     {
-        let parts = self.parts()?;
-        let slots = self.slots_of(&parts)?;
+        let (row, slots) = self.laid_slots()?;
         Ok(Standing {
             column: column_in(&slots, offset),
-            units_before: count_before(&parts.units, offset),
+            units_before: count_before(&row.units, offset),
         })
     }
 }

@@ -30,6 +30,7 @@ fn push_rows<D: BidiData>(
             paragraph: layout,
             tables,
             number: row,
+            start: 0,
         };
         let picture = lent.picture()?;
         page.extend_from_slice(b"\n")?;

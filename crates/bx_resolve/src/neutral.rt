@@ -2,7 +2,7 @@
 ghost use Rattle.std.specs.Prelude.{◌≡◌, ◌≤◌, ◌+◌, ◌||◌, All, IfOk, Some};
 ghost use Rattle.bx_explicit.specs.Stack.{max_depth};
 ghost use Rattle.bx_resolve.specs.Levels.{max_level};
-ghost use Rattle.bx_resolve.specs.Neutral.{side_of, side, agreed, n1, n2, n2_at, rise_even, rise_odd, implicit_at, implicit};
+ghost use Rattle.bx_resolve.specs.Neutral.{side_of, side, agreed, n1, n2, all_taken, taken, rise_even, rise_odd, implicit_at, implicit};
 ghost use Rattle.bx_resolve.specs.Weak.{is_an, is_en};
 
 use crate::paragraph::Level;
@@ -43,29 +43,6 @@ fn agreed(t: Class, before: Class, after: Class) -> Class
     }
 }
 
-/// N1: neutrals between two equal directions take that direction.
-#[tactic(auto, using(crate::proofs::Run::run_write, crate::proofs::Run::run_keep, crate::proofs::Run::n1_run, crate::proofs::Run::side_more))]
-pub fn n1(types: &mut [Class], sos: Class, eos: Class)
-    ensures { types.new ≡ n1 sos eos types.old }
-{
-    let mut before = sos;
-    let mut known: Option<Class> = None;
-    for i in 0..types.len() {
-        let t = types[i];
-        if is_neutral(t) {
-            let after = match known {
-                Some(after) => after,
-                None => side(eos, &types[i + 1..]),
-            };
-            known = Some(after);
-            types[i] = agreed(t, before, after);
-        } else {
-            before = side_of(t);
-            known = None;
-        }
-    }
-}
-
 /// N2: the remaining neutrals take the embedding direction.
 pub fn n2(types: &mut [Class], embedding: Class)
     ensures { types.new ≡ n2 embedding types.old }
@@ -77,22 +54,29 @@ pub fn n2(types: &mut [Class], embedding: Class)
     }
 }
 
-/// The type of a neutral between two directions, by N1 and N2.
-fn neutral_at(t: Class, before: Class, after: Class, embedding: Class) -> Class
-    ensures { result ≡ n2_at embedding (agreed t before after) }
+/// The type of a neutral between two directions by N1, and by N2 where `embedding` is given.
+#[inline(always)]
+fn neutral_at(t: Class, before: Class, after: Class, embedding: Option<Class>) -> Class
+    ensures { result ≡ taken embedding (agreed t before after) }
 {
     let agreed = agreed(t, before, after);
-    if is_neutral(agreed) {
-        embedding
-    } else {
-        agreed
+    match embedding {
+        Some(embedding) => {
+            if is_neutral(agreed) {
+                embedding
+            } else {
+                agreed
+            }
+        }
+        None => agreed,
     }
 }
 
-/// N1 and N2 in one pass.
+/// N1, and N2 in the same pass where `embedding` is given. Inlined, so that each caller's pass tests no `Option`.
+#[inline(always)]
 #[tactic(auto, using(crate::proofs::Run::run_write, crate::proofs::Run::run_keep, crate::proofs::Fused::neutral_run, crate::proofs::Run::side_more, crate::proofs::Fused::keeps_other))]
-pub fn n1_n2(types: &mut [Class], sos: Class, eos: Class, embedding: Class)
-    ensures { types.new ≡ n2 embedding (n1 sos eos types.old) }
+fn resolve_neutrals(types: &mut [Class], sos: Class, eos: Class, embedding: Option<Class>)
+    ensures { types.new ≡ all_taken embedding (n1 sos eos types.old) }
 {
     let mut before = sos;
     let mut known: Option<Class> = None;
@@ -110,6 +94,20 @@ pub fn n1_n2(types: &mut [Class], sos: Class, eos: Class, embedding: Class)
             known = None;
         }
     }
+}
+
+/// N1: neutrals between two equal directions take that direction.
+pub fn n1(types: &mut [Class], sos: Class, eos: Class)
+    ensures { types.new ≡ n1 sos eos types.old }
+{
+    resolve_neutrals(types, sos, eos, None);
+}
+
+/// N1 and N2 in one pass.
+pub fn n1_n2(types: &mut [Class], sos: Class, eos: Class, embedding: Class)
+    ensures { types.new ≡ n2 embedding (n1 sos eos types.old) }
+{
+    resolve_neutrals(types, sos, eos, Some(embedding));
 }
 
 /// Whether a type is EN or AN.

@@ -8,7 +8,7 @@ ghost use Rattle.bx_resolve.specs.Weak.{is_nsm, weak};
 ghost use Rattle.bx_resolve.specs.Neutral.{n1, n2};
 
 use crate::neutral::n1_n2;
-use crate::weak::weak_in_one_pass;
+use crate::one_pass::weak_in_one_pass;
 use bx_brackets::PairSearch;
 use bx_ucd::Class;
 use bx_ucd::class::direction;

@@ -1,12 +1,12 @@
 //! A body's rows, read by their numbers.
-ghost use Rattle.std.specs.Prelude.{◌≡◌, ⊤, IsUtf8, chars};
+ghost use Rattle.std.specs.Prelude.{◌≡◌, ◌<◌, ⊤, IsUtf8, chars, length, slice_index_or};
 ghost use Rattle.bx_resolve.specs.Levels.{levels_under, paragraph_level_under};
+ghost use Rattle.bx_rows.specs.declared.start_search.RowStart.{RowStart};
 ghost use Rattle.bx_rows.specs.RowStarts.{row_starts};
 ghost use Rattle.std.proofs.Props.{props};
 
-use crate::row_at::RowAt;
 use crate::start_search::RowStart;
-use bx_joining::LeveledBody;
+use bx_joining::{LeveledBody, TextAt};
 use bx_resolve::Levels;
 use bx_terms::Base;
 use bx_ucd::BidiData;
@@ -40,18 +40,28 @@ impl<'a, 't, D: BidiData> Clone for Lines<'a, 't, D> {
 }
 
 impl<'a, 't, D: BidiData> Lines<'a, 't, D> {
-    /// A row in the body, by its start.
-    pub(crate) fn row_at(&self, start: RowStart) -> RowAt<'a, 'a>
-        ensures start { result.start ≡ start }
+    /// The start of row `number`, from 0.
+    pub(crate) fn start(&self, number: usize) -> RowStart
+        requires { number < length self.now.starts.now }
+        ensures { (d : RowStart) → result ≡ slice_index_or self.now.starts.now number d }
+    {
+        self.starts[number]
+    }
+
+    /// The place of a row's start.
+    pub(crate) fn place(&self, start: RowStart) -> TextAt<'a, 'a>
+        ensures offset { result.offset ≡ start.offset }
+        ensures number { result.number ≡ start.chars }
         ensures text { result.body.text.now ≡ self.now.body.now }
         ensures each { result.body.each.now ≡ self.now.levels.now.each.items }
     {
-        RowAt {
+        TextAt {
             body: LeveledBody {
                 text: self.body,
                 each: self.levels.each.as_slice(),
             },
-            start,
+            offset: start.offset,
+            number: start.chars,
         }
     }
 }

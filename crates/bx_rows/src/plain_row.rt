@@ -27,13 +27,6 @@ use std::borrow::CowStr;
 /// The number of units to allocate room for at first.
 const FIRST_ROOM: usize = 256;
 
-/// The glyphs of a row's units in text order, not mirrored yet, and the units' levels.
-#[derive(Drop)]
-pub(crate) struct PlainRow<'a> {
-    pub(crate) glyphs: Vec<Drawn<'a>>,
-    pub(crate) levels: Vec<u8>,
-}
-
 /// Whether a character of a kind is a unit of one column with its own text, provided that a unit begins after it.
 #[inline(always)]
 fn is_single<D: BidiData>(c: char, kind: Simple, tables: &D, w: u16) -> bool
@@ -115,21 +108,21 @@ fn first_part(text: &str) -> Option<(char, &str, &str)>
 }
 
 impl<'a, 't, D: BidiData> Lines<'a, 't, D> {
-    /// The first `count` units, or all, from a row's start on, with their levels by L1; none if a unit is not a single
-    /// character of one column, or its character has no level.
+    /// The glyphs, not mirrored yet, and the levels by L1 of the first `count` units, or all, from a row's start on; none if a
+    /// unit is not a single character of one column, or its character has no level.
     pub(crate) fn plain_row(
         &self,
         alloc: Global,
         start: RowStart,
         count: usize,
-    ) -> Result<Option<PlainRow<'a>>, AllocError>
+    ) -> Result<Option<(Vec<Drawn<'a>>, Vec<u8>)>, AllocError>
         requires { IsCharBoundary self.now.body.now start.offset }
-        ensures units { IfOk result (λ o. IfSome o (λ r. AreSingle (D.data self.now.tables.now) self.now.w self.now.body.now start.offset count r.glyphs.items)) }
-        ensures count { IfOk result (λ o. IfSome o (λ r. length r.levels.items ≡ length r.glyphs.items)) }
+        ensures units { IfOk result (λ o. IfSome o (λ r. AreSingle (D.data self.now.tables.now) self.now.w self.now.body.now start.offset count r.0.items)) }
+        ensures count { IfOk result (λ o. IfSome o (λ r. length r.1.items ≡ length r.0.items)) }
         ensures levels { IfOk result (λ o. IfSome o (λ r. (us : List Unit)
             → us ≡ take count (units_from (D.data self.now.tables.now) self.now.w self.now.body.now start.offset)
             → (0 < length us → start.chars ≡ chars_before self.now.body.now us)
-            → r.levels.items ≡ levels_of self.now us)) }
+            → r.1.items ≡ levels_of self.now us)) }
     {
         let levels = self.levels;
         let each = levels.each.as_slice();
@@ -162,9 +155,6 @@ impl<'a, 't, D: BidiData> Lines<'a, 't, D> {
             return Ok(None);
         }
         settle(&mut found, waiting, levels.paragraph);
-        Ok(Some(PlainRow {
-            glyphs,
-            levels: found,
-        }))
+        Ok(Some((glyphs, found)))
     }
 }

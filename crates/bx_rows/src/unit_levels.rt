@@ -17,7 +17,7 @@ pub fn char_count(text: &str) -> usize
 }
 
 /// The levels of a row's units. `chars`: the number of the body's characters before them. Reads nothing before the row.
-pub(crate) fn each_level<D: BidiData>(
+pub fn each_level<D: BidiData>(
     alloc: Global,
     body: &str,
     units: &[Unit],

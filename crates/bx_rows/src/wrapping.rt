@@ -8,7 +8,7 @@ use bx_ucd::{BidiData, Class};
 
 /// The columns of a face that begins at column `c`, counted from 0.
 #[inline]
-pub(crate) fn columns_at(w: u16, c: u16, face: Face) -> u16
+pub fn columns_at(w: u16, c: u16, face: Face) -> u16
     requires { c ≤ w }
     ensures { result ≡ columns_at w c face }
 {
@@ -28,7 +28,7 @@ pub(crate) fn is_blank(class: Class) -> bool
 }
 
 /// Whether a row may end after a unit.
-pub(crate) fn is_break<D: BidiData>(body: &str, unit: Unit, tables: &D) -> bool
+pub fn is_break<D: BidiData>(body: &str, unit: Unit, tables: &D) -> bool
     requires { StandsIn body.now unit }
     ensures { result ≡ is_break (D.data tables.now) body.now unit }
 {

@@ -5,12 +5,12 @@ use Rattle.bx_paint.proofs.Few.{same_changes}
 use Rattle.bx_keys.specs.Keys.{rest_after}
 use Rattle.bx_keys.specs.Waiting.{head_of}
 use Rattle.bx_ucd.specs.Data.{Data}
-use Rattle.bx_editor.specs.Laws.{HasRows}
 use Rattle.bx_editor.specs.Picture.{picture, next_top}
 use Rattle.bx_editor.proofs.TopOnce.{top-stays}
 use Rattle.bx_session.specs.Session.{Session, painting, with_picture, with_painting, after_spending, after_sending, before_painting, is_idle, unpainted_after_byte}
 use Rattle.bx_session.specs.Session.{unpainted_after_told}
 use Rattle.bx_session.specs.Anew.{StaysPainted, AlwaysStaysPainted}
+use Rattle.bx_editor.specs.Editor.{HasRows}
 
 -- a second painting changes nothing
 twice : (d : Data) (s : Session) → HasRows s.editor → with_painting d (with_painting d s) ≡ with_painting d s

@@ -2,7 +2,6 @@
 use Rattle.std.specs.Prelude.{◌≡◌, ℕ, false, List, ◌++◌, Option, Some, None, IfSome}
 use Rattle.bx_grid.specs.Picture.{PictureState, AreWholeTokens, IsIdle, IsPicture, Shows}
 use Rattle.bx_grid.specs.Terminal.{Terminal, reads}
-use Rattle.bx_grid.specs.Screens.{IfShown}
 use Rattle.bx_ucd.specs.Data.{Data}
 use Rattle.bx_editor.specs.Editor.{Editor}
 use Rattle.bx_editor.specs.Picture.{StandsOnItsCell, picture}
@@ -44,8 +43,3 @@ ToldPaints d old new = QueuesPicture d old.pending None new
 -- the picture, if there is one, has the editor's size
 abbrev pub FitsEditor : Option PictureState → Editor → Type 0
 FitsEditor painted e = IfSome painted (λ p. (p.height ≡ e.height) × (p.width ≡ e.width))
-
--- a terminal that has not failed shows the picture; never so if there is none
-abbrev pub IsShownOn : Option PictureState → Option Terminal → Type 0
-IsShownOn None screen = ⊥
-IsShownOn (Some p) screen = IfShown screen p

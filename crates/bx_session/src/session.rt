@@ -1,13 +1,12 @@
 //! The session's state.
 
-ghost use Rattle.std.specs.Prelude.{◌≡◌, ◌≤◌, ◌↔◌, IsTrue, length};
-ghost use Rattle.bx_session.specs.Painting.{IsShownOn};
+ghost use Rattle.std.specs.Prelude.{◌≡◌, ◌≤◌, MatchOption, None, Some, length};
 ghost use Rattle.bx_session.specs.Session.{after_sending, key_of_byte, status_of};
 
 use crate::status::Status;
 use bx_asking::Ask;
 use bx_editor::{Aim, Editor, Seek};
-use bx_grid::{Grid, Picture, Screen};
+use bx_grid::{Grid, Picture};
 use bx_keys::{Decoder, Key};
 use bx_ucd::BidiData;
 use std::marker::Model;
@@ -173,13 +172,13 @@ impl<D: BidiData + Drop> Session<D> {
         decoder.feed(byte)
     }
 
-    /// Whether a terminal shows the picture last painted. Allocates nothing.
-    pub fn is_shown_on(&self, screen: &Screen) -> bool
-        ensures { IsTrue result ↔ IsShownOn self.now.session.painted screen.now }
+    /// The picture last painted; none before the first. Allocates nothing.
+    pub fn painted(&self) -> Option<&Picture>
+        ensures { MatchOption result (self.now.session.painted ≡ None) (λ p. self.now.session.painted ≡ Some p.now) }
     {
         match &self.painted {
-            Some(picture) => screen.shows(picture),
-            None => false,
+            Some(picture) => Some(picture),
+            None => None,
         }
     }
 }

@@ -73,7 +73,7 @@ impl Found {
             State::Dropped => self.dropped = Some(session),
             State::Unfinished => self.unfinished = Some(session),
             State::Empty => {
-                // one that another start holds by now stays
+                // a session that another start has locked by now stays
                 let _ = session.drop_unless_locked(rt);
             }
         }

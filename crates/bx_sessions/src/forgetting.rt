@@ -43,7 +43,7 @@ pub fn sweep(rt: &HostRuntime, sessions: &Sessions) -> io::Result<()> {
             continue;
         }
         if is_old(rt, &folder).unwrap_or(false) {
-            // what cannot be removed now is tried again
+            // a folder that cannot be removed now is tried again at the next start
             let _ = folder.remove(rt);
         }
     }
@@ -56,7 +56,7 @@ pub fn sweep(rt: &HostRuntime, sessions: &Sessions) -> io::Result<()> {
 pub fn forget_dropped(rt: &HostRuntime, sessions: &Sessions, except: &Session) -> io::Result<()> {
     for session in sessions.all(rt)? {
         if session.path() != except.path() && session.has(rt, Part::Dropped) {
-            // one that another start holds by now stays
+            // a session that another start has locked by now stays
             let _ = session.drop_unless_locked(rt);
         }
     }

@@ -41,7 +41,7 @@ impl Session {
         if target.is_at(rt, path.as_str()) {
             return true;
         }
-        // its first name may be gone
+        // the name by which the session began may be gone
         match (&target.id, self.file_id(rt)) {
             (Some(id), Ok(Some(opened))) => id.is_surely_same(&opened),
             _ => false,

@@ -256,7 +256,7 @@ impl Kept {
     /// Removes the files that filling the session makes, so that it can be filled again.
     pub fn unfill(&self, rt: &HostRuntime) {
         for part in FILLED {
-            // one that stays is a fault of the next try
+            // if a file stays, the next try fails, since the file is there
             let _ = self.session.erase(rt, part);
         }
     }

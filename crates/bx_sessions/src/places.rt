@@ -78,7 +78,7 @@ fn stay_in(rt: &HostRuntime, path: &str, folder: &str) -> Result<Option<Stay>, A
         Err(error) if error.kind() == ErrorKind::OutOfMemory => return Err(AllocError),
         Err(_) => return Ok(None),
     };
-    // a variable that names the root says nothing of what is below
+    // a variable that names the root does not make all folders temporary
     if real.as_str() != "/" && is_in(path, real.as_str()) {
         Ok(Some(Stay::Temporary(real)))
     } else {

@@ -40,6 +40,20 @@ pub fn create(rt: &HostRuntime, path: &str) -> io::Result<File> {
         .open(rt, path)
 }
 
+/// Makes a new file for the user alone, with these bytes, and syncs it. One that cannot be written whole is removed.
+pub fn write_new_file(rt: &HostRuntime, path: &str, bytes: &[u8]) -> io::Result<()> {
+    let mut file = create(rt, path)?;
+    let written = match file.write_all(bytes) {
+        Ok(()) => file.sync_all(),
+        failed => failed,
+    };
+    if written.is_err() {
+        // the first fault is the one to report
+        let _ = rt.remove_file(path);
+    }
+    written
+}
+
 /// Syncs a folder, so that the names in it survive a crash of the machine.
 pub fn sync_folder(rt: &HostRuntime, path: &str) -> io::Result<()> {
     File::open(rt, path)?.sync_all()
@@ -152,16 +166,7 @@ impl Session {
         if !self.is_there(rt) {
             return Err(ErrorKind::NotFound.into());
         }
-        let mut file = create(rt, path)?;
-        let written = match file.write_all(bytes) {
-            Ok(()) => file.sync_all(),
-            failed => failed,
-        };
-        if written.is_err() {
-            // the first fault is the one to report
-            let _ = rt.remove_file(path);
-        }
-        written
+        write_new_file(rt, path, bytes)
     }
 
     /// Writes a file in the folder, in place of the one that is there, if any. At every moment the file has its old bytes or

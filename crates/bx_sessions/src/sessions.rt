@@ -136,7 +136,7 @@ impl Sessions {
         for entry in fs::read_dir(rt, self.path())? {
             match entry {
                 Ok(entry) => names.push(String::from_str(rt.alloc(), entry.file_name())?)?,
-                // no name of a session
+                // a name that is not UTF-8 is no session's
                 Err(error) if error.kind() == ErrorKind::InvalidFilename => {}
                 Err(error) => return Err(error),
             }

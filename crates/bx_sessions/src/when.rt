@@ -26,7 +26,7 @@ pub struct LocalTime(DateTime);
 fn read_named(rt: &HostRuntime, name: &str, zones: &mut TimeZoneDatabase) -> io::Result<()> {
     let path = format!(in rt.alloc(); "{ZONES}/{name}")?;
     let bytes = fs::read(rt, path.as_str())?;
-    // a zone that cannot be read leaves UTC
+    // if the zone cannot be read, times are in UTC
     let _ = zones.insert(name, bytes.as_slice());
     Ok(())
 }
@@ -50,7 +50,7 @@ impl LocalClock {
             ..
         } = &system
         {
-            // without the zone's file times are UTC
+            // if the zone's file cannot be read, times are in UTC
             let _ = read_named(rt, name.as_str(), &mut named);
         }
         LocalClock { system, named }

@@ -1,7 +1,8 @@
 -- A paragraph of a text by its number, and the numbers of its rows in the text.
-use Rattle.std.specs.Prelude.{◌≡◌, ℕ, ◌+◌, ◌<◌, List, [], length, take, slice_index_or}
+use Rattle.std.specs.Prelude.{◌≡◌, ℕ, ◌+◌, ◌<◌, ◌≤◌, List, [], length, take, slice_index_or, slice_range}
 use Rattle.bx_ucd.specs.Data.{Data}
 use Rattle.bx_terms.specs.declared.base.Base.{Base}
+use Rattle.bx_text.specs.Edits.{IsRange}
 use Rattle.bx_index.specs.Paragraphs.{Paragraph, bare, lengths, paragraphs}
 use Rattle.bx_index.specs.Positions.{total}
 use Rattle.bx_paragraph.specs.BodyRows.{BodyRow, body_rows}
@@ -22,6 +23,15 @@ body_at says text number = (paragraph_at says text number).body
 -- the offset at which its body begins
 abbrev pub start_at : Data → List ℕ → ℕ → ℕ
 start_at says text number = total (take number (lengths says text))
+
+-- its body is the text's bytes from `a` to `b`
+pub record IsSpan (says : Data) (text : List ℕ) (number a b : ℕ) : Type 0 where
+  pub there : number < count says text
+  pub start : a ≡ start_at says text number
+  pub body : slice_range text a b ≡ body_at says text number
+  pub range : IsRange text a b
+  pub order : a ≤ b
+  pub within : b ≤ length text
 
 -- its rows
 abbrev pub rows_in : Data → Base → ℕ → List ℕ → ℕ → List BodyRow

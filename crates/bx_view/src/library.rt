@@ -1,25 +1,27 @@
 //! The rows of a text by their numbers, the slots of a row, and the top. The editor does not run these,
 //! it goes from row to row by `RowAt`, and asks `locate` once for each picture. With them the crate serves by itself as a
 //! library.
-ghost use Rattle.std.specs.Prelude.{◌≡◌, ℕ, ◌+◌, ◌<◌, ◌≤◌, true, All, IfOk, IsUtf8, length, map, option_map, slice_get, slice_range};
+ghost use Rattle.std.specs.Prelude.{◌≡◌, ℕ, ◌+◌, ◌^◌, ◌<◌, ◌≤◌, true, All, IfOk, IsUtf8, length, map, option_map, slice_get, slice_range};
 ghost use Rattle.std.specs.Str.{IsCharBoundary};
 ghost use Rattle.bx_terms.specs.Sizes.{is_side};
+ghost use Rattle.bx_terms.specs.declared.base.Base.{Base};
 ghost use Rattle.bx_text.specs.Edits.{IsRange, largest_text};
 ghost use Rattle.bx_index.specs.Paragraphs.{lengths};
 ghost use Rattle.bx_rows.specs.RowStarts.{row_starts};
+ghost use Rattle.bx_view.specs.Places.{IsTextPlace};
 ghost use Rattle.bx_view.specs.Source.{IsViewBy, Keeps, body_at, bytes, count, rows, start_at};
 ghost use Rattle.bx_view.specs.Standing.{rows_ahead};
 ghost use Rattle.bx_view.specs.TextRows.{first, row_at, row_of, slots};
 ghost use Rattle.bx_view.specs.Top.{follow};
 
 use crate::error::ViewError;
-use crate::layout::Layout;
 use crate::source::Source;
 use crate::span::current_span;
+use crate::view::View;
 use bx_index::ParagraphWalk;
 use bx_paragraph::Slot;
 use bx_rows::{RowStart, row_starts};
-use bx_terms::{Base, OutOfMemory};
+use bx_terms::OutOfMemory;
 use bx_ucd::BidiData;
 use std::alloc::{AllocError, Global};
 
@@ -34,8 +36,8 @@ fn starts_in<D: BidiData>(
     requires number { walk.now.number < count source.now }
     ensures { IfOk result (λ v. v.items ≡ row_starts (D.data source.now.tables.now) w (body_at source.now walk.now.number)) }
 {
-    let (start, stop) = current_span(source, walk);
-    let Ok(body) = source.text.copy_range(start, stop) else {
+    let span = current_span(source, walk);
+    let Ok(body) = source.text.copy_range(span.start, span.stop) else {
         return Err(OutOfMemory);
     };
     let starts = row_starts(alloc, body.as_str(), source.tables, w)?;
@@ -46,17 +48,13 @@ fn starts_in<D: BidiData>(
 fn rows_before<D: BidiData>(
     alloc: Global,
     source: &Source<'_, D>,
-    base: Base,
     w: u16,
     number: usize,
 ) -> Result<usize, ViewError>
     requires side { is_side w ≡ true }
     requires number { number ≤ count source.now }
-    ensures { IfOk result (λ n. n ≡ rows_ahead (D.data source.now.tables.now) base w (bytes source.now) number) }
+    ensures { IfOk result (λ n. (base : Base) → n ≡ rows_ahead (D.data source.now.tables.now) base w (bytes source.now) number) }
 {
-    // proof only: there is a paragraph; the base occurs in the contract alone
-    let _some = source.index.count();
-    let _ = base;
     let mut walk = source.index.walk_at(0, 0);
     let mut ahead = 0;
     let mut done = 0;
@@ -71,7 +69,7 @@ fn rows_before<D: BidiData>(
 
 /// The slots' offsets in the text. Their body begins at the offset `start`.
 fn in_text(alloc: Global, start: usize, slots: &[Slot]) -> Result<Vec<usize>, AllocError>
-    requires { All (λ s. start + s.offset ≤ largest_text) slots.now }
+    requires { All (λ s. start + s.offset < 2 ^ 64) slots.now }
     ensures { IfOk result (λ v. v.items ≡ map (λ o. start + o) (map (λ s. s.offset) slots.now)) }
 {
     let mut offsets = Vec::with_capacity(alloc, slots.len())?;
@@ -81,14 +79,14 @@ fn in_text(alloc: Global, start: usize, slots: &[Slot]) -> Result<Vec<usize>, Al
     Ok(offsets)
 }
 
-impl Layout {
-    /// The number of the text's rows. Wraps the whole text and holds none of it.
+impl View {
+    /// The number of the text's rows. Wraps the whole text and caches none of it.
     pub fn row_count<D: BidiData>(&self, source: &Source<'_, D>) -> Result<usize, ViewError>
         ensures { IfOk result (λ n. n ≡ length (rows source.now self.now)) }
     {
-        let alloc = *self.held.allocator();
+        let alloc = *self.cache.allocator();
         let count = source.index.count();
-        let rows = rows_before(alloc, source, self.base, self.w, count)?;
+        let rows = rows_before(alloc, source, self.w, count)?;
         Ok(rows)
     }
 
@@ -103,9 +101,9 @@ impl Layout {
         ensures row { IfOk result (λ n. n ≡ row_of (rows source.now self.old) offset) }
     {
         let at = self.row_at(source, offset)?;
-        let (base, w) = (self.base(), self.width());
-        let alloc = *self.held.allocator();
-        let ahead = rows_before(alloc, source, base, w, at.paragraph)?;
+        let w = self.width();
+        let alloc = *self.cache.allocator();
+        let ahead = rows_before(alloc, source, w, at.paragraph)?;
         Ok(ahead + at.row)
     }
 
@@ -117,7 +115,7 @@ impl Layout {
     ) -> Result<Option<usize>, ViewError>
         ensures { IfOk result (λ o. o ≡ option_map first (slice_get (rows source.now self.now) row)) }
     {
-        let alloc = *self.held.allocator();
+        let alloc = *self.cache.allocator();
         let w = self.width();
         let count = source.index.count();
         let mut walk = source.index.walk_at(0, 0);
@@ -126,8 +124,8 @@ impl Layout {
         while done < count {
             let starts = starts_in(alloc, source, &walk, w)?;
             if left < starts.len() {
-                let (start, _) = current_span(source, &walk);
-                return Ok(Some(start + starts[left].offset));
+                let span = current_span(source, &walk);
+                return Ok(Some(span.start + starts[left].offset));
             }
             left -= starts.len();
             let _more = walk.to_next();
@@ -149,7 +147,7 @@ impl Layout {
     {
         let at = self.row_at(source, place)?;
         let row = self.row(source, at);
-        let slots = row.row.slots()?;
+        let slots = row.slots()?;
         let offsets = in_text(*slots.allocator(), row.start, &slots)?;
         Ok(offsets)
     }
@@ -167,6 +165,7 @@ impl Layout {
         requires some { 0 < t }
         ensures keeps { Keeps source.now self.old self.new }
         ensures top { IfOk result (λ o. o ≡ follow (rows source.now self.old) top place t) }
+        ensures text_place { IfOk result (IsTextPlace (D.data source.now.tables.now) (bytes source.now)) }
         ensures boundary { IfOk result (λ o. IsCharBoundary (bytes source.now) o) }
     {
         let located = self.locate(source, top, place, t)?;

@@ -1,89 +1,22 @@
 //! Moves in text order, the first place at or after an offset, and the last one at or before it.
-ghost use Rattle.std.specs.Prelude.{◌≡◌, ◌≤◌, IfOk, find, nat_le, nat_lt, reverse, unwrap_or};
+ghost use Rattle.std.specs.Prelude.{◌≡◌, ◌≤◌, true, IfOk, OnOk, find, nat_le, nat_lt, reverse, unwrap_or};
 ghost use Rattle.std.specs.Str.{IsCharBoundary};
+ghost use Rattle.bx_terms.specs.Sizes.{is_side};
 ghost use Rattle.bx_view.specs.Moves.{place_at, place_from, step_logical};
-ghost use Rattle.bx_view.specs.PlacedRow.{placed};
+ghost use Rattle.bx_view.specs.Places.{IsTextPlace};
 ghost use Rattle.bx_view.specs.Source.{IsViewBy, Keeps, bytes, rows};
-ghost use Rattle.bx_view.specs.TextRows.{places, places_of};
+ghost use Rattle.bx_view.specs.TextRows.{places};
 
 use crate::error::ViewError;
-use crate::layout::Layout;
 use crate::moves::Logical;
-use crate::placed_row::PlacedRow;
+use crate::placed::{
+    first_place_after, first_place_from, last_place, last_place_at, last_place_before,
+};
 use crate::source::Source;
+use crate::view::View;
 use bx_ucd::BidiData;
 
-/// The first of `offsets` at or after an offset.
-pub(crate) fn first_from(offsets: &[usize], offset: usize) -> Option<usize>
-    ensures { result ≡ find (nat_le offset) offsets.now }
-{
-    offsets.iter().copied().find(|o| offset <= *o)
-}
-
-/// The last of `offsets` at or before an offset.
-fn last_at(offsets: &[usize], offset: usize) -> Option<usize>
-    ensures { result ≡ find (λ o. nat_le o offset) (reverse offsets.now) }
-{
-    offsets.iter().rev().copied().find(|o| *o <= offset)
-}
-
-/// The first of `offsets` after an offset.
-fn first_after(offsets: &[usize], offset: usize) -> Option<usize>
-    ensures { result ≡ find (nat_lt offset) offsets.now }
-{
-    offsets.iter().copied().find(|o| offset < *o)
-}
-
-/// The last of `offsets` before an offset.
-fn last_before(offsets: &[usize], offset: usize) -> Option<usize>
-    ensures { result ≡ find (λ o. nat_lt o offset) (reverse offsets.now) }
-{
-    offsets.iter().rev().copied().find(|o| *o < offset)
-}
-
-impl<'a, 't, D: BidiData> PlacedRow<'a, 't, D> {
-    /// The first place of the row at or after an offset.
-    fn first_from(&self, offset: usize) -> Result<Option<usize>, ViewError>
-        requires { self.now.start ≤ offset }
-        ensures { IfOk result (λ o. o ≡ find (nat_le offset) (places_of (placed self.now))) }
-    {
-        let offsets = self.row.offsets()?;
-        let found = first_from(&offsets, offset - self.start);
-        Ok(self.place(found))
-    }
-
-    /// The last place of the row at or before an offset.
-    fn last_at(&self, offset: usize) -> Result<Option<usize>, ViewError>
-        requires { self.now.start ≤ offset }
-        ensures { IfOk result (λ o. o ≡ find (λ p. nat_le p offset) (reverse (places_of (placed self.now)))) }
-    {
-        let offsets = self.row.offsets()?;
-        let found = last_at(&offsets, offset - self.start);
-        Ok(self.place(found))
-    }
-
-    /// The first place of the row after a place.
-    fn first_after(&self, place: usize) -> Result<Option<usize>, ViewError>
-        requires { self.now.start ≤ place }
-        ensures { IfOk result (λ o. o ≡ find (nat_lt place) (places_of (placed self.now))) }
-    {
-        let offsets = self.row.offsets()?;
-        let found = first_after(&offsets, place - self.start);
-        Ok(self.place(found))
-    }
-
-    /// The last place of the row before a place.
-    fn last_before(&self, place: usize) -> Result<Option<usize>, ViewError>
-        requires { self.now.start ≤ place }
-        ensures { IfOk result (λ o. o ≡ find (λ p. nat_lt p place) (reverse (places_of (placed self.now)))) }
-    {
-        let offsets = self.row.offsets()?;
-        let found = last_before(&offsets, place - self.start);
-        Ok(self.place(found))
-    }
-}
-
-impl Layout {
+impl View {
     /// The first place at or after an offset; the text's last place, if there is none.
     pub fn place_from<D: BidiData>(
         &mut self,
@@ -93,14 +26,16 @@ impl Layout {
         requires data { IsViewBy source.now self.old }
         ensures keeps { Keeps source.now self.old self.new }
         ensures place { IfOk result (λ o. o ≡ place_from (rows source.now self.old) offset) }
+        ensures text_place { IfOk result (IsTextPlace (D.data source.now.tables.now) (bytes source.now)) }
+        ensures side { OnOk result (is_side self.old.w ≡ true) }
         ensures boundary { IfOk result (λ o. IsCharBoundary (bytes source.now) o) }
     {
         let at = self.row_at(source, offset)?;
-        if let Some(place) = self.row(source, at).first_from(offset)? {
+        if let Some(place) = first_place_from(&self.row(source, at), offset)? {
             return Ok(place);
         }
         let Some(next) = self.next_row(source, at)? else {
-            let last = self.row(source, at).last()?;
+            let last = last_place(&self.row(source, at))?;
             return Ok(last);
         };
         Ok(self.first_in(source, next))
@@ -115,11 +50,13 @@ impl Layout {
         requires data { IsViewBy source.now self.old }
         ensures keeps { Keeps source.now self.old self.new }
         ensures place { IfOk result (λ o. o ≡ place_at (rows source.now self.old) offset) }
+        ensures text_place { IfOk result (IsTextPlace (D.data source.now.tables.now) (bytes source.now)) }
+        ensures side { OnOk result (is_side self.old.w ≡ true) }
         ensures boundary { IfOk result (λ o. IsCharBoundary (bytes source.now) o) }
     {
         let at = self.row_at(source, offset)?;
         // A row begins at a place, so there is one.
-        let place = self.row(source, at).last_at(offset)?;
+        let place = last_place_at(&self.row(source, at), offset)?;
         Ok(place.unwrap_or(0))
     }
 
@@ -134,7 +71,7 @@ impl Layout {
         ensures place { IfOk result (λ o. o ≡ unwrap_or (find (nat_lt place) (places (rows source.now self.old))) place) }
     {
         let at = self.row_at(source, place)?;
-        if let Some(after) = self.row(source, at).first_after(place)? {
+        if let Some(after) = first_place_after(&self.row(source, at), place)? {
             return Ok(after);
         }
         let Some(next) = self.next_row(source, at)? else {
@@ -155,13 +92,13 @@ impl Layout {
             (reverse (places (rows source.now self.old)))) place) }
     {
         let at = self.row_at(source, place)?;
-        if let Some(before) = self.row(source, at).last_before(place)? {
+        if let Some(before) = last_place_before(&self.row(source, at), place)? {
             return Ok(before);
         }
         let Some(above) = self.row_before(source, at)? else {
             return Ok(place);
         };
-        let last = self.row(source, above).last()?;
+        let last = last_place(&self.row(source, above))?;
         Ok(last)
     }
 

@@ -2,17 +2,18 @@
 ghost use Rattle.std.specs.Prelude.{◌≡◌, true, IfOk};
 ghost use Rattle.std.specs.Str.{IsCharBoundary};
 ghost use Rattle.bx_view.specs.Moves.{is_to_row_end, moved};
+ghost use Rattle.bx_view.specs.Places.{IsTextPlace};
 ghost use Rattle.bx_view.specs.Source.{IsViewBy, Keeps, bytes, rows};
 
 use crate::error::ViewError;
-use crate::layout::Layout;
 use crate::moves::Move;
 use crate::source::Source;
+use crate::view::View;
 use bx_ucd::BidiData;
 
-impl Layout {
-    /// The place after a move from `place`.
-    pub fn moved<D: BidiData>(
+impl View {
+    /// The place that a move leads to from `place`.
+    fn led_by<D: BidiData>(
         &mut self,
         source: &Source<'_, D>,
         m: Move,
@@ -21,11 +22,7 @@ impl Layout {
         requires data { IsViewBy source.now self.old }
         ensures keeps { Keeps source.now self.old self.new }
         ensures place { IfOk result (λ o. o ≡ moved (D.data source.now.tables.now) (bytes source.now) self.old.w (rows source.now self.old) m place) }
-        ensures boundary { IsCharBoundary (bytes source.now) place → IfOk result (λ o. IsCharBoundary (bytes source.now) o) }
-        ensures row_boundary { is_to_row_end m ≡ true → IfOk result (λ o. IsCharBoundary (bytes source.now) o) }
     {
-        // proof only: the width is within its limits
-        let _side = self.width();
         match m {
             Move::Logical(way) => {
                 let place = self.step_logical(source, way, place)?;
@@ -62,5 +59,27 @@ impl Layout {
             Move::TextStart => Ok(0),
             Move::TextEnd => Ok(source.text.len()),
         }
+    }
+
+    /// The place after a move from `place`.
+    pub fn moved<D: BidiData>(
+        &mut self,
+        source: &Source<'_, D>,
+        m: Move,
+        place: usize,
+    ) -> Result<usize, ViewError>
+        requires data { IsViewBy source.now self.old }
+        ensures keeps { Keeps source.now self.old self.new }
+        ensures place { IfOk result (λ o. o ≡ moved (D.data source.now.tables.now) (bytes source.now) self.old.w (rows source.now self.old) m place) }
+        ensures text_place { IsTextPlace (D.data source.now.tables.now) (bytes source.now) place
+            → IfOk result (IsTextPlace (D.data source.now.tables.now) (bytes source.now)) }
+        ensures row_place { is_to_row_end m ≡ true → IfOk result (IsTextPlace (D.data source.now.tables.now) (bytes source.now)) }
+        ensures boundary { IsCharBoundary (bytes source.now) place → IfOk result (λ o. IsCharBoundary (bytes source.now) o) }
+        ensures row_boundary { is_to_row_end m ≡ true → IfOk result (λ o. IsCharBoundary (bytes source.now) o) }
+    {
+        // proof only: the width is within its limits
+        let _side = self.width();
+        let place = self.led_by(source, m, place)?;
+        Ok(place)
     }
 }

@@ -1,6 +1,6 @@
 //! Handles of rows.
 
-/// A row of a text, found by a layout. It is valid until that layout searches for another row.
+/// A row of a text, found by a view. It is valid until that view searches for another row.
 #[derive(Clone, Copy)]
 pub struct RowAt {
     /// The number of the row's paragraph, from 0.
@@ -9,6 +9,6 @@ pub struct RowAt {
     pub(crate) start: usize,
     /// The row's number in the paragraph, from 0.
     pub(crate) row: usize,
-    /// The index of the held paragraph.
-    pub(crate) held: usize,
+    /// The index of the cached paragraph.
+    pub(crate) cached: usize,
 }

@@ -4,9 +4,9 @@ ghost use Rattle.bx_view.specs.Source.{OfRow, Stands};
 ghost use Rattle.bx_view.specs.TextParts.{is_in, slots_in};
 
 use crate::error::ViewError;
-use crate::layout::Layout;
 use crate::row_at::RowAt;
 use crate::source::Source;
+use crate::view::View;
 use bx_paragraph::Slot;
 use bx_ucd::BidiData;
 
@@ -17,7 +17,7 @@ fn keep_in(slots: &mut Vec<Slot>, start: usize, stop: usize)
     slots.retain(|s| s.columns > 0 && start <= s.offset && s.offset < stop);
 }
 
-impl Layout {
+impl View {
     /// The slots of a row's units that begin in a part of the text, from the offset `part.0` up to `part.1`, from left to
     /// right. If the row's paragraph lies outside the part, nothing is computed.
     pub fn slots_in<D: BidiData>(
@@ -32,10 +32,10 @@ impl Layout {
         let row = self.row(source, at);
         let start = part.0.saturating_sub(row.start);
         let stop = part.1.saturating_sub(row.start);
-        if start >= stop || row.row.paragraph.body().len() < start {
-            return Ok(Vec::new(*self.held.allocator()));
+        if start >= stop || row.paragraph.body().len() < start {
+            return Ok(Vec::new(*self.cache.allocator()));
         }
-        let mut slots = row.row.slots()?;
+        let mut slots = row.slots()?;
         keep_in(&mut slots, start, stop);
         Ok(slots)
     }

@@ -5,13 +5,14 @@ ghost use Rattle.bx_view.specs.Source.{IsViewBy, Keeps, Stands, StandsOn, rows};
 ghost use Rattle.bx_view.specs.TextRows.{cell_of};
 
 use crate::error::ViewError;
-use crate::layout::Layout;
 use crate::moves::Vertical;
+use crate::placed::entry;
 use crate::row_at::RowAt;
 use crate::source::Source;
+use crate::view::View;
 use bx_ucd::BidiData;
 
-impl Layout {
+impl View {
     /// The row `count` rows above `at`, or the first row.
     pub(crate) fn rows_up<D: BidiData>(
         &mut self,
@@ -107,7 +108,7 @@ impl Layout {
         if first == own {
             return Ok(place);
         }
-        let entry = self.row(source, there).entry(column)?;
+        let entry = entry(&self.row(source, there), column)?;
         Ok(entry.unwrap_or(place))
     }
 

@@ -4,13 +4,14 @@ ghost use Rattle.bx_view.specs.Moves.{end_of, past, row_after, row_before, start
 ghost use Rattle.bx_view.specs.Source.{IsViewBy, Keeps, Stands, StandsOn, rows};
 
 use crate::error::ViewError;
-use crate::layout::Layout;
+use crate::placed::{place_beside, reading_end, reading_start, reads_on};
 use crate::row_at::RowAt;
 use crate::source::Source;
+use crate::view::View;
 use bx_paragraph::Visual;
 use bx_ucd::BidiData;
 
-impl Layout {
+impl View {
     /// The place at the reading start of the next row, if there is one.
     fn start_after<D: BidiData>(
         &mut self,
@@ -25,7 +26,7 @@ impl Layout {
         let Some(there) = self.next_row(source, at)? else {
             return Ok(None);
         };
-        let place = self.row(source, there).reading_start()?;
+        let place = reading_start(&self.row(source, there))?;
         Ok(place)
     }
 
@@ -43,7 +44,7 @@ impl Layout {
         let Some(there) = self.row_before(source, at)? else {
             return Ok(None);
         };
-        let place = self.row(source, there).reading_end()?;
+        let place = reading_end(&self.row(source, there))?;
         Ok(place)
     }
 
@@ -59,7 +60,7 @@ impl Layout {
         ensures place { (n : ℕ) → StandsOn source.now self.old at n
             → IfOk result (λ o. o ≡ past self.old.w (rows source.now self.old) side n) }
     {
-        if self.row(source, at).reads_on(side) {
+        if reads_on(&self.row(source, at), side) {
             let place = self.start_after(source, at)?;
             return Ok(place);
         }
@@ -80,7 +81,7 @@ impl Layout {
         ensures step { IfOk result (λ o. o ≡ step_visual self.old.w (rows source.now self.old) side place) }
     {
         let at = self.row_at(source, place)?;
-        if let Some(next) = self.row(source, at).beside(side, place)? {
+        if let Some(next) = place_beside(&self.row(source, at), side, place)? {
             return Ok(next);
         }
         let past = self.past(source, at, side)?;

@@ -6,11 +6,12 @@ ghost use Rattle.bx_view.specs.Words.{body_words, step_word};
 ghost use Rattle.bx_view.specs.declared.moves.Logical.TheVariants.{Back, Forward};
 
 use crate::error::ViewError;
-use crate::layout::Layout;
 use crate::moves::Logical;
+use crate::placed::reads_on;
 use crate::row_at::RowAt;
 use crate::source::Source;
 use crate::span::current_span;
+use crate::view::View;
 use crate::words::{first_stop, start_before, stop_after};
 use bx_paragraph::Visual;
 use bx_ucd::BidiData;
@@ -26,7 +27,7 @@ fn word_way(is_read_on: bool) -> Logical
     }
 }
 
-impl Layout {
+impl View {
     /// The first place of the paragraph after that of `at` at which a word begins or the body ends, if there is such a
     /// paragraph.
     fn stop_below<D: BidiData>(
@@ -45,12 +46,11 @@ impl Layout {
         if !walk.to_next() {
             return Ok(None);
         }
-        let number = walk.number();
-        let (start, stop) = current_span(source, &walk);
-        let held = self.find(source, number, start, stop)?;
-        let paragraph = self.paragraph(source, number, held);
+        let span = current_span(source, &walk);
+        let cached = self.find(source, span)?;
+        let paragraph = self.paragraph(source, span.number, cached);
         let first = first_stop(paragraph, source.tables);
-        Ok(Some(start + first))
+        Ok(Some(span.start + first))
     }
 
     /// The last place of the paragraph before that of `at`, and before `place`, at which a word or the body begins, if there
@@ -73,12 +73,11 @@ impl Layout {
         if !walk.to_previous() {
             return Ok(None);
         }
-        let number = walk.number();
-        let (start, stop) = current_span(source, &walk);
-        let held = self.find(source, number, start, stop)?;
-        let paragraph = self.paragraph(source, number, held);
-        let last = start_before(paragraph, place - start, source.tables);
-        Ok(Some(start + last))
+        let span = current_span(source, &walk);
+        let cached = self.find(source, span)?;
+        let paragraph = self.paragraph(source, span.number, cached);
+        let last = start_before(paragraph, place - span.start, source.tables);
+        Ok(Some(span.start + last))
     }
 
     /// The first place after `place` at which a word begins or a body ends; if there is none, `place` itself.
@@ -92,7 +91,7 @@ impl Layout {
         ensures place { IfOk result (λ o. o ≡ step_word (D.data source.now.tables.now) (bytes source.now) Forward place) }
     {
         let at = self.row_at(source, place)?;
-        let paragraph = self.paragraph(source, at.paragraph, at.held);
+        let paragraph = self.paragraph(source, at.paragraph, at.cached);
         let offset = place - at.start;
         if offset < paragraph.body().len() {
             let stop = stop_after(paragraph, offset, source.tables);
@@ -114,7 +113,7 @@ impl Layout {
     {
         let at = self.row_at(source, place)?;
         if at.start < place {
-            let paragraph = self.paragraph(source, at.paragraph, at.held);
+            let paragraph = self.paragraph(source, at.paragraph, at.cached);
             let start = start_before(paragraph, place - at.start, source.tables);
             return Ok(at.start + start);
         }
@@ -157,7 +156,7 @@ impl Layout {
         ensures place { IfOk result (λ o. o ≡ word_towards (D.data source.now.tables.now) (bytes source.now) (rows source.now self.old) side place) }
     {
         let at = self.row_at(source, place)?;
-        let way = word_way(self.row(source, at).reads_on(side));
+        let way = word_way(reads_on(&self.row(source, at), side));
         let place = self.step_word(source, way, place)?;
         Ok(place)
     }

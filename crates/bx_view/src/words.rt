@@ -125,8 +125,6 @@ pub(crate) fn stop_after<D: BidiData>(
     ensures { result ≡ unwrap_or (find (nat_lt offset) (body_words (D.data tables.now) paragraph.now.body))
         (length paragraph.now.body) }
 {
-    // proof only: the width is within its limits
-    let _side = paragraph.width();
     let body = paragraph.body();
     let row = paragraph.row_of(offset);
     let start = paragraph.first(row);
@@ -162,8 +160,6 @@ pub(crate) fn start_before<D: BidiData>(
     requires { IsLayoutBy (D.data tables.now) paragraph.now }
     ensures { result ≡ unwrap_or (find (λ o. nat_lt o offset) (reverse (body_words (D.data tables.now) paragraph.now.body))) 0 }
 {
-    // proof only: the width is within its limits
-    let _side = paragraph.width();
     let body = paragraph.body();
     let mut row = paragraph.row_of(offset);
     let mut bound = offset;

@@ -1,5 +1,5 @@
 -- The picture that a world's terminal shows, and will show once it has read all bytes in transit.
-use Rattle.std.specs.Prelude.{◌≡◌, ℕ, Bool, true, false, List, [], ◌∷◌, ◌==◌, IfSome}
+use Rattle.std.specs.Prelude.{◌≡◌, ℕ, Bool, true, false, List, [], ◌∷◌, ◌==◌, IfSome, Option, Some, None}
 use Rattle.bx_grid.specs.Picture.{PictureState, IsIdle, Shows}
 use Rattle.bx_grid.specs.Terminal.{Terminal, reads}
 use Rattle.bx_ucd.specs.Data.{Data}
@@ -8,6 +8,7 @@ use Rattle.bx_editor.specs.Picture.{StandsOnItsCell, picture}
 use Rattle.bx_session.specs.Session.{Session}
 use Rattle.bx_session.specs.Painting.{ShowsState}
 use Rattle.bx_world.specs.World.{World, unread}
+use Rattle.bx_terminal.specs.Screens.{IfShown}
 
 -- the picture of the state: the rows that the rules give for the text, and the cursor's cell
 abbrev pub picture_of : Data → Session → PictureState
@@ -64,3 +65,8 @@ pub record IsInStep (d : Data) (w : World) : Type 0 where
   pub whole : StaysWhole w
   pub screen : IfSome w.screen (λ t. HasSize w.height w.width t × NoRunInSequence t)
   pub size : w.told ≡ true → FitsWindow w.height w.width w.session.editor
+
+-- a terminal that has not failed shows the picture; never so if there is none
+abbrev pub IsShownOn : Option PictureState → Option Terminal → Type 0
+IsShownOn None screen = ⊥
+IsShownOn (Some p) screen = IfShown screen p

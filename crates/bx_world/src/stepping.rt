@@ -12,10 +12,11 @@ ghost use Rattle.bx_world.specs.World.{told_after};
 
 use crate::step::{Step, StepFault};
 use crate::world::World;
-use bx_grid::{GridError, Screen};
+use bx_grid::GridError;
 use bx_keys::Key;
 use bx_session::{Refused, Session};
 use bx_store::Store;
+use bx_terminal::Screen;
 use bx_ucd::BidiData;
 
 /// Whether a window has this many rows and columns.

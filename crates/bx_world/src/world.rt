@@ -3,15 +3,15 @@
 ghost use Rattle.std.specs.Prelude.{◌≡◌, ◌≤◌, ◌↔◌, true, false, IfErr, IfOk, IsTrue, IsUtf8, OnOk, length};
 ghost use Rattle.bx_terms.specs.Sizes.{largest_text};
 ghost use Rattle.bx_grid.specs.Picture.{is_size};
-ghost use Rattle.bx_grid.specs.Screens.{IfShown};
+ghost use Rattle.bx_terminal.specs.Screens.{IfShown};
 ghost use Rattle.bx_editor.specs.Opening.{Causes};
-ghost use Rattle.bx_session.specs.Painting.{IsShownOn};
+ghost use Rattle.bx_world.specs.Showing.{IsShownOn};
 ghost use Rattle.bx_session.specs.Session.{at_opening};
 ghost use Rattle.bx_world.specs.Showing.{IsInStep, StaysWhole, WillShow, picture_of};
 ghost use Rattle.bx_world.specs.World.{around};
 
-use bx_grid::Screen;
 use bx_session::{OpenError, Session};
+use bx_terminal::Screen;
 use bx_terms::Base;
 use bx_ucd::BidiData;
 use std::alloc::Global;
@@ -125,7 +125,10 @@ impl<D: BidiData + Drop> World<D> {
             → (IsTrue result ↔ IfShown self.now.world.screen (picture_of (D.data self.now.tables) self.now.world.session)) }
     {
         self.keep_up();
-        self.session.is_shown_on(&self.screen)
+        match self.session.painted() {
+            Some(picture) => self.screen.shows(picture),
+            None => false,
+        }
     }
 
     /// The invariant of all steps: the terminal will show the picture last painted.

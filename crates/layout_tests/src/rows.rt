@@ -5,10 +5,11 @@ ghost use Rattle.bx_cells.specs.Units.{StandsIn};
 mod pictures;
 mod vectors;
 
-use crate::words::{field_of, text_of, two_of};
+use crate::words::{check, field_of, text_of, two_of};
 use bx_cells::{Face, Unit, units};
 use bx_resolve::{Levels, levels};
-use bx_rows::{Lines, Row, RowStart, has_one_row, row_levels, row_starts, visual, wrap};
+use bx_rows::{Lines, Row, RowStart, row_starts, visual};
+use bx_rows_laws::{has_one_row, row_levels, wrap};
 use bx_terms::Base;
 use bx_ucd::{Tables, sample_tables};
 use std::alloc::Global;
@@ -126,21 +127,10 @@ fn is_so(alloc: Global, tables: &Tables, line: &str) -> Result<bool, Fail> {
     )
 }
 
-/// Fails at the first line that does not hold. If `are_named`, the first field of a line says what it shows.
-fn check(alloc: Global, tables: &Tables, lines: &str, are_named: bool) -> Result<(), Fail> {
-    for line in lines.lines() {
-        let row = if are_named { field_of(line).1 } else { line };
-        if !is_so(alloc, tables, row)? {
-            return Err(Fail::new(line));
-        }
-    }
-    Ok(())
-}
-
 #[test]
 fn rows_of_random_texts(rt: HostRuntime) -> Result<(), Fail> {
     let tables = sample_tables(rt.alloc())?;
-    check(rt.alloc(), &tables, VECTORS, false)
+    check(VECTORS, false, |line| is_so(rt.alloc(), &tables, line))
 }
 
 /// Worked rows: what each shows, and a line in the notation of the outside values.
@@ -159,7 +149,7 @@ a text from right to left\t0061 0020 05D0 05D1 0020 0062\trtl\t6\t2 1 1 1 1 2\t5
 #[test]
 fn worked_rows(rt: HostRuntime) -> Result<(), Fail> {
     let tables = sample_tables(rt.alloc())?;
-    check(rt.alloc(), &tables, ROWS, true)
+    check(ROWS, true, |line| is_so(rt.alloc(), &tables, line))
 }
 
 #[test]

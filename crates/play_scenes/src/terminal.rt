@@ -2,7 +2,8 @@
 
 use crate::answers::add_flag;
 use crate::rows::{RowFault, picture_of};
-use bx_grid::{Cell, GridError, Screen};
+use bx_grid::{Cell, GridError};
+use bx_terminal::Screen;
 use bx_world::Step;
 use std::alloc::{AllocError, Global};
 

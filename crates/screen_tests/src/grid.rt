@@ -1,7 +1,8 @@
 //! Sizes, columns and the texts of glyphs.
 
 use crate::pictures::picture_of;
-use bx_grid::{Column, GlyphText, Grid, GridError, Screen};
+use bx_grid::{Column, GlyphText, Grid, GridError};
+use bx_terminal::Screen;
 use bx_terms::{ascii_glyph, run_width};
 use std::alloc::Global;
 use std::test::Fail;

@@ -1,8 +1,9 @@
 //! Two pictures, and a screen.
 
 use crate::pictures::picture_of;
-use bx_grid::{GridError, Picture, Screen};
+use bx_grid::{GridError, Picture};
 use bx_paint::{changes, whole};
+use bx_terminal::Screen;
 use std::alloc::Global;
 use std::mem::replace;
 use std::test::Fail;

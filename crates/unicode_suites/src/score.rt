@@ -1,4 +1,6 @@
 //! The score of a suite.
+use crate::fields::is_case;
+use anyhow::{Context, Result};
 use std::alloc::{AllocError, Global};
 use std::{fmt, io};
 
@@ -51,6 +53,24 @@ impl Score {
         }
         Ok(())
     }
+}
+
+/// The score of a suite in which each line that is a case stands alone. `check` adds the case to the score.
+pub fn score_cases<F: Fn(&str, &mut Score) -> Result<()>>(
+    alloc: Global,
+    text: &str,
+    check: F,
+) -> Result<Score>
+    requires { F.IsAlwaysCallable check }
+{
+    let mut score = Score::new(alloc);
+    for (number, line) in text.lines().enumerate() {
+        if is_case(line) {
+            let number = number.saturating_add(1);
+            check(line, &mut score).context(format_args!("line {number}"))?;
+        }
+    }
+    Ok(score)
 }
 
 impl fmt::Display for Score {

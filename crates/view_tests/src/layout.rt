@@ -62,6 +62,7 @@ fn rows_in<D: BidiData>(alloc: Global, layout: &ParagraphLayout, source: &D) -> 
             paragraph: layout,
             tables: source,
             number,
+            start: 0,
         };
         add_slots(&mut line, alloc, &row)?;
         add_places(&mut line, alloc, &row)?;
@@ -131,6 +132,7 @@ fn picture_in<D: BidiData>(
         paragraph: layout,
         tables: source,
         number: layout.row_of(offset),
+        start: 0,
     };
     for glyph in &row.picture()?.glyphs {
         line.push_str(glyph.text.as_str())?;

@@ -8,7 +8,7 @@ use bx_paragraph::Slot;
 use bx_terms::{Base, is_side};
 use bx_text::Text;
 use bx_ucd::{BidiData, Tables, sample_tables};
-use bx_view::{Layout, Source};
+use bx_view::{Source, View};
 use std::alloc::Global;
 use std::test::Fail;
 
@@ -52,42 +52,42 @@ impl Whole {
     }
 
     pub(crate) fn row_count(&self) -> Result<usize, Fail> {
-        let layout = Layout::of(self.alloc, self.w, self.base);
-        Ok(layout.row_count(&self.source())?)
+        let view = View::of(self.alloc, self.w, self.base);
+        Ok(view.row_count(&self.source())?)
     }
 
     pub(crate) fn row_of(&self, place: usize) -> Result<usize, Fail> {
-        let mut layout = Layout::of(self.alloc, self.w, self.base);
-        Ok(layout.row_of(&self.source(), place)?)
+        let mut view = View::of(self.alloc, self.w, self.base);
+        Ok(view.row_of(&self.source(), place)?)
     }
 
     pub(crate) fn first(&self, row: usize) -> Result<Option<usize>, Fail> {
-        let layout = Layout::of(self.alloc, self.w, self.base);
-        Ok(layout.first(&self.source(), row)?)
+        let view = View::of(self.alloc, self.w, self.base);
+        Ok(view.first(&self.source(), row)?)
     }
 
     pub(crate) fn column_of(&self, place: usize) -> Result<u16, Fail> {
-        let mut layout = Layout::of(self.alloc, self.w, self.base);
-        Ok(layout.cell_of(&self.source(), place)?)
+        let mut view = View::of(self.alloc, self.w, self.base);
+        Ok(view.cell_of(&self.source(), place)?)
     }
 
     pub(crate) fn slots(&self, place: usize) -> Result<Vec<usize>, Fail> {
-        let mut layout = Layout::of(self.alloc, self.w, self.base);
-        Ok(layout.slots(&self.source(), place)?)
+        let mut view = View::of(self.alloc, self.w, self.base);
+        Ok(view.slots(&self.source(), place)?)
     }
 
     pub(crate) fn slots_in(&self, place: usize, part: (usize, usize)) -> Result<Vec<Slot>, Fail> {
-        let mut layout = Layout::of(self.alloc, self.w, self.base);
+        let mut view = View::of(self.alloc, self.w, self.base);
         let source = self.source();
-        let at = layout.row_at(&source, place)?;
-        Ok(layout.slots_in(&source, at, part)?)
+        let at = view.row_at(&source, place)?;
+        Ok(view.slots_in(&source, at, part)?)
     }
 
     pub(crate) fn follow(&self, top: usize, place: usize, t: usize) -> Result<usize, Fail> {
         if t == 0 {
             return Err(Fail::new("no rows"));
         }
-        let mut layout = Layout::of(self.alloc, self.w, self.base);
-        Ok(layout.follow(&self.source(), top, place, t)?)
+        let mut view = View::of(self.alloc, self.w, self.base);
+        Ok(view.follow(&self.source(), top, place, t)?)
     }
 }

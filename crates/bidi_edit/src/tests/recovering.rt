@@ -26,7 +26,7 @@ fn beginning<'a>(alloc: Global, keys: &'a [u8]) -> Result<Beginning<'a>, Fail> {
 }
 
 /// Recovers these keys into a store, and compares the text with a file of these bytes.
-fn recovered(
+fn recover_beside(
     alloc: Global,
     store: &mut MemoryStore,
     keys: &[u8],
@@ -44,7 +44,7 @@ fn a_journal_beside_its_file(rt: HostRuntime) -> Result<(), Fail> {
         (b"xa".as_slice(), FileText::Foreign),
     ] {
         let mut store = MemoryStore::new(rt.alloc(), None);
-        let replayed = recovered(rt.alloc(), &mut store, b"x\x13y\x11\x11", file)?;
+        let replayed = recover_beside(rt.alloc(), &mut store, b"x\x13y\x11\x11", file)?;
         assert_eq!(rt; replayed, Ok(Replayed { held, keys: 5 }));
         assert_eq!(rt; store.contents(), b"xyab".as_slice());
     }
@@ -54,13 +54,13 @@ fn a_journal_beside_its_file(rt: HostRuntime) -> Result<(), Fail> {
 #[test]
 fn a_text_that_cannot_be_stored(rt: HostRuntime) -> Result<(), Fail> {
     let mut store = MemoryStore::new(rt.alloc(), Some(1));
-    let replayed = recovered(rt.alloc(), &mut store, b"x", b"ab")?;
+    let replayed = recover_beside(rt.alloc(), &mut store, b"x", b"ab")?;
     assert_eq!(rt; replayed, Err(RecoveryFault::Unwritten));
     Ok(())
 }
 
 /// Replays keys, then types `y`, Save and Quit. Returns whether the run ended saved.
-fn resumed(alloc: Global, store: &mut MemoryStore, keys: &[u8]) -> Result<bool, Fail> {
+fn resume(alloc: Global, store: &mut MemoryStore, keys: &[u8]) -> Result<bool, Fail> {
     let changes = edit(
         &mut b"y\x13\x11".as_slice(),
         &mut Recorder::new(alloc, NoJournal),
@@ -74,7 +74,7 @@ fn resumed(alloc: Global, store: &mut MemoryStore, keys: &[u8]) -> Result<bool, 
 #[test]
 fn typing_goes_on_behind_what_is_replayed(rt: HostRuntime) -> Result<(), Fail> {
     let mut store = MemoryStore::new(rt.alloc(), None);
-    assert!(rt; resumed(rt.alloc(), &mut store, b"x\x13\x11\x11")?);
+    assert!(rt; resume(rt.alloc(), &mut store, b"x\x13\x11\x11")?);
     assert_eq!(rt; store.contents(), b"xyab".as_slice());
     Ok(())
 }

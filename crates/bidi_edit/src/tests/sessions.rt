@@ -1,6 +1,6 @@
 //! Recorded sessions, with the small tables.
 
-ghost use Rattle.std.specs.Prelude.{◌≡◌, ◌<◌, true, IfOk, IfSome};
+ghost use Rattle.std.specs.Prelude.{◌≡◌, true, IfOk};
 ghost use Rattle.bx_terms.specs.Sizes.{is_side};
 
 mod vectors;
@@ -13,27 +13,15 @@ use bx_store::MemoryStore;
 use bx_terms::{Base, is_side};
 use std::alloc::Global;
 use std::process::Abort;
+use std::str;
 use std::test::Fail;
 use vectors::SESSIONS;
-
-fn hex_digit(byte: u8) -> Option<u8>
-    ensures { IfSome result (λ digit. digit < 16) }
-{
-    match byte {
-        b'0'..=b'9' => Some(byte - b'0'),
-        b'a'..=b'f' => Some(byte - b'a' + 10),
-        _ => None,
-    }
-}
 
 /// Decodes a field in hexadecimal.
 fn from_hex(alloc: Global, hex: &str) -> Result<Vec<u8>, Fail> {
     let mut bytes = Vec::new(alloc);
     for pair in hex.as_bytes().chunks(2) {
-        let [high, low] = pair else {
-            return Err("an odd number of digits".into());
-        };
-        bytes.push(hex_digit(*high).ok_or("no digit")? * 16 + hex_digit(*low).ok_or("no digit")?)?;
+        bytes.push(u8::from_str_radix(str::from_utf8(pair)?, 16)?)?;
     }
     Ok(bytes)
 }

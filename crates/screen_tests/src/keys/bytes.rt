@@ -74,28 +74,36 @@ fn effect_alone(byte: u8) -> Effect {
     }
 }
 
+fn effect_after_escape(byte: u8) -> Effect {
+    match byte {
+        0x20..=0x2F => Effect::Waits,
+        0x30..=0x4E => Effect::Ends(None),
+        0x4F => Effect::Waits,
+        0x50..=0x5A => Effect::Ends(None),
+        0x5B => Effect::Waits,
+        0x5C..=0x7E => Effect::Ends(None),
+        _ => Effect::ReadAfresh,
+    }
+}
+
+fn effect_after_csi(byte: u8) -> Effect {
+    match byte {
+        0x20..=0x3F => Effect::Waits,
+        0x41 => Effect::Ends(Some(Key::Up)),
+        0x42 => Effect::Ends(Some(Key::Down)),
+        0x43 => Effect::Ends(Some(Key::Right)),
+        0x44 => Effect::Ends(Some(Key::Left)),
+        0x46 => Effect::Ends(Some(Key::RowEnd)),
+        0x48 => Effect::Ends(Some(Key::RowHome)),
+        0x40..=0x7E => Effect::Ends(None),
+        _ => Effect::ReadAfresh,
+    }
+}
+
 fn effect_after(beginning: Beginning, byte: u8) -> Effect {
     match beginning {
-        Beginning::Escape => match byte {
-            0x20..=0x2F => Effect::Waits,
-            0x30..=0x4E => Effect::Ends(None),
-            0x4F => Effect::Waits,
-            0x50..=0x5A => Effect::Ends(None),
-            0x5B => Effect::Waits,
-            0x5C..=0x7E => Effect::Ends(None),
-            _ => Effect::ReadAfresh,
-        },
-        Beginning::Csi => match byte {
-            0x20..=0x3F => Effect::Waits,
-            0x41 => Effect::Ends(Some(Key::Up)),
-            0x42 => Effect::Ends(Some(Key::Down)),
-            0x43 => Effect::Ends(Some(Key::Right)),
-            0x44 => Effect::Ends(Some(Key::Left)),
-            0x46 => Effect::Ends(Some(Key::RowEnd)),
-            0x48 => Effect::Ends(Some(Key::RowHome)),
-            0x40..=0x7E => Effect::Ends(None),
-            _ => Effect::ReadAfresh,
-        },
+        Beginning::Escape => effect_after_escape(byte),
+        Beginning::Csi => effect_after_csi(byte),
         Beginning::Ss3 => match byte {
             0x20..=0x7E => Effect::Ends(None),
             _ => Effect::ReadAfresh,

@@ -7,7 +7,7 @@ use Rattle.bx_find.proofs.spans.match_end.Goals as goal
 pub returns-in-Some-clause-value : goal.returns-in-Some-clause-value
 returns-in-Some-clause-value g c =
     let says = g.D.BidiData.data c.args.tables.now in
-    let text = g.P.Pieces.text c.args.source.now in
+    let text = g.H.Haystack.text c.args.haystack.now in
     let piece = c.piece_at-piece.result.now in
     let behind = chars (drop (c.loop-next.next + length piece) text) in
     let read = piece_read text piece c.loop-next.next c.piece_at-piece.utf8 c.piece_at-piece.ensures.bytes in
@@ -18,7 +18,7 @@ returns-in-Some-clause-value g c =
 pub returns-in-Some-clause-boundary : goal.returns-in-Some-clause-boundary
 returns-in-Some-clause-boundary g c =
     let says = g.D.BidiData.data c.args.tables.now in
-    let text = g.P.Pieces.text c.args.source.now in
+    let text = g.H.Haystack.text c.args.haystack.now in
     let piece = c.piece_at-piece.result.now in
     let behind = chars (drop (c.loop-next.next + length piece) text) in
     let read = piece_read text piece c.loop-next.next c.piece_at-piece.utf8 c.piece_at-piece.ensures.bytes in
@@ -31,7 +31,7 @@ returns-in-Some-clause-boundary g c =
 pub loop-next-preserved : goal.loop-next-preserved
 loop-next-preserved g c =
     let says = g.D.BidiData.data c.args.tables.now in
-    let text = g.P.Pieces.text c.args.source.now in
+    let text = g.H.Haystack.text c.args.haystack.now in
     let piece = c.piece_at-piece.result.now in
     let behind = chars (drop (c.loop-next.next + length piece) text) in
     let read = piece_read text piece c.loop-next.next c.piece_at-piece.utf8 c.piece_at-piece.ensures.bytes in
@@ -45,7 +45,7 @@ loop-next-preserved g c =
 pub returns-clause-value : goal.returns-clause-value
 returns-clause-value g c =
     let says = g.D.BidiData.data c.args.tables.now in
-    let text = g.P.Pieces.text c.args.source.now in
+    let text = g.H.Haystack.text c.args.haystack.now in
     let past : length text ≤ c.loop-next.next = omega (arith, c.loop-next-test.false, c.len-len.ensures.value) in
     sym (c.loop-next.invariant.end
     ∙ ap (λ (cs : List ℕ). behind_letters says c.args.reading c.loop-next.left c.loop-next.next cs) (none_behind text c.loop-next.next past)

@@ -5,10 +5,10 @@ use Rattle.bx_find.proofs.spans.match_end.Given as goal
 
 abbrev pub invariant-loop-next : goal.invariant-loop-next
 invariant-loop-next g l = record {
-  bounds : IsCharBoundary (g.P.Pieces.text l.source) l.next;
-  end : match_end (g.D.BidiData.data l.tables) l.reading l.query (g.P.Pieces.text l.source) l.at
-      ≡ behind_letters (g.D.BidiData.data l.tables) l.reading l.left l.next (chars (drop l.next (g.P.Pieces.text l.source)));
+  bounds : IsCharBoundary (g.H.Haystack.text l.haystack) l.next;
+  end : match_end (g.D.BidiData.data l.sought.tables.now) l.sought.reading l.sought.query.now (g.H.Haystack.text l.haystack) l.at
+      ≡ behind_letters (g.D.BidiData.data l.sought.tables.now) l.sought.reading l.left l.next (chars (drop l.next (g.H.Haystack.text l.haystack)));
 }
 
 abbrev pub decreases-loop-next : goal.decreases-loop-next
-decreases-loop-next g l = length (g.P.Pieces.text l.source) - l.next
+decreases-loop-next g l = length (g.H.Haystack.text l.haystack) - l.next

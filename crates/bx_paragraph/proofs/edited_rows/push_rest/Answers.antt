@@ -1,7 +1,7 @@
 use Rattle.std.proofs.Common.{◌<◌, ◌-◌, ◌++◌, ◌∙◌, All, length, take, drop, get_or, map, refl, ap, ap₂, sym, subst, append_assoc, arith, rules}
 use Rattle.std.specs.Str.{IsUtf8}
 use Rattle.std.proofs.lemmas.List.{get_or_read, take_rest}
-use Rattle.bx_rows.specs.Laws.{behind, moved}
+use Rattle.bx_rows.specs.LaterRows.{behind, moved}
 use Rattle.bx_paragraph.specs.RowEdits.{DoMeetNear, HasRoom, origin}
 use Rattle.bx_paragraph.proofs.EditedText.{met-edit}
 use Rattle.bx_paragraph.proofs.Starts.{side-some}

@@ -1,5 +1,6 @@
 -- The count is the number of rows before the walk's current paragraph.
 use Rattle.std.proofs.Common.{◌≡◌, ◌-◌, ◌<◌, ◌≤◌}
+use Rattle.bx_terms.specs.declared.base.Base.{Base}
 use Rattle.bx_index.specs.Paragraphs.{lengths}
 use Rattle.bx_view.specs.Source.{bytes, count}
 use Rattle.bx_view.specs.Standing.{rows_ahead}
@@ -13,7 +14,7 @@ invariant-loop-done g l =
       paragraphs : l.walk.paragraphs ≡ lengths says text;
       number : l.done < count l.source → l.walk.number ≡ l.done;
       within : l.done ≤ l.number;
-      ahead : l.ahead ≡ rows_ahead says l.fn.base l.w text l.done;
+      ahead : (base : Base) → l.ahead ≡ rows_ahead says base l.w text l.done;
     }
 
 abbrev pub decreases-loop-done : goal.decreases-loop-done

@@ -1,7 +1,6 @@
-use Rattle.std.proofs.Common.{◌≡◌, ◌∙◌, IsCharBoundary, IsUtf8, true, ap, drop, find, nat_lt, reverse, subst, sym, unwrap_or, arith}
+use Rattle.std.proofs.Common.{◌≡◌, ◌∙◌, IsCharBoundary, true, ap, drop, find, nat_lt, reverse, subst, sym, unwrap_or, arith}
 use Rattle.std.proofs.lemmas.Str.{IsCharBoundary-start}
 use Rattle.unicode_segmentation.specs.Grapheme.{graphemes}
-use Rattle.bx_terms.specs.Sizes.{is_side}
 use Rattle.bx_view.specs.Words.{body_words, word_starts}
 use Rattle.bx_view.proofs.WordParts.{last-found, last-nearer, last-of-all}
 use Rattle.bx_view.proofs.WordRows.{row-part}
@@ -10,8 +9,8 @@ use Rattle.bx_view.proofs.words.start_before.Goals as goal
 pub last_start-requires : goal.last_start-requires
 last_start-requires g c =
     let says = g.D.BidiData.data c.args.tables.now in
-    let side = subst (λ w. is_side w ≡ true) c.width-side.ensures.width c.width-side.ensures.side in
-    let utf8 = subst IsUtf8 c.body-body.ensures c.body-body.utf8 in
+    let side = c.row_of-row.ensures.sound.side in
+    let utf8 = c.row_of-row.ensures.sound.utf8 in
     let part = row-part says c.args.paragraph.now c.requires side utf8 c.rows.row c.first-start.result (c.first-start.ensures says c.requires)
     c.rows.invariant.within in
     subst (λ b. IsCharBoundary b c.first-start.result) (sym c.body-body.ensures) part.bound
@@ -22,8 +21,8 @@ returns-in-Some g c =
     let l = c.args.paragraph.now in
     let start = c.first-start.result in
     let bound = c.rows.bound in
-    let side = subst (λ w. is_side w ≡ true) c.width-side.ensures.width c.width-side.ensures.side in
-    let utf8 = subst IsUtf8 c.body-body.ensures c.body-body.utf8 in
+    let side = c.row_of-row.ensures.sound.side in
+    let utf8 = c.row_of-row.ensures.sound.utf8 in
     let part = row-part says l c.requires side utf8 c.rows.row start (c.first-start.ensures says c.requires) c.rows.invariant.within in
     let found = ap (λ b. find (λ o. nat_lt o bound) (reverse (word_starts says true start (graphemes true (drop start b))))) (sym c.body-body.ensures)
     ∙ sym c.last_start.ensures ∙ c.in-Some.is in
@@ -35,8 +34,8 @@ rows-preserved g c =
     let l = c.args.paragraph.now in
     let start = c.first-start.result in
     let bound = c.rows.bound in
-    let side = subst (λ w. is_side w ≡ true) c.width-side.ensures.width c.width-side.ensures.side in
-    let utf8 = subst IsUtf8 c.body-body.ensures c.body-body.utf8 in
+    let side = c.row_of-row.ensures.sound.side in
+    let utf8 = c.row_of-row.ensures.sound.utf8 in
     let part = row-part says l c.requires side utf8 c.rows.row start (c.first-start.ensures says c.requires) c.rows.invariant.within in
     let none = ap (λ b. find (λ o. nat_lt o bound) (reverse (word_starts says true start (graphemes true (drop start b))))) (sym c.body-body.ensures)
     ∙ sym c.last_start.ensures ∙ c.in_default.is in
@@ -53,7 +52,7 @@ pub returns : goal.returns
 returns g c =
     let says = g.D.BidiData.data c.args.tables.now in
     let l = c.args.paragraph.now in
-    let utf8 = subst IsUtf8 c.body-body.ensures c.body-body.utf8 in
+    let utf8 = c.row_of-row.ensures.sound.utf8 in
     c.unwrap_or.ensures
     ∙ ap (λ x. unwrap_or x 0) (c.last_start-2.ensures
     ∙ ap (λ b. find (λ o. nat_lt o c.rows.bound) (reverse (word_starts says true 0 (graphemes true b)))) c.body-body.ensures)

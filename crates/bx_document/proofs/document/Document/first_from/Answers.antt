@@ -1,9 +1,10 @@
-use Rattle.std.proofs.Common.{IsUtf8, subst}
+use Rattle.std.proofs.Common.{IsCharBoundary, subst}
+use Rattle.std.specs.Prelude.{IfSome}
 use Rattle.bx_document.proofs.FoundOffsets.{first-bound}
 use Rattle.bx_document.proofs.document.Document.first_from.Goals as goal
 
 pub returns-clause-boundary : goal.returns-clause-boundary
 returns-clause-boundary g c =
-    let utf8 = subst (λ s. IsUtf8 s.document.content.text) c.self.view_is c.len-utf8.ensures.utf8 in
-    first-bound (g.D.BidiData.data c.self.inside.tables) c.args.reading c.args.query.now c.args.self.now.document.content.text
-    c.args.x utf8 c.first_from_by.result c.first_from_by.ensures
+    subst (λ s. IfSome c.first_from.result (IsCharBoundary s.document.content.text)) c.self.view_is
+    (first-bound (g.D.BidiData.data c.tables.result.now) c.args.reading c.args.query.now c.self.inside.own.content.text
+    c.args.x c.len-utf8.ensures.utf8 c.first_from.result c.first_from.ensures)

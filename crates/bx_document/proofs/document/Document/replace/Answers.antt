@@ -1,13 +1,13 @@
-use Rattle.std.proofs.Common.{rules, ◌≡◌, ◌+◌, ◌-◌, ◌∙◌, [], length, true, IsUtf8, ap, arith, subst, sym}
+use Rattle.std.proofs.Common.{rules, ◌≡◌, ◌+◌, ◌-◌, ◌∙◌, [], length, true, IsUtf8, arith, subst, sym, refl}
 use Rattle.std.proofs.lemmas.Bool.{leb-true}
 use Rattle.std.proofs.lemmas.Bool.Decides.{nat_tests}
 use Rattle.bx_text.specs.Edits.{IsRange, fits, largest_text, splice}
-use Rattle.bx_text.specs.Text.{TextState}
 use Rattle.bx_view.specs.Places.{IsTextPlace}
 use Rattle.bx_document.specs.Document.{place_after, replaced_text}
 use Rattle.bx_document.proofs.PlaceAfter.{splice_bytes}
 use Rattle.bx_document.proofs.PlacesKept.{keeps_exchanged}
 use Rattle.bx_document.proofs.ReplacedPlace.{between_bound}
+use Rattle.bx_document.proofs.SameState.{edited}
 use Rattle.bx_document.proofs.document.Document.replace.Goals as goal
 
 pub place_after_both-requires-clause-range : goal.place_after_both-requires-clause-range
@@ -40,14 +40,15 @@ invariant_of-self-2 g c =
     c.place_after.ensures.same c.in_ok-after.ensures.text_place in
     let is = subst (λ b. IsTextPlace (g.D.BidiData.data now.tables)
     (splice (splice now.document.content.text c.args.start c.args.stop []) b b c.args.new.now) after) (sym c.in_ok-between.ensures.place) both in
-    let keeps = keeps_exchanged g.D.BidiData.data _ now c.exchange.new.self.edited c.args.start c.args.stop between c.args.new.now c.args.place
+    let keeps = keeps_exchanged g.D.BidiData.data _ now _ c.args.start c.args.stop between c.args.new.now c.args.place
     between after (c.self-2.view_is ∙ c.place_after_both.ensures.same ∙ c.place_after.ensures.same)
-    (ap (λ (x : TextState). x.edited) c.in-Ok.ensures.ok) c.self-2.invariant.2
+    refl c.self-2.invariant.1
     c.requires.text_place c.in_ok-between.ensures.text_place is in
-    (c.follow.ensures, c.self-2.invariant.1, keeps, c.self-2.invariant.3)
+    let i = c.self-2.inside in
+    edited g.D.BidiData.data i.view i.row_cache i.own c.exchange.new.self _ c.in_ok-exchange.ensures.ok c.self-2.invariant.0 keeps c.self-2.invariant.2
 
-pub overflow_add-between : goal.overflow_add-between
-overflow_add-between g c =
+pub exchange-requires-clause-fits : goal.exchange-requires-clause-fits
+exchange-requires-clause-fits g c =
     let now = c.args.self.now in
     let text = now.document.content.text in
     let says = g.D.BidiData.data now.tables in

@@ -1,0 +1,47 @@
+-- The prefix of the sought letters that a search has read, as the places of its letters, and the matches still to come.
+use Rattle.std.specs.Prelude.{ℕ, ◌+◌, true, false, List, [], ◌∷◌, ◌++◌, length, map, flat_map, Option, Some, None, option_to_list, encode_utf8}
+use Rattle.bx_ucd.specs.Data.{Data}
+use Rattle.bx_find.specs.Letters.{letters_of}
+use Rattle.bx_find.specs.Matches.{begins_some}
+use Rattle.bx_find.specs.declared.reading.Reading.{Reading}
+
+-- A letter with the offset of the character that begins with it; a character's later letters have none.
+abbrev pub Placed : Type 0
+Placed = Option ℕ × ℕ
+
+-- letters of which only the first has a place
+abbrev pub placed_first : Option ℕ → List ℕ → List Placed
+placed_first place [] = []
+placed_first place (l ∷ ls) = (place, l) ∷ placed_first None ls
+
+-- the letters of characters, with their places; the first character is at the offset `at`
+abbrev pub placed : Data → Reading → ℕ → List ℕ → List Placed
+placed says reading at [] = []
+placed says reading at (c ∷ cs) = placed_first (Some at) (letters_of says reading c) ++ placed says reading (at + length (encode_utf8 c)) cs
+
+-- the places from which the letters begin with the sought ones
+abbrev pub found : List ℕ → List Placed → List (Option ℕ)
+found sought [] = []
+found sought (p ∷ ps) = elim (begins_some sought (p.1 ∷ map (λ q. q.1) ps)) [ true ↦ p.0 ∷ found sought ps | false ↦ found sought ps ]
+
+-- places paired with letters
+abbrev pub with_letters : List (Option ℕ) → List ℕ → List Placed
+with_letters [] ls = []
+with_letters (o ∷ os) [] = []
+with_letters (o ∷ os) (l ∷ ls) = (o, l) ∷ with_letters os ls
+
+-- the same once the letters `ps` follow a prefix of the sought ones
+abbrev pub found_after : List ℕ → List (Option ℕ) → List Placed → List (Option ℕ)
+found_after sought prefix ps = found sought (with_letters prefix sought ++ ps)
+
+-- the offsets of some places
+abbrev pub offsets_of : List (Option ℕ) → List ℕ
+offsets_of places = flat_map option_to_list places
+
+-- the matches once the letters `ps` follow a prefix
+abbrev pub matches_after : List ℕ → List (Option ℕ) → List Placed → List ℕ
+matches_after sought prefix ps = offsets_of (found_after sought prefix ps)
+
+-- the same for characters that follow, the first at the offset `at`
+abbrev pub to_come : Data → Reading → List ℕ → List (Option ℕ) → ℕ → List ℕ → List ℕ
+to_come says reading sought prefix at cs = matches_after sought prefix (placed says reading at cs)

@@ -1,0 +1,41 @@
+//! Places of a body.
+ghost use Rattle.std.specs.Prelude.{◌≡◌, chars, length, take};
+ghost use Rattle.std.specs.Str.{IsCharBoundary};
+
+use crate::unit_levels::char_count;
+use bx_joining::{LeveledBody, TextAt};
+
+/// The number of characters before an offset of a text, counted from a place before or after it.
+fn number_at(text: &str, near: usize, number: usize, offset: usize) -> usize
+    requires near { IsCharBoundary text.now near }
+    requires number { number ≡ length (chars (take near text.now)) }
+    requires offset { IsCharBoundary text.now offset }
+    ensures { result ≡ length (chars (take offset text.now)) }
+{
+    if near <= offset {
+        return number + char_count(&text[near..offset]);
+    }
+    number - char_count(&text[offset..near])
+}
+
+/// The place at another offset of a body. Only the text between both places is read.
+pub(crate) fn moved<'t, 'e>(near: TextAt<'t, 'e>, offset: usize) -> TextAt<'t, 'e>
+    requires from { IsCharBoundary near.body.text.now near.offset }
+    requires number { near.number ≡ length (chars (take near.offset near.body.text.now)) }
+    requires to { IsCharBoundary near.body.text.now offset }
+    ensures offset { result.offset ≡ offset }
+    ensures number { result.number ≡ length (chars (take offset near.entry.body.text.now)) }
+    ensures text { result.body.text.now ≡ near.entry.body.text.now }
+    ensures each { result.body.each.now ≡ near.entry.body.each.now }
+{
+    let text = near.body.text();
+    let number = number_at(text, near.offset, near.number, offset);
+    TextAt {
+        body: LeveledBody {
+            text,
+            each: near.body.each,
+        },
+        offset,
+        number,
+    }
+}

@@ -1,0 +1,13 @@
+-- A row of the text that a `LentRow` names, and the window's columns.
+use Rattle.std.specs.Prelude.{ℕ}
+use Rattle.bx_ucd.specs.declared.data.BidiData.{Ghosts}
+use Rattle.bx_paragraph.specs.declared.lent_row.LentRow.{LentRow}
+use Rattle.bx_paragraph.specs.LentRow.{row}
+use Rattle.bx_view.specs.TextRows.{TextRow, text_row}
+
+module _ {D : Type 0} {g : Ghosts D} (s : LentRow D g) where
+  abbrev pub placed : TextRow
+  placed = text_row s.start (row s)
+
+  abbrev pub columns : ℕ
+  columns = s.paragraph.now.w
