@@ -199,7 +199,7 @@ check_gone_when_torn() {
     press '\023'
     same "FILE after the second save" "$(state)" new
     check_no_mark
-    # the group's permissions may have been those of an access list
+    # the mode's group bits may have been the mask of an access list
     mode=600
     check_place
     check_nothing_left

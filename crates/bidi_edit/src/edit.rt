@@ -15,6 +15,9 @@ use bx_store::Store;
 use bx_ucd::BidiData;
 use std::io::{Read, Write};
 
+/// Limit of reads in a run.
+const READS: u64 = 1_000_000_000;
+
 /// The fate of the changes in a session without a fault.
 #[derive(Clone, Copy, PartialEq, Eq, Debug)]
 pub enum Changes {
@@ -73,7 +76,7 @@ fn resume<D: BidiData + Drop, R: Read, J: Journal + Drop, W: Write, S: Store>(
         ((store.new ≡ store.old) × (reader.new ≡ reader.old) × (writer.new ≡ writer.old) × (recorder.new ≡ recorder.old)) }
 {
     begin(session, keys)?;
-    let end = run_recorded(reader, recorder, writer, store, session);
+    let end = run_recorded(READS, reader, recorder, writer, store, session);
     outcome_of(end, session.changed())
 }
 

@@ -28,7 +28,8 @@ use Rattle.bx_editor.specs.Keys.{after_any, after_key, as_left, effect_of, is_to
 use Rattle.bx_editor.specs.Putting.{after_character, after_new_line, has_room, is_paste, line_end, put_in, typed, with_selection_replaced, yielding}
 use Rattle.bx_editor.specs.Region.{is_empty, region}
 use Rattle.bx_editor.specs.Selecting.{is_selection, is_soft}
-use Rattle.bx_editor_laws.specs.SelectionLaws.{bytes_put, is_removal, rest, rest_with, seam, HasSelection, IsRefused, IsReplacedBy, IsRest, PasteMarksAreUnseen, SelectionComesBack, SelectionGivesWay, SelectionIsRemoved}
+use Rattle.bx_editor_laws.specs.SelectionLaws.{bytes_put, is_removal, rest, rest_with, seam, HasSelection, IsRefused, IsReplacedBy, IsRest}
+use Rattle.bx_editor_laws.specs.SelectionLaws.{PasteMarksAreUnseen, SelectionComesBack, SelectionGivesWay, SelectionIsRemoved}
 use Rattle.bx_editor.proofs.InSearch.{any-key}
 use Rattle.bx_editor_laws.proofs.OneRun.{goes-back, removal-begins, replacement-begins, IsOneRun}
 

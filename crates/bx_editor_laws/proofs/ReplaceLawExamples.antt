@@ -18,14 +18,14 @@ use Rattle.bx_find.specs.declared.reading.Reading.TheVariants.{Close}
 use Rattle.bx_view.specs.Moves.{place_at}
 use Rattle.bx_editor.specs.Editor.{Editor, rows}
 use Rattle.bx_editor_laws.specs.ReplaceLaws.{with_all, AreApart, EnterReplaces, FindPassesOver, IsMatch, IsShowing, LiesIn, ReplacedComesBack, ReplaceReplacesAll, SameLettersStay, ShownStands}
-use Rattle.bx_editor.proofs.Computed.{tables, start, after, letters}
+use Rattle.bx_editor.proofs.Computed.{tables, start, after, letters as keys_of}
 
 abbrev enter : Key
 enter = Insert 0xA
 
 -- a match of the query is shown, to be replaced by the other text
 abbrev showing : List ℕ → List ℕ → List ℕ → Editor
-showing text query other = after (start text 2 60) (Replace ∷ letters query ++ (enter ∷ letters other) ++ (enter ∷ []))
+showing text query other = after (start text 2 60) (Replace ∷ keys_of query ++ (enter ∷ keys_of other) ++ (enter ∷ []))
 
 -- the letters of a text, closely read
 abbrev spelt : List ℕ → List ℕ

@@ -108,7 +108,7 @@ past_same (_ ∷ ts) = refl
 past_behind : (b t a : Class) (ts : List Class) → is_et (separator b t a) ≡ true → is_en_past (run next_beside out_separator t ts) ≡ is_en_past ts
 past_behind b t a ts e = ap (λ u. is_en_past (run next_beside out_separator u ts)) (et_of b t a e) ∙ past_same ts
 
--- W1 to W3, as a list: sos stands for an NSM and for a strong type
+-- W1 to W3, as a list; sos is both the type before the first character and the last strong type
 number_is : (strong : Class) → number_after strong ≡ number_by (strong_of strong)
 number_is L = refl
 number_is AL = refl

@@ -18,7 +18,7 @@ after_w1 mark t = elim (is_nsm t) [ true ↦ mark | false ↦ t ]
 abbrev pub mark_next : Class → Class → Class
 mark_next mark t = elim (is_nsm t) [ true ↦ mark | false ↦ mark_after t ]
 
--- the strong type that sos stands for
+-- sos as a strong type
 abbrev pub strong_of : Class → Strong
 strong_of L = Left
 strong_of AL = Arabic
@@ -91,7 +91,7 @@ left_number_by _ = EN
 abbrev pub after_w7 : Strong → Class → Class
 after_w7 strong t = elim (is_en t) [ true ↦ left_number_by strong | false ↦ t ]
 
--- before the first character sos stands for the types before it
+-- before the first character: sos is the type before it
 abbrev pub begin : Class → Before
 begin sos = record { mark = sos; strong = strong_of sos; neighbour = Other; terminators = Undecided }
 

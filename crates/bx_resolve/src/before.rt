@@ -57,7 +57,7 @@ pub fn is_settled(t: Class) -> bool
     }
 }
 
-/// The strong type that a sequence's `sos` stands for.
+/// A sequence's `sos` as a strong type.
 fn strong_of(sos: Class) -> Strong
     ensures { result ≡ strong_of sos }
 {
@@ -234,7 +234,7 @@ fn after_w7(strong: Strong, t: Class) -> Class
 }
 
 impl Before {
-    /// Before the first character, where `sos` stands for the types before it.
+    /// Before the first character: `sos` is the type before it.
     pub fn new(sos: Class) -> Self
         ensures { result ≡ begin sos }
     {

@@ -2,7 +2,7 @@
 use Rattle.std.specs.Prelude.{◌≡◌, ℕ, List, [], ◌∷◌, ◌++◌, Option, Some, None, Result, Ok, Err, IfSome}
 use Rattle.bx_session.specs.declared.action.Action.{Action}
 use Rattle.bx_session.specs.declared.action.Action.TheVariants.{Read}
-use Rattle.bx_session.specs.Log.{DidAll, read_by}
+use Rattle.bx_session.specs.Log.{read_by}
 
 pub record DeviceState : Type 0 where
   -- the bytes that no read gave yet
@@ -24,7 +24,3 @@ pub record DidInMemory (old : DeviceState) (action : Action) (new : DeviceState)
   pub input : old.input ≡ read_by action ++ new.input
   pub log : Logs old.log (action ∷ []) new.log
   pub end : action ≡ Read [] → new.input ≡ []
-
--- a device's log has all that was done to it, in order
-abbrev pub HasWholeLog : Type 0
-HasWholeLog = (old new : DeviceState) (actions : List Action) → DidAll DidInMemory old actions new → Logs old.log actions new.log

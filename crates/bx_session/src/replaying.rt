@@ -40,7 +40,7 @@ impl<D: BidiData + Drop> Session<D> {
                 self.editor.pass_quit();
                 Ok(())
             }
-            _ => self.press(key, None),
+            _ => self.press(key),
         }
     }
 

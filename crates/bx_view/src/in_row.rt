@@ -15,11 +15,7 @@ use bx_ucd::BidiData;
 
 impl View {
     /// Lends a row with its paragraph and tables.
-    pub(crate) fn row<'t, D: BidiData>(
-        &self,
-        source: &Source<'t, D>,
-        at: RowAt,
-    ) -> LentRow<'_, 't, D>
+    pub fn row<'t, D: BidiData>(&self, source: &Source<'t, D>, at: RowAt) -> LentRow<'_, 't, D>
         requires row { Stands source.now self.now at }
         ensures start { result.start ≡ at.start }
         ensures columns { columns result ≡ self.now.w }

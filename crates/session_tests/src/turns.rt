@@ -67,7 +67,7 @@ fn what_a_turn_queued_is_flushed_before_the_next_read(rt: HostRuntime) -> Result
         flushed: &flushed,
         seen: Vec::new(alloc),
     };
-    let _ = run(&mut reader, &mut writer, &mut store, &mut session);
+    let _ = run(9, &mut reader, &mut writer, &mut store, &mut session);
     assert_eq!(rt; reader.seen.as_slice(), [22, 37, 37].as_slice());
     assert_eq!(rt;
         reader.keys,

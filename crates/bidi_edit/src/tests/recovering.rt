@@ -125,6 +125,7 @@ fn run_kept(alloc: Global, journal: &mut Small) -> Result<(bool, bool), Fail> {
     let mut output = Vec::new(alloc);
     let mut store = MemoryStore::new(alloc, None);
     let _ = run_recorded(
+        9,
         &mut input,
         &mut recorder,
         &mut output,

@@ -12,7 +12,8 @@ loop-at-init g c =
       bounds = c.requires;
       fewer = c.empty_prefix-prefix.ensures.shorter;
       first = from_offset says c.args.sought.now.reading c.args.sought.now.query.now text c.args.x c.len-len.ensures.utf8 c.requires
-          ∙ ap (λ (os : List (Option ℕ)). slice_get (to_come says c.args.sought.now.reading c.args.sought.now.query.now os c.args.x (chars (drop c.args.x text))) 0) (sym c.empty_prefix-prefix.ensures.empty);
+          ∙ ap (λ (os : List (Option ℕ)). slice_get (to_come says c.args.sought.now.reading c.args.sought.now.query.now os c.args.x
+          (chars (drop c.args.x text))) 0) (sym c.empty_prefix-prefix.ensures.empty);
     }
 
 pub returns-in-Some-clause-found : goal.returns-in-Some-clause-found

@@ -10,7 +10,8 @@ invariant-loop-at g l = record {
   fewer : length l.prefix < length l.sought.query.now;
   before : l.latest.before ≡ length (g.H.Haystack.text l.haystack);
   last : last_from (g.D.BidiData.data l.sought.tables.now) l.sought.reading l.sought.query.now (g.H.Haystack.text l.haystack) l.x
-      ≡ last_below (length (g.H.Haystack.text l.haystack)) l.latest.found (to_come (g.D.BidiData.data l.sought.tables.now) l.sought.reading l.sought.query.now l.prefix l.at (chars (drop l.at (g.H.Haystack.text l.haystack))));
+      ≡ last_below (length (g.H.Haystack.text l.haystack)) l.latest.found (to_come (g.D.BidiData.data l.sought.tables.now) l.sought.reading l.sought.query.now l.prefix
+      l.at (chars (drop l.at (g.H.Haystack.text l.haystack))));
 }
 
 abbrev pub decreases-loop-at : goal.decreases-loop-at

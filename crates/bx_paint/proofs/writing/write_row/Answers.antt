@@ -41,7 +41,8 @@ returns-clause-bytes c =
     let f = c.front_len-front.result in
     let tail = all_seen c.columns-2.result.now in
     on_ok_weaker c.write_tail.result
-    (λ (sent : c.write_tail.new.out.painting ≡ c.write_columns.new.out.painting ++ (tail_sent c.args.row f c.in_ok-negative.negative tail).bytes). row_bytes c.args.row f c.args.negative c.in_ok-negative.negative c.front.result tail c.front-2.result out c.write_columns.new.out.painting
+    (λ (sent : c.write_tail.new.out.painting ≡ c.write_columns.new.out.painting ++ (tail_sent c.args.row f c.in_ok-negative.negative tail).bytes).
+    row_bytes c.args.row f c.args.negative c.in_ok-negative.negative c.front.result tail c.front-2.result out c.write_columns.new.out.painting
     c.write_tail.new.out.painting
     c.in_ok-negative.ensures.bytes c.in_ok-negative.ensures.rendition sent ∙ ap (λ (s : Sent). out ++ s.bytes) (sym (parts c)))
     c.write_tail.ensures.bytes
