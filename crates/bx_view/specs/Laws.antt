@@ -1,11 +1,9 @@
 -- Laws of the places of every text, in every window.
-use Rattle.std.specs.Prelude.{◌≡◌, ℕ, ◌+◌, ◌-◌, ◌<◌, ◌≤◌, true, List, length, slice_get, Some, IfSome, All, Contains, IsUtf8, IsCharBoundary}
+use Rattle.std.specs.Prelude.{◌≡◌, ℕ, ◌+◌, ◌-◌, ◌<◌, ◌≤◌, List, length, slice_get, Some, IfSome, All, Contains, IsCharBoundary}
 use Rattle.std.specs.Int.{abs_diff}
 use Rattle.std.specs.List.{concat}
 use Rattle.std.specs.List.Sorted.{IsStrictlyIncreasing}
 use Rattle.bx_ucd.specs.Data.{Data}
-use Rattle.bx_terms.specs.Sizes.{is_side}
-use Rattle.bx_terms.specs.declared.base.Base.{Base}
 use Rattle.bx_paragraph.specs.declared.moves.Visual.{Visual}
 use Rattle.bx_view.specs.declared.moves.Logical.{Logical}
 use Rattle.bx_view.specs.declared.moves.Logical.TheVariants.{Back, Forward}
@@ -13,15 +11,9 @@ use Rattle.bx_view.specs.declared.moves.Move.{Move}
 use Rattle.bx_view.specs.declared.moves.Vertical.{Vertical}
 use Rattle.bx_view.specs.Moves.{entry_in, moved, page, place_at, place_from, row_end, row_home, step_logical, step_visual, vertical}
 use Rattle.bx_view.specs.Places.{pieces, text_places, IsTextPlace}
-use Rattle.bx_view.specs.TextRows.{TextRow, row_at, row_of, text_rows}
+use Rattle.bx_view.specs.TextRows.{TextRow, row_at, row_of}
 use Rattle.bx_view.specs.Top.{follow}
 use Rattle.bx_view.specs.Words.{step_word, text_stops}
-
--- a property of the rows of every text, in every window and direction
-abbrev pub InEachWindow : (Data → List ℕ → ℕ → List TextRow → Type 0) → Type 0
-InEachWindow P =
-    (says : Data) (base : Base) (w : ℕ) (text : List ℕ) → is_side w ≡ true → IsUtf8 text
-    → P says text w (text_rows says base w text)
 
 -- The pieces of a text joined are the text. Its places are character boundaries and strictly increase from the text's
 -- start to its end.
@@ -31,12 +23,6 @@ pub record SpansText (says : Data) (text : List ℕ) : Type 0 where
   pub last : slice_get (text_places says text) (length (text_places says text) - 1) ≡ Some (length text)
   pub rise : IsStrictlyIncreasing (text_places says text)
   pub between : All (IsCharBoundary text) (text_places says text)
-
--- a place is the greatest one not after an offset
-pub record IsGreatestPlace (says : Data) (text : List ℕ) (offset place : ℕ) : Type 0 where
-  pub is_place : IsTextPlace says text place
-  pub not_after : place ≤ offset
-  pub greatest : (p : ℕ) → IsTextPlace says text p → p ≤ offset → p ≤ place
 
 -- a place is the least one not before an offset
 pub record IsLeastPlace (says : Data) (text : List ℕ) (offset place : ℕ) : Type 0 where

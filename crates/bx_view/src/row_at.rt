@@ -4,11 +4,11 @@
 #[derive(Clone, Copy)]
 pub struct RowAt {
     /// The number of the row's paragraph, from 0.
-    pub(crate) paragraph: usize,
+    pub paragraph: usize,
     /// The offset, in bytes of the text, at which that paragraph's body begins.
-    pub(crate) start: usize,
+    pub start: usize,
     /// The row's number in the paragraph, from 0.
-    pub(crate) row: usize,
+    pub row: usize,
     /// The index of the cached paragraph.
-    pub(crate) cached: usize,
+    pub cached: usize,
 }

@@ -10,10 +10,7 @@ use bx_index::ParagraphWalk;
 use bx_ucd::BidiData;
 
 /// The body of the walk's current paragraph.
-pub(crate) fn current_span<D: BidiData>(
-    source: &Source<'_, D>,
-    walk: &ParagraphWalk<'_>,
-) -> TextSpan
+pub fn current_span<D: BidiData>(source: &Source<'_, D>, walk: &ParagraphWalk<'_>) -> TextSpan
     requires walk { walk.now.paragraphs ≡ lengths (D.data source.now.tables.now) (bytes source.now) }
     requires number { walk.now.number < count source.now }
     ensures number { result.number ≡ walk.now.number }

@@ -2,11 +2,11 @@
 
 /// The body of a paragraph, by its offsets in bytes of the text.
 #[derive(Clone, Copy)]
-pub(crate) struct TextSpan {
+pub struct TextSpan {
     /// The number of the paragraph, from 0.
-    pub(crate) number: usize,
+    pub number: usize,
     /// The offset at which the body begins.
-    pub(crate) start: usize,
+    pub start: usize,
     /// The offset at which it ends.
-    pub(crate) stop: usize,
+    pub stop: usize,
 }

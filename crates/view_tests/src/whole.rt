@@ -9,6 +9,7 @@ use bx_terms::{Base, is_side};
 use bx_text::Text;
 use bx_ucd::{BidiData, Tables, sample_tables};
 use bx_view::{Source, View};
+use bx_view_laws::{first, follow, row_count, row_of, slots};
 use std::alloc::Global;
 use std::test::Fail;
 
@@ -53,17 +54,17 @@ impl Whole {
 
     pub(crate) fn row_count(&self) -> Result<usize, Fail> {
         let view = View::of(self.alloc, self.w, self.base);
-        Ok(view.row_count(&self.source())?)
+        Ok(row_count(self.alloc, &view, &self.source())?)
     }
 
     pub(crate) fn row_of(&self, place: usize) -> Result<usize, Fail> {
         let mut view = View::of(self.alloc, self.w, self.base);
-        Ok(view.row_of(&self.source(), place)?)
+        Ok(row_of(self.alloc, &mut view, &self.source(), place)?)
     }
 
     pub(crate) fn first(&self, row: usize) -> Result<Option<usize>, Fail> {
         let view = View::of(self.alloc, self.w, self.base);
-        Ok(view.first(&self.source(), row)?)
+        Ok(first(self.alloc, &view, &self.source(), row)?)
     }
 
     pub(crate) fn column_of(&self, place: usize) -> Result<u16, Fail> {
@@ -73,7 +74,7 @@ impl Whole {
 
     pub(crate) fn slots(&self, place: usize) -> Result<Vec<usize>, Fail> {
         let mut view = View::of(self.alloc, self.w, self.base);
-        Ok(view.slots(&self.source(), place)?)
+        Ok(slots(&mut view, &self.source(), place)?)
     }
 
     pub(crate) fn slots_in(&self, place: usize, part: (usize, usize)) -> Result<Vec<Slot>, Fail> {
@@ -88,6 +89,6 @@ impl Whole {
             return Err(Fail::new("no rows"));
         }
         let mut view = View::of(self.alloc, self.w, self.base);
-        Ok(view.follow(&self.source(), top, place, t)?)
+        Ok(follow(&mut view, &self.source(), top, place, t)?)
     }
 }
