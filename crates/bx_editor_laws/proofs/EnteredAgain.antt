@@ -20,10 +20,10 @@ use Rattle.bx_paragraph.specs.declared.slot.Slot.{Slot}
 use Rattle.bx_paragraph.specs.BodyRows.{BodyRow}
 use Rattle.bx_paragraph.specs.Slots.{column_of, covers, end_slot, entry, extent_of, first_in, left_column, opposite, or_else, row_slots, side_by_side, slot, slot_offsets, toward}
 use Rattle.bx_paragraph.proofs.RowSlots.{columns-in-order, extent-is}
-use Rattle.bx_view.proofs.CellColumns.{end_of, extents-total, left_of, total}
+use Rattle.bx_view.proofs.CellColumns.{AllSome, end_of, extents-total, left_of, total}
 use Rattle.bx_view.proofs.KeptPlaces.{HasLevels}
 use Rattle.bx_view.proofs.RowFits.{Fits}
-use Rattle.bx_editor_laws.proofs.UnitColumns.{AllSome, HasColumns}
+use Rattle.bx_editor_laws.proofs.UnitColumns.{HasColumns}
 
 abbrev offset_of : Slot → ℕ
 offset_of s = s.offset

@@ -7,6 +7,7 @@ use Rattle.bx_view.proofs.StepPlaces.{least-here, least-last, least-next}
 use Rattle.bx_view.proofs.KeptPlaces.{place-from-kept}
 use Rattle.bx_view.proofs.TextPlaces.{place-between}
 use Rattle.bx_view.proofs.view.View.place_from.Goals as goal
+use Rattle.bx_view.proofs.view.View.place_from.Goals.{In-Some-2}
 
 pub returns-in-Some-clause-place : goal.returns-in-Some-clause-place
 returns-in-Some-clause-place g c =
@@ -35,17 +36,16 @@ returns-in_default-2-clause-place g c =
     (c.in_ok-last.ensures ∙ ap (λ r. r.start + last_of r.row) (c.row-in_default-2.ensures.row n still))
     (c.in_ok-place.ensures ∙ ap (λ r. find (nat_le c.args.offset) (places_of r)) (c.row.ensures.row n on))
 
+-- the row after it
+there : (g : _) (c : In-Some-2 g)
+    → StandsOn (g.D.BidiData.data c.args.source.now.tables.now) c.next_row.new.self c.args.source.now.text.now.edited.text c.in-Some-2.next
+    (row_of (rows_by (g.D.BidiData.data c.args.source.now.tables.now) c.row_at.new.self c.args.source.now.text.now.edited.text) c.args.offset + 1)
+there g c =
+    subst (IsNext (g.D.BidiData.data c.args.source.now.tables.now) c.next_row.new.self c.args.source.now.text.now.edited.text _) c.in-Some-2.is
+    (c.in_ok-next.ensures.next _ c.in_ok-at.ensures.row)
+
 pub first_in-requires : goal.first_in-requires
-first_in-requires g c =
-    let says = g.D.BidiData.data c.args.source.now.tables.now in
-    let text = c.args.source.now.text.now.edited.text in
-    let v = c.row_at.new.self in
-    let on = c.in_ok-at.ensures.row in
-    let n : ℕ = row_of (rows_by says v text) c.args.offset in
-    let later = c.next_row.new.self in
-    let there : StandsOn says later text c.in-Some-2.next (n + 1) =
-    subst (IsNext says later text n) c.in-Some-2.is (c.in_ok-next.ensures.next n on) in
-    record { row = (n + 1, there) }
+first_in-requires g c = record { row = (_, there g (goal.at.first_in-requires g c).In-Some-2) }
 
 pub returns-clause-place : goal.returns-clause-place
 returns-clause-place g c =
@@ -54,11 +54,9 @@ returns-clause-place g c =
     let v = c.row_at.new.self in
     let on = c.in_ok-at.ensures.row in
     let n : ℕ = row_of (rows_by says v text) c.args.offset in
-    let later = c.next_row.new.self in
-    let there : StandsOn says later text c.in-Some-2.next (n + 1) =
-    subst (IsNext says later text n) c.in-Some-2.is (c.in_ok-next.ensures.next n on) in
+    let after = there g (goal.at.returns-clause-place g c).In-Some-2 in
     least-next says c.args.self.now v text c.args.offset c.in_ok-at.at c.args.source.now.utf8 c.row_at.ensures.keeps on c.in_ok-place.field-0
-    c.in_default.is later c.next_row.ensures.keeps c.in-Some-2.next there c.first_in.result (c.first_in.ensures (n + 1) there)
+    c.in_default.is c.next_row.new.self c.next_row.ensures.keeps c.in-Some-2.next after c.first_in.result (c.first_in.ensures (n + 1) after)
     (c.in_ok-place.ensures ∙ ap (λ r. find (nat_le c.args.offset) (places_of r)) (c.row.ensures.row n on))
 
 pub returns-in-Some-clause-text_place : goal.returns-in-Some-clause-text_place

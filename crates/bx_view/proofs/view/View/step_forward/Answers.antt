@@ -3,6 +3,7 @@ use Rattle.bx_view.specs.FoundRow.{IsNext, StandsOn, rows_by}
 use Rattle.bx_view.specs.TextRows.{places_of, row_of}
 use Rattle.bx_view.proofs.StepPlaces.{behind-here, behind-last, behind-next}
 use Rattle.bx_view.proofs.view.View.step_forward.Goals as goal
+use Rattle.bx_view.proofs.view.View.step_forward.Goals.{In-Some-2}
 
 pub returns-in-Some-clause-place : goal.returns-in-Some-clause-place
 returns-in-Some-clause-place g c =
@@ -27,17 +28,16 @@ returns-in_default-2-clause-place g c =
     behind-last says c.args.self.now v text c.args.place c.in_ok-at.at c.args.source.now.utf8 c.row_at.ensures.keeps on c.in_ok-after.field-0
     c.in_default.is later c.next_row.ensures.keeps last (c.in_ok-after.ensures ∙ ap (λ r. find (nat_lt c.args.place) (places_of r)) (c.row.ensures.row n on))
 
+-- the row after it
+there : (g : _) (c : In-Some-2 g)
+    → StandsOn (g.D.BidiData.data c.args.source.now.tables.now) c.next_row.new.self c.args.source.now.text.now.edited.text c.in-Some-2.next
+    (row_of (rows_by (g.D.BidiData.data c.args.source.now.tables.now) c.row_at.new.self c.args.source.now.text.now.edited.text) c.args.place + 1)
+there g c =
+    subst (IsNext (g.D.BidiData.data c.args.source.now.tables.now) c.next_row.new.self c.args.source.now.text.now.edited.text _) c.in-Some-2.is
+    (c.in_ok-next.ensures.next _ c.in_ok-at.ensures.row)
+
 pub first_in-requires : goal.first_in-requires
-first_in-requires g c =
-    let says = g.D.BidiData.data c.args.source.now.tables.now in
-    let text = c.args.source.now.text.now.edited.text in
-    let v = c.row_at.new.self in
-    let on = c.in_ok-at.ensures.row in
-    let n : ℕ = row_of (rows_by says v text) c.args.place in
-    let later = c.next_row.new.self in
-    let there : StandsOn says later text c.in-Some-2.next (n + 1) =
-    subst (IsNext says later text n) c.in-Some-2.is (c.in_ok-next.ensures.next n on) in
-    record { row = (n + 1, there) }
+first_in-requires g c = record { row = (_, there g (goal.at.first_in-requires g c).In-Some-2) }
 
 pub returns-clause-place : goal.returns-clause-place
 returns-clause-place g c =
@@ -46,9 +46,7 @@ returns-clause-place g c =
     let v = c.row_at.new.self in
     let on = c.in_ok-at.ensures.row in
     let n : ℕ = row_of (rows_by says v text) c.args.place in
-    let later = c.next_row.new.self in
-    let there : StandsOn says later text c.in-Some-2.next (n + 1) =
-    subst (IsNext says later text n) c.in-Some-2.is (c.in_ok-next.ensures.next n on) in
+    let after = there g (goal.at.returns-clause-place g c).In-Some-2 in
     behind-next says c.args.self.now v text c.args.place c.in_ok-at.at c.args.source.now.utf8 c.row_at.ensures.keeps on c.in_ok-after.field-0
-    c.in_default.is later c.next_row.ensures.keeps c.in-Some-2.next there c.first_in.result (c.first_in.ensures (n + 1) there)
+    c.in_default.is c.next_row.new.self c.next_row.ensures.keeps c.in-Some-2.next after c.first_in.result (c.first_in.ensures (n + 1) after)
     (c.in_ok-after.ensures ∙ ap (λ r. find (nat_lt c.args.place) (places_of r)) (c.row.ensures.row n on))
