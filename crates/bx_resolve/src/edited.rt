@@ -13,7 +13,7 @@ use bx_terms::Base;
 use bx_ucd::BidiData;
 use std::alloc::Global;
 
-/// The levels of a piece of text resolved alone, under a paragraph level.
+/// The levels of a piece of text resolved alone, under a paragraph level, 0 or 1.
 fn piece_levels<D: BidiData>(
     alloc: Global,
     piece: &str,
@@ -31,29 +31,8 @@ fn piece_levels<D: BidiData>(
     Ok(levels.each)
 }
 
-/// Replaces the levels of a span by those of a piece of text resolved alone.
-fn resolve_span<D: BidiData>(
-    levels: &mut Levels,
-    tables: &D,
-    piece: &str,
-    span: Span,
-) -> Result<(), ResolveError>
-    requires low { levels.old.paragraph ≤ 1 }
-    requires ordered { span.first ≤ span.last }
-    requires inside { span.last ≤ length levels.old.each.items }
-    ensures paragraph { levels.new.paragraph ≡ levels.old.paragraph }
-    ensures each { OnOk result (levels.new.each.items ≡ splice levels.old.each.items span.first span.last
-        (paragraph_levels (D.data tables.now) levels.old.paragraph (chars piece.now))) }
-    ensures err { OnErr result (levels.new.each.items ≡ levels.old.each.items) }
-{
-    let alloc = *levels.each.allocator();
-    let found = piece_levels(alloc, piece, tables, levels.paragraph)?;
-    replace_span(&mut levels.each, span, found)?;
-    Ok(())
-}
-
 /// Updates the levels of a text after an edit between two strong characters (L, R or AL). `piece` is the new text from the
-/// first of them through the second, and `span` has the old indexes of that text.
+/// first of them through the second, and `span` has the indexes in the old text from the first through the second.
 ///
 /// Errors: `OutOfMemory`; the levels are unchanged.
 pub fn follow_between<D: BidiData>(
@@ -72,7 +51,9 @@ pub fn follow_between<D: BidiData>(
         levels.old levels.new) }
     ensures err { OnErr result (levels.new.each.items ≡ levels.old.each.items) }
 {
-    resolve_span(levels, tables, piece, span)?;
+    let alloc = *levels.each.allocator();
+    let found = piece_levels(alloc, piece, tables, levels.paragraph)?;
+    replace_span(&mut levels.each, span, found)?;
     Ok(())
 }
 
@@ -96,6 +77,6 @@ pub fn follow_to_end<D: BidiData>(
     ensures err { OnErr result (levels.new.each.items ≡ levels.old.each.items) }
 {
     let last = levels.each.len();
-    resolve_span(levels, tables, piece, Span { first, last })?;
+    follow_between(levels, tables, piece, Span { first, last })?;
     Ok(())
 }

@@ -2,6 +2,7 @@
 #![tactic(auto)]
 
 mod at_indexes;
+mod before;
 mod body;
 mod brackets;
 mod by_rules;
@@ -11,6 +12,7 @@ mod formatted;
 mod laws;
 mod lent_sequence;
 mod neutral;
+mod one_pass;
 mod paragraph;
 mod resolve;
 mod scratch;

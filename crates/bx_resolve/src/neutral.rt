@@ -2,7 +2,7 @@
 ghost use Rattle.std.specs.Prelude.{◌≡◌, ◌≤◌, ◌+◌, ◌||◌, All, IfOk, Some};
 ghost use Rattle.bx_explicit.specs.Stack.{max_depth};
 ghost use Rattle.bx_resolve.specs.Levels.{max_level};
-ghost use Rattle.bx_resolve.specs.Neutral.{side_of, side, agreed, n1, n2, n2_at, rise_even, rise_odd, implicit_at, implicit};
+ghost use Rattle.bx_resolve.specs.Neutral.{side_of, side, agreed, n1, n2, all_taken, taken, rise_even, rise_odd, implicit_at, implicit};
 ghost use Rattle.bx_resolve.specs.Weak.{is_an, is_en};
 
 use crate::paragraph::Level;
@@ -10,7 +10,7 @@ use bx_ucd::Class;
 use bx_ucd::class::is_neutral;
 use std::alloc::{AllocError, Global};
 
-/// The direction that a class counts as beside neutrals: numbers count as R.
+/// The direction that a type counts as beside neutrals: numbers count as R.
 fn side_of(t: Class) -> Class
     ensures { result ≡ side_of t }
 {
@@ -20,7 +20,7 @@ fn side_of(t: Class) -> Class
     }
 }
 
-/// The direction of the first class that is not neutral, or `end`.
+/// The direction of the first type that is not neutral, or `end`, which is sos or eos.
 fn side(end: Class, types: &[Class]) -> Class
     ensures { result ≡ side end types.now }
 {
@@ -43,29 +43,6 @@ fn agreed(t: Class, before: Class, after: Class) -> Class
     }
 }
 
-/// N1: neutrals between two equal directions take that direction.
-#[tactic(auto, using(crate::proofs::Run::run_write, crate::proofs::Run::run_keep, crate::proofs::Run::n1_run, crate::proofs::Run::side_more))]
-pub fn n1(types: &mut [Class], sos: Class, eos: Class)
-    ensures { types.new ≡ n1 sos eos types.old }
-{
-    let mut before = sos;
-    let mut known: Option<Class> = None;
-    for i in 0..types.len() {
-        let t = types[i];
-        if is_neutral(t) {
-            let after = match known {
-                Some(after) => after,
-                None => side(eos, &types[i + 1..]),
-            };
-            known = Some(after);
-            types[i] = agreed(t, before, after);
-        } else {
-            before = side_of(t);
-            known = None;
-        }
-    }
-}
-
 /// N2: the remaining neutrals take the embedding direction.
 pub fn n2(types: &mut [Class], embedding: Class)
     ensures { types.new ≡ n2 embedding types.old }
@@ -77,23 +54,31 @@ pub fn n2(types: &mut [Class], embedding: Class)
     }
 }
 
-/// The type of a neutral between two directions, by N1 and N2.
-fn neutral_at(t: Class, before: Class, after: Class, embedding: Class) -> Class
-    ensures { result ≡ n2_at embedding (agreed t before after) }
+/// The type of a neutral between two directions by N1, and by N2 where `embedding` is given.
+#[inline(always)]
+fn neutral_at(t: Class, before: Class, after: Class, embedding: Option<Class>) -> Class
+    ensures { result ≡ taken embedding (agreed t before after) }
 {
     let agreed = agreed(t, before, after);
-    if is_neutral(agreed) {
-        embedding
-    } else {
-        agreed
+    match embedding {
+        Some(embedding) => {
+            if is_neutral(agreed) {
+                embedding
+            } else {
+                agreed
+            }
+        }
+        None => agreed,
     }
 }
 
-/// N1 and N2 in one pass.
+/// N1, and N2 in the same pass where `embedding` is given. Inlined, so that each caller's pass tests no `Option`.
+#[inline(always)]
 #[tactic(auto, using(crate::proofs::Run::run_write, crate::proofs::Run::run_keep, crate::proofs::Fused::neutral_run, crate::proofs::Run::side_more, crate::proofs::Fused::keeps_other))]
-pub fn n1_n2(types: &mut [Class], sos: Class, eos: Class, embedding: Class)
-    ensures { types.new ≡ n2 embedding (n1 sos eos types.old) }
+fn resolve_neutrals(types: &mut [Class], sos: Class, eos: Class, embedding: Option<Class>)
+    ensures { types.new ≡ all_taken embedding (n1 sos eos types.old) }
 {
+    // The direction before the run of neutrals, and the one behind it, which only the run's first neutral looks for.
     let mut before = sos;
     let mut known: Option<Class> = None;
     for i in 0..types.len() {
@@ -112,6 +97,20 @@ pub fn n1_n2(types: &mut [Class], sos: Class, eos: Class, embedding: Class)
     }
 }
 
+/// N1: neutrals between two equal directions take that direction.
+pub fn n1(types: &mut [Class], sos: Class, eos: Class)
+    ensures { types.new ≡ n1 sos eos types.old }
+{
+    resolve_neutrals(types, sos, eos, None);
+}
+
+/// N1 and N2 in one pass.
+pub fn n1_n2(types: &mut [Class], sos: Class, eos: Class, embedding: Class)
+    ensures { types.new ≡ n2 embedding (n1 sos eos types.old) }
+{
+    resolve_neutrals(types, sos, eos, Some(embedding));
+}
+
 /// Whether a type is EN or AN.
 #[inline(always)]
 fn is_en_or_an(t: Class) -> bool
@@ -122,7 +121,7 @@ fn is_en_or_an(t: Class) -> bool
     is_european | is_arabic
 }
 
-/// The rise of an even level (I1). This and `rise_odd` have no branch, so that the loop over types vectorizes.
+/// How far a type raises an even level (I1). This and `rise_odd` have no branch, so that the loop over types vectorizes.
 #[inline(always)]
 fn rise_even(t: Class) -> u8
     ensures { result ≡ rise_even t }
@@ -131,7 +130,7 @@ fn rise_even(t: Class) -> u8
     u8::from(is_right) + 2 * u8::from(is_en_or_an(t))
 }
 
-/// The rise of an odd level (I2).
+/// How far a type raises an odd level (I2).
 #[inline(always)]
 fn rise_odd(t: Class) -> u8
     ensures { result ≡ rise_odd t }
@@ -140,7 +139,7 @@ fn rise_odd(t: Class) -> u8
     u8::from(is_left | is_en_or_an(t))
 }
 
-/// I1 and I2: the level of a character.
+/// I1 and I2: the level of a character of resolved type `t`, in a sequence at `level`.
 #[inline(always)]
 pub fn implicit_at(level: u8, t: Class) -> u8
     requires { level ≤ max_depth }
@@ -153,7 +152,7 @@ pub fn implicit_at(level: u8, t: Class) -> u8
     }
 }
 
-/// The same, as a `Level`.
+/// `implicit_at`, as a `Level`.
 #[inline(always)]
 #[tactic(auto, using(crate::proofs::KeptLevels::implicit_low))]
 pub fn found_level(level: u8, t: Class) -> Level

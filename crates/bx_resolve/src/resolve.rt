@@ -1,4 +1,4 @@
-//! The levels of a paragraph.
+//! The levels of a paragraph body: `levels` takes the shortest way that its classes allow.
 ghost use Rattle.std.specs.Prelude.{◌≡◌, ◌≤◌, ◌<◌, ◌^◌, All, IfNone, IfOk, IfSome, Some, chars, is_some, length, map, true};
 ghost use Rattle.bx_explicit.specs.Stack.{max_depth};
 ghost use Rattle.bx_resolve.specs.Weak.{weak};
@@ -13,10 +13,10 @@ use crate::by_rules::levels_by_rules;
 use crate::error::ResolveError;
 use crate::formatted::formatted_levels;
 use crate::neutral::found_level;
+use crate::one_pass::weak_in_one_pass;
 use crate::paragraph::{Level, Levels};
 use crate::scratch::{Ends, Scratch, resolve_neutral};
 use crate::uniform::{are_from_right, are_plain, are_plain_right, are_unformatted};
-use crate::weak::weak_in_one_pass;
 use bx_explicit::base_level;
 use bx_terms::Base;
 use bx_ucd::class::direction;
