@@ -1,11 +1,4 @@
-pub mod Pieces
-pub mod Spoils
-pub mod Uncut
-pub mod Halves
-pub mod Pushed
 pub mod Puts
-pub mod Examples
-mod LawExamples
 pub mod Plain
 pub mod Reading
 pub mod Grids
@@ -22,11 +15,6 @@ pub mod Blanks
 pub mod Shared
 pub mod Copied
 pub mod RowsPut
-pub mod Printed
-mod AtOnce
-mod Still
-mod Marks
-pub mod Items
-pub mod ItemsRead
-pub mod InTokens
-pub mod TokenBytes
+pub mod CutColumns
+pub mod Single
+pub mod Idle

@@ -1,8 +1,7 @@
 -- One more column paste.
 use Rattle.std.proofs.Common.{◌≡◌, ℕ, ◌+◌, ◌<◌, ◌≤◌, Bool, true, false, zero, suc, refl, List, [], ◌∷◌, ◌++◌, length, take, drop, set, replicate, get_or, ap}
 use Rattle.std.proofs.Common.{sym, ◌∙◌, append_assoc, length-append, arith}
-use Rattle.std.proofs.lemmas.List.{append-nil, set_at, drop_more, length-take-le, length_push, map-set, map_more, length-map, replicate_more, length-replicate}
-use Rattle.std.proofs.lemmas.List.{drop_all}
+use Rattle.std.proofs.lemmas.List.{set_at, drop_more, length-take-le, length_push, map-set, map_more, length-map, replicate_more, length-replicate}
 use Rattle.bx_grid.specs.Columns.{Col, Glyph, paste, plain_columns, run_columns, glyph_columns_from, are_ascii_printable, run_width}
 use Rattle.std.specs.Str.{chars}
 use Rattle.unicode_width.specs.Width.{str_width}
@@ -47,10 +46,6 @@ filled_more columns start k i j n y x at next fits before is =
     ∙ ap (λ z. paste start k (replicate i y ++ z ∷ [])) is
     ∙ ap (paste start k) (replicate_more i y)
     ∙ ap (λ m. paste start k (replicate m y)) (sym next)
-
-pub put_all : (start : List Col) (n : ℕ) (y : Col) → length start ≡ n → paste start 0 (replicate n y) ≡ replicate n y
-put_all start n y e =
-    ap (λ xs. replicate n y ++ xs) (drop_all (0 + length (replicate n y)) start (omega (arith, length-replicate n y, e))) ∙ append-nil (replicate n y)
 
 -- one more column of a glyph
 pub glyph_more : (text : List ℕ) (columns offset count : ℕ) (negative : Bool)

@@ -12,7 +12,7 @@ use Rattle.bx_bytes.specs.declared.fate.Fate.TheVariants.{Ends}
 use Rattle.bx_bytes.specs.Fate.{fate_in}
 use Rattle.bx_bytes.specs.Utf8.{characters, is_control, are_printable}
 use Rattle.bx_bytes.proofs.Codes.{chars_of_one}
-use Rattle.bx_grid.specs.declared.token.Command.TheVariants.{Move}
+use Rattle.bx_grid.specs.declared.command.Command.TheVariants.{Move}
 use Rattle.bx_grid.specs.Columns.{is_ascii_printable}
 use Rattle.bx_grid.specs.Tokens.{is_param, is_intermediate, is_final, params, after_params, command_of, number, before_semicolon, after_semicolon}
 use Rattle.bx_grid.specs.Terminal.{Terminal, reads, byte_read}

@@ -16,13 +16,12 @@ use Rattle.bx_bytes.proofs.Codes.{after_low, chars_of_one}
 use Rattle.bx_bytes.proofs.Encoded.{is_whole, ends, encoded}
 use Rattle.bx_bytes.proofs.Patterns.{matches_any_begins, begins_any_front, none_begins_longer}
 use Rattle.unicode_width.specs.Width.{str_width}
-use Rattle.bx_grid.specs.Columns.{is_ascii_glyph}
+use Rattle.bx_grid.specs.Columns.{is_ascii_glyph, is_ascii_printable}
 use Rattle.bx_grid.specs.Effects.{Effect, effects_after}
 use Rattle.bx_grid.specs.Glyphs.{WholeGlyph, IsGlyph}
-use Rattle.bx_grid.specs.Terminal.{Terminal, read_after, reads}
-use Rattle.bx_grid.specs.Columns.{is_ascii_printable}
-use Rattle.bx_grid.proofs.Doing.{run, run_step, run-append, run_is}
-use Rattle.bx_grid.proofs.Halves.{chars_of, head_is}
+use Rattle.bx_grid.specs.Terminal.{Terminal, read_after}
+use Rattle.bx_grid.proofs.Doing.{run, run_step, run-append}
+use Rattle.bx_grid.proofs.Single.{chars_of, head_is}
 use Rattle.bx_grid.proofs.Reading.{at, and_left, and_right, prints}
 
 -- ---- the beginning of a character
@@ -150,10 +149,6 @@ text_does t log text utf8 printed idle =
     ap (run (t, log)) (sym utf8.1.1)
     ∙ chars_do t log cs utf8.1.0 fine idle
     ∙ ap (λ bs. run_step (record t { run = t.run ++ bs; half_read = [] }) log) utf8.1.1
-
-pub text_read : (t : Terminal) (text : List ℕ) → IsUtf8 text → are_printable text ≡ true → t.half_read ≡ []
-    → reads t text ≡ record t { run = t.run ++ text; half_read = [] }
-text_read t text utf8 printed idle = ap (λ (w : Terminal × List Effect). w.0) (sym (run_is t [] text) ∙ text_does t [] text utf8 printed idle)
 
 -- ---- a glyph's text
 

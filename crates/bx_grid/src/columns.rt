@@ -1,15 +1,13 @@
-//! Lists of columns: filling them, putting glyphs, and forgetting the rest of an overwritten glyph.
+//! Lists of columns: filling them, and putting glyphs over them, for grids and for the terminal's model. Indices count
+//! columns from 0.
 
-ghost use Rattle.std.specs.Prelude.{◌≡◌, ℕ, ◌+◌, ◌≤◌, [], ◌∷◌, length, take, drop, replicate, ◌-◌, ◌*◌, ◌<◌};
-ghost use Rattle.std.specs.Prelude.{true, nat_le, ◌&&◌, false, IfOk, IsOk, OnOk, OnErr, IsTrue};
+ghost use Rattle.std.specs.Prelude.{◌≡◌, ◌+◌, ◌≤◌, length, replicate, ◌-◌, ◌*◌, ◌<◌};
+ghost use Rattle.std.specs.Prelude.{true, ◌&&◌, false, IfOk, IsOk, OnOk, OnErr, IsTrue};
 ghost use Rattle.std.specs.Prelude.{◌↔◌};
 ghost use Rattle.std.specs.List.{list_all};
-ghost use Rattle.bx_grid.specs.Columns.{are_ascii_printable, blank, is_blank, put, paste, AreBlank, AreSameAround, put_in_row, cut_before};
-ghost use Rattle.bx_grid.specs.Columns.{cut_after, columns_after, columns_before, plain_columns, glyph_columns, run_columns};
-ghost use Rattle.bx_grid.specs.Columns as spec;
+ghost use Rattle.bx_grid.specs.Columns.{are_ascii_printable, blank, is_blank, put, paste, AreBlank, AreSameAround};
+ghost use Rattle.bx_grid.specs.Columns.{plain_columns, glyph_columns, run_columns};
 ghost use Rattle.bx_grid.specs.Seen.{seen, all_seen};
-ghost use Rattle.bx_grid.specs.Uncut.{AreUncut};
-ghost use Rattle.bx_terms.specs.Sizes.{largest_side};
 
 use crate::column::Column;
 use crate::glyph_run::GlyphRun;
@@ -24,6 +22,7 @@ fn blank_column() -> Column
     Column::of_byte(b' ', false)
 }
 
+/// `count` blanks.
 pub(crate) fn blank_columns(alloc: Global, count: usize) -> Result<Vec<Column>, AllocError>
     ensures { IfOk result (λ columns. all_seen columns.items ≡ replicate count blank) }
 {
@@ -34,26 +33,8 @@ pub(crate) fn blank_columns(alloc: Global, count: usize) -> Result<Vec<Column>, 
     Ok(columns)
 }
 
-pub(crate) fn unknown_columns(alloc: Global, count: usize) -> Result<Vec<Column>, AllocError>
-    ensures { IfOk result (λ columns. all_seen columns.items ≡ replicate count spec.Unknown) }
-{
-    let mut columns = Vec::with_capacity(alloc, count)?;
-    for _ in 0..count {
-        columns.push_reserved(Column::Unknown);
-    }
-    Ok(columns)
-}
-
-pub(crate) fn fill_unknown(columns: &mut [Column])
-    ensures { all_seen columns.new ≡ replicate (length columns.old) spec.Unknown }
-{
-    for column in columns.iter_mut() {
-        *column = Column::Unknown;
-    }
-}
-
-/// Fills columns with blanks, from an index up to another.
-pub(crate) fn fill_blank(columns: &mut [Column], from: usize, to: usize)
+/// Fills the columns from the index `from` up to `to`, without it, with blanks.
+pub fn fill_blank(columns: &mut [Column], from: usize, to: usize)
     requires order { from ≤ to }
     requires inside { to ≤ length columns.old }
     ensures { all_seen columns.new ≡ paste (all_seen columns.old) from (replicate (to - from) blank) }
@@ -63,7 +44,7 @@ pub(crate) fn fill_blank(columns: &mut [Column], from: usize, to: usize)
     }
 }
 
-/// Puts a run of characters from SPACE to TILDE.
+/// Puts a run of characters from SPACE to TILDE, each a glyph, from the index `from` on.
 fn put_run(columns: &mut [Column], from: usize, run: &[u8], negative: bool)
     requires inside { from + length run.now ≤ length columns.old }
     requires printable { are_ascii_printable run.now ≡ true }
@@ -100,7 +81,7 @@ fn put_glyph(
 
 /// Puts a run. If memory runs out, part of the run is written, and nothing else.
 #[inline(always)]
-fn put_glyphs(
+pub fn put_glyphs(
     alloc: Global,
     columns: &mut [Column],
     from: usize,
@@ -130,6 +111,7 @@ pub(crate) fn are_blank(columns: &[Column]) -> bool
     all_blank(columns)
 }
 
+/// Whether all columns are blanks: the loop of `are_blank`.
 fn all_blank(columns: &[Column]) -> bool
     ensures { result ≡ list_all is_blank (all_seen columns.now) }
 {
@@ -141,7 +123,7 @@ fn all_blank(columns: &[Column]) -> bool
     true
 }
 
-/// Puts a run over blanks. If memory runs out, they are blanks again.
+/// Puts a run over blanks, from the index `from` on. If memory runs out, its columns are blanks again.
 pub(crate) fn put_over_blanks(
     alloc: Global,
     columns: &mut [Column],
@@ -159,122 +141,4 @@ pub(crate) fn put_over_blanks(
         fill_blank(columns, from, from + run.width as usize);
     }
     put
-}
-
-impl Column {
-    /// The number of columns that the glyph has after this one.
-    fn after(&self) -> u16
-        ensures { result ≡ columns_after (seen self.now) }
-    {
-        match self {
-            Column::Unknown => 0,
-            Column::Glyph {
-                columns,
-                offset,
-                ..
-            } => columns.saturating_sub(*offset).saturating_sub(1),
-        }
-    }
-
-    fn before(&self) -> u16
-        ensures { result ≡ columns_before (seen self.now) }
-    {
-        match self {
-            Column::Unknown => 0,
-            Column::Glyph { offset, .. } => *offset,
-        }
-    }
-
-    /// Makes the column unknown.
-    fn forget(&mut self)
-        ensures { seen self.new ≡ spec.Unknown }
-    {
-        *self = Column::Unknown;
-    }
-}
-
-/// Makes a glyph that reaches past these columns unknown. Reads only its columns and the one before them.
-fn forget_left(row: &mut [Column])
-    requires { AreUncut (all_seen row.old) }
-    ensures { all_seen row.new ≡ cut_before (all_seen row.old) }
-{
-    let count = row.len();
-    let mut first = count;
-    while first > 0 && (row[first - 1].after() as usize) > count - first {
-        first -= 1;
-        row[first].forget();
-    }
-}
-
-/// Makes a glyph that began before these columns unknown. Reads only its columns and the one after them.
-fn forget_right(row: &mut [Column])
-    requires { AreUncut (all_seen row.old) }
-    ensures { all_seen row.new ≡ cut_after 0 (all_seen row.old) }
-{
-    let mut next = 0;
-    while next < row.len() && (row[next].before() as usize) > next {
-        row[next].forget();
-        next += 1;
-    }
-}
-
-/// Puts a run in a row. If memory runs out, part of it is written.
-fn show_in_row(
-    alloc: Global,
-    row: &mut [Column],
-    from: usize,
-    run: GlyphRun<'_>,
-) -> Result<(), AllocError>
-    requires uncut { AreUncut (all_seen row.old) }
-    requires inside { from + run.width ≤ length row.old }
-    ensures { OnOk result (all_seen row.new ≡ put_in_row (all_seen row.old) from (run_columns run.entry.negative run.entry.text.now)) }
-{
-    forget_left(&mut row[..from]);
-    forget_right(&mut row[from + run.width as usize..]);
-    put_glyphs(alloc, row, from, run)
-}
-
-pub(crate) fn erase_in_row(row: &mut [Column], from: usize)
-    requires uncut { AreUncut (all_seen row.old) }
-    requires inside { from ≤ length row.old }
-    ensures { all_seen row.new ≡ put_in_row (all_seen row.old) from (replicate (length row.old - from) blank) }
-{
-    forget_left(&mut row[..from]);
-    let count = row.len();
-    fill_blank(row, from, count);
-}
-
-/// Puts a run in one row of a grid's columns. If memory runs out, all columns become unknown.
-pub(crate) fn show_at(
-    alloc: Global,
-    columns: &mut [Column],
-    width: usize,
-    row: usize,
-    from: usize,
-    run: GlyphRun<'_>,
-) -> Result<(), AllocError>
-    requires small { (row < largest_side) × (width ≤ largest_side) }
-    requires rows { row * width + width ≤ length columns.old }
-    requires uncut { AreUncut (take width (drop (row * width) (all_seen columns.old))) }
-    requires inside { from + run.width ≤ width }
-    ensures ok { OnOk result (all_seen columns.new ≡ put width (all_seen columns.old) row from (run_columns run.entry.negative run.entry.text.now)) }
-    ensures err { OnErr result (all_seen columns.new ≡ replicate (length columns.old) spec.Unknown) }
-{
-    let start = row * width;
-    let shown = show_in_row(alloc, &mut columns[start..start + width], from, run);
-    if shown.is_err() {
-        fill_unknown(columns);
-    }
-    shown
-}
-
-pub(crate) fn erase_at(columns: &mut [Column], width: usize, row: usize, from: usize)
-    requires small { (row < largest_side) × (width ≤ largest_side) }
-    requires rows { row * width + width ≤ length columns.old }
-    requires uncut { AreUncut (take width (drop (row * width) (all_seen columns.old))) }
-    requires inside { from ≤ width }
-    ensures { all_seen columns.new ≡ put width (all_seen columns.old) row from (replicate (width - from) blank) }
-{
-    let start = row * width;
-    erase_in_row(&mut columns[start..start + width], from);
 }

@@ -1,4 +1,4 @@
-//! The text of a glyph, as a column stores it.
+//! The text of a glyph, as a column stores it: seven bytes and their count fill one word of 64 bits.
 
 ghost use Rattle.std.specs.Prelude.{◌≡◌, ◌+◌, ◌*◌, ◌^◌, ◌≤◌, ◌<◌, [], ◌∷◌, length, IfOk, IsOk, MatchOption, false, true};
 ghost use Rattle.std.specs.Str.{bytes_eq};
@@ -16,7 +16,9 @@ pub(crate) const SHORT: usize = 7;
 /// A text of at most seven bytes.
 #[derive(Drop)]
 struct ShortText {
+    /// Those from `len` on are 0 and not read.
     bytes: [u8; 7],
+    /// Number of bytes.
     len: u8,
 }
 
@@ -31,6 +33,7 @@ impl Model for ShortText {
 }
 
 impl ShortText {
+    /// A text of these bytes.
     #[inline(always)]
     fn new(text: &[u8]) -> ShortText
         requires { length text.now ≤ 7 }
@@ -52,6 +55,7 @@ impl ShortText {
         }
     }
 
+    /// A copy.
     #[inline(always)]
     fn copy(&self) -> ShortText
         ensures { result ≡ self.now }
@@ -62,6 +66,7 @@ impl ShortText {
         }
     }
 
+    /// Its bytes.
     fn as_bytes(&self) -> &[u8]
         ensures bytes { result.now ≡ self.now }
         ensures short { length result.now ≤ 7 }
@@ -73,7 +78,9 @@ impl ShortText {
 /// A short text is stored inline, any other on the heap.
 #[derive(Drop)]
 enum Stored {
+    /// At most seven bytes.
     Short(ShortText),
+    /// More than seven bytes.
     Long(String),
 }
 
@@ -179,7 +186,7 @@ impl GlyphText {
         self.as_bytes() == other.as_bytes()
     }
 
-    /// Whether it consists of this byte alone.
+    /// Whether the text is this byte alone.
     pub(crate) fn is_byte(&self, byte: u8) -> bool
         ensures { result ≡ is_only byte self.now }
     {
@@ -189,7 +196,7 @@ impl GlyphText {
         }
     }
 
-    /// Whether it is one character from SPACE to TILDE.
+    /// Whether the text is one character from SPACE to TILDE.
     pub fn is_ascii_glyph(&self) -> bool
         ensures { result ≡ is_ascii_glyph self.now }
     {
@@ -199,7 +206,7 @@ impl GlyphText {
         }
     }
 
-    /// A number that identifies a short text; none for any other text.
+    /// A number that identifies a text of at most seven bytes; None for a longer one.
     #[inline(always)]
     pub(crate) fn packed(&self) -> Option<u64>
         ensures { MatchOption result (is_short self.now ≡ false) (λ n. (n ≡ packed self.now) × (is_short self.now ≡ true) × (n < 2 ^ 57)) }
@@ -211,7 +218,7 @@ impl GlyphText {
     }
 }
 
-/// A number that identifies at most seven bytes.
+/// A number that identifies at most seven bytes: the first is its lowest byte, and a 1 above the last marks their count.
 #[inline(always)]
 fn packed_bytes(bytes: &[u8]) -> u64
     requires { length bytes.now ≤ 7 }

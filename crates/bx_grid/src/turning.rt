@@ -1,4 +1,4 @@
-//! Turns columns of a grid to the other rendition.
+//! Turns columns of a grid to the other rendition, for the region or a shown match.
 
 ghost use Rattle.std.specs.Prelude.{◌≡◌, ◌+◌, ◌-◌, ◌*◌, ◌≤◌, ◌<◌, length, map, take, drop};
 ghost use Rattle.bx_grid.specs.Columns.{paste};
@@ -18,7 +18,7 @@ fn turn_all(columns: &mut [Column])
     }
 }
 
-/// Turns the columns from an index up to another to the other rendition.
+/// Turns the columns from the index `from` up to `to`, without it, to the other rendition.
 fn turn_columns(columns: &mut [Column], from: usize, to: usize)
     requires order { from ≤ to }
     requires inside { to ≤ length columns.old }
@@ -35,10 +35,11 @@ impl Grid {
         requires fits { column + count ≤ self.old.width }
         requires begins { IsBorder (take self.old.width (drop (row * self.old.width) self.old.columns)) column }
         requires ends { IsBorder (take self.old.width (drop (row * self.old.width) self.old.columns)) (column + count) }
-        ensures { self.new ≡ record self.old {
+        ensures turned { self.new ≡ record self.old {
           columns = paste self.old.columns (row * self.old.width)
               (turned_in (take self.old.width (drop (row * self.old.width) self.old.columns)) column count);
         } }
+        ensures sized { length self.old.columns ≡ self.old.height * self.old.width }
     {
         let start = row as usize * self.width as usize + column as usize;
         let stop = start + count as usize;

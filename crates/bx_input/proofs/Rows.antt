@@ -1,9 +1,9 @@
 -- The output for a row of the table.
-use Rattle.std.proofs.Common.{◌≡◌, ℕ, Bool, true, false, List, [], ◌∷◌, ◌++◌, Option, Some, None, refl}
+use Rattle.std.proofs.Common.{◌≡◌, ℕ, Bool, true, false, List, [], ◌∷◌, ◌++◌, Option, Some, None, refl, not, ◌||◌}
 use Rattle.std.specs.Prelude.{option_map}
 use Rattle.bx_bytes.specs.declared.fate.Fate.TheVariants.{Ends}
 use Rattle.bx_input.specs.Table.{Row, fate, row_of}
-use Rattle.bx_input.specs.Filter.{Outside, step_to, step_by, ended, fresh, apart_from}
+use Rattle.bx_input.specs.Filter.{Outside, step_to, step_by, ended, fresh, apart_from, is_empty}
 use Rattle.bx_input.specs.Models.{becomes_of, BeginsByEscape}
 
 ended_by : (is_open : Bool) (r : Option Row) (bs : List ℕ) → option_map (λ (r : Row). r.becomes) r ≡ Some bs
@@ -24,3 +24,6 @@ pub escape_apart : (is_open : Bool) (bs : List ℕ) → BeginsByEscape bs → ap
 escape_apart is_open [] h = absurd (cc h)
 escape_apart true (b ∷ bs) h = let e : b ≡ 0x1B = h in rw e refl
 escape_apart false (b ∷ bs) h = refl
+
+abbrev pub is_open_after : List ℕ → Bool → Bool
+is_open_after waiting is_open = is_open || not (is_empty waiting)

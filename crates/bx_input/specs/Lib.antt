@@ -1,6 +1,5 @@
 pub mod Filter
 pub mod Models
-pub mod Laws
 pub mod Log
 pub mod Paste
 pub mod PasteTail

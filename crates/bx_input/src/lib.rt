@@ -1,10 +1,10 @@
 //! A filter between a terminal and the editor: turns the sequences that terminals send into those that the editor reads.
 //!
 //! Terminals send bytes that the editor has no key for, or has an older one for than the key that they come from: arrows,
-//! Page Up and Page Down, the Home and End of rxvt, keys with Shift, ALT or CTRL, the keys that erase, Enter, the Delete of st,
-//! F1 to F3, the keypad's digits, and pastes. `specs/Table.antt` has the table. All else passes unchanged, broken sequences too.
-//! A paste becomes text between two keys that tell its start and its end: of its control bytes only TAB and LF are left, so it can
-//! neither save nor quit nor move nor erase, nor set a mark, cut or search.
+//! Page Up and Page Down, the Home and End of rxvt, keys with Shift, Alt or Ctrl, the keys that erase, Enter, the Delete of
+//! st, F1 to F4, the keypad's digits, and pastes. `specs/Table.antt` has the table. All else passes unchanged, broken
+//! sequences too. A paste becomes text between two keys that tell its start and its end: of its control bytes only TAB and
+//! LF are left, so it can neither save nor quit nor move nor erase, nor set a mark, cut or search.
 #![tactic(auto)]
 
 mod after;
@@ -13,7 +13,6 @@ mod fault;
 mod filter;
 mod filter_state;
 mod in_paste;
-mod laws;
 mod output;
 mod over_reader;
 mod paste_tail;
@@ -24,11 +23,6 @@ mod wired;
 
 pub use fault::FilterFault;
 pub use filter::Filter;
-pub use laws::{
-    grows_five_times, in_any_pieces, others_pass, pastes_are_clean, pastes_become_text,
-    pastes_insert, pastes_keep_characters, rows_add_keys, rows_become, rows_have_keys,
-    waits_for_five,
-};
 pub use output::Output;
 pub use over_reader::run;
 pub use pipe::{Pipe, PipeFault};

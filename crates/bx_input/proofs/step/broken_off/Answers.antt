@@ -1,7 +1,7 @@
 use Rattle.std.proofs.Common.{Bool, [], ◌++◌, sym, ap, ◌∙◌, append-nil}
 use Rattle.bx_input.specs.Filter.{Step}
 use Rattle.bx_input.specs.Models.{begun}
-use Rattle.bx_input.proofs.Passing.{is_open_after}
+use Rattle.bx_input.proofs.Rows.{is_open_after}
 use Rattle.bx_input.proofs.Rows.{byte_goes, escape_apart}
 use Rattle.bx_input.proofs.step.broken_off.Goals as goal
 

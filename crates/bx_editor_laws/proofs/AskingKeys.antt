@@ -1,0 +1,51 @@
+-- The keys that ask, whatever was on before.
+use Rattle.std.proofs.Common.{◌≡◌, [], refl}
+use Rattle.std.specs.Prelude.{None}
+use Rattle.bx_asking.specs.declared.question.Ask.{Ask}
+use Rattle.bx_asking.specs.declared.question.Ask.TheVariants as asks
+use Rattle.bx_keys.specs.declared.key.Key.TheVariants.{GoTo, Name}
+use Rattle.bx_ucd.specs.Data.{Data}
+use Rattle.bx_editor.specs.declared.seek.Seek.{Seek}
+use Rattle.bx_editor.specs.declared.seek.Seek.TheVariants.{Off, Begun, Typed, WithBegun, WithTyped, Replacing}
+use Rattle.bx_editor.specs.Editor.{Editor, cleared}
+use Rattle.bx_editor.specs.Effects.{Before, before}
+use Rattle.bx_editor.specs.Keys.{after_any, after_key, as_left}
+use Rattle.bx_editor.specs.Selecting.{aged, unselected}
+
+-- a character, or a line, is asked for
+abbrev pub asked_name : Editor → Seek → Editor
+asked_name e seek = record (cleared e) { ask = asks.Name; answer = []; seek = seek; goal = None; soft = aged e.soft }
+
+abbrev pub asked_line : Editor → Seek → Editor
+asked_line e seek =
+    let free = unselected e in record (cleared free) { ask = asks.Line; answer = []; seek = seek; goal = None; soft = aged free.soft }
+
+name-any : (d : Data) (was : Before) (ask : Ask) (seek : Seek) (e : Editor) → let new = after_any d None was ask seek (cleared e) Name in
+    as_left Name new ≡ asked_name e new.seek
+name-any d was asks.Off Off e = refl
+name-any d was asks.Off Begun e = refl
+name-any d was asks.Off Typed e = refl
+name-any d was asks.Off WithBegun e = refl
+name-any d was asks.Off WithTyped e = refl
+name-any d was asks.Off Replacing e = refl
+name-any d was asks.Line seek e = refl
+name-any d was asks.Name seek e = refl
+name-any d was asks.Code seek e = refl
+
+line-any : (d : Data) (was : Before) (ask : Ask) (seek : Seek) (e : Editor) → let new = after_any d None was ask seek (cleared e) GoTo in
+    as_left GoTo new ≡ asked_line e new.seek
+line-any d was asks.Off Off e = refl
+line-any d was asks.Off Begun e = refl
+line-any d was asks.Off Typed e = refl
+line-any d was asks.Off WithBegun e = refl
+line-any d was asks.Off WithTyped e = refl
+line-any d was asks.Off Replacing e = refl
+line-any d was asks.Line seek e = refl
+line-any d was asks.Name seek e = refl
+line-any d was asks.Code seek e = refl
+
+pub name-is : (d : Data) (e : Editor) → after_key d None e Name ≡ asked_name e (after_key d None e Name).seek
+name-is d e = name-any d (before e) e.ask e.seek e
+
+pub line-is : (d : Data) (e : Editor) → after_key d None e GoTo ≡ asked_line e (after_key d None e GoTo).seek
+line-is d e = line-any d (before e) e.ask e.seek e

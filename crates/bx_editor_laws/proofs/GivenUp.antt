@@ -1,0 +1,319 @@
+-- A search that is given up.
+use Rattle.std.proofs.Common.{◌≡◌, ℕ, Bool, true, false, List, [], ◌∷◌, length, refl, sym, ap, subst, ◌∙◌, inl, inr, if◌then◌else◌}
+use Rattle.std.specs.Prelude.{◌==◌, ◌&&◌, Option, Some, None}
+use Rattle.bx_keys.specs.declared.key.Key.{Key}
+use Rattle.bx_keys.specs.declared.key.Key.TheVariants.{Quit, Copy, Find, FindBack, FindNext, Replace, Cancel}
+use Rattle.bx_store.specs.declared.store.StoreFault.{StoreFault}
+use Rattle.bx_runs.specs.declared.typing.Typing.{Typing}
+use Rattle.bx_ucd.specs.Data.{Data}
+use Rattle.bx_asking.specs.declared.question.Ask.{Ask}
+use Rattle.bx_asking.specs.declared.question.Ask.TheVariants as asks
+use Rattle.bx_editor.specs.Asking.{without_ask}
+use Rattle.bx_editor.specs.declared.aim.Aim.{Aim}
+use Rattle.bx_editor.specs.declared.aim.Aim.TheVariants as aims
+use Rattle.bx_editor.specs.declared.seek.Seek.{Seek}
+use Rattle.bx_editor.specs.declared.seek.Seek.TheVariants.{Off, Begun, Typed, WithBegun, WithTyped, Replacing}
+use Rattle.bx_editor.specs.Editor.{Editor, cleared}
+use Rattle.bx_editor.specs.Effects.{Before, before}
+use Rattle.bx_editor.specs.Keys.{Answer, Letter, Shortens, GoesBack, Next, Previous, Replaces, Stays, Ends, after_any, after_key}
+use Rattle.bx_editor.specs.Keys.{answer_of, answered, answered_other, effect_of}
+use Rattle.bx_editor_laws.specs.Laws.{after_typing, begins_anew, finds, is_on}
+use Rattle.bx_editor_laws.specs.Laws.{BeginsSearch, GivesUp, GivingUpGoesBack, IsGivenUp, StaysOn}
+use Rattle.bx_editor.specs.Putting.{is_paste}
+use Rattle.bx_editor.specs.Replacing.{after_asking_other, after_other_letter, after_showing, after_sought_letter, asked_at}
+use Rattle.bx_editor.specs.Replacing.{is_replacing, longest_other, next_match, other_typed, shown_at, with_other}
+use Rattle.bx_editor.specs.Search.{after_beginning, after_giving_up, after_letter, is_no_letter, kept, landed, landing_from}
+use Rattle.bx_editor.specs.Search.{lengthened, longest_query, search_from, sought, with_query, without_search}
+use Rattle.bx_editor.specs.Selecting.{unselected}
+use Rattle.bx_editor.proofs.InSearch.{behind, each-key}
+use Rattle.bx_editor.proofs.Searches.{is_end}
+use Rattle.bx_editor_laws.proofs.Unsought.{effect-unsought, is_seeking}
+
+-- the new editor has the text and the mark of the old one, and the place where its search began
+record KeepsSearch (e new : Editor) : Type 0 where
+  pub origin_is : new.origin ≡ e.origin
+  pub mark_is : new.mark ≡ e.mark
+  pub content_is : new.content ≡ e.content
+  pub ask_is : new.ask ≡ e.ask
+
+-- ---- a key after which the search is still on
+
+keeps-all : (e : Editor) → KeepsSearch e e
+keeps-all e = record { origin_is = refl; mark_is = refl; content_is = refl; ask_is = refl }
+
+either-keeps : (b : Bool) (e p q : Editor) → KeepsSearch e p → KeepsSearch e q → KeepsSearch e (if b then p else q)
+either-keeps true e p q h k = h
+either-keeps false e p q h k = k
+
+-- a letter may end the search
+either-on : (b : Bool) (e p q : Editor) → (is_on p.seek ≡ true → KeepsSearch e p) → (is_on q.seek ≡ true → KeepsSearch e q)
+    → is_on (if b then p else q).seek ≡ true → KeepsSearch e (if b then p else q)
+either-on true e p q h k on = h on
+either-on false e p q h k on = k on
+
+letter-keeps : (d : Data) (e : Editor) (c : ℕ) → is_on (after_letter d e c).seek ≡ true → KeepsSearch e (after_letter d e c)
+letter-keeps d e c =
+    let longer : Editor = search_from d e.place (with_query e (lengthened longest_query (kept e.seek e.query) c)) in
+    let same : KeepsSearch e longer = record { origin_is = refl; mark_is = refl; content_is = refl; ask_is = refl } in
+    either-on (c == 0xA) e (without_search e) (if is_no_letter d c then e else longer) (λ on. absurd (cc on))
+    (λ on. either-keeps (is_no_letter d c) e e longer (keeps-all e) same)
+
+asked-keeps : (e went : Editor) (place : Option ℕ) → KeepsSearch e went → KeepsSearch e (asked_at place went)
+asked-keeps e went None h = record { origin_is = h.origin_is; mark_is = h.mark_is; content_is = h.content_is; ask_is = h.ask_is }
+asked-keeps e went (Some place) h =
+    record { origin_is = h.origin_is; mark_is = h.mark_is; content_is = h.content_is; ask_is = h.ask_is }
+
+asking-keeps : (d : Data) (e : Editor) → KeepsSearch e (after_asking_other d e)
+asking-keeps d e =
+    let aimed : Editor = record e { aim = aims.Replace } in
+    let l = landing_from d aimed.place aimed in
+    let same : KeepsSearch e (landed aimed l) = record { origin_is = refl; mark_is = refl; content_is = refl; ask_is = refl } in
+    either-keeps (length (sought d aimed) == 0) e aimed (asked_at l.place (landed aimed l))
+    (record { origin_is = refl; mark_is = refl; content_is = refl; ask_is = refl }) (asked-keeps e (landed aimed l) l.place same)
+
+sought-keeps : (d : Data) (typing : Typing) (e : Editor) (c : ℕ) → is_on (after_sought_letter d typing e c).seek ≡ true
+    → KeepsSearch e (after_sought_letter d typing e c)
+sought-keeps d typing e c =
+    either-on ((c == 0xA) && is_replacing e.aim) e (if is_paste typing then e else after_asking_other d e) (after_letter d e c)
+    (λ on. either-keeps (is_paste typing) e e (after_asking_other d e) (keeps-all e) (asking-keeps d e)) (letter-keeps d e c)
+
+answered-keeps : (d : Data) (fault : Option StoreFault) (was : Before) (e : Editor) (key : Key) (answer : Answer)
+    → is_on (answered d fault was e key answer).seek ≡ true → KeepsSearch e (answered d fault was e key answer)
+answered-keeps d fault was e key (Letter c) on =
+    let keeps = sought-keeps d was.typing e c on in
+    record { origin_is = keeps.origin_is; mark_is = keeps.mark_is; content_is = keeps.content_is; ask_is = keeps.ask_is }
+answered-keeps d fault was e key Shortens on = record { origin_is = refl; mark_is = refl; content_is = refl; ask_is = refl }
+answered-keeps d fault was e key GoesBack on = absurd (cc on)
+answered-keeps d fault was e key Next on = record { origin_is = refl; mark_is = refl; content_is = refl; ask_is = refl }
+answered-keeps d fault was e key Previous on = record { origin_is = refl; mark_is = refl; content_is = refl; ask_is = refl }
+answered-keeps d fault was e key Replaces on = asking-keeps d e
+answered-keeps d fault was e key Stays on = record { origin_is = refl; mark_is = refl; content_is = refl; ask_is = refl }
+answered-keeps d fault was e key Ends on = absurd (cc on)
+
+-- ---- while the other text is asked for
+
+shown-keeps : (e : Editor) (at : Option ℕ) → is_on (shown_at e at).seek ≡ true → KeepsSearch e (shown_at e at)
+shown-keeps e None on = keeps-all e
+shown-keeps e (Some at) on = absurd (cc on)
+
+other-letter-keeps : (d : Data) (typing : Typing) (e : Editor) (c : ℕ) → is_on (after_other_letter d typing e c).seek ≡ true
+    → KeepsSearch e (after_other_letter d typing e c)
+other-letter-keeps d typing e c =
+    let longer = with_other e (lengthened longest_other (kept e.seek e.other) c) in
+    let same : KeepsSearch e longer = record { origin_is = refl; mark_is = refl; content_is = refl; ask_is = refl } in
+    either-on (c == 0xA) e (if is_paste typing then e else after_showing d e) (other_typed d e c)
+    (either-on (is_paste typing) e e (after_showing d e) (λ on. keeps-all e) (shown-keeps e (next_match d e e.place)))
+    (λ on. either-keeps (is_no_letter d c) e e longer (keeps-all e) same)
+
+-- the key does not begin another search
+abbrev is_search : Answer → Bool
+is_search Next = true
+is_search Previous = true
+is_search _ = false
+
+other-keeps : (d : Data) (fault : Option StoreFault) (was : Before) (e : Editor) (key : Key) (answer : Answer)
+    → is_search answer ≡ false
+    → (is_end answer ≡ true → is_seeking (effect_of d (without_search e) key) ≡ false)
+    → is_on (answered_other d fault was e key answer).seek ≡ true → KeepsSearch e (answered_other d fault was e key answer)
+other-keeps d fault was e key (Letter c) other ends on =
+    let keeps = other-letter-keeps d was.typing e c on in
+    record { origin_is = keeps.origin_is; mark_is = keeps.mark_is; content_is = keeps.content_is; ask_is = keeps.ask_is }
+other-keeps d fault was e key Shortens other ends on = record { origin_is = refl; mark_is = refl; content_is = refl; ask_is = refl }
+other-keeps d fault was e key GoesBack other ends on = absurd (cc on)
+other-keeps d fault was e key Next other ends on = absurd (cc other)
+other-keeps d fault was e key Previous other ends on = absurd (cc other)
+other-keeps d fault was e key Replaces other ends on = shown-keeps e (next_match d e e.place) on
+other-keeps d fault was e key Stays other ends on = record { origin_is = refl; mark_is = refl; content_is = refl; ask_is = refl }
+other-keeps d fault was e key Ends other ends on =
+    let off = effect-unsought d fault was (without_search e) (effect_of d (without_search e) key) (ends refl) refl in
+    let none : false ≡ true = sym (ap is_on off) ∙ on in
+    absurd (cc none)
+
+-- a key that begins no search, and one that ends a search, seeks nothing
+begins-none : (key : Key) → finds key ≡ false → is_search (answer_of key) ≡ false
+begins-none Find h = absurd (cc h)
+begins-none FindBack h = absurd (cc h)
+begins-none FindNext h = absurd (cc h)
+begins-none _ h = refl
+
+ends-all : (d : Data) (e : Editor) (key : Key) → is_end (answer_of key) ≡ true → is_seeking (effect_of d e key) ≡ false
+ends-all d e Find h = absurd (cc h)
+ends-all d e FindBack h = absurd (cc h)
+ends-all d e FindNext h = absurd (cc h)
+ends-all d e Replace h = absurd (cc h)
+ends-all d e _ h = refl
+
+-- ---- any key
+
+any-keeps : (d : Data) (fault : Option StoreFault) (was : Before) (ask : Ask) (seek : Seek) (e : Editor) (key : Key)
+    → ask ≡ asks.Off → is_on seek ≡ true
+    → begins_anew seek key ≡ false → is_on (after_any d fault was ask seek e key).seek ≡ true
+    → KeepsSearch e (after_any d fault was ask seek e key)
+any-keeps d fault was asks.Off Off e key unasked sought same on = absurd (cc sought)
+any-keeps d fault was asks.Off Begun e key unasked sought same on = answered-keeps d fault was e key (answer_of key) on
+any-keeps d fault was asks.Off Typed e key unasked sought same on = answered-keeps d fault was e key (answer_of key) on
+any-keeps d fault was asks.Off WithBegun e key unasked sought same on =
+    other-keeps d fault was e key (answer_of key) (begins-none key same) (ends-all d (without_search e) key) on
+any-keeps d fault was asks.Off WithTyped e key unasked sought same on =
+    other-keeps d fault was e key (answer_of key) (begins-none key same) (ends-all d (without_search e) key) on
+any-keeps d fault was asks.Off Replacing e key unasked sought same on = absurd (cc sought)
+any-keeps d fault was asks.Line seek e key unasked sought same on = absurd (cc unasked)
+any-keeps d fault was asks.Name seek e key unasked sought same on = absurd (cc unasked)
+any-keeps d fault was asks.Code seek e key unasked sought same on = absurd (cc unasked)
+
+key-keeps : (d : Data) (fault : Option StoreFault) (e : Editor) (key : Key) → e.ask ≡ asks.Off → is_on e.seek ≡ true
+    → begins_anew e.seek key ≡ false
+    → is_on (after_key d fault e key).seek ≡ true → KeepsSearch e (after_key d fault e key)
+key-keeps d fault e key unasked sought =
+    each-key d fault e (λ k new. begins_anew e.seek k ≡ false → is_on new.seek ≡ true → KeepsSearch e new)
+    (λ height width same on. record { origin_is = refl; mark_is = refl; content_is = refl; ask_is = refl })
+    (λ notice same on. record { origin_is = refl; mark_is = refl; content_is = refl; ask_is = refl }) (
+      λ same on. record { origin_is = refl; mark_is = refl; content_is = refl; ask_is = refl },
+      λ same on. record { origin_is = refl; mark_is = refl; content_is = refl; ask_is = refl },
+    )
+    (λ k other same on.
+    let keeps = any-keeps d fault (before e) e.ask e.seek (cleared e) k unasked sought same on in
+    record { origin_is = keeps.origin_is; mark_is = keeps.mark_is; content_is = keeps.content_is; ask_is = keeps.ask_is })
+    key
+
+-- ---- keys through which it stays on
+
+on-at-first : (d : Data) (e : Editor) (typed : List (Key × Option StoreFault)) → StaysOn d e typed → is_on e.seek ≡ true
+on-at-first d e [] on = on
+on-at-first d e (key ∷ typed) on = on.0
+
+on-at-last : (d : Data) (e : Editor) (typed : List (Key × Option StoreFault)) → StaysOn d e typed
+    → is_on (after_typing d e typed).seek ≡ true
+on-at-last d e [] on = on
+on-at-last d e (key ∷ typed) on = on-at-last d (after_key d key.1 e key.0) typed on.1.1
+
+typing-keeps : (d : Data) (e : Editor) (typed : List (Key × Option StoreFault)) → e.ask ≡ asks.Off → StaysOn d e typed
+    → KeepsSearch e (after_typing d e typed)
+typing-keeps d e [] unasked on = keeps-all e
+typing-keeps d e (key ∷ typed) unasked on =
+    let next = after_key d key.1 e key.0 in
+    let one = key-keeps d key.1 e key.0 unasked on.0 on.1.0 (on-at-first d next typed on.1.1) in
+    let more = typing-keeps d next typed (one.ask_is ∙ unasked) on.1.1 in
+    record {
+      origin_is = more.origin_is ∙ one.origin_is;
+      mark_is = more.mark_is ∙ one.mark_is;
+      content_is = more.content_is ∙ one.content_is;
+      ask_is = more.ask_is ∙ one.ask_is;
+    }
+
+-- ---- the first key and the last
+
+same-key : (d : Data) (e : Editor) (key other : Key) (new : Editor) → key ≡ other → after_key d None e other ≡ new
+    → after_key d None e key ≡ new
+same-key d e key other new is done = subst (λ k. after_key d None e k ≡ new) (sym is) done
+
+-- an editor in which a search begins
+abbrev pub begun-at : Aim → Editor → Editor
+begun-at aim e = after_beginning aim (unselected (without_ask (cleared e)))
+
+find-any : (d : Data) (was : Before) (ask : Ask) (e : Editor) → e.ask ≡ ask
+    → after_any d None was ask Off e Find ≡ after_beginning aims.Find (unselected (without_ask e))
+find-any d was asks.Off e is = ap (λ a. record (after_beginning aims.Find (unselected e)) { ask = a }) is
+find-any d was asks.Line e is = refl
+find-any d was asks.Name e is = refl
+find-any d was asks.Code e is = refl
+
+find-back-any : (d : Data) (was : Before) (ask : Ask) (e : Editor) → e.ask ≡ ask
+    → after_any d None was ask Off e FindBack ≡ after_beginning aims.Find (unselected (without_ask e))
+find-back-any d was asks.Off e is = ap (λ a. record (after_beginning aims.Find (unselected e)) { ask = a }) is
+find-back-any d was asks.Line e is = refl
+find-back-any d was asks.Name e is = refl
+find-back-any d was asks.Code e is = refl
+
+replace-any : (d : Data) (was : Before) (ask : Ask) (e : Editor) → e.ask ≡ ask
+    → after_any d None was ask Off e Replace ≡ after_beginning aims.Replace (unselected (without_ask e))
+replace-any d was asks.Off e is = ap (λ a. record (after_beginning aims.Replace (unselected e)) { ask = a }) is
+replace-any d was asks.Line e is = refl
+replace-any d was asks.Name e is = refl
+replace-any d was asks.Code e is = refl
+
+pub find-begins : (d : Data) (e : Editor) → e.seek ≡ Off → after_key d None e Find ≡ behind (begun-at aims.Find e)
+find-begins d e off =
+    ap (λ s. behind (after_any d None (before e) e.ask s (cleared e) Find)) off
+    ∙ ap behind (find-any d (before e) e.ask (cleared e) refl)
+
+pub find-back-begins : (d : Data) (e : Editor) → e.seek ≡ Off → after_key d None e FindBack ≡ behind (begun-at aims.Find e)
+find-back-begins d e off =
+    ap (λ s. behind (after_any d None (before e) e.ask s (cleared e) FindBack)) off
+    ∙ ap behind (find-back-any d (before e) e.ask (cleared e) refl)
+
+pub replace-begins : (d : Data) (e : Editor) → e.seek ≡ Off → after_key d None e Replace ≡ behind (begun-at aims.Replace e)
+replace-begins d e off =
+    ap (λ s. behind (after_any d None (before e) e.ask s (cleared e) Replace)) off
+    ∙ ap behind (replace-any d (before e) e.ask (cleared e) refl)
+
+begin-is : (d : Data) (e : Editor) (begin : Key) → e.seek ≡ Off → BeginsSearch begin
+    → (aim : Aim) × (after_key d None e begin ≡ behind (begun-at aim e))
+begin-is d e begin off (inl is) = (aims.Find, same-key d e begin Find (behind (begun-at aims.Find e)) is (find-begins d e off))
+begin-is d e begin off (inr (inl is)) =
+    (aims.Find, same-key d e begin FindBack (behind (begun-at aims.Find e)) is (find-back-begins d e off))
+begin-is d e begin off (inr (inr is)) =
+    (aims.Replace, same-key d e begin Replace (behind (begun-at aims.Replace e)) is (replace-begins d e off))
+
+quit-any : (d : Data) (was : Before) (ask : Ask) (seek : Seek) (e : Editor) → ask ≡ asks.Off → is_on seek ≡ true
+    → after_any d None was ask seek e Quit ≡ after_giving_up e
+quit-any d was asks.Off Off e unasked on = absurd (cc on)
+quit-any d was asks.Off Begun e unasked on = refl
+quit-any d was asks.Off Typed e unasked on = refl
+quit-any d was asks.Off WithBegun e unasked on = refl
+quit-any d was asks.Off WithTyped e unasked on = refl
+quit-any d was asks.Off Replacing e unasked on = absurd (cc on)
+quit-any d was asks.Line seek e unasked on = absurd (cc unasked)
+quit-any d was asks.Name seek e unasked on = absurd (cc unasked)
+quit-any d was asks.Code seek e unasked on = absurd (cc unasked)
+
+copy-any : (d : Data) (was : Before) (ask : Ask) (seek : Seek) (e : Editor) → ask ≡ asks.Off → is_on seek ≡ true
+    → after_any d None was ask seek e Copy ≡ after_giving_up e
+copy-any d was asks.Off Off e unasked on = absurd (cc on)
+copy-any d was asks.Off Begun e unasked on = refl
+copy-any d was asks.Off Typed e unasked on = refl
+copy-any d was asks.Off WithBegun e unasked on = refl
+copy-any d was asks.Off WithTyped e unasked on = refl
+copy-any d was asks.Off Replacing e unasked on = absurd (cc on)
+copy-any d was asks.Line seek e unasked on = absurd (cc unasked)
+copy-any d was asks.Name seek e unasked on = absurd (cc unasked)
+copy-any d was asks.Code seek e unasked on = absurd (cc unasked)
+
+cancel-any : (d : Data) (was : Before) (ask : Ask) (seek : Seek) (e : Editor) → ask ≡ asks.Off → is_on seek ≡ true
+    → after_any d None was ask seek e Cancel ≡ after_giving_up e
+cancel-any d was asks.Off Off e unasked on = absurd (cc on)
+cancel-any d was asks.Off Begun e unasked on = refl
+cancel-any d was asks.Off Typed e unasked on = refl
+cancel-any d was asks.Off WithBegun e unasked on = refl
+cancel-any d was asks.Off WithTyped e unasked on = refl
+cancel-any d was asks.Off Replacing e unasked on = absurd (cc on)
+cancel-any d was asks.Line seek e unasked on = absurd (cc unasked)
+cancel-any d was asks.Name seek e unasked on = absurd (cc unasked)
+cancel-any d was asks.Code seek e unasked on = absurd (cc unasked)
+
+give-is : (d : Data) (e : Editor) (give : Key) → e.ask ≡ asks.Off → is_on e.seek ≡ true → GivesUp give
+    → after_key d None e give ≡ behind (after_giving_up (cleared e))
+give-is d e give unasked on (inl is) =
+    same-key d e give Quit (behind (after_giving_up (cleared e))) is
+    (ap behind (quit-any d (before e) e.ask e.seek (cleared e) unasked on))
+give-is d e give unasked on (inr (inl is)) =
+    same-key d e give Copy (behind (after_giving_up (cleared e))) is
+    (ap behind (copy-any d (before e) e.ask e.seek (cleared e) unasked on))
+give-is d e give unasked on (inr (inr is)) =
+    same-key d e give Cancel (behind (after_giving_up (cleared e))) is
+    (ap behind (cancel-any d (before e) e.ask e.seek (cleared e) unasked on))
+
+pub giving-up-goes-back : GivingUpGoesBack
+giving-up-goes-back d e begin give typed off begins gives on =
+    let begun = after_key d None e begin in
+    let last = after_typing d begun typed in
+    let start = (begin-is d e begin off begins).1 in
+    let unasked : begun.ask ≡ asks.Off = ap (λ (x : Editor). x.ask) start in
+    let keeps = typing-keeps d begun typed unasked on in
+    subst (IsGivenUp e) (sym (give-is d last give (keeps.ask_is ∙ unasked) (on-at-last d begun typed on) gives))
+    (record {
+      seek_is = refl;
+      place_is = keeps.origin_is ∙ ap (λ (x : Editor). x.origin) start;
+      mark_is = keeps.mark_is ∙ ap (λ (x : Editor). x.mark) start;
+      content_is = keeps.content_is ∙ ap (λ (x : Editor). x.content) start;
+    })

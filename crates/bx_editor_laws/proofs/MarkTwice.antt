@@ -1,0 +1,210 @@
+-- Mark twice at one place, and the text's ends.
+use Rattle.std.proofs.Common.{◌≡◌, ℕ, Bool, true, false, [], ◌∷◌, length, refl, sym, ap, ap₂, ◌∙◌, arith, ⊎_elim}
+use Rattle.std.specs.Prelude.{◌==◌, Option, Some, None, if◌then◌else◌}
+use Rattle.std.proofs.lemmas.Bool.Decides.{nat_tests}
+use Rattle.bx_keys.specs.declared.key.Key.TheVariants.{Mark, TextStart, TextEnd}
+use Rattle.bx_ucd.specs.Data.{Data}
+use Rattle.bx_asking.specs.declared.question.Ask.{Ask}
+use Rattle.bx_asking.specs.declared.question.Ask.TheVariants as asks
+use Rattle.bx_editor.specs.declared.message.Message.{Message}
+use Rattle.bx_editor.specs.declared.message.Message.TheVariants.{MarkOff, MarkSet}
+use Rattle.bx_editor.specs.declared.seek.Seek.{Seek}
+use Rattle.bx_editor.specs.declared.seek.Seek.TheVariants.{Off, Begun, Typed, WithBegun, WithTyped, Replacing}
+use Rattle.bx_editor.specs.declared.soft.Soft.{Soft}
+use Rattle.bx_editor.specs.declared.soft.Soft.TheVariants as softness
+use Rattle.bx_runs.specs.declared.typing.Typing.TheVariants as typings
+use Rattle.bx_editor.specs.Editor.{Editor, cleared, with_place}
+use Rattle.bx_editor.specs.Effects.{Before, before}
+use Rattle.bx_editor.specs.Keys.{after_any, after_key, after_keys}
+use Rattle.bx_editor_laws.specs.Laws.{GoesToBothEnds, MarkTwiceIsNothing, hard_mark, only_at}
+use Rattle.bx_editor.specs.Region.{after_mark, is_at_mark}
+use Rattle.bx_editor.specs.Search.{without_search}
+use Rattle.bx_editor.specs.Selecting.{aged, mark_left, soft_left, unselected}
+use Rattle.bx_editor.proofs.InSearch.{behind}
+
+-- ---- Mark
+
+-- what Mark leaves, by whether the mark is at the place
+abbrev mark-by : Bool → Editor → Editor
+mark-by there e =
+    if there
+    then record e { mark = None; soft = softness.Off; message = Some MarkOff }
+    else record e { mark = Some e.place; soft = softness.Off; message = Some MarkSet }
+
+-- nothing is asked, and the search is in this state
+abbrev ended : Seek → Editor → Editor
+ended seek e = record e { ask = asks.Off; seek = seek }
+
+mark-ended : (there : Bool) (e : Editor) (seek : Seek) → mark-by there (ended seek e) ≡ ended seek (mark-by there e)
+mark-ended true e seek = refl
+mark-ended false e seek = refl
+
+search-ended : (there : Bool) (e : Editor) → e.ask ≡ asks.Off → without_search (mark-by there e) ≡ ended Off (mark-by there e)
+search-ended true e unasked = ap (λ a. record (mark-by true e) { ask = a; seek = Off }) unasked
+search-ended false e unasked = ap (λ a. record (mark-by false e) { ask = a; seek = Off }) unasked
+
+-- where the search ends first
+free-ended : (there : Bool) (e : Editor) → e.ask ≡ asks.Off → mark-by there (without_search e) ≡ ended Off (mark-by there e)
+free-ended there e unasked = ap (λ a. mark-by there (record e { ask = a; seek = Off })) unasked ∙ mark-ended there e Off
+
+mark-free : (d : Data) (was : Before) (seek : Seek) (e : Editor) → e.ask ≡ asks.Off → e.seek ≡ seek
+    → after_any d None was asks.Off seek e Mark ≡ ended Off (after_mark e)
+mark-free d was Off e unasked unsought =
+    let there = is_at_mark e.mark e.place in
+    ap₂ (λ a s. mark-by there (record e { ask = a; seek = s })) unasked unsought ∙ mark-ended there e Off
+mark-free d was Begun e unasked on = search-ended (is_at_mark e.mark e.place) e unasked
+mark-free d was Typed e unasked on = search-ended (is_at_mark e.mark e.place) e unasked
+mark-free d was WithBegun e unasked on = free-ended (is_at_mark e.mark e.place) e unasked
+mark-free d was WithTyped e unasked on = free-ended (is_at_mark e.mark e.place) e unasked
+mark-free d was Replacing e unasked on = free-ended (is_at_mark e.mark e.place) e unasked
+
+-- it ends a question alone, or a search
+mark-any : (d : Data) (was : Before) (ask : Ask) (seek : Seek) (e : Editor) → e.ask ≡ ask → e.seek ≡ seek
+    → (s : Seek) × (after_any d None was ask seek e Mark ≡ ended s (after_mark e))
+mark-any d was asks.Off seek e unasked is = (Off, mark-free d was seek e unasked is)
+mark-any d was asks.Line seek e asked is = (e.seek, mark-ended (is_at_mark e.mark e.place) e e.seek)
+mark-any d was asks.Name seek e asked is = (e.seek, mark-ended (is_at_mark e.mark e.place) e e.seek)
+mark-any d was asks.Code seek e asked is = (e.seek, mark-ended (is_at_mark e.mark e.place) e e.seek)
+
+mark-once : (d : Data) (e : Editor) → (s : Seek) × (after_key d None e Mark ≡ behind (ended s (after_mark (cleared e))))
+mark-once d e = let one = mark-any d (before e) e.ask e.seek (cleared e) refl refl in (one.0, ap behind one.1)
+
+mark-again : (d : Data) (e : Editor) → e.ask ≡ asks.Off → after_key d None e Mark ≡ behind (ended Off (after_mark (cleared e)))
+mark-again d e unasked =
+    ap (λ a. behind (after_any d None (before e) a e.seek (cleared e) Mark)) unasked
+    ∙ ap behind (mark-free d (before e) e.seek (cleared e) unasked refl)
+
+-- once the message is cleared, a question and a selection are over and no column is kept, with a mark and a message
+abbrev marked : Editor → Seek → Option ℕ → Option Message → Editor
+marked e seek mark message = record e {
+  mark = mark;
+  soft = softness.Off;
+  seek = seek;
+  ask = asks.Off;
+  typing = typings.Off;
+  message = message;
+  quit_before = false;
+  goal = None;
+}
+
+at-itself : (place : ℕ) → (place == place) ≡ true
+at-itself place = grind (arith, nat_tests)
+
+abbrev left : Editor → Seek → Bool → Editor
+left e seek there = behind (ended seek (mark-by there (cleared e)))
+
+mark-there : (e : Editor) (seek : Seek) → is_at_mark e.mark e.place ≡ true
+    → behind (ended seek (after_mark (cleared e))) ≡ marked e seek None (Some MarkOff)
+mark-there e seek is = ap (left e seek) is
+
+mark-not-there : (e : Editor) (seek : Seek) → is_at_mark e.mark e.place ≡ false
+    → behind (ended seek (after_mark (cleared e))) ≡ marked e seek (Some e.place) (Some MarkSet)
+mark-not-there e seek is = ap (left e seek) is
+
+twice-there : (d : Data) (e : Editor) → is_at_mark e.mark e.place ≡ true
+    → after_keys d None e (Mark ∷ Mark ∷ []) ≡ marked e Off (Some e.place) (Some MarkSet)
+twice-there d e is =
+    let one = mark-once d e in
+    let once = marked e one.0 None (Some MarkOff) in
+    ap (λ new. after_key d None new Mark) (one.1 ∙ mark-there e one.0 is) ∙ mark-again d once refl ∙ mark-not-there once Off refl
+
+twice-not-there : (d : Data) (e : Editor) → is_at_mark e.mark e.place ≡ false
+    → after_keys d None e (Mark ∷ Mark ∷ []) ≡ marked e Off None (Some MarkOff)
+twice-not-there d e is =
+    let one = mark-once d e in
+    let once = marked e one.0 (Some e.place) (Some MarkSet) in
+    ap (λ new. after_key d None new Mark) (one.1 ∙ mark-not-there e one.0 is) ∙ mark-again d once refl ∙ mark-there once Off (at-itself e.place)
+
+-- but for the message
+but-message : (e new : Editor) (mark now : Option ℕ) (message : Option Message) → new ≡ marked e Off now message → mark ≡ now
+    → new ≡ marked e Off mark new.message
+but-message e new mark now message is same = is ∙ ap₂ (marked e Off) (sym same) (sym (ap (λ (x : Editor). x.message) is))
+
+pub mark-twice-is-nothing : MarkTwiceIsNothing
+mark-twice-is-nothing d e =
+    let new = after_keys d None e (Mark ∷ Mark ∷ []) in
+    record {
+      here =
+          ⊎_elim
+          (λ none. but-message e new e.mark None (Some MarkOff) (twice-not-there d e (ap (λ m. is_at_mark m e.place) none)) none)
+          (λ there. but-message e new e.mark (Some e.place) (Some MarkSet)
+          (twice-there d e (ap (λ m. is_at_mark m e.place) there ∙ at-itself e.place)) there);
+      elsewhere =
+          λ mark is other.
+          let far : (mark == e.place) ≡ false = grind (arith, nat_tests) in
+          but-message e new None None (Some MarkOff) (twice-not-there d e (ap (λ m. is_at_mark m e.place) is ∙ far)) refl;
+    }
+
+-- ---- the text's ends
+
+end-free : (d : Data) (was : Before) (seek : Seek) (e : Editor) → e.ask ≡ asks.Off → e.seek ≡ seek
+    → after_any d None was asks.Off seek e TextEnd ≡ ended Off (with_place (unselected e) (length e.content.text))
+end-free d was Off e unasked unsought = ap₂ (λ a s. record (with_place (unselected e) (length e.content.text)) { ask = a; seek = s }) unasked unsought
+end-free d was Begun e unasked on = ap (λ a. record (with_place (unselected e) (length e.content.text)) { ask = a; seek = Off }) unasked
+end-free d was Typed e unasked on = ap (λ a. record (with_place (unselected e) (length e.content.text)) { ask = a; seek = Off }) unasked
+end-free d was WithBegun e unasked on = ap (λ a. record (with_place (unselected e) (length e.content.text)) { ask = a; seek = Off }) unasked
+end-free d was WithTyped e unasked on = ap (λ a. record (with_place (unselected e) (length e.content.text)) { ask = a; seek = Off }) unasked
+end-free d was Replacing e unasked on = ap (λ a. record (with_place (unselected e) (length e.content.text)) { ask = a; seek = Off }) unasked
+
+end-any : (d : Data) (was : Before) (ask : Ask) (seek : Seek) (e : Editor) → e.ask ≡ ask → e.seek ≡ seek
+    → (s : Seek) × (after_any d None was ask seek e TextEnd ≡ ended s (with_place (unselected e) (length e.content.text)))
+end-any d was asks.Off seek e unasked is = (Off, end-free d was seek e unasked is)
+end-any d was asks.Line seek e asked is = (e.seek, refl)
+end-any d was asks.Name seek e asked is = (e.seek, refl)
+end-any d was asks.Code seek e asked is = (e.seek, refl)
+
+start-free : (d : Data) (was : Before) (seek : Seek) (e : Editor) → e.ask ≡ asks.Off → e.seek ≡ seek
+    → after_any d None was asks.Off seek e TextStart ≡ ended Off (with_place (unselected e) 0)
+start-free d was Off e unasked unsought = ap₂ (λ a s. record (with_place (unselected e) 0) { ask = a; seek = s }) unasked unsought
+start-free d was Begun e unasked on = ap (λ a. record (with_place (unselected e) 0) { ask = a; seek = Off }) unasked
+start-free d was Typed e unasked on = ap (λ a. record (with_place (unselected e) 0) { ask = a; seek = Off }) unasked
+start-free d was WithBegun e unasked on = ap (λ a. record (with_place (unselected e) 0) { ask = a; seek = Off }) unasked
+start-free d was WithTyped e unasked on = ap (λ a. record (with_place (unselected e) 0) { ask = a; seek = Off }) unasked
+start-free d was Replacing e unasked on = ap (λ a. record (with_place (unselected e) 0) { ask = a; seek = Off }) unasked
+
+start-any : (d : Data) (was : Before) (ask : Ask) (seek : Seek) (e : Editor) → e.ask ≡ ask → e.seek ≡ seek
+    → (s : Seek) × (after_any d None was ask seek e TextStart ≡ ended s (with_place (unselected e) 0))
+start-any d was asks.Off seek e unasked is = (Off, start-free d was seek e unasked is)
+start-any d was asks.Line seek e asked is = (e.seek, refl)
+start-any d was asks.Name seek e asked is = (e.seek, refl)
+start-any d was asks.Code seek e asked is = (e.seek, refl)
+
+-- two moves leave no mark of a selection
+no-mark : (soft : Soft) (mark : Option ℕ) → mark_left (aged (soft_left soft)) (mark_left soft mark) ≡ hard_mark soft mark
+no-mark softness.Off mark = refl
+no-mark softness.Fresh mark = refl
+no-mark softness.Old mark = refl
+
+no-selection : (soft : Soft) → aged (soft_left (aged (soft_left soft))) ≡ softness.Off
+no-selection softness.Off = refl
+no-selection softness.Fresh = refl
+no-selection softness.Old = refl
+
+abbrev at : ℕ → Editor → Option ℕ → Soft → Editor
+at place e mark soft = record e {
+  place = place;
+  mark = mark;
+  soft = soft;
+  seek = Off;
+  ask = asks.Off;
+  typing = typings.Off;
+  message = None;
+  quit_before = false;
+  goal = None;
+}
+
+pub goes-to-both-ends : GoesToBothEnds
+goes-to-both-ends d e =
+    let was = cleared e in
+    let left : (place : ℕ) → at place e (mark_left (aged (soft_left e.soft)) (mark_left e.soft e.mark)) (aged (soft_left (aged (soft_left e.soft)))) ≡ only_at place e =
+    λ place. ap₂ (at place e) (no-mark e.soft e.mark) (no-selection e.soft) in
+    let end = end-any d (before e) e.ask e.seek was refl refl in
+    let start = start-any d (before e) e.ask e.seek was refl refl in
+    let at-end = behind (ended end.0 (with_place (unselected was) (length e.content.text))) in
+    let at-start = behind (ended start.0 (with_place (unselected was) 0)) in
+    record {
+      start = ap (λ new. after_key d None (behind new) TextStart) end.1
+          ∙ ap behind (start-free d (before at-end) end.0 (cleared at-end) refl refl) ∙ left 0;
+      end = ap (λ new. after_key d None (behind new) TextEnd) start.1
+          ∙ ap behind (end-free d (before at-start) start.0 (cleared at-start) refl refl) ∙ left (length e.content.text);
+    }

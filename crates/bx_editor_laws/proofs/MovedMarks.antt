@@ -1,0 +1,300 @@
+-- A move takes an old selection off; behind Select it leaves the mark.
+use Rattle.std.proofs.Common.{◌≡◌, ℕ, Bool, true, false, length, refl, sym, ap, ◌∙◌, if◌then◌else◌}
+use Rattle.std.specs.Prelude.{◌≢◌, ◌==◌, unwrap_or, Option, Some, None}
+use Rattle.bx_keys.specs.declared.key.Key.{Key}
+use Rattle.bx_keys.specs.declared.key.Key.TheVariants.{Insert, Erase, Delete, Back, Forward, Up, Down, Right, Left, RowHome, RowEnd, PageUp, PageDown, Save}
+use Rattle.bx_keys.specs.declared.key.Key.TheVariants.{Quit, Undo, Redo, Repaint, Direction, Size, Mark, Copy, Cut, Put}
+use Rattle.bx_keys.specs.declared.key.Key.TheVariants.{Find, FindBack, WordLeft, WordRight, TextStart, TextEnd, Help, Notice}
+use Rattle.bx_keys.specs.declared.key.Key.TheVariants.{EraseWord, DeleteWord, ErasePoint, NewLine, FindNext, Cancel, LineUp, LineDown, PageBack, PageOn}
+use Rattle.bx_keys.specs.declared.key.Key.TheVariants.{Select, UndoRun, RedoRun, GoTo, Replace, Name, Tell, PasteStart, PasteEnd}
+use Rattle.bx_ucd.specs.Data.{Data}
+use Rattle.bx_asking.specs.declared.question.Ask.{Ask}
+use Rattle.bx_asking.specs.declared.question.Ask.TheVariants as asks
+use Rattle.bx_editor.specs.declared.aim.Aim.TheVariants as aims
+use Rattle.bx_editor.specs.declared.seek.Seek.{Seek}
+use Rattle.bx_editor.specs.declared.seek.Seek.TheVariants as searches
+use Rattle.bx_editor.specs.declared.soft.Soft.{Soft}
+use Rattle.bx_editor.specs.declared.soft.Soft.TheVariants.{Off, Fresh, Old}
+use Rattle.bx_editor.specs.Asking.{without_ask}
+use Rattle.bx_editor.specs.Editor.{Editor, cleared}
+use Rattle.bx_editor.specs.Effects.{Effect, Types, BeginsLine, Puts, Removes, RemovesWord, Steps, StepsRun, Goes, GoesByRows, Marks, Selects}
+use Rattle.bx_editor.specs.Effects.{Unmarks, Copies, Cuts, Seeks, SeeksNext, Saves, Quits, Turns, Helps, AsksLine, AsksName, Tells, Rests, Before, before, by}
+use Rattle.bx_editor.specs.Keys.{Ends, after_any, after_asking, after_key, after_pressing, answer_of, answered, answered_match, answered_other, answered_question, effect_of, is_told_key}
+use Rattle.bx_editor.specs.Search.{after_beginning, after_find_next, next_or_start, search_from, sought, without_search}
+use Rattle.bx_editor.specs.Selecting.{mark_left, selecting, unselected}
+use Rattle.bx_editor_laws.specs.SelectionLaws.{is_move, seeks, LeavesMark, MoveTakesSelectionOff, SeekingTakesSelectionOff}
+use Rattle.bx_editor.proofs.InSearch.{any-key}
+
+-- ---- a move
+
+abbrev goes : Effect → Bool
+goes (Goes place) = true
+goes (GoesByRows way n) = true
+goes _ = false
+
+each : (d : Data) (e : Editor) (key : Key) → is_move key ≡ true
+    → (goes (effect_of d e key) ≡ true) × ((answer_of key ≡ Ends) × (is_told_key key ≡ false))
+each d e (Insert c) is = absurd (cc is)
+each d e Erase is = absurd (cc is)
+each d e Delete is = absurd (cc is)
+each d e Back is = (refl, (refl, refl))
+each d e Forward is = (refl, (refl, refl))
+each d e Up is = (refl, (refl, refl))
+each d e Down is = (refl, (refl, refl))
+each d e Right is = (refl, (refl, refl))
+each d e Left is = (refl, (refl, refl))
+each d e RowHome is = (refl, (refl, refl))
+each d e RowEnd is = (refl, (refl, refl))
+each d e PageUp is = (refl, (refl, refl))
+each d e PageDown is = (refl, (refl, refl))
+each d e Save is = absurd (cc is)
+each d e Quit is = absurd (cc is)
+each d e Undo is = absurd (cc is)
+each d e Redo is = absurd (cc is)
+each d e Repaint is = absurd (cc is)
+each d e Direction is = absurd (cc is)
+each d e Mark is = absurd (cc is)
+each d e Copy is = absurd (cc is)
+each d e Cut is = absurd (cc is)
+each d e Put is = absurd (cc is)
+each d e Find is = absurd (cc is)
+each d e FindBack is = absurd (cc is)
+each d e WordLeft is = (refl, (refl, refl))
+each d e WordRight is = (refl, (refl, refl))
+each d e TextStart is = (refl, (refl, refl))
+each d e TextEnd is = (refl, (refl, refl))
+each d e Help is = absurd (cc is)
+each d e EraseWord is = absurd (cc is)
+each d e DeleteWord is = absurd (cc is)
+each d e ErasePoint is = absurd (cc is)
+each d e NewLine is = absurd (cc is)
+each d e FindNext is = absurd (cc is)
+each d e Cancel is = absurd (cc is)
+each d e LineUp is = (refl, (refl, refl))
+each d e LineDown is = (refl, (refl, refl))
+each d e PageBack is = (refl, (refl, refl))
+each d e PageOn is = (refl, (refl, refl))
+each d e Select is = absurd (cc is)
+each d e UndoRun is = absurd (cc is)
+each d e RedoRun is = absurd (cc is)
+each d e GoTo is = absurd (cc is)
+each d e Replace is = absurd (cc is)
+each d e Name is = absurd (cc is)
+each d e Tell is = absurd (cc is)
+each d e PasteStart is = absurd (cc is)
+each d e PasteEnd is = absurd (cc is)
+each d e (Size height width) is = absurd (cc is)
+each d e (Notice notice) is = absurd (cc is)
+
+effect : (d : Data) (was : Before) (e : Editor) (one : Effect) → goes one ≡ true → (by d None was e one).mark ≡ mark_left e.soft e.mark
+effect d was e (Types c) is = absurd (cc is)
+effect d was e BeginsLine is = absurd (cc is)
+effect d was e Puts is = absurd (cc is)
+effect d was e (Removes how start stop) is = absurd (cc is)
+effect d was e (RemovesWord start stop) is = absurd (cc is)
+effect d was e (Steps way) is = absurd (cc is)
+effect d was e (StepsRun way) is = absurd (cc is)
+effect d was e (Goes place) is = refl
+effect d was e (GoesByRows way n) is = refl
+effect d was e Marks is = absurd (cc is)
+effect d was e Selects is = absurd (cc is)
+effect d was e Unmarks is = absurd (cc is)
+effect d was e Copies is = absurd (cc is)
+effect d was e Cuts is = absurd (cc is)
+effect d was e (Seeks aim) is = absurd (cc is)
+effect d was e SeeksNext is = absurd (cc is)
+effect d was e Saves is = absurd (cc is)
+effect d was e Quits is = absurd (cc is)
+effect d was e Turns is = absurd (cc is)
+effect d was e Helps is = absurd (cc is)
+effect d was e AsksLine is = absurd (cc is)
+effect d was e AsksName is = absurd (cc is)
+effect d was e Tells is = absurd (cc is)
+effect d was e Rests is = absurd (cc is)
+
+-- a move ends a question
+in-question : (d : Data) (was : Before) (e : Editor) (key : Key) → is_move key ≡ true → (after_asking d None was e key).mark ≡ mark_left e.soft e.mark
+in-question d was e key is =
+    let free = without_ask e in
+    ap (λ a. (answered_question d None was e key a).mark) ((each d e key is).1.0)
+    ∙ effect d was free (effect_of d free key) ((each d free key is).0)
+
+-- and a search
+from-search : (d : Data) (was : Before) (e : Editor) (key : Key) → is_move key ≡ true
+    → (after_pressing d None was (without_search e) key).mark ≡ mark_left e.soft e.mark
+from-search d was e key is = let off = without_search e in effect d was off (effect_of d off key) ((each d off key is).0)
+
+any : (d : Data) (was : Before) (ask : Ask) (seek : Seek) (e : Editor) (key : Key) → is_move key ≡ true
+    → (after_any d None was ask seek e key).mark ≡ mark_left e.soft e.mark
+any d was asks.Off searches.Off e key is = effect d was e (effect_of d e key) ((each d e key is).0)
+any d was asks.Off searches.Begun e key is =
+    ap (λ a. (answered d None was e key a).mark) ((each d e key is).1.0) ∙ effect d was e (effect_of d e key) ((each d e key is).0)
+any d was asks.Off searches.Typed e key is =
+    ap (λ a. (answered d None was e key a).mark) ((each d e key is).1.0) ∙ effect d was e (effect_of d e key) ((each d e key is).0)
+any d was asks.Off searches.WithBegun e key is =
+    ap (λ a. (answered_other d None was e key a).mark) ((each d e key is).1.0) ∙ from-search d was e key is
+any d was asks.Off searches.WithTyped e key is =
+    ap (λ a. (answered_other d None was e key a).mark) ((each d e key is).1.0) ∙ from-search d was e key is
+any d was asks.Off searches.Replacing e key is =
+    ap (λ a. (answered_match d None was e key a).mark) ((each d e key is).1.0) ∙ from-search d was e key is
+any d was asks.Line seek e key is = in-question d was e key is
+any d was asks.Name seek e key is = in-question d was e key is
+any d was asks.Code seek e key is = in-question d was e key is
+
+moved : (d : Data) (e : Editor) (key : Key) → is_move key ≡ true → (after_key d None e key).mark ≡ mark_left e.soft e.mark
+moved d e key is =
+    ap (λ (new : Editor). new.mark) (any-key d None e key ((each d e key is).1.1)) ∙ any d (before e) e.ask e.seek (cleared e) key is
+
+not-old : (soft : Soft) (mark : Option ℕ) → soft ≢ Old → mark_left soft mark ≡ mark
+not-old Off mark other = refl
+not-old Fresh mark other = refl
+not-old Old mark other = absurd (other refl)
+
+-- ---- Select
+
+selected : (e : Editor) (mark : Option ℕ) (soft : Soft) → e.mark ≡ mark → e.soft ≡ soft
+    → ((selecting e mark soft).mark ≡ Some (unwrap_or mark e.place)) × ((selecting e mark soft).soft ≢ Old)
+selected e None soft marked softly = (refl, λ is. cc is)
+selected e (Some mark) Off marked softly = (marked, λ is. let both = sym softly ∙ is in cc both)
+selected e (Some mark) Fresh marked softly = (marked, λ is. let both = sym softly ∙ is in cc both)
+selected e (Some mark) Old marked softly = (marked, λ is. cc is)
+
+select-any : (d : Data) (was : Before) (ask : Ask) (seek : Seek) (e : Editor) → let new = after_any d None was ask seek e Select in
+    (new.mark ≡ Some (unwrap_or e.mark e.place)) × (new.soft ≢ Old)
+select-any d was asks.Off searches.Off e = selected e e.mark e.soft refl refl
+select-any d was asks.Off searches.Begun e = selected e e.mark e.soft refl refl
+select-any d was asks.Off searches.Typed e = selected e e.mark e.soft refl refl
+select-any d was asks.Off searches.WithBegun e = selected (without_search e) e.mark e.soft refl refl
+select-any d was asks.Off searches.WithTyped e = selected (without_search e) e.mark e.soft refl refl
+select-any d was asks.Off searches.Replacing e = selected (without_search e) e.mark e.soft refl refl
+select-any d was asks.Line seek e = selected (without_ask e) e.mark e.soft refl refl
+select-any d was asks.Name seek e = selected (without_ask e) e.mark e.soft refl refl
+select-any d was asks.Code seek e = selected (without_ask e) e.mark e.soft refl refl
+
+selecting-seek : (e : Editor) (mark : Option ℕ) (soft : Soft) → (selecting e mark soft).seek ≡ e.seek
+selecting-seek e None soft = refl
+selecting-seek e (Some mark) Off = refl
+selecting-seek e (Some mark) Fresh = refl
+selecting-seek e (Some mark) Old = refl
+
+select-off-any : (d : Data) (was : Before) (ask : Ask) (e : Editor) → (after_any d None was ask searches.Off e Select).seek ≡ e.seek
+select-off-any d was asks.Off e = selecting-seek e e.mark e.soft
+select-off-any d was asks.Line e = selecting-seek (without_ask e) e.mark e.soft
+select-off-any d was asks.Name e = selecting-seek (without_ask e) e.mark e.soft
+select-off-any d was asks.Code e = selecting-seek (without_ask e) e.mark e.soft
+
+select-off : (d : Data) (e : Editor) → e.seek ≡ searches.Off → (after_key d None e Select).seek ≡ searches.Off
+select-off d e off =
+    ap (λ s. (after_any d None (before e) e.ask s (cleared e) Select).seek) off ∙ select-off-any d (before e) e.ask (cleared e) ∙ off
+
+-- ---- a key that seeks
+
+either-mark : (b : Bool) (mark : Option ℕ) (p q : Editor) → p.mark ≡ mark → q.mark ≡ mark → (if b then p else q).mark ≡ mark
+either-mark true mark p q h k = h
+either-mark false mark p q h k = k
+
+find-mark : (d : Data) (was : Before) (ask : Ask) (e : Editor) → (after_any d None was ask searches.Off e Find).mark ≡ mark_left e.soft e.mark
+find-mark d was asks.Off e = refl
+find-mark d was asks.Line e = refl
+find-mark d was asks.Name e = refl
+find-mark d was asks.Code e = refl
+
+find-back-mark : (d : Data) (was : Before) (ask : Ask) (e : Editor) → (after_any d None was ask searches.Off e FindBack).mark ≡ mark_left e.soft e.mark
+find-back-mark d was asks.Off e = refl
+find-back-mark d was asks.Line e = refl
+find-back-mark d was asks.Name e = refl
+find-back-mark d was asks.Code e = refl
+
+replace-mark : (d : Data) (was : Before) (ask : Ask) (e : Editor) → (after_any d None was ask searches.Off e Replace).mark ≡ mark_left e.soft e.mark
+replace-mark d was asks.Off e = refl
+replace-mark d was asks.Line e = refl
+replace-mark d was asks.Name e = refl
+replace-mark d was asks.Code e = refl
+
+next-mark-by : (d : Data) (e : Editor) → (after_find_next d (unselected e)).mark ≡ mark_left e.soft e.mark
+next-mark-by d e =
+    let free = unselected e in
+    either-mark (length (sought d free) == 0) free.mark (after_beginning aims.Find free) (search_from d (next_or_start d free) (record free { seek = searches.Off; aim = aims.Find })) refl refl
+
+next-mark : (d : Data) (was : Before) (ask : Ask) (e : Editor) → (after_any d None was ask searches.Off e FindNext).mark ≡ mark_left e.soft e.mark
+next-mark d was asks.Off e = next-mark-by d e
+next-mark d was asks.Line e = next-mark-by d (without_ask e)
+next-mark d was asks.Name e = next-mark-by d (without_ask e)
+next-mark d was asks.Code e = next-mark-by d (without_ask e)
+
+sought-mark : (d : Data) (e : Editor) (key : Key) → e.seek ≡ searches.Off → seeks key ≡ true → (after_key d None e key).mark ≡ mark_left e.soft e.mark
+sought-mark d e (Insert c) off is = absurd (cc is)
+sought-mark d e Erase off is = absurd (cc is)
+sought-mark d e Delete off is = absurd (cc is)
+sought-mark d e Back off is = absurd (cc is)
+sought-mark d e Forward off is = absurd (cc is)
+sought-mark d e Up off is = absurd (cc is)
+sought-mark d e Down off is = absurd (cc is)
+sought-mark d e Right off is = absurd (cc is)
+sought-mark d e Left off is = absurd (cc is)
+sought-mark d e RowHome off is = absurd (cc is)
+sought-mark d e RowEnd off is = absurd (cc is)
+sought-mark d e PageUp off is = absurd (cc is)
+sought-mark d e PageDown off is = absurd (cc is)
+sought-mark d e Save off is = absurd (cc is)
+sought-mark d e Quit off is = absurd (cc is)
+sought-mark d e Undo off is = absurd (cc is)
+sought-mark d e Redo off is = absurd (cc is)
+sought-mark d e Repaint off is = absurd (cc is)
+sought-mark d e Direction off is = absurd (cc is)
+sought-mark d e Mark off is = absurd (cc is)
+sought-mark d e Copy off is = absurd (cc is)
+sought-mark d e Cut off is = absurd (cc is)
+sought-mark d e Put off is = absurd (cc is)
+sought-mark d e Find off is =
+    ap (λ s. (after_any d None (before e) e.ask s (cleared e) Find).mark) off ∙ find-mark d (before e) e.ask (cleared e)
+sought-mark d e FindBack off is =
+    ap (λ s. (after_any d None (before e) e.ask s (cleared e) FindBack).mark) off ∙ find-back-mark d (before e) e.ask (cleared e)
+sought-mark d e WordLeft off is = absurd (cc is)
+sought-mark d e WordRight off is = absurd (cc is)
+sought-mark d e TextStart off is = absurd (cc is)
+sought-mark d e TextEnd off is = absurd (cc is)
+sought-mark d e Help off is = absurd (cc is)
+sought-mark d e EraseWord off is = absurd (cc is)
+sought-mark d e DeleteWord off is = absurd (cc is)
+sought-mark d e ErasePoint off is = absurd (cc is)
+sought-mark d e NewLine off is = absurd (cc is)
+sought-mark d e FindNext off is =
+    ap (λ s. (after_any d None (before e) e.ask s (cleared e) FindNext).mark) off ∙ next-mark d (before e) e.ask (cleared e)
+sought-mark d e Cancel off is = absurd (cc is)
+sought-mark d e LineUp off is = absurd (cc is)
+sought-mark d e LineDown off is = absurd (cc is)
+sought-mark d e PageBack off is = absurd (cc is)
+sought-mark d e PageOn off is = absurd (cc is)
+sought-mark d e Select off is = absurd (cc is)
+sought-mark d e UndoRun off is = absurd (cc is)
+sought-mark d e RedoRun off is = absurd (cc is)
+sought-mark d e GoTo off is = absurd (cc is)
+sought-mark d e Replace off is =
+    ap (λ s. (after_any d None (before e) e.ask s (cleared e) Replace).mark) off ∙ replace-mark d (before e) e.ask (cleared e)
+sought-mark d e Name off is = absurd (cc is)
+sought-mark d e Tell off is = absurd (cc is)
+sought-mark d e PasteStart off is = absurd (cc is)
+sought-mark d e PasteEnd off is = absurd (cc is)
+sought-mark d e (Size height width) off is = absurd (cc is)
+sought-mark d e (Notice notice) off is = absurd (cc is)
+
+-- ---- the laws
+
+leaves : (d : Data) (e : Editor) (key : Key) → (after_key d None e key).mark ≡ mark_left e.soft e.mark
+    → (let first = after_key d None e Select in (after_key d None first key).mark ≡ mark_left first.soft first.mark) → LeavesMark d e key
+leaves d e key now behind =
+    let first = after_key d None e Select in
+    let chosen = select-any d (before e) e.ask e.seek (cleared e) in
+    record {
+      old = λ soft. now ∙ ap (λ s. mark_left s e.mark) soft;
+      other = λ soft. now ∙ not-old e.soft e.mark soft;
+      selecting = behind ∙ not-old first.soft first.mark chosen.1 ∙ chosen.0;
+    }
+
+pub move-takes-selection-off : MoveTakesSelectionOff
+move-takes-selection-off d e key is = leaves d e key (moved d e key is) (moved d (after_key d None e Select) key is)
+
+pub seeking-takes-selection-off : SeekingTakesSelectionOff
+seeking-takes-selection-off d e key off is =
+    leaves d e key (sought-mark d e key off is) (sought-mark d (after_key d None e Select) key (select-off d e off) is)

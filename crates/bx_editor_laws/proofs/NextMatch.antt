@@ -1,0 +1,51 @@
+-- FindNext leads to where Find and then Find lead, and no search is on behind it.
+use Rattle.std.proofs.Common.{◌≡◌, ℕ, false, List, [], ◌∷◌, length, refl, sym, ap, ◌∙◌, arith, ne_eqb}
+use Rattle.std.specs.Prelude.{◌≢◌, ◌==◌, None, if◌then◌else◌}
+use Rattle.bx_keys.specs.declared.key.Key.TheVariants.{Find, FindNext}
+use Rattle.bx_editor.specs.declared.aim.Aim.TheVariants as aims
+use Rattle.bx_editor.specs.declared.seek.Seek.TheVariants.{Off, Typed}
+use Rattle.bx_editor.specs.declared.soft.Soft.{Soft}
+use Rattle.bx_editor.specs.declared.soft.Soft.TheVariants as softness
+use Rattle.bx_ucd.specs.Data.{Data}
+use Rattle.bx_asking.specs.declared.question.Ask.{Ask}
+use Rattle.bx_asking.specs.declared.question.Ask.TheVariants as asks
+use Rattle.bx_editor.specs.Asking.{without_ask}
+use Rattle.bx_editor.specs.Editor.{Editor, cleared}
+use Rattle.bx_editor.specs.Effects.{Before, before}
+use Rattle.bx_editor.specs.Keys.{after_any, after_key, after_keys}
+use Rattle.bx_editor.specs.Search.{after_beginning, after_find_next, next_or_start, search_from, sought}
+use Rattle.bx_editor.specs.Selecting.{aged, soft_left, unselected}
+use Rattle.bx_editor_laws.proofs.GivenUp.{find-begins}
+use Rattle.bx_editor.proofs.InSearch.{behind}
+use Rattle.bx_editor_laws.specs.WorkLaws.{FindNextIsFindTwice}
+
+some-letters : (ls : List ℕ) → ls ≢ [] → (length ls == 0) ≡ false
+some-letters [] some = absurd (some refl)
+some-letters (l ∷ ls) some = ne_eqb (length (l ∷ ls)) 0 (λ same. omega (arith, same))
+
+aged-twice : (soft : Soft) → aged (aged soft) ≡ aged soft
+aged-twice softness.Off = refl
+aged-twice softness.Fresh = refl
+aged-twice softness.Old = refl
+
+-- it ends a question
+next-any : (d : Data) (was : Before) (ask : Ask) (e : Editor) → e.ask ≡ ask → after_any d None was ask Off e FindNext ≡ after_find_next d (unselected (without_ask e))
+next-any d was asks.Off e is = ap (λ a. after_find_next d (unselected (record e { ask = a }))) is
+next-any d was asks.Line e is = refl
+next-any d was asks.Name e is = refl
+next-any d was asks.Code e is = refl
+
+pub find-next-is-find-twice : FindNextIsFindTwice
+find-next-is-find-twice d e off some =
+    let was = unselected (without_ask (cleared e)) in
+    let gone = search_from d (next_or_start d was) (record was { seek = Off; aim = aims.Find }) in
+    let pressed : after_key d None e FindNext ≡ behind gone =
+    ap (λ s. behind (after_any d None (before e) e.ask s (cleared e) FindNext)) off
+    ∙ ap behind (next-any d (before e) e.ask (cleared e) refl)
+    ∙ ap (λ b. behind (if b then after_beginning aims.Find was else gone)) (some-letters (sought d e) some) in
+    let begun : after_key d None e Find ≡ behind (after_beginning aims.Find was) = find-begins d e off in
+    let twice : after_keys d None e (Find ∷ Find ∷ [])
+    ≡ record gone { seek = Typed; origin = e.place; goal = None; soft = aged (aged (soft_left e.soft)) } =
+    ap (λ new. after_key d None new Find) begun in
+    pressed ∙ ap (λ s. record gone { seek = Off; goal = None; soft = s }) (sym (aged-twice (soft_left e.soft)))
+    ∙ sym (ap (λ (new : Editor). record new { seek = Off; origin = e.origin }) twice)

@@ -1,0 +1,367 @@
+-- Characters that go on with each other are one run, which one UndoRun takes back.
+use Rattle.std.proofs.Common.{◌≡◌, ℕ, zero, suc, ◌+◌, ◌-◌, ◌≤◌, ◌<◌, Bool, true, false, List, [], ◌∷◌, ◌++◌, length, map, take, drop, refl, sym, ap}
+use Rattle.std.proofs.Common.{ap₂, subst, ◌∙◌, arith, inl, inr, if◌then◌else◌, length-append}
+use Rattle.std.specs.Prelude.{◌≢◌, ◌⊎◌, ◌==◌, ◌&&◌, not, nat_le, encode_utf8, encode_utf8_all, Some, None}
+use Rattle.std.specs.Fn.{iterate}
+use Rattle.std.proofs.lemmas.Bool.Decides.{nat_tests}
+use Rattle.std.proofs.lemmas.List.{length-drop, length-take}
+use Rattle.std.proofs.lemmas.List.Elements.{All-head, All-tail}
+use Rattle.bx_terms.specs.Sizes.{largest_text}
+use Rattle.bx_keys.specs.declared.key.Key.TheVariants.{Insert, PasteEnd, UndoRun}
+use Rattle.bx_text.specs.Edits.{Edit, Edited, splice}
+use Rattle.bx_document.specs.declared.history.HistoryStep.TheVariants as steps
+use Rattle.bx_runs.specs.Runs.{edited, run_start}
+use Rattle.bx_runs.specs.Typing.{after_insertion, goes_on, kind_of}
+use Rattle.bx_runs.specs.declared.typing.Kind.{Kind}
+use Rattle.bx_runs.specs.declared.typing.Kind.TheVariants.{Blank, Letter, Separator}
+use Rattle.bx_runs.specs.declared.typing.Typing.{Typing}
+use Rattle.bx_runs.specs.declared.typing.Typing.TheVariants as typings
+use Rattle.bx_runs.proofs.RunLaws.{edit-is-of-its-run}
+use Rattle.bx_ucd.specs.Data.{Data}
+use Rattle.bx_asking.specs.declared.question.Ask.TheVariants as asks
+use Rattle.bx_editor.specs.declared.message.Message.TheVariants.{TextFull}
+use Rattle.bx_editor.specs.declared.seek.Seek.TheVariants as seeks
+use Rattle.bx_editor.specs.declared.soft.Soft.TheVariants as softness
+use Rattle.bx_editor.specs.Editor.{Editor, cleared, with_insertion, with_removal, with_typing}
+use Rattle.bx_editor.specs.Effects.{before}
+use Rattle.bx_editor.specs.Keys.{after_any, after_key, after_keys, as_left}
+use Rattle.bx_editor.specs.Putting.{after_character, after_new_line, has_room, is_paste, line_end, only_paste, typed, with_selection_replaced, yielding}
+use Rattle.bx_editor.specs.Region.{is_empty, region}
+use Rattle.bx_editor_laws.specs.RunLaws.{pasted, AreOfKind, IsBackBefore, PasteIsARun, WordIsARun}
+use Rattle.bx_editor.specs.Runs.{run_length}
+use Rattle.bx_editor.specs.Selecting.{is_selection, is_soft}
+use Rattle.bx_editor.proofs.ManySteps.{back, undone-back, version}
+use Rattle.bx_editor_laws.proofs.RunKeys.{undo-run}
+
+-- ---- the latest edits
+
+-- before its latest `n` edits the editor had text, place and past of `first`
+abbrev pub IsOver : Editor → ℕ → List ℕ → ℕ → List Edit → Type 0
+IsOver first zero text place past = (text ≡ first.content.text) × ((place ≡ first.place) × (past ≡ first.content.past))
+IsOver first (suc n) text place [] = true ≡ false
+IsOver first (suc n) text place (edit ∷ past) = IsOver first n edit.before.text edit.before.place past
+
+over-length : (first : Editor) (n : ℕ) (text : List ℕ) (place : ℕ) (past : List Edit) → IsOver first n text place past
+    → length past ≡ n + length first.content.past
+over-length first zero text place past h = ap length h.1.1 ∙ omega arith
+over-length first (suc n) text place [] h = absurd (cc h)
+over-length first (suc n) text place (edit ∷ past) h = omega (arith, over-length first n edit.before.text edit.before.place past h)
+
+over-back : (first : Editor) (n : ℕ) (text : List ℕ) (place : ℕ) (past future : List Edit) → IsOver first n text place past
+    → let at = iterate back n (version text past future, place) in
+    (at.0.text ≡ first.content.text) × ((at.1 ≡ first.place) × (at.0.past ≡ first.content.past))
+over-back first zero text place past future h = h
+over-back first (suc n) text place [] future h = absurd (cc h)
+over-back first (suc n) text place (edit ∷ past) future h = over-back first n edit.before.text edit.before.place past (edit ∷ future) h
+
+-- at least one edit, of one run that began at `first`
+pub record Going (first : Editor) (t : Edited) (place : ℕ) (runs : List ℕ) : Type 0 where
+  pub more : ℕ
+  pub over : IsOver first (suc more) t.text place t.past
+  pub start : run_start runs (length t.past) ≡ length first.content.past
+
+abbrev pub IsOneRun : Editor → Editor → Type 0
+IsOneRun first e = Going first e.content e.place e.runs
+
+undo-going : (d : Data) (first e : Editor) (text : List ℕ) (past future : List Edit) → let now : Editor = record e { content = version text past future } in IsOneRun first now
+    → IsBackBefore first (after_key d None now UndoRun)
+undo-going d first e text [] future h = let no = h.over in absurd (cc no)
+undo-going d first e text (edit ∷ past) future h =
+    let t : Edited = version text (edit ∷ past) future in
+    let now : Editor = record e { content = t } in
+    let n = h.more in
+    let long : run_length steps.Undo now ≡ suc n = omega (arith, over-length first (suc n) text e.place (edit ∷ past) h.over, h.start) in
+    let ran = undo-run d e n text edit past future long in
+    let led = over-back first (suc n) text e.place (edit ∷ past) future h.over in
+    let all = undone-back (suc n) t e.place in
+    record {
+      text_is = ap (λ (x : Editor). x.content.text) ran ∙ ap (λ (x : Edited). x.text) all ∙ led.0;
+      past_is = ap (λ (x : Editor). x.content.past) ran ∙ ap (λ (x : Edited). x.past) all ∙ led.1.1;
+      unmarked = record { place_is = ap (λ (x : Editor). x.place) ran ∙ led.1.0; mark_is = ap (λ (x : Editor). x.mark) ran };
+    }
+
+-- from any history
+pub goes-back : (d : Data) (first e : Editor) → IsOneRun first e → IsBackBefore first (after_key d None e UndoRun)
+goes-back d first e h = undo-going d first e e.content.text e.content.past e.content.future h
+
+-- ---- an edit
+
+abbrev pub Nothing : Editor → Editor → Type 0
+Nothing first e = IsOver first 0 e.content.text e.place e.content.past
+
+next : (runs : List ℕ) (n : ℕ) (on : Bool) → run_start (edited runs n on) (suc n) ≡ (if on then run_start runs n else n)
+next runs n on = let same : suc n ≡ n + 1 = omega arith in ap (run_start (edited runs n on)) same ∙ edit-is-of-its-run runs n on
+
+pub insertion-begins : (d : Data) (first e : Editor) (new : List ℕ) → Nothing first e → IsOneRun first (with_insertion d e new false)
+insertion-begins d first e new h = record {
+  more = 0;
+  over = h;
+  start = next e.runs (length e.content.past) false ∙ ap length h.1.1;
+}
+
+pub removal-begins : (d : Data) (first e : Editor) (start stop : ℕ) → Nothing first e → IsOneRun first (with_removal d e start stop false)
+removal-begins d first e start stop h = record {
+  more = 0;
+  over = h;
+  start = next e.runs (length e.content.past) false ∙ ap length h.1.1;
+}
+
+insertion-goes : (d : Data) (first e : Editor) (new : List ℕ) → IsOneRun first e → IsOneRun first (with_insertion d e new true)
+insertion-goes d first e new h = record {
+  more = suc h.more;
+  over = h.over;
+  start = next e.runs (length e.content.past) true ∙ h.start;
+}
+
+pub replacement-begins : (d : Data) (first e : Editor) (new : List ℕ) → Nothing first e → IsOneRun first (with_selection_replaced d e new)
+replacement-begins d first e new h =
+    insertion-goes d first (with_removal d e (region e).0 (region e).1 false) new (removal-begins d first e (region e).0 (region e).1 h)
+
+-- ---- a typed character
+
+-- what is typed, by whether there is room, whether a selection gives way, and whether the edit goes on
+abbrev shaped : Data → Typing → Editor → List ℕ → Kind → Bool → Bool → Bool → Editor
+shaped d typing e new kind room selected on =
+    record (if room then (if selected then with_selection_replaced d e new else with_insertion d e new on) else record e { message = Some TextFull }) {
+      typing = if room then after_insertion typing kind else only_paste typing;
+    }
+
+insert-is : (d : Data) (e : Editor) (c : ℕ) → e.ask ≡ asks.Off → e.seek ≡ seeks.Off
+    → after_key d None e (Insert c) ≡ as_left (Insert c) (after_character d e.typing (cleared e) c)
+insert-is d e c unasked off = ap₂ (λ a s. as_left (Insert c) (after_any d None (before e) a s (cleared e) (Insert c))) unasked off
+
+no-selection : (e : Editor) → e.soft ≡ softness.Off → is_selection e ≡ false
+no-selection e off = ap (λ s. is_soft s && not (is_empty (region e))) off
+
+-- ---- a paste
+
+-- a paste of which nothing is in the text yet, and one of which something is
+record Waits (first e : Editor) : Type 0 where
+  pub nothing : Nothing first e
+  pub typing : e.typing ≡ typings.Paste
+  pub ask : e.ask ≡ asks.Off
+  pub seek : e.seek ≡ seeks.Off
+
+record Pastes (first e : Editor) : Type 0 where
+  pub goes : IsOneRun first e
+  pub typing : e.typing ≡ typings.Pasting
+  pub ask : e.ask ≡ asks.Off
+  pub seek : e.seek ≡ seeks.Off
+  pub soft : e.soft ≡ softness.Off
+
+abbrev InPaste : Editor → Editor → Type 0
+InPaste first e = Waits first e ⊎ Pastes first e
+
+wait-typed : (d : Data) (first e : Editor) (c : ℕ) (new : List ℕ) (kind : Kind) (room selected : Bool) → Nothing first e → e.ask ≡ asks.Off → e.seek ≡ seeks.Off
+    → InPaste first (as_left (Insert c) (shaped d typings.Paste e new kind room selected false))
+wait-typed d first e c new kind false selected h unasked off = inl (record { nothing = h; typing = refl; ask = unasked; seek = off })
+wait-typed d first e c new kind true true h unasked off =
+    let goes = replacement-begins d first e new h in
+    inr (record { goes = record { more = goes.more; over = goes.over; start = goes.start }; typing = refl; ask = unasked; seek = refl; soft = refl })
+wait-typed d first e c new kind true false h unasked off =
+    let goes = insertion-begins d first e new h in
+    inr (record { goes = record { more = goes.more; over = goes.over; start = goes.start }; typing = refl; ask = unasked; seek = refl; soft = refl })
+
+paste-typed : (d : Data) (first e : Editor) (c : ℕ) (new : List ℕ) (kind : Kind) (room selected : Bool) → selected ≡ false → IsOneRun first e → e.ask ≡ asks.Off → e.seek ≡ seeks.Off
+    → e.soft ≡ softness.Off → InPaste first (as_left (Insert c) (shaped d typings.Pasting e new kind room selected true))
+paste-typed d first e c new kind false selected none h unasked off hard =
+    inr (record { goes = h; typing = refl; ask = unasked; seek = off; soft = ap (λ s. (as_left (Insert c) (record e { soft = s })).soft) hard })
+paste-typed d first e c new kind true true none h unasked off hard = absurd (cc none)
+paste-typed d first e c new kind true false none h unasked off hard =
+    let goes = insertion-goes d first e new h in
+    inr (record { goes = record { more = goes.more; over = goes.over; start = goes.start }; typing = refl; ask = unasked; seek = refl; soft = refl })
+
+-- whichever it is
+by-cases : (P : Editor → Type 0) (b : Bool) (p q : Editor) → P p → P q → P (if b then p else q)
+by-cases P true p q h k = h
+by-cases P false p q h k = k
+
+-- a character puts in its bytes, or a line end
+each-character : (P : Editor → Type 0) (d : Data) (typing : Typing) (e : Editor) (c : ℕ) → ((new : List ℕ) (kind : Kind) → P (typed d typing e new kind))
+    → P (after_character d typing e c)
+each-character P d typing e c h =
+    let line = line_end d (splice e.content.text (yielding e).0 (yielding e).1 []) in
+    by-cases P ((c == 0xA) && is_paste typing) (after_new_line d typing e) (typed d typing e (encode_utf8 c) (kind_of (d.class c)))
+    (h line Separator) (h (encode_utf8 c) (kind_of (d.class c)))
+
+paste-on : (d : Data) (first e : Editor) (c : ℕ) → InPaste first e → InPaste first (after_key d None e (Insert c))
+paste-on d first e c (inl h) =
+    let was = cleared e in
+    let P = λ (new : Editor). InPaste first (as_left (Insert c) new) in
+    subst (InPaste first) (sym (insert-is d e c h.ask h.seek))
+    (subst (λ t. P (after_character d t was c)) (sym h.typing)
+    (each-character P d typings.Paste was c
+    (λ new kind. wait-typed d first was c new kind (has_room was new) (is_selection was) h.nothing h.ask h.seek)))
+paste-on d first e c (inr h) =
+    let was = cleared e in
+    let P = λ (new : Editor). InPaste first (as_left (Insert c) new) in
+    let goes : IsOneRun first was = record { more = h.goes.more; over = h.goes.over; start = h.goes.start } in
+    subst (InPaste first) (sym (insert-is d e c h.ask h.seek))
+    (subst (λ t. P (after_character d t was c)) (sym h.typing)
+    (each-character P d typings.Pasting was c
+    (λ new kind. paste-typed d first was c new kind (has_room was new) (is_selection was) (no-selection was h.soft) goes h.ask h.seek h.soft)))
+
+paste-ends : (d : Data) (first e : Editor) (cs : List ℕ) → InPaste first e
+    → let new = after_keys d None e (map Insert cs ++ PasteEnd ∷ []) in Nothing first new ⊎ IsOneRun first new
+paste-ends d first e [] (inl h) = inl h.nothing
+paste-ends d first e [] (inr h) = inr h.goes
+paste-ends d first e (c ∷ cs) h = paste-ends d first (after_key d None e (Insert c)) cs (paste-on d first e c h)
+
+paste-back : (d : Data) (first e : Editor) → Nothing first e ⊎ IsOneRun first e → length first.content.past < length e.content.past
+    → IsBackBefore first (after_key d None e UndoRun)
+paste-back d first e (inl h) more = absurd (omega (arith, more, over-length first 0 e.content.text e.place e.content.past h))
+paste-back d first e (inr h) more = goes-back d first e h
+
+pub paste-is-a-run : PasteIsARun
+paste-is-a-run d e cs unasked off more =
+    let begun = with_typing e typings.Paste in
+    paste-back d e (pasted d e cs)
+    (paste-ends d e begun cs (inl (record { nothing = (refl, (refl, refl)); typing = refl; ask = unasked; seek = off }))) more
+
+-- ---- a word and the blanks behind it
+
+-- an edit went on, and there is room for more
+record Types (first e : Editor) (typing : Typing) (left : ℕ) : Type 0 where
+  pub goes : IsOneRun first e
+  pub typing_is : e.typing ≡ typing
+  pub ask : e.ask ≡ asks.Off
+  pub seek : e.seek ≡ seeks.Off
+  pub soft : e.soft ≡ softness.Off
+  pub room : length e.content.text + left ≤ largest_text
+
+short-fits : (size start stop new limit : ℕ) → size + new ≤ limit → nat_le (size - (stop - start) + new) limit ≡ true
+short-fits size start stop new limit few = grind (arith, nat_tests, few)
+
+room-for : (e : Editor) (new : List ℕ) (left : ℕ) → length e.content.text + (length new + left) ≤ largest_text → has_room e new ≡ true
+room-for e new left few =
+    short-fits (length e.content.text) (yielding e).0 (yielding e).1 (length new) largest_text (omega (arith, few))
+
+spliced : (text : List ℕ) (start stop : ℕ) (new : List ℕ) → start ≤ stop → length (splice text start stop new) ≤ length text + length new
+spliced text start stop new order =
+    omega (arith, length-append (take start text ++ new) (drop stop text), length-append (take start text) new, length-take start text, length-drop stop text, order)
+
+and-false : (a b : Bool) → b ≡ false → (a && b) ≡ false
+and-false true b none = none
+and-false false b none = refl
+
+character-is : (d : Data) (typing : Typing) (e : Editor) (c : ℕ) (kind : Kind) → is_paste typing ≡ false → kind_of (d.class c) ≡ kind
+    → after_character d typing e c ≡ typed d typing e (encode_utf8 c) kind
+character-is d typing e c kind plain is =
+    ap (λ b. if b then after_new_line d typing e else typed d typing e (encode_utf8 c) (kind_of (d.class c))) (and-false (c == 0xA) (is_paste typing) plain)
+    ∙ ap (typed d typing e (encode_utf8 c)) is
+
+typed-is : (d : Data) (typing : Typing) (e : Editor) (new : List ℕ) (kind : Kind) → has_room e new ≡ true → is_selection e ≡ false
+    → goes_on typing kind ≡ true → typed d typing e new kind ≡ shaped d typing e new kind true false true
+typed-is d typing e new kind room none on =
+    ap (λ r. shaped d typing e new kind r (is_selection e) (goes_on typing kind)) room
+    ∙ ap (λ s. shaped d typing e new kind true s (goes_on typing kind)) none ∙ ap (shaped d typing e new kind true false) on
+
+type-on : (d : Data) (first e : Editor) (c : ℕ) (typing : Typing) (kind : Kind) (left : ℕ) → is_paste typing ≡ false → goes_on typing kind ≡ true
+    → kind_of (d.class c) ≡ kind → Types first e typing (length (encode_utf8 c) + left)
+    → Types first (after_key d None e (Insert c)) (after_insertion typing kind) left
+type-on d first e c typing kind left plain on is h =
+    let was = cleared e in
+    let new = encode_utf8 c in
+    let there : after_key d None e (Insert c) ≡ as_left (Insert c) (shaped d typing was new kind true false true) =
+    insert-is d e c h.ask h.seek
+    ∙ ap (as_left (Insert c)) (ap (λ t. after_character d t was c) h.typing_is ∙ character-is d typing was c kind plain is
+    ∙ typed-is d typing was new kind (room-for was new left h.room) (no-selection was h.soft) on) in
+    let goes = insertion-goes d first was new (record { more = h.goes.more; over = h.goes.over; start = h.goes.start }) in
+    subst (λ (x : Editor). Types first x (after_insertion typing kind) left) (sym there)
+    (record {
+      goes = record { more = goes.more; over = goes.over; start = goes.start };
+      typing_is = refl;
+      ask = h.ask;
+      seek = refl;
+      soft = refl;
+      room = omega (arith, h.room, spliced e.content.text e.place e.place new (omega arith));
+    })
+
+first-typed : (d : Data) (first e : Editor) (c : ℕ) (left : ℕ) (selected : Bool) → Nothing first e → e.ask ≡ asks.Off → length e.content.text + (length (encode_utf8 c) + left) ≤ largest_text
+    → Types first (as_left (Insert c) (shaped d typings.Off e (encode_utf8 c) Letter true selected false)) typings.Word left
+first-typed d first e c left true h unasked room =
+    let new = encode_utf8 c in
+    let goes = replacement-begins d first e new h in
+    let without = with_removal d e (region e).0 (region e).1 false in
+    let order : (region e).0 ≤ (region e).1 = omega arith in
+    record {
+      goes = record { more = goes.more; over = goes.over; start = goes.start };
+      typing_is = refl;
+      ask = unasked;
+      seek = refl;
+      soft = refl;
+      room = omega (
+        arith,
+        room,
+        spliced e.content.text (region e).0 (region e).1 [] order,
+        spliced without.content.text without.place without.place new (omega arith),
+      );
+    }
+first-typed d first e c left false h unasked room =
+    let new = encode_utf8 c in
+    let goes = insertion-begins d first e new h in
+    record {
+      goes = record { more = goes.more; over = goes.over; start = goes.start };
+      typing_is = refl;
+      ask = unasked;
+      seek = refl;
+      soft = refl;
+      room = omega (arith, room, spliced e.content.text e.place e.place new (omega arith));
+    }
+
+type-first : (d : Data) (e : Editor) (c : ℕ) (left : ℕ) → e.ask ≡ asks.Off → e.seek ≡ seeks.Off → e.typing ≡ typings.Off → kind_of (d.class c) ≡ Letter
+    → length e.content.text + (length (encode_utf8 c) + left) ≤ largest_text → Types e (after_key d None e (Insert c)) typings.Word left
+type-first d e c left unasked off none is room =
+    let was = cleared e in
+    let new = encode_utf8 c in
+    let there : after_key d None e (Insert c) ≡ as_left (Insert c) (shaped d typings.Off was new Letter true (is_selection was) false) =
+    insert-is d e c unasked off
+    ∙ ap (as_left (Insert c)) (ap (λ t. after_character d t was c) none ∙ character-is d typings.Off was c Letter refl is
+    ∙ ap (λ r. shaped d typings.Off was new Letter r (is_selection was) false) (room-for was new left room)) in
+    subst (λ (x : Editor). Types e x typings.Word left) (sym there) (first-typed d e was c left (is_selection was) (refl, (refl, refl)) unasked room)
+
+with-size : (first e : Editor) (typing : Typing) (c : ℕ) (cs : List ℕ) → Types first e typing (length (encode_utf8_all (c ∷ cs)))
+    → Types first e typing (length (encode_utf8 c) + length (encode_utf8_all cs))
+with-size first e typing c cs h = subst (Types first e typing) (length-append (encode_utf8 c) (encode_utf8_all cs)) h
+
+blanks-on : (d : Data) (first e : Editor) (cs : List ℕ) → AreOfKind d Blank cs → Types first e typings.Blanks (length (encode_utf8_all cs))
+    → IsOneRun first (after_keys d None e (map Insert cs))
+blanks-on d first e [] all h = h.goes
+blanks-on d first e (c ∷ cs) all h =
+    let Is = λ (c : ℕ). kind_of (d.class c) ≡ Blank in
+    blanks-on d first (after_key d None e (Insert c)) cs (All-tail Is c cs all)
+    (type-on d first e c typings.Blanks Blank (length (encode_utf8_all cs)) refl refl (All-head Is c cs all) (with-size first e typings.Blanks c cs h))
+
+blanks-behind : (d : Data) (first e : Editor) (cs : List ℕ) → AreOfKind d Blank cs → Types first e typings.Word (length (encode_utf8_all cs))
+    → IsOneRun first (after_keys d None e (map Insert cs))
+blanks-behind d first e [] all h = h.goes
+blanks-behind d first e (c ∷ cs) all h =
+    let Is = λ (c : ℕ). kind_of (d.class c) ≡ Blank in
+    blanks-on d first (after_key d None e (Insert c)) cs (All-tail Is c cs all)
+    (type-on d first e c typings.Word Blank (length (encode_utf8_all cs)) refl refl (All-head Is c cs all) (with-size first e typings.Word c cs h))
+
+letters-on : (d : Data) (first e : Editor) (cs blanks : List ℕ) → AreOfKind d Letter cs → AreOfKind d Blank blanks
+    → Types first e typings.Word (length (encode_utf8_all (cs ++ blanks))) → IsOneRun first (after_keys d None e (map Insert (cs ++ blanks)))
+letters-on d first e [] blanks all behind h = blanks-behind d first e blanks behind h
+letters-on d first e (c ∷ cs) blanks all behind h =
+    let Is = λ (c : ℕ). kind_of (d.class c) ≡ Letter in
+    letters-on d first (after_key d None e (Insert c)) cs blanks (All-tail Is c cs all) behind
+    (type-on d first e c typings.Word Letter (length (encode_utf8_all (cs ++ blanks))) refl refl (All-head Is c cs all)
+    (with-size first e typings.Word c (cs ++ blanks) h))
+
+word-goes : (d : Data) (e : Editor) (letters blanks : List ℕ) → e.ask ≡ asks.Off → e.seek ≡ seeks.Off → e.typing ≡ typings.Off → letters ≢ [] → AreOfKind d Letter letters
+    → AreOfKind d Blank blanks → length e.content.text + length (encode_utf8_all (letters ++ blanks)) ≤ largest_text
+    → IsOneRun e (after_keys d None e (map Insert (letters ++ blanks)))
+word-goes d e [] blanks unasked off none some all behind room = absurd (some refl)
+word-goes d e (c ∷ cs) blanks unasked off none some all behind room =
+    let Is = λ (c : ℕ). kind_of (d.class c) ≡ Letter in
+    let left = length (encode_utf8_all (cs ++ blanks)) in
+    letters-on d e (after_key d None e (Insert c)) cs blanks (All-tail Is c cs all) behind
+    (type-first d e c left unasked off none (All-head Is c cs all)
+    (omega (arith, room, length-append (encode_utf8 c) (encode_utf8_all (cs ++ blanks)))))
+
+pub word-is-a-run : WordIsARun
+word-is-a-run d e letters blanks unasked off none word room =
+    let new = after_keys d None e (map Insert (letters ++ blanks)) in
+    goes-back d e new
+    (word-goes d e letters blanks unasked off none word.some word.are_letters word.are_blanks room)

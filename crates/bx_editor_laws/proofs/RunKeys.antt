@@ -1,0 +1,283 @@
+-- UndoRun and RedoRun: how many steps they make, and where they lead.
+use Rattle.std.proofs.Common.{◌≡◌, ℕ, zero, suc, ◌+◌, ◌-◌, ◌≤◌, Bool, true, List, [], ◌∷◌, length, take, map, replicate, refl, sym, ap, ap₂, ◌∙◌, arith}
+use Rattle.std.specs.Prelude.{Some, None}
+use Rattle.std.specs.Fn.{iterate}
+use Rattle.std.specs.List.{fold}
+use Rattle.bx_keys.specs.declared.key.Key.{Key}
+use Rattle.bx_keys.specs.declared.key.Key.TheVariants.{Redo, RedoRun, Undo, UndoRun}
+use Rattle.bx_text.specs.Edits.{Edit, Edited, change_back, change_of}
+use Rattle.bx_text.specs.Times.{merged, next_redos, next_undos, redone_times, undone_times}
+use Rattle.bx_document.specs.History.{next_changes}
+use Rattle.bx_document.specs.declared.history.HistoryStep.TheVariants as steps
+use Rattle.bx_runs.specs.Runs.{run_end, run_start}
+use Rattle.bx_runs.proofs.RunLaws.{redo-ends, undo-ends}
+use Rattle.bx_runs.proofs.Steps.{end-bound, end-last, start-bound}
+use Rattle.bx_ucd.specs.Data.{Data}
+use Rattle.bx_asking.specs.declared.question.Ask.{Ask}
+use Rattle.bx_asking.specs.declared.question.Ask.TheVariants as asks
+use Rattle.bx_editor.specs.declared.seek.Seek.{Seek}
+use Rattle.bx_editor.specs.declared.seek.Seek.TheVariants as seeks
+use Rattle.bx_editor.specs.declared.soft.Soft.TheVariants as softness
+use Rattle.bx_editor.specs.Asking.{without_ask}
+use Rattle.bx_editor.specs.Editor.{Editor, after_step, cleared, with_step}
+use Rattle.bx_editor.specs.Effects.{Before, before}
+use Rattle.bx_editor.specs.Keys.{after_any, after_key, after_keys, as_left}
+use Rattle.bx_editor_laws.specs.RunLaws.{redos, undos, IsManySteps, RunKeysAreSteps}
+use Rattle.bx_editor.specs.Runs.{after_run_step, by_run, is_changed_at, run_goal, run_length}
+use Rattle.bx_editor.specs.Search.{without_search}
+use Rattle.bx_editor.proofs.ManySteps.{again, back, place-again, place-back, redone-again, undone-back, version}
+
+-- an editor once a key has led to another text of its history
+abbrev pub stepped_to : Editor → Edited → ℕ → Editor
+stepped_to e content place =
+    record (cleared e) { content = content; place = place; mark = None; soft = softness.Off; seek = seeks.Off; ask = asks.Off; changed = true; goal = None }
+
+abbrev pub run_to : Editor → Edited → ℕ → Bool → Editor
+run_to e content place changed = record (stepped_to e content place) { changed = changed }
+
+-- ---- Undo and Redo, one by one; each ends a search and a question
+
+undo-first : (d : Data) (was : Before) (ask : Ask) (seek : Seek) (e : Editor) (text : List ℕ) (edit : Edit) (past future : List Edit) → e.ask ≡ ask
+    → as_left Undo (after_any d None was ask seek (record (cleared e) { content = version text (edit ∷ past) future }) Undo)
+    ≡ stepped_to e (version edit.before.text past (edit ∷ future)) edit.before.place
+undo-first d was asks.Off seeks.Off e text edit past future is = ap (λ a. record (stepped_to e (version edit.before.text past (edit ∷ future)) edit.before.place) { ask = a }) is
+undo-first d was asks.Off seeks.Begun e text edit past future is = ap (λ a. record (stepped_to e (version edit.before.text past (edit ∷ future)) edit.before.place) { ask = a }) is
+undo-first d was asks.Off seeks.Typed e text edit past future is = ap (λ a. record (stepped_to e (version edit.before.text past (edit ∷ future)) edit.before.place) { ask = a }) is
+undo-first d was asks.Off seeks.WithBegun e text edit past future is = ap (λ a. record (stepped_to e (version edit.before.text past (edit ∷ future)) edit.before.place) { ask = a }) is
+undo-first d was asks.Off seeks.WithTyped e text edit past future is = ap (λ a. record (stepped_to e (version edit.before.text past (edit ∷ future)) edit.before.place) { ask = a }) is
+undo-first d was asks.Off seeks.Replacing e text edit past future is = ap (λ a. record (stepped_to e (version edit.before.text past (edit ∷ future)) edit.before.place) { ask = a }) is
+undo-first d was asks.Line seek e text edit past future is = refl
+undo-first d was asks.Name seek e text edit past future is = refl
+undo-first d was asks.Code seek e text edit past future is = refl
+
+redo-first : (d : Data) (was : Before) (ask : Ask) (seek : Seek) (e : Editor) (text : List ℕ) (edit : Edit) (past future : List Edit) → e.ask ≡ ask
+    → as_left Redo (after_any d None was ask seek (record (cleared e) { content = version text past (edit ∷ future) }) Redo)
+    ≡ stepped_to e (version edit.after.text (edit ∷ past) future) edit.after.place
+redo-first d was asks.Off seeks.Off e text edit past future is = ap (λ a. record (stepped_to e (version edit.after.text (edit ∷ past) future) edit.after.place) { ask = a }) is
+redo-first d was asks.Off seeks.Begun e text edit past future is = ap (λ a. record (stepped_to e (version edit.after.text (edit ∷ past) future) edit.after.place) { ask = a }) is
+redo-first d was asks.Off seeks.Typed e text edit past future is = ap (λ a. record (stepped_to e (version edit.after.text (edit ∷ past) future) edit.after.place) { ask = a }) is
+redo-first d was asks.Off seeks.WithBegun e text edit past future is = ap (λ a. record (stepped_to e (version edit.after.text (edit ∷ past) future) edit.after.place) { ask = a }) is
+redo-first d was asks.Off seeks.WithTyped e text edit past future is = ap (λ a. record (stepped_to e (version edit.after.text (edit ∷ past) future) edit.after.place) { ask = a }) is
+redo-first d was asks.Off seeks.Replacing e text edit past future is = ap (λ a. record (stepped_to e (version edit.after.text (edit ∷ past) future) edit.after.place) { ask = a }) is
+redo-first d was asks.Line seek e text edit past future is = refl
+redo-first d was asks.Name seek e text edit past future is = refl
+redo-first d was asks.Code seek e text edit past future is = refl
+
+after-undos : (d : Data) (e : Editor) (n : ℕ) (text : List ℕ) (past future : List Edit) (place : ℕ) → n ≤ length past
+    → let at = iterate back n (version text past future, place) in
+    after_keys d None (stepped_to e (version text past future) place) (replicate n Undo) ≡ stepped_to e at.0 at.1
+after-undos d e zero text past future place few = refl
+after-undos d e (suc n) text [] future place few = absurd (omega (arith, few))
+after-undos d e (suc n) text (edit ∷ past) future place few =
+    after-undos d e n edit.before.text past (edit ∷ future) edit.before.place (omega (arith, few))
+
+after-redos : (d : Data) (e : Editor) (n : ℕ) (text : List ℕ) (past future : List Edit) (place : ℕ) → n ≤ length future
+    → let at = iterate again n (version text past future, place) in
+    after_keys d None (stepped_to e (version text past future) place) (replicate n Redo) ≡ stepped_to e at.0 at.1
+after-redos d e zero text past future place few = refl
+after-redos d e (suc n) text past [] place few = absurd (omega (arith, few))
+after-redos d e (suc n) text past (edit ∷ future) place few =
+    after-redos d e n edit.after.text (edit ∷ past) future edit.after.place (omega (arith, few))
+
+all-undos : (d : Data) (e : Editor) (n : ℕ) (text : List ℕ) (edit : Edit) (past future : List Edit) → n ≤ length past
+    → let at = iterate back (suc n) (version text (edit ∷ past) future, e.place) in
+    after_keys d None (record e { content = version text (edit ∷ past) future }) (replicate (suc n) Undo) ≡ stepped_to e at.0 at.1
+all-undos d e n text edit past future few =
+    ap (λ new. after_keys d None new (replicate n Undo)) (undo-first d (before e) e.ask e.seek e text edit past future refl)
+    ∙ after-undos d e n edit.before.text past (edit ∷ future) edit.before.place few
+
+all-redos : (d : Data) (e : Editor) (n : ℕ) (text : List ℕ) (edit : Edit) (past future : List Edit) → n ≤ length future
+    → let at = iterate again (suc n) (version text past (edit ∷ future), e.place) in
+    after_keys d None (record e { content = version text past (edit ∷ future) }) (replicate (suc n) Redo) ≡ stepped_to e at.0 at.1
+all-redos d e n text edit past future few =
+    ap (λ new. after_keys d None new (replicate n Redo)) (redo-first d (before e) e.ask e.seek e text edit past future refl)
+    ∙ after-redos d e n edit.after.text (edit ∷ past) future edit.after.place few
+
+-- ---- a run at once
+
+undo-found : (d : Data) (was : Before) (ask : Ask) (seek : Seek) (e : Editor) (content : Edited) (place : ℕ) (changed : Bool) → e.ask ≡ ask
+    → ((a : Ask) (s : Seek) → after_run_step steps.Undo (record e { ask = a; seek = s }) ≡ with_step (record e { ask = a; seek = s }) content place changed)
+    → after_any d None was ask seek e UndoRun ≡ without_ask (with_step e content place changed)
+undo-found d was asks.Off seeks.Off e content place changed unasked h =
+    h e.ask e.seek ∙ ap (λ a. record (with_step e content place changed) { ask = a }) unasked
+undo-found d was asks.Off seeks.Begun e content place changed unasked h =
+    ap without_search (h e.ask e.seek) ∙ ap (λ a. record (with_step e content place changed) { ask = a }) unasked
+undo-found d was asks.Off seeks.Typed e content place changed unasked h =
+    ap without_search (h e.ask e.seek) ∙ ap (λ a. record (with_step e content place changed) { ask = a }) unasked
+undo-found d was asks.Off seeks.WithBegun e content place changed unasked h =
+    h e.ask seeks.Off ∙ ap (λ a. record (with_step e content place changed) { ask = a }) unasked
+undo-found d was asks.Off seeks.WithTyped e content place changed unasked h =
+    h e.ask seeks.Off ∙ ap (λ a. record (with_step e content place changed) { ask = a }) unasked
+undo-found d was asks.Off seeks.Replacing e content place changed unasked h =
+    h e.ask seeks.Off ∙ ap (λ a. record (with_step e content place changed) { ask = a }) unasked
+undo-found d was asks.Line seek e content place changed asked h = h asks.Off e.seek
+undo-found d was asks.Name seek e content place changed asked h = h asks.Off e.seek
+undo-found d was asks.Code seek e content place changed asked h = h asks.Off e.seek
+
+redo-found : (d : Data) (was : Before) (ask : Ask) (seek : Seek) (e : Editor) (content : Edited) (place : ℕ) (changed : Bool) → e.ask ≡ ask
+    → ((a : Ask) (s : Seek) → after_run_step steps.Redo (record e { ask = a; seek = s }) ≡ with_step (record e { ask = a; seek = s }) content place changed)
+    → after_any d None was ask seek e RedoRun ≡ without_ask (with_step e content place changed)
+redo-found d was asks.Off seeks.Off e content place changed unasked h =
+    h e.ask e.seek ∙ ap (λ a. record (with_step e content place changed) { ask = a }) unasked
+redo-found d was asks.Off seeks.Begun e content place changed unasked h =
+    ap without_search (h e.ask e.seek) ∙ ap (λ a. record (with_step e content place changed) { ask = a }) unasked
+redo-found d was asks.Off seeks.Typed e content place changed unasked h =
+    ap without_search (h e.ask e.seek) ∙ ap (λ a. record (with_step e content place changed) { ask = a }) unasked
+redo-found d was asks.Off seeks.WithBegun e content place changed unasked h =
+    h e.ask seeks.Off ∙ ap (λ a. record (with_step e content place changed) { ask = a }) unasked
+redo-found d was asks.Off seeks.WithTyped e content place changed unasked h =
+    h e.ask seeks.Off ∙ ap (λ a. record (with_step e content place changed) { ask = a }) unasked
+redo-found d was asks.Off seeks.Replacing e content place changed unasked h =
+    h e.ask seeks.Off ∙ ap (λ a. record (with_step e content place changed) { ask = a }) unasked
+redo-found d was asks.Line seek e content place changed asked h = h asks.Off e.seek
+redo-found d was asks.Name seek e content place changed asked h = h asks.Off e.seek
+redo-found d was asks.Code seek e content place changed asked h = h asks.Off e.seek
+
+pub undo-run : (d : Data) (e : Editor) (n : ℕ) (text : List ℕ) (edit : Edit) (past future : List Edit)
+    → let t : Edited = version text (edit ∷ past) future in let now : Editor = record e { content = t } in run_length steps.Undo now ≡ suc n
+    → after_key d None now UndoRun
+    ≡ run_to e (undone_times (suc n) t) ((iterate back (suc n) (t, e.place)).1) (is_changed_at (run_goal steps.Undo now) e.stored)
+undo-run d e n text edit past future long =
+    let t : Edited = version text (edit ∷ past) future in
+    let was : Editor = cleared (record e { content = t }) in
+    let whole = fold merged (change_back edit) (map change_back (take n past)) in
+    let changed = is_changed_at (run_goal steps.Undo was) e.stored in
+    let one : next_changes steps.Undo (run_length steps.Undo was) t ≡ Some whole = ap (λ k. next_undos k t) long in
+    let place = place-back n edit.before.text past (edit ∷ future) (change_back edit) in
+    let stepped : (a : Ask) (s : Seek)
+    → after_run_step steps.Undo (record was { ask = a; seek = s })
+    ≡ with_step (record was { ask = a; seek = s }) (undone_times (suc n) t) ((iterate back (suc n) (t, e.place)).1) changed =
+    λ a s. ap (by_run steps.Undo (record was { ask = a; seek = s })) one
+    ∙ ap₂ (λ k p. with_step (record was { ask = a; seek = s }) (undone_times k t) p changed) long place in
+    ap (as_left UndoRun) (undo-found d (before e) e.ask e.seek was (undone_times (suc n) t) ((iterate back (suc n) (t, e.place)).1) changed refl stepped)
+
+pub redo-run : (d : Data) (e : Editor) (n : ℕ) (text : List ℕ) (edit : Edit) (past future : List Edit)
+    → let t : Edited = version text past (edit ∷ future) in let now : Editor = record e { content = t } in run_length steps.Redo now ≡ suc n
+    → after_key d None now RedoRun
+    ≡ run_to e (redone_times (suc n) t) ((iterate again (suc n) (t, e.place)).1) (is_changed_at (run_goal steps.Redo now) e.stored)
+redo-run d e n text edit past future long =
+    let t : Edited = version text past (edit ∷ future) in
+    let was : Editor = cleared (record e { content = t }) in
+    let whole = fold merged (change_of edit) (map change_of (take n future)) in
+    let changed = is_changed_at (run_goal steps.Redo was) e.stored in
+    let one : next_changes steps.Redo (run_length steps.Redo was) t ≡ Some whole = ap (λ k. next_redos k t) long in
+    let place = place-again n edit.after.text (edit ∷ past) future (change_of edit) in
+    let stepped : (a : Ask) (s : Seek)
+    → after_run_step steps.Redo (record was { ask = a; seek = s })
+    ≡ with_step (record was { ask = a; seek = s }) (redone_times (suc n) t) ((iterate again (suc n) (t, e.place)).1) changed =
+    λ a s. ap (by_run steps.Redo (record was { ask = a; seek = s })) one
+    ∙ ap₂ (λ k p. with_step (record was { ask = a; seek = s }) (redone_times k t) p changed) long place in
+    ap (as_left RedoRun) (redo-found d (before e) e.ask e.seek was (redone_times (suc n) t) ((iterate again (suc n) (t, e.place)).1) changed refl stepped)
+
+-- ---- nothing to undo, or to redo
+
+no-undos : (n : ℕ) (text : List ℕ) (future : List Edit) → next_undos n (version text [] future) ≡ None
+no-undos zero text future = refl
+no-undos (suc n) text future = refl
+
+no-redos : (n : ℕ) (text : List ℕ) (past : List Edit) → next_redos n (version text past []) ≡ None
+no-redos zero text past = refl
+no-redos (suc n) text past = refl
+
+undo-either : (d : Data) (was : Before) (ask : Ask) (seek : Seek) (e : Editor)
+    → ((a : Ask) (s : Seek) → after_run_step steps.Undo (record e { ask = a; seek = s }) ≡ after_step steps.Undo (record e { ask = a; seek = s }))
+    → after_any d None was ask seek e UndoRun ≡ after_any d None was ask seek e Undo
+undo-either d was asks.Off seeks.Off e h = h e.ask e.seek
+undo-either d was asks.Off seeks.Begun e h = ap without_search (h e.ask e.seek)
+undo-either d was asks.Off seeks.Typed e h = ap without_search (h e.ask e.seek)
+undo-either d was asks.Off seeks.WithBegun e h = h e.ask seeks.Off
+undo-either d was asks.Off seeks.WithTyped e h = h e.ask seeks.Off
+undo-either d was asks.Off seeks.Replacing e h = h e.ask seeks.Off
+undo-either d was asks.Line seek e h = h asks.Off e.seek
+undo-either d was asks.Name seek e h = h asks.Off e.seek
+undo-either d was asks.Code seek e h = h asks.Off e.seek
+
+redo-either : (d : Data) (was : Before) (ask : Ask) (seek : Seek) (e : Editor)
+    → ((a : Ask) (s : Seek) → after_run_step steps.Redo (record e { ask = a; seek = s }) ≡ after_step steps.Redo (record e { ask = a; seek = s }))
+    → after_any d None was ask seek e RedoRun ≡ after_any d None was ask seek e Redo
+redo-either d was asks.Off seeks.Off e h = h e.ask e.seek
+redo-either d was asks.Off seeks.Begun e h = ap without_search (h e.ask e.seek)
+redo-either d was asks.Off seeks.Typed e h = ap without_search (h e.ask e.seek)
+redo-either d was asks.Off seeks.WithBegun e h = h e.ask seeks.Off
+redo-either d was asks.Off seeks.WithTyped e h = h e.ask seeks.Off
+redo-either d was asks.Off seeks.Replacing e h = h e.ask seeks.Off
+redo-either d was asks.Line seek e h = h asks.Off e.seek
+redo-either d was asks.Name seek e h = h asks.Off e.seek
+redo-either d was asks.Code seek e h = h asks.Off e.seek
+
+-- ---- how long a run is
+
+pub undo-length : (numbers : List ℕ) (n : ℕ) → suc n - run_start numbers (suc n) ≡ suc (n - run_start numbers (suc n))
+undo-length numbers n = omega (arith, start-bound numbers (suc n))
+
+pub redo-length : (numbers : List ℕ) (n left : ℕ) → run_end numbers n (n + suc left) - n ≡ suc (run_end numbers n (n + suc left) - n - 1)
+redo-length numbers n left = omega (arith, end-bound numbers n (n + suc left) (omega arith))
+
+-- ---- as many steps
+
+but-changed : (new many to : Editor) (changed : Bool) → new ≡ record to { changed = changed } → many ≡ to
+    → new ≡ record many { changed = new.changed }
+but-changed new many to changed is same =
+    is ∙ ap₂ (λ (e : Editor) b. record e { changed = b }) (sym same) (sym (ap (λ (e : Editor). e.changed) is))
+
+-- a key that finds nothing to step over
+no-steps : (d : Data) (e : Editor) (key one : Key) (n : ℕ) → after_key d None e key ≡ after_key d None e one → IsManySteps d e key one n []
+no-steps d e key one n same = record { many = λ some. absurd (some refl); some = λ some. absurd (some refl); none = λ is. same }
+
+undo-steps : (d : Data) (e : Editor) (text : List ℕ) (past future : List Edit) → let now : Editor = record e { content = version text past future } in
+    IsManySteps d now UndoRun Undo (undos now) past
+undo-steps d e text [] future =
+    let now : Editor = record e { content = version text [] future } in
+    let was = cleared now in
+    no-steps d now UndoRun Undo (undos now)
+    (ap (as_left Undo) (undo-either d (before e) e.ask e.seek was
+    (λ a s. ap (by_run steps.Undo (record was { ask = a; seek = s })) (no-undos (run_length steps.Undo was) text future))))
+undo-steps d e text (edit ∷ past) future =
+    let now : Editor = record e { content = version text (edit ∷ past) future } in
+    let n = length past - run_start e.runs (suc (length past)) in
+    let long : run_length steps.Undo now ≡ suc n = undo-length e.runs (length past) in
+    let same : undos now ≡ suc n = ap (λ k. suc (length past) - k) (sym (undo-ends e.runs (suc (length past)))) ∙ long in
+    let at = iterate back (suc n) (version text (edit ∷ past) future, e.place) in
+    let ran = undo-run d e n text edit past future long in
+    let whole = ap (λ t. run_to e t at.1 (is_changed_at (run_goal steps.Undo now) e.stored)) (undone-back (suc n) (version text (edit ∷ past) future) e.place) in
+    record {
+      many = λ some.
+          but-changed (after_key d None now UndoRun) (after_keys d None now (replicate (undos now) Undo)) (stepped_to e at.0 at.1)
+          (is_changed_at (run_goal steps.Undo now) e.stored) (ran ∙ whole)
+          (ap (λ k. after_keys d None now (replicate k Undo)) same ∙ all-undos d e n text edit past future (omega arith));
+      some = λ some. omega (arith, same);
+      none = λ is. absurd (cc is);
+    }
+
+redo-steps : (d : Data) (e : Editor) (text : List ℕ) (past future : List Edit) → let now : Editor = record e { content = version text past future } in
+    IsManySteps d now RedoRun Redo (redos now) future
+redo-steps d e text past [] =
+    let now : Editor = record e { content = version text past [] } in
+    let was = cleared now in
+    no-steps d now RedoRun Redo (redos now)
+    (ap (as_left Redo) (redo-either d (before e) e.ask e.seek was
+    (λ a s. ap (by_run steps.Redo (record was { ask = a; seek = s })) (no-redos (run_length steps.Redo was) text past))))
+redo-steps d e text past (edit ∷ future) =
+    let now : Editor = record e { content = version text past (edit ∷ future) } in
+    let last = length past + suc (length future) in
+    let n = run_end e.runs (length past) last - length past - 1 in
+    let long : run_length steps.Redo now ≡ suc n = redo-length e.runs (length past) (length future) in
+    let same : redos now ≡ suc n = ap (λ k. k - length past) (sym (redo-ends e.runs (length past) (suc (length future)))) ∙ long in
+    let few : n ≤ length future = omega (arith, end-last e.runs (length past) last) in
+    let at = iterate again (suc n) (version text past (edit ∷ future), e.place) in
+    let ran = redo-run d e n text edit past future long in
+    let whole = ap (λ t. run_to e t at.1 (is_changed_at (run_goal steps.Redo now) e.stored)) (redone-again (suc n) (version text past (edit ∷ future)) e.place) in
+    record {
+      many = λ some.
+          but-changed (after_key d None now RedoRun) (after_keys d None now (replicate (redos now) Redo)) (stepped_to e at.0 at.1)
+          (is_changed_at (run_goal steps.Redo now) e.stored) (ran ∙ whole)
+          (ap (λ k. after_keys d None now (replicate k Redo)) same ∙ all-redos d e n text edit past future few);
+      some = λ some. omega (arith, same);
+      none = λ is. absurd (cc is);
+    }
+
+pub run-keys-are-steps : RunKeysAreSteps
+run-keys-are-steps d e = record {
+  undo = undo-steps d e e.content.text e.content.past e.content.future;
+  redo = redo-steps d e e.content.text e.content.past e.content.future;
+}

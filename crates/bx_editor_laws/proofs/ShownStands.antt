@@ -1,0 +1,320 @@
+-- Whatever is typed, a match is shown only where the query stands.
+use Rattle.std.proofs.lemmas.Bool.Decides.{nat_tests}
+use Rattle.std.proofs.Common.{◌≡◌, ℕ, ◌+◌, ◌≤◌, Bool, true, false, List, [], ◌∷◌, length, Option, Some, None, unwrap_or, refl, sym, ap, subst, ◌∙◌, if◌then◌else◌, arith}
+use Rattle.std.specs.Prelude.{◌≢◌, ◌==◌, ◌&&◌, find, not, nat_le, reverse, MatchOption, IsUtf8}
+use Rattle.bx_terms.specs.Sizes.{is_side}
+use Rattle.bx_keys.specs.declared.key.Key.{Key}
+use Rattle.bx_store.specs.declared.store.StoreFault.{StoreFault}
+use Rattle.bx_text.specs.Edits.{fits}
+use Rattle.bx_runs.specs.declared.typing.Typing.{Typing}
+use Rattle.bx_ucd.specs.Data.{Data}
+use Rattle.bx_asking.specs.declared.question.Ask.{Ask}
+use Rattle.bx_asking.specs.declared.question.Ask.TheVariants as asks
+use Rattle.bx_find.specs.Nearest.{IsFirst, MatchesAt}
+use Rattle.bx_find.specs.Matches.{first_from}
+use Rattle.bx_find.specs.declared.reading.Reading.TheVariants.{Close}
+use Rattle.bx_find.proofs.Nearest.{first_is}
+use Rattle.bx_document.specs.Swapped.{behind_character, last_stop, swapped}
+use Rattle.bx_view.specs.Moves.{place_at}
+use Rattle.bx_view.specs.TextRows.{TextRow}
+use Rattle.bx_view.proofs.TextPlaces.{places-are}
+use Rattle.bx_editor.specs.declared.aim.Aim.TheVariants as aims
+use Rattle.bx_editor.specs.declared.matches.Landing.{Landing}
+use Rattle.bx_editor.specs.declared.message.Message.{Message}
+use Rattle.bx_editor.specs.declared.message.Message.TheVariants.{FromStart, TextFull}
+use Rattle.bx_editor.specs.declared.seek.Seek.{Seek}
+use Rattle.bx_editor.specs.declared.seek.Seek.TheVariants.{Off, Begun, Typed, WithBegun, WithTyped, Replacing}
+use Rattle.bx_editor.specs.Asking.{without_ask}
+use Rattle.bx_editor.specs.Editor.{Editor, at_start, cleared, rows, with_exchange, with_size, with_typing, HasRows}
+use Rattle.bx_editor.specs.Effects.{Before, before}
+use Rattle.bx_editor.specs.Keys.{Answer, Letter, Shortens, GoesBack, Next, Previous, Replaces, Stays, Ends, after_any, after_asking, after_key}
+use Rattle.bx_editor.specs.Keys.{after_pressing, answer_of, answered, answered_match, answered_other, effect_of}
+use Rattle.bx_editor_laws.specs.Laws.{after_typing}
+use Rattle.bx_editor.specs.Putting.{is_paste}
+use Rattle.bx_editor_laws.specs.ReplaceLaws.{HaveRows, ShownStands}
+use Rattle.bx_editor.specs.Replacing.{after_asking_other, after_ending, after_other_letter, after_replacing, after_replacing_all}
+use Rattle.bx_editor.specs.Replacing.{after_shorter_other, after_showing, after_sought_letter, asked_at, at_match, is_replacing, longest_other}
+use Rattle.bx_editor.specs.Replacing.{match_stop, matches_on, next_match, on_from, shown_at, with_matches_replaced, with_other}
+use Rattle.bx_editor.specs.Search.{forward, is_no_letter, kept, landed, landing_from, lengthened, longest_query, match_or, not_found, reading}
+use Rattle.bx_editor.specs.Search.{search_from, sought, with_query, without_search}
+use Rattle.bx_editor.proofs.InSearch.{each-key}
+use Rattle.bx_editor_laws.proofs.PlacesBetween.{place-before, place-between}
+use Rattle.bx_editor.proofs.Questions.{question-keeps, IsKept}
+use Rattle.bx_editor_laws.proofs.QuietSearch.{effect-quiet, is_quiet, IsQuiet}
+
+-- ---- what holds in each state of a search
+
+-- the query stands, closely read, at an offset whose place this is
+abbrev IsNear : Data → Editor → Type 0
+IsNear d e = (e.aim ≡ aims.Replace) × ((at : ℕ) × MatchesAt d Close (sought d e) e.content.text at × (e.place ≡ place_at (rows d e) at))
+
+-- the match is the one that is kept
+abbrev IsThere : Data → Editor → Type 0
+IsThere d e = (e.aim ≡ aims.Replace) × (MatchesAt d Close (sought d e) e.content.text e.at × (e.place ≡ place_at (rows d e) e.at))
+
+abbrev Stands : Data → Editor → Seek → Type 0
+Stands d e WithBegun = IsNear d e
+Stands d e WithTyped = IsNear d e
+Stands d e Replacing = IsThere d e
+Stands d e _ = Unit {0}
+
+-- and while something is asked no search for replacing is on
+abbrev IsSound : Data → Editor → Type 0
+IsSound d e = (e.ask ≢ asks.Off → IsQuiet e) × Stands d e e.seek
+
+quiet-stands : (d : Data) (e : Editor) (seek : Seek) → is_quiet seek ≡ true → Stands d e seek
+quiet-stands d e Off h = tt
+quiet-stands d e Begun h = tt
+quiet-stands d e Typed h = tt
+quiet-stands d e WithBegun h = absurd (cc h)
+quiet-stands d e WithTyped h = absurd (cc h)
+quiet-stands d e Replacing h = absurd (cc h)
+
+quiet-sound : (d : Data) (e : Editor) → IsQuiet e → IsSound d e
+quiet-sound d e h = (λ asked. h, quiet-stands d e e.seek h)
+
+either : (d : Data) (b : Bool) (p q : Editor) → IsSound d p → IsSound d q → IsSound d (if b then p else q)
+either d true p q h k = h
+either d false p q h k = k
+
+-- ---- the query is sought
+
+-- where the landing leads to a place, that is the place of a match
+abbrev Lands : Data → List ℕ → List TextRow → List ℕ → Landing → Type 0
+Lands d q rows text landing = (p : ℕ) → landing.place ≡ Some p → (at : ℕ) × MatchesAt d Close q text at × (p ≡ place_at rows at)
+
+module _ (d : Data) (q : List ℕ) (rows : List TextRow) (text : List ℕ) (u : IsUtf8 text) where
+  lands-or : (message : Option Message) (otherwise : Landing) (x : ℕ) (o : Option ℕ) → Lands d q rows text otherwise
+      → MatchOption o ((i : ℕ) → x ≤ i → ¬ (MatchesAt d Close q text i)) (IsFirst d Close q text x) → Lands d q rows text (match_or rows message otherwise o)
+  lands-or message otherwise x None h none = h
+  lands-or message otherwise x (Some at) h first = λ p is. let same : p ≡ place_at rows at = cc is in (at, first.is_match, same)
+
+  lands-first : (message : Option Message) (otherwise : Landing) (x : ℕ) → Lands d q rows text otherwise
+      → Lands d q rows text (match_or rows message otherwise (first_from d Close q text x))
+  lands-first message otherwise x h = lands-or message otherwise x (first_from d Close q text x) h (first_is d Close q text x u)
+
+lands : (d : Data) (q : List ℕ) (rows : List TextRow) (text : List ℕ) (x : ℕ) → IsUtf8 text → Lands d q rows text (forward d Close rows text x q)
+lands d [] rows text x u = λ p is. absurd (cc is)
+lands d (c ∷ cs) rows text x u =
+    let q : List ℕ = c ∷ cs in
+    lands-first d q rows text u None (match_or rows (Some FromStart) not_found (first_from d Close q text 0)) x
+    (lands-first d q rows text u (Some FromStart) not_found 0 (λ p is. absurd (cc is)))
+
+module _ (d : Data) (e : Editor) (u : IsUtf8 e.content.text) (unasked : e.ask ≡ asks.Off) where
+  free : (new : Editor) → new.ask ≡ e.ask → new.ask ≢ asks.Off → IsQuiet new
+  free new same asked = absurd (asked (same ∙ unasked))
+
+  -- ---- the other text is asked for
+
+  asked-sound : (landing : Landing) (place : Option ℕ) → landing.place ≡ place
+      → let aimed : Editor = record e { aim = aims.Replace } in Lands d (sought d aimed) (rows d aimed) e.content.text landing
+      → IsSound d (asked_at place (landed aimed landing))
+  asked-sound landing None is h = quiet-sound d (asked_at None (landed (record e { aim = aims.Replace }) landing)) refl
+  asked-sound landing (Some p) is h =
+      let there = h p is in
+      let new = asked_at (Some p) (landed (record e { aim = aims.Replace }) landing) in
+      (free new refl, (refl, (there.0, there.1, ap (λ o. unwrap_or o e.place) is ∙ there.2)))
+
+  asking-sound : IsQuiet e → IsSound d (after_asking_other d e)
+  asking-sound h =
+      let aimed : Editor = record e { aim = aims.Replace } in
+      let landing = landing_from d aimed.place aimed in
+      either d (length (sought d aimed) == 0) aimed (asked_at landing.place (landed aimed landing)) (quiet-sound d aimed h)
+      (asked-sound landing landing.place refl (lands d (sought d aimed) (rows d aimed) e.content.text e.place u))
+
+  letter-sound : (typing : Typing) (c : ℕ) → IsQuiet e → IsSound d (after_sought_letter d typing e c)
+  letter-sound typing c h =
+      let longer : Editor = search_from d e.place (with_query e (lengthened longest_query (kept e.seek e.query) c)) in
+      either d ((c == 0xA) && is_replacing e.aim) _ _ (either d (is_paste typing) e (after_asking_other d e) (quiet-sound d e h) (asking-sound h))
+      (either d (c == 0xA) (without_search e) _ (quiet-sound d (without_search e) refl)
+      (either d (is_no_letter d c) e longer (quiet-sound d e h) (quiet-sound d longer refl)))
+
+  answer-sound : (fault : Option StoreFault) (was : Before) (key : Key) (answer : Answer) → IsQuiet e → IsSound d (answered d fault was e key answer)
+  answer-sound fault was key (Letter c) h = letter-sound was.typing c h
+  answer-sound fault was key Shortens h = (λ asked. refl, tt)
+  answer-sound fault was key GoesBack h = (λ asked. refl, tt)
+  answer-sound fault was key Next h = (λ asked. refl, tt)
+  answer-sound fault was key Previous h = (λ asked. refl, tt)
+  answer-sound fault was key Replaces h = asking-sound h
+  answer-sound fault was key Stays h = quiet-sound d (with_typing e was.typing) h
+  answer-sound fault was key Ends h = (λ asked. refl, tt)
+
+  -- ---- while it is asked for
+
+  shown-sound : (near : IsNear d e) (o : Option ℕ)
+      → MatchOption o ((i : ℕ) → e.place ≤ i → ¬ (MatchesAt d Close (sought d e) e.content.text i)) (IsFirst d Close (sought d e) e.content.text e.place)
+      → IsSound d e → IsSound d (shown_at e o)
+  shown-sound near None none h = h
+  shown-sound near (Some at) first h =
+      let other = near.1.0 in
+      let place = near.1.2 in
+      let before : e.place ≤ other = subst (λ p. p ≤ other) (sym place) (place-before (rows d e) other) in
+      let from : place_at (rows d e) other ≤ at = subst (λ p. p ≤ at) place first.not_before in
+      let same = place-between (rows d e) at other from (first.least other before near.1.1) in
+      (free (shown_at e (Some at)) refl, (near.0, (first.is_match, place ∙ sym same)))
+
+  showing-sound : IsNear d e → IsSound d e → IsSound d (after_showing d e)
+  showing-sound near h =
+      let closely : next_match d e e.place ≡ first_from d Close (sought d e) e.content.text e.place =
+      ap (λ a. first_from d (reading a) (sought d e) e.content.text e.place) near.0 in
+      subst (λ o. IsSound d (shown_at e o)) (sym closely)
+      (shown-sound near (first_from d Close (sought d e) e.content.text e.place) (first_is d Close (sought d e) e.content.text e.place u) h)
+
+  other-letter-sound : (typing : Typing) (c : ℕ) → IsNear d e → IsSound d e → IsSound d (after_other_letter d typing e c)
+  other-letter-sound typing c near h =
+      let longer : Editor = with_other e (lengthened longest_other (kept e.seek e.other) c) in
+      either d (c == 0xA) _ _ (either d (is_paste typing) e (after_showing d e) h (showing-sound near h))
+      (either d (is_no_letter d c) e longer h (free longer refl, near))
+
+  -- a key that ends the search
+  ended-sound : (fault : Option StoreFault) (was : Before) (key : Key) → IsSound d (after_pressing d fault was (without_search e) key)
+  ended-sound fault was key =
+      let ended = without_search e in
+      quiet-sound d (after_pressing d fault was ended key) (effect-quiet d fault was ended (effect_of d ended key) refl)
+
+  other-sound : (fault : Option StoreFault) (was : Before) (key : Key) (answer : Answer) → IsNear d e → IsSound d e
+      → IsSound d (answered_other d fault was e key answer)
+  other-sound fault was key (Letter c) near h = other-letter-sound was.typing c near h
+  other-sound fault was key Shortens near h = (free (after_shorter_other e) refl, near)
+  other-sound fault was key GoesBack near h = (λ asked. refl, tt)
+  other-sound fault was key Next near h = (λ asked. refl, tt)
+  other-sound fault was key Previous near h = (λ asked. refl, tt)
+  other-sound fault was key Replaces near h = showing-sound near h
+  other-sound fault was key Stays near h = h
+  other-sound fault was key Ends near h = ended-sound fault was key
+
+  -- ---- while a match is shown
+
+  on-sound : (z : ℕ) (now : Editor) → IsUtf8 now.content.text → now.ask ≡ asks.Off → now.aim ≡ aims.Replace → IsSound d (on_from d z now)
+  on-sound z now v off aim =
+      let closely : next_match d now z ≡ first_from d Close (sought d now) now.content.text z =
+      ap (λ a. first_from d (reading a) (sought d now) now.content.text z) aim in
+      subst (λ o. IsSound d (at_match d now o)) (sym closely)
+      (found (first_from d Close (sought d now) now.content.text z) (first_is d Close (sought d now) now.content.text z v))
+    where
+      found : (o : Option ℕ) → MatchOption o ((i : ℕ) → z ≤ i → ¬ (MatchesAt d Close (sought d now) now.content.text i)) (IsFirst d Close (sought d now) now.content.text z)
+          → IsSound d (at_match d now o)
+      found None none = quiet-sound d (at_match d now None) refl
+      found (Some at) first = (λ asked. absurd (asked off), (aim, (first.is_match, refl)))
+
+  exchange-keeps : (start stop : ℕ) (new : List ℕ) → let now = with_exchange d e start stop new in (now.ask ≡ e.ask) × (now.aim ≡ e.aim)
+  exchange-keeps start stop [] = (refl, refl)
+  exchange-keeps start stop (b ∷ bs) = (refl, refl)
+
+  on-text : (now : Editor) (o : Option ℕ) → (at_match d now o).content ≡ now.content
+  on-text now None = refl
+  on-text now (Some at) = refl
+
+  -- where the text gives way, and then the next match is shown
+  by-room : (room : Bool) → e.aim ≡ aims.Replace → let now = with_matches_replaced d e (match_stop d e) e.other 1 in
+      let new = if room then on_from d (e.at + length e.other) now else record e { message = Some TextFull } in IsUtf8 new.content.text → IsSound d e → IsSound d new
+  by-room false aim v h = h
+  by-room true aim v h =
+      let z = e.at + length e.other in
+      let now = with_matches_replaced d e (match_stop d e) e.other 1 in
+      let keeps = exchange-keeps e.at (match_stop d e) e.other in
+      on-sound z now (subst (λ t. IsUtf8 t.text) (on-text now (next_match d now z)) v) (keeps.0 ∙ unasked) (keeps.1 ∙ aim)
+
+  by-enter : (enters : Bool) → e.aim ≡ aims.Replace → let new = if enters then after_replacing d e else e in IsUtf8 new.content.text → IsSound d e → IsSound d new
+  by-enter true aim v h = by-room (fits e.content.text e.at (match_stop d e) e.other) aim v h
+  by-enter false aim v h = h
+
+  all-sound : IsSound d e → IsSound d (after_replacing_all d e)
+  all-sound h =
+      let all = matches_on d e in
+      let stop = last_stop e.at all in
+      let new = swapped e.at e.content.text e.other all in
+      either d (fits e.content.text e.at stop new) (after_ending (with_matches_replaced d e stop new (length all))) (record e { message = Some TextFull })
+      (λ asked. refl, tt) h
+
+  match-sound : (fault : Option StoreFault) (was : Before) (key : Key) (answer : Answer) → e.aim ≡ aims.Replace
+      → IsUtf8 (answered_match d fault was e key answer).content.text → IsSound d e → IsSound d (answered_match d fault was e key answer)
+  match-sound fault was key (Letter c) aim v h = by-enter ((c == 0xA) && not (is_paste was.typing)) aim v h
+  match-sound fault was key Shortens aim v h = h
+  match-sound fault was key GoesBack aim v h = (λ asked. refl, tt)
+  match-sound fault was key Next aim v h = on-sound (behind_character e.content.text e.at) e u unasked aim
+  match-sound fault was key Previous aim v h = (λ asked. refl, tt)
+  match-sound fault was key Replaces aim v h = all-sound h
+  match-sound fault was key Stays aim v h = h
+  match-sound fault was key Ends aim v h = ended-sound fault was key
+
+-- ---- while something is asked
+
+quiet-kept : (d : Data) → IsKept d IsQuiet
+quiet-kept d = record {
+  inserted = λ e new h. refl;
+  wrapped = λ e opener closer h. refl;
+  told = λ e message h. h;
+  placed = λ e place h. h;
+  typed = λ e typing h. h;
+  asked = λ e ask answer h. h;
+}
+
+question-quiet : (d : Data) (fault : Option StoreFault) (was : Before) (e : Editor) (key : Key) → IsQuiet e → IsQuiet (after_asking d fault was e key)
+question-quiet d fault was e key h =
+    question-keeps d IsQuiet (quiet-kept d) fault was e key (answer_of key) h (effect-quiet d fault was (without_ask e) (effect_of d (without_ask e) key) h)
+
+-- ---- any key
+
+any-sound : (d : Data) (fault : Option StoreFault) (was : Before) (ask : Ask) (seek : Seek) (e : Editor) (key : Key) → e.ask ≡ ask → e.seek ≡ seek
+    → IsUtf8 e.content.text → IsUtf8 (after_any d fault was ask seek e key).content.text → IsSound d e → IsSound d (after_any d fault was ask seek e key)
+any-sound d fault was asks.Off Off e key unasked is u v h =
+    quiet-sound d (after_pressing d fault was e key) (effect-quiet d fault was e (effect_of d e key) (ap is_quiet is))
+any-sound d fault was asks.Off Begun e key unasked is u v h = answer-sound d e u unasked fault was key (answer_of key) (ap is_quiet is)
+any-sound d fault was asks.Off Typed e key unasked is u v h = answer-sound d e u unasked fault was key (answer_of key) (ap is_quiet is)
+any-sound d fault was asks.Off WithBegun e key unasked is u v h = other-sound d e u unasked fault was key (answer_of key) (subst (Stands d e) is h.1) h
+any-sound d fault was asks.Off WithTyped e key unasked is u v h = other-sound d e u unasked fault was key (answer_of key) (subst (Stands d e) is h.1) h
+any-sound d fault was asks.Off Replacing e key unasked is u v h =
+    let there : IsThere d e = subst (Stands d e) is h.1 in match-sound d e u unasked fault was key (answer_of key) there.0 v h
+any-sound d fault was asks.Line seek e key asked is u v h = quiet-sound d (after_asking d fault was e key) (question-quiet d fault was e key (h.0 (λ off. let both = sym asked ∙ off in cc both)))
+any-sound d fault was asks.Name seek e key asked is u v h = quiet-sound d (after_asking d fault was e key) (question-quiet d fault was e key (h.0 (λ off. let both = sym asked ∙ off in cc both)))
+any-sound d fault was asks.Code seek e key asked is u v h = quiet-sound d (after_asking d fault was e key) (question-quiet d fault was e key (h.0 (λ off. let both = sym asked ∙ off in cc both)))
+
+-- ---- another width
+
+side-some : (n : ℕ) → is_side n ≡ true → 1 ≤ n
+side-some n h = grind (arith, nat_tests, h)
+
+module _ (d : Data) (e : Editor) (height width : ℕ) (old : HasRows e) (side : is_side width ≡ true) where
+  abbrev wide : Editor
+  wide = with_size e height width
+
+  same-place : (at : ℕ) → place_at (rows d e) at ≡ place_at (rows d wide) at
+  same-place at =
+      let text = e.content.text in
+      let same = places-are d e.base e.width (side-some e.width old.columns) text old.text
+      ∙ sym (places-are d e.base width (side-some width side) text old.text) in
+      ap (λ ps. unwrap_or (find (λ p. nat_le p at) (reverse ps)) 0) same
+
+  sized-stands : (seek : Seek) → Stands d e seek → Stands d wide seek
+  sized-stands Off h = tt
+  sized-stands Begun h = tt
+  sized-stands Typed h = tt
+  sized-stands WithBegun h = (h.0, (h.1.0, h.1.1, h.1.2 ∙ same-place h.1.0))
+  sized-stands WithTyped h = (h.0, (h.1.0, h.1.1, h.1.2 ∙ same-place h.1.0))
+  sized-stands Replacing h = (h.0, (h.1.0, h.1.1 ∙ same-place e.at))
+
+key-sound : (d : Data) (fault : Option StoreFault) (e : Editor) (key : Key) → HasRows e → HasRows (after_key d fault e key) → IsSound d e → IsSound d (after_key d fault e key)
+key-sound d fault e key old new h =
+    each-key d fault e (λ k now. HasRows now → IsSound d now) (λ height width has. (h.0, sized-stands d e height width old has.columns e.seek h.1))
+    (λ notice has. h) (λ has. h, λ has. h)
+    (λ k told has. any-sound d fault (before e) e.ask e.seek (cleared e) k refl refl old.text has.text h) key new
+
+-- ---- whatever is typed
+
+typed-sound : (d : Data) (e : Editor) (typed : List (Key × Option StoreFault)) → HaveRows d e typed → IsSound d e → IsSound d (after_typing d e typed)
+typed-sound d e [] has h = h
+typed-sound d e (key ∷ typed) has h =
+    let new = after_key d key.1 e key.0 in typed-sound d new typed has.1 (key-sound d key.1 e key.0 has.0 (first-rows d new typed has.1) h)
+  where
+    first-rows : (d : Data) (e : Editor) (typed : List (Key × Option StoreFault)) → HaveRows d e typed → HasRows e
+    first-rows d e [] has = has
+    first-rows d e (key ∷ typed) has = has.0
+
+pub shown-stands : ShownStands
+shown-stands d text height width base typed has shown =
+    let start = at_start text height width base in
+    let e = after_typing d start typed in
+    let sound = typed-sound d start typed has (quiet-sound d start refl) in
+    let there : IsThere d e = subst (Stands d e) shown sound.1 in
+    record { aim_is = there.0; here = there.1.0; place_is = there.1.1 }

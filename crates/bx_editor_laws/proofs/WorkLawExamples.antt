@@ -1,0 +1,86 @@
+-- Worked examples, each from a law alone.
+use Rattle.std.proofs.Common.{◌≡◌, ℕ, zero, suc, ◌+◌, ◌<◌, [], ◌∷◌, true, get_or, refl, sym, ap, subst, ◌∙◌, arith}
+use Rattle.std.specs.Prelude.{codes, Some}
+use Rattle.std.specs.Fmt.{digits}
+use Rattle.ucd_case.proofs.Computing.{ucd_case}
+use Rattle.unicode_normalization.proofs.Computing.{unicode_normalization}
+use Rattle.unicode_segmentation.proofs.Computing.{unicode_segmentation}
+use Rattle.unicode_width.proofs.Computing.{unicode_width}
+use Rattle.bx_keys.specs.declared.key.Key.TheVariants.{Insert, Down, Forward, Find, RowEnd, ErasePoint, FindNext, LineDown, LineUp}
+use Rattle.bx_paragraph.specs.declared.slot.Slot.{Slot}
+use Rattle.bx_paragraph.specs.Slots.{covers, row_slots}
+use Rattle.bx_editor.specs.declared.message.Message.TheVariants.{FromStart}
+use Rattle.bx_editor.specs.Editor.{Editor}
+use Rattle.bx_editor_laws.specs.WorkLaws.{ErasePointLeavesBeginning, FindNextIsFindTwice, LineMovesGoBack, own_row}
+use Rattle.bx_editor.proofs.Computed.{tables, start, after}
+
+-- ---- a point erased
+
+-- behind alef with an acute, before bet
+abbrev behind_a_point : Editor
+behind_a_point = after (start (0x5d0 ∷ 0x301 ∷ 0x5d1 ∷ []) 2 20) (Forward ∷ [])
+
+pub the_letter_and_the_rest_stay : ErasePointLeavesBeginning → (after behind_a_point (ErasePoint ∷ [])).content.text ≡ 0xd7 ∷ 0x90 ∷ 0xd7 ∷ 0x91 ∷ []
+unfolding unicode_segmentation unicode_width digits
+the_letter_and_the_rest_stay law =
+    (law tables behind_a_point (record { text = (0x5d0 ∷ 0x301 ∷ 0x5d1 ∷ [], (refl, refl)); columns = refl }) refl refl refl (1, omega arith, refl)).text_is
+
+-- ---- the next match
+
+-- behind a search for b in abab that has ended at its first match; and at its second
+abbrev at_the_first_b : Editor
+at_the_first_b = after (start (codes "abab") 2 40) (Find ∷ Insert 0x62 ∷ Insert 0xA ∷ [])
+
+abbrev at_the_second_b : Editor
+at_the_second_b = after at_the_first_b (FindNext ∷ [])
+
+pub the_next_b_is_at_three : FindNextIsFindTwice → (after at_the_first_b (FindNext ∷ [])).place ≡ 3
+unfolding unicode_segmentation unicode_width digits unicode_normalization ucd_case
+the_next_b_is_at_three law = ap (λ (e : Editor). e.place) (law tables at_the_first_b refl (λ e. cc e))
+
+pub from_the_last_the_first_is_next : FindNextIsFindTwice
+    → let e = after at_the_second_b (FindNext ∷ []) in (e.place ≡ 1) × (e.message ≡ Some FromStart)
+unfolding unicode_segmentation unicode_width digits unicode_normalization ucd_case
+from_the_last_the_first_is_next law =
+    let twice = law tables at_the_second_b refl (λ e. cc e) in (ap (λ (e : Editor). e.place) twice, ap (λ (e : Editor). e.message) twice)
+
+-- ---- moves from row to row and back
+
+-- at the end of the first of three rows, of which the second is short
+abbrev at_a_rows_end : Editor
+at_a_rows_end = after (start (codes "abcdef\nab\nabcdef") 4 20) (RowEnd ∷ [])
+
+pub two_down_and_up : LineMovesGoBack → (after at_a_rows_end (LineDown ∷ LineDown ∷ LineUp ∷ LineUp ∷ [])).place ≡ 6
+unfolding unicode_segmentation unicode_width digits
+two_down_and_up law =
+    ((law tables at_a_rows_end 2 (record { text = (codes "abcdef\nab\nabcdef", (refl, refl)); columns = refl }) refl refl (6, omega arith, refl)).below
+    (omega arith)).to_place (λ end. cc end.full)
+
+-- at the end of the third
+abbrev at_the_last_end : Editor
+at_the_last_end = after (start (codes "abcdef\nab\nabcdef") 4 20) (Down ∷ Down ∷ RowEnd ∷ [])
+
+pub two_up_and_down : LineMovesGoBack → (after at_the_last_end (LineUp ∷ LineUp ∷ LineDown ∷ LineDown ∷ [])).place ≡ 16
+unfolding unicode_segmentation unicode_width digits
+two_up_and_down law =
+    ((law tables at_the_last_end 2 (record { text = (codes "abcdef\nab\nabcdef", (refl, refl)); columns = refl }) refl refl (16, omega arith, refl)).above
+    (omega arith)).to_place (λ end. cc end.full)
+
+-- in two columns the end of ab has the column of b
+abbrev at_a_full_end : Editor
+at_a_full_end = after (start (codes "ab\nab") 3 2) (RowEnd ∷ [])
+
+the_slot_of_b : (i : ℕ) (s : Slot) → i < 3 → get_or (row_slots 2 (own_row tables at_a_full_end).row) i s ≡ s → covers 2 s ≡ true
+    → (own_row tables at_a_full_end).start + s.offset ≡ 1
+unfolding unicode_segmentation unicode_width digits
+the_slot_of_b zero s inside is covered = absurd (cc (subst (λ (t : Slot). covers 2 t ≡ true) (sym is) covered))
+the_slot_of_b (suc zero) s inside is covered = sym (ap (λ (t : Slot). (own_row tables at_a_full_end).start + t.offset) is)
+the_slot_of_b (suc (suc zero)) s inside is covered = absurd (cc (subst (λ (t : Slot). covers 2 t ≡ true) (sym is) covered))
+the_slot_of_b (suc (suc (suc i))) s inside is covered = absurd (omega (arith, inside))
+
+pub from_a_full_end_to_the_unit_at_the_edge : LineMovesGoBack → (after at_a_full_end (LineDown ∷ LineUp ∷ [])).place ≡ 1
+unfolding unicode_segmentation unicode_width digits
+from_a_full_end_to_the_unit_at_the_edge law =
+    let back = (law tables at_a_full_end 1 (record { text = (codes "ab\nab", (refl, refl)); columns = refl }) refl refl (2, omega arith, refl)).below (omega arith) in
+    let edge = back.to_edge (record { last = refl; at_end = refl; full = refl }) (omega arith) in
+    edge.place_is ∙ the_slot_of_b edge.is_slot.0 edge.slot edge.is_slot.1 edge.is_slot.2 edge.covered

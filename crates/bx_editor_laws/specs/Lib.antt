@@ -1,0 +1,6 @@
+pub mod Laws
+pub mod WorkLaws
+pub mod RunLaws
+pub mod SelectionLaws
+pub mod AskingLaws
+pub mod ReplaceLaws

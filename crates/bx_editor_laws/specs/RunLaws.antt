@@ -1,0 +1,121 @@
+-- Laws of runs of edits, and of the text that was stored. `d`, `e` and `new` are as in Laws.antt.
+use Rattle.std.specs.Prelude.{◌≡◌, ◌≢◌, ℕ, ◌+◌, ◌-◌, ◌&&◌, ◌<◌, ◌≤◌, false, List, [], ◌∷◌, ◌++◌, length, map, replicate, encode_utf8_all, All, Option, None, is_none, if◌then◌else◌}
+use Rattle.bx_terms.specs.Sizes.{largest_text}
+use Rattle.bx_terms.specs.declared.base.Base.{Base}
+use Rattle.bx_keys.specs.declared.key.Key.{Key}
+use Rattle.bx_keys.specs.declared.key.Key.TheVariants.{Insert, PasteEnd, PasteStart, Redo, RedoRun, Undo, UndoRun}
+use Rattle.bx_store.specs.declared.store.StoreFault.{StoreFault}
+use Rattle.bx_text.specs.Edits.{Edit}
+use Rattle.bx_runs.specs.Laws.{BeginsAt, EndsAt, redone, undone}
+use Rattle.bx_runs.specs.Typing.{kind_of}
+use Rattle.bx_runs.specs.declared.typing.Kind.{Kind}
+use Rattle.bx_runs.specs.declared.typing.Kind.TheVariants.{Blank, Letter}
+use Rattle.bx_runs.specs.declared.typing.Typing.TheVariants as typings
+use Rattle.bx_ucd.specs.Data.{Data}
+use Rattle.bx_asking.specs.declared.question.Ask.TheVariants as asks
+use Rattle.bx_editor.specs.declared.seek.Seek.TheVariants.{Off}
+use Rattle.bx_editor.specs.Editor.{Editor, at_start}
+use Rattle.bx_editor.specs.Keys.{after_key, after_keys, is_save}
+use Rattle.bx_editor_laws.specs.Laws.{after_typing, IsUnmarkedAt}
+
+-- ---- a run, edit by edit
+
+-- how many edits are undone until none is left or a run begins
+abbrev pub undos : Editor → ℕ
+undos e = length e.content.past - undone e.runs (length e.content.past)
+
+-- how many edits are redone until none is left or the next run begins
+abbrev pub redos : Editor → ℕ
+redos e = redone e.runs (length e.content.past) (length e.content.future) - length e.content.past
+
+-- `key` steps over a run, `one` over an edit; `edits` are those that are left to step over. If there are some, `key` does what
+-- `n` presses of `one` do, one at least, except to `changed`; if there are none, it does what `one` does.
+pub record IsManySteps (d : Data) (e : Editor) (key one : Key) (n : ℕ) (edits : List Edit) : Type 0 where
+  pub many : edits ≢ [] → let new = after_key d None e key in new ≡ record (after_keys d None e (replicate n one)) { changed = new.changed }
+  pub some : edits ≢ [] → 0 < n
+  pub none : edits ≡ [] → after_key d None e key ≡ after_key d None e one
+
+-- UndoRun and RedoRun step so over a run
+pub record RunsAreSteps (d : Data) (e : Editor) : Type 0 where
+  pub undo : IsManySteps d e UndoRun Undo (undos e) e.content.past
+  pub redo : IsManySteps d e RedoRun Redo (redos e) e.content.future
+
+-- UndoRun does what `undos` presses of Undo do, RedoRun what `redos` presses of Redo do, but for `changed`
+abbrev pub RunKeysAreSteps : Type 0
+RunKeysAreSteps = (d : Data) (e : Editor) → RunsAreSteps d e
+
+-- ---- there and back
+
+-- the number of all edits, undone or not
+abbrev pub all_edits : Editor → ℕ
+all_edits e = length e.content.past + length e.content.future
+
+-- UndoRun then RedoRun leaves text, past and future unchanged where a run ends, and the cursor at its place after the latest
+-- edit. RedoRun then UndoRun leaves them unchanged where a run begins, and the cursor at its place before the next edit.
+pub record RunsAreMirrored (d : Data) (e : Editor) : Type 0 where
+  pub redo : EndsAt e.runs (all_edits e) (length e.content.past) → (after_keys d None e (UndoRun ∷ RedoRun ∷ [])).content ≡ e.content
+  pub redo_place : EndsAt e.runs (all_edits e) (length e.content.past) → (edit : Edit) (past : List Edit) → e.content.past ≡ edit ∷ past
+      → IsUnmarkedAt edit.after.place (after_keys d None e (UndoRun ∷ RedoRun ∷ []))
+  pub undo : BeginsAt e.runs (all_edits e) (length e.content.past) → (after_keys d None e (RedoRun ∷ UndoRun ∷ [])).content ≡ e.content
+  pub undo_place : BeginsAt e.runs (all_edits e) (length e.content.past) → (edit : Edit) (future : List Edit) → e.content.future ≡ edit ∷ future
+      → IsUnmarkedAt edit.before.place (after_keys d None e (RedoRun ∷ UndoRun ∷ []))
+
+-- UndoRun and RedoRun mirror each other so after anything that was typed over an opened text
+abbrev pub RedoRunMirrorsUndoRun : Type 0
+RedoRunMirrorsUndoRun =
+    (d : Data) (text : List ℕ) (height width : ℕ) (base : Base) (typed : List (Key × Option StoreFault))
+    → RunsAreMirrored d (after_typing d (at_start text height width base) typed)
+
+-- ---- what is one run
+
+-- text, past and place are those of `e`, and no mark is set
+pub record IsBackBefore (e new : Editor) : Type 0 where
+  pub text_is : new.content.text ≡ e.content.text
+  pub past_is : new.content.past ≡ e.content.past
+  pub unmarked : IsUnmarkedAt e.place new
+
+-- the editor after characters are pasted
+abbrev pub pasted : Data → Editor → List ℕ → Editor
+pasted d e cs = after_keys d None e (PasteStart ∷ (map Insert cs ++ PasteEnd ∷ []))
+
+-- outside a search and a question one UndoRun takes back all that a paste put in, and puts back the selection that gave way to it
+abbrev pub PasteIsARun : Type 0
+PasteIsARun =
+    (d : Data) (e : Editor) (cs : List ℕ) → e.ask ≡ asks.Off → e.seek ≡ Off → length e.content.past < length (pasted d e cs).content.past
+    → IsBackBefore e (after_key d None (pasted d e cs) UndoRun)
+
+-- each character is of a kind, by its class: a letter, or a blank
+abbrev pub AreOfKind : Data → Kind → List ℕ → Type 0
+AreOfKind d kind cs = All (λ c. kind_of (d.class c) ≡ kind) cs
+
+-- one letter at least, and the blanks typed after the letters
+pub record IsWord (d : Data) (letters blanks : List ℕ) : Type 0 where
+  pub some : letters ≢ []
+  pub are_letters : AreOfKind d Letter letters
+  pub are_blanks : AreOfKind d Blank blanks
+
+-- outside a search and a question, and where the first letter goes on with no run, one UndoRun takes back a typed word and the
+-- blanks after it, if there was room for them
+abbrev pub WordIsARun : Type 0
+WordIsARun =
+    (d : Data) (e : Editor) (letters blanks : List ℕ) → e.ask ≡ asks.Off → e.seek ≡ Off → e.typing ≡ typings.Off → IsWord d letters blanks
+    → length e.content.text + length (encode_utf8_all (letters ++ blanks)) ≤ largest_text
+    → IsBackBefore e (after_key d None (after_keys d None e (map Insert (letters ++ blanks))) UndoRun)
+
+-- ---- what counts as changed
+
+-- the text that was stored last, after a key: the editor's own if the key is a Save that succeeds, else `text`, the one before
+abbrev pub stored_by : List ℕ → Editor → Key → Option StoreFault → List ℕ
+stored_by text e key fault = if is_save key && is_none fault then e.content.text else text
+
+-- the text that was stored last, while these keys are typed; `text` was stored, or opened, before them
+abbrev pub stored_last : Data → List ℕ → Editor → List (Key × Option StoreFault) → List ℕ
+stored_last d text e [] = text
+stored_last d text e (key ∷ typed) = stored_last d (stored_by text e key.0 key.1) (after_key d key.1 e key.0) typed
+
+-- whatever was typed over an opened text, it counts as unchanged only if it is the text that was stored or opened last
+abbrev pub UnchangedIsStored : Type 0
+UnchangedIsStored =
+    (d : Data) (text : List ℕ) (height width : ℕ) (base : Base) (typed : List (Key × Option StoreFault))
+    → let start = at_start text height width base in
+    (after_typing d start typed).changed ≡ false → (after_typing d start typed).content.text ≡ stored_last d text start typed

@@ -1,0 +1,158 @@
+-- Laws of selections, and of the keys PasteStart and PasteEnd, the marks of a paste. `d`, `e` and `new` are as in Laws.antt.
+use Rattle.std.specs.Prelude.{◌≡◌, ◌≢◌, ℕ, ◌+◌, ◌==◌, ◌&&◌, ◌≤◌, ◌<◌, Bool, true, false, List, [], ◌∷◌, ◌++◌, length, take, drop, encode_utf8, unwrap_or, Option, Some, None, if◌then◌else◌}
+use Rattle.bx_terms.specs.Sizes.{largest_text}
+use Rattle.bx_keys.specs.declared.key.Key.{Key}
+use Rattle.bx_keys.specs.declared.key.Key.TheVariants.{Insert, Erase, Delete, Back, Forward, Up, Down, Right, Left, RowHome, RowEnd, PageUp, PageDown, Put}
+use Rattle.bx_keys.specs.declared.key.Key.TheVariants.{WordLeft, WordRight, TextStart, TextEnd, Find, FindBack, FindNext, Replace, EraseWord, DeleteWord, ErasePoint, NewLine}
+use Rattle.bx_keys.specs.declared.key.Key.TheVariants.{LineUp, LineDown, PageBack, PageOn, Select, UndoRun, PasteStart, PasteEnd}
+use Rattle.bx_store.specs.declared.store.StoreFault.{StoreFault}
+use Rattle.bx_ucd.specs.Data.{Data}
+use Rattle.bx_asking.specs.declared.question.Ask.TheVariants as asks
+use Rattle.bx_editor.specs.declared.message.Message.TheVariants.{TextFull}
+use Rattle.bx_editor.specs.declared.seek.Seek.TheVariants as searches
+use Rattle.bx_editor.specs.declared.soft.Soft.TheVariants.{Off, Old}
+use Rattle.bx_editor.specs.Editor.{Editor, place_after}
+use Rattle.bx_editor.specs.Keys.{after_key, after_keys}
+use Rattle.bx_editor_laws.specs.Laws.{IsPart}
+use Rattle.bx_editor.specs.Picture.{picture}
+use Rattle.bx_editor.specs.Putting.{is_paste, line_end}
+use Rattle.bx_editor.specs.Region.{region}
+use Rattle.bx_editor_laws.specs.RunLaws.{IsBackBefore}
+
+-- ---- moves
+
+-- keys that only move the cursor
+abbrev pub is_move : Key → Bool
+is_move Back = true
+is_move Forward = true
+is_move Right = true
+is_move Left = true
+is_move Up = true
+is_move Down = true
+is_move PageUp = true
+is_move PageDown = true
+is_move LineUp = true
+is_move LineDown = true
+is_move PageBack = true
+is_move PageOn = true
+is_move RowHome = true
+is_move RowEnd = true
+is_move WordLeft = true
+is_move WordRight = true
+is_move TextStart = true
+is_move TextEnd = true
+is_move _ = false
+
+-- A move takes an old selection (`Soft`) off, and leaves any other mark. Right after Select there is a mark, the one before or
+-- one at the place, and the move leaves it.
+pub record LeavesMark (d : Data) (e : Editor) (move : Key) : Type 0 where
+  pub old : e.soft ≡ Old → (after_key d None e move).mark ≡ None
+  pub other : e.soft ≢ Old → (after_key d None e move).mark ≡ e.mark
+  pub selecting : (after_keys d None e (Select ∷ move ∷ [])).mark ≡ Some (unwrap_or e.mark e.place)
+
+abbrev pub MoveTakesSelectionOff : Type 0
+MoveTakesSelectionOff = (d : Data) (e : Editor) (move : Key) → is_move move ≡ true → LeavesMark d e move
+
+-- a key that begins a search or goes to the next match
+abbrev pub seeks : Key → Bool
+seeks Find = true
+seeks FindBack = true
+seeks FindNext = true
+seeks Replace = true
+seeks _ = false
+
+-- outside a search, a key that seeks leaves or removes the mark as a move does
+abbrev pub SeekingTakesSelectionOff : Type 0
+SeekingTakesSelectionOff = (d : Data) (e : Editor) (key : Key) → e.seek ≡ searches.Off → seeks key ≡ true → LeavesMark d e key
+
+-- ---- a selection gives way
+
+-- nothing is asked, no search is on, and the region is a selection
+pub record HasSelection (e : Editor) : Type 0 where
+  pub no_question : e.ask ≡ asks.Off
+  pub no_search : e.seek ≡ searches.Off
+  pub soft : e.soft ≢ Off
+  pub part : IsPart e (region e)
+
+-- the text without the region
+abbrev pub rest : Editor → List ℕ
+rest e = take (region e).0 e.content.text ++ drop (region e).1 e.content.text
+
+-- the first place, in the text without the region, at or after the region's start
+abbrev pub seam : Data → Editor → ℕ
+seam d e = place_after d e (rest e) (region e).0
+
+-- keys that remove text
+abbrev pub is_removal : Key → Bool
+is_removal Erase = true
+is_removal ErasePoint = true
+is_removal Delete = true
+is_removal EraseWord = true
+is_removal DeleteWord = true
+is_removal _ = false
+
+-- the text is that without the region, the cursor stands at its seam, and no mark is set
+pub record IsRest (d : Data) (e new : Editor) : Type 0 where
+  pub text_is : new.content.text ≡ rest e
+  pub place_is : new.place ≡ seam d e
+  pub mark_is : new.mark ≡ None
+
+-- a key that removes text removes the selection, and no more
+abbrev pub SelectionIsRemoved : Type 0
+SelectionIsRemoved = (d : Data) (e : Editor) (key : Key) → HasSelection e → is_removal key ≡ true → IsRest d e (after_key d None e key)
+
+-- the bytes that a key puts in; empty for a key that neither types nor puts
+abbrev pub bytes_put : Data → Editor → Key → List ℕ
+bytes_put d e (Insert c) = if (c == 0xA) && is_paste e.typing then line_end d (rest e) else encode_utf8 c
+bytes_put d e NewLine = line_end d (rest e)
+bytes_put d e Put = e.held
+bytes_put d e _ = []
+
+-- the text without the region, with the bytes `new` at its seam
+abbrev pub rest_with : Data → Editor → List ℕ → List ℕ
+rest_with d e new = take (seam d e) (rest e) ++ new ++ drop (seam d e) (rest e)
+
+-- the bytes stand in place of the selection, and the cursor at the first place at or after their end
+pub record IsReplacedBy (d : Data) (e : Editor) (bytes : List ℕ) (new : Editor) : Type 0 where
+  pub text_is : new.content.text ≡ rest_with d e bytes
+  pub place_is : new.place ≡ place_after d e (rest_with d e bytes) (seam d e + length bytes)
+  pub mark_is : new.mark ≡ None
+
+-- without room text, place and mark stay
+pub record IsRefused (e new : Editor) : Type 0 where
+  pub content_is : new.content ≡ e.content
+  pub place_is : new.place ≡ e.place
+  pub mark_is : new.mark ≡ e.mark
+  pub message_is : new.message ≡ Some TextFull
+
+-- what is typed or put in takes the selection's place, if the new text is within the limit
+pub record TakesItsPlace (d : Data) (e : Editor) (key : Key) : Type 0 where
+  pub fits : length (rest_with d e (bytes_put d e key)) ≤ largest_text → IsReplacedBy d e (bytes_put d e key) (after_key d None e key)
+  pub full : largest_text < length (rest_with d e (bytes_put d e key)) → IsRefused e (after_key d None e key)
+
+abbrev pub SelectionGivesWay : Type 0
+SelectionGivesWay = (d : Data) (e : Editor) (key : Key) → HasSelection e → bytes_put d e key ≢ [] → TakesItsPlace d e key
+
+-- one UndoRun takes back what a key did in place of a selection
+pub record ComesBack (d : Data) (e : Editor) (key : Key) : Type 0 where
+  pub removed : is_removal key ≡ true → IsBackBefore e (after_keys d None e (key ∷ UndoRun ∷ []))
+  pub replaced : bytes_put d e key ≢ [] → length (rest_with d e (bytes_put d e key)) ≤ largest_text
+      → IsBackBefore e (after_keys d None e (key ∷ UndoRun ∷ []))
+
+abbrev pub SelectionComesBack : Type 0
+SelectionComesBack = (d : Data) (e : Editor) (key : Key) → HasSelection e → ComesBack d e key
+
+-- ---- the marks of a paste
+
+-- all but `typing` is as before, and so is what can be seen
+pub record ChangesTypingAlone (d : Data) (e new : Editor) : Type 0 where
+  pub rest_is : new ≡ record e { typing = new.typing }
+  pub picture_is : (top : ℕ) → picture d new top ≡ picture d e top
+
+-- the keys at the start and the end of a paste change `typing` alone
+pub record PasteMarksChangeTyping (d : Data) (fault : Option StoreFault) (e : Editor) : Type 0 where
+  pub start : ChangesTypingAlone d e (after_key d fault e PasteStart)
+  pub end : ChangesTypingAlone d e (after_key d fault e PasteEnd)
+
+abbrev pub PasteMarksAreUnseen : Type 0
+PasteMarksAreUnseen = (d : Data) (fault : Option StoreFault) (e : Editor) → PasteMarksChangeTyping d fault e

@@ -1,0 +1,80 @@
+-- Laws of ErasePoint, FindNext, and the moves that keep their column. `d`, `e` and `new` are as in Laws.antt; `r` is a row of the
+-- text, `w` the window's columns.
+use Rattle.std.specs.Prelude.{◌≡◌, ◌≢◌, ℕ, ◌+◌, ◌<◌, ◌≤◌, true, false, [], ◌∷◌, ◌++◌, length, take, drop, replicate, None, Contains}
+use Rattle.bx_keys.specs.declared.key.Key.TheVariants.{ErasePoint, Find, FindNext, LineDown, LineUp}
+use Rattle.bx_ucd.specs.Data.{Data}
+use Rattle.bx_asking.specs.declared.question.Ask.TheVariants as asks
+use Rattle.bx_rows.specs.RowPicture.{columns_used}
+use Rattle.bx_paragraph.specs.declared.slot.Slot.{Slot}
+use Rattle.bx_paragraph.specs.Slots.{covers, row_slots}
+use Rattle.bx_view.specs.declared.moves.Logical.TheVariants.{Back}
+use Rattle.bx_view.specs.Moves.{step_logical}
+use Rattle.bx_view.specs.Places.{IsTextPlace}
+use Rattle.bx_view.specs.TextRows.{TextRow, cell_of, row_at, row_of}
+use Rattle.bx_editor.specs.declared.seek.Seek.TheVariants.{Off}
+use Rattle.bx_editor.specs.Editor.{Editor, rows, HasRows}
+use Rattle.bx_editor.specs.Erasing.{point_before}
+use Rattle.bx_editor.specs.Keys.{after_key, after_keys}
+use Rattle.bx_editor.specs.Search.{sought}
+use Rattle.bx_editor.specs.Selecting.{is_selection}
+
+-- ---- a point erased
+
+-- the text from the start of the point to the place is gone; that start lies in the unit before the place
+pub record ErasesEnd (d : Data) (e new : Editor) : Type 0 where
+  pub text_is : new.content.text ≡ take (point_before d e) e.content.text ++ drop e.place e.content.text
+  pub in_unit : step_logical (rows d e) Back e.place ≤ point_before d e
+  pub before_place : point_before d e ≤ e.place
+
+-- outside a search and a question, and without a selection, ErasePoint leaves all before the point, and all after the place
+abbrev pub ErasePointLeavesBeginning : Type 0
+ErasePointLeavesBeginning =
+    (d : Data) (e : Editor) → HasRows e → e.ask ≡ asks.Off → e.seek ≡ Off → is_selection e ≡ false → IsTextPlace d e.content.text e.place → ErasesEnd d e (after_key d None e ErasePoint)
+
+-- ---- the next match
+
+-- outside a search FindNext leads to where Find and then Find lead, with the same message, if the query has letters; but no
+-- search is on, and the place at which the latest search began stays
+abbrev pub FindNextIsFindTwice : Type 0
+FindNextIsFindTwice =
+    (d : Data) (e : Editor) → e.seek ≡ Off → sought d e ≢ []
+    → after_key d None e FindNext ≡ record (after_keys d None e (Find ∷ Find ∷ [])) { seek = Off; origin = e.origin }
+
+-- ---- moves from row to row and back
+
+-- the row of the cursor's place
+abbrev pub own_row : Data → Editor → TextRow
+own_row d e = row_at (rows d e) (row_of (rows d e) e.place)
+
+-- The place is the end of a paragraph whose last row fills the window. No column is left for the end there, so the cursor
+-- stands on the unit at the edge.
+pub record IsFullEnd (w : ℕ) (r : TextRow) (place : ℕ) : Type 0 where
+  pub last : r.row.is_last ≡ true
+  pub at_end : place ≡ r.start + length r.row.body
+  pub full : columns_used w r.row.units ≡ w
+
+-- a unit of the row begins at the place, and its slot covers the column, from 1
+pub record IsCovering (w : ℕ) (r : TextRow) (column place : ℕ) : Type 0 where
+  pub slot : Slot
+  pub is_slot : Contains (row_slots w r.row) slot
+  pub place_is : place ≡ r.start + slot.offset
+  pub covered : covers column slot ≡ true
+
+-- The cursor is back at its place; but from the end of a paragraph that fills its last row, `n` rows lead to the unit at the
+-- edge.
+pub record LeadsBack (d : Data) (e : Editor) (n : ℕ) (new : Editor) : Type 0 where
+  pub to_place : ¬ (IsFullEnd e.width (own_row d e) e.place) → new.place ≡ e.place
+  pub to_edge : IsFullEnd e.width (own_row d e) e.place → 0 < n
+      → IsCovering e.width (own_row d e) (cell_of e.width (rows d e) e.place) new.place
+
+-- `n` rows down and up again lead back, if there are `n` rows below; and `n` rows up and down again, if there are `n` above
+pub record LineMovesLeadBack (d : Data) (e : Editor) (n : ℕ) : Type 0 where
+  pub below : row_of (rows d e) e.place + n < length (rows d e)
+      → LeadsBack d e n (after_keys d None e (replicate n LineDown ++ replicate n LineUp))
+  pub above : n ≤ row_of (rows d e) e.place
+      → LeadsBack d e n (after_keys d None e (replicate n LineUp ++ replicate n LineDown))
+
+-- these moves lead back so outside a search, where no column is kept
+abbrev pub LineMovesGoBack : Type 0
+LineMovesGoBack =
+    (d : Data) (e : Editor) (n : ℕ) → HasRows e → e.seek ≡ Off → e.goal ≡ None → IsTextPlace d e.content.text e.place → LineMovesLeadBack d e n

@@ -1,0 +1,33 @@
+//! Laws of the editor, for readers: no program needs them. The functions are empty: their contracts are the laws.
+#![tactic(auto)]
+
+mod asking_laws;
+mod laws;
+mod replace_laws;
+mod run_laws;
+mod selection_laws;
+mod work_laws;
+
+pub use asking_laws::{
+    answer_is_a_run, code_puts_in, isolates_raise, letter_isolates, letter_puts_in, letter_wraps,
+    prompts_are_shown, questions_change_themselves, tell_shows, tells_what_stands,
+    told_numbers_lead_back,
+};
+pub use laws::{
+    copy_puts_twice, find_back_goes_to_previous, find_goes_to_next, giving_up_goes_back,
+    goes_to_both_ends, mark_twice_is_nothing, put_restores_cut, redo_mirrors_undo, top_stays,
+    undo_gives_back,
+};
+pub use replace_laws::{
+    enter_replaces, find_passes_over, replace_replaces_all, replaced_comes_back, same_letters_stay,
+    shown_stands,
+};
+pub use run_laws::{
+    paste_is_a_run, redo_run_mirrors_undo_run, run_keys_are_steps, unchanged_is_stored,
+    word_is_a_run,
+};
+pub use selection_laws::{
+    move_takes_selection_off, paste_marks_are_unseen, seeking_takes_selection_off,
+    selection_comes_back, selection_gives_way, selection_is_removed,
+};
+pub use work_laws::{erase_point_leaves_beginning, find_next_is_find_twice, line_moves_go_back};

@@ -1,0 +1,4 @@
+pub mod LawExamples
+pub mod Examples
+pub mod FirstBefore
+pub mod Following

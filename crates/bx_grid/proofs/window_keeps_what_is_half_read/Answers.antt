@@ -1,5 +1,0 @@
-use Rattle.std.proofs.Common.{refl}
-use Rattle.bx_grid.proofs.window_keeps_what_is_half_read.Goals as goal
-
-pub returns : goal.returns
-returns c t height width = (refl, refl)

@@ -1,5 +1,0 @@
-use Rattle.bx_input.proofs.Runs.{in_pieces}
-use Rattle.bx_input.proofs.laws.in_any_pieces.Goals as goal
-
-pub returns : goal.returns
-returns c = in_pieces

@@ -1,5 +1,0 @@
-use Rattle.bx_input.proofs.Clean.{pastes_clean}
-use Rattle.bx_input.proofs.laws.pastes_are_clean.Goals as goal
-
-pub returns : goal.returns
-returns c = pastes_clean

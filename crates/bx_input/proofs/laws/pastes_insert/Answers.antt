@@ -1,5 +1,0 @@
-use Rattle.bx_input.proofs.Following as following
-use Rattle.bx_input.proofs.laws.pastes_insert.Goals as goal
-
-pub returns : goal.returns
-returns c = following.pastes_insert

@@ -1,5 +1,0 @@
-use Rattle.bx_input.proofs.PastedCharacters as characters
-use Rattle.bx_input.proofs.laws.pastes_keep_characters.Goals as goal
-
-pub returns : goal.returns
-returns c = characters.pastes_keep_characters

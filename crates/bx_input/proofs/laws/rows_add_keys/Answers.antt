@@ -1,5 +1,0 @@
-use Rattle.bx_input.proofs.Following as following
-use Rattle.bx_input.proofs.laws.rows_add_keys.Goals as goal
-
-pub returns : goal.returns
-returns c = following.rows_add_keys

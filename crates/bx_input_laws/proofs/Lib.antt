@@ -1,0 +1,15 @@
+pub mod Clean
+pub mod Decoding
+pub mod Firsts
+pub mod Following
+pub mod Growth
+pub mod Inserting
+pub mod KeyExamples
+pub mod Keys
+pub mod LawExamples
+pub mod LogExamples
+pub mod Passing
+pub mod PastedCharacters
+pub mod Pastes
+pub mod States
+pub mod Thirds

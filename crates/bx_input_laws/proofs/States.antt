@@ -1,0 +1,68 @@
+-- The waiting bytes, in any state of the filter.
+use Rattle.std.proofs.Common.{◌≡◌, ℕ, ◌≤◌, Bool, true, false, List, [], ◌∷◌, ◌++◌, length, Option, Some, None, refl, arith}
+use Rattle.std.specs.Str.{bytes_eq}
+use Rattle.std.proofs.lemmas.Bool.{false≢true}
+use Rattle.bx_bytes.specs.declared.fate.Fate.{Fate}
+use Rattle.bx_bytes.specs.declared.fate.Fate.TheVariants.{Waits, Ends, Breaks}
+use Rattle.bx_input.specs.Table.{Row, sequences, fate, paste_end, row_of}
+use Rattle.bx_input.specs.Paste.{paste_fate, paste_sequences}
+use Rattle.bx_input.specs.Filter.{State, Outside, Within, ended_in_paste, paste_step_by, fresh_in_paste, ended, start, fresh, broken, step_by, step, run}
+use Rattle.bx_input_laws.specs.Laws.{waiting_in, WaitsForFive}
+use Rattle.bx_input_laws.proofs.Firsts.{waits_says, any_fewer}
+
+-- the waiting bytes begin a sequence, and none wait after a CR
+abbrev pub IsSound : State → Type 0
+IsSound (Outside waiting is_open) = fate waiting ≡ Waits
+IsSound (Within waiting after_return) = (paste_fate waiting ≡ Waits) × (after_return ≡ true → waiting ≡ [])
+
+ended_sound : (is_open : Bool) (r : Option Row) → IsSound (ended is_open r).state
+ended_sound is_open None = (refl, λ e. refl)
+ended_sound is_open (Some r) = refl
+
+-- ---- whether or not the terminal's own erase character is DELETE
+
+module _ (by_delete : Bool) where
+  fresh_outside_sound : (f : Fate) (is_open : Bool) (b : ℕ) → fate (b ∷ []) ≡ f → IsSound (fresh by_delete f is_open b).state
+  fresh_outside_sound Waits is_open b h = h
+  fresh_outside_sound Ends is_open b h = ended_sound is_open (row_of by_delete (b ∷ []))
+  fresh_outside_sound Breaks is_open b h = refl
+
+  broken_sound : (waiting : List ℕ) (is_open : Bool) (b : ℕ) → IsSound (broken by_delete waiting is_open b).state
+  broken_sound waiting is_open b = fresh_outside_sound (fate (b ∷ [])) _ b refl
+
+  outside_sound : (f : Fate) (waiting : List ℕ) (is_open : Bool) (b : ℕ) → fate (waiting ++ b ∷ []) ≡ f → IsSound (step_by by_delete f waiting is_open b).state
+  outside_sound Waits waiting is_open b h = h
+  outside_sound Ends waiting is_open b h = ended_sound is_open (row_of by_delete (waiting ++ b ∷ []))
+  outside_sound Breaks waiting is_open b h = broken_sound waiting is_open b
+
+  after_end_sound : (t : Bool) → IsSound (ended_in_paste t).state
+  after_end_sound true = refl
+  after_end_sound false = (refl, λ e. refl)
+
+  fresh_sound : (f : Fate) (after_return : Bool) (b : ℕ) → paste_fate (b ∷ []) ≡ f → IsSound (fresh_in_paste f after_return b).state
+  fresh_sound Waits after_return b h = (h, λ e. absurd (false≢true e))
+  fresh_sound Ends after_return b h = (refl, λ e. refl)
+  fresh_sound Breaks after_return b h = (refl, λ e. refl)
+
+  within_sound : (f : Fate) (waiting : List ℕ) (after_return : Bool) (b : ℕ) → paste_fate (waiting ++ b ∷ []) ≡ f
+      → IsSound (paste_step_by f waiting after_return b).state
+  within_sound Waits waiting after_return b h = (h, λ e. absurd (false≢true e))
+  within_sound Ends waiting after_return b h = after_end_sound (bytes_eq (waiting ++ b ∷ []) paste_end)
+  within_sound Breaks waiting after_return b h = fresh_sound (paste_fate (b ∷ [])) after_return b refl
+
+  pub step_sound : (s : State) (b : ℕ) → IsSound (step by_delete s b).state
+  step_sound (Outside waiting is_open) b = outside_sound (fate (waiting ++ b ∷ [])) waiting is_open b refl
+  step_sound (Within waiting after_return) b = within_sound (paste_fate (waiting ++ b ∷ [])) waiting after_return b refl
+
+  pub run_sound : (s : State) (bs : List ℕ) → IsSound s → IsSound (run by_delete s bs).state
+  run_sound s [] h = h
+  run_sound s (b ∷ bs) h = run_sound (step by_delete s b).state bs (step_sound s b)
+
+  five : (s : State) → IsSound s → length (waiting_in s) ≤ 5
+  five (Outside waiting is_open) h =
+      let says = waits_says sequences waiting h in omega (arith, any_fewer sequences 6 waiting refl says.begins says.not_whole)
+  five (Within waiting after_return) h =
+      let says = waits_says paste_sequences waiting h.0 in omega (arith, any_fewer paste_sequences 6 waiting refl says.begins says.not_whole)
+
+  pub waits_for_five : WaitsForFive by_delete
+  waits_for_five bs = five (run by_delete start bs).state (run_sound start bs refl)

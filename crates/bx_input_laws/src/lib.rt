@@ -1,0 +1,10 @@
+//! Laws of the filter of `bx_input`, for readers: no program needs them.
+#![tactic(auto)]
+
+mod laws;
+
+pub use laws::{
+    grows_five_times, in_any_pieces, others_pass, pastes_are_clean, pastes_become_text,
+    pastes_insert, pastes_keep_characters, rows_add_keys, rows_become, rows_have_keys,
+    waits_for_five,
+};

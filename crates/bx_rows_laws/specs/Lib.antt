@@ -1,0 +1,4 @@
+pub mod Laws
+pub mod OrderLaws
+pub mod JoiningLaws
+pub mod TouchingLetters

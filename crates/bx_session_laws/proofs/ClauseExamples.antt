@@ -1,0 +1,152 @@
+-- Worked examples, each from a clause of a run alone.
+use Rattle.std.proofs.Common.{◌≡◌, ◌≢◌, ◌≤◌, ◌<◌, ◌+◌, ℕ, zero, suc, Bool, true, false, List, [], ◌∷◌, ◌++◌, length, take, Option, Some, None, Ok, inl, inr}
+use Rattle.std.proofs.Common.{refl, sym, ap, ◌∙◌, append_assoc, arith}
+use Rattle.std.specs.Global.{Vec}
+use Rattle.std.specs.Prelude.{codes, option_map, vec_items, vec_capacity}
+use Rattle.std.specs.Fmt.{digits}
+use Rattle.std.specs.Io.KnownBytes.{Appends}
+use Rattle.std.proofs.lemmas.Bool.Decides.{nat_tests}
+use Rattle.std.proofs.lemmas.List.{append-nil, length-append}
+use Rattle.unicode_segmentation.proofs.Computing.{unicode_segmentation}
+use Rattle.unicode_width.proofs.Computing.{unicode_width}
+use Rattle.bx_store.specs.Causes.{fault}
+use Rattle.bx_store.specs.Stores.{no_faults}
+use Rattle.bx_store.specs.declared.cause.SaveCause.TheVariants.{NoSpace}
+use Rattle.bx_store.specs.declared.faults.Faults.{Faults}
+use Rattle.bx_store.specs.declared.store.StoreFault.{StoreFault}
+use Rattle.bx_editor.specs.declared.message.Message.TheVariants.{SaveFailed}
+use Rattle.bx_session.specs.declared.status.Status.{Status}
+use Rattle.bx_session.specs.declared.journal.Backlog.TheVariants.{Empty, Waiting}
+use Rattle.bx_session.specs.Journal.{RecorderState, HasKept, HasTried, is_lost, room, waiting, after_faults}
+use Rattle.bx_session.specs.Running.{ByteAnswer, HasRun, bytes_of}
+use Rattle.bx_session.specs.Saving.{Feeds, SaveEnds, StoreState}
+use Rattle.bx_session.specs.Session.{Session, after_byte}
+use Rattle.bx_session.proofs.Computed.{start}
+use Rattle.bx_session.proofs.Recorded.{has_none}
+use Rattle.bx_session.proofs.Turns.{none_dropped}
+use Rattle.bx_session_laws.proofs.GivenBack.{appended_to, kept_in_all}
+use Rattle.bx_editor.proofs.Computed.{tables}
+
+first_alone : (a : ℕ) (more dropped : List ℕ) → codes "x" ≡ ((a ∷ more) ++ dropped) ++ [] → a ∷ more ≡ codes "x"
+first_alone a [] [] is = sym is
+first_alone a [] (d ∷ dropped) is = absurd (cc is)
+first_alone a (b ∷ more) dropped is = absurd (cc is)
+
+-- a reader's one byte is fed, and not dropped
+pub a_byte_is_fed : (new all : Session) (store store' : StoreState) (writer writer' : Option (List ℕ)) (answered : List ByteAnswer)
+    (dropped written : List ℕ)
+    → HasRun tables (start (codes "ab") 1 5) new store store' (Some (codes "x")) (Some []) writer writer' answered dropped written all
+    → bytes_of answered ≡ codes "x"
+a_byte_is_fed new all store store' writer writer' [] dropped written run =
+    let none = none_dropped dropped all.editor.ended run.drops (ap (λ (s : Session). s.editor.ended) run.feeds.0) in
+    absurd (let is : codes "x" ≡ [] = run.reads ∙ append-nil dropped ∙ none in cc is)
+a_byte_is_fed new all store store' writer writer' (a ∷ answered) dropped written run = first_alone a.0 (bytes_of answered) dropped run.reads
+
+grown : {appended bytes there : List ℕ} {before after : Option (List ℕ)} → appended ≡ bytes → before ≡ Some (codes "ab") → after ≡ Some there
+    → Appends before after appended → there ≡ codes "ab" ++ bytes
+grown {appended} {bytes} {there} {before} {after} same was is grows =
+    appended_to before after (codes "ab") there appended was is grows ∙ ap (λ xs. codes "ab" ++ xs) same
+
+some_faults : (n count : ℕ) → 1 ≤ n → after_faults n count ≢ 0
+some_faults zero count some = absurd (omega (arith, some))
+some_faults (suc n) count some = λ h. absurd (grind (arith, nat_tests, h))
+
+-- with an empty backlog before and after, the journal ends with the bytes read
+pub what_is_read_is_kept : {J : Type 0} (contents : J → Option (List ℕ)) (failures : J → ℕ) (old new : RecorderState J) (there : List ℕ)
+    → HasKept contents failures old new (codes "x") → old.backlog ≡ Empty → new.backlog ≡ Empty → contents old.journal ≡ Some (codes "ab")
+    → contents new.journal ≡ Some there → there ≡ codes "abx"
+what_is_read_is_kept contents failures old new there kept was is before after =
+    grown (kept_in_all contents failures old new (codes "x") kept [] (ap waiting was) is) before after kept.grows
+
+-- waiting bytes come before them
+pub what_waits_comes_first : {J : Type 0} (contents : J → Option (List ℕ)) (failures : J → ℕ) (old new : RecorderState J) (held : Vec ℕ) (there : List ℕ)
+    → HasKept contents failures old new (codes "y") → old.backlog ≡ Waiting held → vec_items held ≡ codes "x" → new.backlog ≡ Empty
+    → contents old.journal ≡ Some (codes "ab") → contents new.journal ≡ Some there → there ≡ codes "abxy"
+what_waits_comes_first contents failures old new held there kept was has is before after =
+    grown (kept_in_all contents failures old new (codes "y") kept (codes "x") (ap waiting was ∙ has) is) before after kept.grows
+
+-- the journal lacks only what waits
+pub only_what_waits_is_missing : {J : Type 0} (contents : J → Option (List ℕ)) (failures : J → ℕ) (old new : RecorderState J) (held : Vec ℕ) (there : List ℕ)
+    (kept : HasKept contents failures old new (codes "xy")) → old.backlog ≡ Empty → new.backlog ≡ Waiting held → vec_items held ≡ codes "y"
+    → contents old.journal ≡ Some (codes "ab") → contents new.journal ≡ Some there → there ++ codes "y" ≡ codes "abxy"
+only_what_waits_is_missing contents failures old new held there kept was waits has before after =
+    let none : kept.lost ≡ [] = kept.all (ap is_lost waits) in
+    let all : codes "xy" ≡ kept.appended ++ codes "y" =
+    ap (λ k. waiting k ++ codes "xy") (sym was)
+    ∙ kept.order
+    ∙ ap (λ xs. kept.appended ++ (waiting new.backlog ++ xs)) none
+    ∙ ap (λ k. kept.appended ++ (waiting k ++ [])) waits
+    ∙ ap (λ xs. kept.appended ++ (xs ++ [])) has in
+    let journal : there ≡ codes "ab" ++ kept.appended = grown refl before after kept.grows in
+    ap (λ xs. xs ++ codes "y") journal ∙ append_assoc (codes "ab") kept.appended (codes "y") ∙ ap (λ xs. codes "ab" ++ xs) (sym all)
+
+-- an empty backlog grows only if a call of the journal fails
+pub no_failure_is_no_fault : {J : Type 0} (contents : J → Option (List ℕ)) (failures : J → ℕ) (old new : RecorderState J)
+    → HasKept contents failures old new (codes "x") → old.backlog ≡ Empty → failures old.journal ≡ 0 → failures new.journal ≡ 0 → new.backlog ≡ Empty
+no_failure_is_no_fault contents failures old new kept works none still = elim (has_none new.backlog) [
+  | inl none_left ↦ none_left
+  | inr some_left ↦ absurd (some_faults kept.faults (failures old.journal) (kept.fault works some_left) (sym kept.counted ∙ still))
+]
+
+-- bytes that wait are appended in a call in which the journal does not fail
+pub no_failure_ends_waiting : {J : Type 0} (failures : J → ℕ) (old new : RecorderState J) (held : Vec ℕ) → HasTried failures old new (codes "x")
+    → old.backlog ≡ Waiting held → failures old.journal ≡ 0 → failures new.journal ≡ 0 → new.backlog ≡ Empty
+no_failure_ends_waiting failures old new held tried was none still = elim (has_none new.backlog) [
+  | inl none_left ↦ none_left
+  | inr some_left ↦ absurd (some_faults 1 (failures old.journal) (omega arith) (sym (tried.fails (ap is_lost was) some_left) ∙ still))
+]
+
+if_lost : (lost : Bool) → (lost ≡ true → ⊥) → lost ≡ false
+if_lost true h = absurd (h refl)
+if_lost false h = refl
+
+-- no byte is lost first in such a call, nor while the waiting bytes' memory has room for the new ones
+pub no_failure_loses_nothing : {J : Type 0} (failures : J → ℕ) (old new : RecorderState J) → HasTried failures old new (codes "x")
+    → is_lost old.backlog ≡ false → failures old.journal ≡ 0 → failures new.journal ≡ 0 → is_lost new.backlog ≡ false
+no_failure_loses_nothing failures old new tried there none still = if_lost (is_lost new.backlog) (λ h.
+    some_faults 1 (failures old.journal) (omega arith)
+    (sym (tried.fails there (λ e. let g : false ≡ true = sym (ap is_lost e) ∙ h in cc g)) ∙ still))
+
+pub room_loses_nothing : {J : Type 0} (failures : J → ℕ) (old new : RecorderState J) (held : Vec ℕ) → HasTried failures old new (codes "x")
+    → old.backlog ≡ Waiting held → length (vec_items held) ≡ 3 → vec_capacity held ≡ 4 → is_lost new.backlog ≡ false
+room_loses_nothing failures old new held tried was count space = if_lost (is_lost new.backlog) (λ h.
+    let full : room old.backlog < length (waiting old.backlog ++ codes "x") = tried.full (ap is_lost was) h in
+    let all : length (waiting old.backlog ++ codes "x") ≡ length (waiting old.backlog) + 1 = length-append (waiting old.backlog) (codes "x") in
+    let waits : length (waiting old.backlog) ≡ 3 = ap (λ k. length (waiting k)) was ∙ count in
+    let is : room old.backlog ≡ 4 = ap room was ∙ space in omega (arith, full, all, waits, is))
+
+first_is : (xs lost : List ℕ) → codes "xy" ≡ xs ++ lost → length lost ≤ 1 → take 1 xs ≡ codes "x"
+first_is [] lost is few = absurd (omega (arith, few, ap (λ (ys : List ℕ). length ys) is))
+first_is (c ∷ xs) lost is few = ap (take 1) (sym is)
+
+-- bytes that wait are not lost when new ones are
+pub what_waits_is_not_lost : {J : Type 0} (contents : J → Option (List ℕ)) (failures : J → ℕ) (old new : RecorderState J) (held : Vec ℕ)
+    (kept : HasKept contents failures old new (codes "y")) → old.backlog ≡ Waiting held → vec_items held ≡ codes "x"
+    → take 1 (kept.appended ++ waiting new.backlog) ≡ codes "x"
+what_waits_is_not_lost contents failures old new held kept was has =
+    first_is (kept.appended ++ waiting new.backlog) kept.lost
+    (ap (λ xs. xs ++ codes "y") (sym (ap waiting was ∙ has)) ∙ kept.order ∙ sym (append_assoc kept.appended (waiting new.backlog) kept.lost)) kept.few
+
+-- ---- a Save
+
+abbrev unsaved : Session
+unsaved = start (codes "ab") 1 5
+
+abbrev no_space : StoreFault
+no_space = fault (Some NoSpace)
+
+-- the status row has the cause of the latest failed call, which is this Save's
+cause_told : (store store' : StoreState) (ended : Option StoreFault) (new : Session) → SaveEnds ended (codes "ab") store store'
+    → new ≡ after_byte tables ended unsaved 0x13 → store.faults ≡ no_faults → store'.faults.latest ≡ Some no_space
+    → new.editor.message ≡ Some (SaveFailed (Some NoSpace))
+unfolding unicode_segmentation unicode_width digits
+cause_told store store' None new ends is none latest =
+    absurd (let both : None ≡ Some no_space = sym (ap (λ (f : Faults). f.latest) (ap (λ (s : StoreState). s.faults) ends ∙ none)) ∙ latest in cc both)
+cause_told store store' (Some failed) new ends is none latest =
+    let same : Some failed ≡ Some no_space = sym (ap (λ (f : Faults). f.latest) ends.1) ∙ latest in
+    ap (λ (s : Session). s.editor.message) is ∙ ap (option_map (λ (f : StoreFault). SaveFailed f.cause)) same
+
+pub a_full_disk_is_told : (store store' : StoreState) (status : Status) (new : Session) → Feeds tables unsaved store 0x13 (Ok status) new store'
+    → store.faults ≡ no_faults → store'.faults.latest ≡ Some no_space → new.editor.message ≡ Some (SaveFailed (Some NoSpace))
+unfolding unicode_segmentation unicode_width digits
+a_full_disk_is_told store store' status new feeds = cause_told store store' feeds.0 new feeds.1 feeds.2.0

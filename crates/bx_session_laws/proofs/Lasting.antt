@@ -1,0 +1,95 @@
+-- What lasts in a replay, and the effects of keys on it.
+use Rattle.std.proofs.Common.{◌≡◌, ℕ, List, Option, refl}
+use Rattle.bx_keys.specs.declared.key.Key.{Key}
+use Rattle.bx_keys.specs.declared.key.Key.TheVariants.{Save, Quit}
+use Rattle.bx_terms.specs.declared.base.Base.{Base}
+use Rattle.bx_text.specs.Edits.{Edited}
+use Rattle.bx_ucd.specs.Data.{Data}
+use Rattle.bx_asking.specs.declared.question.Ask.{Ask}
+use Rattle.bx_runs.specs.declared.typing.Typing.{Typing}
+use Rattle.bx_editor.specs.declared.aim.Aim.{Aim}
+use Rattle.bx_editor.specs.declared.seek.Seek.{Seek}
+use Rattle.bx_editor.specs.declared.soft.Soft.{Soft}
+use Rattle.bx_editor.specs.Editor.{Editor}
+use Rattle.bx_editor.specs.Keys.{effect_of}
+
+-- ---- lasting state
+
+-- the parts of an editor that a Save and a Quit change in a replay too
+pub record Lasting : Type 0 where
+  pub content : Edited
+  pub runs : List ℕ
+  pub place : ℕ
+  pub mark : Option ℕ
+  pub soft : Soft
+  pub held : List ℕ
+  pub query : List ℕ
+  pub seek : Seek
+  pub aim : Aim
+  pub origin : ℕ
+  pub other : List ℕ
+  pub at : ℕ
+  pub count : ℕ
+  pub ask : Ask
+  pub answer : List ℕ
+  pub typing : Typing
+  pub base : Base
+  pub goal : Option ℕ
+  pub height : ℕ
+  pub width : ℕ
+
+abbrev pub lasting : Editor → Lasting
+lasting e = record {
+  content = e.content;
+  runs = e.runs;
+  place = e.place;
+  mark = e.mark;
+  soft = e.soft;
+  held = e.held;
+  query = e.query;
+  seek = e.seek;
+  aim = e.aim;
+  origin = e.origin;
+  other = e.other;
+  at = e.at;
+  count = e.count;
+  ask = e.ask;
+  answer = e.answer;
+  typing = e.typing;
+  base = e.base;
+  goal = e.goal;
+  height = e.height;
+  width = e.width;
+}
+
+-- an editor that has these parts of another one
+abbrev pub having : Lasting → Editor → Editor
+having l e = record e {
+  content = l.content;
+  runs = l.runs;
+  place = l.place;
+  mark = l.mark;
+  soft = l.soft;
+  held = l.held;
+  query = l.query;
+  seek = l.seek;
+  aim = l.aim;
+  origin = l.origin;
+  other = l.other;
+  at = l.at;
+  count = l.count;
+  ask = l.ask;
+  answer = l.answer;
+  typing = l.typing;
+  base = l.base;
+  goal = l.goal;
+  height = l.height;
+  width = l.width;
+}
+
+-- ---- effects
+
+-- a key's effect is the same where the same lasts
+pub effect_is : (d : Data) (e f : Editor) (key : Key) → effect_of d (having (lasting e) f) key ≡ effect_of d e key
+effect_is d e f Save = refl
+effect_is d e f key = refl

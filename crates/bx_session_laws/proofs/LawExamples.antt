@@ -1,0 +1,223 @@
+-- Worked examples, each from a law alone.
+use Rattle.std.proofs.Common.{◌≡◌, ℕ, true, false, List, [], ◌∷◌, ◌++◌, Option, Some, None, Result, Err, refl, sym, ap, ◌∙◌}
+use Rattle.std.specs.Global.{Vec}
+use Rattle.std.specs.Prelude.{◌≢◌, codes}
+use Rattle.std.specs.Fmt.{digits}
+use Rattle.std.proofs.lemmas.List.{append-nil, append_cancel_right}
+use Rattle.std.proofs.lemmas.List.Elements.{All-cons, All-nil}
+use Rattle.unicode_segmentation.proofs.Computing.{unicode_segmentation}
+use Rattle.unicode_width.proofs.Computing.{unicode_width}
+use Rattle.bx_terms.specs.declared.base.Base.TheVariants.{Auto}
+use Rattle.bx_keys.specs.declared.key.Key.TheVariants.{Insert, Up}
+use Rattle.bx_store.specs.Stores.{no_faults}
+use Rattle.bx_text.specs.Edits.{Edited}
+use Rattle.bx_editor.specs.Editor.{Editor, HasRows}
+use Rattle.bx_editor.proofs.Computed.{tables, ascii_columns}
+use Rattle.bx_session.specs.declared.error.Refused.{Refused}
+use Rattle.bx_session.specs.declared.error.Refused.TheVariants.{Edit, Paint}
+use Rattle.bx_session.specs.declared.status.Status.{Status}
+use Rattle.bx_session.specs.declared.journal.Backlog.TheVariants.{Empty, Waiting}
+use Rattle.bx_session_laws.specs.Anew.{AlwaysStaysPainted}
+use Rattle.bx_session.specs.Beginning.{Beginning, at_offset, begun, unpainted_at}
+use Rattle.bx_session.specs.Journal.{RecorderState, RunsRecorded}
+use Rattle.bx_session.specs.Laws.{AlwaysShowsState, HasKeysOfInput, ReplaysKeys, after_journal, after_replaying, keys_from}
+use Rattle.bx_session_laws.specs.Recovery.{HasAll, HasBackMidway, IsSettled, JournalsGiveBack, RefusesNoKey, RecoveryGivesBack}
+use Rattle.bx_session.specs.Running.{ByteAnswer, FeedsAll, bytes_of}
+use Rattle.bx_session.specs.Saving.{StoreState}
+use Rattle.bx_session.specs.Session.{Session, after_byte, after_sending, owing_after_byte, with_painting}
+use Rattle.bx_session.proofs.Computed.{start, csi}
+use Rattle.bx_session_laws.proofs.GivenBack.{journal_is}
+use Rattle.bx_session_laws.proofs.Recovered.{has_back}
+
+abbrev opened : Session
+opened = start (codes "ab") 1 5
+
+pub the_letter_is_painted : AlwaysShowsState
+    → (after_byte tables None opened 0x78).painted ≡ Some (record { height = 1; width = 5; columns = ascii_columns (codes "xab  "); row = 0; column = 1 })
+unfolding unicode_segmentation unicode_width digits
+the_letter_is_painted law = (law.byte tables None opened 0x78 (law.opening tables (codes "ab") 1 5 Auto) refl).0
+
+-- all 22 bytes of the opening's painting were sent
+pub nothing_is_sent_anew : AlwaysStaysPainted → (with_painting tables (after_sending opened 22)).pending ≡ []
+unfolding unicode_segmentation unicode_width digits
+nothing_is_sent_anew law =
+    let has : HasRows opened.editor = record { text = (codes "ab", (refl, refl)); columns = refl } in
+    ap (λ (s : Session). s.pending) (law.sending tables opened 22 (law.opening tables (codes "ab") 1 5 Auto has) refl)
+
+pub a_letter_and_an_arrow : HasKeysOfInput → keys_from [] (0x61 ∷ csi (codes "A")) ≡ Insert 0x61 ∷ Up ∷ []
+a_letter_and_an_arrow law = law (0x61 ∷ csi (codes "A"))
+
+-- a, Save, Quit, b
+pub saves_and_quits_are_passed_over : ReplaysKeys
+    → (after_replaying tables (start (codes "x") 1 5) (0x61 ∷ 0x13 ∷ 0x11 ∷ 0x62 ∷ [])).editor.content.text ≡ codes "abx"
+unfolding unicode_segmentation unicode_width digits
+saves_and_quits_are_passed_over law = ap (λ (e : Editor). e.content.text) (law tables (start (codes "x") 1 5) (0x61 ∷ 0x13 ∷ 0x11 ∷ 0x62 ∷ []) refl)
+
+-- ---- recovery
+
+-- a, Save, b, Undo
+abbrev fed : Result Status Refused → Result Status Refused → Result Status Refused → Result Status Refused → List ByteAnswer
+fed a save b undo = (0x61, a) ∷ (0x13, save) ∷ (0x62, b) ∷ (0x1a, undo) ∷ []
+
+-- a session that was fed them and refused no key has the text of their replay, whatever its other answers
+pub a_save_is_no_end_of_the_past : RecoveryGivesBack → (store store' : StoreState) (a save b undo : Result Status Refused) (new : Session)
+    → FeedsAll tables (start (codes "x") 1 5) store (fed a save b undo) new store' → RefusesNoKey (fed a save b undo)
+    → new.editor.content.text ≡ codes "ax"
+unfolding unicode_segmentation unicode_width digits
+a_save_is_no_end_of_the_past law store store' a save b undo new feeds none =
+    ap (λ (t : Edited). t.text) (sym (law.gives_back tables (codes "x") 1 5 Auto store store' (fed a save b undo) new feeds none).content)
+
+-- Forward, Mark, Forward, Copy, Mark
+abbrev marked : List ℕ
+marked = (0x06 ∷ csi (codes "72~")) ++ (0x06 ∷ csi (codes "73~")) ++ csi (codes "72~")
+
+-- a session that was fed them over abc has the mark and the held bytes of their replay
+pub mark_and_held_bytes_come_back : RecoveryGivesBack → (store store' : StoreState) (answered : List ByteAnswer) (new : Session)
+    → bytes_of answered ≡ marked → FeedsAll tables (start (codes "abc") 1 5) store answered new store' → RefusesNoKey answered
+    → (new.editor.mark ≡ Some 2) × (new.editor.held ≡ codes "b")
+unfolding unicode_segmentation unicode_width digits
+mark_and_held_bytes_come_back law store store' answered new fed_them feeds none =
+    let opened_at = start (codes "abc") 1 5 in
+    let back = law.gives_back tables (codes "abc") 1 5 Auto store store' answered new feeds none in (
+      sym back.mark ∙ ap (λ bytes. (after_journal tables opened_at bytes).editor.mark) fed_them,
+      sym back.held ∙ ap (λ bytes. (after_journal tables opened_at bytes).editor.held) fed_them,
+    )
+
+-- such a session exists: one whose paintings were all refused
+abbrev unpainted : List ℕ → List ByteAnswer
+unpainted [] = []
+unpainted (b ∷ bs) = (b, Err Paint) ∷ unpainted bs
+
+none_refused : (bs : List ℕ) → RefusesNoKey (unpainted bs)
+none_refused [] = All-nil (λ (a : ByteAnswer). a.1 ≢ Err Edit)
+none_refused (b ∷ bs) = All-cons (λ (a : ByteAnswer). a.1 ≢ Err Edit) (b, Err Paint) (unpainted bs) (λ e. cc e) (none_refused bs)
+
+abbrev owing : List ℕ → Session → Session
+owing [] s = s
+owing (b ∷ bs) s = owing bs (owing_after_byte tables None s b)
+
+abbrev of_x : List ℕ → Session
+of_x bs = owing bs (start (codes "x") 1 5)
+
+abbrev storing : List ℕ → StoreState
+storing text = record { contents = Some text; faults = no_faults }
+
+abbrev input : List ℕ
+input = 0x61 ∷ 0x13 ∷ 0x62 ∷ 0x1a ∷ []
+
+is_fed : FeedsAll tables (start (codes "x") 1 5) (storing []) (unpainted input) (of_x input) (storing (codes "ax"))
+unfolding unicode_segmentation unicode_width digits
+is_fed = (
+  of_x (0x61 ∷ []),
+  storing [],
+  refl,
+  (None, refl, (refl, refl)),
+  (λ asks. tt),
+  (
+    of_x (0x61 ∷ 0x13 ∷ []),
+    storing (codes "ax"),
+    refl,
+    (None, refl, (refl, refl)),
+    (λ asks. tt),
+    (
+      of_x (0x61 ∷ 0x13 ∷ 0x62 ∷ []),
+      storing (codes "ax"),
+      refl,
+      (None, refl, (refl, refl)),
+      (λ asks. tt),
+      (of_x (0x61 ∷ 0x13 ∷ 0x62 ∷ 0x1a ∷ []), storing (codes "ax"), refl, (None, refl, (refl, refl)), (λ asks. tt), (refl, refl)),
+    ),
+  ),
+)
+
+has_text : (of_x input).editor.content.text ≡ codes "ax"
+unfolding unicode_segmentation unicode_width digits
+has_text = refl
+
+-- the replay of what a session was fed has its text
+replays_to : RecoveryGivesBack → (store store' : StoreState) (answered : List ByteAnswer) (new : Session)
+    → FeedsAll tables (start (codes "x") 1 5) store answered new store' → RefusesNoKey answered
+    → (after_journal tables (start (codes "x") 1 5) (bytes_of answered)).editor.content.text ≡ new.editor.content.text
+replays_to law store store' answered new feeds none =
+    ap (λ (t : Edited). t.text) (law.gives_back tables (codes "x") 1 5 Auto store store' answered new feeds none).content
+
+pub its_replay_gives_the_text_back : RecoveryGivesBack → (after_journal tables (start (codes "x") 1 5) input).editor.content.text ≡ codes "ax"
+its_replay_gives_the_text_back law =
+    let fed_them : bytes_of (unpainted input) ≡ input = refl in
+    ap (λ bytes. (after_journal tables (start (codes "x") 1 5) bytes).editor.content.text) (sym fed_them)
+    ∙ replays_to law (storing []) (storing (codes "ax")) (unpainted input) (of_x input) is_fed (none_refused input)
+    ∙ has_text
+
+-- where the session refused b when memory ran out, its replay has abx
+pub a_refused_key_is_applied : RecoveryGivesBack → (after_replaying tables (start (codes "x") 1 5) (0x61 ∷ 0x62 ∷ [])).editor.content.text ≡ codes "abx"
+unfolding unicode_segmentation unicode_width digits
+a_refused_key_is_applied law = ap (λ (e : Editor). e.content.text) (law.applies_all tables (codes "x") 1 5 Auto (0x61 ∷ 0x62 ∷ []))
+
+-- recovered after a, painted, and fed b
+pub a_recovered_session_goes_on : RecoveryGivesBack → (store store' : StoreState) (b : Result Status Refused) (new : Session)
+    → FeedsAll tables (with_painting tables (after_replaying tables (start (codes "x") 1 5) (0x61 ∷ []))) store ((0x62, b) ∷ []) new store'
+    → RefusesNoKey ((0x62, b) ∷ []) → new.editor.content.text ≡ codes "abx"
+unfolding unicode_segmentation unicode_width digits
+a_recovered_session_goes_on law store store' b new feeds none =
+    let replayed = after_replaying tables (start (codes "x") 1 5) (0x61 ∷ []) in
+    let same : HasBackMidway (with_painting tables replayed) replayed =
+    has_back (with_painting tables replayed) replayed (record { lasts = refl; rest_is = refl; goes_on = refl; one = λ asked. refl }) in
+    ap (λ (t : Edited). t.text)
+    (sym (law.keeps_up tables (with_painting tables replayed) replayed store store' ((0x62, b) ∷ []) new same feeds none).parts.content)
+
+-- ---- from a journal
+
+-- a row of five columns over ab
+abbrev over_ab : Beginning
+over_ab = record { text = codes "ab"; height = 1; width = 5; base = Auto; offset = None; unsaved = false; journal = [] }
+
+abbrev replay_of : List ℕ → Session
+replay_of bytes = unpainted_at tables (record over_ab { journal = bytes })
+
+-- before any key
+settled : IsSettled (after_replaying tables (at_offset tables over_ab) over_ab.journal).editor
+settled = record { seek = refl; ask = refl; typing = refl; stored = λ h. absurd (cc h) }
+
+module _ {J : Type 0} (contents : J → Option (List ℕ)) (failures : J → ℕ) (law : JournalsGiveBack contents failures) (new : Session)
+    (store store' : StoreState) (writer writer' : Option (List ℕ)) (journal journal' : RecorderState J) where
+  abbrev Ran : Option (List ℕ) → Option (List ℕ) → Type 0
+  Ran reader reader' = RunsRecorded contents failures tables (begun tables over_ab) new store store' reader reader' writer writer' journal journal'
+
+  -- x, Save, y; then the session was killed
+  pub a_killed_session_comes_back : (reader reader' : Option (List ℕ)) (run : Ran reader reader') → HasAll contents journal []
+      → HasAll contents journal' (0x78 ∷ 0x13 ∷ 0x79 ∷ []) → RefusesNoKey run.0 → new.editor.content.text ≡ codes "xyab"
+  unfolding unicode_segmentation unicode_width digits
+  a_killed_session_comes_back reader reader' run had has none =
+      let given = law tables over_ab new store store' reader reader' writer writer' journal journal' (0x78 ∷ 0x13 ∷ 0x79 ∷ []) run had settled has none in
+      ap (λ (t : Edited). t.text) (sym given.0.content)
+
+  -- Forward: no key edited
+  pub an_unedited_text_is_the_opened_one : (reader reader' : Option (List ℕ)) (run : Ran reader reader') → HasAll contents journal []
+      → HasAll contents journal' (0x06 ∷ []) → RefusesNoKey run.0 → (new.editor.content.text ≡ codes "ab") × (new.editor.content.past ≡ []) × (new.editor.changed ≢ true)
+  unfolding unicode_segmentation unicode_width digits
+  an_unedited_text_is_the_opened_one reader reader' run had has none =
+      let given = law tables over_ab new store store' reader reader' writer writer' journal journal' (0x06 ∷ []) run had settled has none in
+      let unchanged = given.1.unchanged refl in (
+        ap (λ (t : Edited). t.text) (sym given.0.content) ∙ unchanged.0,
+        ap (λ (t : Edited). t.past) (sym given.0.content) ∙ unchanged.1,
+        λ h. absurd (let both : false ≡ true = given.1.changed h in cc both),
+      )
+
+  -- of x, Quit, Quit and z, all read at once, z was dropped
+  pub what_follows_the_end_does_not_come_back : (run : Ran (Some (0x78 ∷ 0x11 ∷ 0x11 ∷ 0x7a ∷ [])) (Some [])) → run.1 ≡ 0x7a ∷ [] → (bytes : List ℕ)
+      → HasAll contents journal [] → HasAll contents journal' bytes → RefusesNoKey run.0
+      → (new.editor.content.text ≡ codes "xab") × ((replay_of bytes).editor.content.text ≡ codes "xab")
+  unfolding unicode_segmentation unicode_width digits
+  what_follows_the_end_does_not_come_back run dropped bytes had has none =
+      let fed : bytes_of run.0 ≡ 0x78 ∷ 0x11 ∷ 0x11 ∷ [] =
+      append_cancel_right (bytes_of run.0) (0x78 ∷ 0x11 ∷ 0x11 ∷ []) (0x7a ∷ [])
+      (ap (λ xs. bytes_of run.0 ++ xs) (sym dropped) ∙ sym (append-nil (bytes_of run.0 ++ run.1)) ∙ sym run.4.reads) in
+      let is : bytes ≡ 0x78 ∷ 0x11 ∷ 0x11 ∷ [] = journal_is contents failures journal journal' [] (bytes_of run.0) bytes run.5 had has ∙ fed in
+      let text : (replay_of bytes).editor.content.text ≡ codes "xab" = ap (λ xs. (replay_of xs).editor.content.text) is in
+      let given = law tables over_ab new store store' (Some (0x78 ∷ 0x11 ∷ 0x11 ∷ 0x7a ∷ [])) (Some []) writer writer' journal journal' bytes run had settled has none in
+      (ap (λ (t : Edited). t.text) (sym given.0.content) ∙ text, text)
+
+-- while bytes wait, the law says nothing
+pub a_waiting_backlog_claims_nothing : {J : Type 0} (contents : J → Option (List ℕ)) (recorder : RecorderState J) (held : Vec ℕ) (bytes : List ℕ)
+    → recorder.backlog ≡ Waiting held → HasAll contents recorder bytes → ⊥
+a_waiting_backlog_claims_nothing contents recorder held bytes waits has = absurd (let both : Waiting held ≡ Empty = sym waits ∙ has.none_missing in cc both)

@@ -1,0 +1,18 @@
+pub mod Lasting
+pub mod Alike
+pub mod WorkKept
+pub mod AskedAlike
+pub mod ReplacingAlike
+pub mod KeysAlike
+pub mod Versions
+pub mod Deeds
+pub mod Recovered
+pub mod GivenBack
+pub mod PaintedAnew
+pub mod WholeLog
+pub mod Examples
+pub mod LawExamples
+pub mod ReplayExamples
+pub mod PasteExamples
+mod ClauseExamples
+mod LogExamples

@@ -1,0 +1,185 @@
+-- A key in replacing does the same to two editors of which the same lasts.
+use Rattle.std.proofs.Common.{◌≡◌, ℕ, Bool, true, false, List, [], ◌∷◌, ◌+◌, length, Option, Some, None, refl, ap, subst, if◌then◌else◌}
+use Rattle.std.specs.Prelude.{◌==◌, ◌&&◌, not}
+use Rattle.bx_keys.specs.declared.key.Key.{Key}
+use Rattle.bx_store.specs.declared.store.StoreFault.{StoreFault}
+use Rattle.bx_text.specs.Edits.{fits, splice}
+use Rattle.bx_ucd.specs.Data.{Data}
+use Rattle.bx_document.specs.Swapped.{behind_character, last_stop, swapped}
+use Rattle.bx_runs.specs.declared.typing.Typing.{Typing}
+use Rattle.bx_view.specs.Moves.{place_at}
+use Rattle.bx_view.specs.TextRows.{text_rows}
+use Rattle.bx_editor.specs.declared.aim.Aim.TheVariants.{Replace}
+use Rattle.bx_editor.specs.declared.matches.Landing.{Landing}
+use Rattle.bx_editor.specs.declared.message.Message.TheVariants.{TextFull}
+use Rattle.bx_editor.specs.declared.seek.Seek.TheVariants.{Off, Replacing}
+use Rattle.bx_editor.specs.Editor.{Editor, place_after, with_exchange, with_removal}
+use Rattle.bx_editor.specs.Effects.{Before}
+use Rattle.bx_editor.specs.Keys.{Answer, Letter, Shortens, GoesBack, Next, Previous, Replaces, Stays, Ends, answered_match, answered_other}
+use Rattle.bx_editor.specs.Putting.{is_paste, only_paste}
+use Rattle.bx_editor.specs.Replacing.{after_asking_other, after_ending, after_match_letter, after_other_letter, after_passing_over, after_replacing, after_replacing_all}
+use Rattle.bx_editor.specs.Replacing.{after_showing, asked_at, at_match, longest_other, match_stop, matches_on, next_match, on_from, other_typed}
+use Rattle.bx_editor.specs.Replacing.{shown_at, with_matches_replaced, with_other}
+use Rattle.bx_editor.specs.Search.{is_no_letter, kept, landed, landing_from, lengthened, sought, without_search}
+use Rattle.bx_session_laws.proofs.Lasting.{Lasting, lasting, having}
+use Rattle.bx_session.proofs.KeyKinds.{is_other}
+use Rattle.bx_session_laws.proofs.Alike.{Alike, Edits, either_alike, idle, going_on, pressed_alike, removal_alike}
+
+-- ---- matches give way
+
+exchange_alike : (d : Data) (e f : Editor) (start stop : ℕ) (new : List ℕ)
+    → Alike e (with_exchange d e start stop new) (having (lasting e) f) (with_exchange d (having (lasting e) f) start stop new)
+exchange_alike d e f start stop [] = removal_alike d e f start stop false
+exchange_alike d e f start stop (b ∷ bs) =
+    let cut = with_removal d e start stop false in
+    let after = place_after d cut (splice cut.content.text start start (b ∷ bs)) (start + length (b ∷ bs)) in
+    record {
+      lasts = refl;
+      deeds = Edits start stop [] e.place cut.place false ∷ Edits start start (b ∷ bs) cut.place after true ∷ [];
+      first = refl;
+      other = refl;
+    }
+
+matches_alike : (d : Data) (e f : Editor) (stop : ℕ) (new : List ℕ) (n : ℕ)
+    → Alike e (with_matches_replaced d e stop new n) (having (lasting e) f) (with_matches_replaced d (having (lasting e) f) stop new n)
+matches_alike d e f stop new n =
+    let out = exchange_alike d e f e.at stop new in
+    record {
+      lasts = ap (λ (l : Lasting). record l { origin = 0; count = e.count + n }) out.lasts;
+      deeds = out.deeds;
+      first = out.first;
+      other = out.other;
+    }
+
+-- ---- the next match
+
+ended_alike : (e new f new' : Editor) → Alike e new f new' → Alike e (after_ending new) f (after_ending new')
+ended_alike e new f new' h = record {
+  lasts = ap (λ (l : Lasting). record l { seek = Off }) h.lasts;
+  deeds = h.deeds;
+  first = h.first;
+  other = h.other;
+}
+
+at_alike : (d : Data) (at : Option ℕ) (e new f new' : Editor) → Alike e new f new' → Alike e (at_match d new at) f (at_match d new' at)
+at_alike d None e new f new' h = ended_alike e new f new' h
+at_alike d (Some at) e new f new' h = record {
+  lasts = ap (λ (l : Lasting). record l { seek = Replacing; at = at; place = place_at (text_rows d l.base l.width l.content.text) at }) h.lasts;
+  deeds = h.deeds;
+  first = h.first;
+  other = h.other;
+}
+
+on_alike : (d : Data) (z : ℕ) (e new f new' : Editor) → Alike e new f new' → Alike e (on_from d z new) f (on_from d z new')
+on_alike d z e new f new' h =
+    subst (λ (at : Option ℕ). Alike e (at_match d new (next_match d new z)) f (at_match d new' at))
+    (ap (λ (l : Lasting). next_match d (having l e) z) h.lasts)
+    (at_alike d (next_match d new z) e new f new' h)
+
+same : (e f : Editor) → Alike e e (having (lasting e) f) (having (lasting e) f)
+same e f = idle e e (having (lasting e) f) (having (lasting e) f) refl refl refl
+
+abbrev full : Editor → Editor
+full e = record e { message = Some TextFull }
+
+full_alike : (e f : Editor) → Alike e (full e) (having (lasting e) f) (full (having (lasting e) f))
+full_alike e f = idle e (full e) (having (lasting e) f) (full (having (lasting e) f)) refl refl refl
+
+-- ---- one match, or all that follow
+
+replacing_alike : (d : Data) (e f : Editor) → Alike e (after_replacing d e) (having (lasting e) f) (after_replacing d (having (lasting e) f))
+replacing_alike d e f =
+    let g = having (lasting e) f in
+    let stop = match_stop d e in
+    let one = with_matches_replaced d e stop e.other 1 in
+    let one' = with_matches_replaced d g stop e.other 1 in
+    let z = e.at + length e.other in
+    either_alike (fits e.content.text e.at stop e.other) e (on_from d z one) (full e) g (on_from d z one') (full g)
+    (on_alike d z e one g one' (matches_alike d e f stop e.other 1)) (full_alike e f)
+
+all_alike : (d : Data) (e f : Editor) → Alike e (after_replacing_all d e) (having (lasting e) f) (after_replacing_all d (having (lasting e) f))
+all_alike d e f =
+    let g = having (lasting e) f in
+    let spans = matches_on d e in
+    let stop = last_stop e.at spans in
+    let new = swapped e.at e.content.text e.other spans in
+    let all = with_matches_replaced d e stop new (length spans) in
+    let all' = with_matches_replaced d g stop new (length spans) in
+    either_alike (fits e.content.text e.at stop new) e (after_ending all) (full e) g (after_ending all') (full g)
+    (ended_alike e all g all' (matches_alike d e f stop new (length spans))) (full_alike e f)
+
+passing_alike : (d : Data) (e f : Editor) → Alike e (after_passing_over d e) (having (lasting e) f) (after_passing_over d (having (lasting e) f))
+passing_alike d e f =
+    let g = having (lasting e) f in on_alike d (behind_character e.content.text e.at) e e g g (same e f)
+
+-- ---- the question for the other text
+
+shown_alike : (e f : Editor) (at : Option ℕ) → Alike e (shown_at e at) (having (lasting e) f) (shown_at (having (lasting e) f) at)
+shown_alike e f None = same e f
+shown_alike e f (Some at) = record { lasts = refl; deeds = []; first = refl; other = refl }
+
+asked_alike : (e f : Editor) (landing : Landing) (place : Option ℕ) → let g = having (lasting e) f in
+    Alike e (asked_at place (landed (record e { aim = Replace }) landing)) g (asked_at place (landed (record g { aim = Replace }) landing))
+asked_alike e f landing None = record { lasts = refl; deeds = []; first = refl; other = refl }
+asked_alike e f landing (Some place) = record { lasts = refl; deeds = []; first = refl; other = refl }
+
+pub asking_alike : (d : Data) (e f : Editor) → Alike e (after_asking_other d e) (having (lasting e) f) (after_asking_other d (having (lasting e) f))
+asking_alike d e f =
+    let g = having (lasting e) f in
+    let aimed : Editor = record e { aim = Replace } in
+    let aimed' : Editor = record g { aim = Replace } in
+    let landing = landing_from d e.place aimed in
+    either_alike (length (sought d aimed) == 0) e aimed (asked_at landing.place (landed aimed landing)) g aimed'
+    (asked_at landing.place (landed aimed' landing)) (idle e aimed g aimed' refl refl refl) (asked_alike e f landing landing.place)
+
+-- ---- keys
+
+-- the search that is left makes no difference
+unsought_alike : (e new f new' : Editor) → Alike (without_search e) new (without_search f) new' → Alike e new f new'
+unsought_alike e new f new' h = record { lasts = h.lasts; deeds = h.deeds; first = h.first; other = h.other }
+
+other_letter_alike : (d : Data) (typing : Typing) (e f : Editor) (c : ℕ)
+    → Alike e (after_other_letter d typing e c) (having (lasting e) f) (after_other_letter d typing (having (lasting e) f) c)
+other_letter_alike d typing e f c =
+    let g = having (lasting e) f in
+    let longer : Editor → Editor = λ x. with_other x (lengthened longest_other (kept x.seek x.other) c) in
+    either_alike (c == 0xA) e (if is_paste typing then e else after_showing d e) (other_typed d e c) g
+    (if is_paste typing then g else after_showing d g) (other_typed d g c)
+    (either_alike (is_paste typing) e e (after_showing d e) g g (after_showing d g) (same e f) (shown_alike e f (next_match d e e.place)))
+    (either_alike (is_no_letter d c) e e (longer e) g g (longer g) (same e f) (idle e (longer e) g (longer g) refl refl refl))
+
+match_letter_alike : (d : Data) (typing : Typing) (e f : Editor) (c : ℕ)
+    → Alike e (after_match_letter d typing e c) (having (lasting e) f) (after_match_letter d typing (having (lasting e) f) c)
+match_letter_alike d typing e f c =
+    let g = having (lasting e) f in
+    either_alike ((c == 0xA) && not (is_paste typing)) e (after_replacing d e) e g (after_replacing d g) g (replacing_alike d e f) (same e f)
+
+pub other_alike : (d : Data) (fault : Option StoreFault) (was was' : Before) (e f : Editor) (key : Key) (answer : Answer) → is_other key ≡ true
+    → Alike e (answered_other d fault was e key answer) (having (lasting e) f)
+    (answered_other d None (record was' { typing = was.typing }) (having (lasting e) f) key answer)
+other_alike d fault was was' e f key (Letter c) other =
+    let g = having (lasting e) f in
+    going_on (only_paste was.typing) e (after_other_letter d was.typing e c) g (after_other_letter d was.typing g c) (other_letter_alike d was.typing e f c)
+other_alike d fault was was' e f key Shortens other = record { lasts = refl; deeds = []; first = refl; other = refl }
+other_alike d fault was was' e f key GoesBack other = record { lasts = refl; deeds = []; first = refl; other = refl }
+other_alike d fault was was' e f key Next other = record { lasts = refl; deeds = []; first = refl; other = refl }
+other_alike d fault was was' e f key Previous other = record { lasts = refl; deeds = []; first = refl; other = refl }
+other_alike d fault was was' e f key Replaces other = shown_alike e f (next_match d e e.place)
+other_alike d fault was was' e f key Stays other = record { lasts = refl; deeds = []; first = refl; other = refl }
+other_alike d fault was was' e f key Ends other =
+    unsought_alike e _ (having (lasting e) f) _ (pressed_alike d fault was was' (without_search e) f key other)
+
+pub match_alike : (d : Data) (fault : Option StoreFault) (was was' : Before) (e f : Editor) (key : Key) (answer : Answer) → is_other key ≡ true
+    → Alike e (answered_match d fault was e key answer) (having (lasting e) f)
+    (answered_match d None (record was' { typing = was.typing }) (having (lasting e) f) key answer)
+match_alike d fault was was' e f key (Letter c) other =
+    let g = having (lasting e) f in
+    going_on (only_paste was.typing) e (after_match_letter d was.typing e c) g (after_match_letter d was.typing g c) (match_letter_alike d was.typing e f c)
+match_alike d fault was was' e f key Shortens other = same e f
+match_alike d fault was was' e f key GoesBack other = ended_alike e e (having (lasting e) f) (having (lasting e) f) (same e f)
+match_alike d fault was was' e f key Next other = passing_alike d e f
+match_alike d fault was was' e f key Previous other = record { lasts = refl; deeds = []; first = refl; other = refl }
+match_alike d fault was was' e f key Replaces other = all_alike d e f
+match_alike d fault was was' e f key Stays other = record { lasts = refl; deeds = []; first = refl; other = refl }
+match_alike d fault was was' e f key Ends other =
+    unsought_alike e _ (having (lasting e) f) _ (pressed_alike d fault was was' (without_search e) f key other)

@@ -1,0 +1,29 @@
+-- A second painting: where none is owed, it changes nothing, so a byte that completes no key needs none. `d` is Unicode's data,
+-- `s` a session, `b` a byte; `fault` is why a Save failed, None if it succeeded.
+use Rattle.std.specs.Prelude.{◌≡◌, ℕ, false, List, Option}
+use Rattle.bx_terms.specs.declared.base.Base.{Base}
+use Rattle.bx_store.specs.declared.store.StoreFault.{StoreFault}
+use Rattle.bx_ucd.specs.Data.{Data}
+use Rattle.bx_session.specs.Session.{Session, with_painting, at_opening, after_spending, after_byte, owing_after_byte, after_told, owing_after_told, after_sending}
+use Rattle.bx_session.specs.Session.{after_going, after_replay, at_replay_end}
+use Rattle.bx_editor.specs.Editor.{HasRows}
+
+-- if no painting is owed, another painting changes nothing: it queues no byte, and the top and the picture stay
+abbrev pub StaysPainted : Data → Session → Type 0
+StaysPainted d s = s.painting_owed ≡ false → with_painting d s ≡ s
+
+-- `StaysPainted` holds at opening, and each of these calls preserves it, whether it succeeds or is refused (a refused painting is
+-- then owed).
+pub record AlwaysStaysPainted : Type 0 where
+  pub opening : (d : Data) (text : List ℕ) (height width : ℕ) (base : Base) → HasRows (at_opening d text height width base).editor
+      → StaysPainted d (at_opening d text height width base)
+  pub byte : (d : Data) (fault : Option StoreFault) (s : Session) (b : ℕ) → HasRows (after_byte d fault s b).editor → StaysPainted d s
+      → StaysPainted d (after_byte d fault s b)
+  pub refused_key : (d : Data) (s : Session) (b : ℕ) → StaysPainted d s → StaysPainted d (after_spending s b)
+  pub owing_byte : (d : Data) (fault : Option StoreFault) (s : Session) (b : ℕ) → StaysPainted d (owing_after_byte d fault s b)
+  pub told : (d : Data) (s : Session) (height width : ℕ) → HasRows (after_told d s height width).editor → StaysPainted d (after_told d s height width)
+  pub owing_told : (d : Data) (s : Session) (height width : ℕ) → StaysPainted d (owing_after_told s height width)
+  pub replay : (d : Data) (s : Session) (b : ℕ) → StaysPainted d (after_replay d s b)
+  pub replay_end : (d : Data) (s : Session) → StaysPainted d (at_replay_end s)
+  pub going : (d : Data) (s : Session) (offset : ℕ) → StaysPainted d (after_going d s offset)
+  pub sending : (d : Data) (s : Session) (count : ℕ) → StaysPainted d s → StaysPainted d (after_sending s count)

@@ -1,0 +1,3 @@
+pub mod Recovery
+pub mod Anew
+pub mod Devices

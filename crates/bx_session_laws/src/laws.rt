@@ -1,0 +1,47 @@
+//! Laws of sessions, for any input. The functions are empty: their contracts are the laws.
+
+ghost use Rattle.bx_session_laws.specs.Anew.{AlwaysStaysPainted};
+ghost use Rattle.bx_session_laws.specs.Devices.{HasWholeLog};
+ghost use Rattle.bx_session.specs.Laws.{AlwaysShowsState, HasKeysOfInput, ReplaysKeys};
+ghost use Rattle.bx_session_laws.specs.Recovery.{JournalsGiveBack, RecoveryGivesBack};
+
+use bx_session::Journal;
+
+/// If no painting is owed, the picture last painted is the picture of the session's state.
+pub fn paintings_keep_up()
+    ensures { AlwaysShowsState }
+{}
+
+/// If no painting is owed, another painting changes nothing and sends nothing. So a byte that completes no key needs none.
+pub fn painting_anew_sends_nothing()
+    ensures { AlwaysStaysPainted }
+{}
+
+/// Decoding the input byte by byte gives the keys of the input as a whole.
+pub fn keys_are_those_of_input()
+    ensures { HasKeysOfInput }
+{}
+
+/// A replay of bytes applies their keys in order. A Save stores nothing, and a Quit does not end the session.
+pub fn replays_apply_keys()
+    ensures { ReplaysKeys }
+{}
+
+/// A session's bytes, replayed over its opened text, restore text, history, runs, place, mark and its softness, held bytes,
+/// query, other text, direction, kept column, window and unfinished input, wherever it saved and even if it quit, unless it
+/// refused a key for want of memory: such a key is applied by the replay.
+pub fn recovery_gives_back()
+    ensures { RecoveryGivesBack }
+{}
+
+/// The bytes of a journal that has all of the input, replayed over the opened text, restore the session that was run with it, as
+/// [`recovery_gives_back`] says. Keys typed after the session's end do not come back. The session counts as changed wherever it
+/// did before.
+pub fn journals_give_back<J: Journal + Drop>()
+    ensures { JournalsGiveBack J.contents J.failure_count }
+{}
+
+/// The log of a device in memory has all that was done to the device, in order, unless memory ran out for it.
+pub fn devices_log_all()
+    ensures { HasWholeLog }
+{}

@@ -1,0 +1,30 @@
+use Rattle.std.proofs.Common.{◌≡◌, ◌<◌, ℕ, List, false, nat_eq, length, ap, sym, ◌∙◌, arith}
+use Rattle.std.proofs.lemmas.Bool.Decides.{nat_tests}
+use Rattle.std.proofs.lemmas.Result.{on_ok_weaker}
+use Rattle.bx_grid.specs.Terminal.{Terminal}
+use Rattle.bx_terminal.specs.Live.{terminal_of}
+use Rattle.bx_terminal.proofs.RunEnds.{ends_put, ends_nowhere}
+use Rattle.bx_terminal.proofs.live.Live.end_run.Goals as goal
+
+some : (u t : Terminal) (bytes : List ℕ) → u ≡ t → bytes ≡ u.run → false ≡ nat_eq (length bytes) 0 → 0 < length t.run
+some u t bytes e is h =
+    let len : length bytes ≡ length t.run = ap length (is ∙ ap (λ (x : Terminal). x.run) e) in
+    let test : nat_eq (length bytes) 0 ≡ false = sym h in
+    let not : 0 < length bytes = grind (arith, nat_tests) in
+    omega (arith, len, not)
+
+pub returns-in-None : goal.returns-in-None
+returns-in-None c =
+    let t = c.args.self.now in
+    c.forget.ensures ∙ sym (ends_nowhere t (sym (ap (λ (x : Terminal). x.position) c.self.view_is) ∙ c.in-None.is)
+    (some (terminal_of c.self.inside) t c.as_bytes.result.now c.self.view_is c.as_bytes.ensures.value c.if-is_empty.ensures))
+
+pub returns-in-Some-negative : goal.returns-in-Some-negative
+returns-in-Some-negative c =
+    let t = c.args.self.now in
+    on_ok_weaker c.put_run.result
+    (λ e. e ∙ sym (ends_put t (c.in-Some.row, c.in-Some.column) c.in-Some-negative.negative
+    (sym (ap (λ (x : Terminal). x.position) c.self.view_is) ∙ c.in-Some.is)
+    (sym (ap (λ (x : Terminal). x.negative) c.self.view_is) ∙ c.in-Some-negative.is)
+    (some (terminal_of c.self.inside) t c.as_bytes.result.now c.self.view_is c.as_bytes.ensures.value c.if-is_empty.ensures)))
+    c.put_run.ensures

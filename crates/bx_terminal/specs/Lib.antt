@@ -1,0 +1,9 @@
+pub mod Capped
+pub mod Live
+pub mod Screens
+pub mod Sequences
+pub mod Widths
+pub mod Printables
+pub mod Cutting
+pub mod Laws
+pub mod Uncut
