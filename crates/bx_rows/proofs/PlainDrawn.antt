@@ -27,15 +27,10 @@ singles-count : (says : Data) (w : ℕ) (body : List ℕ) (at count : ℕ) (firs
 singles-count says w body at count first s = sym (length-map first glyph_of) ∙ ap length s.shown ∙ length-map s.cs single_glyph
 
 -- the glyphs of the characters from a row's start on, at their levels and in their forms, in visual order
-abbrev pub ShowsRow : Data → ℕ → List Drawn → List ℕ → List Glyph → RowStart → List ℕ → List (Option ℕ) → Type 0
-ShowsRow says w first found two start body each =
-    (cs rest : List ℕ) → drop start.offset body ≡ encode_utf8_all cs ++ rest → map glyph_of first ≡ map single_glyph cs
-    → two ≡ map (λ j. get_or (leveled_glyphs says w cs found (char_forms says body each start.chars cs)) j blank) (visual found)
-
--- in a body and from a start that are the same
-pub same-row : (P : RowStart → List ℕ → List (Option ℕ) → Type 0) (s start : RowStart) (b body : List ℕ) (es each : List (Option ℕ))
-    → s ≡ start → b ≡ body → es ≡ each → P s b es → P start body each
-same-row P s start b body es each e f h p = subst (λ x. P x body each) e (subst (λ x. P s x each) f (subst (P s b) h p))
+abbrev pub ShowsRow : Data → ℕ → List Drawn → List ℕ → List Glyph → ℕ → ℕ → List ℕ → List (Option ℕ) → Type 0
+ShowsRow says w first found two offset number body each =
+    (cs rest : List ℕ) → drop offset body ≡ encode_utf8_all cs ++ rest → map glyph_of first ≡ map single_glyph cs
+    → two ≡ map (λ j. get_or (leveled_glyphs says w cs found (char_forms says body each number cs)) j blank) (visual found)
 
 module _ (says : Data) (w : ℕ) (body : List ℕ) (k count : ℕ) (start : RowStart) (next : Option RowStart) (us : List Unit) (u : IsUtf8 body)
     (part : IsRowPart says w body us (units_of_row says w body k) start next) (many : count ≡ most_units w body start next) where
@@ -60,7 +55,7 @@ module _ (says : Data) (w : ℕ) (body : List ℕ) (k count : ℕ) (start : RowS
   pub drawn-single : (paragraph n : ℕ) (each : List (Option ℕ)) (first : List Drawn) (two all : List Glyph) (found : List ℕ)
       → StartsRow body start → AreSingle says w body start.offset count first → length found ≡ length first
       → found ≡ row_levels says body paragraph each (units_of_row says w body k)
-      → ShowsRow says w first found two start body each
+      → ShowsRow says w first found two start.offset start.chars body each
       → n ≡ length first → all ≡ with_blanks paragraph (w - n) two
       → all ≡ draw says w body paragraph each (units_of_row says w body k) (row_levels says body paragraph each (units_of_row says w body k))
   drawn-single paragraph n each first two all found starts s count_is levels ordered length_is blanks =

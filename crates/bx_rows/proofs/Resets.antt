@@ -1,19 +1,10 @@
--- The characters before a row, and that each of its units has a level.
-use Rattle.std.proofs.Common.{◌≡◌, ℕ, suc, ◌<◌, List, [], ◌∷◌, map, length, get_or, take, drop, chars}
-use Rattle.std.proofs.Common.{Option, unwrap_or, refl, ap, ◌∙◌, arith}
+-- Each unit of a row has a level.
+use Rattle.std.proofs.Common.{◌≡◌, ℕ, suc, List, [], ◌∷◌, map, length, drop, Option, unwrap_or, refl, ap, ◌∙◌}
 use Rattle.std.proofs.lemmas.List.{length-map}
 use Rattle.bx_ucd.specs.Data.{Data}
 use Rattle.bx_cells.specs.declared.unit.Unit.{Unit}
-use Rattle.bx_rows.specs.RowLevels.{chars_before, l1, unit_levels, levels_or_before, row_chars, row_levels}
+use Rattle.bx_rows.specs.RowLevels.{l1, unit_levels, levels_or_before, row_chars, row_levels}
 use Rattle.bx_cells.specs.Units.{unit_chars}
-
-pub before_none : (body : List ℕ) (us : List Unit) → length us ≡ 0 → chars_before body us ≡ 0
-before_none body [] h = refl
-before_none body (u ∷ us) h = absurd (omega (arith, h))
-
-pub before_first : (body : List ℕ) (us : List Unit) (d : Unit) → 0 < length us → chars_before body us ≡ length (chars (take (get_or us 0 d).start body))
-before_first body [] d h = absurd (omega arith)
-before_first body (u ∷ us) d h = refl
 
 levels_or_before-length : (before : ℕ) (ls : List (Option ℕ)) → length (levels_or_before before ls) ≡ length ls
 levels_or_before-length before [] = refl

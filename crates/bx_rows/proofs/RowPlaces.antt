@@ -1,31 +1,31 @@
 -- Where the rows of a body, and their units and characters, stand in it.
-use Rattle.std.proofs.Common.{◌≡◌, ℕ, ◌+◌, ◌-◌, ◌<◌, ◌≤◌, List, [], ◌∷◌, ◌++◌, length, map, get_or, take, drop, chars, encode_utf8, All, refl, sym, subst, ap, ap₂, ◌∙◌, arith}
-use Rattle.std.specs.Prelude.{Option, slice_get, true}
+use Rattle.std.proofs.Common.{◌≡◌, ℕ, zero, suc, ◌+◌, ◌-◌, ◌<◌, ◌≤◌, List, [], ◌∷◌, ◌++◌, length, get_or, take, drop, chars, encode_utf8, refl, sym, subst, ap, ap₂, ◌∙◌, arith}
+use Rattle.std.specs.Prelude.{Option, slice_get}
 use Rattle.std.specs.List.{slice_range}
 use Rattle.std.specs.Str.{IsCharBoundary, IsUtf8}
 use Rattle.std.proofs.Math.Seq.{take-append_seam, drop-append_seam}
 use Rattle.std.proofs.lemmas.List.{drop-drop, length-drop, length-take-le}
-use Rattle.std.proofs.lemmas.List.Elements.{All-cons, All-nil, All-take}
 use Rattle.std.proofs.lemmas.Option.{slice_get-get_or}
 use Rattle.std.proofs.lemmas.Str.{IsCharBoundary-past_char, IsUtf8-between, IsUtf8-drop, length-encode}
 use Rattle.bx_ucd.specs.Data.{Data}
+use Rattle.bx_cells.specs.declared.unit.Face.{Face}
 use Rattle.bx_cells.specs.declared.unit.Unit.{Unit}
-use Rattle.bx_cells.specs.Units.{StandsIn, unit_at, unit_text, units, units_from}
+use Rattle.bx_cells.specs.Units.{StandsIn, unit_text, units}
 use Rattle.bx_joining.specs.Joining.{text_forms}
 use Rattle.bx_joining.specs.Places.{StandsAt}
 use Rattle.bx_joining.specs.declared.forms.TextAt.{TextAt}
 use Rattle.bx_rows.specs.declared.row.Row.{Row}
 use Rattle.bx_rows.specs.declared.start_search.RowStart.{RowStart}
-use Rattle.bx_rows.specs.RowStarts.{most_units, row_starts, start_of, units_of_row}
-use Rattle.bx_rows.specs.RowPicture.{face_glyphs}
+use Rattle.bx_rows.specs.RowStarts.{row_starts, start_of}
 use Rattle.bx_rows.specs.RowStarts.{StartsRow}
-use Rattle.bx_rows.specs.RowPicture.{unit_forms}
+use Rattle.bx_rows.specs.RowPicture.{face_glyphs, unit_forms, unit_glyphs}
+use Rattle.bx_rows.specs.UnitPlaces.{IsNear}
 use Rattle.bx_rows.specs.Wrapping.{wrap}
 use Rattle.bx_rows.proofs.EachRow.{found-row, part-at}
+use Rattle.bx_rows.proofs.Pieces.{piece-at}
 use Rattle.bx_rows.proofs.RowUnits.{chars-behind}
+use Rattle.bx_rows.proofs.Wraps.{no_unit}
 use Rattle.unicode_segmentation.proofs.TextLemmas.{chars-encode_utf8}
-use Rattle.unicode_segmentation.specs.Grapheme.{graphemes}
-use Rattle.unicode_segmentation.specs.Segments.{with_offsets}
 
 -- ---- rows
 
@@ -87,12 +87,25 @@ stands-in body text u stand text_is =
     text_is ∙ ap (λ n. take n (drop u.start body)) (sym (ap length text_is ∙ size)) in
     record { boundary = stand.1; here = here; before = refl }
 
--- a place of a body that was counted
-pub record IsNear (body : List ℕ) (each : List (Option ℕ)) (p : TextAt) : Type 0 where
-  pub text : p.body.text.now ≡ body
-  pub levels : p.body.each.now ≡ each
-  pub boundary : IsCharBoundary body p.offset
-  pub number : p.number ≡ length (chars (take p.offset body))
+-- the place of a row's start
+pub near-start : (says : Data) (w : ℕ) (body : List ℕ) (each : List (Option ℕ)) (starts : List RowStart) (k : ℕ) (d : RowStart) (p : TextAt)
+    → IsUtf8 body → starts ≡ row_starts says w body → k < length starts → p.body.text.now ≡ body → p.body.each.now ≡ each
+    → p.offset ≡ (get_or starts k d).offset → p.number ≡ (get_or starts k d).chars → IsNear body each p
+near-start says w body each starts k d p u e within text levels at counted =
+    let starts_row = starts-at says w body starts k d u e within in
+    record {
+      text = text;
+      levels = levels;
+      boundary = subst (IsCharBoundary body) (sym at) starts_row.boundary;
+      number = counted ∙ starts_row.chars ∙ ap (λ o. length (chars (take o body))) (sym at);
+    }
+
+-- in its own body
+pub boundary-near : (body : List ℕ) (each : List (Option ℕ)) (p : TextAt) → IsNear body each p → IsCharBoundary p.body.text.now p.offset
+boundary-near body each p near = subst (λ b. IsCharBoundary b p.offset) (sym near.text) near.boundary
+
+pub number-near : (body : List ℕ) (each : List (Option ℕ)) (p : TextAt) → IsNear body each p → p.number ≡ length (chars (take p.offset p.body.text.now))
+number-near body each p near = near.number ∙ ap (λ b. length (chars (take p.offset b))) (sym near.text)
 
 -- a place counted from another one
 pub near-moved : (body : List ℕ) (each : List (Option ℕ)) (p q : TextAt) (offset : ℕ) → IsNear body each p → IsCharBoundary body offset → q.offset ≡ offset
@@ -105,7 +118,7 @@ near-moved body each p q offset near boundary at counted text levels = record {
 }
 
 -- the glyphs of a unit, by its text and a place that was counted
-pub drawn-in : (says : Data) (w : ℕ) (body : List ℕ) (each : List (Option ℕ)) (u : Unit) (text : List ℕ) (columns level : ℕ) (p : TextAt)
+drawn-in : (says : Data) (w : ℕ) (body : List ℕ) (each : List (Option ℕ)) (u : Unit) (text : List ℕ) (columns level : ℕ) (p : TextAt)
     → IsNear body each p → p.offset ≡ u.start → text ≡ unit_text body u
     → face_glyphs says w (unit_text body u) u.face columns level (unit_forms says body each u)
     ≡ face_glyphs says w text u.face columns level (text_forms says p.body.text.now p.body.each.now p.number text)
@@ -113,6 +126,26 @@ drawn-in says w body each u text columns level p near at f =
     ap (λ t. face_glyphs says w t u.face columns level (text_forms says body each (length (chars (take u.start body))) t)) (sym f)
     ∙ ap (λ n. face_glyphs says w text u.face columns level (text_forms says body each n text)) (sym (near.number ∙ ap (λ o. length (chars (take o body))) at))
     ∙ ap₂ (λ b ls. face_glyphs says w text u.face columns level (text_forms says b ls p.number text)) (sym near.text) (sym near.levels)
+
+-- a unit that is in the list is the same whatever is read where there is none
+pub unit-within : (us : List Unit) (k : ℕ) (d e : Unit) → k < length us → get_or us k d ≡ get_or us k e
+unit-within [] k d e h = absurd (omega arith)
+unit-within (u ∷ us) zero d e h = refl
+unit-within (u ∷ us) (suc k) d e h = unit-within us k d e (omega arith)
+
+-- the glyphs of unit `k` of a row; its units and levels were read from the row as `vs` and `ls`
+pub piece-near : (says : Data) (w : ℕ) (body : List ℕ) (each : List (Option ℕ)) (us vs : List Unit) (columns levels ls : List ℕ) (k : ℕ) (f : Face)
+    (text : List ℕ) (p : TextAt) → vs ≡ us → ls ≡ levels → k < length us → length columns ≡ length us → length levels ≡ length us → IsNear body each p
+    → ((d : Unit) → p.offset ≡ (get_or us k d).start) → text ≡ unit_text body (get_or vs k no_unit) → (get_or vs k no_unit).face ≡ f
+    → get_or (unit_glyphs says w body each us columns levels) k []
+    ≡ face_glyphs says w text f (get_or columns k 0) (get_or ls k 0) (text_forms says p.body.text.now p.body.each.now p.number text)
+piece-near says w body each us vs columns levels ls k f text p same same_levels h e l near at own is =
+    let forms = text_forms says p.body.text.now p.body.each.now p.number text in
+    piece-at says w body each us columns levels k 0 0 no_unit h e l
+    ∙ drawn-in says w body each (get_or us k no_unit) text (get_or columns k 0) (get_or levels k 0) p near (at no_unit)
+    (own ∙ ap (λ xs. unit_text body (get_or xs k no_unit)) same)
+    ∙ ap (λ x. face_glyphs says w text x (get_or columns k 0) (get_or levels k 0) forms) (sym (ap (λ xs. (get_or xs k no_unit).face) same) ∙ is)
+    ∙ ap (λ xs. face_glyphs says w text f (get_or columns k 0) (get_or xs k 0) forms) (sym same_levels)
 
 pub stands-near : (body text : List ℕ) (each : List (Option ℕ)) (u : Unit) (p : TextAt) → IsNear body each p → p.offset ≡ u.start → StandsIn body u
     → text ≡ unit_text body u → StandsAt p.body.text.now text p.offset p.number

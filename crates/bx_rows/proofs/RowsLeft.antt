@@ -17,7 +17,7 @@ use Rattle.bx_cells.specs.Units.{unit_at, unit_text, units, units_from}
 use Rattle.bx_cells.proofs.Rest.{IsUnitAt, none-behind, unit-behind}
 use Rattle.bx_rows.specs.declared.row.Row.{Row}
 use Rattle.bx_rows.specs.declared.start_search.RowStart.{RowStart}
-use Rattle.bx_rows.specs.Laws.{behind, moved}
+use Rattle.bx_rows.specs.LaterRows.{behind, moved}
 use Rattle.bx_rows.specs.RowStarts.{first_offset, row_starts, start_of}
 use Rattle.bx_rows.specs.Wrapping.{columns_at, fit_count_from, is_break, is_one_blank, row_len, rows_from, up_to_break, up_to_last}
 use Rattle.bx_rows.proofs.EachRow.{found-row}

@@ -2,7 +2,6 @@
 use Rattle.std.proofs.Common.{◌≡◌, ℕ, zero, suc, ◌+◌, ◌-◌, max, ◌<◌, ◌≤◌, nat_lt, nat_le, ◌&&◌, Bool, true, false, List, [], ◌∷◌, length, get_or, drop, refl}
 use Rattle.std.proofs.Common.{sym, ap, ◌∙◌, arith}
 use Rattle.std.proofs.lemmas.List.{at_drop_more}
-use Rattle.std.proofs.Math.Seq.{drop-length}
 use Rattle.std.proofs.lemmas.Bool.{lt-ltb, le-leb}
 use Rattle.std.proofs.lemmas.Bool.Decides.{leb_tells}
 use Rattle.bx_cells.specs.declared.unit.Face.TheVariants.{Tab}
@@ -36,18 +35,11 @@ fit_full : (w c : ℕ) (us : List Unit) → w ≤ c → fit_count_from w c us �
 fit_full w c [] h = refl
 fit_full w c (u ∷ us) h = fit_step w c u us false (nat_le (c + columns_at w c u.face) w) (grind (arith, leb_tells)) refl
 
-pub fits_more : (us : List Unit) (w c i : ℕ) → i < length us → c < w → c + columns_at w c (get_or us i no_unit).face ≤ w
-    → fit_count_from w c (drop i us) ≡ 1 + fit_count_from w (c + columns_at w c (get_or us i no_unit).face) (drop (i + 1) us)
-fits_more us w c i h k m = at_drop_more (fit_count_from w c) us i no_unit h ∙ fit_cons w c (get_or us i no_unit) (drop (i + 1) us) k m ∙ omega arith
-
 pub fits_no_more : (us : List Unit) (w c i : ℕ) → i < length us → c < w → w < c + columns_at w c (get_or us i no_unit).face → fit_count_from w c (drop i us) ≡ 0
 fits_no_more us w c i h k m = at_drop_more (fit_count_from w c) us i no_unit h ∙ fit_none w c (get_or us i no_unit) (drop (i + 1) us) k m
 
 pub fits_full : (us : List Unit) (w c i : ℕ) → w ≤ c → fit_count_from w c (drop i us) ≡ 0
 fits_full us w c i h = fit_full w c (drop i us) h
-
-pub fits_all : (us : List Unit) (w c : ℕ) → fit_count_from w c (drop (length us) us) ≡ 0
-fits_all us w c = rw drop-length
 
 -- the next row, and those after it
 pub rows_turn : (p : Unit → Bool) (w i : ℕ) (us : List Unit) → 0 < length us

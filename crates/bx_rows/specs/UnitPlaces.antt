@@ -1,15 +1,12 @@
--- The places of a row's units in its body.
-use Rattle.std.specs.Prelude.{ℕ, List}
-use Rattle.bx_ucd.specs.Data.{Data}
-use Rattle.bx_ucd.specs.declared.joining.Form.{Form}
-use Rattle.bx_joining.specs.Joining.{text_forms}
-use Rattle.bx_joining.specs.Places.{StandsAt}
-use Rattle.bx_rows.specs.declared.glyphs.UnitAt.{UnitAt}
+-- A place in a body with the number of characters before it, by which the characters' levels and forms are found.
+use Rattle.std.specs.Prelude.{◌≡◌, ℕ, List, Option, chars, length, take}
+use Rattle.std.specs.Str.{IsCharBoundary}
+use Rattle.bx_joining.specs.declared.forms.TextAt.{TextAt}
 
--- the body has the text at the unit's place
-abbrev pub StandsThere : List ℕ → UnitAt → Type 0
-StandsThere text at = StandsAt at.place.body.text.now text at.place.offset at.place.number
-
--- the forms of the letters of a text at the place
-abbrev pub forms_of_unit : Data → UnitAt → List ℕ → List Form
-forms_of_unit says at text = text_forms says at.place.body.text.now at.place.body.each.now at.place.number text
+-- The place is at a character boundary of this body, whose characters have the levels `each`, and its `number` counts the
+-- characters before it. It is near the next place that is counted, which is reckoned from it.
+pub record IsNear (body : List ℕ) (each : List (Option ℕ)) (p : TextAt) : Type 0 where
+  pub text : p.body.text.now ≡ body
+  pub levels : p.body.each.now ≡ each
+  pub boundary : IsCharBoundary body p.offset
+  pub number : p.number ≡ length (chars (take p.offset body))

@@ -1,15 +1,20 @@
-//! The glyphs of a unit.
-ghost use Rattle.std.specs.Prelude.{◌≡◌, ◌++◌, ◌∷◌, [], All, IfOk, OnOk, map, replicate, false, true};
+//! The glyphs of a unit by its face and level, and the blanks of a row.
+ghost use Rattle.std.specs.Prelude.{◌≡◌, ◌<◌, ◌++◌, ◌∷◌, [], All, IfOk, OnOk, length, map, replicate, slice_index_or, false, true};
 ghost use Rattle.std.specs.List.{range_with_len};
 ghost use Rattle.std.specs.Cow.{cow_str_bytes};
 ghost use Rattle.bx_terms.specs.Characters.{are_ascii_printable, is_ascii_printable};
 ghost use Rattle.bx_terms.specs.Glyphs.{is_one_glyph, run_width};
-ghost use Rattle.bx_rows.specs.RowPicture.{blank, face_glyphs, glyph, is_own, letter_glyphs, mirror_image_within, shown_text, text_glyphs, with_blanks};
-ghost use Rattle.bx_rows.specs.UnitPlaces.{StandsThere, forms_of_unit};
-ghost use Rattle.bx_rows.specs.Shown.{HasLetter, glyph_of};
+ghost use Rattle.bx_cells.specs.declared.unit.Unit.{Unit};
+ghost use Rattle.bx_joining.specs.Joining.{text_forms};
+ghost use Rattle.bx_joining.specs.Places.{StandsAt};
+ghost use Rattle.bx_rows.specs.RowPicture.{blank, glyph, is_own, letter_glyphs, mirror_image_within, shown_text, text_glyphs, unit_glyphs, with_blanks};
+ghost use Rattle.bx_rows.specs.UnitPlaces.{IsNear};
+ghost use Rattle.bx_rows.specs.Shown.{glyph_of};
 
 use crate::drawn::{Drawn, RowPicture};
-use crate::joined_text::{OwnSize, joined};
+use crate::joined_text::joined;
+use crate::laid_row::LaidRow;
+use crate::lines::Lines;
 use crate::mirrors::{has_mirror, mirrored};
 use bx_cells::Face;
 use bx_joining::{TextAt, has_forms};
@@ -22,7 +27,7 @@ use std::borrow::CowStr;
 const LETTERS: &str =
     " !\"#$%&'()*+,-./0123456789:;<=>?@ABCDEFGHIJKLMNOPQRSTUVWXYZ[\\]^_`abcdefghijklmnopqrstuvwxyz{|}~";
 
-/// The text of one letter.
+/// The text of one character of `letters`, which are those from SPACE to TILDE.
 fn letter_of<'a>(letters: &'a str, byte: u8) -> &'a str
     requires letters { letters.now ≡ range_with_len 32 95 }
     requires byte { is_ascii_printable byte ≡ true }
@@ -53,7 +58,7 @@ fn push_letter<'a>(glyphs: &mut Vec<Drawn<'a>>, byte: u8, negative: bool) -> Res
     Ok(())
 }
 
-/// Appends blanks.
+/// Appends `count` blanks of one column.
 fn push_blanks<'a>(glyphs: &mut Vec<Drawn<'a>>, count: u16) -> Result<(), AllocError>
     ensures { OnOk result (map glyph_of glyphs.new.items ≡ map glyph_of glyphs.old.items ++ replicate count blank) }
 {
@@ -147,85 +152,78 @@ pub(crate) fn is_own(face: Face, n: u16) -> bool
     }
 }
 
-/// A text mirrored, or itself where its mirror image is not shown as itself in as many columns.
+/// A text mirrored, or itself where its mirror image is not shown as itself in `columns` columns, those of the text.
 fn mirrored_or_own<'a, D: BidiData>(
     alloc: Global,
     text: &'a str,
-    size: OwnSize,
-    tables: &D,
+    columns: u16,
+    lines: &Lines<'_, '_, D>,
 ) -> Result<CowStr<'a, Global>, AllocError>
-    ensures { IfOk result (λ t. cow_str_bytes t ≡ mirror_image_within (D.data tables.now) size.w size.columns text.entry.now) }
+    ensures { IfOk result (λ t. cow_str_bytes t ≡ mirror_image_within (D.data lines.now.tables.now) lines.now.w columns text.entry.now) }
 {
-    if !has_mirror(text, tables) {
+    if !has_mirror(text, lines.tables) {
         return Ok(CowStr::Borrowed(text));
     }
-    match mirrored(alloc, text, size.columns, tables, size.w)? {
+    match mirrored(alloc, text, columns, lines.tables, lines.w)? {
         Some(other) => Ok(other),
         None => Ok(CowStr::Borrowed(text)),
     }
 }
 
-/// The text shown at a level: mirrored and then joined if the level is odd.
+/// The text shown at a level: mirrored and then joined if the level is odd. `at`: where the text stands in its body; `columns`:
+/// those of its face, which what is shown takes too.
 fn shown_text<'a, D: BidiData>(
     alloc: Global,
     text: &'a str,
-    at: UnitAt<'_, '_>,
-    size: OwnSize,
-    tables: &D,
+    at: TextAt<'_, '_>,
+    level: u8,
+    columns: u16,
+    lines: &Lines<'_, '_, D>,
 ) -> Result<CowStr<'a, Global>, AllocError>
-    requires { StandsThere text.now at }
-    ensures { IfOk result (λ t. cow_str_bytes t ≡ shown_text (D.data tables.now) size.w size.columns at.entry.level (forms_of_unit (D.data tables.now) at.entry text.entry.now) text.entry.now) }
+    requires { StandsAt at.body.text.now text.now at.offset at.number }
+    ensures { IfOk result (λ t. cow_str_bytes t ≡ shown_text (D.data lines.now.tables.now) lines.now.w columns level
+        (text_forms (D.data lines.now.tables.now) at.entry.body.text.now at.entry.body.each.now at.entry.number text.entry.now) text.entry.now) }
 {
-    if at.level % 2 == 0 {
+    if level % 2 == 0 {
         return Ok(CowStr::Borrowed(text));
     }
-    let mirrored = mirrored_or_own(alloc, text, size, tables)?;
+    let mirrored = mirrored_or_own(alloc, text, columns, lines)?;
     let shown = mirrored.as_str();
-    if !has_forms(text, tables) {
+    if !has_forms(text, lines.tables) {
         return Ok(mirrored);
     }
-    match joined(alloc, text, shown, at.place, tables, size)? {
+    match joined(alloc, text, shown, at, columns, lines)? {
         Some(other) => Ok(CowStr::Owned(other)),
         None => Ok(mirrored),
     }
 }
 
-/// The place of a unit in its body, and its level.
-#[derive(Clone, Copy)]
-pub(crate) struct UnitAt<'t, 'e> {
-    pub(crate) place: TextAt<'t, 'e>,
-    pub(crate) level: u8,
-}
-
-/// The face of a unit, its columns, and its position.
-#[derive(Clone, Copy)]
-pub(crate) struct LeveledFace<'t, 'e> {
-    pub(crate) face: Face,
-    pub(crate) columns: u16,
-    pub(crate) at: UnitAt<'t, 'e>,
-}
-
-/// Appends the glyphs of a unit of this text.
-pub(crate) fn push_face<'a, D: BidiData>(
+/// Appends the glyphs of unit `number` of a row, from 0, which stands at `at` in the body. `columns`: those of each unit.
+pub(crate) fn push_unit<'a, D: BidiData>(
     glyphs: &mut Vec<Drawn<'a>>,
     alloc: Global,
-    text: &'a str,
-    unit: LeveledFace<'_, '_>,
-    tables: &D,
-    w: u16,
+    row: &LaidRow<'a, '_, D>,
+    columns: &[u16],
+    number: usize,
+    at: TextAt<'_, '_>,
 ) -> Result<(), AllocError>
-    requires letter { HasLetter unit.face }
-    requires stands { StandsThere text.now unit.at }
+    requires number { number < length row.now.units.items }
+    requires columns { length columns.now ≡ length row.now.units.items }
+    requires near { IsNear row.now.lines.body.now row.now.lines.levels.now.each.items at }
+    requires at { (d : Unit) → at.offset ≡ (slice_index_or row.now.units.items number d).start }
     ensures { OnOk result (map glyph_of glyphs.new.items ≡ map glyph_of glyphs.old.items
-        ++ face_glyphs (D.data tables.now) w text.entry.now unit.entry.face unit.entry.columns unit.entry.at.level
-        (forms_of_unit (D.data tables.now) unit.entry.at text.entry.now)) }
+        ++ slice_index_or (unit_glyphs (D.data row.now.lines.tables.now) row.now.lines.w row.now.lines.body.now
+        row.now.lines.levels.now.each.items row.now.units.items columns.now row.now.levels.items) number []) }
 {
+    let units = row.units.as_slice();
+    let levels = row.levels.as_slice();
+    let unit = units[number];
     match unit.face {
-        Face::Tab => push_blanks(glyphs, unit.columns),
+        Face::Tab => push_blanks(glyphs, columns[number]),
         Face::Mark(byte) => push_letter(glyphs, byte, true),
         Face::Own(own) => {
-            let size = OwnSize { columns: own, w };
-            let shown = shown_text(alloc, text, unit.at, size, tables)?;
+            let text = &row.lines.body[unit.start..unit.stop];
+            let shown = shown_text(alloc, text, at, levels[number], own, &row.lines)?;
             push_text(glyphs, shown, own)
         }
     }

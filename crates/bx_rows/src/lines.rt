@@ -1,25 +1,29 @@
-//! A body's rows, read by their numbers.
-ghost use Rattle.std.specs.Prelude.{◌≡◌, ⊤, IsUtf8, chars};
+//! A body's rows, read by their numbers: units, levels and pictures of a row are calls of `Lines`.
+ghost use Rattle.std.specs.Prelude.{◌≡◌, ◌<◌, ⊤, IsUtf8, chars, length, slice_index_or};
 ghost use Rattle.bx_resolve.specs.Levels.{levels_under, paragraph_level_under};
+ghost use Rattle.bx_rows.specs.declared.start_search.RowStart.{RowStart};
 ghost use Rattle.bx_rows.specs.RowStarts.{row_starts};
 ghost use Rattle.std.proofs.Props.{props};
 
-use crate::row_at::RowAt;
 use crate::start_search::RowStart;
-use bx_joining::LeveledBody;
+use bx_joining::{LeveledBody, TextAt};
 use bx_resolve::Levels;
 use bx_terms::Base;
 use bx_ucd::BidiData;
 use std::alloc::AllocError;
 
-/// A paragraph's body with its row starts in a window of `w` columns, its levels under a base direction, and the tables
-/// that both are computed from. It borrows them, so making one for a single row costs nothing.
+/// A paragraph's body with its rows and levels, lent, so that making one for a single row costs nothing.
 pub struct Lines<'a, 't, D: BidiData> {
     pub body: &'a str,
+    /// The start of each row in a window of `w` columns.
     pub starts: &'a [RowStart],
+    /// The paragraph level and the levels of the characters, before L1.
     pub levels: &'a Levels,
+    /// The tables that rows and levels are computed from.
     pub tables: &'t D,
+    /// The base direction that the levels are resolved under.
     pub base: Base,
+    /// The window's columns.
     pub w: u16,
     pub ghost utf8: { IsUtf8 body.now } by { Prim.hlevel props },
     pub ghost rows: { starts.now ≡ row_starts (D.data tables.now) w body.now },
@@ -40,18 +44,28 @@ impl<'a, 't, D: BidiData> Clone for Lines<'a, 't, D> {
 }
 
 impl<'a, 't, D: BidiData> Lines<'a, 't, D> {
-    /// A row in the body, by its start.
-    pub(crate) fn row_at(&self, start: RowStart) -> RowAt<'a, 'a>
-        ensures start { result.start ≡ start }
+    /// The start of row `number`, from 0.
+    pub(crate) fn start(&self, number: usize) -> RowStart
+        requires { number < length self.now.starts.now }
+        ensures { (d : RowStart) → result ≡ slice_index_or self.now.starts.now number d }
+    {
+        self.starts[number]
+    }
+
+    /// Where a row starts in the body, with the levels of the body's characters.
+    pub(crate) fn place(&self, start: RowStart) -> TextAt<'a, 'a>
+        ensures offset { result.offset ≡ start.offset }
+        ensures number { result.number ≡ start.chars }
         ensures text { result.body.text.now ≡ self.now.body.now }
         ensures each { result.body.each.now ≡ self.now.levels.now.each.items }
     {
-        RowAt {
+        TextAt {
             body: LeveledBody {
                 text: self.body,
                 each: self.levels.each.as_slice(),
             },
-            start,
+            offset: start.offset,
+            number: start.chars,
         }
     }
 }

@@ -1,4 +1,4 @@
-//! The levels and the picture of one row.
+//! The levels and the picture of one row, by its number in the body.
 ghost use Rattle.std.specs.Prelude.{◌≡◌, ◌<◌, All, IfOk, length, map, sum_by, true};
 ghost use Rattle.std.specs.Cow.{cow_str_bytes};
 ghost use Rattle.bx_terms.specs.Glyphs.{is_one_glyph, run_width};
@@ -7,8 +7,8 @@ ghost use Rattle.bx_rows.specs.Lines.{glyphs_at, levels_of, own_glyphs_at, units
 ghost use Rattle.bx_rows.specs.Shown.{glyph_of};
 
 use crate::drawn::RowPicture;
+use crate::laid_row::LaidRow;
 use crate::lines::Lines;
-use crate::picture::{LeveledRow, draw, draw_units};
 use crate::unit_levels::each_level;
 use bx_cells::Unit;
 use bx_terms::OutOfMemory;
@@ -16,7 +16,7 @@ use bx_ucd::BidiData;
 use std::alloc::Global;
 
 impl<'a, 't, D: BidiData> Lines<'a, 't, D> {
-    /// The levels of the units of row `number`, from 0, by L1.
+    /// The levels of the units of row `number`, from 0, by L1. `units`: the row's, as `units` returns them.
     #[tactic(auto, using(crate::proofs::Resets::one_each))]
     pub fn levels(
         &self,
@@ -35,6 +35,22 @@ impl<'a, 't, D: BidiData> Lines<'a, 't, D> {
         Ok(found)
     }
 
+    /// Row `number`, from 0, laid out. Reads no other row.
+    pub fn row(&self, alloc: Global, number: usize) -> Result<LaidRow<'a, 't, D>, OutOfMemory>
+        requires { number < length self.now.starts.now }
+        ensures lines { IfOk result (λ r. r.lines ≡ self.now) }
+        ensures number { IfOk result (λ r. r.number ≡ number) }
+    {
+        let units = self.units(alloc, number)?;
+        let levels = self.levels(alloc, number, &units)?;
+        Ok(LaidRow {
+            lines: *self,
+            number,
+            units,
+            levels,
+        })
+    }
+
     /// The glyphs of row `number`, from 0, from left to right, blanks included. Reads no other row.
     pub fn picture(&self, alloc: Global, number: usize) -> Result<RowPicture<'a>, OutOfMemory>
         requires { number < length self.now.starts.now }
@@ -46,16 +62,8 @@ impl<'a, 't, D: BidiData> Lines<'a, 't, D> {
         if let Some(found) = self.plain_picture(alloc, number)? {
             return Ok(found);
         }
-        let units = self.units(alloc, number)?;
-        let each = self.levels(alloc, number, &units)?;
-        let row = LeveledRow {
-            units: &units,
-            levels: &each,
-            paragraph: self.levels.paragraph,
-            each: self.levels.each.as_slice(),
-            start: self.starts[number],
-        };
-        draw(alloc, self.body, &row, self.tables, self.w)
+        let row = self.row(alloc, number)?;
+        row.picture(alloc)
     }
 
     /// The glyphs of the units of row `number`, from 0, from left to right, without the row's blanks. Reads no other row.
@@ -65,15 +73,7 @@ impl<'a, 't, D: BidiData> Lines<'a, 't, D> {
         ensures glyphs { IfOk result (λ p. All (λ g. is_one_glyph (cow_str_bytes g.text) ≡ true) p.glyphs.items) }
         ensures widths { IfOk result (λ p. All (λ g. run_width (cow_str_bytes g.text) ≡ g.columns) p.glyphs.items) }
     {
-        let units = self.units(alloc, number)?;
-        let each = self.levels(alloc, number, &units)?;
-        let row = LeveledRow {
-            units: &units,
-            levels: &each,
-            paragraph: self.levels.paragraph,
-            each: self.levels.each.as_slice(),
-            start: self.starts[number],
-        };
-        draw_units(alloc, self.body, &row, self.tables, self.w)
+        let row = self.row(alloc, number)?;
+        row.own_glyphs(alloc)
     }
 }

@@ -1,11 +1,11 @@
-//! The picture of a row in which each unit is one character of one column.
+//! The picture of a plain row, in which each unit is one character of one column: the fast way of most rows.
 ghost use Rattle.std.specs.Prelude.{◌≡◌, ◌≤◌, ◌<◌, ◌-◌, ◌++◌, All, IfOk, IfSome, List, OnOk, ℕ, drop, encode_utf8_all, length, map, slice_index_or, sum_by, true};
 ghost use Rattle.std.specs.Cow.{cow_str_bytes};
 ghost use Rattle.bx_terms.specs.Glyphs.{is_one_glyph, run_width};
-ghost use Rattle.bx_rows.specs.RowStarts.{StartsRow};
 ghost use Rattle.bx_rows.specs.Lines.{glyphs_at};
 ghost use Rattle.bx_rows.specs.PlainRows.{char_forms, leveled_glyphs, single_glyph};
 ghost use Rattle.bx_rows.specs.RowPicture.{blank};
+ghost use Rattle.bx_rows.specs.RowStarts.{StartsRow};
 ghost use Rattle.bx_rows.specs.Shown.{glyph_of};
 ghost use Rattle.bx_rows.specs.VisualOrder.{visual};
 
@@ -14,57 +14,55 @@ use crate::glyphs::with_blanks;
 use crate::joined_text::join_odd;
 use crate::lines::Lines;
 use crate::mirrors::mirror_odd;
-use crate::plain_row::PlainRow;
-use crate::row_at::RowAt;
 use crate::row_part::{most_units, start_of};
+use crate::start_search::RowStart;
 use crate::visual_order::reorder;
 use bx_terms::OutOfMemory;
 use bx_ucd::BidiData;
 use std::alloc::{AllocError, Global};
 
-/// Mirrors and joins the glyphs at odd levels, each of a single letter of the row.
+/// Mirrors and joins the glyphs at odd levels, each of a single letter of the row that starts at `start`.
 fn show_levels<D: BidiData>(
     glyphs: &mut [Drawn<'_>],
     alloc: Global,
     levels: &[u8],
-    row: RowAt<'_, '_>,
-    tables: &D,
-    w: u16,
+    start: RowStart,
+    lines: &Lines<'_, '_, D>,
 ) -> Result<(), AllocError>
     requires count { length glyphs.old ≡ length levels.now }
-    requires starts { StartsRow row.body.text.now row.start }
+    requires start { StartsRow lines.now.body.now start }
     ensures count { length glyphs.new ≡ length glyphs.old }
-    ensures shown { (cs rest : List ℕ) → drop row.entry.start.offset row.entry.body.text.now ≡ encode_utf8_all cs ++ rest
+    ensures shown { (cs rest : List ℕ) → drop start.offset lines.now.body.now ≡ encode_utf8_all cs ++ rest
         → map glyph_of glyphs.old ≡ map single_glyph cs → OnOk result (map glyph_of glyphs.new
-        ≡ leveled_glyphs (D.data tables.now) w cs levels.now
-        (char_forms (D.data tables.now) row.entry.body.text.now row.entry.body.each.now row.entry.start.chars cs)) }
+        ≡ leveled_glyphs (D.data lines.now.tables.now) lines.now.w cs levels.now
+        (char_forms (D.data lines.now.tables.now) lines.now.body.now lines.now.levels.now.each.items start.chars cs)) }
 {
-    if !mirror_odd(glyphs, alloc, levels, tables, w)? {
+    if !mirror_odd(glyphs, alloc, levels, lines.tables, lines.w)? {
         return Ok(());
     }
-    join_odd(glyphs, alloc, levels, row, tables, w)
+    join_odd(glyphs, alloc, levels, start, lines)
 }
 
-/// The glyphs of a plain row in visual order, mirrored and joined at odd levels.
+/// The glyphs of the plain row that starts at `start` in visual order, mirrored and joined at odd levels.
 fn arranged<'a, D: BidiData>(
     alloc: Global,
-    row: PlainRow<'a>,
-    at: RowAt<'_, '_>,
-    tables: &D,
-    w: u16,
+    glyphs: Vec<Drawn<'a>>,
+    levels: &[u8],
+    start: RowStart,
+    lines: &Lines<'_, '_, D>,
 ) -> Result<Vec<Drawn<'a>>, AllocError>
-    requires levels { length row.levels.items ≡ length row.glyphs.items }
-    requires starts { StartsRow at.body.text.now at.start }
-    ensures count { IfOk result (λ v. length v.items ≡ length row.entry.glyphs.items) }
-    ensures order { (cs rest : List ℕ) → drop at.entry.start.offset at.entry.body.text.now ≡ encode_utf8_all cs ++ rest
-        → map glyph_of row.entry.glyphs.items ≡ map single_glyph cs → IfOk result (λ v. map glyph_of v.items
-        ≡ map (λ k. slice_index_or (leveled_glyphs (D.data tables.now) w cs row.entry.levels.items
-        (char_forms (D.data tables.now) at.entry.body.text.now at.entry.body.each.now at.entry.start.chars cs)) k blank)
-        (visual row.entry.levels.items)) }
+    requires levels { length levels.now ≡ length glyphs.items }
+    requires start { StartsRow lines.now.body.now start }
+    ensures count { IfOk result (λ v. length v.items ≡ length glyphs.entry.items) }
+    ensures order { (cs rest : List ℕ) → drop start.offset lines.now.body.now ≡ encode_utf8_all cs ++ rest
+        → map glyph_of glyphs.entry.items ≡ map single_glyph cs → IfOk result (λ v. map glyph_of v.items
+        ≡ map (λ k. slice_index_or (leveled_glyphs (D.data lines.now.tables.now) lines.now.w cs levels.now
+        (char_forms (D.data lines.now.tables.now) lines.now.body.now lines.now.levels.now.each.items start.chars cs)) k blank)
+        (visual levels.now)) }
 {
-    let PlainRow { mut glyphs, levels } = row;
-    show_levels(&mut glyphs, alloc, &levels, at, tables, w)?;
-    reorder(&mut glyphs, &levels);
+    let mut glyphs = glyphs;
+    show_levels(&mut glyphs, alloc, levels, start, lines)?;
+    reorder(&mut glyphs, levels);
     Ok(glyphs)
 }
 
@@ -77,7 +75,7 @@ fn columns_left(w: u16, count: usize) -> u16
 }
 
 impl<'a, 't, D: BidiData> Lines<'a, 't, D> {
-    /// The picture of row `number`, from 0, if each of its units is one character of one column. Other rows give none.
+    /// The picture of row `number`, from 0, if each of its units is one character of one column; None for other rows.
     pub(crate) fn plain_picture(
         &self,
         alloc: Global,
@@ -92,10 +90,10 @@ impl<'a, 't, D: BidiData> Lines<'a, 't, D> {
         let w = self.w;
         let start = self.starts[number];
         let count = most_units(start, start_of(self.starts, number + 1), self.body, w);
-        let Some(row) = self.plain_row(alloc, start, count)? else {
+        let Some((found, levels)) = self.plain_row(alloc, start, count)? else {
             return Ok(None);
         };
-        let glyphs = arranged(alloc, row, self.row_at(start), self.tables, w)?;
+        let glyphs = arranged(alloc, found, &levels, start, self)?;
         let blanks = columns_left(w, glyphs.len());
         let glyphs = with_blanks(alloc, glyphs, blanks, self.levels.paragraph)?;
         Ok(Some(RowPicture { glyphs }))

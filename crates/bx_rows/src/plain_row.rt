@@ -1,4 +1,5 @@
-//! The units and levels of a plain row, in which each unit is one character of one column, read in one pass.
+//! The units and levels of a plain row, in which each unit is one character of one column, read in one pass. `found` and
+//! `waiting` are as in `level_read.rt`.
 ghost use Rattle.std.specs.Prelude.{◌≡◌, ◌≤◌, ◌<◌, ◌++◌, ◌∷◌, [], IfOk, IfSome, List, MatchOption, encode_utf8, length, take, true, false};
 ghost use Rattle.std.specs.Str.{IsCharBoundary};
 ghost use Rattle.bx_cells.specs.declared.unit.Face.TheVariants.{Own};
@@ -24,15 +25,9 @@ use bx_ucd::{BidiData, Class};
 use std::alloc::{AllocError, Global};
 use std::borrow::CowStr;
 
-/// The number of units to allocate room for at first.
+/// The number of units to allocate room for at first: most rows have fewer. The last row's `count` is the body's length, which
+/// may be far more than its units.
 const FIRST_ROOM: usize = 256;
-
-/// The glyphs of a row's units in text order, not mirrored yet, and the units' levels.
-#[derive(Drop)]
-pub(crate) struct PlainRow<'a> {
-    pub(crate) glyphs: Vec<Drawn<'a>>,
-    pub(crate) levels: Vec<u8>,
-}
 
 /// Whether a character of a kind is a unit of one column with its own text, provided that a unit begins after it.
 #[inline(always)]
@@ -47,7 +42,8 @@ fn is_single<D: BidiData>(c: char, kind: Simple, tables: &D, w: u16) -> bool
     is_own(simple_face(c, columns, false, tables, w), 1)
 }
 
-/// Whether a common character is such a unit; false for all others.
+/// Whether a common character (`common_kind`: printable ASCII, Hebrew and most Arabic letters) is a unit of one column with
+/// its own text, like `is_single`; false for all others.
 #[inline(always)]
 pub(crate) fn is_plain<D: BidiData>(c: char, tables: &D, w: u16) -> bool
     ensures begin { result ≡ true → begins c ≡ true }
@@ -56,7 +52,8 @@ pub(crate) fn is_plain<D: BidiData>(c: char, tables: &D, w: u16) -> bool
     is_single(c, common_kind(c), tables, w)
 }
 
-/// Whether a simple character is such a unit; false for all others.
+/// Whether a simple character, one whose kind `simple_kind` knows, is a unit of one column with its own text, like
+/// `is_single`; false for all others.
 pub(crate) fn is_narrow<D: BidiData>(c: char, tables: &D, w: u16) -> bool
     ensures begin { result ≡ true → begins c ≡ true }
     ensures face { result ≡ true → simple_face (D.data tables.now) w c false ≡ Own 1 }
@@ -64,7 +61,7 @@ pub(crate) fn is_narrow<D: BidiData>(c: char, tables: &D, w: u16) -> bool
     is_single(c, simple_kind(c), tables, w)
 }
 
-/// The class of a plain character; none for any other.
+/// The class of a character that `is_plain` takes; None for any other.
 #[inline(always)]
 fn plain_class<D: BidiData>(c: char, tables: &D, w: u16) -> Option<Class>
     ensures begin { IfSome result (λ k. begins c ≡ true) }
@@ -104,7 +101,7 @@ fn is_cluster_end(text: &str) -> bool
     matches!(simple_kind(c), Simple::Begins(_))
 }
 
-/// The first character of a text, its bytes, and the text after it.
+/// The first character of a text, its bytes, and the text after it; None if the text is empty.
 #[inline(always)]
 fn first_part(text: &str) -> Option<(char, &str, &str)>
     ensures { MatchOption result (length text.now ≡ 0) (λ r.
@@ -115,21 +112,21 @@ fn first_part(text: &str) -> Option<(char, &str, &str)>
 }
 
 impl<'a, 't, D: BidiData> Lines<'a, 't, D> {
-    /// The first `count` units, or all, from a row's start on, with their levels by L1; none if a unit is not a single
-    /// character of one column, or its character has no level.
+    /// The glyphs, not mirrored yet, and the levels by L1 of the first `count` units from a row's start on, or of all if there
+    /// are fewer; None if a unit is not a single character of one column, or X9 removes its character.
     pub(crate) fn plain_row(
         &self,
         alloc: Global,
         start: RowStart,
         count: usize,
-    ) -> Result<Option<PlainRow<'a>>, AllocError>
+    ) -> Result<Option<(Vec<Drawn<'a>>, Vec<u8>)>, AllocError>
         requires { IsCharBoundary self.now.body.now start.offset }
-        ensures units { IfOk result (λ o. IfSome o (λ r. AreSingle (D.data self.now.tables.now) self.now.w self.now.body.now start.offset count r.glyphs.items)) }
-        ensures count { IfOk result (λ o. IfSome o (λ r. length r.levels.items ≡ length r.glyphs.items)) }
+        ensures units { IfOk result (λ o. IfSome o (λ r. AreSingle (D.data self.now.tables.now) self.now.w self.now.body.now start.offset count r.0.items)) }
+        ensures count { IfOk result (λ o. IfSome o (λ r. length r.1.items ≡ length r.0.items)) }
         ensures levels { IfOk result (λ o. IfSome o (λ r. (us : List Unit)
             → us ≡ take count (units_from (D.data self.now.tables.now) self.now.w self.now.body.now start.offset)
             → (0 < length us → start.chars ≡ chars_before self.now.body.now us)
-            → r.levels.items ≡ levels_of self.now us)) }
+            → r.1.items ≡ levels_of self.now us)) }
     {
         let levels = self.levels;
         let each = levels.each.as_slice();
@@ -162,9 +159,6 @@ impl<'a, 't, D: BidiData> Lines<'a, 't, D> {
             return Ok(None);
         }
         settle(&mut found, waiting, levels.paragraph);
-        Ok(Some(PlainRow {
-            glyphs,
-            levels: found,
-        }))
+        Ok(Some((glyphs, found)))
     }
 }

@@ -20,7 +20,7 @@ fn highest(levels: &[u8]) -> u8
     top
 }
 
-/// The level if it is odd, else 255.
+/// The level if it is odd, else 255, which stands for none.
 #[inline(always)]
 fn odd_or_last(level: u8) -> u8
     ensures { result ≡ unwrap_or (lower_odd level None) 255 }
@@ -31,7 +31,7 @@ fn odd_or_last(level: u8) -> u8
     level
 }
 
-/// The lowest odd level, the last at which runs are reversed; if there is none, 255, which is above all levels then.
+/// The lowest odd level, the last at which runs are reversed; 255 if there is none, since all levels are even and lower then.
 fn lowest_odd(levels: &[u8]) -> u8
     ensures { result ≡ unwrap_or (lowest_odd levels.now) 255 }
 {
@@ -69,7 +69,8 @@ fn turn_run<T>(items: &mut [T], start: usize, stop: usize)
 }
 
 /// Reverses each maximal run of items at `level` or higher. The levels stay in place: all levels of a run are at least
-/// `level`, so the runs at lower levels are the same.
+/// `level`, so the runs at lower levels are the same (`AgreeUpTo`). In the clause `us` are the units as the items stand now, each
+/// its number and its level, and `f` gives a number's item.
 fn reverse_runs<T>(items: &mut [T], levels: &[u8], level: u8)
     requires { length items.old ≡ length levels.now }
     ensures count { length items.new ≡ length items.old }
@@ -87,7 +88,8 @@ fn reverse_runs<T>(items: &mut [T], levels: &[u8], level: u8)
     turn_run(items, start, levels.len());
 }
 
-/// Moves the items of a row's units from text order into visual order, by the units' levels.
+/// Moves the items of a row's units from text order into visual order, by the units' levels. The lowest odd level is at least
+/// 1, so `level` does not pass 0.
 pub(crate) fn reorder<T>(items: &mut [T], levels: &[u8])
     requires { length items.old ≡ length levels.now }
     ensures count { length items.new ≡ length items.old }

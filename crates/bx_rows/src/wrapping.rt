@@ -1,4 +1,4 @@
-//! The columns of a face in its row, and where a row may end.
+//! The columns of a face in its row, and where a row may end: the two questions of wrapping.
 ghost use Rattle.std.specs.Prelude.{◌≡◌, ◌≤◌};
 ghost use Rattle.bx_cells.specs.Units.{StandsIn};
 ghost use Rattle.bx_rows.specs.Wrapping.{columns_at, is_blank, is_break};
@@ -6,9 +6,10 @@ ghost use Rattle.bx_rows.specs.Wrapping.{columns_at, is_blank, is_break};
 use bx_cells::{Face, Unit, only_char};
 use bx_ucd::{BidiData, Class};
 
-/// The columns of a face that begins at column `c`, counted from 0.
+/// The columns of a face that begins at column `c`, counted from 0, in a window of `w` columns. A tab goes on to the next
+/// multiple of 8, the usual tab stops of terminals, or to the edge.
 #[inline]
-pub(crate) fn columns_at(w: u16, c: u16, face: Face) -> u16
+pub fn columns_at(w: u16, c: u16, face: Face) -> u16
     requires { c ≤ w }
     ensures { result ≡ columns_at w c face }
 {
@@ -28,7 +29,7 @@ pub(crate) fn is_blank(class: Class) -> bool
 }
 
 /// Whether a row may end after a unit.
-pub(crate) fn is_break<D: BidiData>(body: &str, unit: Unit, tables: &D) -> bool
+pub fn is_break<D: BidiData>(body: &str, unit: Unit, tables: &D) -> bool
     requires { StandsIn body.now unit }
     ensures { result ≡ is_break (D.data tables.now) body.now unit }
 {

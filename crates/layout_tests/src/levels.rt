@@ -1,8 +1,8 @@
-//! Worked examples and outside values, each public call with ample memory.
+//! Worked examples (`ROWS`), values of an independent model (`VECTORS`), and each public call with ample memory.
 mod rows;
 mod vectors;
 
-use crate::words::{field_of, spelled_out, text_of, two_of};
+use crate::words::{check, field_of, spelled_out, text_of, two_of};
 use bx_resolve::{Level, levels, levels_by_rules};
 use bx_terms::Base;
 use bx_ucd::{Tables, sample_tables};
@@ -23,7 +23,7 @@ fn add_level(text: &mut String, alloc: Global, level: Option<u8>) -> Result<(), 
     Ok(())
 }
 
-/// Levels in a line's notation.
+/// Levels in a line's notation; a hyphen for no characters.
 fn shown(alloc: Global, each: &[Level]) -> Result<String, Fail> {
     let mut text = String::new(alloc);
     for level in each {
@@ -96,17 +96,6 @@ fn is_so(alloc: Global, tables: &Tables, line: &str) -> Result<bool, Fail> {
     )
 }
 
-/// Fails at the first line that does not hold. If `are_named`, the first field of a line says what it shows.
-fn check(alloc: Global, tables: &Tables, lines: &str, are_named: bool) -> Result<(), Fail> {
-    for line in lines.lines() {
-        let row = if are_named { field_of(line).1 } else { line };
-        if !is_so(alloc, tables, row)? {
-            return Err(Fail::new(line));
-        }
-    }
-    Ok(())
-}
-
 /// A character of each class but B.
 const SAMPLES: [char; 22] = [
     'a', '\u{5d0}', '\u{627}', '1', '+', '#', '\u{661}', ',', '\u{301}', '\u{1}', '\t', ' ', '!',
@@ -147,11 +136,11 @@ fn both_bodies_agree_on_three_characters(rt: HostRuntime) -> Result<(), Fail> {
 #[test]
 fn levels_of_random_texts(rt: HostRuntime) -> Result<(), Fail> {
     let tables = sample_tables(rt.alloc())?;
-    check(rt.alloc(), &tables, VECTORS, false)
+    check(VECTORS, false, |line| is_so(rt.alloc(), &tables, line))
 }
 
 #[test]
 fn worked_rows(rt: HostRuntime) -> Result<(), Fail> {
     let tables = sample_tables(rt.alloc())?;
-    check(rt.alloc(), &tables, ROWS, true)
+    check(ROWS, true, |line| is_so(rt.alloc(), &tables, line))
 }

@@ -1,14 +1,15 @@
-//! Worked rows and outside values, each public call with ample memory.
+//! Worked rows, values of an independent model (`VECTORS`), and each public call with ample memory.
 ghost use Rattle.std.specs.Prelude.{All};
 ghost use Rattle.bx_cells.specs.Units.{StandsIn};
 
 mod pictures;
 mod vectors;
 
-use crate::words::{field_of, text_of, two_of};
+use crate::words::{check, field_of, text_of, two_of};
 use bx_cells::{Face, Unit, units};
 use bx_resolve::{Levels, levels};
-use bx_rows::{Lines, Row, RowStart, has_one_row, row_levels, row_starts, visual, wrap};
+use bx_rows::{Lines, Row, RowStart, row_starts, visual};
+use bx_rows_laws::{has_one_row, row_levels, wrap};
 use bx_terms::Base;
 use bx_ucd::{Tables, sample_tables};
 use std::alloc::Global;
@@ -35,6 +36,7 @@ fn add_number(text: &mut String, alloc: Global, number: usize, is_first: bool) -
 }
 
 impl Shown {
+    /// Appends the levels of a row's units.
     fn add_levels(&mut self, alloc: Global, levels: &[u8]) -> Result<(), Fail> {
         for (i, level) in levels.iter().enumerate() {
             add_number(&mut self.levels, alloc, usize::from(*level), i == 0)?;
@@ -42,6 +44,7 @@ impl Shown {
         Ok(())
     }
 
+    /// Appends the order of a row's units.
     fn add_order(&mut self, alloc: Global, order: &[usize]) -> Result<(), Fail> {
         for (i, number) in order.iter().enumerate() {
             add_number(&mut self.orders, alloc, *number, i == 0)?;
@@ -49,6 +52,7 @@ impl Shown {
         Ok(())
     }
 
+    /// Appends a row.
     fn add_row(
         &mut self,
         alloc: Global,
@@ -126,24 +130,13 @@ fn is_so(alloc: Global, tables: &Tables, line: &str) -> Result<bool, Fail> {
     )
 }
 
-/// Fails at the first line that does not hold. If `are_named`, the first field of a line says what it shows.
-fn check(alloc: Global, tables: &Tables, lines: &str, are_named: bool) -> Result<(), Fail> {
-    for line in lines.lines() {
-        let row = if are_named { field_of(line).1 } else { line };
-        if !is_so(alloc, tables, row)? {
-            return Err(Fail::new(line));
-        }
-    }
-    Ok(())
-}
-
 #[test]
 fn rows_of_random_texts(rt: HostRuntime) -> Result<(), Fail> {
     let tables = sample_tables(rt.alloc())?;
-    check(rt.alloc(), &tables, VECTORS, false)
+    check(VECTORS, false, |line| is_so(rt.alloc(), &tables, line))
 }
 
-/// Worked rows: what each shows, and a line in the notation of the outside values.
+/// Worked rows: what each shows, and a line in the notation of `VECTORS`.
 const ROWS: &str = "\
 right to left in left to right\t0061 0020 05D0 05D1 0020 0062\tauto\t6\t0 0 1 1 0 0\t0 1 3 2 4 5\n\
 a row wraps before it is reordered, and its last blank is reset\t0061 0020 05D0 05D1 0020 05D2\tauto\t5\t0 0 1 1 0|1\t0 1 3 2 4|0\n\
@@ -159,7 +152,7 @@ a text from right to left\t0061 0020 05D0 05D1 0020 0062\trtl\t6\t2 1 1 1 1 2\t5
 #[test]
 fn worked_rows(rt: HostRuntime) -> Result<(), Fail> {
     let tables = sample_tables(rt.alloc())?;
-    check(rt.alloc(), &tables, ROWS, true)
+    check(ROWS, true, |line| is_so(rt.alloc(), &tables, line))
 }
 
 #[test]

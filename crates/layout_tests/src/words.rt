@@ -1,4 +1,4 @@
-//! Parsers for the fields of a line, which are separated by tabs.
+//! Lines of a test: the check of all, and parsers for the fields of a line, which are separated by tabs.
 
 use std::alloc::{AllocError, Global};
 use std::test::Fail;
@@ -69,6 +69,23 @@ pub(crate) fn with_tabs(alloc: Global, words: &str) -> Result<String, AllocError
         text.push(if c == '\u{2409}' { '\t' } else { c })?;
     }
     Ok(text)
+}
+
+/// Fails at the first line that does not hold. If `are_named`, the first field of a line says what it shows.
+pub(crate) fn check<F: Fn(&str) -> Result<bool, Fail>>(
+    lines: &str,
+    are_named: bool,
+    is_so: F,
+) -> Result<(), Fail>
+    requires { F.IsAlwaysCallable is_so }
+{
+    for line in lines.lines() {
+        let row = if are_named { field_of(line).1 } else { line };
+        if !is_so(row)? {
+            return Err(Fail::new(line));
+        }
+    }
+    Ok(())
 }
 
 /// Splits off the first field.

@@ -1,8 +1,9 @@
-//! Pictures of rows: `_` is a blank, `*` follows a negative glyph, `|` separates rows.
+//! Pictures of rows: `_` is a blank, `*` follows a negative glyph, a mark's letter, and `|` separates rows.
+ghost use Rattle.std.specs.Prelude.{◌<◌, length};
+
 use crate::words::{field_of, two_of, with_tabs};
-use bx_cells::units;
 use bx_resolve::levels;
-use bx_rows::{LeveledRow, Lines, RowPicture, RowStart, draw, row_levels, row_starts, wrap};
+use bx_rows::{Lines, RowPicture, row_starts};
 use bx_terms::Base;
 use bx_ucd::sample::{BRACKETS, CLASSES};
 use bx_ucd::{Tables, sample_tables};
@@ -21,49 +22,30 @@ fn add_picture(text: &mut String, picture: &RowPicture<'_>) -> Result<(), Fail> 
     Ok(())
 }
 
-/// The pictures of a body's rows, each drawn from its units.
+/// The picture of a row, drawn by its number, or from its units whatever they are.
+fn picture_of<'a>(
+    alloc: Global,
+    lines: &Lines<'a, '_, Tables>,
+    number: usize,
+    from_units: bool,
+) -> Result<RowPicture<'a>, Fail>
+    requires { number < length lines.now.starts.now }
+{
+    if from_units {
+        let row = lines.row(alloc, number)?;
+        return Ok(row.picture(alloc)?);
+    }
+    Ok(lines.picture(alloc, number)?)
+}
+
+/// The pictures of a body's rows in `w` columns; `from_units` as in `picture_of`.
 fn pictures(
     alloc: Global,
     tables: &Tables,
     body: &str,
     base: Base,
     w: u16,
-) -> Result<String, Fail> {
-    let found = units(alloc, body, tables, w)?;
-    let rows = wrap(alloc, body, &found, tables, w)?;
-    let levels = levels(alloc, body, tables, base)?;
-    let mut text = String::new(alloc);
-    for row in &rows {
-        let units = &found[row.start..row.stop];
-        let each = row_levels(alloc, body, units, &levels, tables)?;
-        let leveled = LeveledRow {
-            units,
-            levels: &each,
-            paragraph: levels.paragraph,
-            each: levels.each.as_slice(),
-            // a row's place may be counted from the body's start
-            start: RowStart {
-                offset: 0,
-                units: 0,
-                chars: 0,
-            },
-        };
-        let picture = draw(alloc, body, &leveled, tables, w)?;
-        if row.start > 0 {
-            text.push('|')?;
-        }
-        add_picture(&mut text, &picture)?;
-    }
-    Ok(text)
-}
-
-/// The picture of a body's rows, each drawn by its number.
-fn numbered_pictures(
-    alloc: Global,
-    tables: &Tables,
-    body: &str,
-    base: Base,
-    w: u16,
+    from_units: bool,
 ) -> Result<String, Fail> {
     let levels = levels(alloc, body, tables, base)?;
     let starts = row_starts(alloc, body, tables, w)?;
@@ -77,7 +59,7 @@ fn numbered_pictures(
     };
     let mut text = String::new(alloc);
     for number in 0..lines.starts.len() {
-        let picture = lines.picture(alloc, number)?;
+        let picture = picture_of(alloc, &lines, number, from_units)?;
         if number > 0 {
             text.push('|')?;
         }
@@ -86,7 +68,7 @@ fn numbered_pictures(
     Ok(text)
 }
 
-/// Whether a body's rows in `w` columns have this picture, drawn one after another and each by its number.
+/// Whether a body's rows in `w` columns have this picture, each drawn from its units and by its number.
 fn shows(
     alloc: Global,
     tables: &Tables,
@@ -96,8 +78,8 @@ fn shows(
     wanted: &str,
 ) -> Result<bool, Fail> {
     Ok(
-        pictures(alloc, tables, body, base, w)?.as_str() == wanted
-            && numbered_pictures(alloc, tables, body, base, w)?.as_str() == wanted,
+        pictures(alloc, tables, body, base, w, true)?.as_str() == wanted
+            && pictures(alloc, tables, body, base, w, false)?.as_str() == wanted,
     )
 }
 
@@ -179,15 +161,17 @@ fn in_brackets(alloc: Global, times: usize, closer: &str) -> Result<String, Allo
     Ok(text)
 }
 
-/// The picture in 140 columns of nested pairs of brackets.
+/// The picture of nested pairs of brackets in 140 columns, enough for the three letters and 64 pairs.
 fn shown_in_brackets(alloc: Global, tables: &Tables, times: usize) -> Result<String, Fail> {
     let body = in_brackets(alloc, times, ")")?;
-    pictures(alloc, tables, body.as_str(), Base::Auto, 140)
+    pictures(alloc, tables, body.as_str(), Base::Auto, 140, true)
 }
 
-/// Whether nested pairs of brackets, with the letters and the blanks, have this picture in 140 columns.
+/// Whether nested pairs of brackets, with the letters and the blanks, have this picture in 140 columns. `closer` is how a closing
+/// bracket looks: `(` where the pairs are too many to be found, so that it goes from right to left and is mirrored.
 fn brackets_show(alloc: Global, tables: &Tables, times: usize, closer: &str) -> Result<bool, Fail> {
     let mut wanted = in_brackets(alloc, times, closer)?;
+    // 140 columns without the three letters
     let blanks = 137usize.saturating_sub(times.saturating_mul(2));
     push_times(&mut wanted, "_", blanks)?;
     Ok(shown_in_brackets(alloc, tables, times)?.as_str() == wanted.as_str())
@@ -210,7 +194,7 @@ fn embeddings(alloc: Global, times: usize) -> Result<String, AllocError> {
     Ok(text)
 }
 
-/// The picture in 70 columns of `times` embeddings, each shown as a glyph, and a letter.
+/// The picture of `times` embeddings, each shown as a glyph, and a letter in 70 columns, enough for 63 of them.
 fn marks(alloc: Global, times: usize) -> Result<String, AllocError> {
     let mut text = String::new(alloc);
     push_times(&mut text, "E*", times)?;
@@ -222,7 +206,7 @@ fn marks(alloc: Global, times: usize) -> Result<String, AllocError> {
 /// Whether embeddings and a letter have that picture.
 fn embeddings_show(alloc: Global, tables: &Tables, times: usize) -> Result<bool, Fail> {
     let body = embeddings(alloc, times)?;
-    let shown = pictures(alloc, tables, body.as_str(), Base::Auto, 70)?;
+    let shown = pictures(alloc, tables, body.as_str(), Base::Auto, 70, true)?;
     Ok(shown.as_str() == marks(alloc, times)?.as_str())
 }
 

@@ -11,9 +11,10 @@ use Rattle.bx_rows.proofs.joined_text.join_odd.Given as goal
 
 abbrev pub invariant-loop-i : goal.invariant-loop-i
 invariant-loop-i g l =
-    let says = g.D.BidiData.data l.tables in
-    let start = l.fn.row.start in
-    let body = l.fn.row.body.text.now in
+    let lines = l.lines in
+    let says = g.D.BidiData.data lines.tables.now in
+    let start = l.fn.start in
+    let body = lines.body.now in
     let letters = chars (drop start.offset body) in
     record {
       text : shadow (Utf8 l.rest);
@@ -21,6 +22,6 @@ invariant-loop-i g l =
       stands : StandsAt body l.rest l.offset l.number;
       number : l.number ≡ start.chars + l.i;
       left : chars l.rest ≡ drop l.i letters;
-      same : map glyph_of l.glyphs ≡ changed (joined_glyph says l.w) (map glyph_of l.initial.glyphs)
-          (take l.i (given says body l.fn.row.body.each.now start.chars letters l.levels));
+      same : map glyph_of l.glyphs ≡ changed (joined_glyph says lines.w) (map glyph_of l.initial.glyphs)
+          (take l.i (given says body lines.levels.now.each.items start.chars letters l.levels));
     }

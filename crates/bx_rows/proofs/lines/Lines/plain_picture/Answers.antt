@@ -1,13 +1,12 @@
-use Rattle.std.proofs.Common.{List, ℕ, refl, sym, ap, subst, ◌∙◌, arith, map}
+use Rattle.std.proofs.Common.{refl, sym, length, ap, ◌∙◌, arith, map}
 use Rattle.bx_rows.specs.RowLevels.{row_levels}
 use Rattle.bx_rows.specs.RowPicture.{with_blanks}
 use Rattle.bx_rows.specs.RowStarts.{units_of_row}
 use Rattle.bx_rows.proofs.EachRow.{part-at}
 use Rattle.bx_rows.proofs.PictureLaws.{one_if_drawn, sum_if_drawn}
-use Rattle.bx_rows.proofs.PlainDrawn.{ShowsRow, drawn-single, faces, fits, if_some, same-row, single-fits, taken}
+use Rattle.bx_rows.proofs.PlainDrawn.{drawn-single, faces, fits, if_some, single-fits, taken}
 use Rattle.bx_rows.proofs.Resets.{one_each}
 use Rattle.bx_rows.proofs.RowPlaces.{starts-at}
-use Rattle.bx_rows.specs.RowStarts.{StartsRow}
 use Rattle.bx_rows.specs.Shown.{glyph_of}
 use Rattle.bx_rows.proofs.lines.Lines.plain_picture.Goals as goal
 
@@ -28,16 +27,14 @@ columns_left-blanks-requires g c =
     let part = part-at says c.args.self.now.w body c.args.self.now.starts.now c.args.number _ c.start_of.result c.args.self.now.utf8 c.args.self.now.rows c.requires
     c.start_of.ensures in
     let within = single-fits says c.args.self.now.w body c.args.number c.most_units-count.result _ c.start_of.result _ c.args.self.now.utf8 part c.most_units-count.ensures
-    c.in-Some.row.glyphs.items (if_some _ _ c.in-Some.row c.in-Some.is c.in_ok-row.ensures.units) in
+    c.in-Some.found.items (if_some _ _ _ c.in-Some.is c.in_ok-found.ensures.units) in
     let counted = c.in_ok-glyphs.ensures.count in
     omega (arith, within, counted, c.len.ensures, c.in_ok-glyphs.glyphs.ok.0)
 
-pub arranged-requires-clause-starts : goal.arranged-requires-clause-starts
-arranged-requires-clause-starts g c =
-    let starts = starts-at (g.D.BidiData.data c.args.self.now.tables.now) c.args.self.now.w c.args.self.now.body.now c.args.self.now.starts.now c.args.number _
-    c.args.self.now.utf8 c.args.self.now.rows c.requires in
-    subst (λ (b : List ℕ). StartsRow b c.row_at.result.start) (sym c.row_at.ensures.text)
-    (subst (StartsRow c.args.self.now.body.now) (sym c.row_at.ensures.start) starts)
+pub arranged-requires-clause-start : goal.arranged-requires-clause-start
+arranged-requires-clause-start g c =
+    let self = c.args.self.now in
+    starts-at (g.D.BidiData.data self.tables.now) self.w self.body.now self.starts.now c.args.number _ self.utf8 self.rows c.requires
 
 pub returns-clause-picture : goal.returns-clause-picture
 returns-clause-picture g c =
@@ -48,14 +45,13 @@ returns-clause-picture g c =
     let here = units_of_row says c.args.self.now.w body c.args.number in
     let told = taken says c.args.self.now.w body c.args.number c.most_units-count.result _ c.start_of.result _ c.args.self.now.utf8 part c.most_units-count.ensures in
     drawn-single says c.args.self.now.w body c.args.number c.most_units-count.result _ c.start_of.result _ c.args.self.now.utf8 part c.most_units-count.ensures
-    c.args.self.now.levels.now.paragraph _ c.args.self.now.levels.now.each.items c.in-Some.row.glyphs.items _ _
-    c.in-Some.row.levels.items
+    c.args.self.now.levels.now.paragraph _ c.args.self.now.levels.now.each.items c.in-Some.found.items _ _
+    c.deref.result.now
     (starts-at says c.args.self.now.w body c.args.self.now.starts.now c.args.number _ c.args.self.now.utf8 c.args.self.now.rows c.requires)
-    (if_some _ _ c.in-Some.row c.in-Some.is c.in_ok-row.ensures.units)
-    (if_some _ _ c.in-Some.row c.in-Some.is c.in_ok-row.ensures.count)
-    (if_some _ _ c.in-Some.row c.in-Some.is c.in_ok-row.ensures.levels here (sym told) part.chars)
-    (same-row (ShowsRow says c.args.self.now.w c.in-Some.row.glyphs.items c.in-Some.row.levels.items (map glyph_of c.in_ok-glyphs.glyphs.items))
-    _ _ _ body _ c.args.self.now.levels.now.each.items c.row_at.ensures.start c.row_at.ensures.text c.row_at.ensures.each c.in_ok-glyphs.ensures.order)
+    (if_some _ _ _ c.in-Some.is c.in_ok-found.ensures.units)
+    (ap length c.deref.ensures.value ∙ if_some _ _ _ c.in-Some.is c.in_ok-found.ensures.count)
+    (c.deref.ensures.value ∙ if_some _ _ _ c.in-Some.is c.in_ok-found.ensures.levels here (sym told) part.chars)
+    c.in_ok-glyphs.ensures.order
     (c.len.ensures ∙ c.in_ok-glyphs.glyphs.ok.0 ∙ c.in_ok-glyphs.ensures.count)
     (c.in_ok-glyphs-2.ensures ∙ ap (λ b. with_blanks c.args.self.now.levels.now.paragraph b (map glyph_of c.in_ok-glyphs.glyphs.items)) c.columns_left-blanks.ensures)
 

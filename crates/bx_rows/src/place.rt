@@ -1,35 +1,11 @@
-//! The place of a row, and of a unit, in their body.
+//! Where a text stands in its body (`TextAt`): the offset with the number of characters before it, counted from an offset nearby.
 ghost use Rattle.std.specs.Prelude.{◌≡◌, chars, length, take};
 ghost use Rattle.std.specs.Str.{IsCharBoundary};
 
-use crate::start_search::RowStart;
 use crate::unit_levels::char_count;
 use bx_joining::{LeveledBody, TextAt};
 
-/// A body, and the start of one of its rows.
-#[derive(Clone, Copy)]
-pub(crate) struct RowAt<'t, 'e> {
-    pub(crate) body: LeveledBody<'t, 'e>,
-    pub(crate) start: RowStart,
-}
-
-impl<'t, 'e> RowAt<'t, 'e> {
-    /// The place of the row's start.
-    pub(crate) fn first(self) -> TextAt<'t, 'e>
-        ensures offset { result.offset ≡ self.entry.start.offset }
-        ensures number { result.number ≡ self.entry.start.chars }
-        ensures text { result.body.text.now ≡ self.entry.body.text.now }
-        ensures each { result.body.each.now ≡ self.entry.body.each.now }
-    {
-        TextAt {
-            body: self.body,
-            offset: self.start.offset,
-            number: self.start.chars,
-        }
-    }
-}
-
-/// The number of characters before an offset of a text, counted from a place before or after it.
+/// The number of characters before `offset` in a text, counted from the offset `near`, which has `number` characters before it.
 fn number_at(text: &str, near: usize, number: usize, offset: usize) -> usize
     requires near { IsCharBoundary text.now near }
     requires number { number ≡ length (chars (take near text.now)) }
@@ -42,7 +18,7 @@ fn number_at(text: &str, near: usize, number: usize, offset: usize) -> usize
     number - char_count(&text[offset..near])
 }
 
-/// The place at another offset of a body. Only the text between both places is read.
+/// Another offset of the body of `near` with the characters before it. Only the text between both is read.
 pub(crate) fn moved<'t, 'e>(near: TextAt<'t, 'e>, offset: usize) -> TextAt<'t, 'e>
     requires from { IsCharBoundary near.body.text.now near.offset }
     requires number { near.number ≡ length (chars (take near.offset near.body.text.now)) }

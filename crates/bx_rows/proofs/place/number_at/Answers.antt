@@ -1,7 +1,7 @@
 use Rattle.std.proofs.Common.{◌+◌, ◌∙◌, ap, chars, length, arith}
 use Rattle.bx_rows.proofs.RowPlaces.{number-back, number-on}
 use Rattle.bx_rows.proofs.RowUnits.{chars-within}
-use Rattle.bx_rows.proofs.row_at.number_at.Goals as goal
+use Rattle.bx_rows.proofs.place.number_at.Goals as goal
 
 pub returns-then-near-offset : goal.returns-then-near-offset
 returns-then-near-offset c =
