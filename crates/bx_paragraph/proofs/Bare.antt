@@ -1,5 +1,5 @@
 -- Texts of one direction without brackets.
-use Rattle.std.proofs.Common.{◌≡◌, ◌∙◌, ◌||◌, ℕ, true, false, not, List, [], ◌∷◌, ◌++◌, map, refl, ap₂, sym, subst, Option}
+use Rattle.std.proofs.Common.{◌≡◌, ◌∙◌, ◌||◌, ℕ, true, false, not, List, [], ◌∷◌, ◌++◌, map, refl, ap₂, sym, subst}
 use Rattle.std.specs.List.{list_all, list_any}
 use Rattle.std.proofs.lemmas.Bool.{and_parts, and_from, not-true}
 use Rattle.std.proofs.lemmas.List.{map-append}
@@ -7,7 +7,6 @@ use Rattle.std.proofs.lemmas.List.Folds.{list_all-append}
 use Rattle.bx_ucd.specs.Data.{Data}
 use Rattle.bx_ucd.specs.declared.class.Class.{Class}
 use Rattle.bx_ucd.specs.declared.class.Class.TheVariants.{L, R, AL, EN, ES, ET, AN, CS, NSM, B, S, WS, ON}
-use Rattle.bx_ucd.specs.declared.data.Side.{Side}
 use Rattle.bx_ucd.specs.Class.{is_strong}
 use Rattle.bx_resolve.specs.Edited.{HasNoFormatting, is_listed, one_way}
 use Rattle.bx_resolve.specs.Uniform.{all_pass, is_unformatted}

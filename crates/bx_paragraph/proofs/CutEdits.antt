@@ -1,6 +1,6 @@
 -- An edit between two strong characters, or from one on, is cut off.
 use Rattle.std.proofs.Common.{◌≡◌, ◌<◌, ◌+◌, ◌∙◌, ℕ, true, false, List, ◌++◌, length, take, drop, map, get_or, chars, ap, ap₂, sym, subst, arith}
-use Rattle.std.proofs.Common.{◌⊎◌, Option, length-append, inl, inr}
+use Rattle.std.proofs.Common.{◌⊎◌, length-append, inl, inr}
 use Rattle.std.specs.Str.{IsUtf8}
 use Rattle.std.specs.List.{list_all, list_any}
 use Rattle.std.proofs.lemmas.List.{get_or-append-add}
@@ -8,7 +8,6 @@ use Rattle.std.proofs.lemmas.Str.{chars-append, IsUtf8-drop}
 use Rattle.std.proofs.Math.Seq.{drop-append-add, take-append-add}
 use Rattle.bx_ucd.specs.Data.{Data}
 use Rattle.bx_ucd.specs.declared.class.Class.{Class}
-use Rattle.bx_ucd.specs.declared.data.Side.{Side}
 use Rattle.bx_ucd.specs.Class.{is_strong}
 use Rattle.bx_resolve.specs.declared.paragraph.Levels.{Levels}
 use Rattle.bx_resolve.specs.Edited.{FollowsBetween, FollowsToEnd, HasNoFormatting, IsCutBetween, IsCutToEnd, IsSafe}

@@ -8,9 +8,8 @@ use Rattle.std.proofs.lemmas.List.Elements.{All-drop}
 use Rattle.std.proofs.lemmas.Option.{slice_get-get_or}
 use Rattle.std.proofs.lemmas.Str.{IsCharBoundary-end}
 use Rattle.bx_ucd.specs.Data.{Data}
-use Rattle.bx_ucd.specs.declared.class.Class.{Class}
 use Rattle.bx_rows.specs.declared.start_search.RowStart.{RowStart}
-use Rattle.bx_rows.specs.Laws.{behind, moved}
+use Rattle.bx_rows.specs.LaterRows.{behind, moved}
 use Rattle.bx_rows.specs.RowStarts.{row_starts}
 use Rattle.bx_rows.proofs.RowsLeft.{rows-are-of-rest, rows-meet-again}
 use Rattle.bx_paragraph.specs.RowEdits.{DoMeet, DoMeetNear, HasRoom, IsWellBefore, origin}

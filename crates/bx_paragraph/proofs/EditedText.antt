@@ -7,9 +7,8 @@ use Rattle.std.proofs.lemmas.Str.{IsCharBoundary-at_seam, IsUtf8-append, IsUtf8-
 use Rattle.std.proofs.Math.Seq.{drop-append-add, drop-append_seam, take-append_seam}
 use Rattle.bx_ucd.specs.Data.{Data}
 use Rattle.unicode_segmentation.proofs.TextLemmas.{take_split}
-use Rattle.bx_ucd.specs.declared.class.Class.{Class}
 use Rattle.bx_rows.specs.declared.start_search.RowStart.{RowStart}
-use Rattle.bx_rows.specs.Laws.{behind}
+use Rattle.bx_rows.specs.LaterRows.{behind}
 use Rattle.bx_rows.specs.RowStarts.{row_starts}
 use Rattle.bx_paragraph.specs.BodyEdits.{IsEdit, changed}
 use Rattle.bx_paragraph.specs.RowEdits.{DoMeetNear, HasRoom, IsWellBefore, origin}

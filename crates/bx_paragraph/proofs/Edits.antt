@@ -8,8 +8,6 @@ use Rattle.std.proofs.lemmas.List.{get_or-map, length-map, take-append-drop}
 use Rattle.std.proofs.lemmas.Str.{chars-append, IsUtf8-between, IsUtf8-take}
 use Rattle.bx_ucd.specs.Data.{Data}
 use Rattle.unicode_segmentation.proofs.TextLemmas.{take_split}
-use Rattle.bx_ucd.specs.declared.class.Class.{Class}
-use Rattle.bx_ucd.specs.declared.data.Side.{Side}
 use Rattle.bx_terms.specs.declared.base.Base.{Base}
 use Rattle.bx_resolve.specs.declared.paragraph.Levels.{Levels}
 use Rattle.bx_resolve.specs.Edited.{AreLevelsOf, HasNoFormatting, new_text, old_text}

@@ -17,10 +17,7 @@ use Rattle.bx_rows.proofs.NumbersBelow.{below_if_visual}
 use Rattle.bx_rows.proofs.Permutes.{visual-permutes}
 use Rattle.bx_rows.proofs.PictureSums.{columns-length}
 use Rattle.bx_paragraph.specs.declared.slot.Slot.{Slot}
-use Rattle.bx_paragraph.specs.declared.row_parts.RowParts.{RowParts}
 use Rattle.bx_paragraph.specs.BodyRows.{BodyRow, offsets_of}
-use Rattle.bx_paragraph.specs.Layout.{LayoutState}
-use Rattle.bx_paragraph.specs.RowParts.{row_of_parts}
 use Rattle.bx_paragraph.specs.Slots.{end_slot, extent_of, left_column, row_slots, side_by_side, slot_offsets, unit_slots}
 use Rattle.bx_paragraph.proofs.RowSlots.{extent-is}
 
@@ -99,9 +96,9 @@ pub once-contains : (w : ℕ) (r : BodyRow) → length r.levels ≡ length r.uni
 once-contains w r e o c =
     Contains-permutation (slot_offsets w r) (offsets_of r) o (IsPermutation-sym (offsets_of r) (slot_offsets w r) (once-each w r e)) c
 
--- the same of a row of a layout, by its parts
-pub once-kept : (w : ℕ) (l : LayoutState) (p : RowParts) (r : BodyRow) (ss : List Slot) → ss ≡ row_slots w (row_of_parts l p)
-    → length p.levels.items ≡ length p.units.items → row_of_parts l p ≡ r → IsPermutation (offsets_of r) (map (λ s. s.offset) ss)
-once-kept w l p r ss is count e =
-    subst (λ x. IsPermutation (offsets_of x) (map (λ s. s.offset) ss)) e
-    (subst (λ xs. IsPermutation (offsets_of (row_of_parts l p)) (map (λ s. s.offset) xs)) (sym is) (once-each w (row_of_parts l p) count))
+-- the same of slots that were made of another row that is the same
+pub once-kept : (w : ℕ) (p r : BodyRow) (ss : List Slot) → ss ≡ row_slots w r → length p.levels ≡ length p.units → p ≡ r
+    → IsPermutation (offsets_of r) (map (λ s. s.offset) ss)
+once-kept w p r ss is count e =
+    subst (λ xs. IsPermutation (offsets_of r) (map (λ s. s.offset) xs)) (sym is)
+    (once-each w r (subst (λ x. length x.levels ≡ length x.units) e count))

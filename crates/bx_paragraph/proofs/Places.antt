@@ -8,7 +8,6 @@ use Rattle.std.proofs.lemmas.Str.{chars-append, chars_past_char, len_utf8_bounds
 use Rattle.std.proofs.lemmas.Str.{IsUtf8-past_char, IsUtf8-take}
 use Rattle.std.proofs.Math.Seq.{take-append_seam}
 use Rattle.bx_ucd.specs.Data.{Data}
-use Rattle.bx_ucd.specs.declared.class.Class.{Class}
 use Rattle.bx_ucd.specs.Class.{is_strong}
 use Rattle.bx_resolve.specs.Body.{IsOffset}
 use Rattle.bx_paragraph.specs.Cuts.{IsStrongIn}

@@ -8,13 +8,12 @@ use Rattle.std.proofs.lemmas.List.Sums.{count_by_more_no, count_by_more_yes, sum
 use Rattle.std.proofs.lemmas.Option.{slice_get-get_or}
 use Rattle.std.proofs.lemmas.Str.{IsUtf8-take}
 use Rattle.bx_ucd.specs.Data.{Data}
-use Rattle.bx_ucd.specs.declared.class.Class.{Class}
 use Rattle.bx_resolve.proofs.Small.{few_chars}
 use Rattle.bx_cells.specs.Units.{units}
 use Rattle.bx_cells.proofs.Rest.{few-units}
 use Rattle.bx_rows.specs.declared.row.Row.{Row}
 use Rattle.bx_rows.specs.declared.start_search.RowStart.{RowStart}
-use Rattle.bx_rows.specs.Laws.{behind}
+use Rattle.bx_rows.specs.LaterRows.{behind}
 use Rattle.bx_rows.specs.RowStarts.{row_starts, start_of}
 use Rattle.bx_rows.specs.Wrapping.{wrap}
 use Rattle.bx_rows.proofs.EachRow.{row-part}

@@ -1,8 +1,7 @@
--- The rows of a paragraph's body in a window of `w` columns, numbered from 0. Offsets count bytes of the body.
+-- The rows of a paragraph's body in a window of `w` columns, numbered from 0. Offsets count bytes of the body. `says` is what the
+-- tables say.
 use Rattle.std.specs.Prelude.{ℕ, ◌-◌, nat_le, Bool, true, false, List, [], ◌∷◌, ◌++◌, map, length, count_by, slice_index_or, Option, chars}
 use Rattle.bx_ucd.specs.Data.{Data}
-use Rattle.bx_ucd.specs.declared.class.Class.{Class}
-use Rattle.bx_ucd.specs.declared.data.Side.{Side}
 use Rattle.bx_terms.specs.declared.base.Base.{Base}
 use Rattle.bx_resolve.specs.Levels.{paragraph_level_under, levels_under}
 use Rattle.bx_cells.specs.declared.unit.Unit.{Unit}
@@ -11,8 +10,8 @@ use Rattle.bx_rows.specs.Wrapping.{wrap, row_units, first_offset}
 use Rattle.bx_rows.specs.RowLevels.{row_levels}
 use Rattle.bx_rows.specs.RowPicture.{Glyph, draw}
 
--- a row: its body, the paragraph level, the levels of the body's characters, the row's units with their levels, and whether it
--- is the paragraph's last row
+-- a row: its paragraph's body, the paragraph level, the levels of all characters of the body (`each`), the row's units, the level of each
+-- unit by L1 (`levels`), and whether it is the paragraph's last row
 pub record BodyRow : Type 0 where
   pub body : List ℕ
   pub paragraph : ℕ
@@ -26,7 +25,7 @@ abbrev pub row_with : Data → List ℕ → ℕ → List (Option ℕ) → Bool �
 row_with says body paragraph each is_last us =
     record { body = body; paragraph = paragraph; each = each; units = us; levels = row_levels says body paragraph each us; is_last = is_last }
 
--- rows in order, the last one marked as last
+-- the rows made of the units of each row, in order, the last one marked as last
 abbrev pub with_last : (Bool → List Unit → BodyRow) → List (List Unit) → List BodyRow
 with_last row [] = []
 with_last row (us ∷ []) = row true us ∷ []
@@ -51,7 +50,7 @@ first_of r = first_offset r.units
 abbrev pub offsets_of : BodyRow → List ℕ
 offsets_of r = map (λ u. u.start) r.units ++ elim (r.is_last) [ true ↦ length r.body ∷ [] | false ↦ [] ]
 
--- the last offset, or 0
+-- the last of some offsets; 0 if there is none
 abbrev pub last_offset : List ℕ → ℕ
 last_offset [] = 0
 last_offset (p ∷ []) = p
@@ -61,7 +60,7 @@ last_offset (p ∷ q ∷ ps) = last_offset (q ∷ ps)
 abbrev pub last_of : BodyRow → ℕ
 last_of r = last_offset (offsets_of r)
 
--- the number of the last of increasing starts that is at or before an offset
+-- the number, from 0, of the last of increasing starts that is at or before an offset
 abbrev pub falls_in : List ℕ → ℕ → ℕ
 falls_in beginnings offset = count_by (λ b. nat_le b offset) beginnings - 1
 
@@ -73,10 +72,10 @@ row_of rows offset = falls_in (map first_of rows) offset
 abbrev pub no_row : BodyRow
 no_row = record { body = []; paragraph = 0; each = []; units = []; levels = []; is_last = true }
 
--- a row by its number
+-- a row by its number, from 0
 abbrev pub row_at : List BodyRow → ℕ → BodyRow
 row_at rows k = slice_index_or rows k no_row
 
--- the glyphs of a row from left to right
+-- the glyphs of a row from left to right, with the blanks that fill it to `w` columns
 abbrev pub row_glyphs : Data → ℕ → BodyRow → List Glyph
 row_glyphs says w r = draw says w r.body r.paragraph r.each r.units r.levels

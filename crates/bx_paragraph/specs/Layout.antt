@@ -1,8 +1,7 @@
--- The model of a paragraph's layout, and its rows.
-use Rattle.std.specs.Prelude.{◌≡◌, ℕ, Bool, true, List, Option, chars}
+-- The model of a paragraph's layout, and its rows. `says` is what the tables say.
+use Rattle.std.specs.Prelude.{◌≡◌, ℕ, Bool, true, List, Option, IsUtf8, chars}
 use Rattle.bx_ucd.specs.Data.{Data}
-use Rattle.bx_ucd.specs.declared.class.Class.{Class}
-use Rattle.bx_ucd.specs.declared.data.Side.{Side}
+use Rattle.bx_terms.specs.Sizes.{is_side}
 use Rattle.bx_terms.specs.declared.base.Base.{Base}
 use Rattle.bx_resolve.specs.Edited.{HasNoFormatting}
 use Rattle.bx_resolve.specs.Levels.{paragraph_level_under, levels_under}
@@ -10,8 +9,8 @@ use Rattle.bx_rows.specs.declared.start_search.RowStart.{RowStart}
 use Rattle.bx_rows.specs.RowStarts.{row_starts}
 use Rattle.bx_paragraph.specs.BodyRows.{BodyRow, body_rows, row_at}
 
--- a body, the base direction, the window's columns, the paragraph level, the characters' levels, the row starts, and whether
--- the body is known to have no formatting characters
+-- a body, the base direction, the window's columns (`w`), the paragraph level, the level of each character (`each`), the row starts, and
+-- whether the body is known to have no formatting character and none of class BN
 pub record LayoutState : Type 0 where
   pub body : List ℕ
   pub base : Base
@@ -28,14 +27,19 @@ pub record IsLayoutBy (says : Data) (l : LayoutState) : Type 0 where
   pub starts : l.starts ≡ row_starts says l.w l.body
   pub unformatted : l.is_unformatted ≡ true → HasNoFormatting says (chars l.body)
 
+-- what holds of every layout: its width is within its limits, and its body is UTF-8
+pub record IsSound (l : LayoutState) : Type 0 where
+  pub side : is_side l.w ≡ true
+  pub utf8 : IsUtf8 l.body
+
 -- the rows of the layout's body
 abbrev pub rows_by : Data → LayoutState → List BodyRow
 rows_by says l = body_rows says l.base l.w l.body
 
--- row `k` of the layout
+-- row `k` of the layout, from 0
 abbrev pub row_by : Data → LayoutState → ℕ → BodyRow
 row_by says l k = row_at (rows_by says l) k
 
--- a property of the layout's rows, whatever the data
+-- the layout's rows have the property `P`, whatever the data
 abbrev pub OfRows : LayoutState → (List BodyRow → Type 0) → Type 0
 OfRows l P = (says : Data) → IsLayoutBy says l → P (rows_by says l)

@@ -1,9 +1,9 @@
-//! The layout of one paragraph.
-ghost use Rattle.std.specs.Prelude.{◌≡◌, ◌≤◌, ◌<◌, true, IfOk, OnErr, OnOk, count_by, length, nat_le, map, slice_index_or, string_bytes};
+//! The layout of one paragraph: what the view caches, to draw its rows and to move in them.
+ghost use Rattle.std.specs.Prelude.{◌≡◌, ◌≤◌, ◌<◌, ◌^◌, true, IfOk, OnErr, OnOk, count_by, length, nat_le, map, slice_index_or, string_bytes};
 ghost use Rattle.std.specs.List.Sorted.{IsNonDecreasingBy};
 ghost use Rattle.bx_terms.specs.Sizes.{is_side};
 ghost use Rattle.bx_paragraph.specs.BodyRows.{first_of, row_at, row_of};
-ghost use Rattle.bx_paragraph.specs.Layout.{IsLayoutBy, OfRows};
+ghost use Rattle.bx_paragraph.specs.Layout.{IsLayoutBy, IsSound, OfRows};
 ghost use Rattle.bx_paragraph.specs.Lent.{IsLent};
 
 use bx_resolve::{Levels, levels};
@@ -18,11 +18,15 @@ use std::marker::Model;
 #[derive(Drop)]
 pub struct ParagraphLayout {
     pub(crate) body: String,
+    /// The base direction that the levels are resolved under.
     pub(crate) base: Base,
+    /// The window's columns.
     pub(crate) w: u16,
+    /// The paragraph level and the level of each character of the body, before L1.
     pub(crate) levels: Levels,
+    /// The start of each row, at least one.
     pub(crate) starts: Vec<RowStart>,
-    /// Whether the body is known to have no formatting characters.
+    /// Whether the body is known to have no formatting character and none of class BN; only an edit finds out.
     pub(crate) is_unformatted: bool,
     /// The list that the next edit writes its row starts into.
     pub(crate) spare: Vec<RowStart>,
@@ -132,6 +136,8 @@ impl ParagraphLayout {
         ensures starts { result ≡ length self.now.starts }
         ensures some { 0 < result }
         ensures rows { OfRows self.now (λ rows. result ≡ length rows) }
+        ensures sound { IsSound self.now }
+        ensures short { length self.now.body < 2 ^ 64 }
     {
         self.starts.len()
     }
@@ -141,11 +147,13 @@ impl ParagraphLayout {
     pub fn row_of(&self, offset: usize) -> usize
         ensures within { result < length self.now.starts }
         ensures row { OfRows self.now (λ rows. result ≡ row_of rows offset) }
+        ensures sound { IsSound self.now }
+        ensures short { length self.now.body < 2 ^ 64 }
     {
         starts_up_to(&self.starts, offset).saturating_sub(1)
     }
 
-    /// The offset in the body at which a row begins, in bytes.
+    /// The offset in the body, in bytes, at which row `row`, from 0, begins.
     pub fn first(&self, row: usize) -> usize
         requires { row < length self.now.starts }
         ensures { OfRows self.now (λ rows. result ≡ first_of (row_at rows row)) }
@@ -153,7 +161,7 @@ impl ParagraphLayout {
         self.starts[row].offset
     }
 
-    /// The number of the body's units before a row.
+    /// The number of the body's units before row `row`, from 0.
     pub fn units_ahead(&self, row: usize) -> usize
         requires { row < length self.now.starts }
         ensures { result ≡ slice_index_or (map (λ s. s.units) self.now.starts) row 0 }
@@ -161,7 +169,7 @@ impl ParagraphLayout {
         self.starts[row].units
     }
 
-    /// The allocator of its lists.
+    /// The allocator of the layout's lists.
     pub(crate) fn allocator(&self) -> Global {
         *self.starts.allocator()
     }
@@ -182,7 +190,7 @@ impl ParagraphLayout {
     }
 }
 
-/// The number of row starts at or before an offset.
+/// The number of row starts at or before an offset, in bytes of the body.
 pub(crate) fn starts_up_to(starts: &[RowStart], offset: usize) -> usize
     ensures within { result ≤ length starts.now }
     ensures count { IsNonDecreasingBy (λ s. s.offset) starts.now → result ≡ count_by (λ o. nat_le o offset) (map (λ s. s.offset) starts.now) }

@@ -16,7 +16,6 @@ mod lent_row;
 mod moves;
 mod reading;
 mod row_edit;
-mod row_parts;
 mod row_reading;
 mod slot;
 mod slots;

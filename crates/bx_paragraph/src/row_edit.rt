@@ -1,19 +1,20 @@
-//! Rows before an edit that stay, and rows after it that meet the old ones.
+//! Rows before an edit that stay, and rows after it that meet the old ones: a row found in the edited text begins where an old row
+//! began, as seen from the edit's end, and from there on all rows are the old ones.
 ghost use Rattle.std.specs.Prelude.{◌≡◌, ◌≤◌, ◌<◌, ◌+◌, ◌++◌, All, IfSome, OnOk, length, map, true};
-ghost use Rattle.bx_rows.specs.Laws.{behind, moved};
+ghost use Rattle.bx_rows.specs.LaterRows.{behind, moved};
 ghost use Rattle.bx_paragraph.specs.RowEdits.{DoMeet, HasRoom, IsSamePlace, IsWellBefore};
 
 use bx_rows::RowStart;
 use std::alloc::AllocError;
 
-/// Whether a row begins more than `w` units before another.
+/// Whether the row `first` begins more than `w` units before the row `row`.
 fn is_ahead(first: RowStart, row: RowStart, w: u16) -> bool
     ensures { result ≡ true → first.units + w < row.units }
 {
     row.units.saturating_sub(first.units) > usize::from(w)
 }
 
-/// The number of rows that begin before an offset.
+/// The number of rows that begin before an offset, in bytes.
 fn count_before(starts: &[RowStart], offset: usize) -> usize
     ensures { result ≤ length starts.now }
 {
@@ -38,7 +39,8 @@ pub(crate) fn well_before(starts: &[RowStart], offset: usize, w: u16) -> Option<
     None
 }
 
-/// Whether the row `new` begins as far after `shift` as the row `old` after `stop`.
+/// Whether the row `new` begins as many bytes after the offset `shift`, where the edit ends in its text, as the row `old` after
+/// `stop`, where it ends in the old body.
 fn is_same_place(new: RowStart, old: RowStart, shift: usize, stop: usize) -> bool
     ensures { result ≡ true → IsSamePlace shift stop new old }
 {
@@ -51,7 +53,8 @@ fn is_same_place(new: RowStart, old: RowStart, shift: usize, stop: usize) -> boo
     new.offset - shift == old.offset - stop
 }
 
-/// The indexes of a found row, at most `last`, and of an old row that begin at the same place after an edit.
+/// The indexes of a found row, at most `last`, and of an old row (of `starts`) that begin at the same place after an edit, if any
+/// do. The edit ends at the byte offset `shift` in the text of the found rows, and at `stop` in the old body.
 pub(crate) fn meeting(
     found: &[RowStart],
     starts: &[RowStart],
@@ -120,7 +123,7 @@ pub(crate) fn push_behind(
     Ok(())
 }
 
-/// Appends rows, moved from after `old` to after `new`.
+/// Appends the rows `rest`, moved so that they begin as far after `new` as they did after `old`.
 pub(crate) fn push_moved(
     starts: &mut Vec<RowStart>,
     old: RowStart,

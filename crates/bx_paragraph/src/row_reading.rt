@@ -1,25 +1,24 @@
-//! The units, slots and glyphs of a row.
-ghost use Rattle.std.specs.Prelude.{◌≡◌, ◌≤◌, ◌+◌, ◌==◌, All, IfOk, IsPermutation, length, map, sum_by, true};
+//! What is read of a lent row: the row laid out, its slots and its glyphs.
+ghost use Rattle.std.specs.Prelude.{◌≡◌, ◌+◌, ◌==◌, All, IfOk, IsPermutation, length, map, sum_by, true};
 ghost use Rattle.std.specs.Cow.{cow_str_bytes};
 ghost use Rattle.bx_terms.specs.Glyphs.{is_one_glyph, run_width};
-ghost use Rattle.bx_rows.specs.RowPicture.{columns_used};
+ghost use Rattle.bx_terms.specs.Sizes.{is_side};
 ghost use Rattle.bx_rows.specs.Shown.{glyph_of};
 ghost use Rattle.bx_paragraph.specs.BodyRows.{offsets_of, row_glyphs};
+ghost use Rattle.bx_paragraph.specs.LaidRows.{body_row};
 ghost use Rattle.bx_paragraph.specs.LentRow.{row};
 ghost use Rattle.bx_paragraph.specs.OwnGlyphs.{row_own_glyphs};
-ghost use Rattle.bx_paragraph.specs.RowParts.{row_of_parts};
 ghost use Rattle.bx_paragraph.specs.Slots.{row_slots};
 
 use crate::lent_row::LentRow;
-use crate::row_parts::RowParts;
 use crate::slot::Slot;
 use crate::slots::row_slots;
-use bx_rows::RowPicture;
+use bx_rows::{LaidRow, RowPicture};
 use bx_terms::OutOfMemory;
 use bx_ucd::BidiData;
 
 impl<'a, 't, D: BidiData> LentRow<'a, 't, D> {
-    /// Whether it is the paragraph's last row.
+    /// Whether this is the paragraph's last row.
     pub(crate) fn is_last(&self) -> bool
         ensures { result ≡ (self.now.number + 1 == length self.now.paragraph.now.starts) }
     {
@@ -27,35 +26,26 @@ impl<'a, 't, D: BidiData> LentRow<'a, 't, D> {
         self.number + 1 == count
     }
 
-    /// The row's units with their levels.
-    #[tactic(auto, using(crate::proofs::LentRows::lent_row))]
-    pub(crate) fn parts(&self) -> Result<RowParts, OutOfMemory>
-        ensures row { IfOk result (λ r. row_of_parts self.now.paragraph.now r ≡ row self.now) }
-        ensures fits { IfOk result (λ r. columns_used self.now.paragraph.now.w r.units.items ≤ self.now.paragraph.now.w) }
-        ensures levels { IfOk result (λ r. length r.levels.items ≡ length r.units.items) }
+    /// The row laid out.
+    fn laid(&self) -> Result<LaidRow<'a, 't, D>, OutOfMemory>
+        ensures row { IfOk result (λ r. body_row r (self.now.number + 1 == length self.now.paragraph.now.starts) ≡ row self.now) }
+        ensures w { IfOk result (λ r. r.lines.w ≡ self.now.paragraph.now.w) }
+        ensures side { IfOk result (λ r. is_side r.lines.w ≡ true) }
     {
-        let alloc = self.paragraph.allocator();
         let lines = self.paragraph.lines(self.tables);
-        let units = lines.units(alloc, self.number)?;
-        let levels = lines.levels(alloc, self.number, &units)?;
-        Ok(RowParts {
-            units,
-            levels,
-            is_last: self.is_last(),
-        })
+        let row = lines.row(self.paragraph.allocator(), self.number)?;
+        Ok(row)
     }
 
-    /// The slots of the row from left to right, from its units and their levels.
-    pub(crate) fn slots_of(&self, parts: &RowParts) -> Result<Vec<Slot>, OutOfMemory>
-        requires fits { columns_used self.now.paragraph.now.w parts.now.units.items ≤ self.now.paragraph.now.w }
-        requires levels { length parts.now.levels.items ≡ length parts.now.units.items }
-        ensures { IfOk result (λ v. v.items ≡ row_slots self.now.paragraph.now.w (row_of_parts self.now.paragraph.now parts.now)) }
+    /// The row laid out, and its slots from left to right.
+    pub(crate) fn laid_slots(&self) -> Result<(LaidRow<'a, 't, D>, Vec<Slot>), OutOfMemory>
+        ensures row { IfOk result (λ r. body_row r.0 (self.now.number + 1 == length self.now.paragraph.now.starts) ≡ row self.now) }
+        ensures slots { IfOk result (λ r. r.1.items ≡ row_slots self.now.paragraph.now.w (row self.now)) }
+        ensures once { IfOk result (λ r. IsPermutation (offsets_of (row self.now)) (map (λ s. s.offset) r.1.items)) }
     {
-        let alloc = *parts.units.allocator();
-        let paragraph = self.paragraph;
-        let (level, w) = (paragraph.level(), paragraph.width());
-        let slots = row_slots(alloc, paragraph.body(), parts, level, w)?;
-        Ok(slots)
+        let row = self.laid()?;
+        let slots = row_slots(self.paragraph.allocator(), &row, self.is_last())?;
+        Ok((row, slots))
     }
 
     /// The row's slots from left to right, each with its columns: one for each place of the row.
@@ -63,8 +53,7 @@ impl<'a, 't, D: BidiData> LentRow<'a, 't, D> {
         ensures slots { IfOk result (λ v. v.items ≡ row_slots self.now.paragraph.now.w (row self.now)) }
         ensures once { IfOk result (λ v. IsPermutation (offsets_of (row self.now)) (map (λ s. s.offset) v.items)) }
     {
-        let parts = self.parts()?;
-        let slots = self.slots_of(&parts)?;
+        let (_, slots) = self.laid_slots()?;
         Ok(slots)
     }
 

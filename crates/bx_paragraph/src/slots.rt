@@ -1,19 +1,19 @@
 //! The slots of a row, from its units.
-ghost use Rattle.std.specs.Prelude.{◌≡◌, ◌≤◌, ◌<◌, ◌+◌, ◌++◌, ◌∷◌, [], ℕ, true, false, All, IfOk, List, OnOk, Option, length, map};
+ghost use Rattle.std.specs.Prelude.{◌≡◌, ◌≤◌, ◌<◌, ◌+◌, ◌++◌, ◌∷◌, [], true, false, All, IfOk, OnOk, length, map};
 ghost use Rattle.bx_terms.specs.Sizes.{is_side, largest_side};
-ghost use Rattle.bx_rows.specs.RowPicture.{columns_used};
-ghost use Rattle.bx_paragraph.specs.RowParts.{body_row};
+ghost use Rattle.bx_paragraph.specs.LaidRows.{body_row};
 ghost use Rattle.bx_paragraph.specs.OrderedColumns.{ordered_columns};
 ghost use Rattle.bx_paragraph.specs.Slots.{extent_of, row_slots, side_by_side};
 
-use crate::row_parts::RowParts;
 use crate::slot::Slot;
 use bx_cells::Unit;
-use bx_rows::{unit_columns, visual};
+use bx_rows::{LaidRow, unit_columns, visual};
 use bx_terms::OutOfMemory;
+use bx_ucd::BidiData;
 use std::alloc::{AllocError, Global};
 
-/// Appends the slots of units side by side in a given order, from column `at` on.
+/// Appends the slots of units side by side, from column `at` on: `order` has the indexes of the units from left to right, and
+/// `columns` the number of columns of each unit.
 fn push_units(
     slots: &mut Vec<Slot>,
     units: &[Unit],
@@ -40,7 +40,7 @@ fn push_units(
     Ok(())
 }
 
-/// Appends the slot of the paragraph's end, if the row is the paragraph's last.
+/// Appends the slot of the paragraph's end, which covers no column, if the row is the paragraph's last.
 fn push_end(
     slots: &mut Vec<Slot>,
     is_last: bool,
@@ -60,28 +60,27 @@ fn push_end(
     Ok(())
 }
 
-/// Returns a row's slots from left to right. `paragraph` is the paragraph level, 0 or 1.
-pub(crate) fn row_slots(
+/// A row's slots from left to right. `is_last`: it is the paragraph's last row.
+pub(crate) fn row_slots<D: BidiData>(
     alloc: Global,
-    body: &str,
-    row: &RowParts,
-    paragraph: u8,
-    w: u16,
+    row: &LaidRow<'_, '_, D>,
+    is_last: bool,
 ) -> Result<Vec<Slot>, OutOfMemory>
-    requires side { is_side w ≡ true }
-    requires fits { columns_used w row.now.units.items ≤ w }
-    requires levels { length row.now.levels.items ≡ length row.now.units.items }
-    ensures { IfOk result (λ v. (each : List (Option ℕ)) → v.items ≡ row_slots w (body_row body.now paragraph each row.now)) }
+    requires { is_side row.now.lines.w ≡ true }
+    ensures { IfOk result (λ v. v.items ≡ row_slots row.now.lines.w (body_row row.now is_last)) }
 {
+    let w = row.lines.w;
+    let len = row.lines.body.len();
+    let paragraph = row.lines.levels.paragraph;
     let (columns, used) = unit_columns(alloc, &row.units, w)?;
     let order = visual(alloc, &row.levels)?;
     let mut slots = Vec::with_capacity(alloc, row.units.len() + 1)?;
     if paragraph % 2 == 0 {
         push_units(&mut slots, &row.units, &columns, &order, 1)?;
-        push_end(&mut slots, row.is_last, body.len(), (used + 1).min(w))?;
+        push_end(&mut slots, is_last, len, (used + 1).min(w))?;
         return Ok(slots);
     }
-    push_end(&mut slots, row.is_last, body.len(), (w - used).max(1))?;
+    push_end(&mut slots, is_last, len, (w - used).max(1))?;
     push_units(&mut slots, &row.units, &columns, &order, w - used + 1)?;
     Ok(slots)
 }

@@ -1,4 +1,4 @@
-//! The position of a place in its row.
+//! The position of a place in its row, for the cursor and the status row.
 ghost use Rattle.std.specs.Prelude.{◌≡◌, IfOk, count_by, nat_lt};
 ghost use Rattle.bx_paragraph.specs.LentRow.{row};
 ghost use Rattle.bx_paragraph.specs.Slots.{column_of};
@@ -12,7 +12,7 @@ use bx_ucd::BidiData;
 /// The position of a place in its row.
 #[derive(Clone, Copy, PartialEq, Eq, Debug)]
 pub struct Standing {
-    /// The column, from 1, of the slot at the place; 1 if there is none.
+    /// The leftmost column, from 1, of the slot at the place; 1 if there is none.
     pub column: u16,
     /// The number of the row's units that begin before the place.
     pub units_before: usize,
@@ -31,11 +31,10 @@ impl<'a, 't, D: BidiData> LentRow<'a, 't, D> {
         ensures column { IfOk result (λ s. s.column ≡ column_of self.now.paragraph.now.w (row self.now) offset) }
         ensures units { IfOk result (λ s. s.units_before ≡ count_by (λ u. nat_lt u.start offset) (row self.now).units) }
     {
-        let parts = self.parts()?;
-        let slots = self.slots_of(&parts)?;
+        let (row, slots) = self.laid_slots()?;
         Ok(Standing {
             column: column_in(&slots, offset),
-            units_before: count_before(&parts.units, offset),
+            units_before: count_before(&row.units, offset),
         })
     }
 }

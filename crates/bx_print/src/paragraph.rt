@@ -1,4 +1,4 @@
-//! The printed lines of a paragraph.
+//! The printed lines of a paragraph, which is laid out for this alone, and not kept.
 ghost use Rattle.std.specs.Prelude.{◌≡◌, ◌<◌, ◌++◌, OnErr, OnOk, length};
 ghost use Rattle.bx_paragraph.specs.Layout.{IsLayoutBy};
 ghost use Rattle.bx_view.specs.Source.{body_at, count};
@@ -30,6 +30,7 @@ fn push_rows<D: BidiData>(
             paragraph: layout,
             tables,
             number: row,
+            start: 0,
         };
         let picture = lent.picture()?;
         page.extend_from_slice(b"\n")?;

@@ -5,7 +5,7 @@ use Rattle.bx_ucd.specs.Data.{Data}
 use Rattle.bx_paragraph.specs.Slots.{reading_end, reading_start}
 use Rattle.bx_view.specs.declared.row_at.RowAt.{RowAt}
 use Rattle.bx_view.specs.FoundRow.{StandsOn, rows_by}
-use Rattle.bx_view.specs.Holding.{Keeps, ViewState}
+use Rattle.bx_view.specs.Caching.{Keeps, ViewState}
 use Rattle.bx_view.specs.Moves.{end_of, place_in, row_after, row_before, start_of}
 use Rattle.bx_view.specs.TextRows.{TextRow, no_text_row, row_at, text_rows}
 use Rattle.bx_paragraph.proofs.Starts.{side-some}
@@ -17,7 +17,7 @@ before-at rows n m e h = ap (row_before rows) e ∙ slice_get-get_or rows m no_t
 -- one change after another
 pub keeps-then : (says : Data) (old mid v : ViewState) → Keeps says old mid → Keeps says mid v
     → Keeps says old v
-keeps-then says old mid v a b = record { base = b.base ∙ a.base; w = b.w ∙ a.w; held = b.held }
+keeps-then says old mid v a b = record { base = b.base ∙ a.base; w = b.w ∙ a.w; cache = b.cache }
 
 module _ (says : Data) (old v : ViewState) (text : List ℕ) (keeps : Keeps says old v) where
   abbrev of : ViewState → List TextRow

@@ -8,16 +8,11 @@ use Rattle.std.proofs.lemmas.List.Elements.{All-append, All-cons, All-head, All-
 use Rattle.std.proofs.lemmas.Str.{IsCharBoundary-from_drop, IsCharBoundary-from_rest, IsCharBoundary-end, IsCharBoundary-start, IsUtf8-append, IsUtf8-drop}
 use Rattle.std.specs.Prelude.{All}
 use Rattle.bx_ucd.specs.Data.{Data}
-use Rattle.bx_terms.specs.Sizes.{is_side}
 use Rattle.bx_terms.specs.declared.base.Base.{Base}
 use Rattle.bx_index.specs.Paragraphs.{Paragraph, lengths_of, paragraphs}
 use Rattle.bx_index.specs.Positions.{bytes_of}
 use Rattle.bx_paragraph.specs.BodyRows.{BodyRow, no_row, offsets_of}
-use Rattle.bx_view.specs.Moves.{moved, row_end, row_home}
 use Rattle.bx_view.specs.TextRows.{TextRow, first, places, places_of, text_row, text_rows}
-use Rattle.bx_view.specs.declared.moves.Move.{Move}
-use Rattle.bx_view.specs.FoundRow.{rows_by}
-use Rattle.bx_view.specs.Holding.{ViewState}
 use Rattle.bx_view.specs.Laws.{MovesKeep}
 use Rattle.bx_view.proofs.RowsAround.{from, own}
 use Rattle.bx_view.proofs.KeptMoves.{moves-keep}
@@ -25,7 +20,6 @@ use Rattle.bx_view.proofs.Numbers.{bytes-utf8}
 use Rattle.bx_view.proofs.Parts.{AreUtf8, bytes, text-bytes, text-parts}
 use Rattle.bx_view.proofs.Rising.{rank-few}
 use Rattle.bx_view.proofs.StopPlaces.{ends-lie}
-use Rattle.bx_paragraph.proofs.Starts.{side-some}
 use Rattle.bx_view.proofs.Walking.{text-rank}
 use Rattle.bx_view.proofs.Within.{LiesIn, Within, body-row-lies, within-append}
 
@@ -110,19 +104,3 @@ module _ (says : Data) (base : Base) (w : ℕ) where
     bounds-kept =
         moves-keep says text w rows Bound rows-bound places-bound some-row
         (ends-lie says base w some Bound text utf8 places-bound (IsCharBoundary-start text utf8) (IsCharBoundary-end text))
-
--- ---- as a layout answers it
-
-module _ (says : Data) (v : ViewState) (text : List ℕ) (side : is_side v.w ≡ true) (utf8 : IsUtf8 text) where
-  kept : MovesKeep says text v.w (rows_by says v text) (IsCharBoundary text)
-  kept = bounds-kept says v.base v.w (side-some v.w side) text utf8
-
-  pub moved-bound : (m : Move) (place o : ℕ) → o ≡ moved says text v.w (rows_by says v text) m place → IsCharBoundary text place → IsCharBoundary text o
-  moved-bound m place o e b = subst (IsCharBoundary text) (sym e) (kept.moved m place b)
-
-  -- from any offset
-  pub home-bound : (place o : ℕ) → o ≡ row_home (rows_by says v text) place → IsCharBoundary text o
-  home-bound place o e = subst (IsCharBoundary text) (sym e) (kept.home place)
-
-  pub end-bound : (place o : ℕ) → o ≡ row_end (rows_by says v text) place → IsCharBoundary text o
-  end-bound place o e = subst (IsCharBoundary text) (sym e) (kept.end place)

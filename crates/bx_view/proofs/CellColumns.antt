@@ -42,15 +42,15 @@ use Rattle.bx_view.proofs.Within.{length-with-last}
 
 -- ---- each unit of a row has a column
 
-abbrev AllSome : List ℕ → Type 0
+abbrev pub AllSome : List ℕ → Type 0
 AllSome [] = ⊤
 AllSome (n ∷ ns) = (1 ≤ n) × AllSome ns
 
-abbrev HasColumn : Face → Type 0
+abbrev pub HasColumn : Face → Type 0
 HasColumn (Own n) = 1 ≤ n
 HasColumn _ = ⊤
 
-abbrev AllHave : List Unit → Type 0
+abbrev pub AllHave : List Unit → Type 0
 AllHave [] = ⊤
 AllHave (u ∷ us) = HasColumn u.face × AllHave us
 
@@ -59,7 +59,7 @@ have-of text Tab h = tt
 have-of text (Mark letter) h = tt
 have-of text (Own n) h = h.2
 
-all-have : (says : Data) (w : ℕ) (body : List ℕ) (us : List Unit) → All (HasFace says w body) us → AllHave us
+pub all-have : (says : Data) (w : ℕ) (body : List ℕ) (us : List Unit) → All (HasFace says w body) us → AllHave us
 all-have says w body [] h = tt
 all-have says w body (u ∷ us) h = (
   have-of (chars (unit_text body u)) u.face (tells-face says w (unit_text body u) u.face (h 0 u (omega arith))),
@@ -88,7 +88,7 @@ some-columns w c (suc n) [] h k = tt
 some-columns w c (suc n) (u ∷ us) h k = some-by w c n u us (nat_lt c w && nat_le (c + columns_at w c u.face) w) refl k h.0
     (λ rest. some-columns w (c + columns_at w c u.face) n us h.1 rest)
 
-abbrev EachSome : ℕ → List (List Unit) → Type 0
+abbrev pub EachSome : ℕ → List (List Unit) → Type 0
 EachSome w [] = ⊤
 EachSome w (us ∷ rest) = AllSome (unit_columns w 0 us) × EachSome w rest
 
@@ -106,7 +106,7 @@ rows-some p w i (suc k) (u ∷ us) all h e = rows-some p w (suc i) k us all h.1 
 rows-some p w i zero (u ∷ us) all h e =
     (row-some p w i (u ∷ us) all h e, rows-some p w (suc i) (row_len p w (u ∷ us) - 1) us all h.1 (rest-of i u us all e))
 
-wrapped-some : (p : Unit → Bool) (w : ℕ) (us : List Unit) → AllHave us → EachSome w (map (row_units us) (rows_of p w us))
+pub wrapped-some : (p : Unit → Bool) (w : ℕ) (us : List Unit) → AllHave us → EachSome w (map (row_units us) (rows_of p w us))
 wrapped-some p w [] h = (tt, tt)
 wrapped-some p w (u ∷ us) h = rows-some p w 0 0 (u ∷ us) (u ∷ us) h refl
 

@@ -20,16 +20,20 @@ use Rattle.bx_index.proofs.Cuts.{parts}
 use Rattle.bx_paragraph.specs.BodyRows.{body_rows}
 use Rattle.bx_paragraph.specs.Layout.{LayoutState, rows_by}
 use Rattle.bx_view.specs.BodyPlaces.{body_places, place_in_body}
-use Rattle.bx_view.specs.Holding.{AreHeld, HoldsBody, IsHeld, ViewState}
+use Rattle.bx_view.specs.Caching.{AreCached, Caches, IsCached, ViewState}
+use Rattle.bx_view.specs.FoundRow.{rows_by as rows_of_text}
 use Rattle.bx_view.specs.Moves.{place_from}
+use Rattle.bx_view.specs.Places.{IsTextPlace}
 use Rattle.bx_view.specs.Standing.{body_at, count, start_at}
 use Rattle.bx_view.specs.TextRows.{places, rows_from, text_rows}
 use Rattle.bx_view.proofs.Begins.{IsBegin, begin_at, no_chars, some_chars, take_parts}
 use Rattle.bx_view.proofs.BodyFirsts.{starts_of}
 use Rattle.bx_view.proofs.Cutting.{Opens, none_back, none_front, none_joined, opens, parts_ahead, quiet_cut}
 use Rattle.bx_view.proofs.InBody.{not-moved}
+use Rattle.bx_view.proofs.KeptPlaces.{place-from-kept}
 use Rattle.bx_view.proofs.LeastPlace.{least, least_stops, place_after_front, spots_more}
 use Rattle.bx_view.proofs.Numbers.{behind, body-is, body-utf8, here}
+use Rattle.bx_view.proofs.PlacesOn.{finds-least}
 use Rattle.bx_view.proofs.PlacesRise.{body-places}
 use Rattle.bx_paragraph.proofs.Starts.{side-some}
 
@@ -197,6 +201,13 @@ module _ (says : Data) (text : List ℕ) (utf8 : IsUtf8 text) (number : ℕ) (th
         ∙ append_assoc (before ++ head) new (tail ++ back) ∙ append_assoc before head (new ++ (tail ++ back))
         ∙ ap (λ bs. before ++ (head ++ bs)) (sym (append_assoc new tail back)) ∙ ap (λ bs. before ++ bs) (sym (append_assoc head (new ++ tail) back))
 
+    pub left_utf8 : IsUtf8 (splice text start stop new)
+    left_utf8 = subst IsUtf8 (sym whole) (IsUtf8-append before (now ++ back) before_utf8 (IsUtf8-append now back now_utf8 back_utf8))
+
+    pub left_inside : start + length new ≤ length (splice text start stop new)
+    left_inside =
+        omega (arith, ap length whole, length-append before (now ++ back), length-append now back, now_bytes, before_bytes, order)
+
     -- the same paragraphs end in front of it
     parts_now : (at ≡ 0) ⊎ (at < start) → parts says (chars before) (chars (now ++ back)) ≡ true
     parts_now (inl none_before) =
@@ -224,18 +235,18 @@ module _ (says : Data) (text : List ℕ) (utf8 : IsUtf8 text) (number : ℕ) (th
         ∙ ap (λ n. at + n)
         (place_first says base w h now back o.separator o.others (start - at + length new) now_utf8 now_none back_cut now_bytes)
 
--- ---- in a held paragraph
+-- ---- in a cached paragraph
 
 pub inner_of : (first start : ℕ) → ((first == 0) || nat_lt first start) ≡ true → (first ≡ 0) ⊎ (first < start)
 inner_of zero start e = inl refl
 inner_of (suc n) start e = let less : suc n < start = grind (arith, nat_tests) in inr less
 
--- the held paragraph at an index
-pub held_at : (says : Data) (base : Base) (left : List ℕ) (w : ℕ) (held : List LayoutState) (i : ℕ)
-    (l : LayoutState) → AreHeld says base held → HoldsBody left w held i → l ≡ get_or held i l
-    → IsHeld says base l × (l.w ≡ w) × (l.body ≡ left)
-held_at says base left w held i l all h e = (
-  subst (IsHeld says base) (sym e) (all.laid_out i l h.within),
+-- the cached paragraph at an index
+pub cached_at : (says : Data) (base : Base) (left : List ℕ) (w : ℕ) (cache : List LayoutState) (i : ℕ)
+    (l : LayoutState) → AreCached says base cache → Caches left w cache i → l ≡ get_or cache i l
+    → IsCached says base l × (l.w ≡ w) × (l.body ≡ left)
+cached_at says base left w cache i l all h e = (
+  subst (IsCached says base) (sym e) (all.laid_out i l h.within),
   ap (λ (x : LayoutState). x.w) e ∙ h.w_is l,
   ap (λ (x : LayoutState). x.body) e ∙ h.body_is l,
 )
@@ -258,13 +269,19 @@ splice_most text first last body i j new within e range =
       start.0,
     )
 
+-- the place after an edit, in the text that it leaves
+pub record IsPlaceAfter (says : Data) (v : ViewState) (text : List ℕ) (start stop : ℕ) (new : List ℕ) (o : ℕ) : Type 0 where
+  pub place : o ≡ place_from (rows_of_text says v (splice text start stop new)) (start + length new)
+  pub text_place : IsTextPlace says (splice text start stop new) o
+  pub order : start + length new ≤ o
+
 pub edited_place : (says : Data) (v : ViewState) (text : List ℕ) → IsUtf8 text → (number : ℕ)
     → number < count says text → (first start stop : ℕ) (new : List ℕ) → IsUtf8 new → (l : LayoutState) (place offset : ℕ)
     → first ≡ start_at says text number → first ≤ start → start ≤ stop → IsRange (body_at says text number) (start - first) (stop - first)
     → HasNone says (chars new) → (first ≡ 0) ⊎ (first < start) → is_side v.w ≡ true → l.base ≡ v.base → l.w ≡ v.w
     → l.body ≡ list_splice (body_at says text number) (start - first) (stop - first) new → offset ≡ start - first + length new
     → place ≡ place_in_body (rows_by says l) offset
-    → first + place ≡ place_from (text_rows says v.base v.w (splice text start stop new)) (start + length new)
+    → IsPlaceAfter says v text start stop new (first + place)
 edited_place says v text utf8 number there first start stop new new_utf8 l place offset first_is order further range none inner side base_is w_is
     body_is offset_is place_is =
     let at = start_at says text number in
@@ -277,8 +294,19 @@ edited_place says v text utf8 number there first start stop new new_utf8 l place
     let rows_are : rows_by says l ≡ body_rows says v.base v.w now =
     ap (λ b. body_rows says b l.w l.body) base_is ∙ ap (λ w. body_rows says v.base w l.body) w_is
     ∙ ap (body_rows says v.base v.w) spliced in
+    let some = side-some v.w side in
+    let after : at ≤ start = omega (arith, order, first_is) in
+    let left = splice text start stop new in
+    let is : first + place ≡ place_from (rows_of_text says v left) (start + length new) =
     ap (λ n. n + place) first_is
     ∙ ap (λ n. at + n)
     (place_is ∙ ap (λ rs. place_in_body rs offset) rows_are ∙ ap (place_in_body (body_rows says v.base v.w now)) offset_own)
-    ∙ sym (place_edited says text utf8 number there start stop new new_utf8 (omega (arith, order, first_is)) further own_range none v.base v.w
-    (side-some v.w side) own_inner)
+    ∙ sym (place_edited says text utf8 number there start stop new new_utf8 after further own_range none v.base v.w some own_inner) in
+    let valid : IsUtf8 left = left_utf8 says text utf8 number there start stop new new_utf8 after further own_range none in
+    let least = (finds-least says v.base v.w some left valid).inside (start + length new)
+    (left_inside says text utf8 number there start stop new new_utf8 after further own_range none) in
+    record {
+      place = is;
+      text_place = place-from-kept says v left side valid (start + length new) (first + place) is;
+      order = omega (arith, is, least.not_before);
+    }

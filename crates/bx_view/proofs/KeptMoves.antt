@@ -1,6 +1,6 @@
 -- Each move leads from an offset with a property to one with it, if the places of all rows have it.
-use Rattle.std.proofs.Common.{ℕ, zero, suc, ◌+◌, ◌-◌, ◌<◌, ◌==◌, nat_le, nat_lt, Bool, true, false, List, [], ◌∷◌, map, length, find}
-use Rattle.std.proofs.Common.{reverse, slice_get, Option, Some, None, unwrap_or}
+use Rattle.std.proofs.Common.{◌≡◌, ℕ, zero, suc, ◌+◌, ◌-◌, ◌<◌, ◌==◌, nat_le, nat_lt, Bool, true, false, List, [], ◌∷◌, map, length, find}
+use Rattle.std.proofs.Common.{reverse, slice_get, Option, Some, None, unwrap_or, subst, sym}
 use Rattle.std.proofs.Common.{arith}
 use Rattle.std.specs.Prelude.{All, IfSome}
 use Rattle.std.proofs.lemmas.List.Elements.{All-head, All-tail}
@@ -15,7 +15,7 @@ use Rattle.bx_view.specs.declared.moves.Logical.TheVariants.{Back, Forward}
 use Rattle.bx_view.specs.declared.moves.Move.{Move}
 use Rattle.bx_view.specs.declared.moves.Move.TheVariants as moves
 use Rattle.bx_view.specs.declared.moves.Vertical.{Vertical}
-use Rattle.bx_view.specs.Moves.{end_of, entry_in, moved, past, place_at, place_from, place_in, row_after, row_away}
+use Rattle.bx_view.specs.Moves.{end_of, entry_in, is_to_row_end, moved, past, place_at, place_from, place_in, row_after, row_away}
 use Rattle.bx_view.specs.Moves.{row_before, row_end, row_home, rows_away, start_of, step_logical, step_visual, word_way}
 use Rattle.bx_view.specs.Laws.{MovesKeep}
 use Rattle.bx_view.specs.TextRows.{TextRow, cell_of, first, no_text_row, places, row_at, row_of}
@@ -184,3 +184,22 @@ module _ (says : Data) (text : List ℕ) (w : ℕ) (rows : List TextRow) (P : �
     end = kept-row_end;
     top = kept-follow;
   }
+
+-- ---- where a move leads to
+
+module _ (says : Data) (text : List ℕ) (w : ℕ) (rows : List TextRow) (P : ℕ → Type 0) (kept : MovesKeep says text w rows P) (place o : ℕ) where
+  pub moved-keeps : (m : Move) → o ≡ moved says text w rows m place → P place → P o
+  moved-keeps m e b = subst P (sym e) (kept.moved m place b)
+
+  -- an end of a row, from any offset
+  pub row-end-keeps : (m : Move) → o ≡ moved says text w rows m place → is_to_row_end m ≡ true → P o
+  row-end-keeps moves.RowHome e h = subst P (sym e) (kept.home place)
+  row-end-keeps moves.RowEnd e h = subst P (sym e) (kept.end place)
+  row-end-keeps (moves.Logical way) e h = absurd (cc)
+  row-end-keeps (moves.Visual side) e h = absurd (cc)
+  row-end-keeps (moves.Rows way n) e h = absurd (cc)
+  row-end-keeps (moves.RowsIn way n column) e h = absurd (cc)
+  row-end-keeps (moves.Word way) e h = absurd (cc)
+  row-end-keeps (moves.WordTowards side) e h = absurd (cc)
+  row-end-keeps moves.TextStart e h = absurd (cc)
+  row-end-keeps moves.TextEnd e h = absurd (cc)

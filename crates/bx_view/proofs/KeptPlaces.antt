@@ -10,6 +10,7 @@ use Rattle.std.proofs.lemmas.List.Elements.{All-append, All-cons, All-contains_i
 use Rattle.std.proofs.lemmas.List.Elements.{Contains-append_left, Contains-append_right}
 use Rattle.std.proofs.lemmas.List.Sums.{get_or-le-sum_by, sum_by-cons}
 use Rattle.bx_ucd.specs.Data.{Data}
+use Rattle.bx_terms.specs.Sizes.{is_side}
 use Rattle.bx_terms.specs.declared.base.Base.{Base}
 use Rattle.bx_resolve.specs.Levels.{paragraph_level_under, levels_under}
 use Rattle.bx_cells.specs.declared.unit.Unit.{Unit}
@@ -20,9 +21,13 @@ use Rattle.bx_paragraph.specs.BodyRows.{BodyRow, body_rows, offsets_of, row_with
 use Rattle.bx_paragraph.specs.Slots.{slot_offsets}
 use Rattle.bx_paragraph.proofs.OnceEach.{once-contains}
 use Rattle.bx_view.specs.Cells.{times}
+use Rattle.bx_view.specs.FoundRow.{rows_by}
+use Rattle.bx_view.specs.Caching.{ViewState}
 use Rattle.bx_view.specs.Laws.{MovesKeep}
+use Rattle.bx_view.specs.Moves.{place_at, place_from}
 use Rattle.bx_view.specs.Places.{IsTextPlace}
 use Rattle.bx_view.specs.TextRows.{TextRow, IsPlace, first, places, places_of, text_row, text_rows}
+use Rattle.bx_paragraph.proofs.Starts.{side-some}
 use Rattle.bx_view.proofs.RowsAround.{from, own}
 use Rattle.bx_view.proofs.KeptMoves.{moves-keep}
 use Rattle.bx_view.proofs.Rising.{rank-few}
@@ -146,3 +151,15 @@ module _ (says : Data) (base : Base) (w : ℕ) (some : 1 ≤ w) (text : List ℕ
   -- and so from a place of the text to a place
   pub text-places-kept : MovesKeep says text w rows (IsTextPlace says text)
   text-places-kept = subst (λ os. MovesKeep says text w rows (λ p. Contains os p)) (places-are says base w some text utf8) places-kept
+
+-- ---- as a layout answers it
+
+module _ (says : Data) (v : ViewState) (text : List ℕ) (side : is_side v.w ≡ true) (utf8 : IsUtf8 text) where
+  kept : MovesKeep says text v.w (rows_by says v text) (IsTextPlace says text)
+  kept = text-places-kept says v.base v.w (side-some v.w side) text utf8
+
+  pub place-from-kept : (offset o : ℕ) → o ≡ place_from (rows_by says v text) offset → IsTextPlace says text o
+  place-from-kept offset o e = subst (IsTextPlace says text) (sym e) (kept.from offset)
+
+  pub place-at-kept : (offset o : ℕ) → o ≡ place_at (rows_by says v text) offset → IsTextPlace says text o
+  place-at-kept offset o e = subst (IsTextPlace says text) (sym e) (kept.at offset)

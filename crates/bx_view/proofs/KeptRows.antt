@@ -6,12 +6,12 @@ use Rattle.bx_view.specs.declared.row_at.RowAt.{RowAt}
 use Rattle.bx_view.specs.declared.moves.Vertical.{Vertical}
 use Rattle.bx_view.specs.declared.moves.Vertical.TheVariants.{Up, Down}
 use Rattle.bx_view.specs.FoundRow.{StandsOn, rows_by}
-use Rattle.bx_view.specs.Holding.{Keeps, ViewState}
+use Rattle.bx_view.specs.Caching.{Keeps, ViewState}
 use Rattle.bx_view.specs.Moves.{row_away}
 use Rattle.bx_view.specs.TextRows.{TextRow, first, row_at, row_of}
 use Rattle.bx_view.proofs.Nearest.{falls-within}
 use Rattle.bx_paragraph.proofs.Starts.{side-some}
-use Rattle.bx_view.proofs.HeldRows.{rows-kept}
+use Rattle.bx_view.proofs.CachedRows.{rows-kept}
 use Rattle.bx_view.proofs.Walking.{firsts-rise, row-within}
 
 pub away-within : (count : ℕ) (way : Vertical) (n k : ℕ) → k < count → row_away count way n k < count

@@ -14,7 +14,7 @@ use Rattle.bx_index.specs.Paragraphs.{Paragraph, bare, lengths, lengths_of, para
 use Rattle.bx_index.specs.Positions.{bytes_of, paragraph_of, spans, spans_from, total}
 use Rattle.bx_index.proofs.Asked.{span_at}
 use Rattle.bx_index.proofs.Totals.{total_more}
-use Rattle.bx_view.specs.Standing.{body_at, count, paragraph_at, start_at}
+use Rattle.bx_view.specs.Standing.{IsSpan, body_at, count, paragraph_at, start_at}
 use Rattle.bx_view.proofs.RowsAround.{EndsBefore, IsAmong, behind-utf8}
 use Rattle.bx_view.proofs.Parts.{AreUtf8, bytes, text-bytes, text-parts}
 
@@ -213,13 +213,6 @@ module _ (says : Data) (text : List ℕ) where
 
 -- ---- a span from an index
 
-pub record IsSpan (says : Data) (text : List ℕ) (n a b : ℕ) : Type 0 where
-  pub start : a ≡ start_at says text n
-  pub body : slice_range text a b ≡ body_at says text n
-  pub range : IsRange text a b
-  pub order : a ≤ b
-  pub within : b ≤ length text
-
 pub paragraph-span : (says : Data) (text : List ℕ) (ls : List Lengths) (n a b : ℕ) → IsUtf8 text → n < count says text → ls ≡ lengths says text
     → ◌≡◌ {A = Option (ℕ × ℕ)} (slice_get (spans ls) n) (Some (a, b)) → IsSpan says text n a b
 paragraph-span says text ls n a b utf8 within same e =
@@ -229,6 +222,7 @@ paragraph-span says text ls n a b utf8 within same e =
     let bounds : IsCharBoundary text stop = range.stop_bounds in
     let inside : stop ≤ length text = bounds.0 in
     record {
+      there = within;
       start = found.0;
       body = ap (λ k. slice_range text k b) found.0 ∙ ap (slice_range text (start_at says text n)) found.1 ∙ body-is says text n within utf8;
       range = subst (IsRange text a) (sym found.1) (subst (λ k. IsRange text k stop) (sym found.0) range);
@@ -238,7 +232,6 @@ paragraph-span says text ls n a b utf8 within same e =
 
 -- the span of the paragraph that an offset falls in
 pub record IsUnder (says : Data) (text : List ℕ) (offset n a b : ℕ) : Type 0 where
-  pub there : n < count says text
   pub span : IsSpan says text n a b
   pub before : a ≤ offset
 
@@ -247,4 +240,4 @@ pub paragraph-under : (says : Data) (text : List ℕ) (ls : List Lengths) (offse
 paragraph-under says text ls offset n a b utf8 same number e =
     let falls = falls-at says text offset n utf8 (number ∙ ap (λ ks. paragraph_of ks offset) same) in
     let span = paragraph-span says text ls n a b utf8 falls.within same e in
-    record { there = falls.within; span = span; before = omega (arith, falls.order, span.start) }
+    record { span = span; before = omega (arith, falls.order, span.start) }

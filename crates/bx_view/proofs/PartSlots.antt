@@ -8,8 +8,8 @@ use Rattle.bx_ucd.specs.declared.data.BidiData.{Ghosts}
 use Rattle.bx_paragraph.specs.declared.slot.Slot.{Slot}
 use Rattle.bx_paragraph.specs.LentRow.{row}
 use Rattle.bx_paragraph.specs.Slots.{row_slots}
-use Rattle.bx_view.specs.declared.placed_row.PlacedRow.{PlacedRow}
-use Rattle.bx_view.specs.PlacedRow.{columns, placed}
+use Rattle.bx_paragraph.specs.declared.lent_row.LentRow.{LentRow}
+use Rattle.bx_view.specs.Placed.{columns, placed}
 use Rattle.bx_view.specs.TextParts.{is_in, slots_in}
 use Rattle.bx_view.proofs.PlacedRows.{Low, lies}
 use Rattle.bx_view.proofs.Within.{Within}
@@ -53,21 +53,21 @@ none-passes P p (s ∷ ss) h a = none-passes P p ss h a.1 ∙ sym (ap (λ b. con
 
 -- ---- of a lent row
 
-module _ {D : Type 0} {g : Ghosts D} (s : PlacedRow D g) (part : ℕ × ℕ) where
+module _ {D : Type 0} {g : Ghosts D} (s : LentRow D g) (part : ℕ × ℕ) where
   -- the body lies outside the part
-  pub none-told : (part.1 - s.start ≤ part.0 - s.start) ⊎ (length s.row.paragraph.now.body < part.0 - s.start)
+  pub none-told : (part.1 - s.start ≤ part.0 - s.start) ⊎ (length s.paragraph.now.body < part.0 - s.start)
       → [] ≡ slots_in (columns s) part (placed s)
   none-told outside =
-      none-passes (Low s) (is-unit-in part s.start) (row_slots (columns s) (row s.row))
+      none-passes (Low s) (is-unit-in part s.start) (row_slots (columns s) (row s))
       (λ t low. out part s.start t (λ below. ⊎_elim (λ few. omega (arith, few, below)) (λ before. absurd (omega (arith, before, low, below))) outside))
       (lies s).slots
 
   -- the slots that are kept
   pub some-told : (ss new : List Slot) (start stop : ℕ) → start ≡ part.0 - s.start → stop ≡ part.1 - s.start
-      → ss ≡ row_slots (columns s) (row s.row) → new ≡ filter (λ t. nat_lt 0 t.columns && is_in (start, stop) t.offset) ss
+      → ss ≡ row_slots (columns s) (row s) → new ≡ filter (λ t. nat_lt 0 t.columns && is_in (start, stop) t.offset) ss
       → new ≡ slots_in (columns s) part (placed s)
   some-told ss new start stop low high own kept =
       kept ∙ ap (filter (λ t. nat_lt 0 t.columns && is_in (start, stop) t.offset)) own
       ∙ filter_agree (λ t. nat_lt 0 t.columns && is_in (start, stop) t.offset) (is-unit-in part s.start)
       (λ t. ap₂ (λ a b. nat_lt 0 t.columns && is_in (a, b) t.offset) low high
-      ∙ ap (λ b. nat_lt 0 t.columns && b) (same-in part s.start t.offset)) (row_slots (columns s) (row s.row))
+      ∙ ap (λ b. nat_lt 0 t.columns && b) (same-in part s.start t.offset)) (row_slots (columns s) (row s))

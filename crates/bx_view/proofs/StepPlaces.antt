@@ -5,14 +5,14 @@ use Rattle.bx_ucd.specs.Data.{Data}
 use Rattle.bx_paragraph.specs.BodyRows.{last_of}
 use Rattle.bx_view.specs.declared.row_at.RowAt.{RowAt}
 use Rattle.bx_view.specs.FoundRow.{StandsOn, rows_by}
-use Rattle.bx_view.specs.Holding.{Keeps, ViewState}
+use Rattle.bx_view.specs.Caching.{Keeps, ViewState}
 use Rattle.bx_view.specs.Moves.{place_at, place_from}
 use Rattle.bx_view.specs.TextRows.{TextRow, first, places, places_of, row_at, row_of}
 use Rattle.bx_view.proofs.FindPlaces.{back-in-row, back-stays, back-to-row, forward-in-row, forward-stays, forward-to-next, from-here, from-last, from-next, last-in-row}
 use Rattle.bx_view.proofs.PlacesRise.{AllHeads, places-rise, rows-headed-in}
 use Rattle.bx_view.proofs.Rising.{Rises, rank}
 use Rattle.bx_paragraph.proofs.Starts.{side-some}
-use Rattle.bx_view.proofs.HeldRows.{rows-kept}
+use Rattle.bx_view.proofs.CachedRows.{rows-kept}
 use Rattle.bx_view.proofs.Walking.{row-within, text-rank}
 
 module _ (says : Data) (old v : ViewState) (text : List ℕ) (offset : ℕ) (at : RowAt) (utf8 : IsUtf8 text)

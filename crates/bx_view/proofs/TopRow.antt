@@ -4,12 +4,12 @@ use Rattle.std.proofs.lemmas.Bool.{cases_lt}
 use Rattle.bx_ucd.specs.Data.{Data}
 use Rattle.bx_view.specs.declared.row_at.RowAt.{RowAt}
 use Rattle.bx_view.specs.FoundRow.{StandsOn, rows_by}
-use Rattle.bx_view.specs.Holding.{Keeps, ViewState}
+use Rattle.bx_view.specs.Caching.{Keeps, ViewState}
 use Rattle.bx_view.specs.TextRows.{first, row_at}
 use Rattle.bx_view.specs.Top.{nearest_top}
 use Rattle.bx_view.proofs.Nearest.{no-later, not-after}
 use Rattle.bx_paragraph.proofs.Starts.{side-some}
-use Rattle.bx_view.proofs.HeldRows.{rows-kept}
+use Rattle.bx_view.proofs.CachedRows.{rows-kept}
 use Rattle.bx_view.proofs.Walking.{firsts-rise, row-within}
 
 -- the old top, where the row `a` above the cursor's is at it or above it; but for the cursor's own row, none that was passed is above the old top

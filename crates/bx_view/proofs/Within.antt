@@ -176,11 +176,11 @@ body-row-lies P says base w body k utf8 each h =
 
 -- ---- properties of a row
 
-pub slots-fit : (P : ℕ → Type 0) (start most : ℕ) (ss : List Slot) → ((o : ℕ) → P o → start + o ≤ most) → Within P (map (λ s. s.offset) ss)
-    → All (λ s. start + s.offset ≤ most) ss
-slots-fit P start most [] h a = All-nil (λ (s : Slot). start + s.offset ≤ most)
+pub slots-fit : (P : ℕ → Type 0) (start most : ℕ) (ss : List Slot) → ((o : ℕ) → P o → start + o < most) → Within P (map (λ s. s.offset) ss)
+    → All (λ s. start + s.offset < most) ss
+slots-fit P start most [] h a = All-nil (λ (s : Slot). start + s.offset < most)
 slots-fit P start most (s ∷ ss) h a =
-    All-cons (λ (t : Slot). start + t.offset ≤ most) s ss (h s.offset a.0) (slots-fit P start most ss h a.1)
+    All-cons (λ (t : Slot). start + t.offset < most) s ss (h s.offset a.0) (slots-fit P start most ss h a.1)
 
 module _ (P : ℕ → Type 0) (w : ℕ) (r : BodyRow) (lies : LiesIn P w r) where
   pub last-fits : P (last_of r)

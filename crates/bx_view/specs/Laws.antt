@@ -1,11 +1,9 @@
--- Laws of the places of every text, in every window.
-use Rattle.std.specs.Prelude.{◌≡◌, ℕ, ◌+◌, ◌-◌, ◌<◌, ◌≤◌, true, List, length, slice_get, Some, IfSome, All, Contains, IsUtf8, IsCharBoundary}
+-- Laws of the places of every text, in every window of `w` columns. `says` is what the tables say.
+use Rattle.std.specs.Prelude.{◌≡◌, ℕ, ◌+◌, ◌-◌, ◌<◌, ◌≤◌, List, length, slice_get, Some, IfSome, All, Contains, IsCharBoundary}
 use Rattle.std.specs.Int.{abs_diff}
 use Rattle.std.specs.List.{concat}
 use Rattle.std.specs.List.Sorted.{IsStrictlyIncreasing}
 use Rattle.bx_ucd.specs.Data.{Data}
-use Rattle.bx_terms.specs.Sizes.{is_side}
-use Rattle.bx_terms.specs.declared.base.Base.{Base}
 use Rattle.bx_paragraph.specs.declared.moves.Visual.{Visual}
 use Rattle.bx_view.specs.declared.moves.Logical.{Logical}
 use Rattle.bx_view.specs.declared.moves.Logical.TheVariants.{Back, Forward}
@@ -13,15 +11,9 @@ use Rattle.bx_view.specs.declared.moves.Move.{Move}
 use Rattle.bx_view.specs.declared.moves.Vertical.{Vertical}
 use Rattle.bx_view.specs.Moves.{entry_in, moved, page, place_at, place_from, row_end, row_home, step_logical, step_visual, vertical}
 use Rattle.bx_view.specs.Places.{pieces, text_places, IsTextPlace}
-use Rattle.bx_view.specs.TextRows.{TextRow, row_at, row_of, text_rows}
+use Rattle.bx_view.specs.TextRows.{TextRow, row_at, row_of}
 use Rattle.bx_view.specs.Top.{follow}
 use Rattle.bx_view.specs.Words.{step_word, text_stops}
-
--- a property of the rows of every text, in every window and direction
-abbrev pub InEachWindow : (Data → List ℕ → ℕ → List TextRow → Type 0) → Type 0
-InEachWindow P =
-    (says : Data) (base : Base) (w : ℕ) (text : List ℕ) → is_side w ≡ true → IsUtf8 text
-    → P says text w (text_rows says base w text)
 
 -- The pieces of a text joined are the text. Its places are character boundaries and strictly increase from the text's
 -- start to its end.
@@ -32,24 +24,18 @@ pub record SpansText (says : Data) (text : List ℕ) : Type 0 where
   pub rise : IsStrictlyIncreasing (text_places says text)
   pub between : All (IsCharBoundary text) (text_places says text)
 
--- a place is the greatest one not after an offset
-pub record IsGreatestPlace (says : Data) (text : List ℕ) (offset place : ℕ) : Type 0 where
-  pub is_place : IsTextPlace says text place
-  pub not_after : place ≤ offset
-  pub greatest : (p : ℕ) → IsTextPlace says text p → p ≤ offset → p ≤ place
-
 -- a place is the least one not before an offset
 pub record IsLeastPlace (says : Data) (text : List ℕ) (offset place : ℕ) : Type 0 where
   pub is_place : IsTextPlace says text place
   pub not_before : offset ≤ place
   pub least : (p : ℕ) → IsTextPlace says text p → offset ≤ p → place ≤ p
 
--- the place from an offset on is the least place not before it, and from past the text's end on the end
+-- `from` gives for each offset the least place not before it, and for one past the text's end that end
 pub record FindsLeastPlace (says : Data) (text : List ℕ) (from : ℕ → ℕ) : Type 0 where
   pub inside : (offset : ℕ) → offset ≤ length text → IsLeastPlace says text offset (from offset)
   pub past : (offset : ℕ) → length text < offset → from offset ≡ length text
 
--- each move leads from an offset with the property `P` to one with it
+-- each move leads from a place with the property `P` to one with it, and what finds a place from any offset finds one with it
 pub record MovesKeep (says : Data) (text : List ℕ) (w : ℕ) (rows : List TextRow) (P : ℕ → Type 0) : Type 0 where
   pub from : (offset : ℕ) → P (place_from rows offset)
   pub at : (offset : ℕ) → P (place_at rows offset)
@@ -76,8 +62,8 @@ pub record IsGreatestBefore (stops : List ℕ) (place stop : ℕ) : Type 0 where
   pub before : stop < place
   pub greatest : (o : ℕ) → Contains stops o → o < place → o ≤ stop
 
--- A step forward leads to the least stop after the place, and stays only at the text's end. A step back leads to the
--- greatest stop before it, and stays only at the text's start.
+-- `stops` are the offsets at which a way has stops. A step forward leads to the least stop after the place, and stays only at the
+-- text's end. A step back leads to the greatest stop before it, and stays only at the text's start.
 pub record StepsOn (text : List ℕ) (stops : Logical → List ℕ) (step : Logical → ℕ → ℕ) : Type 0 where
   pub forward : (place : ℕ) → place < length text → IsLeastBehind (stops Forward) place (step Forward place)
   pub back : (place : ℕ) → 0 < place → IsGreatestBefore (stops Back) place (step Back place)
@@ -92,7 +78,7 @@ WordsGoOn says text step = StepsOn text (λ way. text_stops says way text) step
 abbrev pub PlacesGoOn : Data → List ℕ → (Logical → ℕ → ℕ) → Type 0
 PlacesGoOn says text step = StepsOn text (λ _. text_places says text) step
 
--- the row of a place is one of the `t` rows from row `k` on
+-- the row of a place is one of the `t` rows from row `k`, counted from 0, on
 abbrev pub IsShownFrom : List TextRow → ℕ → ℕ → ℕ → Type 0
 IsShownFrom rows place t k = (k ≤ row_of rows place) × (row_of rows place < k + t)
 

@@ -1,4 +1,4 @@
-//! Edits of held paragraphs, and the place after an edit.
+//! Edits of cached paragraphs, and the place after an edit.
 ghost use Rattle.std.specs.Prelude.{◌≡◌, ◌≤◌, ◌+◌, ◌==◌, ◌||◌, IfOk, IfSome, chars, length, nat_lt};
 ghost use Rattle.std.specs.List.{list_any};
 ghost use Rattle.bx_paragraph.specs.Layout.{IsLayoutBy, rows_by as rows_of_body};
@@ -6,25 +6,26 @@ ghost use Rattle.bx_index.specs.Paragraphs.{is_separator};
 ghost use Rattle.bx_text.specs.Edits.{splice};
 ghost use Rattle.bx_view.specs.BodyPlaces.{place_in_body};
 ghost use Rattle.bx_view.specs.FoundRow.{rows_by};
-ghost use Rattle.bx_view.specs.Holding as holding;
+ghost use Rattle.bx_view.specs.Caching as caching;
 ghost use Rattle.bx_view.specs.Moves.{place_from};
+ghost use Rattle.bx_view.specs.Places.{IsTextPlace};
 ghost use Rattle.bx_view.specs.Source.{IsViewBy, Keeps, bytes};
 
+use crate::cache::{edit_in, find_in, lay_out_in};
 use crate::error::ViewError;
-use crate::holder::{edit_in, lay_out_in, position};
-use crate::layout::Layout;
-use crate::logical::first_from;
+use crate::placed::first_from;
 use crate::source::Source;
 use crate::span::paragraph_under;
+use crate::view::View;
 use bx_index::separates;
 use bx_paragraph::{LentRow, ParagraphLayout};
 use bx_ucd::BidiData;
 
-/// A range of bytes in the body of a held paragraph.
+/// A range of bytes in the body of a cached paragraph, from the offset `start` up to `stop`.
 #[derive(Clone, Copy)]
-pub struct HeldRange {
-    // the paragraph's index among the held ones
-    held: usize,
+pub struct CachedRange {
+    // the paragraph's index among the cached ones
+    cached: usize,
     start: usize,
     stop: usize,
 }
@@ -43,7 +44,8 @@ fn is_after_begin(first: usize, offset: usize) -> bool
     first == 0 || first < offset
 }
 
-/// The first place of a paragraph at or after an offset of its body; the last place, if there is none.
+/// The first place of a paragraph at or after an offset of its body; the last place, if there is none. Both are offsets of the
+/// body.
 fn place_in_body<D: BidiData>(
     paragraph: &ParagraphLayout,
     offset: usize,
@@ -53,14 +55,12 @@ fn place_in_body<D: BidiData>(
     ensures place { IfOk result (λ o. o ≡ place_in_body (rows_of_body (D.data tables.now) paragraph.now) offset) }
     ensures within { IfOk result (λ o. o ≤ length paragraph.now.body) }
 {
-    // proof only: the body is UTF-8, and the width is within its limits
-    let _utf8 = paragraph.body();
-    let _side = paragraph.width();
     let row = paragraph.row_of(offset);
     let lent = LentRow {
         paragraph,
         tables,
         number: row,
+        start: 0,
     };
     let offsets = lent.offsets()?;
     if let Some(place) = first_from(&offsets, offset) {
@@ -74,11 +74,11 @@ fn place_in_body<D: BidiData>(
     Ok(last)
 }
 
-impl Layout {
-    /// Applies a pending edit, which replaces the bytes from `start` to `stop`, to its held paragraph, and returns the place
-    /// after the edit. None if the paragraph is not held, if the edit exceeds it or inserts a separator, and at the start of
-    /// a paragraph other than the first, where a CR and an LF may join into one separator. The paragraphs are then laid out
-    /// again when they are needed.
+impl View {
+    /// Applies an edit that the text is about to get, which replaces its bytes from `start` to `stop` with `new`, to the cached
+    /// paragraph, and returns the place after the edit. None, with nothing applied, if the paragraph is not cached, if the range
+    /// exceeds it or cuts a character, or if `new` has a separator. None too, with the edit applied, at the start of a paragraph
+    /// other than the text's first, where a CR before it and an LF may join into one separator.
     pub fn edit<D: BidiData>(
         &mut self,
         source: &Source<'_, D>,
@@ -91,17 +91,21 @@ impl Layout {
         ensures place { IfOk result (λ found. IfSome found (λ o. o ≡ place_from
             (rows_by (D.data source.now.tables.now) self.old (splice (bytes source.now) start stop new.now))
             (start + length new.now))) }
+        ensures text_place { IfOk result (λ found. IfSome found
+            (IsTextPlace (D.data source.now.tables.now) (splice (bytes source.now) start stop new.now))) }
+        ensures order { IfOk result (λ found. IfSome found (λ o. start + length new.now ≤ o)) }
     {
-        let (_, first, last) = paragraph_under(source, start);
-        if stop < start || last < stop || has_separator(new, source.tables) {
+        let span = paragraph_under(source, start);
+        if stop < start || span.stop < stop || has_separator(new, source.tables) {
             return Ok(None);
         }
-        let Some(i) = position(&self.held, &mut self.recent, source.text, first, last) else {
+        let first = span.start;
+        let Some(i) = find_in(&self.cache, &mut self.recent, source.text, span) else {
             return Ok(None);
         };
-        lay_out_in(&mut self.held, i, source.tables, self.base, self.w)?;
+        lay_out_in(&mut self.cache, i, source.tables, self.base, self.w)?;
         let range = start - first..stop - first;
-        let is_edited = edit_in(&mut self.held, i, range, new, source.tables, self.base)?;
+        let is_edited = edit_in(&mut self.cache, i, range, new, source.tables, self.base)?;
         if !is_edited {
             return Ok(None);
         }
@@ -109,47 +113,53 @@ impl Layout {
             return Ok(None);
         }
         let offset = start - first + new.len();
-        let place = place_in_body(&self.held[i], offset, source.tables)?;
+        let place = place_in_body(&self.cache[i], offset, source.tables)?;
         Ok(Some(first + place))
     }
 
-    /// A range of the text as a range of a held paragraph; none if the paragraph is not held or the range exceeds it.
-    /// Allocates nothing.
-    pub fn held_range<D: BidiData>(
+    /// A range of the text as a range of a cached paragraph, for `follow_edit` once the text has changed. None if the paragraph
+    /// is not cached or the range exceeds it. Allocates nothing.
+    pub fn cached_range<D: BidiData>(
         &mut self,
         source: &Source<'_, D>,
         start: usize,
         stop: usize,
-    ) -> Option<HeldRange>
+    ) -> Option<CachedRange>
         ensures { self.new ≡ self.old }
     {
-        let (_, first, last) = paragraph_under(source, start);
-        if stop < start || last < stop {
+        let span = paragraph_under(source, start);
+        if stop < start || span.stop < stop {
             return None;
         }
-        let held = position(&self.held, &mut self.recent, source.text, first, last)?;
-        Some(HeldRange {
-            held,
-            start: start - first,
-            stop: stop - first,
+        let cached = find_in(&self.cache, &mut self.recent, source.text, span)?;
+        Some(CachedRange {
+            cached,
+            start: start - span.start,
+            stop: stop - span.start,
         })
     }
 
-    /// Applies an edit, which replaces a range with `new`, to a held paragraph, unless `new` contains a separator.
+    /// Applies an edit, which replaces a range with `new`, to the cached paragraph that `cached_range` just found: once the view
+    /// has searched again, another may have its index. Nothing changes if `new` contains a separator or the range cuts a
+    /// character.
     pub fn follow_edit<D: BidiData>(
         &mut self,
-        range: HeldRange,
+        range: CachedRange,
         new: &str,
         tables: &D,
     ) -> Result<(), ViewError>
-        requires data { holding.IsViewBy (D.data tables.now) self.old }
-        ensures keeps { holding.Keeps (D.data tables.now) self.old self.new }
+        requires data { caching.IsViewBy (D.data tables.now) self.old }
+        ensures keeps { caching.Keeps (D.data tables.now) self.old self.new }
     {
-        let HeldRange { held, start, stop } = range;
-        if held >= self.held.len() || stop < start || has_separator(new, tables) {
+        let CachedRange {
+            cached,
+            start,
+            stop,
+        } = range;
+        if cached >= self.cache.len() || stop < start || has_separator(new, tables) {
             return Ok(());
         }
-        let _followed = edit_in(&mut self.held, held, start..stop, new, tables, self.base)?;
+        let _followed = edit_in(&mut self.cache, cached, start..stop, new, tables, self.base)?;
         Ok(())
     }
 }

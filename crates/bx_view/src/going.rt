@@ -3,13 +3,13 @@ ghost use Rattle.std.specs.Prelude.{◌≡◌, ◌-◌, ◌<◌, ◌≤◌, ◌�
 ghost use Rattle.std.specs.Str.{IsCharBoundary};
 ghost use Rattle.unicode_segmentation.specs.Grapheme.{graphemes};
 ghost use Rattle.bx_view.specs.Going.{place_of, unit_place};
-ghost use Rattle.bx_view.specs.Places.{boundaries};
+ghost use Rattle.bx_view.specs.Places.{IsTextPlace, boundaries};
 ghost use Rattle.bx_view.specs.Source.{IsViewBy, Keeps, bytes, count};
 
 use crate::error::ViewError;
-use crate::layout::Layout;
 use crate::source::Source;
 use crate::span::span_of;
+use crate::view::View;
 use bx_ucd::BidiData;
 use unicode_segmentation::UnicodeSegmentation;
 
@@ -50,7 +50,7 @@ fn paragraph_number<D: BidiData>(source: &Source<'_, D>, paragraph: usize) -> us
     paragraph.saturating_sub(1).min(last)
 }
 
-impl Layout {
+impl View {
     /// The place of a unit by the numbers of its paragraph and of the unit in it, both from 1, where 0 means 1. For a
     /// paragraph too large it is in the last one, for a unit too large it is the paragraph's end.
     pub fn place_of<D: BidiData>(
@@ -62,11 +62,12 @@ impl Layout {
         requires data { IsViewBy source.now self.old }
         ensures keeps { Keeps source.now self.old self.new }
         ensures place { IfOk result (λ o. o ≡ place_of (D.data source.now.tables.now) (bytes source.now) paragraph unit) }
+        ensures text_place { IfOk result (IsTextPlace (D.data source.now.tables.now) (bytes source.now)) }
     {
         let number = paragraph_number(source, paragraph);
-        let (start, stop) = span_of(source, number);
-        let held = self.find(source, number, start, stop)?;
-        let body = self.paragraph(source, number, held).body();
-        Ok(start + unit_start(body, unit.saturating_sub(1)))
+        let span = span_of(source, number);
+        let cached = self.find(source, span)?;
+        let body = self.paragraph(source, span.number, cached).body();
+        Ok(span.start + unit_start(body, unit.saturating_sub(1)))
     }
 }

@@ -7,9 +7,9 @@ ghost use Rattle.bx_view.specs.Source.{IsViewBy, Keeps, StandsOn, bytes, rows};
 ghost use Rattle.bx_view.specs.TextRows.{cell_of, row_of};
 
 use crate::error::ViewError;
-use crate::layout::Layout;
 use crate::row_at::RowAt;
 use crate::source::Source;
+use crate::view::View;
 use bx_ucd::BidiData;
 
 /// The position of a place. All fields count from 1.
@@ -23,7 +23,7 @@ pub struct Position {
     pub unit: usize,
 }
 
-impl Layout {
+impl View {
     /// The position of a place in its row, `at`.
     pub(crate) fn position<D: BidiData>(
         &self,
@@ -38,7 +38,7 @@ impl Layout {
     {
         // proof only: the number of paragraphs is within its limit
         let _count = source.index.count();
-        let row = self.row(source, at).row;
+        let row = self.row(source, at);
         let standing = row.standing(place - at.start)?;
         Ok(Position {
             column: standing.column,
@@ -56,6 +56,7 @@ impl Layout {
         requires data { IsViewBy source.now self.old }
         ensures keeps { Keeps source.now self.old self.new }
         ensures cell { IfOk result (λ column. column ≡ cell_of self.old.w (rows source.now self.old) place) }
+        ensures inside { IfOk result (λ column. (1 ≤ column) × (column ≤ self.old.w)) }
     {
         let at = self.row_at(source, place)?;
         let position = self.position(source, at, place)?;

@@ -1,14 +1,14 @@
 //! Handles of rows.
 
-/// A row of a text, found by a layout. It is valid until that layout searches for another row.
+/// A row of a text, found by a view. It is valid until that view searches for another row.
 #[derive(Clone, Copy)]
 pub struct RowAt {
     /// The number of the row's paragraph, from 0.
-    pub(crate) paragraph: usize,
+    pub paragraph: usize,
     /// The offset, in bytes of the text, at which that paragraph's body begins.
-    pub(crate) start: usize,
+    pub start: usize,
     /// The row's number in the paragraph, from 0.
-    pub(crate) row: usize,
-    /// The index of the held paragraph.
-    pub(crate) held: usize,
+    pub row: usize,
+    /// The index of the cached paragraph.
+    pub cached: usize,
 }

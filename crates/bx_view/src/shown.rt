@@ -8,13 +8,13 @@ ghost use Rattle.bx_view.specs.Source.{OfRow, Stands, rows_of_body};
 ghost use Rattle.bx_view.specs.TextRows.{text_row_glyphs};
 
 use crate::error::ViewError;
-use crate::layout::Layout;
 use crate::row_at::RowAt;
 use crate::source::Source;
+use crate::view::View;
 use bx_rows::RowPicture;
 use bx_ucd::BidiData;
 
-impl Layout {
+impl View {
     /// The glyphs of a row from left to right, blanks included.
     pub fn picture<D: BidiData>(
         &self,
@@ -28,7 +28,7 @@ impl Layout {
         ensures widths { IfOk result (λ p. All (λ g. run_width (cow_str_bytes g.text) ≡ g.columns) p.glyphs.items) }
         ensures columns { IfOk result (λ p. sum_by (λ g. g.columns) p.glyphs.items ≡ self.now.w) }
     {
-        let picture = self.row(source, at).row.picture()?;
+        let picture = self.row(source, at).picture()?;
         Ok(picture)
     }
 
@@ -37,7 +37,7 @@ impl Layout {
         requires row { Stands source.now self.now at }
         ensures { OfRow source.now self.now at (λ r. r.row ≡ row_at_body (rows_of_body source.now self.now result.0.now) result.1) }
     {
-        let paragraph = self.paragraph(source, at.paragraph, at.held);
+        let paragraph = self.paragraph(source, at.paragraph, at.cached);
         (paragraph.body(), at.row)
     }
 }

@@ -4,20 +4,21 @@ ghost use Rattle.bx_view.specs.Source.{OfRow, Stands};
 ghost use Rattle.bx_view.specs.TextParts.{is_in, slots_in};
 
 use crate::error::ViewError;
-use crate::layout::Layout;
 use crate::row_at::RowAt;
 use crate::source::Source;
+use crate::view::View;
 use bx_paragraph::Slot;
 use bx_ucd::BidiData;
 
-/// Keeps the slots of units that begin from `start` up to `stop`, offsets of the body.
+/// Keeps the slots of units that begin from `start` up to `stop`, offsets of the body. The slot of the paragraph's end, the only
+/// one without columns, goes.
 fn keep_in(slots: &mut Vec<Slot>, start: usize, stop: usize)
     ensures { slots.new.items ≡ filter (λ s. nat_lt 0 s.columns && is_in (start, stop) s.offset) slots.old.items }
 {
     slots.retain(|s| s.columns > 0 && start <= s.offset && s.offset < stop);
 }
 
-impl Layout {
+impl View {
     /// The slots of a row's units that begin in a part of the text, from the offset `part.0` up to `part.1`, from left to
     /// right. If the row's paragraph lies outside the part, nothing is computed.
     pub fn slots_in<D: BidiData>(
@@ -32,10 +33,10 @@ impl Layout {
         let row = self.row(source, at);
         let start = part.0.saturating_sub(row.start);
         let stop = part.1.saturating_sub(row.start);
-        if start >= stop || row.row.paragraph.body().len() < start {
-            return Ok(Vec::new(*self.held.allocator()));
+        if start >= stop || row.paragraph.body().len() < start {
+            return Ok(Vec::new(*self.cache.allocator()));
         }
-        let mut slots = row.row.slots()?;
+        let mut slots = row.slots()?;
         keep_in(&mut slots, start, stop);
         Ok(slots)
     }

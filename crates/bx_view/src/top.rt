@@ -1,21 +1,21 @@
 //! The top visible row, and a place among the visible rows.
-ghost use Rattle.std.specs.Prelude.{◌≡◌, ℕ, ◌+◌, ◌<◌, IfOk};
+ghost use Rattle.std.specs.Prelude.{◌≡◌, ℕ, ◌+◌, ◌<◌, ◌≤◌, IfOk};
 ghost use Rattle.bx_view.specs.Position.{IsPosition};
 ghost use Rattle.bx_view.specs.Source.{BeginsAt, IsViewBy, Keeps, Stands, StandsOn, bytes, rows};
 ghost use Rattle.bx_view.specs.TextRows.{row_of};
 ghost use Rattle.bx_view.specs.Top.{nearest_top};
 
 use crate::error::ViewError;
-use crate::layout::Layout;
 use crate::position::Position;
 use crate::row_at::RowAt;
 use crate::source::Source;
+use crate::view::View;
 use bx_ucd::BidiData;
 
 /// A place among the visible rows.
 #[derive(Clone, Copy)]
 pub struct Located {
-    /// The first visible row. It is valid until the layout searches for another row.
+    /// The first visible row. It is valid until the view searches for another row.
     pub top: RowAt,
     /// The number of visible rows above the place's row.
     pub above: usize,
@@ -23,9 +23,9 @@ pub struct Located {
     pub position: Position,
 }
 
-impl Layout {
-    /// The top row, nearest to the one at the offset `old`, from which `t` rows include the row `at`; and the number of rows
-    /// from it down to `at`.
+impl View {
+    /// The top row, nearest to the one that begins at the offset `old`, from which `t` rows include the row `at`; and the number
+    /// of rows from it down to `at`.
     fn top_above<D: BidiData>(
         &mut self,
         source: &Source<'_, D>,
@@ -77,6 +77,7 @@ impl Layout {
         ensures few { IfOk result (λ l. l.above < t) }
         ensures position { IfOk result (λ l.
             IsPosition (D.data source.now.tables.now) self.old.w (bytes source.now) (rows source.now self.old) place l.position) }
+        ensures inside { IfOk result (λ l. (1 ≤ l.position.column) × (l.position.column ≤ self.old.w)) }
     {
         let shown = self.row_at(source, top)?;
         let old = self.first_in(source, shown);

@@ -7,6 +7,9 @@ use bx_ucd::{BidiData, sample_tables};
 use std::alloc::Global;
 use std::test::Fail;
 
+/// Printed where there is no place: these texts are shorter.
+const NONE: usize = 99;
+
 /// Appends the slots of a row, each as its offset and its column.
 fn add_slots<D: BidiData>(
     line: &mut String,
@@ -29,30 +32,32 @@ fn add_places<D: BidiData>(
     let first = row.paragraph.first(row.number);
     let last = row.last()?;
     let count = row.offsets()?.len();
-    let start = row.reading_start()?.unwrap_or(99);
-    let end = row.reading_end()?.unwrap_or(99);
+    let start = row.reading_start()?.unwrap_or(NONE);
+    let end = row.reading_end()?.unwrap_or(NONE);
     line.push_str(format!(in alloc;
         "; {first} to {last}, {count}, {start} on to {end}"
     )?.as_str())?;
     Ok(())
 }
 
-/// Appends the places right and left of a row's first place, its column, and the place at which column 2 is entered.
+/// Appends the places left and right of a row's first place, that place's column, and the place at which column 2 is
+/// entered.
 fn add_steps<D: BidiData>(
     line: &mut String,
     alloc: Global,
     row: &LentRow<'_, '_, D>,
 ) -> Result<(), Fail> {
     let first = row.paragraph.first(row.number);
-    let right = row.beside(Visual::Right, first)?.unwrap_or(99);
-    let left = row.beside(Visual::Left, first)?.unwrap_or(99);
+    let right = row.beside(Visual::Right, first)?.unwrap_or(NONE);
+    let left = row.beside(Visual::Left, first)?.unwrap_or(NONE);
     let column = row.standing(first)?.column;
-    let entry = row.entry(2)?.unwrap_or(99);
+    let entry = row.entry(2)?.unwrap_or(NONE);
     line.push_str(format!(in alloc; "; {left} {right} {column} {entry}|")?.as_str())?;
     Ok(())
 }
 
-/// The slots, places and steps of each row.
+/// The rows of a layout, each with its slots; its first and last place, number of places, reading start and end; and the
+/// places left and right of its first place, the column of that, and the place at column 2.
 fn rows_in<D: BidiData>(alloc: Global, layout: &ParagraphLayout, source: &D) -> Result<String, Fail>
     requires { IsLayoutBy (D.data source.now) layout.now }
 {
@@ -62,6 +67,7 @@ fn rows_in<D: BidiData>(alloc: Global, layout: &ParagraphLayout, source: &D) -> 
             paragraph: layout,
             tables: source,
             number,
+            start: 0,
         };
         add_slots(&mut line, alloc, &row)?;
         add_places(&mut line, alloc, &row)?;
@@ -70,7 +76,7 @@ fn rows_in<D: BidiData>(alloc: Global, layout: &ParagraphLayout, source: &D) -> 
     Ok(line)
 }
 
-/// The slots, places and steps of a text's rows.
+/// The rows of a text in `w` columns, in the notation of `rows_in`.
 fn account_of_rows<D: BidiData>(
     alloc: Global,
     text: &str,
@@ -114,8 +120,8 @@ fn hebrew_and_a_number(rt: HostRuntime) -> Result<(), Fail> {
     Ok(())
 }
 
-/// The layout's width, level, body length and base, and the glyphs of the row that has an offset: all of them, and those of its
-/// units alone.
+/// The layout's width, level, body length and whether its base is right to left; and the glyphs of the row that has an
+/// offset: all of them, and those of its units alone.
 fn picture_in<D: BidiData>(
     alloc: Global,
     layout: &ParagraphLayout,
@@ -131,6 +137,7 @@ fn picture_in<D: BidiData>(
         paragraph: layout,
         tables: source,
         number: layout.row_of(offset),
+        start: 0,
     };
     for glyph in &row.picture()?.glyphs {
         line.push_str(glyph.text.as_str())?;
@@ -156,6 +163,7 @@ fn account_of_picture<D: BidiData>(
 #[test]
 fn a_picture_of_a_row(rt: HostRuntime) -> Result<(), Fail> {
     let tables = sample_tables(rt.alloc())?;
+    // an offset past the text is in its last row
     let line = account_of_picture(rt.alloc(), &tables, 99)?;
     assert_eq!(rt; line.as_str(), "9 1 5 true:     b) \u{5d0}|b) \u{5d0}");
     Ok(())

@@ -1,7 +1,7 @@
 use Rattle.std.proofs.Common.{◌≡◌, ◌++◌, ◌∙◌, get_or, map, take, drop, ap, refl, rules}
 use Rattle.std.specs.Str.{IsUtf8}
 use Rattle.std.proofs.lemmas.Str.{IsCharBoundary-start}
-use Rattle.bx_rows.specs.Laws.{behind}
+use Rattle.bx_rows.specs.LaterRows.{behind}
 use Rattle.bx_rows.specs.RowStarts.{row_starts}
 use Rattle.bx_paragraph.specs.BodyEdits.{changed}
 use Rattle.bx_paragraph.specs.RowEdits.{origin}

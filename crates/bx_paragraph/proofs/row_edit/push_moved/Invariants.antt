@@ -1,6 +1,6 @@
 -- The rows so far and those still to be appended; there is room for these.
 use Rattle.std.proofs.Common.{◌≡◌, ◌+◌, ◌-◌, ◌≤◌, ◌++◌, drop, length, map, vec_capacity, vec_len}
-use Rattle.bx_rows.specs.Laws.{moved}
+use Rattle.bx_rows.specs.LaterRows.{moved}
 use Rattle.bx_paragraph.proofs.row_edit.push_moved.Given as goal
 
 abbrev pub invariant-loop-start : goal.invariant-loop-start

@@ -1,32 +1,13 @@
+use Rattle.std.proofs.Common.{ap, sym, subst}
+use Rattle.bx_view.specs.Standing.{IsSpan}
 use Rattle.bx_view.proofs.Numbers.{paragraph-span}
 use Rattle.bx_view.proofs.span.current_span.Goals as goal
 
-pub returns-clause-start : goal.returns-clause-start
-returns-clause-start g c =
+pub returns-clause-is : goal.returns-clause-is
+returns-clause-is g c =
     let s = c.args.source.now in
-    (paragraph-span (g.D.BidiData.data s.tables.now) s.text.now.edited.text c.args.walk.now.paragraphs
-    c.args.walk.now.number c.span.result.0 c.span.result.1 s.utf8 c.requires.number c.requires.walk c.span.ensures).start
-
-pub returns-clause-body : goal.returns-clause-body
-returns-clause-body g c =
-    let s = c.args.source.now in
-    (paragraph-span (g.D.BidiData.data s.tables.now) s.text.now.edited.text c.args.walk.now.paragraphs
-    c.args.walk.now.number c.span.result.0 c.span.result.1 s.utf8 c.requires.number c.requires.walk c.span.ensures).body
-
-pub returns-clause-range : goal.returns-clause-range
-returns-clause-range g c =
-    let s = c.args.source.now in
-    (paragraph-span (g.D.BidiData.data s.tables.now) s.text.now.edited.text c.args.walk.now.paragraphs
-    c.args.walk.now.number c.span.result.0 c.span.result.1 s.utf8 c.requires.number c.requires.walk c.span.ensures).range
-
-pub returns-clause-order : goal.returns-clause-order
-returns-clause-order g c =
-    let s = c.args.source.now in
-    (paragraph-span (g.D.BidiData.data s.tables.now) s.text.now.edited.text c.args.walk.now.paragraphs
-    c.args.walk.now.number c.span.result.0 c.span.result.1 s.utf8 c.requires.number c.requires.walk c.span.ensures).order
-
-pub returns-clause-within : goal.returns-clause-within
-returns-clause-within g c =
-    let s = c.args.source.now in
-    (paragraph-span (g.D.BidiData.data s.tables.now) s.text.now.edited.text c.args.walk.now.paragraphs
-    c.args.walk.now.number c.span.result.0 c.span.result.1 s.utf8 c.requires.number c.requires.walk c.span.ensures).within
+    let says = g.D.BidiData.data s.tables.now in
+    let text = s.text.now.edited.text in
+    subst (λ n. IsSpan says text n c.span-start.result.0 c.span-start.result.1) (sym c.number.ensures.number)
+    (paragraph-span says text c.args.walk.now.paragraphs c.args.walk.now.number c.span-start.result.0 c.span-start.result.1 s.utf8 c.requires.number
+    c.requires.walk c.span-start.ensures)

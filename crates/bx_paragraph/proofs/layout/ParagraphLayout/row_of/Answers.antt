@@ -5,6 +5,7 @@ use Rattle.std.proofs.lemmas.Str.{IsUtf8-string_bytes}
 use Rattle.bx_rows.specs.declared.start_search.RowStart.{RowStart}
 use Rattle.bx_terms.specs.Sizes.{is_side}
 use Rattle.bx_paragraph.specs.BodyRows.{falls_in}
+use Rattle.bx_paragraph.specs.Layout.{IsSound}
 use Rattle.bx_paragraph.proofs.StartOrder.{starts-rise}
 use Rattle.bx_paragraph.proofs.Starts.{row_falls}
 use Rattle.bx_paragraph.proofs.layout.ParagraphLayout.row_of.Goals as goal
@@ -18,3 +19,7 @@ returns-clause-row c = λ says is.
     c.saturating_sub.ensures ∙ ap (λ n. n - 1) (c.starts_up_to.ensures.count rise)
     ∙ ap (λ xs. falls_in (map (λ s. s.offset) xs) c.args.offset) same
     ∙ row_falls l c.args.offset (subst (λ m. is_side m.w ≡ true) c.self.view_is c.self.invariant.0) says is
+
+pub returns-clause-sound : goal.returns-clause-sound
+returns-clause-sound c =
+    subst IsSound c.self.view_is (record { side = c.self.invariant.0; utf8 = IsUtf8-string_bytes c.self.inside.body })

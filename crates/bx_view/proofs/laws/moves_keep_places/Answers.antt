@@ -1,6 +1,0 @@
-use Rattle.bx_view.proofs.KeptPlaces.{text-places-kept}
-use Rattle.bx_paragraph.proofs.Starts.{side-some}
-use Rattle.bx_view.proofs.laws.moves_keep_places.Goals as goal
-
-pub returns : goal.returns
-returns c = λ says base w text side utf8. text-places-kept says base w (side-some w side) text utf8

@@ -1,6 +1,0 @@
-use Rattle.bx_view.proofs.PlacesOn.{places-go-on}
-use Rattle.bx_paragraph.proofs.Starts.{side-some}
-use Rattle.bx_view.proofs.laws.steps_go_on.Goals as goal
-
-pub returns : goal.returns
-returns c = λ says base w text side utf8. places-go-on says base w (side-some w side) text utf8

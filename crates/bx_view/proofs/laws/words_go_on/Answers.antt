@@ -1,5 +1,0 @@
-use Rattle.bx_view.proofs.WordsOn.{words-go-on}
-use Rattle.bx_view.proofs.laws.words_go_on.Goals as goal
-
-pub returns : goal.returns
-returns c = λ says text utf8. words-go-on says text utf8

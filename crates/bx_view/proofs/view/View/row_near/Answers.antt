@@ -1,0 +1,10 @@
+use Rattle.std.proofs.Common.{subst, sym}
+use Rattle.bx_view.specs.Caching.{Caches}
+use Rattle.bx_view.specs.Standing.{body_at}
+use Rattle.bx_view.proofs.view.View.row_near.Goals as goal
+
+pub row_in-requires-clause-cached : goal.row_in-requires-clause-cached
+row_in-requires-clause-cached g c =
+    let v = c.args.self.now in
+    let body = body_at (g.D.BidiData.data c.args.source.now.tables.now) c.args.source.now.text.now.edited.text in
+    subst (λ k. Caches (body k) v.w v.cache c.args.at.cached) (sym c.if-span-at.true) c.requires.row.1.cached_is

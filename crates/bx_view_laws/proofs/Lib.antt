@@ -1,0 +1,12 @@
+pub mod Vectors
+pub mod Examples
+pub mod WordExamples
+pub mod LawExamples
+pub mod EntryExamples
+pub mod ColumnExamples
+pub mod GoingExamples
+pub mod GreatestPlace
+pub mod SlotEntry
+pub mod RowsOn
+pub mod PlaceRows
+pub mod Counted

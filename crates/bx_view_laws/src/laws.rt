@@ -1,0 +1,70 @@
+//! Laws of places, moves and scrolling, for any text in any window. The functions are empty: their contracts are the laws.
+
+ghost use Rattle.std.specs.Prelude.{◌≡◌, ℕ, List, IsUtf8};
+ghost use Rattle.bx_ucd.specs.Data.{Data};
+ghost use Rattle.bx_ucd.specs.declared.class.Class.{Class};
+ghost use Rattle.bx_view.specs.Cells.{HasCells};
+ghost use Rattle.bx_view_laws.specs.Entry.{RowsGoOn};
+ghost use Rattle.bx_view.specs.Going.{LeadBack, LeadToPlaces};
+ghost use Rattle.bx_view.specs.Laws.{FindsLeastPlace, MovesKeep, MovesLeast, PlacesGoOn, SpansText, WordsGoOn};
+ghost use Rattle.bx_view_laws.specs.Laws.{InEachWindow, IsGreatestPlace};
+ghost use Rattle.bx_view.specs.Moves.{place_at, place_from, step_logical};
+ghost use Rattle.bx_view.specs.Places.{text_places, IsTextPlace};
+ghost use Rattle.bx_view.specs.TextRows.{places};
+ghost use Rattle.bx_view.specs.Words.{step_word};
+
+/// The places of a text's rows are the boundaries of its clusters and separators, from the text's start to its end, in
+/// every window and direction.
+pub fn places_are_boundaries()
+    ensures rows { InEachWindow (λ says text w rows. places rows ≡ text_places says text) }
+    ensures span { (says : Data) (text : List ℕ) → IsUtf8 text → SpansText says text }
+{}
+
+/// The place of an offset is the greatest place not after it.
+pub fn place_at_is_greatest()
+    ensures { InEachWindow (λ says text w rows. (offset : ℕ) → IsGreatestPlace says text offset (place_at rows offset)) }
+{}
+
+/// The place from an offset on is the least place not before it, and from past the text's end on the end.
+pub fn place_from_is_least()
+    ensures { InEachWindow (λ says text w rows. FindsLeastPlace says text (place_from rows)) }
+{}
+
+/// A step forward leads to the next place, a step back to the previous place. Only at the text's end, or at its start, it stays.
+pub fn steps_go_on()
+    ensures { InEachWindow (λ says text w rows. PlacesGoOn says text (step_logical rows)) }
+{}
+
+/// A move by rows enters another row at the slot that covers the column of the place's cell, or if none does, at the nearest
+/// slot. In the place's own row it stays.
+pub fn rows_go_on()
+    ensures { InEachWindow (λ says text w rows. RowsGoOn w rows) }
+{}
+
+/// The numbers of its paragraph and unit that are shown for a place lead back to it, and any two such numbers lead to a place.
+pub fn numbers_lead_back()
+    ensures back { InEachWindow LeadBack }
+    ensures places { (says : Data) (text : List ℕ) → IsUtf8 text → LeadToPlaces says text }
+{}
+
+/// Each move leads from a place to a place.
+pub fn moves_keep_places()
+    ensures { InEachWindow (λ says text w rows. MovesKeep says text w rows (IsTextPlace says text)) }
+{}
+
+/// A step by a word forward leads to the next start of a word or end of a body, a step back to the previous start of a
+/// word or body. Only at the text's end, or at its start, it stays.
+pub fn words_go_on()
+    ensures { (says : Data) (text : List ℕ) → IsUtf8 text → WordsGoOn says text (step_word says text) }
+{}
+
+/// A row's slots are its places. Each place has exactly one slot, in the row that it falls in, and its cell is the column
+/// at which the glyphs of its unit begin.
+pub fn places_have_cells()
+    ensures { InEachWindow (λ says text w rows. HasCells says w rows) }
+{}
+
+/// Scrolling to a place moves the top by the fewest rows that make the place's row visible; a second time changes nothing.
+pub fn follow_is_least()
+    ensures { InEachWindow (λ says text w rows. MovesLeast rows) }
+{}

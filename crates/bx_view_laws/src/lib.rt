@@ -1,0 +1,14 @@
+//! Laws of the view, and calls by the numbers of rows. Tests and readers need them, the editor does not.
+//!
+//! Only functions that return a `Result` allocate.
+#![tactic(auto)]
+
+mod laws;
+mod library;
+
+pub use laws::{
+    follow_is_least, moves_keep_places, numbers_lead_back, place_at_is_greatest,
+    place_from_is_least, places_are_boundaries, places_have_cells, rows_go_on, steps_go_on,
+    words_go_on,
+};
+pub use library::{first, follow, row_count, row_of, slots};

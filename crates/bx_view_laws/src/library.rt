@@ -1,0 +1,171 @@
+//! The rows of a text by their numbers, the slots of a row, and the top: with these calls `bx_view` serves by itself as a
+//! library. The editor does not run them: it goes from row to row by `RowAt`, and asks `locate` once for each picture.
+ghost use Rattle.std.specs.Prelude.{◌≡◌, ℕ, ◌+◌, ◌^◌, ◌<◌, ◌≤◌, true, All, IfOk, IsUtf8, length, map, option_map, slice_get, slice_range};
+ghost use Rattle.std.specs.Str.{IsCharBoundary};
+ghost use Rattle.bx_terms.specs.Sizes.{is_side};
+ghost use Rattle.bx_terms.specs.declared.base.Base.{Base};
+ghost use Rattle.bx_text.specs.Edits.{IsRange, largest_text};
+ghost use Rattle.bx_index.specs.Paragraphs.{lengths};
+ghost use Rattle.bx_rows.specs.RowStarts.{row_starts};
+ghost use Rattle.bx_view.specs.Places.{IsTextPlace};
+ghost use Rattle.bx_view.specs.Source.{IsViewBy, Keeps, body_at, bytes, count, rows, start_at};
+ghost use Rattle.bx_view.specs.Standing.{rows_ahead};
+ghost use Rattle.bx_view.specs.TextRows.{first, row_at, row_of, slots};
+ghost use Rattle.bx_view.specs.Top.{follow};
+
+use bx_index::ParagraphWalk;
+use bx_paragraph::Slot;
+use bx_rows::{RowStart, row_starts};
+use bx_terms::OutOfMemory;
+use bx_ucd::BidiData;
+use bx_view::{Source, View, ViewError, current_span};
+use std::alloc::{AllocError, Global};
+
+/// The row starts of the walk's current paragraph in a window of `w` columns, as offsets of its body.
+fn starts_in<D: BidiData>(
+    alloc: Global,
+    source: &Source<'_, D>,
+    walk: &ParagraphWalk<'_>,
+    w: u16,
+) -> Result<Vec<RowStart>, ViewError>
+    requires walk { walk.now.paragraphs ≡ lengths (D.data source.now.tables.now) (bytes source.now) }
+    requires number { walk.now.number < count source.now }
+    ensures { IfOk result (λ v. v.items ≡ row_starts (D.data source.now.tables.now) w (body_at source.now walk.now.number)) }
+{
+    let span = current_span(source, walk);
+    let Ok(body) = source.text.copy_range(span.start, span.stop) else {
+        return Err(OutOfMemory);
+    };
+    let starts = row_starts(alloc, body.as_str(), source.tables, w)?;
+    Ok(starts)
+}
+
+/// The number of rows of the paragraphs before paragraph `number`, from 0, in a window of `w` columns.
+fn rows_before<D: BidiData>(
+    alloc: Global,
+    source: &Source<'_, D>,
+    w: u16,
+    number: usize,
+) -> Result<usize, ViewError>
+    requires side { is_side w ≡ true }
+    requires number { number ≤ count source.now }
+    ensures { IfOk result (λ n. (base : Base) → n ≡ rows_ahead (D.data source.now.tables.now) base w (bytes source.now) number) }
+{
+    let mut walk = source.index.walk_at(0, 0);
+    let mut ahead = 0;
+    let mut done = 0;
+    while done < number {
+        let starts = starts_in(alloc, source, &walk, w)?;
+        ahead += starts.len();
+        let _more = walk.to_next();
+        done += 1;
+    }
+    Ok(ahead)
+}
+
+/// The offsets of slots in the text, in which their body begins at the offset `start`.
+fn in_text(alloc: Global, start: usize, slots: &[Slot]) -> Result<Vec<usize>, AllocError>
+    requires { All (λ s. start + s.offset < 2 ^ 64) slots.now }
+    ensures { IfOk result (λ v. v.items ≡ map (λ o. start + o) (map (λ s. s.offset) slots.now)) }
+{
+    let mut offsets = Vec::with_capacity(alloc, slots.len())?;
+    for slot in slots {
+        offsets.push(start + slot.offset)?;
+    }
+    Ok(offsets)
+}
+
+/// The number of the text's rows. Wraps the whole text and caches none of it.
+pub fn row_count<D: BidiData>(
+    alloc: Global,
+    view: &View,
+    source: &Source<'_, D>,
+) -> Result<usize, ViewError>
+    ensures { IfOk result (λ n. n ≡ length (rows source.now view.now)) }
+{
+    let count = source.index.count();
+    let rows = rows_before(alloc, source, view.width(), count)?;
+    Ok(rows)
+}
+
+/// The number, from 0, of the row that an offset of the text falls in. Wraps the paragraphs before it.
+pub fn row_of<D: BidiData>(
+    alloc: Global,
+    view: &mut View,
+    source: &Source<'_, D>,
+    offset: usize,
+) -> Result<usize, ViewError>
+    requires data { IsViewBy source.now view.old }
+    ensures keeps { Keeps source.now view.old view.new }
+    ensures row { IfOk result (λ n. n ≡ row_of (rows source.now view.old) offset) }
+{
+    let at = view.row_at(source, offset)?;
+    let w = view.width();
+    let ahead = rows_before(alloc, source, w, at.paragraph)?;
+    Ok(ahead + at.row)
+}
+
+/// The first offset of row `row`, from 0; None if the text has fewer rows. Wraps the paragraphs up to it.
+pub fn first<D: BidiData>(
+    alloc: Global,
+    view: &View,
+    source: &Source<'_, D>,
+    row: usize,
+) -> Result<Option<usize>, ViewError>
+    ensures { IfOk result (λ o. o ≡ option_map first (slice_get (rows source.now view.now) row)) }
+{
+    let w = view.width();
+    let count = source.index.count();
+    let mut walk = source.index.walk_at(0, 0);
+    let mut left = row;
+    let mut done = 0;
+    while done < count {
+        let starts = starts_in(alloc, source, &walk, w)?;
+        if left < starts.len() {
+            let span = current_span(source, &walk);
+            return Ok(Some(span.start + starts[left].offset));
+        }
+        left -= starts.len();
+        let _more = walk.to_next();
+        done += 1;
+    }
+    Ok(None)
+}
+
+/// The places of the row that a place falls in, in visual order from left to right.
+pub fn slots<D: BidiData>(
+    view: &mut View,
+    source: &Source<'_, D>,
+    place: usize,
+) -> Result<Vec<usize>, ViewError>
+    requires data { IsViewBy source.now view.old }
+    ensures keeps { Keeps source.now view.old view.new }
+    ensures slots { IfOk result (λ v. v.items
+        ≡ slots view.old.w (row_at (rows source.now view.old) (row_of (rows source.now view.old) place))) }
+{
+    let at = view.row_at(source, place)?;
+    let row = view.row(source, at);
+    let slots = row.slots()?;
+    let offsets = in_text(*slots.allocator(), row.start, &slots)?;
+    Ok(offsets)
+}
+
+/// The offset of the top row after scrolling `t` visible rows, from the row of the offset `top`, by the fewest rows that
+/// make the row of `place` visible.
+pub fn follow<D: BidiData>(
+    view: &mut View,
+    source: &Source<'_, D>,
+    top: usize,
+    place: usize,
+    t: usize,
+) -> Result<usize, ViewError>
+    requires data { IsViewBy source.now view.old }
+    requires some { 0 < t }
+    ensures keeps { Keeps source.now view.old view.new }
+    ensures top { IfOk result (λ o. o ≡ follow (rows source.now view.old) top place t) }
+    ensures text_place { IfOk result (IsTextPlace (D.data source.now.tables.now) (bytes source.now)) }
+    ensures boundary { IfOk result (λ o. IsCharBoundary (bytes source.now) o) }
+{
+    let located = view.locate(source, top, place, t)?;
+    Ok(view.first_in(source, located.top))
+}
