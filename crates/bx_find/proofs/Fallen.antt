@@ -1,4 +1,4 @@
--- Letters that are held and those that follow: where the sought ones are found.
+-- A prefix of the sought letters and the letters that follow it: where the sought ones are found.
 use Rattle.std.proofs.Common.{◌≡◌, ◌≢◌, ◌≤◌, ◌<◌, ◌+◌, ◌-◌, ◌∙◌, inl, inr, ℕ, zero, suc, Bool, true, false, List, [], ◌∷◌, ◌++◌, length, map, get_or}
 use Rattle.std.proofs.Common.{Option, None, take, drop, refl, ap, ap₂, sym, arith, length-append, length-drop, length-take-le, append_assoc}
 use Rattle.std.proofs.lemmas.Bool.Decides.{nat_tests}
@@ -6,7 +6,7 @@ use Rattle.std.proofs.lemmas.Bool.{cases_lt}
 use Rattle.std.proofs.lemmas.List.{map-append, length-map, drop-take, take_more, same_from_push, drop-map, take_all}
 use Rattle.bx_find.specs.Borders.{IsBorder}
 use Rattle.bx_find.specs.Matches.{begins, begins_some}
-use Rattle.bx_find.specs.Held.{Placed, found, with_letters, found_after}
+use Rattle.bx_find.specs.Prefix.{Placed, found, with_letters, found_after}
 
 -- the letters of some pairs
 abbrev pub letters_in : List Placed → List ℕ
@@ -76,9 +76,9 @@ with-more [] (l ∷ ls) at h = refl
 with-more (o ∷ os) (l ∷ ls) at h = ap (λ (ps : List Placed). (o, l) ∷ ps) (with-more os ls at (omega arith))
 
 -- the next letter fits
-pub held_more : (os : List (Option ℕ)) (ls : List ℕ) (at : Option ℕ) (ps : List Placed) → length os < length ls
+pub one_more : (os : List (Option ℕ)) (ls : List ℕ) (at : Option ℕ) (ps : List Placed) → length os < length ls
     → found_after ls os ((at, get_or ls (length os) 0) ∷ ps) ≡ found_after ls (os ++ at ∷ []) ps
-held_more os ls at ps h =
+one_more os ls at ps h =
     ap (found ls) (sym (append_assoc (with_letters os ls) ((at, get_or ls (length os) 0) ∷ []) ps)
     ∙ ap (λ (qs : List Placed). qs ++ ps) (sym (with-more os ls at h)))
 
@@ -86,9 +86,9 @@ first-of : (ls : List ℕ) (c : ℕ) → 0 < length ls → take 1 ls ≡ c ∷ [
 first-of [] c h e = absurd (omega arith)
 first-of (l ∷ ls) c h e = cc
 
--- nothing is held, and the next letter is not the first
-pub none_held : (ls : List ℕ) (at : Option ℕ) (c : ℕ) (ps : List Placed) → 0 < length ls → get_or ls 0 0 ≢ c → found_after ls [] ((at, c) ∷ ps) ≡ found_after ls [] ps
-none_held ls at c ps h other =
+-- the prefix is empty, and the next letter is not the first
+pub none_read : (ls : List ℕ) (at : Option ℕ) (c : ℕ) (ps : List Placed) → 0 < length ls → get_or ls 0 0 ≢ c → found_after ls [] ((at, c) ∷ ps) ≡ found_after ls [] ps
+none_read ls at c ps h other =
     found-not ls (at, c) ps (begins-some ls (c ∷ letters_in ps) h ∙ not_true _ (λ e. let front = begins-front ls (c ∷ []) (letters_in ps) (omega arith) e in
     other (first-of ls c h front)))
 
@@ -130,7 +130,7 @@ module _ (ls : List ℕ) (k f : ℕ) (within : k ≤ length ls) (border : IsBord
     | inr l ↦ let none : suc (length w) - f ≡ 0 = omega arith in ap (λ i. found ls (drop i (p ∷ w) ++ t)) (sym none)
   ]
 
-  -- what remains of the letters held
+  -- what remains of the prefix
   remains : (os : List (Option ℕ)) → length os ≡ k → drop (k - f) (with_letters os ls) ≡ with_letters (drop (k - f) os) ls
   remains os e =
       let w : List Placed = drop (k - f) (with_letters os ls) in
@@ -147,7 +147,7 @@ module _ (ls : List ℕ) (k f : ℕ) (within : k ≤ length ls) (border : IsBord
       named w ls (omega arith) letters
       ∙ ap (λ (os : List (Option ℕ)). with_letters os ls) (sym (drop-map (λ (q : Placed). q.0) (k - f) (with_letters os ls)) ∙ ap (drop (k - f)) (places-with os ls fits))
 
-  -- past the oldest letter held, only the border may begin those sought
+  -- past the oldest letter of the prefix, only the border may begin those sought
   past-oldest : (os : List (Option ℕ)) (p : Placed) (w t : List Placed) → length os ≡ k → with_letters os ls ≡ p ∷ w
       → found ls (w ++ t) ≡ found_after ls (drop (k - f) os) t
   past-oldest os p w t e whole =
@@ -167,14 +167,14 @@ first-pair [] ls h g = absurd (omega arith)
 first-pair (o ∷ os) [] h g = absurd (omega arith)
 first-pair (o ∷ os) (l ∷ ls) h g = (with_letters os ls, refl)
 
--- the next letter does not fit: the border of what is held remains
+-- the next letter does not fit: the border of the prefix remains
 pub fallen : (ls : List ℕ) (os : List (Option ℕ)) (at : Option ℕ) (c k f : ℕ) (ps : List Placed) → length os ≡ k → 0 < k → k < length ls → get_or ls k 0 ≢ c → IsBorder ls k f
     → found_after ls os ((at, c) ∷ ps) ≡ found_after ls (drop (k - f) os) ((at, c) ∷ ps)
 fallen ls os at c k f ps e some below other border =
     let fits : length os ≤ length ls = omega arith in
     let (w, whole) = first-pair os ls (omega arith) fits in
     let first : Placed = (get_or os 0 None, get_or ls 0 0) in
-    let held : letters_in (first ∷ w) ≡ take k ls = ap letters_in (sym whole) ∙ letters-with os ls fits ∙ ap (λ i. take i ls) e in
+    let prefix : letters_in (first ∷ w) ≡ take k ls = ap letters_in (sym whole) ∙ letters-with os ls fits ∙ ap (λ i. take i ls) e in
     let len : length (take k ls) ≡ k = length-take-le k ls (omega arith) in
     let none : begins ls (take k ls ++ c ∷ letters_in ps) ≡ false = not_true _ (λ b.
     let seam = append_assoc (take k ls) (c ∷ []) (letters_in ps) in
@@ -183,22 +183,22 @@ fallen ls os at c k f ps e some below other border =
     let pushed = sym (take_more ls k 0 below) ∙ ap (λ i. take i ls) (sym long) ∙ front in
     other (same_from_push (take k ls) (take k ls) (get_or ls k 0) c pushed).1) in
     let spelt : letters_in (first ∷ w ++ (at, c) ∷ ps) ≡ take k ls ++ c ∷ letters_in ps =
-    map-append (λ (q : Placed). q.1) (first ∷ w) ((at, c) ∷ ps) ∙ ap (λ ks. ks ++ c ∷ letters_in ps) held in
+    map-append (λ (q : Placed). q.1) (first ∷ w) ((at, c) ∷ ps) ∙ ap (λ ks. ks ++ c ∷ letters_in ps) prefix in
     ap (λ (qs : List Placed). found ls (qs ++ (at, c) ∷ ps)) whole
     ∙ found-not ls first (w ++ (at, c) ∷ ps) (begins-some ls _ (omega arith) ∙ ap (begins ls) spelt ∙ none)
     ∙ past-oldest ls k f (omega arith) border os first w ((at, c) ∷ ps) e whole
 
--- all are held: they are found at the oldest
-pub matched : (ls : List ℕ) (os : List (Option ℕ)) (k f : ℕ) (ps : List Placed) → length os ≡ k → 0 < k → k ≡ length ls → IsBorder ls k f
+-- the prefix is whole: they are found at the oldest
+pub whole_prefix : (ls : List ℕ) (os : List (Option ℕ)) (k f : ℕ) (ps : List Placed) → length os ≡ k → 0 < k → k ≡ length ls → IsBorder ls k f
     → found_after ls os ps ≡ get_or os 0 None ∷ found_after ls (drop (k - f) os) ps
-matched ls os k f ps e some all border =
+whole_prefix ls os k f ps e some all border =
     let fits : length os ≤ length ls = omega arith in
     let (w, whole) = first-pair os ls (omega arith) fits in
     let first : Placed = (get_or os 0 None, get_or ls 0 0) in
-    let held : letters_in (first ∷ w) ≡ ls =
+    let prefix : letters_in (first ∷ w) ≡ ls =
     ap letters_in (sym whole) ∙ letters-with os ls fits ∙ take_all (length os) ls (omega arith) in
     let spelt : letters_in (first ∷ w ++ ps) ≡ ls ++ letters_in ps =
-    map-append (λ (q : Placed). q.1) (first ∷ w) ps ∙ ap (λ ks. ks ++ letters_in ps) held in
+    map-append (λ (q : Placed). q.1) (first ∷ w) ps ∙ ap (λ ks. ks ++ letters_in ps) prefix in
     ap (λ (qs : List Placed). found ls (qs ++ ps)) whole
     ∙ found-here ls first (w ++ ps) (begins-some ls _ (omega arith) ∙ ap (begins ls) spelt ∙ begins-all ls (letters_in ps))
     ∙ ap (λ (is : List (Option ℕ)). get_or os 0 None ∷ is) (past-oldest ls k f (omega arith) border os first w ps e whole)

@@ -7,5 +7,4 @@ pub mod Fronts
 pub mod Offsets
 pub mod Nearest
 pub mod SpansOf
-mod Examples
-mod LawExamples
+pub mod Boundaries

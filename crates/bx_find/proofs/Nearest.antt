@@ -1,17 +1,16 @@
 -- The nearest matches.
-use Rattle.std.proofs.Common.{◌≡◌, ◌≤◌, ◌<◌, ◌+◌, ◌∙◌, ◌⊎◌, inl, inr, ℕ, Bool, true, false, List, [], ◌∷◌, ◌++◌, length, chars, take, drop}
-use Rattle.std.proofs.Common.{refl, ap, sym, subst, arith, IsCharBoundary}
+use Rattle.std.proofs.Common.{◌≡◌, ◌≤◌, ◌<◌, ◌+◌, ◌∙◌, ◌⊎◌, inl, inr, ℕ, Bool, true, false, List, [], ◌∷◌, ◌++◌, length, chars, take, drop, refl, ap, sym}
+use Rattle.std.proofs.Common.{subst, arith, IsCharBoundary}
 use Rattle.std.specs.Prelude.{Option, Some, None, MatchOption, find, nat_le, nat_lt, encode_utf8, encode_utf8_all, IsUtf8}
 use Rattle.std.proofs.lemmas.Bool.{cases_lt}
 use Rattle.std.proofs.lemmas.List.{drop_at}
 use Rattle.std.proofs.lemmas.Bool.Decides.{nat_tests}
 use Rattle.std.proofs.lemmas.Str.{encodes-chars, encodes-append, scalars-chars, chars-encodes, IsCharBoundary-at_seam}
 use Rattle.bx_ucd.specs.Data.{Data}
-use Rattle.bx_find.specs.Matches.{is_match_by, matches_by, first_from_by, first_below, first_before, last_below, last_before_by, first_from, last_before}
-use Rattle.bx_find.specs.Laws.{MatchesAtBy, IsFirstBy, IsFirstBefore, IsLastBy, MatchesAt, IsFirst, IsLast}
+use Rattle.bx_find.specs.Matches.{is_match, matches, first_from, last_below, last_before}
+use Rattle.bx_find.specs.Nearest.{MatchesAt, IsFirst, IsLast}
 use Rattle.bx_find.specs.declared.reading.Reading.{Reading}
-use Rattle.bx_find.specs.declared.reading.Reading.TheVariants.{Close}
-use Rattle.bx_find.proofs.Offsets.{widths, widths-more, matches-here, matches-not, none-below, front-bytes, cut_chars}
+use Rattle.bx_find.proofs.Offsets.{widths, widths-more, matches-here, matches-not, front-bytes, cut_chars}
 use lib.Utf8.{scalars}
 
 scalars-end : (front rest : List ℕ) → scalars (front ++ rest) ≡ true → scalars rest ≡ true
@@ -39,9 +38,9 @@ module _ (says : Data) (reading : Reading) (sought : List ℕ) where
   -- the letters match at the offset `i`; the first character is at the offset `at`
   abbrev pub MatchesIn : ℕ → List ℕ → ℕ → Type 0
   MatchesIn at [] i = ⊥
-  MatchesIn at (c ∷ cs) i = ((i ≡ at) × (is_match_by says reading sought (c ∷ cs) ≡ true)) ⊎ MatchesIn (at + length (encode_utf8 c)) cs i
+  MatchesIn at (c ∷ cs) i = ((i ≡ at) × (is_match says reading sought (c ∷ cs) ≡ true)) ⊎ MatchesIn (at + length (encode_utf8 c)) cs i
 
-  above : (at i : ℕ) (cs : List ℕ) → MatchesIn at cs i → at ≤ i
+  pub above : (at i : ℕ) (cs : List ℕ) → MatchesIn at cs i → at ≤ i
   above at i [] h = absurd h
   above at i (c ∷ cs) (inl h) = omega (arith, h.0)
   above at i (c ∷ cs) (inr h) = omega (arith, above (at + length (encode_utf8 c)) i cs h)
@@ -63,58 +62,23 @@ module _ (says : Data) (reading : Reading) (sought : List ℕ) where
   find-here x at ats h = let e : nat_le x at ≡ true = grind (arith, nat_tests) in rw (e, find) refl
 
   abbrev pub FirstOf : ℕ → ℕ → List ℕ → Type 0
-  FirstOf x at cs = First x (MatchesIn at cs) (find (nat_le x) (matches_by says reading sought at cs))
+  FirstOf x at cs = First x (MatchesIn at cs) (find (nat_le x) (matches says reading sought at cs))
 
-  first-by : (x at c : ℕ) (cs : List ℕ) (here : Bool) → is_match_by says reading sought (c ∷ cs) ≡ here → FirstOf x (at + length (encode_utf8 c)) cs → FirstOf x at (c ∷ cs)
+  first-by : (x at c : ℕ) (cs : List ℕ) (here : Bool) → is_match says reading sought (c ∷ cs) ≡ here → FirstOf x (at + length (encode_utf8 c)) cs → FirstOf x at (c ∷ cs)
   first-by x at c cs false e h =
       subst (First x (MatchesIn at (c ∷ cs))) (sym (ap (find (nat_le x)) (matches-not says reading sought at c cs e)))
-      (later x at (is_match_by says reading sought (c ∷ cs) ≡ true) (MatchesIn (at + length (encode_utf8 c)) cs) _ (λ i l f g. let no : false ≡ true = sym e ∙ g in absurd (cc)) h)
+      (later x at (is_match says reading sought (c ∷ cs) ≡ true) (MatchesIn (at + length (encode_utf8 c)) cs) _ (λ i l f g. let no : false ≡ true = sym e ∙ g in absurd (cc)) h)
   first-by x at c cs true e h =
       subst (λ os. First x (MatchesIn at (c ∷ cs)) (find (nat_le x) os)) (sym (matches-here says reading sought at c cs e))
       (elim (cases_lt at x) [
         | inl l ↦ subst (First x (MatchesIn at (c ∷ cs))) (sym (find-not x at _ l))
-            (later x at (is_match_by says reading sought (c ∷ cs) ≡ true) (MatchesIn (at + length (encode_utf8 c)) cs) _ (λ i m f g. absurd (omega (arith, l, m, f))) h)
+            (later x at (is_match says reading sought (c ∷ cs) ≡ true) (MatchesIn (at + length (encode_utf8 c)) cs) _ (λ i m f g. absurd (omega (arith, l, m, f))) h)
         | inr l ↦ subst (First x (MatchesIn at (c ∷ cs))) (sym (find-here x at _ l)) (inl (refl, e), l, λ i m f. above at i (c ∷ cs) f)
       ])
 
   first-of : (x at : ℕ) (cs : List ℕ) → FirstOf x at cs
   first-of x at [] = λ i l h. h
-  first-of x at (c ∷ cs) = first-by x at c cs (is_match_by says reading sought (c ∷ cs)) refl (first-of x (at + length (encode_utf8 c)) cs)
-
-  -- ---- the first before x
-
-  abbrev pub Before : ℕ → (ℕ → Type 0) → Option ℕ → Type 0
-  Before x P o = MatchOption o ((i : ℕ) → i < x → ¬ (P i)) (λ a. P a × (a < x) × ((i : ℕ) → P i → a ≤ i))
-
-  before-later : (x at : ℕ) (Here : Type 0) (P : ℕ → Type 0) (o : Option ℕ) → (Here → ⊥) → Before x P o → Before x (λ i. ((i ≡ at) × Here) ⊎ P i) o
-  before-later x at Here P None other h = λ i l e. elim e [ inl f ↦ other f.1 | inr f ↦ h i l f ]
-  before-later x at Here P (Some a) other h = (inr h.0, h.1, λ i e. elim e [ inl f ↦ absurd (other f.1) | inr f ↦ h.2 i f ])
-
-  below-here : (x at : ℕ) (ats : List ℕ) → at < x → first_below x (at ∷ ats) ≡ Some at
-  below-here x at ats h = let e : nat_lt at x ≡ true = grind (arith, nat_tests) in rw (e, find) refl
-
-  below-not : (x at : ℕ) (ats : List ℕ) → x ≤ at → first_below x (at ∷ ats) ≡ first_below x ats
-  below-not x at ats h = let e : nat_lt at x ≡ false = grind (arith, nat_tests) in rw (e, find) refl
-
-  abbrev pub BeforeOf : ℕ → ℕ → List ℕ → Type 0
-  BeforeOf x at cs = Before x (MatchesIn at cs) (first_below x (matches_by says reading sought at cs))
-
-  before-by : (x at c : ℕ) (cs : List ℕ) (here : Bool) → is_match_by says reading sought (c ∷ cs) ≡ here
-      → BeforeOf x (at + length (encode_utf8 c)) cs → BeforeOf x at (c ∷ cs)
-  before-by x at c cs false e h =
-      subst (Before x (MatchesIn at (c ∷ cs))) (sym (ap (first_below x) (matches-not says reading sought at c cs e)))
-      (before-later x at (is_match_by says reading sought (c ∷ cs) ≡ true) (MatchesIn (at + length (encode_utf8 c)) cs) _ (λ g. let no : false ≡ true = sym e ∙ g in absurd (cc)) h)
-  before-by x at c cs true e h =
-      subst (λ os. Before x (MatchesIn at (c ∷ cs)) (first_below x os)) (sym (matches-here says reading sought at c cs e))
-      (elim (cases_lt at x) [
-        | inl l ↦ subst (Before x (MatchesIn at (c ∷ cs))) (sym (below-here x at _ l)) (inl (refl, e), l, λ i f. above at i (c ∷ cs) f)
-        | inr l ↦ subst (Before x (MatchesIn at (c ∷ cs))) (sym (below-not x at _ l ∙ none-below says reading sought x (at + length (encode_utf8 c)) cs (omega (arith, l))))
-            (λ i m f. let up = above at i (c ∷ cs) f in omega (arith, l, m, up))
-      ])
-
-  before-of : (x at : ℕ) (cs : List ℕ) → BeforeOf x at cs
-  before-of x at [] = λ i l h. h
-  before-of x at (c ∷ cs) = before-by x at c cs (is_match_by says reading sought (c ∷ cs)) refl (before-of x (at + length (encode_utf8 c)) cs)
+  first-of x at (c ∷ cs) = first-by x at c cs (is_match says reading sought (c ∷ cs)) refl (first-of x (at + length (encode_utf8 c)) cs)
 
   -- ---- the last before x
 
@@ -129,7 +93,7 @@ module _ (says : Data) (reading : Reading) (sought : List ℕ) where
   Last x old P o = ((o ≡ old) × ((i : ℕ) → i < x → ¬ (P i))) ⊎ IsGreatest x P o
 
   abbrev pub LastOf : ℕ → ℕ → List ℕ → Type 0
-  LastOf x at cs = (old : Option ℕ) → Last x old (MatchesIn at cs) (last_below x old (matches_by says reading sought at cs))
+  LastOf x at cs = (old : Option ℕ) → Last x old (MatchesIn at cs) (last_below x old (matches says reading sought at cs))
 
   past : (x at : ℕ) (Here : Type 0) (P : ℕ → Type 0) (old o : Option ℕ) → ((i : ℕ) → i < x → i ≡ at → Here → ⊥) → Last x old P o
       → Last x old (λ i. ((i ≡ at) × Here) ⊎ P i) o
@@ -165,27 +129,27 @@ module _ (says : Data) (reading : Reading) (sought : List ℕ) where
   last-not : (x at : ℕ) (o : Option ℕ) (ats : List ℕ) → x ≤ at → last_below x o (at ∷ ats) ≡ last_below x o ats
   last-not x at o ats h = let e : nat_lt at x ≡ false = grind (arith, nat_tests) in rw (e, last_below) refl
 
-  last-by : (x at c : ℕ) (cs : List ℕ) (here : Bool) → is_match_by says reading sought (c ∷ cs) ≡ here → LastOf x (at + length (encode_utf8 c)) cs → LastOf x at (c ∷ cs)
+  last-by : (x at c : ℕ) (cs : List ℕ) (here : Bool) → is_match says reading sought (c ∷ cs) ≡ here → LastOf x (at + length (encode_utf8 c)) cs → LastOf x at (c ∷ cs)
   last-by x at c cs false e h old =
       subst (Last x old (MatchesIn at (c ∷ cs))) (sym (ap (last_below x old) (matches-not says reading sought at c cs e)))
-      (past x at (is_match_by says reading sought (c ∷ cs) ≡ true) (MatchesIn (at + length (encode_utf8 c)) cs) old _ (λ i l f g. let no : false ≡ true = sym e ∙ g in absurd (cc)) (h old))
+      (past x at (is_match says reading sought (c ∷ cs) ≡ true) (MatchesIn (at + length (encode_utf8 c)) cs) old _ (λ i l f g. let no : false ≡ true = sym e ∙ g in absurd (cc)) (h old))
   last-by x at c cs true e h old =
       subst (λ os. Last x old (MatchesIn at (c ∷ cs)) (last_below x old os)) (sym (matches-here says reading sought at c cs e))
       (elim (cases_lt at x) [
         | inl l ↦ subst (Last x old (MatchesIn at (c ∷ cs))) (sym (last-here x at old _ l))
-            (taken x at (is_match_by says reading sought (c ∷ cs) ≡ true) (MatchesIn (at + length (encode_utf8 c)) cs) old _ l e
+            (taken x at (is_match says reading sought (c ∷ cs) ≡ true) (MatchesIn (at + length (encode_utf8 c)) cs) old _ l e
             (λ i f. let up = above (at + length (encode_utf8 c)) i cs f in omega (arith, up)) (h (Some at)))
         | inr l ↦ subst (Last x old (MatchesIn at (c ∷ cs))) (sym (last-not x at old _ l))
-            (past x at (is_match_by says reading sought (c ∷ cs) ≡ true) (MatchesIn (at + length (encode_utf8 c)) cs) old _ (λ i m f g. absurd (omega (arith, l, m, f))) (h old))
+            (past x at (is_match says reading sought (c ∷ cs) ≡ true) (MatchesIn (at + length (encode_utf8 c)) cs) old _ (λ i m f g. absurd (omega (arith, l, m, f))) (h old))
       ])
 
   last-of : (x at : ℕ) (cs : List ℕ) → LastOf x at cs
   last-of x at [] = λ old. inl (refl, λ i l h. h)
-  last-of x at (c ∷ cs) = last-by x at c cs (is_match_by says reading sought (c ∷ cs)) refl (last-of x (at + length (encode_utf8 c)) cs)
+  last-of x at (c ∷ cs) = last-by x at c cs (is_match says reading sought (c ∷ cs)) refl (last-of x (at + length (encode_utf8 c)) cs)
 
   -- ---- offsets of a text
 
-  into : (at : ℕ) (front rest : List ℕ) → is_match_by says reading sought rest ≡ true → MatchesIn at (front ++ rest) (at + widths front)
+  into : (at : ℕ) (front rest : List ℕ) → is_match says reading sought rest ≡ true → MatchesIn at (front ++ rest) (at + widths front)
   into at [] [] h = absurd (cc)
   into at [] (c ∷ rest) h = inl (omega arith, h)
   into at (c ∷ front) rest h =
@@ -197,11 +161,11 @@ module _ (says : Data) (reading : Reading) (sought : List ℕ) where
     pub rest : List ℕ
     pub whole : cs ≡ front ++ rest
     pub offset : i ≡ at + widths front
-    pub matches : is_match_by says reading sought rest ≡ true
+    pub fits : is_match says reading sought rest ≡ true
 
   out : (at i : ℕ) (cs : List ℕ) → MatchesIn at cs i → Cut at cs i
   out at i [] h = absurd h
-  out at i (c ∷ cs) (inl h) = record { front = []; rest = c ∷ cs; whole = refl; offset = omega (arith, h.0); matches = h.1 }
+  out at i (c ∷ cs) (inl h) = record { front = []; rest = c ∷ cs; whole = refl; offset = omega (arith, h.0); fits = h.1 }
   out at i (c ∷ cs) (inr h) =
       let k = out (at + length (encode_utf8 c)) i cs h in
       record {
@@ -209,30 +173,30 @@ module _ (says : Data) (reading : Reading) (sought : List ℕ) where
         rest = k.rest;
         whole = ap (λ ds. c ∷ ds) k.whole;
         offset = omega (arith, k.offset, widths-more c k.front);
-        matches = k.matches;
+        fits = k.fits;
       }
 
-  in-text : (text : List ℕ) (i : ℕ) → IsUtf8 text → MatchesAtBy says reading sought text i → MatchesIn 0 (chars text) i
+  pub in-text : (text : List ℕ) (i : ℕ) → IsUtf8 text → MatchesAt says reading sought text i → MatchesIn 0 (chars text) i
   in-text text i u h =
       let e : 0 + widths (chars (take i text)) ≡ i = omega (arith, front-bytes says reading sought text i u h.0) in
       subst (λ cs. MatchesIn 0 cs i) (sym (cut_chars says reading sought text i u h.0))
       (subst (MatchesIn 0 (chars (take i text) ++ chars (drop i text))) e (into 0 (chars (take i text)) (chars (drop i text)) h.1))
 
-  of-text : (text : List ℕ) (i : ℕ) → IsUtf8 text → MatchesIn 0 (chars text) i → MatchesAtBy says reading sought text i
+  pub of-text : (text : List ℕ) (i : ℕ) → IsUtf8 text → MatchesIn 0 (chars text) i → MatchesAt says reading sought text i
   of-text text i u h =
       let k = out 0 i (chars text) h in
       let at : widths k.front ≡ i = omega (arith, k.offset) in (
         bound_at text k.front k.rest i u k.whole at,
-        ap (is_match_by says reading sought) (text_at text k.front k.rest i u k.whole at) ∙ k.matches,
+        ap (is_match says reading sought) (text_at text k.front k.rest i u k.whole at) ∙ k.fits,
       )
 
   first-from : (text : List ℕ) (x : ℕ) (o : Option ℕ) → IsUtf8 text → First x (MatchesIn 0 (chars text)) o
-      → MatchOption o ((i : ℕ) → x ≤ i → ¬ (MatchesAtBy says reading sought text i)) (IsFirstBy says reading sought text x)
+      → MatchOption o ((i : ℕ) → x ≤ i → ¬ (MatchesAt says reading sought text i)) (IsFirst says reading sought text x)
   first-from text x None u h = λ i l e. h i l (in-text text i u e)
   first-from text x (Some a) u h = record { is_match = of-text text a u h.0; not_before = h.1; least = λ i l e. h.2 i l (in-text text i u e) }
 
   last-from : (text : List ℕ) (x : ℕ) (o : Option ℕ) → IsUtf8 text → Last x None (MatchesIn 0 (chars text)) o
-      → MatchOption o ((i : ℕ) → i < x → ¬ (MatchesAtBy says reading sought text i)) (IsLastBy says reading sought text x)
+      → MatchOption o ((i : ℕ) → i < x → ¬ (MatchesAt says reading sought text i)) (IsLast says reading sought text x)
   last-from text x None u (inl h) = λ i l e. h.1 i l (in-text text i u e)
   last-from text x None u (inr h) = let no = h.is in absurd (cc)
   last-from text x (Some a) u (inl h) = let no = h.0 in absurd (cc)
@@ -244,32 +208,12 @@ module _ (says : Data) (reading : Reading) (sought : List ℕ) where
         greatest = λ i l e. omega (arith, same, h.greatest i l (in-text text i u e));
       }
 
-  before-from : (text : List ℕ) (x : ℕ) (o : Option ℕ) → IsUtf8 text → Before x (MatchesIn 0 (chars text)) o
-      → MatchOption o ((i : ℕ) → i < x → ¬ (MatchesAtBy says reading sought text i)) (IsFirstBefore says reading sought text x)
-  before-from text x None u h = λ i l e. h i l (in-text text i u e)
-  before-from text x (Some a) u h = record { is_match = of-text text a u h.0; before = h.1; least = λ i e. h.2 i (in-text text i u e) }
+  pub first_is : (text : List ℕ) (x : ℕ) → IsUtf8 text
+      → MatchOption (first_from says reading sought text x) ((i : ℕ) → x ≤ i → ¬ (MatchesAt says reading sought text i))
+      (IsFirst says reading sought text x)
+  first_is text x u = first-from text x (first_from says reading sought text x) u (first-of x 0 (chars text))
 
-  pub first_by_is : (text : List ℕ) (x : ℕ) → IsUtf8 text
-      → MatchOption (first_from_by says reading sought text x) ((i : ℕ) → x ≤ i → ¬ (MatchesAtBy says reading sought text i))
-      (IsFirstBy says reading sought text x)
-  first_by_is text x u = first-from text x (first_from_by says reading sought text x) u (first-of x 0 (chars text))
-
-  pub before_is : (text : List ℕ) (x : ℕ) → IsUtf8 text
-      → MatchOption (first_before says reading sought text x) ((i : ℕ) → i < x → ¬ (MatchesAtBy says reading sought text i))
-      (IsFirstBefore says reading sought text x)
-  before_is text x u = before-from text x (first_before says reading sought text x) u (before-of x 0 (chars text))
-
-  pub last_by_is : (text : List ℕ) (x : ℕ) → IsUtf8 text
-      → MatchOption (last_before_by says reading sought text x) ((i : ℕ) → i < x → ¬ (MatchesAtBy says reading sought text i))
-      (IsLastBy says reading sought text x)
-  last_by_is text x u = last-from text x (last_before_by says reading sought text x) u (last-of x 0 (chars text) None)
-
--- ---- closely read
-
-pub first_is : (says : Data) (sought text : List ℕ) (x : ℕ) → IsUtf8 text
-    → MatchOption (first_from says sought text x) ((i : ℕ) → x ≤ i → ¬ (MatchesAt says sought text i)) (IsFirst says sought text x)
-first_is says sought text x u = first_by_is says Close sought text x u
-
-pub last_is : (says : Data) (sought text : List ℕ) (x : ℕ) → IsUtf8 text
-    → MatchOption (last_before says sought text x) ((i : ℕ) → i < x → ¬ (MatchesAt says sought text i)) (IsLast says sought text x)
-last_is says sought text x u = last_by_is says Close sought text x u
+  pub last_is : (text : List ℕ) (x : ℕ) → IsUtf8 text
+      → MatchOption (last_before says reading sought text x) ((i : ℕ) → i < x → ¬ (MatchesAt says reading sought text i))
+      (IsLast says reading sought text x)
+  last_is text x u = last-from text x (last_before says reading sought text x) u (last-of x 0 (chars text) None)

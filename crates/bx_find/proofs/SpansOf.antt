@@ -1,18 +1,18 @@
 -- The end of a match, and the matches that follow one another.
-use Rattle.std.proofs.Common.{◌≡◌, ◌≤◌, ◌<◌, ◌+◌, ◌-◌, ◌∙◌, ◌&&◌, ℕ, zero, suc, Bool, true, false, List, [], ◌∷◌, ◌++◌, length, chars, drop, refl}
-use Rattle.std.proofs.Common.{ap, ap₂, sym, subst, arith, inl, inr, IsCharBoundary, Option, Some, None}
+use Rattle.std.proofs.Common.{◌≡◌, ◌≤◌, ◌<◌, ◌+◌, ◌-◌, ◌∙◌, ◌&&◌, ℕ, zero, suc, Bool, true, false, List, [], ◌∷◌, ◌++◌, length, chars, drop, refl, ap, ap₂, sym}
+use Rattle.std.proofs.Common.{subst, arith, inl, inr, IsCharBoundary, Option, Some, None}
 use Rattle.std.specs.Prelude.{MatchOption, IsUtf8, encode_utf8, find, nat_le}
 use Rattle.std.proofs.lemmas.Bool.{cases_lt, and_parts}
 use Rattle.std.proofs.lemmas.Bool.Decides.{nat_tests}
 use Rattle.std.proofs.lemmas.Str.{IsUtf8-drop, IsCharBoundary-from_rest}
 use Rattle.bx_ucd.specs.Data.{Data}
-use Rattle.bx_find.specs.Letters.{letters_of, letters_by}
-use Rattle.bx_find.specs.Matches.{begins_some, is_some, is_match_by, matches_by, first_from_by}
+use Rattle.bx_find.specs.Letters.{letters_of, letters}
+use Rattle.bx_find.specs.Matches.{begins_some, is_some, is_match, matches, first_from}
 use Rattle.bx_find.specs.Spans.{is_attached, behind_attached, behind_letters, match_end, spans_of, spans_from}
-use Rattle.bx_find.specs.Laws.{MatchesAtBy, IsFirstBy, AreSpans}
+use Rattle.bx_find.specs.Nearest.{MatchesAt, IsFirst}
 use Rattle.bx_find.specs.declared.reading.Reading.{Reading}
 use Rattle.bx_find.proofs.Offsets.{widths, width-some, widths-more, matches-here, matches-not, cond-here, cond-not}
-use Rattle.bx_find.proofs.Nearest.{first_by_is, text_at, bound_at}
+use Rattle.bx_find.proofs.Nearest.{first_is, text_at, bound_at}
 
 module _ (says : Data) (reading : Reading) where
   -- ---- the end of a match
@@ -68,13 +68,13 @@ module _ (says : Data) (reading : Reading) where
   ends n at [] = ends-nowhere at _ [] (ends_with n at)
   ends n at (c ∷ cs) = ends-by n at c cs (is_attached says c) refl (λ m. ends m (at + length (encode_utf8 c)) cs)
 
-  not-before : (n at : ℕ) (cs : List ℕ) → at ≤ behind_letters says reading n at cs
-  not-before n at cs = let e = ends n at cs in omega (arith, e.offset)
+  pub not_before : (n at : ℕ) (cs : List ℕ) → at ≤ behind_letters says reading n at cs
+  not_before n at cs = let e = ends n at cs in omega (arith, e.offset)
 
   behind-first : (n at c : ℕ) (cs : List ℕ) → 0 < n → at < behind_letters says reading n at (c ∷ cs)
   behind-first zero at c cs some = absurd (omega (arith, some))
   behind-first (suc n) at c cs some =
-      omega (arith, width-some c, not-before (suc n - length (letters_of says reading c)) (at + length (encode_utf8 c)) cs)
+      omega (arith, width-some c, not_before (suc n - length (letters_of says reading c)) (at + length (encode_utf8 c)) cs)
 
   -- ---- the matches that follow one another
 
@@ -82,19 +82,19 @@ module _ (says : Data) (reading : Reading) where
     abbrev end-of : ℕ → List ℕ → ℕ
     end-of at cs = behind_letters says reading (length sought) at cs
 
-    spans-here : (x at c : ℕ) (cs : List ℕ) → x ≤ at → is_match_by says reading sought (c ∷ cs) ≡ true
+    spans-here : (x at c : ℕ) (cs : List ℕ) → x ≤ at → is_match says reading sought (c ∷ cs) ≡ true
         → spans_of says reading sought x at (c ∷ cs)
         ≡ (at, end-of at (c ∷ cs)) ∷ spans_of says reading sought (end-of at (c ∷ cs)) (at + length (encode_utf8 c)) cs
     spans-here x at c cs h e = let l : nat_le x at ≡ true = grind (arith, nat_tests) in rw (l, e, spans_of) refl
 
-    spans-not : (x at c : ℕ) (cs : List ℕ) → is_match_by says reading sought (c ∷ cs) ≡ false
+    spans-not : (x at c : ℕ) (cs : List ℕ) → is_match says reading sought (c ∷ cs) ≡ false
         → spans_of says reading sought x at (c ∷ cs) ≡ spans_of says reading sought x (at + length (encode_utf8 c)) cs
-    spans-not x at c cs e = let none : (nat_le x at && is_match_by says reading sought (c ∷ cs)) ≡ false = grind (arith, nat_tests) in rw (none, spans_of) refl
+    spans-not x at c cs e = let none : (nat_le x at && is_match says reading sought (c ∷ cs)) ≡ false = grind (arith, nat_tests) in rw (none, spans_of) refl
 
     spans-before : (x at c : ℕ) (cs : List ℕ) → at < x
         → spans_of says reading sought x at (c ∷ cs) ≡ spans_of says reading sought x (at + length (encode_utf8 c)) cs
     spans-before x at c cs h =
-        let none : (nat_le x at && is_match_by says reading sought (c ∷ cs)) ≡ false = grind (arith, nat_tests) in rw (none, spans_of) refl
+        let none : (nat_le x at && is_match says reading sought (c ∷ cs)) ≡ false = grind (arith, nat_tests) in rw (none, spans_of) refl
 
     spans-skipped : (x at : ℕ) (front rest : List ℕ) → at + widths front ≤ x
         → spans_of says reading sought x at (front ++ rest) ≡ spans_of says reading sought x (at + widths front) rest
@@ -117,14 +117,14 @@ module _ (says : Data) (reading : Reading) where
     abbrev NextOf : ℕ → ℕ → List ℕ → Option ℕ → Type 0
     NextOf x at cs o = MatchOption o (spans_of says reading sought x at cs ≡ []) (Next x at cs)
 
-    some-sought : (c : ℕ) (cs : List ℕ) → is_match_by says reading sought (c ∷ cs) ≡ true → 0 < length sought
+    some-sought : (c : ℕ) (cs : List ℕ) → is_match says reading sought (c ∷ cs) ≡ true → 0 < length sought
     some-sought c cs e = some-in sought (and_parts (is_some (letters_of says reading c)) _ e).1
       where
-        some-in : (ls : List ℕ) → begins_some ls (letters_by says reading (c ∷ cs)) ≡ true → 0 < length ls
+        some-in : (ls : List ℕ) → begins_some ls (letters says reading (c ∷ cs)) ≡ true → 0 < length ls
         some-in [] f = absurd (cc)
         some-in (l ∷ ls) f = omega arith
 
-    next-here : (x at c : ℕ) (cs : List ℕ) → x ≤ at → is_match_by says reading sought (c ∷ cs) ≡ true → Next x at (c ∷ cs) at
+    next-here : (x at c : ℕ) (cs : List ℕ) → x ≤ at → is_match says reading sought (c ∷ cs) ≡ true → Next x at (c ∷ cs) at
     next-here x at c cs h e =
         let past = behind-first (length sought) at c cs (some-sought c cs e) in
         record {
@@ -151,9 +151,9 @@ module _ (says : Data) (reading : Reading) where
           spans = same ∙ h.spans;
         }
 
-    next-by : (x at c : ℕ) (cs : List ℕ) (here : Bool) → is_match_by says reading sought (c ∷ cs) ≡ here
-        → NextOf x (at + length (encode_utf8 c)) cs (find (nat_le x) (matches_by says reading sought (at + length (encode_utf8 c)) cs))
-        → NextOf x at (c ∷ cs) (find (nat_le x) (matches_by says reading sought at (c ∷ cs)))
+    next-by : (x at c : ℕ) (cs : List ℕ) (here : Bool) → is_match says reading sought (c ∷ cs) ≡ here
+        → NextOf x (at + length (encode_utf8 c)) cs (find (nat_le x) (matches says reading sought (at + length (encode_utf8 c)) cs))
+        → NextOf x at (c ∷ cs) (find (nat_le x) (matches says reading sought at (c ∷ cs)))
     next-by x at c cs false e more =
         subst (NextOf x at (c ∷ cs)) (sym (ap (find (nat_le x)) (matches-not says reading sought at c cs e)))
         (next-later x at c cs _ (spans-not x at c cs e) more)
@@ -164,9 +164,9 @@ module _ (says : Data) (reading : Reading) where
           | inr l ↦ subst (NextOf x at (c ∷ cs)) (sym (cond-here says reading sought at x _ l)) (next-here x at c cs l e)
         ])
 
-    next : (x at : ℕ) (cs : List ℕ) → NextOf x at cs (find (nat_le x) (matches_by says reading sought at cs))
+    next : (x at : ℕ) (cs : List ℕ) → NextOf x at cs (find (nat_le x) (matches says reading sought at cs))
     next x at [] = refl
-    next x at (c ∷ cs) = next-by x at c cs (is_match_by says reading sought (c ∷ cs)) refl (next x (at + length (encode_utf8 c)) cs)
+    next x at (c ∷ cs) = next-by x at c cs (is_match says reading sought (c ∷ cs)) refl (next x (at + length (encode_utf8 c)) cs)
 
     -- ---- the spans of a text
 
@@ -191,49 +191,16 @@ module _ (says : Data) (reading : Reading) where
         )
 
     pub next_span : (text : List ℕ) (x : ℕ) → IsUtf8 text
-        → MatchOption (first_from_by says reading sought text x) (spans_from says reading sought text x ≡ []) (IsNext text x)
-    next_span text x u = of-option (first_from_by says reading sought text x) (next x 0 (chars text))
+        → MatchOption (first_from says reading sought text x) (spans_from says reading sought text x ≡ []) (IsNext text x)
+    next_span text x u = of-option (first_from says reading sought text x) (next x 0 (chars text))
       where
         of-option : (o : Option ℕ) → NextOf x 0 (chars text) o → MatchOption o (spans_from says reading sought text x ≡ []) (IsNext text x)
         of-option None h = h
         of-option (Some a) h = next-in text x a u h
 
-    heads : (s t : ℕ × ℕ) (ss ts : List (ℕ × ℕ)) → s ∷ ss ≡ t ∷ ts → (s ≡ t) × (ss ≡ ts)
-    heads s t ss ts e = (cc, cc)
-
-    -- ---- that they are what they are
+    -- ---- that they are found
 
     module _ (text : List ℕ) (u : IsUtf8 text) where
-      follow-none : (x : ℕ) (o : Option ℕ) → [] ≡ spans_from says reading sought text x
-          → MatchOption o ((i : ℕ) → x ≤ i → ¬ (MatchesAtBy says reading sought text i)) (IsFirstBy says reading sought text x)
-          → MatchOption o (spans_from says reading sought text x ≡ []) (IsNext text x) → AreSpans says reading sought text x []
-      follow-none x None e first n = first
-      follow-none x (Some a) e first n = let no = e ∙ n.1 in absurd (cc)
-
-      follow-some : (s : ℕ × ℕ) (ss : List (ℕ × ℕ)) (x : ℕ) (o : Option ℕ) → s ∷ ss ≡ spans_from says reading sought text x
-          → MatchOption o ((i : ℕ) → x ≤ i → ¬ (MatchesAtBy says reading sought text i)) (IsFirstBy says reading sought text x)
-          → MatchOption o (spans_from says reading sought text x ≡ []) (IsNext text x)
-          → ((y : ℕ) → ss ≡ spans_from says reading sought text y → AreSpans says reading sought text y ss)
-          → AreSpans says reading sought text x (s ∷ ss)
-      follow-some s ss x None e first n more = let no = e ∙ n in absurd (cc)
-      follow-some s ss x (Some a) e first n more =
-          let end = match_end says reading sought text a in
-          let same = heads s (a, end) ss (spans_from says reading sought text end) (e ∙ n.1) in
-          let start : s.0 ≡ a = ap (λ (p : ℕ × ℕ). p.0) same.0 in
-          let stop : s.1 ≡ end = ap (λ (p : ℕ × ℕ). p.1) same.0 in (
-            subst (IsFirstBy says reading sought text x) (sym start) first,
-            stop ∙ ap (match_end says reading sought text) (sym start),
-            more s.1 (same.1 ∙ ap (spans_from says reading sought text) (sym stop)),
-          )
-
-      follow : (ss : List (ℕ × ℕ)) (x : ℕ) → ss ≡ spans_from says reading sought text x → AreSpans says reading sought text x ss
-      follow [] x e = follow-none x (first_from_by says reading sought text x) e (first_by_is says reading sought text x u) (next_span text x u)
-      follow (s ∷ ss) x e =
-          follow-some s ss x (first_from_by says reading sought text x) e (first_by_is says reading sought text x u) (next_span text x u) (follow ss)
-
-      pub spans_are : (x : ℕ) → AreSpans says reading sought text x (spans_from says reading sought text x)
-      spans_are x = follow (spans_from says reading sought text x) x refl
-
       -- a match ends between characters
       pub end_bound : (a : ℕ) → IsCharBoundary text a → IsCharBoundary text (match_end says reading sought text a)
       end_bound a b =
@@ -242,21 +209,21 @@ module _ (says : Data) (reading : Reading) where
           (IsCharBoundary-from_rest text a (widths e.front) b.0 (bound_at (drop a text) e.front e.rest (widths e.front) (IsUtf8-drop text a u b) e.whole refl))
 
       found-by : (x a : ℕ) (o : Option ℕ) → Some a ≡ o
-          → MatchOption o ((i : ℕ) → x ≤ i → ¬ (MatchesAtBy says reading sought text i)) (IsFirstBy says reading sought text x)
+          → MatchOption o ((i : ℕ) → x ≤ i → ¬ (MatchesAt says reading sought text i)) (IsFirst says reading sought text x)
           → MatchOption o (spans_from says reading sought text x ≡ []) (IsNext text x)
-          → IsFirstBy says reading sought text x a × IsNext text x a
+          → IsFirst says reading sought text x a × IsNext text x a
       found-by x a None e first n = absurd (cc)
       found-by x a (Some b) e first n =
-          let same : b ≡ a = cc in (subst (IsFirstBy says reading sought text x) same first, subst (IsNext text x) same n)
+          let same : b ≡ a = cc in (subst (IsFirst says reading sought text x) same first, subst (IsNext text x) same n)
 
-      pub span_found : (x a : ℕ) → Some a ≡ first_from_by says reading sought text x
-          → IsFirstBy says reading sought text x a × IsNext text x a
-      span_found x a e = found-by x a (first_from_by says reading sought text x) e (first_by_is says reading sought text x u) (next_span text x u)
+      pub span_found : (x a : ℕ) → Some a ≡ first_from says reading sought text x
+          → IsFirst says reading sought text x a × IsNext text x a
+      span_found x a e = found-by x a (first_from says reading sought text x) e (first_is says reading sought text x u) (next_span text x u)
 
       none-by : (x : ℕ) (o : Option ℕ) → None ≡ o → MatchOption o (spans_from says reading sought text x ≡ []) (IsNext text x)
           → spans_from says reading sought text x ≡ []
       none-by x None e n = n
       none-by x (Some b) e n = absurd (cc)
 
-      pub none_found : (x : ℕ) → None ≡ first_from_by says reading sought text x → spans_from says reading sought text x ≡ []
-      none_found x e = none-by x (first_from_by says reading sought text x) e (next_span text x u)
+      pub none_found : (x : ℕ) → None ≡ first_from says reading sought text x → spans_from says reading sought text x ≡ []
+      none_found x e = none-by x (first_from says reading sought text x) e (next_span text x u)

@@ -1,4 +1,4 @@
--- The letters that a search compares.
+-- The letters that a search compares in place of characters: those that a reading gives each character. `says` is Unicode's data.
 use Rattle.std.specs.Prelude.{ℕ, Bool, not, ◌||◌, ◌==◌, List, [], ◌∷◌, map, filter, flat_map, if◌then◌else◌}
 use Rattle.std.specs.Char.{to_ascii_lowercase}
 use Rattle.ucd_case.specs.CaseFolding.{full_fold}
@@ -13,11 +13,11 @@ use Rattle.bx_find.specs.declared.reading.Reading.TheVariants.{Wide, Close}
 abbrev pub is_stroke_or_mark : ℕ → Bool
 is_stroke_or_mark c = (c == 0x640) || is_direction_mark c
 
--- a character that a search passes over
+-- a character that a search passes over: of a class without a letter of its own, a directional mark or the tatweel
 abbrev pub is_passed_over : Data → ℕ → Bool
 is_passed_over says c = is_unlettered (says.class c) || is_stroke_or_mark c
 
--- Of letters that readers take for one another, the one that stands for all: HEBREW KAF, MEM, NUN, PE and TSADI for their final
+-- Of letters that readers take for one another, the one that is compared: HEBREW KAF, MEM, NUN, PE and TSADI for their final
 -- forms, ARABIC ALEF for ALEF WASLA, YEH for ALEF MAKSURA and FARSI YEH, KAF for KEHEH, HEH for TEH MARBUTA and HEH GOAL.
 abbrev pub main_letter : ℕ → ℕ
 main_letter c =
@@ -48,9 +48,5 @@ letters_of says Wide c = letters_of_parts says (nfd (c ∷ []))
 letters_of says Close c = if is_passed_over says c then [] else to_ascii_lowercase c ∷ []
 
 -- the letters of characters, in order
-abbrev pub letters_by : Data → Reading → List ℕ → List ℕ
-letters_by says reading cs = flat_map (letters_of says reading) cs
-
--- the same, closely read
-abbrev pub letters : Data → List ℕ → List ℕ
-letters says cs = letters_by says Close cs
+abbrev pub letters : Data → Reading → List ℕ → List ℕ
+letters says reading cs = flat_map (letters_of says reading) cs

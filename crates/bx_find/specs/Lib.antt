@@ -4,6 +4,6 @@ pub mod Matches
 pub mod Spans
 pub mod Borders
 pub mod Ring
-pub mod Held
-pub mod Pieces
-pub mod Laws
+pub mod Prefix
+pub mod Haystack
+pub mod Nearest

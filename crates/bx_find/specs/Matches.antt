@@ -1,9 +1,8 @@
--- The offsets at which a query's letters match in a text.
+-- The offsets at which a query's letters, the sought ones, match in a text. `says` is Unicode's data.
 use Rattle.std.specs.Prelude.{ℕ, ◌+◌, ◌==◌, ◌&&◌, Bool, true, false, List, [], ◌∷◌, length, nat_le, nat_lt, find, Option, Some, None, chars, encode_utf8}
 use Rattle.bx_ucd.specs.Data.{Data}
-use Rattle.bx_find.specs.Letters.{letters_of, letters_by}
+use Rattle.bx_find.specs.Letters.{letters_of, letters}
 use Rattle.bx_find.specs.declared.reading.Reading.{Reading}
-use Rattle.bx_find.specs.declared.reading.Reading.TheVariants.{Close}
 
 -- the second list begins with the first
 abbrev pub begins : List ℕ → List ℕ → Bool
@@ -11,31 +10,32 @@ begins [] cs = true
 begins (q ∷ qs) [] = false
 begins (q ∷ qs) (c ∷ cs) = (q == c) && begins qs cs
 
--- the same, and the first is not empty
+-- the second list begins with the first, which is not empty
 abbrev pub begins_some : List ℕ → List ℕ → Bool
 begins_some [] cs = false
 begins_some (q ∷ qs) cs = begins (q ∷ qs) cs
 
+-- a list is not empty
 abbrev pub is_some : List ℕ → Bool
 is_some [] = false
 is_some (l ∷ ls) = true
 
 -- the sought letters match at the first character: it gives a letter, and the letters from it on begin with the sought ones
-abbrev pub is_match_by : Data → Reading → List ℕ → List ℕ → Bool
-is_match_by says reading sought [] = false
-is_match_by says reading sought (c ∷ cs) = is_some (letters_of says reading c) && begins_some sought (letters_by says reading (c ∷ cs))
+abbrev pub is_match : Data → Reading → List ℕ → List ℕ → Bool
+is_match says reading sought [] = false
+is_match says reading sought (c ∷ cs) = is_some (letters_of says reading c) && begins_some sought (letters says reading (c ∷ cs))
 
--- the byte offsets at which they match, where the first character is at the offset `at`
-abbrev pub matches_by : Data → Reading → List ℕ → ℕ → List ℕ → List ℕ
-matches_by says reading sought at [] = []
-matches_by says reading sought at (c ∷ cs) = elim (is_match_by says reading sought (c ∷ cs)) [
-  | true ↦ at ∷ matches_by says reading sought (at + length (encode_utf8 c)) cs
-  | false ↦ matches_by says reading sought (at + length (encode_utf8 c)) cs
+-- the byte offsets at which the sought letters match, in order; the first character is at the offset `at`
+abbrev pub matches : Data → Reading → List ℕ → ℕ → List ℕ → List ℕ
+matches says reading sought at [] = []
+matches says reading sought at (c ∷ cs) = elim (is_match says reading sought (c ∷ cs)) [
+  | true ↦ at ∷ matches says reading sought (at + length (encode_utf8 c)) cs
+  | false ↦ matches says reading sought (at + length (encode_utf8 c)) cs
 ]
 
 -- the first match in a text at or after the offset x
-abbrev pub first_from_by : Data → Reading → List ℕ → List ℕ → ℕ → Option ℕ
-first_from_by says reading sought text x = find (nat_le x) (matches_by says reading sought 0 (chars text))
+abbrev pub first_from : Data → Reading → List ℕ → List ℕ → ℕ → Option ℕ
+first_from says reading sought text x = find (nat_le x) (matches says reading sought 0 (chars text))
 
 -- the first of the offsets below x
 abbrev pub first_below : ℕ → List ℕ → Option ℕ
@@ -43,7 +43,7 @@ first_below x ats = find (λ at. nat_lt at x) ats
 
 -- the first match in a text before the offset x
 abbrev pub first_before : Data → Reading → List ℕ → List ℕ → ℕ → Option ℕ
-first_before says reading sought text x = first_below x (matches_by says reading sought 0 (chars text))
+first_before says reading sought text x = first_below x (matches says reading sought 0 (chars text))
 
 -- the last of the offsets below x; `found` if there is none
 abbrev pub last_below : ℕ → Option ℕ → List ℕ → Option ℕ
@@ -51,8 +51,8 @@ last_below x found [] = found
 last_below x found (at ∷ ats) = elim (nat_lt at x) [ true ↦ last_below x (Some at) ats | false ↦ last_below x found ats ]
 
 -- the last match in a text before the offset x
-abbrev pub last_before_by : Data → Reading → List ℕ → List ℕ → ℕ → Option ℕ
-last_before_by says reading sought text x = last_below x None (matches_by says reading sought 0 (chars text))
+abbrev pub last_before : Data → Reading → List ℕ → List ℕ → ℕ → Option ℕ
+last_before says reading sought text x = last_below x None (matches says reading sought 0 (chars text))
 
 -- the last of the offsets at or above x; `found` if there is none
 abbrev pub last_above : ℕ → Option ℕ → List ℕ → Option ℕ
@@ -61,18 +61,4 @@ last_above x found (at ∷ ats) = elim (nat_le x at) [ true ↦ last_above x (So
 
 -- the last match in a text at or after the offset x
 abbrev pub last_from : Data → Reading → List ℕ → List ℕ → ℕ → Option ℕ
-last_from says reading sought text x = last_above x None (matches_by says reading sought 0 (chars text))
-
--- ---- closely read
-
-abbrev pub is_match : Data → List ℕ → List ℕ → Bool
-is_match says sought cs = is_match_by says Close sought cs
-
-abbrev pub matches : Data → List ℕ → ℕ → List ℕ → List ℕ
-matches says sought at cs = matches_by says Close sought at cs
-
-abbrev pub first_from : Data → List ℕ → List ℕ → ℕ → Option ℕ
-first_from says sought text x = first_from_by says Close sought text x
-
-abbrev pub last_before : Data → List ℕ → List ℕ → ℕ → Option ℕ
-last_before says sought text x = last_before_by says Close sought text x
+last_from says reading sought text x = last_above x None (matches says reading sought 0 (chars text))

@@ -1,20 +1,21 @@
-//! Reading on for the last match below a bound.
+//! Reading a text from piece to piece for the last match before an offset.
 ghost use Rattle.std.specs.Prelude.{◌≡◌, ℕ, ◌+◌, ◌<◌, ◌^◌, ◌++◌, ◌∷◌, List, Some, length, chars, encode_utf8, option_to_list};
-ghost use Rattle.bx_find.specs.Held.{Placed, placed_first, matches_after, to_come};
+ghost use Rattle.bx_find.specs.Prefix.{Placed, placed_first, matches_after, to_come};
 ghost use Rattle.bx_find.specs.Matches.{last_below};
 
-use crate::held::{begins_nothing, read_letter};
-use crate::letters::letters_of;
+use crate::prefix::{begins_nothing, read_letter};
 use crate::query::Query;
-use crate::reading::Reading;
 use crate::ring::Ring;
+use crate::sought::Sought;
 use bx_terms::first_char;
 use bx_ucd::BidiData;
 
-/// The last match below a bound, of those found so far.
+/// The last match before an offset, of those found so far.
 #[derive(Drop)]
 pub struct Latest {
+    /// The offset: only matches that begin before it count.
     pub before: usize,
+    /// The offset at which the match begins; None if none is found yet.
     pub found: Option<usize>,
 }
 
@@ -35,17 +36,18 @@ impl Latest {
 }
 
 /// Reads the letters of a character at an offset, and takes each match.
-fn last_of(query: &Query, held: &mut Ring, latest: &mut Latest, letters: &[char], at: usize)
-    requires { length held.old < length query.now }
-    ensures fewer { length held.new < length query.now }
+fn last_of(query: &Query, prefix: &mut Ring, latest: &mut Latest, letters: &[char], at: usize)
+    requires { length prefix.old < length query.now }
+    ensures fewer { length prefix.new < length query.now }
     ensures before { latest.new.before ≡ latest.old.before }
     ensures found { (ps : List Placed)
-        → last_below latest.old.before latest.old.found (matches_after query.now held.old (placed_first (Some at) letters.now ++ ps))
-        ≡ last_below latest.old.before latest.new.found (matches_after query.now held.new ps) }
+        → last_below latest.old.before latest.old.found
+        (matches_after query.now prefix.old (placed_first (Some at) letters.now ++ ps))
+        ≡ last_below latest.old.before latest.new.found (matches_after query.now prefix.new ps) }
 {
     let mut place = Some(at);
     for letter in letters {
-        latest.take(read_letter(query, held, *letter, place));
+        latest.take(read_letter(query, prefix, *letter, place));
         place = None;
     }
 }
@@ -53,55 +55,51 @@ fn last_of(query: &Query, held: &mut Ring, latest: &mut Latest, letters: &[char]
 /// Reads a character at an offset, and takes each match.
 #[inline(always)]
 fn last_at<D: BidiData>(
-    query: &Query,
-    tables: &D,
-    reading: Reading,
-    held: &mut Ring,
+    sought: &Sought<'_, D>,
+    prefix: &mut Ring,
     latest: &mut Latest,
     c: char,
     at: usize,
 )
-    requires { length held.old < length query.now }
-    ensures fewer { length held.new < length query.now }
+    requires { length prefix.old < length sought.now.query.now }
+    ensures fewer { length prefix.new < length sought.now.query.now }
     ensures before { latest.new.before ≡ latest.old.before }
-    ensures found { (cs : List ℕ)
-        → last_below latest.old.before latest.old.found (to_come (D.data tables.now) reading query.now held.old at (c ∷ cs))
-        ≡ last_below latest.old.before latest.new.found (to_come (D.data tables.now) reading query.now held.new (at + length (encode_utf8 c)) cs) }
+    ensures found { let come = to_come (D.data sought.now.tables.now) sought.now.reading sought.now.query.now in
+        (cs : List ℕ) → last_below latest.old.before latest.old.found (come prefix.old at (c ∷ cs))
+        ≡ last_below latest.old.before latest.new.found (come prefix.new (at + length (encode_utf8 c)) cs) }
 {
     // Most characters begin no match; their class need not be looked up.
-    if begins_nothing(reading, query, held, c) {
+    if begins_nothing(sought, prefix, c) {
         return;
     }
-    let letters = letters_of(tables, reading, c);
-    last_of(query, held, latest, &letters, at);
+    let letters = sought.letters_of(c);
+    last_of(sought.query, prefix, latest, &letters, at);
 }
 
-/// Reads a piece that begins at the offset `start`, and takes each match. Stops once all later matches are past the bound.
+/// Reads a piece that begins at the offset `start`, and takes each match. Stops once no later match begins before
+/// `latest.before`.
 pub fn last_in<D: BidiData>(
-    query: &Query,
-    tables: &D,
-    reading: Reading,
-    held: &mut Ring,
+    sought: &Sought<'_, D>,
+    prefix: &mut Ring,
     latest: &mut Latest,
     piece: &str,
     start: usize,
 )
-    requires fewer { length held.old < length query.now }
+    requires fewer { length prefix.old < length sought.now.query.now }
     requires short { start + length piece.now < 2 ^ 64 }
-    ensures fewer { length held.new < length query.now }
+    ensures fewer { length prefix.new < length sought.now.query.now }
     ensures before { latest.new.before ≡ latest.old.before }
-    ensures found { (cs : List ℕ)
-        → last_below latest.old.before latest.old.found (to_come (D.data tables.now) reading query.now held.old start (chars piece.now ++ cs))
-        ≡ last_below latest.old.before latest.new.found
-        (to_come (D.data tables.now) reading query.now held.new (start + length piece.now) cs) }
+    ensures found { let come = to_come (D.data sought.now.tables.now) sought.now.reading sought.now.query.now in
+        (cs : List ℕ) → last_below latest.old.before latest.old.found (come prefix.old start (chars piece.now ++ cs))
+        ≡ last_below latest.old.before latest.new.found (come prefix.new (start + length piece.now) cs) }
 {
     let mut at = start;
     let mut rest = piece;
     while let Some((c, behind)) = first_char(rest) {
-        if at >= latest.before && held.len() == 0 {
+        if at >= latest.before && prefix.len() == 0 {
             return;
         }
-        last_at(query, tables, reading, held, latest, c, at);
+        last_at(sought, prefix, latest, c, at);
         at += c.len_utf8();
         rest = behind;
     }

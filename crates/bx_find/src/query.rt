@@ -1,17 +1,19 @@
 //! The letters of a query, with the borders that a search uses.
 ghost use Rattle.std.specs.Prelude.{◌≡◌, ◌+◌, ◌*◌, ◌≤◌, ◌<◌, ◌↔◌, ◌++◌, [], get_or, length, chars, IfSome, IsSome, IsNone};
 ghost use Rattle.bx_find.specs.Borders.{IsBorder, AreBorders};
-ghost use Rattle.bx_find.specs.Letters.{letters, letters_by};
+ghost use Rattle.bx_find.specs.Letters.{letters};
 
 use crate::borders::border;
 use crate::letters::letters_of;
 use crate::reading::Reading;
+use crate::ring::Ring;
 use arrayvec::ArrayVec;
 use bx_terms::first_char;
 use bx_ucd::BidiData;
 use std::marker::Model;
 
-/// The greatest number of letters: four for each of 64 characters.
+/// The greatest number of letters: `MOST_LETTERS`, four, for each of the 64 characters that a query's text may have, a limit that
+/// `bx_editor` chose (`longest_query`).
 const ROOM: usize = 256;
 
 /// One border for each beginning of the letters, the empty one too.
@@ -21,6 +23,7 @@ const BORDER_ROOM: usize = 257;
 #[derive(Drop)]
 pub struct Query {
     letters: ArrayVec<char, ROOM>,
+    /// The number of letters in the border of the query's first k letters, at the index k from 0.
     borders: ArrayVec<usize, BORDER_ROOM>,
 }
 
@@ -47,9 +50,9 @@ fn push_letters(letters: &mut ArrayVec<char, ROOM>, more: &[char])
 }
 
 /// The letters of a text of at most 64 characters.
-fn letters_by<D: BidiData>(tables: &D, reading: Reading, text: &str) -> ArrayVec<char, ROOM>
+fn letters_in<D: BidiData>(tables: &D, reading: Reading, text: &str) -> ArrayVec<char, ROOM>
     requires { length (chars text.now) ≤ 64 }
-    ensures { result.items ≡ letters_by (D.data tables.now) reading (chars text.now) }
+    ensures { result.items ≡ letters (D.data tables.now) reading (chars text.now) }
 {
     let mut letters = ArrayVec::new();
     let mut rest = text;
@@ -60,7 +63,7 @@ fn letters_by<D: BidiData>(tables: &D, reading: Reading, text: &str) -> ArrayVec
     letters
 }
 
-/// The border of each beginning of some letters, the shortest first. The empty beginning has 0.
+/// The length of the border of each beginning of some letters, the shortest first. The empty beginning has 0.
 fn borders_of(letters: &[char]) -> ArrayVec<usize, BORDER_ROOM>
     requires { length letters.now ≤ 256 }
     ensures count { length result.items ≡ length letters.now + 1 }
@@ -75,22 +78,13 @@ fn borders_of(letters: &[char]) -> ArrayVec<usize, BORDER_ROOM>
 }
 
 impl Query {
-    /// The query with a text's letters, closely read; none if the text has no letter. The text has at most 64 characters.
-    pub fn new<D: BidiData>(tables: &D, text: &str) -> Option<Query>
-        requires { length (chars text.now) ≤ 64 }
-        ensures letters { IfSome result (λ q. q ≡ letters (D.data tables.now) (chars text.now)) }
-        ensures none { IsNone result ↔ (letters (D.data tables.now) (chars text.now) ≡ []) }
-    {
-        Query::by(tables, Reading::Close, text)
-    }
-
     /// The query with a text's letters; none if the text has no letter. The text has at most 64 characters.
-    pub fn by<D: BidiData>(tables: &D, reading: Reading, text: &str) -> Option<Query>
+    pub fn new<D: BidiData>(tables: &D, reading: Reading, text: &str) -> Option<Query>
         requires { length (chars text.now) ≤ 64 }
-        ensures letters { IfSome result (λ q. q ≡ letters_by (D.data tables.now) reading (chars text.now)) }
-        ensures none { IsNone result ↔ (letters_by (D.data tables.now) reading (chars text.now) ≡ []) }
+        ensures letters { IfSome result (λ q. q ≡ letters (D.data tables.now) reading (chars text.now)) }
+        ensures none { IsNone result ↔ (letters (D.data tables.now) reading (chars text.now) ≡ []) }
     {
-        let letters = letters_by(tables, reading, text);
+        let letters = letters_in(tables, reading, text);
         if letters.is_empty() {
             return None;
         }
@@ -106,6 +100,16 @@ impl Query {
         ensures few { result ≤ 256 }
     {
         self.letters.len()
+    }
+
+    /// The prefix of no letters, which is shorter than the query.
+    pub(crate) fn empty_prefix(&self) -> Ring
+        ensures empty { result ≡ [] }
+        ensures shorter { length result < length self.now }
+    {
+        // proof only: the query has letters
+        let _some = self.len();
+        Ring::new()
     }
 
     /// The letter at an index, from 0.

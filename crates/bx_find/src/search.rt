@@ -1,34 +1,52 @@
 //! The search of a text for a query: the nearest matches of offsets.
-ghost use Rattle.std.specs.Prelude.{◌≡◌, ◌≤◌, [], length, IsCharBoundary};
-ghost use Rattle.bx_find.specs.Matches.{first_from_by, first_before, last_before_by, last_from, first_from, last_before};
+ghost use Rattle.std.specs.Prelude.{◌≡◌, None, length, IfSome, IsCharBoundary, IsUtf8};
+ghost use Rattle.bx_find.specs.Matches.{first_from, first_before, last_before, last_from};
 
 use crate::backward::{Latest, last_in};
 use crate::forward::first_in;
-use crate::pieces::{Pieces, upto};
+use crate::haystack::{Haystack, upto};
 use crate::query::Query;
 use crate::reading::Reading;
-use crate::ring::Ring;
+use crate::sought::Sought;
 use bx_ucd::BidiData;
 
 /// The byte offset of the first match at or after `x`. Reads the text from `x` on.
-pub fn first_from_by<P: Pieces, D: BidiData>(
-    source: &P,
+pub fn first_from<H: Haystack, D: BidiData>(
+    haystack: &H,
     tables: &D,
     reading: Reading,
     query: &Query,
     x: usize,
 ) -> Option<usize>
-    requires { IsCharBoundary (P.text source.now) x }
-    ensures { result ≡ first_from_by (D.data tables.now) reading query.now (P.text source.now) x }
+    requires { IsCharBoundary (H.text haystack.now) x }
+    ensures found { result ≡ first_from (D.data tables.now) reading query.now (H.text haystack.now) x }
+    ensures boundary { IfSome result (IsCharBoundary (H.text haystack.now)) }
 {
-    // used by the contract alone
-    let _some = query.len();
-    let len = source.len();
-    let mut held = Ring::new();
+    let sought = Sought {
+        query,
+        tables,
+        reading,
+    };
+    first_match(haystack, &sought, x)
+}
+
+/// `first_from`, with the query, the tables and the reading in one value.
+pub(crate) fn first_match<H: Haystack, D: BidiData>(
+    haystack: &H,
+    sought: &Sought<'_, D>,
+    x: usize,
+) -> Option<usize>
+    requires { IsCharBoundary (H.text haystack.now) x }
+    ensures found { result
+        ≡ first_from (D.data sought.now.tables.now) sought.now.reading sought.now.query.now (H.text haystack.now) x }
+    ensures utf8 { IsUtf8 (H.text haystack.now) }
+{
+    let len = haystack.len();
+    let mut prefix = sought.query.empty_prefix();
     let mut at = x;
     while at < len {
-        let piece = source.piece_at(at);
-        if let Some(found) = first_in(query, tables, reading, &mut held, piece, at) {
+        let piece = haystack.piece_at(at);
+        if let Some(found) = first_in(sought, &mut prefix, piece, at) {
             return Some(found);
         }
         at += piece.len();
@@ -36,29 +54,33 @@ pub fn first_from_by<P: Pieces, D: BidiData>(
     None
 }
 
-/// The byte offset of the first match before `x`. Reads the text from its start to `x`, and on while a match that begins before
-/// `x` may end there.
-pub fn first_before<P: Pieces, D: BidiData>(
-    source: &P,
+/// The byte offset of the first match before `x`. Reads the text from its start to `x`, and beyond while a match that begins before
+/// `x` may go on.
+pub fn first_before<H: Haystack, D: BidiData>(
+    haystack: &H,
     tables: &D,
     reading: Reading,
     query: &Query,
     x: usize,
 ) -> Option<usize>
-    requires { IsCharBoundary (P.text source.now) x }
-    ensures { result ≡ first_before (D.data tables.now) reading query.now (P.text source.now) x }
+    requires { IsCharBoundary (H.text haystack.now) x }
+    ensures found { result ≡ first_before (D.data tables.now) reading query.now (H.text haystack.now) x }
+    ensures boundary { IfSome result (IsCharBoundary (H.text haystack.now)) }
 {
-    // used by the contract alone
-    let _some = query.len();
-    let len = source.len();
-    let mut held = Ring::new();
+    let sought = Sought {
+        query,
+        tables,
+        reading,
+    };
+    let len = haystack.len();
+    let mut prefix = query.empty_prefix();
     let mut at = 0;
     while at < len {
-        if at >= x && held.len() == 0 {
+        if at >= x && prefix.len() == 0 {
             return None;
         }
-        let piece = upto(source.piece_at(at), at, x);
-        if let Some(found) = first_in(query, tables, reading, &mut held, piece, at) {
+        let piece = upto(haystack.piece_at(at), at, x);
+        if let Some(found) = first_in(&sought, &mut prefix, piece, at) {
             return if found < x { Some(found) } else { None };
         }
         at += piece.len();
@@ -68,85 +90,69 @@ pub fn first_before<P: Pieces, D: BidiData>(
 
 /// The byte offset of the last match before `x`. Reads the text from its start to `x`, and on to the end of a match that
 /// begins before `x`.
-pub fn last_before_by<P: Pieces, D: BidiData>(
-    source: &P,
+pub fn last_before<H: Haystack, D: BidiData>(
+    haystack: &H,
     tables: &D,
     reading: Reading,
     query: &Query,
     x: usize,
 ) -> Option<usize>
-    ensures { result ≡ last_before_by (D.data tables.now) reading query.now (P.text source.now) x }
+    ensures found { result ≡ last_before (D.data tables.now) reading query.now (H.text haystack.now) x }
+    ensures boundary { IfSome result (IsCharBoundary (H.text haystack.now)) }
 {
-    // used by the contract alone
-    let _some = query.len();
-    let len = source.len();
-    let mut held = Ring::new();
+    let sought = Sought {
+        query,
+        tables,
+        reading,
+    };
+    let len = haystack.len();
+    let mut prefix = query.empty_prefix();
     let mut latest = Latest {
         before: x,
         found: None,
     };
     let mut at = 0;
     while at < len {
-        if at >= x && held.len() == 0 {
+        if at >= x && prefix.len() == 0 {
             return latest.found;
         }
-        let piece = source.piece_at(at);
-        last_in(query, tables, reading, &mut held, &mut latest, piece, at);
+        let piece = haystack.piece_at(at);
+        last_in(&sought, &mut prefix, &mut latest, piece, at);
         at += piece.len();
     }
     latest.found
 }
 
 /// The byte offset of the last match at or after `x`. Reads the text from `x` on.
-pub fn last_from<P: Pieces, D: BidiData>(
-    source: &P,
+pub fn last_from<H: Haystack, D: BidiData>(
+    haystack: &H,
     tables: &D,
     reading: Reading,
     query: &Query,
     x: usize,
 ) -> Option<usize>
-    requires { IsCharBoundary (P.text source.now) x }
-    ensures { result ≡ last_from (D.data tables.now) reading query.now (P.text source.now) x }
+    requires { IsCharBoundary (H.text haystack.now) x }
+    ensures found { result ≡ last_from (D.data tables.now) reading query.now (H.text haystack.now) x }
+    ensures boundary { IfSome result (IsCharBoundary (H.text haystack.now)) }
+    ensures around { last_before (D.data tables.now) reading query.now (H.text haystack.now) x ≡ None
+        → result ≡ last_before (D.data tables.now) reading query.now (H.text haystack.now) (length (H.text haystack.now)) }
 {
-    // used by the contract alone
-    let _some = query.len();
-    let len = source.len();
-    let mut held = Ring::new();
+    let sought = Sought {
+        query,
+        tables,
+        reading,
+    };
+    let len = haystack.len();
+    let mut prefix = query.empty_prefix();
     let mut latest = Latest {
         before: len,
         found: None,
     };
     let mut at = x;
     while at < len {
-        let piece = source.piece_at(at);
-        last_in(query, tables, reading, &mut held, &mut latest, piece, at);
+        let piece = haystack.piece_at(at);
+        last_in(&sought, &mut prefix, &mut latest, piece, at);
         at += piece.len();
     }
     latest.found
-}
-
-/// The byte offset of the first match at or after `x`, closely read. Reads the text from `x` on.
-pub fn first_from<P: Pieces, D: BidiData>(
-    source: &P,
-    tables: &D,
-    query: &Query,
-    x: usize,
-) -> Option<usize>
-    requires { IsCharBoundary (P.text source.now) x }
-    ensures { result ≡ first_from (D.data tables.now) query.now (P.text source.now) x }
-{
-    first_from_by(source, tables, Reading::Close, query, x)
-}
-
-/// The byte offset of the last match before `x`, closely read. Reads the text from its start to `x`, and on to the end of a
-/// match that begins before `x`.
-pub fn last_before<P: Pieces, D: BidiData>(
-    source: &P,
-    tables: &D,
-    query: &Query,
-    x: usize,
-) -> Option<usize>
-    ensures { result ≡ last_before (D.data tables.now) query.now (P.text source.now) x }
-{
-    last_before_by(source, tables, Reading::Close, query, x)
 }

@@ -2,11 +2,11 @@
 ghost use Rattle.std.specs.Prelude.{◌≡◌, ℕ, ◌+◌, ◌≤◌, ◌<◌, ◌^◌, ◌++◌, ◌∷◌, [], List, length, chars, IfSome, MatchOption, IsCharBoundary};
 ghost use Rattle.bx_find.specs.Spans.{is_attached, behind_letters, match_end, spans_from};
 
-use crate::letters::letters_of;
-use crate::pieces::Pieces;
+use crate::haystack::Haystack;
 use crate::query::Query;
 use crate::reading::Reading;
-use crate::search::first_from_by;
+use crate::search::first_match;
+use crate::sought::Sought;
 use bx_terms::first_char;
 use bx_ucd::BidiData;
 use bx_ucd::class::Class;
@@ -21,25 +21,24 @@ fn is_attached<D: BidiData>(tables: &D, c: char) -> bool
 
 /// Reads a piece that begins at the offset `start`, up to the end of a match of which `left` letters are still to come.
 fn end_in<D: BidiData>(
-    tables: &D,
-    reading: Reading,
+    sought: &Sought<'_, D>,
     left: &mut usize,
     piece: &str,
     start: usize,
 ) -> Option<usize>
     requires { start + length piece.now < 2 ^ 64 }
     ensures { (cs : List ℕ) → MatchOption result
-        (behind_letters (D.data tables.now) reading left.old start (chars piece.now ++ cs)
-        ≡ behind_letters (D.data tables.now) reading left.new (start + length piece.now) cs)
-        (λ end. behind_letters (D.data tables.now) reading left.old start (chars piece.now ++ cs) ≡ end) }
+        (behind_letters (D.data sought.now.tables.now) sought.now.reading left.old start (chars piece.now ++ cs)
+        ≡ behind_letters (D.data sought.now.tables.now) sought.now.reading left.new (start + length piece.now) cs)
+        (λ end. behind_letters (D.data sought.now.tables.now) sought.now.reading left.old start (chars piece.now ++ cs) ≡ end) }
 {
     let mut at = start;
     let mut rest = piece;
     while let Some((c, behind)) = first_char(rest) {
-        if *left == 0 && !is_attached(tables, c) {
+        if *left == 0 && !is_attached(sought.tables, c) {
             return Some(at);
         }
-        *left = left.saturating_sub(letters_of(tables, reading, c).len());
+        *left = left.saturating_sub(sought.letters_of(c).len());
         at += c.len_utf8();
         rest = behind;
     }
@@ -47,23 +46,29 @@ fn end_in<D: BidiData>(
 }
 
 /// The offset behind a query's match at the offset `at`, and behind what is attached to its last letter.
-pub fn match_end<P: Pieces, D: BidiData>(
-    source: &P,
+pub fn match_end<H: Haystack, D: BidiData>(
+    haystack: &H,
     tables: &D,
     reading: Reading,
     query: &Query,
     at: usize,
 ) -> usize
-    requires { IsCharBoundary (P.text source.now) at }
-    ensures value { result ≡ match_end (D.data tables.now) reading query.now (P.text source.now) at }
-    ensures boundary { IsCharBoundary (P.text source.now) result }
+    requires { IsCharBoundary (H.text haystack.now) at }
+    ensures value { result ≡ match_end (D.data tables.now) reading query.now (H.text haystack.now) at }
+    ensures boundary { IsCharBoundary (H.text haystack.now) result }
+    ensures order { at ≤ result }
 {
-    let len = source.len();
+    let len = haystack.len();
+    let sought = Sought {
+        query,
+        tables,
+        reading,
+    };
     let mut left = query.len();
     let mut next = at;
     while next < len {
-        let piece = source.piece_at(next);
-        if let Some(end) = end_in(tables, reading, &mut left, piece, next) {
+        let piece = haystack.piece_at(next);
+        if let Some(end) = end_in(&sought, &mut left, piece, next) {
             return end;
         }
         next += piece.len();
@@ -73,25 +78,28 @@ pub fn match_end<P: Pieces, D: BidiData>(
 
 /// The first match at or after `x`, and its end. From its end on, the next call finds the next of the matches that follow one
 /// another.
-pub fn first_span<P: Pieces, D: BidiData>(
-    source: &P,
+pub fn first_span<H: Haystack, D: BidiData>(
+    haystack: &H,
     tables: &D,
     reading: Reading,
     query: &Query,
     x: usize,
 ) -> Option<(usize, usize)>
-    requires { IsCharBoundary (P.text source.now) x }
+    requires { IsCharBoundary (H.text haystack.now) x }
     ensures spans { MatchOption result
-        (spans_from (D.data tables.now) reading query.now (P.text source.now) x ≡ [])
-        (λ s. spans_from (D.data tables.now) reading query.now (P.text source.now) x
-        ≡ s ∷ spans_from (D.data tables.now) reading query.now (P.text source.now) s.1) }
-    ensures bounds { IfSome result (λ s. IsCharBoundary (P.text source.now) s.0 × IsCharBoundary (P.text source.now) s.1) }
+        (spans_from (D.data tables.now) reading query.now (H.text haystack.now) x ≡ [])
+        (λ s. spans_from (D.data tables.now) reading query.now (H.text haystack.now) x
+        ≡ s ∷ spans_from (D.data tables.now) reading query.now (H.text haystack.now) s.1) }
+    ensures bounds { IfSome result (λ s. IsCharBoundary (H.text haystack.now) s.0 × IsCharBoundary (H.text haystack.now) s.1) }
     ensures onward { IfSome result (λ s. (x ≤ s.0) × (s.0 < s.1)) }
 {
-    // proof only: the text is UTF-8
-    let _utf8 = source.len();
-    match first_from_by(source, tables, reading, query, x) {
+    let sought = Sought {
+        query,
+        tables,
+        reading,
+    };
+    match first_match(haystack, &sought, x) {
         None => None,
-        Some(at) => Some((at, match_end(source, tables, reading, query, at))),
+        Some(at) => Some((at, match_end(haystack, tables, reading, query, at))),
     }
 }

@@ -2,8 +2,7 @@
 ghost use Rattle.std.specs.Prelude.{◌≡◌, chars, length};
 
 use crate::{
-    Pieces, Query, Reading, first_before, first_from, first_from_by, first_span, last_before,
-    last_from,
+    Haystack, Query, Reading, first_before, first_from, first_span, last_before, last_from,
 };
 use bx_ucd::{Tables, sample_tables};
 use std::test::Fail;
@@ -12,7 +11,7 @@ use std::test::Fail;
 #[derive(Drop)]
 struct Cut<'t>(&'t str);
 
-impl<'t> Pieces for Cut<'t> {
+impl<'t> Haystack for Cut<'t> {
     ghost text = { λ w. w.0.now };
 
     fn len(&self) -> usize {
@@ -21,6 +20,7 @@ impl<'t> Pieces for Cut<'t> {
     }
 
     fn piece_at(&self, offset: usize) -> &str {
+        // A character has four bytes at most.
         for len in 1..5 {
             if offset + len <= self.0.len() && self.0.is_char_boundary(offset + len) {
                 return &self.0[offset..offset + len];
@@ -37,17 +37,18 @@ fn count(text: &str) -> usize
     text.chars().count()
 }
 
-/// The nearest offsets of a query in a text: from `x` on, and before it. None for a query without letters.
+/// The nearest offsets of a query in a text: from `x` on, and before it. None for a query without letters, and where the call may not be
+/// made: more characters than `Query::new` takes, 64, or an offset inside one.
 fn nearest(tables: &Tables, text: &str, query: &str, x: usize) -> (Option<usize>, Option<usize>) {
     if count(query) > 64 || !text.is_char_boundary(x) {
         return (None, None);
     }
-    match Query::new(tables, query) {
+    match Query::new(tables, Reading::Close, query) {
         None => (None, None),
         Some(query) => {
             let source = Cut(text);
-            let next = first_from(&source, tables, &query, x);
-            let last = last_before(&source, tables, &query, x);
+            let next = first_from(&source, tables, Reading::Close, &query, x);
+            let last = last_before(&source, tables, Reading::Close, &query, x);
             (next, last)
         }
     }
@@ -56,6 +57,7 @@ fn nearest(tables: &Tables, text: &str, query: &str, x: usize) -> (Option<usize>
 #[test]
 fn passes_over_marks_and_strokes(rt: HostRuntime) -> Result<(), Fail> {
     let tables = sample_tables(rt.alloc())?;
+    // text, query, an offset; the first match from it on, the last before it
     let cases = [
         ("xa\u{200f}b\u{200e}c\u{61c}d", "abcd", 0, Some(1), None),
         ("x\u{628}\u{640}\u{628}", "\u{628}\u{628}", 0, Some(1), None),
@@ -78,6 +80,7 @@ fn passes_over_marks_and_strokes(rt: HostRuntime) -> Result<(), Fail> {
 #[test]
 fn finds_the_nearest(rt: HostRuntime) -> Result<(), Fail> {
     let tables = sample_tables(rt.alloc())?;
+    // text, query, an offset; the first match from it on, the last before it
     let cases = [
         ("aaa", "aa", 0, Some(0), None),
         ("aaa", "aa", 1, Some(1), Some(0)),
@@ -96,7 +99,8 @@ fn finds_the_nearest(rt: HostRuntime) -> Result<(), Fail> {
     Ok(())
 }
 
-/// The offsets of a query in a text, widely read: the first from `x` on, the first before it, and the last from it on.
+/// The offsets of a query in a text, widely read: the first from `x` on, the first before it, and the last from it on. None as in
+/// `nearest`.
 fn wide(
     tables: &Tables,
     text: &str,
@@ -106,11 +110,11 @@ fn wide(
     if count(query) > 64 || !text.is_char_boundary(x) {
         return (None, None, None);
     }
-    match Query::by(tables, Reading::Wide, query) {
+    match Query::new(tables, Reading::Wide, query) {
         None => (None, None, None),
         Some(query) => {
             let source = Cut(text);
-            let next = first_from_by(&source, tables, Reading::Wide, &query, x);
+            let next = first_from(&source, tables, Reading::Wide, &query, x);
             let first = first_before(&source, tables, Reading::Wide, &query, x);
             let last = last_from(&source, tables, Reading::Wide, &query, x);
             (next, first, last)
@@ -121,6 +125,7 @@ fn wide(
 #[test]
 fn finds_by_letters(rt: HostRuntime) -> Result<(), Fail> {
     let tables = sample_tables(rt.alloc())?;
+    // text, query, an offset; the first match from it on, the first before it, the last from it on
     let cases = [
         (
             "x_CAF\u{c9}_cafe\u{301}",
@@ -174,12 +179,12 @@ fn finds_by_letters(rt: HostRuntime) -> Result<(), Fail> {
     Ok(())
 }
 
-/// The first match of a query from `x` on, closely read, with its end.
+/// The first match of a query from `x` on, closely read, with its end. None also as in `nearest`.
 fn span(tables: &Tables, text: &str, query: &str, x: usize) -> Option<(usize, usize)> {
     if count(query) > 64 || !text.is_char_boundary(x) {
         return None;
     }
-    match Query::new(tables, query) {
+    match Query::new(tables, Reading::Close, query) {
         None => None,
         Some(query) => first_span(&Cut(text), tables, Reading::Close, &query, x),
     }
@@ -188,6 +193,7 @@ fn span(tables: &Tables, text: &str, query: &str, x: usize) -> Option<(usize, us
 #[test]
 fn ends_behind_points(rt: HostRuntime) -> Result<(), Fail> {
     let tables = sample_tables(rt.alloc())?;
+    // text, query, an offset; the start and end of the first match from it on
     let cases = [
         ("aaaaa", "aa", 0, Some((0, 2))),
         ("aaaaa", "aa", 2, Some((2, 4))),

@@ -2,20 +2,20 @@
 use Rattle.std.proofs.Common.{◌≡◌, ◌<◌, ◌+◌, ◌++◌, ℕ, List, chars, length}
 use denote.Text.{Utf8}
 use denote.Shadow.{shadow}
-use Rattle.bx_find.specs.Held.{to_come}
+use Rattle.bx_find.specs.Prefix.{to_come}
 use Rattle.bx_find.specs.Matches.{last_below}
 use Rattle.bx_find.proofs.backward.last_in.Given as goal
 
 abbrev pub invariant-loop-c : goal.invariant-loop-c
 invariant-loop-c g l = record {
   text : shadow (Utf8 l.rest);
-  fewer : length l.held < length l.query;
+  fewer : length l.prefix < length l.sought.query.now;
   bytes : l.at + length l.rest ≡ l.start + length l.piece;
   before : l.latest.before ≡ l.initial.latest.before;
   found : (cs : List ℕ)
       → last_below l.initial.latest.before l.initial.latest.found
-      (to_come (g.D.BidiData.data l.tables) l.reading l.query l.initial.held l.start (chars l.piece ++ cs))
-      ≡ last_below l.initial.latest.before l.latest.found (to_come (g.D.BidiData.data l.tables) l.reading l.query l.held l.at (chars l.rest ++ cs));
+      (to_come (g.D.BidiData.data l.sought.tables.now) l.sought.reading l.sought.query.now l.initial.prefix l.start (chars l.piece ++ cs))
+      ≡ last_below l.initial.latest.before l.latest.found (to_come (g.D.BidiData.data l.sought.tables.now) l.sought.reading l.sought.query.now l.prefix l.at (chars l.rest ++ cs));
 }
 
 abbrev pub decreases-loop-c : goal.decreases-loop-c

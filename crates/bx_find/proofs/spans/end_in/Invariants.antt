@@ -9,8 +9,8 @@ abbrev pub invariant-loop-c : goal.invariant-loop-c
 invariant-loop-c g l = record {
   text : shadow (Utf8 l.rest);
   bytes : l.at + length l.rest ≡ l.start + length l.piece;
-  found : (cs : List ℕ) → behind_letters (g.D.BidiData.data l.tables) l.reading l.initial.left l.start (chars l.piece ++ cs)
-      ≡ behind_letters (g.D.BidiData.data l.tables) l.reading l.left l.at (chars l.rest ++ cs);
+  found : (cs : List ℕ) → behind_letters (g.D.BidiData.data l.sought.tables.now) l.sought.reading l.initial.left l.start (chars l.piece ++ cs)
+      ≡ behind_letters (g.D.BidiData.data l.sought.tables.now) l.sought.reading l.left l.at (chars l.rest ++ cs);
 }
 
 abbrev pub decreases-loop-c : goal.decreases-loop-c

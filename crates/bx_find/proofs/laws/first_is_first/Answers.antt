@@ -1,5 +1,0 @@
-use Rattle.bx_find.proofs.Nearest.{first_is}
-use Rattle.bx_find.proofs.laws.first_is_first.Goals as goal
-
-pub returns : goal.returns
-returns c = first_is

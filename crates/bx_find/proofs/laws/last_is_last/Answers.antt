@@ -1,5 +1,0 @@
-use Rattle.bx_find.proofs.Nearest.{last_is}
-use Rattle.bx_find.proofs.laws.last_is_last.Goals as goal
-
-pub returns : goal.returns
-returns c = last_is
