@@ -12,7 +12,7 @@ undone_times n t = iterate undone n t
 abbrev pub redone_times : ℕ → Edited → Edited
 redone_times n t = iterate redone n t
 
--- where two changes, the second made after the first, begin and end in the text between them
+-- where two changes, `next` made after `first`, begin and end in the text after the first, and the bytes between
 abbrev pub both_start : Change → Change → ℕ
 both_start first next = min first.start next.start
 
@@ -22,7 +22,8 @@ both_stop first next = max (first.start + first.added) (next.start + next.remove
 abbrev pub both_bytes : Change → Change → ℕ
 both_bytes first next = both_stop first next - both_start first next
 
--- one change in place of the two: it covers both, and has the place after the second
+-- one change in place of the two: it covers both, and has the place after the second. What it covers has `both_bytes` bytes after the
+-- first change; from them follow the numbers before the first, `removed`, and after the second, `added`
 abbrev pub merged : Change → Change → Change
 merged first next = record {
   start = both_start first next;

@@ -1,4 +1,4 @@
-//! Two edits made together, which are two entries of the past.
+//! Two edits made together, both or neither, which are two entries of the past.
 
 ghost use Rattle.std.specs.Prelude.{◌≡◌, [], ◌∷◌, ◌++◌, ◌+◌, ◌-◌, ◌≤◌, ◌<◌, ◌^◌, ◌↔◌, false, IfOk, IsErrOf, IsTrue, OnErr, OnOk, length, vec_len, vec_capacity, string_len, string_capacity, string_bytes};
 ghost use Rattle.std.specs.Str.{IsCharBoundary, IsUtf8};
@@ -18,7 +18,15 @@ use bx_pieces::{Pieces, Spares};
 use bx_terms::LARGEST_TEXT;
 use std::alloc::AllocError;
 
-/// An edit to make: `text` replaces `len` bytes from `start` on. `before` and `after` are the places.
+/// The cursor's places before two edits, between them and after them, in bytes.
+#[derive(Clone, Copy)]
+pub struct EditPlaces {
+    pub before: usize,
+    pub between: usize,
+    pub after: usize,
+}
+
+/// An edit to make: `text` replaces `len` bytes from `start` on. `before` and `after` are the cursor's places, in bytes.
 #[derive(Clone, Copy)]
 pub struct Replacement<'a> {
     pub start: usize,
@@ -29,7 +37,7 @@ pub struct Replacement<'a> {
 }
 
 impl<'a> Replacement<'a> {
-    /// The change that it makes.
+    /// The change that the edit makes.
     fn change(&self) -> Change
         ensures { result ≡ change_made self.now }
     {
@@ -42,7 +50,8 @@ impl<'a> Replacement<'a> {
     }
 }
 
-/// Makes an edit in room made before, and pushes the step that undoes it to `past`. Allocates nothing.
+/// Makes an edit in room made before: appends its text to the buffer `added`, changes `pieces`, and pushes the step that undoes it
+/// to `past`. Allocates nothing.
 fn make(
     pieces: &mut Pieces,
     added: &mut String,
@@ -81,7 +90,8 @@ fn make(
     past.push(step).unwrap();
 }
 
-/// Makes room for two edits that put in `bytes` bytes together. If memory runs out, only room is gained.
+/// Makes room for two edits that put in `bytes` bytes together, each with at most three nodes (`put`). If memory runs out, only
+/// room is gained.
 fn make_room(
     added: &mut String,
     past: &mut Vec<Step>,
@@ -106,7 +116,7 @@ fn make_room(
 }
 
 impl Text {
-    /// Makes two edits, one after the other.
+    /// Makes two edits, one after the other; the offsets of `second` are those of the text after `first`.
     fn replace_twice(
         &mut self,
         first: &Replacement<'_>,
@@ -144,7 +154,7 @@ impl Text {
         Ok(merge(first.change(), second.change()))
     }
 
-    /// Whether an offset is a character boundary of the text without the bytes from `start` to `stop`.
+    /// Whether `at` is a character boundary of the text without the bytes from `start` to `stop`; `at` counts without them.
     fn is_boundary_without(&self, start: usize, stop: usize, at: usize) -> bool
         requires range { IsRange self.now.edited.text start stop }
         ensures { IsTrue result ↔ IsCharBoundary (splice self.now.edited.text start stop []) at }
@@ -159,8 +169,7 @@ impl Text {
     }
 
     /// Removes the text between two character boundaries, and inserts `new` at an offset `at` of the text without it: two
-    /// edits, of which the second is undone first. Empties the future. `before`, `between` and `after` are the places before,
-    /// between and after them.
+    /// edits, of which the second is undone first. Empties the future.
     ///
     /// Errors, in this order, each leaving all unchanged: `NotABoundary`, also where `start > stop`; `TooLong` where the
     /// text would exceed 16,777,216 bytes after both; `OutOfMemory`.
@@ -170,12 +179,13 @@ impl Text {
         stop: usize,
         at: usize,
         new: &str,
-        before: usize,
-        between: usize,
-        after: usize,
+        places: EditPlaces,
     ) -> Result<Change, TextError>
-        ensures ok { OnOk result (self.new ≡ record { edited = exchanged self.old.edited start stop at new.now before between after; room = None }) }
-        ensures change { IfOk result (λ c. c ≡ merged (change_removed start stop between) (change_inserted at (length new.now) after)) }
+        ensures ok { OnOk result (self.new ≡ record {
+          edited = exchanged self.old.edited start stop at new.now places.before places.between places.after;
+          room = None;
+        }) }
+        ensures change { IfOk result (λ c. c ≡ merged (change_removed start stop places.between) (change_inserted at (length new.now) places.after)) }
         ensures is_change { IfOk result (λ c. IsChange self.old.edited.text c self.new.edited.text) }
         ensures err { OnErr result (self.new ≡ self.old) }
 
@@ -203,22 +213,21 @@ impl Text {
             start,
             len: stop - start,
             text: "",
-            before,
-            after: between,
+            before: places.before,
+            after: places.between,
         };
         let insertion = Replacement {
             start: at,
             len: 0,
             text: new,
-            before: between,
-            after,
+            before: places.between,
+            after: places.after,
         };
         self.replace_twice(&removal, &insertion)
     }
 
     /// Inserts `back` after the text between two character boundaries, and `front` before it: two edits, of which the
-    /// second is undone first. Empties the future. `before`, `between` and `after` are the places before, between and after
-    /// them.
+    /// second is undone first. Empties the future.
     ///
     /// Errors, in this order, each leaving all unchanged: `NotABoundary`, also where `start > stop`; `TooLong` where the
     /// text would exceed 16,777,216 bytes after both; `OutOfMemory`.
@@ -228,16 +237,17 @@ impl Text {
         stop: usize,
         front: &str,
         back: &str,
-        before: usize,
-        between: usize,
-        after: usize,
+        places: EditPlaces,
     ) -> Result<Change, TextError>
-        ensures ok { OnOk result (self.new ≡ record { edited = wrapped self.old.edited start stop front.now back.now before between after; room = None }) }
+        ensures ok { OnOk result (self.new ≡ record {
+          edited = wrapped self.old.edited start stop front.now back.now places.before places.between places.after;
+          room = None;
+        }) }
         ensures change { IfOk result (λ c. c ≡ record {
           start = start;
           removed = stop - start;
           added = length front.now + (stop - start) + length back.now;
-          place = after;
+          place = places.after;
         }) }
         ensures is_change { IfOk result (λ c. IsChange self.old.edited.text c self.new.edited.text) }
         ensures err { OnErr result (self.new ≡ self.old) }
@@ -259,15 +269,15 @@ impl Text {
             start: stop,
             len: 0,
             text: back,
-            before,
-            after: between,
+            before: places.before,
+            after: places.between,
         };
         let ahead = Replacement {
             start,
             len: 0,
             text: front,
-            before: between,
-            after,
+            before: places.between,
+            after: places.after,
         };
         self.replace_twice(&behind, &ahead)
     }

@@ -1,4 +1,4 @@
-//! Tables that count the questions asked.
+//! Tables that count the questions asked. `view_tests` takes them too.
 
 use bx_ucd::{BidiData, Class, Form, Joining, Side, Tables, UcdError, sample_tables};
 use std::alloc::Global;
@@ -6,13 +6,16 @@ use std::cell::Cell;
 
 /// The small tables without mirrors and forms, with a count of the questions for a class.
 #[derive(Drop)]
-pub(crate) struct Counting {
+pub struct Counting {
+    /// The tables that answer.
     tables: Tables,
+    /// Number of questions since it was last read.
     asked: Cell<u32>,
 }
 
 impl Counting {
-    pub(crate) fn new(alloc: Global) -> Result<Counting, UcdError> {
+    /// The tables, with no question asked.
+    pub fn new(alloc: Global) -> Result<Counting, UcdError> {
         Ok(Counting {
             tables: sample_tables(alloc)?,
             asked: Cell::new(0),
@@ -20,7 +23,7 @@ impl Counting {
     }
 
     /// Number of questions for a class since the last call.
-    pub(crate) fn questions(&self) -> u32 {
+    pub fn questions(&self) -> u32 {
         self.asked.replace(0)
     }
 }

@@ -2,7 +2,6 @@
 //! ample memory. They have their own crate, so that the tested crates stay quick to check.
 #![tactic(auto)]
 
-#[cfg(test)]
 mod counting;
 #[cfg(test)]
 mod paragraphs;
@@ -18,3 +17,5 @@ mod text;
 mod utf8;
 #[cfg(test)]
 mod words;
+
+pub use counting::Counting;

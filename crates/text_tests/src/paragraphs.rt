@@ -3,11 +3,8 @@
 use crate::steps::play;
 use std::test::Fail;
 
-#[test]
-fn line_ends_separate_paragraphs(rt: HostRuntime) -> Result<(), Fail> {
-    play(
-        rt.alloc(),
-        "\
+/// Scenes of the separators of paragraphs.
+const LINE_ENDS: &str = "\
 line ends of one and of two bytes
 open 1 1\u{240a}2\u{240d}\u{240a}3
 shows 0 1 1|2 3 2|5 6 0
@@ -42,8 +39,11 @@ shows 0 1 3|4 4 0
 
 no text is one paragraph
 open 1
-shows 0 0 0",
-    )
+shows 0 0 0";
+
+#[test]
+fn line_ends_separate_paragraphs(rt: HostRuntime) -> Result<(), Fail> {
+    play(rt.alloc(), LINE_ENDS)
 }
 
 #[test]

@@ -1,4 +1,4 @@
-//! A text with its paragraphs.
+//! A text with its paragraphs, and what the lines of `steps.rt` do to it and ask of it.
 
 ghost use Rattle.std.specs.Prelude.{◌≡◌, ℕ, List, Some, IsUtf8};
 ghost use Rattle.bx_index.specs.Paragraphs.{lengths};
@@ -17,8 +17,10 @@ use std::test::Fail;
 #[derive(Drop)]
 pub(crate) struct Scene {
     alloc: Global,
+    /// The text that the edits change.
     text: Text,
     index: Index,
+    /// Counts the questions for a class.
     tables: Counting,
     // the result of the last edit
     answer: Result<Option<Change>, TextError>,
@@ -44,6 +46,7 @@ fn follow<D: BidiData>(index: &mut Index, text: &Text, tables: &D, change: &Chan
     requires room { index.old.room ≡ Some change.now.added }
     ensures { index.new.paragraphs ≡ lengths (D.data tables.now) text.now.edited.text }
 {
+    // the contract of `len` tells the proofs that the text is UTF-8
     let _utf8 = text.len();
     index.edited(text, tables, change);
 }
@@ -85,6 +88,7 @@ impl Scene {
         after: usize,
         added: &str,
     ) -> Result<(), Fail> {
+        // the contract of `len` tells the proofs that the text is UTF-8
         let _utf8 = self.text.len();
         self.index.ready(added.len())?;
         self.answer = match self.text.insert(at, added, before, after) {
@@ -105,6 +109,7 @@ impl Scene {
         before: usize,
         after: usize,
     ) -> Result<(), Fail> {
+        // the contract of `len` tells the proofs that the text is UTF-8
         let _utf8 = self.text.len();
         self.index.ready(0)?;
         self.answer = match self.text.remove(start, stop, before, after) {
@@ -119,6 +124,7 @@ impl Scene {
 
     /// Undoes the latest edit.
     pub(crate) fn undo(&mut self) -> Result<(), Fail> {
+        // the contract of `len` tells the proofs that the text is UTF-8
         let _utf8 = self.text.len();
         if let Some(next) = self.text.next_undo() {
             self.index.ready(next.added)?;
@@ -133,6 +139,7 @@ impl Scene {
 
     /// Redoes the next edit.
     pub(crate) fn redo(&mut self) -> Result<(), Fail> {
+        // the contract of `len` tells the proofs that the text is UTF-8
         let _utf8 = self.text.len();
         if let Some(next) = self.text.next_redo() {
             self.index.ready(next.added)?;

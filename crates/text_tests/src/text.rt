@@ -3,11 +3,8 @@
 use crate::steps::play;
 use std::test::Fail;
 
-#[test]
-fn edits(rt: HostRuntime) -> Result<(), Fail> {
-    play(
-        rt.alloc(),
-        "\
+/// Scenes of edits, their undo and their redo.
+const EDITS: &str = "\
 an edit is undone and made again
 open 1 xab
 undoes none
@@ -51,8 +48,11 @@ change 0 0 0 0
 undo
 change 0 0 0 0
 undo
-change none",
-    )
+change none";
+
+#[test]
+fn edits(rt: HostRuntime) -> Result<(), Fail> {
+    play(rt.alloc(), EDITS)
 }
 
 #[test]
@@ -86,6 +86,7 @@ uncopied 3 1",
     )
 }
 
+/// 8,388,608 letters of two bytes are the longest text.
 #[test]
 fn a_text_as_long_as_may_be(rt: HostRuntime) -> Result<(), Fail> {
     play(
