@@ -15,9 +15,8 @@ pub mod LineSpan
 pub mod PlaceAfter
 pub mod PlaceBehind
 pub mod PlacesKept
-pub mod PlacesMoved
+pub mod SameState
 pub mod ShownTop
-pub mod FoundOffsets
 pub mod NextCharacters
 pub mod LastPoints
 pub mod FirstSeparators

@@ -10,7 +10,7 @@ use Rattle.bx_text.specs.Edits.{IsRange, fits, largest_text, splice}
 use Rattle.bx_view.specs.Moves.{place_from}
 use Rattle.bx_view.specs.Places.{IsTextPlace}
 use Rattle.bx_view.specs.FoundRow.{rows_by}
-use Rattle.bx_view.specs.Holding.{ViewState}
+use Rattle.bx_view.specs.Caching.{ViewState}
 use Rattle.bx_view.specs.TextRows.{TextRow, text_rows}
 use Rattle.bx_view.proofs.KeptPlaces.{text-places-kept}
 use Rattle.bx_view.proofs.TextPlaces.{place-between}

@@ -6,7 +6,7 @@ use Rattle.bx_text.specs.Edits.{IsRange, splice}
 use Rattle.bx_view.specs.Moves.{place_at}
 use Rattle.bx_view.specs.Places.{IsTextPlace}
 use Rattle.bx_view.specs.FoundRow.{rows_by}
-use Rattle.bx_view.specs.Holding.{ViewState}
+use Rattle.bx_view.specs.Caching.{ViewState}
 use Rattle.bx_view.proofs.KeptPlaces.{text-places-kept}
 use Rattle.bx_view.proofs.TextPlaces.{place-between}
 use Rattle.bx_paragraph.proofs.Starts.{side-some}

@@ -6,7 +6,7 @@ use Rattle.bx_paragraph.specs.declared.slot.Slot.{Slot}
 use Rattle.bx_ucd.specs.Data.{Data}
 use Rattle.bx_view.specs.declared.row_at.RowAt.{RowAt}
 use Rattle.bx_view.specs.FoundRow.{StandsOn, rows_by}
-use Rattle.bx_view.specs.Holding.{ViewState}
+use Rattle.bx_view.specs.Caching.{ViewState}
 use Rattle.bx_view.specs.TextParts.{slots_in}
 use Rattle.bx_view.specs.TextRows.{TextRow, no_text_row, row_at}
 use Rattle.bx_view.proofs.GlyphCells.{HasFaces, rows-faced}

@@ -10,10 +10,10 @@ use Rattle.bx_grid.specs.Picture.{GridState}
 use Rattle.bx_grid.proofs.Pasted.{paste_after}
 use Rattle.bx_view.specs.declared.row_at.RowAt.{RowAt}
 use Rattle.bx_view.specs.FoundRow.{StandsOn, rows_by}
-use Rattle.bx_view.specs.Holding.{Keeps, ViewState}
+use Rattle.bx_view.specs.Caching.{Keeps, ViewState}
 use Rattle.bx_view.specs.TextRows.{TextRow, no_text_row, row_at}
 use Rattle.bx_paragraph.proofs.Starts.{side-some}
-use Rattle.bx_view.proofs.HeldRows.{rows-kept}
+use Rattle.bx_view.proofs.CachedRows.{rows-kept}
 use Rattle.bx_view.proofs.Walking.{row-within}
 use Rattle.bx_ucd.specs.Data.{Data}
 use Rattle.bx_document.specs.Drawing.{row_columns, with_rows}
@@ -140,7 +140,7 @@ module _ (says : Data) (old : ViewState) (text : List ℕ) (utf8 : IsUtf8 text) 
   abbrev pub Drawn : ℕ → GridState → Type 0
   Drawn n grid = AreDrawn was cols (drop k rows) n grid
 
-  -- with a later state of the layout
+  -- with a later state of the view
   module _ (v : ViewState) (keeps : Keeps says old v) where
     pub kept : rows_by says v text ≡ rows
     kept = rows-kept says old v text keeps

@@ -1,14 +1,14 @@
--- A place among the rows that are shown, as a layout locates it.
+-- A place among the rows that are shown, as a view locates it.
 use Rattle.std.proofs.Common.{◌≡◌, ℕ, ◌+◌, ◌-◌, ◌*◌, ◌<◌, List, ◌++◌, length, take, drop, IsUtf8, sym, ap, ◌∙◌, arith}
 use Rattle.bx_grid.specs.Picture.{GridState}
 use Rattle.bx_view.specs.declared.row_at.RowAt.{RowAt}
 use Rattle.bx_view.specs.FoundRow.{StandsOn, rows_by}
-use Rattle.bx_view.specs.Holding.{Keeps, ViewState}
+use Rattle.bx_view.specs.Caching.{Keeps, ViewState}
 use Rattle.bx_view.specs.TextRows.{TextRow, first, row_at, row_of}
 use Rattle.bx_view.specs.Top.{follow, nearest_top, shown_rows}
 use Rattle.bx_view.proofs.LeastMove.{falls-own}
 use Rattle.bx_paragraph.proofs.Starts.{side-some}
-use Rattle.bx_view.proofs.HeldRows.{rows-kept}
+use Rattle.bx_view.proofs.CachedRows.{rows-kept}
 use Rattle.bx_view.proofs.Walking.{row-within, rows-rise}
 use Rattle.bx_ucd.specs.Data.{Data}
 use Rattle.bx_document.specs.Drawing.{IsAmong}

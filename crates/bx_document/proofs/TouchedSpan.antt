@@ -1,33 +1,19 @@
--- The start and end of the touched paragraphs, from the paragraph index, and a copy of them after an edit.
-use Rattle.std.proofs.Common.{◌≡◌, ℕ, ◌+◌, ◌-◌, ◌<◌, ◌≤◌, List, ◌++◌, length, take, drop, get_or, slice_get, slice_range, Some, IsUtf8, IsCharBoundary}
+-- The start and end of the touched paragraphs, from the paragraph index.
+use Rattle.std.proofs.Common.{◌≡◌, ℕ, ◌+◌, ◌-◌, ◌<◌, ◌≤◌, List, length, take, get_or, slice_get, Some, IsUtf8, IsCharBoundary, refl}
 use Rattle.std.proofs.Common.{sym, ap, subst, ◌∙◌, arith}
-use Rattle.std.proofs.lemmas.List.{drop-drop, drop-take, take-take}
 use Rattle.std.proofs.lemmas.Option.{same_Some, some_pair_parts}
 use Rattle.bx_ucd.specs.Data.{Data}
 use Rattle.bx_text.specs.Edits.{IsRange}
 use Rattle.bx_index.specs.declared.lengths.Lengths.{Lengths}
 use Rattle.bx_index.specs.Paragraphs.{lengths}
 use Rattle.bx_index.specs.Positions.{paragraph_of, separators, spans, total}
+use Rattle.bx_index.specs.Walk.{WalkState}
 use Rattle.bx_index.proofs.Asked.{separator_at, span_at}
 use Rattle.bx_index.proofs.Totals.{total_more}
 use Rattle.bx_view.specs.Standing.{start_at}
 use Rattle.bx_view.proofs.Numbers.{falls-at, lengths-count}
 use Rattle.bx_document.specs.Touched.{touched_start, touched_stop}
 use Rattle.bx_document.proofs.TouchedPlace.{back_is, front_is}
-
--- a part of a text is copied, and the bytes from `start` to `stop` are replaced in the copy
-pub edited_copy : (text copy new : List ℕ) (a start stop b : ℕ) → a ≤ start → start ≤ stop → stop ≤ b → copy ≡ slice_range text a b
-    → (take (start - a) copy ++ new) ++ drop (stop - a) copy ≡ slice_range text a start ++ new ++ slice_range text stop b
-edited_copy text copy new a start stop b low order high e =
-    let rest = drop a text in
-    let sum : b - a ≡ (stop - a) + (b - stop) = omega (arith, low, order, high) in
-    let there : a + (stop - a) ≡ stop = omega (arith, low, order) in
-    let front : take (start - a) (take (b - a) rest) ≡ take (start - a) rest = take-take (start - a) (b - a) rest (omega (arith, order, high)) in
-    let back : drop (stop - a) (take (b - a) rest) ≡ slice_range text stop b =
-    ap (λ n. drop (stop - a) (take n rest)) sum ∙ drop-take (stop - a) (b - stop) rest
-    ∙ ap (take (b - stop)) (drop-drop (stop - a) a text ∙ ap (λ n. drop n text) there) in
-    ap (λ bs. (take (start - a) bs ++ new) ++ drop (stop - a) bs) e
-    ∙ ap (λ bs. (bs ++ new) ++ drop (stop - a) (take (b - a) rest)) front ∙ ap (λ bs. (slice_range text a start ++ new) ++ bs) back
 
 abbrev none : Lengths
 none = record { body = 0; separator = 0 }
@@ -66,6 +52,20 @@ module _ (says : Data) (text : List ℕ) (ls : List Lengths) (utf8 : IsUtf8 text
       let behind : k ≡ (get_or ls n none).separator = same_Some k (get_or ls n none).separator (sym g ∙ separator_at ls n none within) in
       omega (arith, both.1, behind, total_more ls n none within) ∙ ap (λ m. total (take (m + 1) ls)) e
       ∙ ap (λ ks. total (take (paragraph_of ks stop + 1) ks)) same
+
+  -- a walk that begins at the paragraph of an offset
+  abbrev pub walk_at : ℕ → WalkState
+  walk_at offset = record { paragraphs = ls; number = paragraph_of ls offset }
+
+  pub span_of_walk : (offset : ℕ) (w : WalkState) (s : ℕ × ℕ) → w ≡ walk_at offset → slice_get (spans w.paragraphs) w.number ≡ Some s
+      → slice_get (spans ls) (paragraph_of ls offset) ≡ Some s
+  span_of_walk offset w s e f = subst (λ (v : WalkState). slice_get (spans v.paragraphs) v.number ≡ Some s) e f
+
+  pub stop_of_walk : (stop : ℕ) (w : WalkState) (s : ℕ × ℕ) (k : ℕ) → w ≡ walk_at stop → slice_get (spans w.paragraphs) w.number ≡ Some s
+      → slice_get (separators w.paragraphs) w.number ≡ Some k → s.1 + k ≡ touched_stop says text stop
+  stop_of_walk stop w s k e f g =
+      stop_of_span stop (paragraph_of ls stop) s k refl (span_of_walk stop w s e f)
+      (subst (λ (v : WalkState). slice_get (separators v.paragraphs) v.number ≡ Some k) e g)
 
   pub stop_range : (stop : ℕ) → IsCharBoundary text stop → IsRange text stop (touched_stop says text stop)
   stop_range stop bounds =

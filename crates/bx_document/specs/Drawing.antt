@@ -1,4 +1,5 @@
--- The columns that show a row of text, and a grid that has them in its rows.
+-- The columns that show a row of text, and a grid that has them in its rows. `d` is the data of Unicode's tables, `width` the
+-- window's columns.
 use Rattle.std.specs.Prelude.{ℕ, ◌+◌, ◌*◌, ◌≤◌, ◌<◌, List, flat_map}
 use Rattle.bx_grid.specs.Columns.{Col, glyph_columns, paste}
 use Rattle.bx_grid.specs.Picture.{GridState}
@@ -19,7 +20,7 @@ body_row_columns d width r = side_by_side (row_glyphs d width r)
 abbrev pub row_columns : Data → ℕ → TextRow → List Col
 row_columns d width r = body_row_columns d width r.row
 
--- the row of `place` is one of the `count` rows from the row of the offset `top` on
+-- the row of `place` is one of the `count` rows that begin with the row of the offset `top`
 pub record IsAmong (rows : List TextRow) (top place count : ℕ) : Type 0 where
   pub above : row_of rows top ≤ row_of rows place
   pub below : row_of rows place < row_of rows top + count

@@ -6,6 +6,7 @@ pub mod QueryRow
 pub mod FirstSeparator
 pub mod History
 pub mod Line
+pub mod OwnText
 pub mod Past
 pub mod PlaceLevel
 pub mod Region

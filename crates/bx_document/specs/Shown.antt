@@ -1,4 +1,4 @@
--- The visible rows of a document, from the row of the offset `top` on.
+-- The visible rows of a document `t`, from the row of the offset `top` on. `d` is the data of Unicode's tables.
 use Rattle.std.specs.Prelude.{ℕ, ◌-◌, List}
 use Rattle.bx_grid.specs.Columns.{Col}
 use Rattle.bx_view.specs.TextRows.{row_of}
@@ -7,7 +7,7 @@ use Rattle.bx_ucd.specs.Data.{Data}
 use Rattle.bx_document.specs.Document.{Document, rows}
 use Rattle.bx_document.specs.Region.{region_rows}
 
--- the columns of `count` rows with a region
+-- the columns of `count` rows of the window, with the region turned to the other rendition
 abbrev pub shown_columns : Data → Document → ℕ → ℕ × ℕ → ℕ → List Col
 shown_columns d t top region count = region_rows d t.w region count (shown_rows (rows d t) top count)
 

@@ -6,21 +6,20 @@ ghost use Rattle.bx_view.specs.Source.{bytes};
 ghost use Rattle.bx_document.specs.Line.{line_of};
 
 use crate::document::Document;
-use crate::touched::stop_after;
 use bx_terms::OutOfMemory;
 use bx_ucd::BidiData;
 use bx_view::Source;
 
-/// The offsets of the start and the end of the line that an offset falls in. Allocates nothing.
+/// The offsets of the start and the end of the line, the paragraph with its separator, that an offset falls in. Allocates
+/// nothing.
 fn line_at<D: BidiData>(source: &Source<'_, D>, offset: usize) -> (usize, usize)
     requires bounds { IsCharBoundary (bytes source.now) offset }
     ensures line { result ≡ line_of (D.data source.now.tables.now) (bytes source.now) offset }
     ensures range { IsRange (bytes source.now) result.0 result.1 }
 {
-    let number = source.index.paragraph_of(offset);
-    let start = source.index.span(number).0;
-    let stop = stop_after(source, offset);
-    (start, stop)
+    let walk = source.index.walk_at_offset(offset);
+    let (start, end) = walk.span();
+    (start, end + walk.separator())
 }
 
 impl<D: BidiData + Drop> Document<D> {
@@ -30,25 +29,15 @@ impl<D: BidiData + Drop> Document<D> {
         ensures line { result ≡ line_of (D.data self.now.tables) self.now.document.content.text place }
         ensures range { IsRange self.now.document.content.text result.0 result.1 }
     {
-        // proof only: the text is UTF-8
-        let _utf8 = self.text.len();
-        let source = Source {
-            text: &self.text,
-            index: &self.index,
-            tables: &self.tables,
-        };
+        let source = self.own.source();
         line_at(&source, place)
     }
 
-    /// Copies the bytes from `start` to `stop`.
+    /// A copy of the bytes from `start` to `stop`.
     pub fn copy(&self, start: usize, stop: usize) -> Result<String, OutOfMemory>
         requires range { IsRange self.now.document.content.text start stop }
         ensures { IfOk result (λ copy. string_bytes copy ≡ slice_range self.now.document.content.text start stop) }
     {
-        // Both ends are between characters, so only memory can run out.
-        let Ok(copy) = self.text.copy_range(start, stop) else {
-            return Err(OutOfMemory);
-        };
-        Ok(copy)
+        self.own.copy(start, stop)
     }
 }

@@ -1,4 +1,4 @@
-//! The document.
+//! The document that the editor edits: how it is opened, what it tells of itself, and its base direction and width.
 ghost use Rattle.std.specs.Borrow.{Bor};
 ghost use Rattle.std.specs.Iterator.{Drains};
 ghost use Rattle.bx_text.specs.Slices.{joined, lends};
@@ -9,30 +9,30 @@ ghost use Rattle.bx_view.specs.Numbers.{paragraph_number};
 ghost use Rattle.bx_document.specs.Document.{at_opening};
 
 use crate::error::DocumentError;
+use crate::own_text::OwnText;
 use crate::row_cache::RowCache;
-use bx_index::Index;
 use bx_terms::Base;
-use bx_text::{Slices, Text, TextError};
+use bx_text::Slices;
 use bx_ucd::BidiData;
-use bx_view::Layout;
+use bx_view::View;
 use std::alloc::Global;
 use std::marker::Model;
 
-/// An editable text with its undo history, its paragraph index and its layout for a window's width and a base direction.
+/// An editable text with its undo history, its paragraph index and its view for a window's width and a base direction.
 #[derive(Drop)]
 pub struct Document<D: BidiData + Drop> {
-    pub(crate) text: Text,
-    pub(crate) index: Index,
-    pub(crate) layout: Layout,
-    pub(crate) tables: D,
+    /// The text with its history, its index and the tables.
+    pub(crate) own: OwnText<D>,
+    /// The base direction, the width, and cached paragraphs laid out in them.
+    pub(crate) view: View,
+    /// Rows that were drawn, by which a row that is shown again is copied.
     pub(crate) row_cache: RowCache,
+    /// The allocator of copies, of the view and of the cache.
     pub(crate) alloc: Global,
 }
 
 impl<D: BidiData + Drop> Model for Document<D> {
-    ghost use Rattle.std.specs.Prelude.{◌≡◌};
-    ghost use Rattle.bx_index.specs.Paragraphs.{lengths};
-    ghost use Rattle.bx_view.specs.Holding.{IsViewBy};
+    ghost use Rattle.bx_view.specs.Caching.{IsViewBy};
     ghost use Rattle.bx_document.specs.Cache.{AreDrawnBy};
     ghost use Rattle.bx_document.specs.Document.{DocumentState};
     ghost use Rattle.bx_document.specs.Past.{KeepsPlaces};
@@ -40,18 +40,17 @@ impl<D: BidiData + Drop> Model for Document<D> {
     ghost Value = { DocumentState D };
 
     ghost view = { λ d. record {
-      tables = d.tables;
-      document = record { content = d.text.edited; base = d.layout.base; w = d.layout.w };
+      tables = d.own.tables;
+      document = record { content = d.own.content; base = d.view.base; w = d.view.w };
     } };
 
-    ghost invariant = { λ d. (d.index.paragraphs ≡ lengths (D.data d.tables) d.text.edited.text)
-        × IsViewBy (D.data d.tables) d.layout
-        × KeepsPlaces (D.data d.tables) d.text.edited
-        × AreDrawnBy (D.data d.tables) d.row_cache };
+    ghost invariant = { λ d. IsViewBy (D.data d.own.tables) d.view
+        × KeepsPlaces (D.data d.own.tables) d.own.content
+        × AreDrawnBy (D.data d.own.tables) d.row_cache };
 }
 
 impl<D: BidiData + Drop> Document<D> {
-    /// Opens a text with an empty undo history, in `w` columns. An error drops the text and the tables.
+    /// Opens a text with an empty undo history, in a window of `w` columns. An error drops the text and the tables.
     ///
     /// Errors: `TooLong` above 16,777,216 bytes; `OutOfMemory`.
     pub fn open(
@@ -65,18 +64,11 @@ impl<D: BidiData + Drop> Document<D> {
         ensures ok { IfOk result (λ d. d ≡ record { tables = tables; document = at_opening (string_bytes text) w base }) }
         ensures too_long { IsErrOf result DocumentError.TooLong ↔ (largest_text < length (string_bytes text)) }
     {
-        let text = match Text::open(alloc, text) {
-            Ok(text) => text,
-            Err(TextError::TooLong) => return Err(DocumentError::TooLong),
-            Err(_) => return Err(DocumentError::OutOfMemory),
-        };
-        let index = Index::build(alloc, &text, &tables)?;
-        let layout = Layout::of(alloc, w, base);
+        let own = OwnText::open(alloc, text, tables)?;
+        let view = View::of(alloc, w, base);
         Ok(Document {
-            text,
-            index,
-            layout,
-            tables,
+            own,
+            view,
             row_cache: RowCache::new(alloc),
             alloc,
         })
@@ -88,7 +80,7 @@ impl<D: BidiData + Drop> Document<D> {
         ensures short { length self.now.document.content.text ≤ largest_text }
         ensures utf8 { IsUtf8 self.now.document.content.text }
     {
-        self.text.len()
+        self.own.len()
     }
 
     /// The text in consecutive pieces. Allocates nothing.
@@ -96,23 +88,22 @@ impl<D: BidiData + Drop> Document<D> {
         ensures text { result ≡ self.now.document.content.text }
         ensures joined { (slices : List (Bor (List ℕ))) → Drains lends result slices → joined slices ≡ self.now.document.content.text }
     {
-        self.text.pieces()
+        self.own.pieces()
     }
 
     /// The tables. Allocates nothing.
     pub fn tables(&self) -> &D
         ensures { result.now ≡ self.now.tables }
     {
-        &self.tables
+        self.own.tables()
     }
 
     /// The number, from 1, of the paragraph in which an offset in bytes lies. Allocates nothing.
     pub fn paragraph_at(&self, offset: usize) -> usize
         ensures { result ≡ paragraph_number (D.data self.now.tables) self.now.document.content.text offset + 1 }
     {
-        // proof only: the number of paragraphs is within its limit
-        let _count = self.index.count();
-        let (number, _) = self.index.span_at(offset);
+        let source = self.own.source();
+        let (number, _) = source.index.span_at(offset);
         number + 1
     }
 
@@ -120,7 +111,7 @@ impl<D: BidiData + Drop> Document<D> {
     pub fn base(&self) -> Base
         ensures { result ≡ self.now.document.base }
     {
-        self.layout.base()
+        self.view.base()
     }
 
     /// The window's columns. Allocates nothing.
@@ -128,14 +119,14 @@ impl<D: BidiData + Drop> Document<D> {
         ensures width { result ≡ self.now.document.w }
         ensures side { is_side self.now.document.w ≡ true }
     {
-        self.layout.width()
+        self.view.width()
     }
 
-    /// Sets the base direction, and discards the layout: paragraphs are resolved again when they are needed. Allocates nothing.
+    /// Sets the base direction, and discards the view: paragraphs are resolved again when they are needed. Allocates nothing.
     pub fn set_base(&mut self, base: Base)
         ensures { self.new ≡ record self.old { document = record self.old.document { base = base } } }
     {
-        self.layout = Layout::of(self.alloc, self.layout.width(), base);
+        self.view = View::of(self.alloc, self.view.width(), base);
     }
 
     /// Sets the width. Cached paragraphs keep their levels and are rewrapped when they are needed. Allocates nothing.
@@ -143,6 +134,6 @@ impl<D: BidiData + Drop> Document<D> {
         requires side { is_side w ≡ true }
         ensures { self.new ≡ record self.old { document = record self.old.document { w = w } } }
     {
-        self.layout.set_width(w);
+        self.view.set_width(w);
     }
 }

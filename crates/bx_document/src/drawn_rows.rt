@@ -9,14 +9,14 @@ use crate::row_cache::RowCache;
 use bx_grid::Grid;
 use bx_terms::OutOfMemory;
 use bx_ucd::BidiData;
-use bx_view::{Layout, RowAt, Source};
+use bx_view::{RowAt, Source, View};
 
-/// The rows to draw.
+/// What `draw_rows` draws.
 #[derive(Clone, Copy)]
 pub(crate) struct Page {
-    /// The number of rows.
+    /// The number of the grid's rows to fill, from its first.
     pub(crate) count: u16,
-    /// The offsets of the region's start and end.
+    /// The offsets, in bytes of the text, of the region's start and end.
     pub(crate) region: (usize, usize),
 }
 
@@ -25,41 +25,39 @@ pub(crate) struct Page {
 ///
 /// Errors: `OutOfMemory`; some of the rows may be drawn.
 pub(crate) fn draw_rows<D: BidiData>(
-    layout: &mut Layout,
+    view: &mut View,
     source: &Source<'_, D>,
     at: RowAt,
     grid: &mut Grid,
     page: Page,
     cache: &mut RowCache,
 ) -> Result<(), OutOfMemory>
-    requires row { Stands source.now layout.old at }
+    requires row { Stands source.now view.old at }
     requires some { 0 < page.count }
     requires inside { page.count ≤ grid.old.height }
-    requires width { grid.old.width ≡ layout.old.w }
+    requires width { grid.old.width ≡ view.old.w }
     requires cache { AreDrawnBy (D.data source.now.tables.now) cache.old }
-    ensures keeps { Keeps source.now layout.old layout.new }
-    ensures drawn { (k : ℕ) → StandsOn source.now layout.old at k → OnOk result
+    ensures keeps { Keeps source.now view.old view.new }
+    ensures drawn { (k : ℕ) → StandsOn source.now view.old at k → OnOk result
         (grid.new ≡ record grid.old {
-          columns = region_rows (D.data source.now.tables.now) layout.old.w page.region page.count
-              (take page.count (drop k (rows source.now layout.old)))
+          columns = region_rows (D.data source.now.tables.now) view.old.w page.region page.count
+              (take page.count (drop k (rows source.now view.old)))
               ++ drop (page.count * grid.old.width) grid.old.columns;
         }) }
     ensures cache { AreDrawnBy (D.data source.now.tables.now) cache.new }
 {
     cache.begin(page.count);
-    let mut walk = layout.walk_from(source, at);
+    let mut walk = view.walk_from(source, at);
     let mut here = at;
     let mut row = 0;
     'rows: loop {
-        // proof only: the number of the grid's columns
-        let _columns = grid.columns();
-        cache.put_row(layout, source, here, grid, row)?;
-        turn_row(layout, source, here, grid, row, page.region)?;
+        cache.put_row(view, source, here, grid, row)?;
+        turn_row(view, source, here, grid, row, page.region)?;
         row += 1;
         if row == page.count {
             return Ok(());
         }
-        let Some(next) = layout.next_row_along(source, &mut walk, here)? else {
+        let Some(next) = view.next_row_along(source, &mut walk, here)? else {
             grid.blank_rows(row, page.count);
             return Ok(());
         };

@@ -1,8 +1,7 @@
 //! Insertions and removals, each with the cursor's place after it. Each allocates first and then changes the text.
 ghost use Rattle.std.specs.Prelude.{◌≡◌, ℕ, List, [], ◌++◌, ◌+◌, ◌-◌, ◌≤◌, IsCharBoundary, length, slice_range, string_bytes, Some, true, false};
 ghost use Rattle.std.specs.Prelude.{IfOk, IfSome, IsErrOf, IsUtf8, MatchOption, OnErr, OnOk};
-ghost use Rattle.bx_index.specs.Paragraphs.{lengths};
-ghost use Rattle.bx_text.specs.Edits.{IsRange, IsChange, fits, fits_both, largest_text, splice};
+ghost use Rattle.bx_text.specs.Edits.{IsRange, fits, fits_both, largest_text, splice};
 ghost use Rattle.bx_view.specs.Moves.{place_at};
 ghost use Rattle.bx_view.specs.Places.{IsTextPlace};
 ghost use Rattle.bx_document.specs.Document.{after_exchange, after_insertion, after_removal, after_replacement, after_wrap, place_after};
@@ -10,17 +9,17 @@ ghost use Rattle.bx_document.specs.Document.{place_after_replacement, place_afte
 
 use crate::document::Document;
 use crate::touched::{place_after, place_at_inside, place_inside, stop_after};
-use bx_index::Index;
 use bx_terms::{LARGEST_TEXT, OutOfMemory};
-use bx_text::{Change, Text};
+use bx_text::{EditPlaces, Text};
 use bx_ucd::BidiData;
-use bx_view::Source;
 use std::alloc::Global;
 
 /// The end of a region at which the cursor stands.
 #[derive(Clone, Copy, PartialEq, Eq, Debug)]
 pub enum RegionEnd {
+    /// The lower offset, before the region's first unit.
     Start,
+    /// The higher offset, after the region's last unit.
     Stop,
 }
 
@@ -35,7 +34,7 @@ fn wrapped_end(end: RegionEnd, start: usize, stop: usize, front: &str) -> usize
     }
 }
 
-/// A copy of the bytes from `start` to `stop`, with `front` before and `back` after them.
+/// A copy of the bytes from `start` to `stop` of the text, with `front` before and `back` after them.
 fn wrapped(
     alloc: Global,
     text: &Text,
@@ -57,20 +56,6 @@ fn wrapped(
     Ok(whole)
 }
 
-/// Updates the index after an edit, in the room reserved for one separator per added byte. Allocates nothing.
-pub(crate) fn follow<D: BidiData>(index: &mut Index, text: &Text, tables: &D, change: &Change)
-    requires was { (old : List ℕ)
-        × IsUtf8 old
-        × (index.old.paragraphs ≡ lengths (D.data tables.now) old)
-        × IsChange old change.now text.now.edited.text }
-    requires room { index.old.room ≡ Some change.now.added }
-    ensures { index.new.paragraphs ≡ lengths (D.data tables.now) text.now.edited.text }
-{
-    // proof only: the text is UTF-8
-    let _utf8 = text.len();
-    index.edited(text, tables, change);
-}
-
 impl<D: BidiData + Drop> Document<D> {
     /// The place after a pending edit that replaces the bytes from `start` to `stop` with `new`.
     fn place_after(&mut self, start: usize, stop: usize, new: &str) -> Result<usize, OutOfMemory>
@@ -81,19 +66,25 @@ impl<D: BidiData + Drop> Document<D> {
         ensures text_place { IfOk result (IsTextPlace (D.data self.old.tables) (splice self.old.document.content.text start stop new.now)) }
         ensures order { IfOk result (λ o. start + length new.now ≤ o) }
     {
-        // proof only: the text is UTF-8, and the width is within its limits
-        let _utf8 = self.text.len();
-        let _side = self.layout.width();
-        let source = Source {
-            text: &self.text,
-            index: &self.index,
-            tables: &self.tables,
-        };
-        let place = place_after(self.alloc, &source, &mut self.layout, start..stop, new)?;
+        let source = self.own.source();
+        let place = place_after(self.alloc, &source, &mut self.view, start..stop, new)?;
         Ok(place)
     }
 
-    /// Inserts characters at a place and returns the place after them; none, and no change, if the text would exceed
+    /// The place after a pending removal of the bytes from `start` to `stop`.
+    fn place_after_removal(&mut self, start: usize, stop: usize) -> Result<usize, OutOfMemory>
+        requires range { IsRange self.old.document.content.text start stop }
+        ensures same { self.new ≡ self.old }
+        ensures place { IfOk result (λ o. o ≡ place_after (D.data self.old.tables) self.old.document start stop []) }
+        ensures text_place { IfOk result (IsTextPlace (D.data self.old.tables) (splice self.old.document.content.text start stop [])) }
+        ensures order { IfOk result (λ o. start ≤ o) }
+    {
+        let source = self.own.source();
+        let place = place_after(self.alloc, &source, &mut self.view, start..stop, "")?;
+        Ok(place)
+    }
+
+    /// Inserts characters at a place and returns the place after them; None, and no change, if the text would exceed
     /// 16,777,216 bytes.
     ///
     /// Errors: `OutOfMemory`, and nothing has changed.
@@ -109,19 +100,15 @@ impl<D: BidiData + Drop> Document<D> {
         ensures text_place { IfOk result (λ after. IfSome after (IsTextPlace (D.data self.new.tables) self.new.document.content.text)) }
         ensures err { OnErr result (self.new ≡ self.old) }
     {
-        if new.len() > LARGEST_TEXT - self.text.len() {
+        if new.len() > LARGEST_TEXT - self.own.len() {
             return Ok(None);
         }
         let after = self.place_after(place, place, new)?;
-        self.index.ready(new.len())?;
-        let Ok(change) = self.text.insert(place, new, place, after) else {
-            return Err(OutOfMemory);
-        };
-        follow(&mut self.index, &self.text, &self.tables, &change);
+        self.own.insert(place, new, place, after)?;
         Ok(Some(after))
     }
 
-    /// Removes the bytes from `start` to `stop` and returns the new place. Undo restores the cursor to `place`.
+    /// Removes the bytes from `start` to `stop` and returns the new place. The cursor was at `place`, to which undo returns it.
     ///
     /// Errors: `OutOfMemory`, and nothing has changed.
     pub fn remove(&mut self, start: usize, stop: usize, place: usize) -> Result<usize, OutOfMemory>
@@ -134,18 +121,13 @@ impl<D: BidiData + Drop> Document<D> {
         ensures text_place { IfOk result (IsTextPlace (D.data self.new.tables) self.new.document.content.text) }
         ensures err { OnErr result (self.new ≡ self.old) }
     {
-        // proof only: the text is within its limit
-        let _short = self.text.len();
-        let after = self.place_after(start, stop, "")?;
-        self.index.ready(0)?;
-        let Ok(change) = self.text.remove(start, stop, place, after) else {
-            return Err(OutOfMemory);
-        };
-        follow(&mut self.index, &self.text, &self.tables, &change);
+        let after = self.place_after_removal(start, stop)?;
+        self.own.remove(start..stop, place, after)?;
         Ok(after)
     }
 
-    /// The place after a pending replacement, of which the removal of the bytes from `start` to `stop` leads to `between`.
+    /// The place after a pending replacement of the bytes from `start` to `stop` by `new`. Their removal alone leads to the place
+    /// `between`, at which `new` is inserted.
     fn place_after_both(
         &mut self,
         start: usize,
@@ -162,18 +144,17 @@ impl<D: BidiData + Drop> Document<D> {
         ensures place { IfOk result (λ o. o ≡ place_after_replacement (D.data self.old.tables) self.old.document start stop new.now) }
         ensures text_place { IfOk result (IsTextPlace (D.data self.old.tables) (replaced_text (D.data self.old.tables) self.old.document start stop new.now)) }
     {
-        // proof only: the text is UTF-8 and within its limit
-        let _utf8 = self.text.len();
+        let source = self.own.source();
         // The bytes after the removed ones, up to the place between, stay in front of the new text.
         let behind = stop + (between - start);
-        let whole = wrapped(self.alloc, &self.text, stop, behind, "", new)?;
+        let whole = wrapped(self.alloc, source.text, stop, behind, "", new)?;
         let place = self.place_after(start, behind, whole.as_str())?;
         Ok(place)
     }
 
     /// Removes the bytes from `start` to `stop`, then inserts `new` at the place after that, and returns the place after both;
-    /// none, and no change, if the text would exceed 16,777,216 bytes. These are two edits, of which undo takes back the
-    /// insertion first; the second one restores the cursor to `place`.
+    /// None, and no change, if the text would exceed 16,777,216 bytes. The cursor was at `place`. These are two edits: a first
+    /// undo takes back the insertion, a second one the removal, and returns the cursor to `place`.
     ///
     /// Errors: `OutOfMemory`, and nothing has changed.
     pub fn replace(
@@ -195,20 +176,18 @@ impl<D: BidiData + Drop> Document<D> {
         ensures text_place { IfOk result (λ after. IfSome after (IsTextPlace (D.data self.new.tables) self.new.document.content.text)) }
         ensures err { OnErr result (self.new ≡ self.old) }
     {
-        let kept = self.text.len() - (stop - start);
+        let kept = self.own.len() - (stop - start);
         if new.len() > LARGEST_TEXT - kept {
             return Ok(None);
         }
-        let between = self.place_after(start, stop, "")?;
+        let between = self.place_after_removal(start, stop)?;
         let after = self.place_after_both(start, stop, between, new)?;
-        self.index.ready(between - start + new.len())?;
-        let Ok(change) = self
-            .text
-            .exchange(start, stop, between, new, place, between, after)
-        else {
-            return Err(OutOfMemory);
+        let places = EditPlaces {
+            before: place,
+            between,
+            after,
         };
-        follow(&mut self.index, &self.text, &self.tables, &change);
+        self.own.exchange(start..stop, between, new, places)?;
         Ok(Some(after))
     }
 
@@ -218,13 +197,13 @@ impl<D: BidiData + Drop> Document<D> {
         requires range { IsRange self.now.document.content.text start stop }
         ensures { result ≡ fits self.now.document.content.text start stop new.now }
     {
-        let kept = self.text.len() - (stop - start);
+        let kept = self.own.len() - (stop - start);
         new.len() <= LARGEST_TEXT - kept
     }
 
-    /// Removes the bytes from `start` to `stop`, then inserts `new`, if it is not empty, where they stood, and returns the new
-    /// place; none, and no change, if the text would exceed 16,777,216 bytes. These are at most two edits, of which undo takes
-    /// back the insertion first; the removal restores the cursor to `place`.
+    /// Removes the bytes from `start` to `stop`, then inserts `new`, if it is not empty, at `start`, and returns the new place;
+    /// None, and no change, if the text would exceed 16,777,216 bytes. The cursor was at `place`. These are at most two edits:
+    /// undo takes back the insertion first, then the removal, and returns the cursor to `place`.
     ///
     /// Errors: `OutOfMemory`, and nothing has changed.
     pub fn exchange(
@@ -246,7 +225,7 @@ impl<D: BidiData + Drop> Document<D> {
         ensures text_place { IfOk result (λ after. IfSome after (IsTextPlace (D.data self.new.tables) self.new.document.content.text)) }
         ensures err { OnErr result (self.new ≡ self.old) }
     {
-        let kept = self.text.len() - (stop - start);
+        let kept = self.own.len() - (stop - start);
         if new.is_empty() {
             let after = self.remove(start, stop, place)?;
             return Ok(Some(after));
@@ -254,21 +233,19 @@ impl<D: BidiData + Drop> Document<D> {
         if new.len() > LARGEST_TEXT - kept {
             return Ok(None);
         }
-        let between = self.place_after(start, stop, "")?;
+        let between = self.place_after_removal(start, stop)?;
         let after = self.place_after(start, stop, new)?;
-        self.index.ready(new.len())?;
-        let Ok(change) = self
-            .text
-            .exchange(start, stop, start, new, place, between, after)
-        else {
-            return Err(OutOfMemory);
+        let places = EditPlaces {
+            before: place,
+            between,
+            after,
         };
-        follow(&mut self.index, &self.text, &self.tables, &change);
+        self.own.exchange(start..stop, start, new, places)?;
         Ok(Some(after))
     }
 
-    /// The place of an offset at or after `stop` once the bytes from `start` to `stop` have given way to `new`: the last place
-    /// at or before it.
+    /// The place to which an offset of the text, at or after `stop`, leads once the bytes from `start` to `stop` have given way
+    /// to `new`: the last place of the new text at or before the offset, moved as the bytes after `stop` are.
     pub fn place_behind(
         &mut self,
         start: usize,
@@ -285,23 +262,16 @@ impl<D: BidiData + Drop> Document<D> {
             (splice self.old.document.content.text start stop new.now)) (offset - stop + start + length new.now)) }
         ensures text_place { IfOk result (IsTextPlace (D.data self.old.tables) (splice self.old.document.content.text start stop new.now)) }
     {
-        // proof only: the text is UTF-8, and the width is within its limits
-        let _utf8 = self.text.len();
-        let _side = self.layout.width();
-        let source = Source {
-            text: &self.text,
-            index: &self.index,
-            tables: &self.tables,
-        };
+        let source = self.own.source();
         // Paragraphs behind the touched ones only move.
         if stop_after(&source, stop) <= offset {
-            let place = self.layout.place_at(&source, offset)?;
+            let place = self.view.place_at(&source, offset)?;
             return Ok(place - stop + start + new.len());
         }
         let place = place_at_inside(
             self.alloc,
             &source,
-            &mut self.layout,
+            &mut self.view,
             start..stop,
             new,
             offset - stop + start + new.len(),
@@ -309,7 +279,7 @@ impl<D: BidiData + Drop> Document<D> {
         Ok(place)
     }
 
-    /// The place after a pending wrap.
+    /// The place after a pending `wrap`, for a cursor at the end `end` of the bytes from `start` to `stop`.
     fn place_after_wrap(
         &mut self,
         start: usize,
@@ -325,20 +295,13 @@ impl<D: BidiData + Drop> Document<D> {
         ensures text_place { IfOk result (IsTextPlace (D.data self.old.tables)
             (wrapped_text self.old.document.content.text start stop front.now back.now)) }
     {
-        // proof only: the text is UTF-8, and the width is within its limits
-        let _utf8 = self.text.len();
-        let _side = self.layout.width();
-        let whole = wrapped(self.alloc, &self.text, start, stop, front, back)?;
+        let source = self.own.source();
+        let whole = wrapped(self.alloc, source.text, start, stop, front, back)?;
         let offset = wrapped_end(end, start, stop, front);
-        let source = Source {
-            text: &self.text,
-            index: &self.index,
-            tables: &self.tables,
-        };
         let place = place_inside(
             self.alloc,
             &source,
-            &mut self.layout,
+            &mut self.view,
             start..stop,
             whole.as_str(),
             offset,
@@ -346,9 +309,9 @@ impl<D: BidiData + Drop> Document<D> {
         Ok(place)
     }
 
-    /// Inserts `back` after the bytes from `start` to `stop`, then `front` before them, and returns the new place; none, and
+    /// Inserts `back` after the bytes from `start` to `stop`, then `front` before them, and returns the new place; None, and
     /// no change, if the text would exceed 16,777,216 bytes after both. The cursor was at `place`, which was the end `end` of
-    /// those bytes, and stays there. These are two edits, of which undo takes back the second first.
+    /// those bytes, and stays at that end. These are two edits: undo takes back the insertion of `front` first.
     ///
     /// Errors: `OutOfMemory`, and nothing has changed.
     pub fn wrap(
@@ -372,19 +335,17 @@ impl<D: BidiData + Drop> Document<D> {
         ensures text_place { IfOk result (λ after. IfSome after (IsTextPlace (D.data self.new.tables) self.new.document.content.text)) }
         ensures err { OnErr result (self.new ≡ self.old) }
     {
-        if front.len() + back.len() > LARGEST_TEXT - self.text.len() {
+        if front.len() + back.len() > LARGEST_TEXT - self.own.len() {
             return Ok(None);
         }
         let between = self.place_after(stop, stop, back)?;
         let after = self.place_after_wrap(start, stop, front, back, end)?;
-        self.index.ready(front.len() + (stop - start) + back.len())?;
-        let Ok(change) = self
-            .text
-            .wrap(start, stop, front, back, place, between, after)
-        else {
-            return Err(OutOfMemory);
+        let places = EditPlaces {
+            before: place,
+            between,
+            after,
         };
-        follow(&mut self.index, &self.text, &self.tables, &change);
+        self.own.insert_pair(start..stop, front, back, places)?;
         Ok(Some(after))
     }
 }

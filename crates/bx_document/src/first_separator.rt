@@ -1,4 +1,4 @@
-//! The text's first separator, also without a part of the text.
+//! Whether the text's first separator is CR LF, also where a part of the text is left out.
 ghost use Rattle.std.specs.Prelude.{◌≡◌, ◌++◌, ◌∷◌, [], ℕ, List, chars, slice_range};
 ghost use Rattle.bx_text.specs.Edits.{IsRange, splice};
 ghost use Rattle.bx_document.specs.FirstSeparator.{has_crlf_first};
@@ -11,18 +11,18 @@ use bx_terms::first_char;
 use bx_text::Text;
 use bx_ucd::BidiData;
 
-/// What the characters so far, at a text's beginning, say of its first separator.
+/// What the characters read so far, from a text's start on, tell of its first separator.
 #[derive(Clone, Copy, PartialEq, Eq, Debug)]
 enum Seen {
-    /// There is no separator yet.
+    /// No separator is read yet.
     Nothing,
-    /// The last of them is the first separator, a CR: an LF may follow.
+    /// The last character read is the first separator, a CR: an LF may follow.
     Cr,
     /// Whether the first separator is CR LF.
     Known(bool),
 }
 
-/// Whether the first separator is CR LF where no more is to be read.
+/// Whether the first separator is CR LF, once all characters are read.
 fn is_crlf(seen: Seen) -> bool
     ensures { (says : Data) → result ≡ crlf_from says seen [] }
 {
@@ -32,7 +32,7 @@ fn is_crlf(seen: Seen) -> bool
     }
 }
 
-/// The answer once the next character is read too.
+/// What is known once the next character is read too.
 fn after<D: BidiData>(seen: Seen, c: char, tables: &D) -> Seen
     ensures { (rest : List ℕ) → crlf_from (D.data tables.now) seen (c ∷ rest) ≡ crlf_from (D.data tables.now) result rest }
 {
@@ -51,7 +51,7 @@ fn after<D: BidiData>(seen: Seen, c: char, tables: &D) -> Seen
     }
 }
 
-/// The answer once a part of the text after them is read too.
+/// What is known once the characters of a part, which follows those read before, are read too.
 fn after_part<D: BidiData>(before: Seen, part: &str, tables: &D) -> Seen
     ensures { (rest : List ℕ) → crlf_from (D.data tables.now) before (chars part.now ++ rest) ≡ crlf_from (D.data tables.now) result rest }
 {
@@ -67,7 +67,7 @@ fn after_part<D: BidiData>(before: Seen, part: &str, tables: &D) -> Seen
     seen
 }
 
-/// The answer once the text from `start` to `stop` is read too, piece by piece.
+/// What is known once the text from `start` to `stop`, which follows what was read before, is read too, piece by piece.
 fn after_range<D: BidiData>(
     before: Seen,
     text: &Text,
@@ -97,14 +97,13 @@ impl<D: BidiData + Drop> Document<D> {
     pub fn has_crlf_first(&self) -> bool
         ensures { result ≡ has_crlf_first (D.data self.now.tables) self.now.document.content.text }
     {
-        // proof only: the text is UTF-8
-        let _utf8 = self.text.len();
-        let (_, stop) = self.index.span(0);
+        let source = self.own.source();
+        let walk = source.index.walk_at(0, 0);
         // A separator of two bytes is CR LF or one character past ASCII.
-        if self.index.separator(0) != 2 {
+        if walk.separator() != 2 {
             return false;
         }
-        match self.text.piece_at(stop) {
+        match source.text.piece_at(walk.span().1) {
             Some(separator) => separator.as_bytes()[0] == b'\r',
             None => false,
         }
@@ -116,8 +115,9 @@ impl<D: BidiData + Drop> Document<D> {
         requires range { IsRange self.now.document.content.text start stop }
         ensures { result ≡ has_crlf_first (D.data self.now.tables) (splice self.now.document.content.text start stop []) }
     {
-        let len = self.text.len();
-        let before = after_range(Seen::Nothing, &self.text, 0, start, &self.tables);
-        is_crlf(after_range(before, &self.text, stop, len, &self.tables))
+        let source = self.own.source();
+        let len = source.text.len();
+        let before = after_range(Seen::Nothing, source.text, 0, start, source.tables);
+        is_crlf(after_range(before, source.text, stop, len, source.tables))
     }
 }

@@ -1,16 +1,15 @@
-//! Undo and redo.
+//! Undo and redo: text and index change first, then the view follows in the paragraph that it has cached.
 ghost use Rattle.std.specs.Prelude.{◌≡◌, IfOk, IfSome, OnErr, OnOk, length, option_map};
 ghost use Rattle.bx_text.specs.Edits.{IsChange};
-ghost use Rattle.bx_view.specs.Holding.{IsViewBy, Keeps};
+ghost use Rattle.bx_view.specs.Caching.{IsViewBy, Keeps};
 ghost use Rattle.bx_view.specs.Places.{IsTextPlace};
 ghost use Rattle.bx_document.specs.History.{next_change, next_changes, stepped, stepped_times};
 
 use crate::document::Document;
-use crate::edits::follow;
 use bx_terms::OutOfMemory;
 use bx_text::{Change, Text, TextError};
 use bx_ucd::BidiData;
-use bx_view::{HeldRange, Layout, Source};
+use bx_view::{CachedRange, Source, View};
 
 /// A step in the history of a text's edits.
 #[derive(Clone, Copy, PartialEq, Eq, Debug)]
@@ -21,8 +20,8 @@ pub enum HistoryStep {
     Redo,
 }
 
-/// The one change that `n` steps make; none if `n` is 0 or there is nothing to undo or redo. Allocates nothing.
-fn next_changes(text: &Text, step: HistoryStep, n: usize) -> Option<Change>
+/// The one change that `n` steps make; None if `n` is 0 or there is nothing to undo or redo. Allocates nothing.
+pub(crate) fn next_changes(text: &Text, step: HistoryStep, n: usize) -> Option<Change>
     ensures { result ≡ next_changes step n text.now.edited }
 {
     match step {
@@ -31,10 +30,15 @@ fn next_changes(text: &Text, step: HistoryStep, n: usize) -> Option<Change>
     }
 }
 
-/// Undoes or redoes `n` edits of a text, or all if there are fewer; none if none is undone or redone.
+/// Undoes or redoes `n` edits of a text, or all if there are fewer, and returns the one change that this makes; None if no edit
+/// is undone or redone.
 ///
 /// Errors: `OutOfMemory`, and nothing has changed.
-fn step_in(text: &mut Text, step: HistoryStep, n: usize) -> Result<Option<Change>, TextError>
+pub(crate) fn step_in(
+    text: &mut Text,
+    step: HistoryStep,
+    n: usize,
+) -> Result<Option<Change>, TextError>
     ensures ok { OnOk result (text.new.edited ≡ stepped_times step n text.old.edited) }
     ensures change { IfOk result (λ c. c ≡ next_changes step n text.old.edited) }
     ensures is_change { IfOk result (λ change. IfSome change (λ c. IsChange text.old.edited.text c text.new.edited.text)) }
@@ -46,43 +50,43 @@ fn step_in(text: &mut Text, step: HistoryStep, n: usize) -> Result<Option<Change
     }
 }
 
-/// The range of a pending change within its cached paragraph; none if the paragraph is not cached or the change exceeds
+/// The range of a pending change within its cached paragraph; None if the paragraph is not cached or the change exceeds
 /// it. Allocates nothing.
-fn held_change<D: BidiData>(
-    layout: &mut Layout,
+fn cached_change<D: BidiData>(
+    view: &mut View,
     source: &Source<'_, D>,
     change: &Change,
-) -> Option<HeldRange>
-    ensures { layout.new ≡ layout.old }
+) -> Option<CachedRange>
+    ensures { view.new ≡ view.old }
 {
     let stop = change.start.saturating_add(change.removed);
-    layout.held_range(source, change.start, stop)
+    view.cached_range(source, change.start, stop)
 }
 
-/// Applies a change of the text to its cached paragraph. Running out of memory does no harm: the stale paragraph no
-/// longer matches the text, so it is laid out again.
+/// Applies a change of the text, once it is made, to the cached paragraph that it lies in: `cached` is its range there before the
+/// change, None if there is none. Running out of memory does no harm: the stale paragraph no longer matches the text, so it is
+/// laid out again.
 fn follow_in_layout<D: BidiData>(
-    layout: &mut Layout,
-    held: Option<HeldRange>,
-    text: &Text,
-    tables: &D,
+    view: &mut View,
+    cached: Option<CachedRange>,
+    source: &Source<'_, D>,
     change: &Change,
 )
-    requires data { IsViewBy (D.data tables.now) layout.old }
-    ensures keeps { Keeps (D.data tables.now) layout.old layout.new }
+    requires data { IsViewBy (D.data source.now.tables.now) view.old }
+    ensures keeps { Keeps (D.data source.now.tables.now) view.old view.new }
 {
-    let Some(range) = held else {
+    let Some(range) = cached else {
         return;
     };
     let stop = change.start.saturating_add(change.added);
-    let Ok(new) = text.copy_range(change.start, stop) else {
+    let Ok(new) = source.text.copy_range(change.start, stop) else {
         return;
     };
-    let _followed = layout.follow_edit(range, new.as_str(), tables);
+    let _followed = view.follow_edit(range, new.as_str(), source.tables);
 }
 
 impl<D: BidiData + Drop> Document<D> {
-    /// Undoes or redoes an edit, and returns the cursor's place: the place before the edit that is undone, or after the
+    /// Undoes or redoes an edit, and returns the cursor's place: the one recorded before the edit that is undone, or after the
     /// edit that is redone. None if there is nothing to undo or redo.
     ///
     /// Errors: `OutOfMemory`, and nothing has changed.
@@ -105,36 +109,26 @@ impl<D: BidiData + Drop> Document<D> {
         ensures text_place { IfOk result (λ place. IfSome place (IsTextPlace (D.data self.new.tables) self.new.document.content.text)) }
         ensures err { OnErr result (self.new ≡ self.old) }
     {
-        // proof only: the text is UTF-8
-        let _utf8 = self.text.len();
-        let Some(next) = next_changes(&self.text, step, n) else {
+        let Some(next) = self.own.next_changes(step, n) else {
             return Ok(None);
         };
-        let source = Source {
-            text: &self.text,
-            index: &self.index,
-            tables: &self.tables,
-        };
-        let held = held_change(&mut self.layout, &source, &next);
-        self.index.ready(next.added)?;
-        let Ok(Some(change)) = step_in(&mut self.text, step, n) else {
-            return Err(OutOfMemory);
-        };
-        follow(&mut self.index, &self.text, &self.tables, &change);
-        follow_in_layout(&mut self.layout, held, &self.text, &self.tables, &change);
-        Ok(Some(change.place))
+        let cached = cached_change(&mut self.view, &self.own.source(), &next);
+        self.own.step(step, n, &next)?;
+        follow_in_layout(&mut self.view, cached, &self.own.source(), &next);
+        Ok(Some(next.place))
     }
+
     /// The number of edits that can be undone. Allocates nothing.
     pub fn past_len(&self) -> usize
         ensures { result ≡ length self.now.document.content.past }
     {
-        self.text.past_len()
+        self.own.past_len()
     }
 
     /// The number of edits that can be redone. Allocates nothing.
     pub fn future_len(&self) -> usize
         ensures { result ≡ length self.now.document.content.future }
     {
-        self.text.future_len()
+        self.own.future_len()
     }
 }

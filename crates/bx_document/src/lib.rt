@@ -12,6 +12,7 @@ mod first_separator;
 mod history;
 mod laws;
 mod moves;
+mod own_text;
 mod place_level;
 mod points;
 mod query_row;

@@ -1,4 +1,4 @@
-//! The embedding level of the unit at a place.
+//! The embedding level of the unit at a place, which the editor tells of the unit at the cursor.
 ghost use Rattle.std.specs.Prelude.{◌≡◌, true, Contains, IfOk, IsCharBoundary};
 ghost use Rattle.unicode_segmentation.specs.Grapheme.{graphemes};
 ghost use Rattle.bx_rows.specs.RowLevels.{first_level};
@@ -12,7 +12,7 @@ use bx_terms::OutOfMemory;
 use bx_ucd::BidiData;
 use unicode_segmentation::UnicodeSegmentation;
 
-/// The first level of some characters' levels; none if X9 removes them all.
+/// The first level of some characters' levels; None if rule X9 of UAX #9 removes all of the characters.
 fn first_level(levels: &[Level]) -> Option<u8>
     ensures { result ≡ first_level levels.now }
 {
@@ -24,8 +24,8 @@ fn first_level(levels: &[Level]) -> Option<u8>
     None
 }
 
-/// The level of the unit that begins at an offset of a body, whose characters have the levels `each`; none if X9 removes all
-/// of its characters, and at the body's end.
+/// The level of the unit that begins at the offset `at` of a body; `each` has the level of each character of the body. None if X9
+/// removes all of the unit's characters, and at the body's end.
 fn unit_level(body: &str, each: &[Level], at: usize) -> Option<u8>
     requires bounds { IsCharBoundary body.now at }
     requires place { Contains (boundaries 0 (graphemes true body.now)) at }
@@ -46,12 +46,11 @@ impl<D: BidiData + Drop> Document<D> {
         requires text_place { IsTextPlace (D.data self.now.tables) self.now.document.content.text place }
         ensures { IfOk result (λ l. l ≡ place_level (D.data self.now.tables) self.now.document.base self.now.document.content.text place) }
     {
-        // proof only: the text is UTF-8
-        let _utf8 = self.text.len();
-        let (_, (start, stop)) = self.index.span_at(place);
+        let source = self.own.source();
+        let (_, (start, stop)) = source.index.span_at(place);
         let copy = self.copy(start, stop)?;
         let body = copy.as_str();
-        let levels = levels(self.alloc, body, &self.tables, self.layout.base())?;
+        let levels = levels(self.alloc, body, source.tables, self.view.base())?;
         Ok(unit_level(body, levels.each.as_slice(), place - start))
     }
 }

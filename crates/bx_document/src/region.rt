@@ -9,7 +9,7 @@ use bx_grid::Grid;
 use bx_paragraph::Slot;
 use bx_terms::OutOfMemory;
 use bx_ucd::BidiData;
-use bx_view::{Layout, RowAt, Source};
+use bx_view::{RowAt, Source, View};
 
 /// Turns the columns of slots in row `row` of a grid to the other rendition. Rows count from 0.
 fn turn_slots(grid: &mut Grid, row: u16, slots: &[Slot])
@@ -17,9 +17,8 @@ fn turn_slots(grid: &mut Grid, row: u16, slots: &[Slot])
     requires spans { All (IsSpan (row_in grid.old row)) slots.now }
     ensures { grid.new ≡ with_rows grid.old row (turned_slots slots.now (row_in grid.old row)) }
 {
-    // proof only: the number of the grid's columns
-    let _columns = grid.columns();
     for slot in slots {
+        // A slot's columns count from 1, those of `turn` from 0.
         grid.turn(row, slot.column - 1, slot.columns);
     }
 }
@@ -27,20 +26,20 @@ fn turn_slots(grid: &mut Grid, row: u16, slots: &[Slot])
 /// Shows the columns of the region's units in the other rendition, in row `row` of a grid, which shows row `at` of the text.
 /// Rows of the grid count from 0.
 pub(crate) fn turn_row<D: BidiData>(
-    layout: &Layout,
+    view: &View,
     source: &Source<'_, D>,
     at: RowAt,
     grid: &mut Grid,
     row: u16,
     region: (usize, usize),
 ) -> Result<(), OutOfMemory>
-    requires at { Stands source.now layout.now at }
+    requires at { Stands source.now view.now at }
     requires inside { row < grid.old.height }
-    requires drawn { OfRow source.now layout.now at (λ r. row_in grid.old row ≡ row_columns (D.data source.now.tables.now) layout.now.w r) }
-    ensures { OfRow source.now layout.now at (λ r.
-        OnOk result (grid.new ≡ with_rows grid.old row (region_columns (D.data source.now.tables.now) layout.now.w region r))) }
+    requires drawn { OfRow source.now view.now at (λ r. row_in grid.old row ≡ row_columns (D.data source.now.tables.now) view.now.w r) }
+    ensures { OfRow source.now view.now at (λ r.
+        OnOk result (grid.new ≡ with_rows grid.old row (region_columns (D.data source.now.tables.now) view.now.w region r))) }
 {
-    let slots = layout.slots_in(source, at, region)?;
+    let slots = view.slots_in(source, at, region)?;
     turn_slots(grid, row, &slots);
     Ok(())
 }

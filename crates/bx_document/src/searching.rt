@@ -1,86 +1,71 @@
 //! The search of the text for a query, and the place of an offset.
-ghost use Rattle.std.specs.Prelude.{◌≡◌, ◌≤◌, ◌<◌, ◌↔◌, ◌∷◌, [], None, chars, length, IfOk, IfSome, IsCharBoundary, IsNone, MatchOption};
-ghost use Rattle.bx_find.specs.Letters.{letters_by};
-ghost use Rattle.bx_find.specs.Matches.{first_from_by, last_before_by};
+ghost use Rattle.std.specs.Prelude.{◌≡◌, ◌≤◌, ◌<◌, ◌↔◌, ◌∷◌, [], None, chars, length, IfOk, IfSome, IsCharBoundary, IsNone, IsUtf8, MatchOption};
+ghost use Rattle.bx_find.specs.Letters.{letters};
+ghost use Rattle.bx_find.specs.Matches.{first_from, last_before};
 ghost use Rattle.bx_find.specs.Spans.{match_end, spans_from};
-ghost use Rattle.bx_text.specs.Edits.{IsRange};
+ghost use Rattle.bx_text.specs.Edits.{IsRange, largest_text};
 ghost use Rattle.bx_view.specs.Moves.{place_at};
 ghost use Rattle.bx_view.specs.Places.{IsTextPlace};
 ghost use Rattle.bx_document.specs.Document.{rows};
 ghost use Rattle.bx_document.specs.Swapped.{behind_character};
 
 use crate::document::Document;
-use bx_find::{Pieces, Query, Reading};
+use bx_find::{Query, Reading};
 use bx_terms::{OutOfMemory, first_char};
 use bx_ucd::BidiData;
-use bx_view::Source;
-
-impl<D: BidiData + Drop> Pieces for Document<D> {
-    ghost text = { λ d. d.document.content.text };
-
-    fn len(&self) -> usize {
-        self.text.len()
-    }
-
-    fn piece_at(&self, offset: usize) -> &str {
-        self.text.part_at(offset, self.text.len())
-    }
-}
 
 impl<D: BidiData + Drop> Document<D> {
-    /// The query with a text's letters; none if the text has no letter. The text has at most 64 characters. Allocates nothing.
+    /// The query with a text's letters; None if the text has no letter. The text has at most 64 characters. Allocates nothing.
     pub fn query(&self, reading: Reading, text: &str) -> Option<Query>
         requires few { length (chars text.now) ≤ 64 }
-        ensures letters { IfSome result (λ q. q ≡ letters_by (D.data self.now.tables) reading (chars text.now)) }
-        ensures none { IsNone result ↔ (letters_by (D.data self.now.tables) reading (chars text.now) ≡ []) }
+        ensures letters { IfSome result (λ q. q ≡ letters (D.data self.now.tables) reading (chars text.now)) }
+        ensures none { IsNone result ↔ (letters (D.data self.now.tables) reading (chars text.now) ≡ []) }
+        ensures short { length self.now.document.content.text ≤ largest_text }
+        ensures utf8 { IsUtf8 self.now.document.content.text }
     {
-        Query::by(&self.tables, reading, text)
+        let source = self.own.source();
+        Query::new(source.tables, reading, text)
     }
 
     /// The byte offset of a query's first match at or after `x`. Allocates nothing.
     pub fn first_from(&self, reading: Reading, query: &Query, x: usize) -> Option<usize>
         requires bounds { IsCharBoundary self.now.document.content.text x }
-        ensures found { result ≡ first_from_by (D.data self.now.tables) reading query.now self.now.document.content.text x }
+        ensures found { result ≡ first_from (D.data self.now.tables) reading query.now self.now.document.content.text x }
         ensures boundary { IfSome result (IsCharBoundary self.now.document.content.text) }
+        ensures short { length self.now.document.content.text ≤ largest_text }
+        ensures utf8 { IsUtf8 self.now.document.content.text }
     {
-        // proof only: the text is UTF-8
-        let _utf8 = self.text.len();
-        bx_find::first_from_by(self, &self.tables, reading, query, x)
+        let source = self.own.source();
+        bx_find::first_from(&self.own, source.tables, reading, query, x)
     }
 
-    /// The byte offset of a query's first match, where there is none at or after `x`. Allocates nothing.
+    /// The byte offset of a query's first match in the text, for a caller that has found none at or after `x`. Allocates nothing.
     pub fn first_before(&self, reading: Reading, query: &Query, x: usize) -> Option<usize>
         requires bounds { IsCharBoundary self.now.document.content.text x }
-        requires none_from { first_from_by (D.data self.now.tables) reading query.now self.now.document.content.text x ≡ None }
-        ensures found { result ≡ first_from_by (D.data self.now.tables) reading query.now self.now.document.content.text 0 }
+        requires none_from { first_from (D.data self.now.tables) reading query.now self.now.document.content.text x ≡ None }
+        ensures found { result ≡ first_from (D.data self.now.tables) reading query.now self.now.document.content.text 0 }
         ensures boundary { IfSome result (IsCharBoundary self.now.document.content.text) }
     {
-        // proof only: the text is UTF-8
-        let _utf8 = self.text.len();
-        bx_find::first_before(self, &self.tables, reading, query, x)
+        bx_find::first_before(&self.own, self.own.tables(), reading, query, x)
     }
 
     /// The byte offset of a query's last match before `x`. Allocates nothing.
     pub fn last_before(&self, reading: Reading, query: &Query, x: usize) -> Option<usize>
-        ensures found { result ≡ last_before_by (D.data self.now.tables) reading query.now self.now.document.content.text x }
+        ensures found { result ≡ last_before (D.data self.now.tables) reading query.now self.now.document.content.text x }
         ensures boundary { IfSome result (IsCharBoundary self.now.document.content.text) }
     {
-        // proof only: the text is UTF-8
-        let _utf8 = self.text.len();
-        bx_find::last_before_by(self, &self.tables, reading, query, x)
+        bx_find::last_before(&self.own, self.own.tables(), reading, query, x)
     }
 
-    /// The byte offset of a query's last match, where there is none before `x`. Allocates nothing.
+    /// The byte offset of a query's last match in the text, for a caller that has found none before `x`. Allocates nothing.
     pub fn last_from(&self, reading: Reading, query: &Query, x: usize) -> Option<usize>
         requires bounds { IsCharBoundary self.now.document.content.text x }
-        requires none_before { last_before_by (D.data self.now.tables) reading query.now self.now.document.content.text x ≡ None }
-        ensures found { result ≡ last_before_by (D.data self.now.tables) reading query.now self.now.document.content.text
+        requires none_before { last_before (D.data self.now.tables) reading query.now self.now.document.content.text x ≡ None }
+        ensures found { result ≡ last_before (D.data self.now.tables) reading query.now self.now.document.content.text
             (length self.now.document.content.text) }
         ensures boundary { IfSome result (IsCharBoundary self.now.document.content.text) }
     {
-        // proof only: the text is UTF-8
-        let _utf8 = self.text.len();
-        bx_find::last_from(self, &self.tables, reading, query, x)
+        bx_find::last_from(&self.own, self.own.tables(), reading, query, x)
     }
 
     /// The end of a query's match at the offset `at`. Allocates nothing.
@@ -90,9 +75,7 @@ impl<D: BidiData + Drop> Document<D> {
         ensures boundary { IsCharBoundary self.now.document.content.text result }
         ensures order { at ≤ result }
     {
-        // proof only: the text is UTF-8
-        let _utf8 = self.text.len();
-        bx_find::match_end(self, &self.tables, reading, query, at)
+        bx_find::match_end(&self.own, self.own.tables(), reading, query, at)
     }
 
     /// A query's first match at or after `x`, and its end. Allocates nothing.
@@ -110,9 +93,7 @@ impl<D: BidiData + Drop> Document<D> {
         ensures range { IfSome result (λ s. IsRange self.now.document.content.text s.0 s.1) }
         ensures onward { IfSome result (λ s. (x ≤ s.0) × (s.0 < s.1)) }
     {
-        // proof only: the text is UTF-8
-        let _utf8 = self.text.len();
-        bx_find::first_span(self, &self.tables, reading, query, x)
+        bx_find::first_span(&self.own, self.own.tables(), reading, query, x)
     }
 
     /// The offset behind the character at an offset; at the text's end the end. Allocates nothing.
@@ -120,12 +101,14 @@ impl<D: BidiData + Drop> Document<D> {
         requires bounds { IsCharBoundary self.now.document.content.text offset }
         ensures behind { result ≡ behind_character self.now.document.content.text offset }
         ensures boundary { IsCharBoundary self.now.document.content.text result }
+        ensures short { length self.now.document.content.text ≤ largest_text }
+        ensures utf8 { IsUtf8 self.now.document.content.text }
     {
-        let stop = self.text.len();
+        let stop = self.own.len();
         if offset == stop {
             return offset;
         }
-        match first_char(self.text.part_at(offset, stop)) {
+        match first_char(self.own.part_at(offset, stop)) {
             Some((c, _)) => offset + c.len_utf8(),
             None => offset,
         }
@@ -138,15 +121,8 @@ impl<D: BidiData + Drop> Document<D> {
         ensures text_place { IfOk result (IsTextPlace (D.data self.old.tables) self.old.document.content.text) }
         ensures boundary { IfOk result (λ o. IsCharBoundary self.old.document.content.text o) }
     {
-        // proof only: the text is UTF-8, and the width is within its limits
-        let _utf8 = self.text.len();
-        let _side = self.layout.width();
-        let source = Source {
-            text: &self.text,
-            index: &self.index,
-            tables: &self.tables,
-        };
-        let place = self.layout.place_at(&source, offset)?;
+        let source = self.own.source();
+        let place = self.view.place_at(&source, offset)?;
         Ok(place)
     }
 }

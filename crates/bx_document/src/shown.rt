@@ -1,5 +1,5 @@
-//! The visible rows and the cursor's position among them.
-ghost use Rattle.std.specs.Prelude.{◌≡◌, ◌<◌, ◌≤◌, ◌++◌, ◌*◌, IfOk, drop};
+//! Draws the visible rows, and tells the cursor's position among them.
+ghost use Rattle.std.specs.Prelude.{◌≡◌, ◌<◌, ◌≤◌, ◌++◌, ◌*◌, IfOk, IsUtf8, drop};
 ghost use Rattle.bx_view.specs.Position.{IsPosition};
 ghost use Rattle.bx_view.specs.Top.{follow};
 ghost use Rattle.bx_document.specs.Document.{rows};
@@ -11,9 +11,9 @@ use crate::drawn_rows::{Page, draw_rows};
 use bx_grid::Grid;
 use bx_terms::OutOfMemory;
 use bx_ucd::BidiData;
-use bx_view::{Position, Source};
+use bx_view::Position;
 
-/// The visible rows, and a place in them.
+/// Which rows are visible, and where a place is among them.
 #[derive(Clone, Copy)]
 pub struct Shown {
     /// The offset, in bytes, at which the first visible row begins.
@@ -53,19 +53,13 @@ impl<D: BidiData + Drop> Document<D> {
         ensures position { IfOk result (λ s. IsPosition (D.data self.old.tables) self.old.document.w self.old.document.content.text
             (rows (D.data self.old.tables) self.old.document) place s.position) }
         ensures inside { IfOk result (λ s. (1 ≤ s.position.column) × (s.position.column ≤ self.old.document.w)) }
+        ensures utf8 { IsUtf8 self.old.document.content.text }
     {
-        // proof only: the text is UTF-8, and the width is within its limits
-        let _utf8 = self.text.len();
-        let _side = self.layout.width();
-        let source = Source {
-            text: &self.text,
-            index: &self.index,
-            tables: &self.tables,
-        };
-        let located = self.layout.locate(&source, top, place, usize::from(count))?;
-        let first = self.layout.first_in(&source, located.top);
+        let source = self.own.source();
+        let located = self.view.locate(&source, top, place, usize::from(count))?;
+        let first = self.view.first_in(&source, located.top);
         draw_rows(
-            &mut self.layout,
+            &mut self.view,
             &source,
             located.top,
             grid,

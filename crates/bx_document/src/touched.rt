@@ -1,8 +1,9 @@
-//! The place after an edit, found in the held paragraph or in a copy of the paragraphs that the edit touches.
-ghost use Rattle.std.specs.Prelude.{◌≡◌, ◌≤◌, ◌<◌, ◌+◌, true, IfOk, IsCharBoundary, length, string_bytes};
+//! The place after an edit, found in the cached paragraph or in a copy of the paragraphs that the edit touches.
+ghost use Rattle.std.specs.Prelude.{◌≡◌, ◌≤◌, ◌<◌, ◌+◌, true, IfOk, IsCharBoundary, OnOk, length, string_bytes};
+ghost use Rattle.bx_terms.specs.Sizes.{is_side};
 ghost use Rattle.bx_text.specs.Edits.{IsRange, fits, splice};
 ghost use Rattle.bx_view.specs.FoundRow.{rows_by};
-ghost use Rattle.bx_view.specs.Holding.{IsViewBy, Keeps};
+ghost use Rattle.bx_view.specs.Caching.{IsViewBy, Keeps};
 ghost use Rattle.bx_view.specs.Moves.{place_at, place_from};
 ghost use Rattle.bx_view.specs.Places.{IsTextPlace};
 ghost use Rattle.bx_view.specs.Source.{bytes};
@@ -12,18 +13,18 @@ use bx_index::Index;
 use bx_terms::OutOfMemory;
 use bx_text::Text;
 use bx_ucd::BidiData;
-use bx_view::{Layout, Source};
+use bx_view::{Source, View};
 use std::alloc::Global;
 use std::ops::Range;
 
-/// The start of the paragraph that contains the byte before an offset. Allocates nothing.
+/// The start of the paragraph that contains the byte before an offset; 0 for offset 0. Allocates nothing.
 fn start_before<D: BidiData>(source: &Source<'_, D>, start: usize) -> usize
     requires bounds { IsCharBoundary (bytes source.now) start }
     ensures start { result ≡ touched_start (D.data source.now.tables.now) (bytes source.now) start }
     ensures range { IsRange (bytes source.now) result start }
 {
-    let number = source.index.paragraph_of(start.saturating_sub(1));
-    source.index.span(number).0
+    let (_, (first, _)) = source.index.span_at(start.saturating_sub(1));
+    first
 }
 
 /// The end of the paragraph that an offset falls in, its separator included. Allocates nothing.
@@ -32,11 +33,12 @@ pub(crate) fn stop_after<D: BidiData>(source: &Source<'_, D>, stop: usize) -> us
     ensures stop { result ≡ touched_stop (D.data source.now.tables.now) (bytes source.now) stop }
     ensures range { IsRange (bytes source.now) stop result }
 {
-    let number = source.index.paragraph_of(stop);
-    source.index.span(number).1 + source.index.separator(number)
+    let walk = source.index.walk_at_offset(stop);
+    walk.span().1 + walk.separator()
 }
 
-/// The start of the paragraphs that an edit touches, and a copy of their text after it.
+/// The offset at which the paragraphs begin that an edit touches, and a copy of their text as it is after the edit, which
+/// replaces the bytes from `start` to `stop` with `new`.
 fn touched<D: BidiData>(
     source: &Source<'_, D>,
     start: usize,
@@ -50,142 +52,144 @@ fn touched<D: BidiData>(
 {
     let first = start_before(source, start);
     let last = stop_after(source, stop);
-    // Both ends are between characters, so only memory can run out.
-    let Ok(mut characters) = source.text.copy_range(first, last) else {
+    // All four ends are between characters, so only memory can run out.
+    let Ok(mut characters) = source.text.copy_range(first, start) else {
         return Err(OutOfMemory);
     };
-    characters.replace_range(start - first..stop - first, new)?;
+    let Ok(rest) = source.text.copy_range(stop, last) else {
+        return Err(OutOfMemory);
+    };
+    characters.push_str(new)?;
+    characters.push_str(rest.as_str())?;
     Ok((first, characters))
 }
 
-/// The first place at or after an offset, in bytes from 0, of a text that is laid out alone, with `layout`'s width and
-/// base direction.
+/// The first place at or after an offset of the text `characters`, which is laid out by itself with `view`'s width and base
+/// direction. The offset counts the bytes of this text.
 fn place_in<D: BidiData>(
     alloc: Global,
     characters: String,
     tables: &D,
-    layout: &mut Layout,
+    view: &mut View,
     offset: usize,
 ) -> Result<usize, OutOfMemory>
-    requires data { IsViewBy (D.data tables.now) layout.old }
-    ensures keeps { Keeps (D.data tables.now) layout.old layout.new }
+    requires data { IsViewBy (D.data tables.now) view.old }
+    ensures keeps { Keeps (D.data tables.now) view.old view.new }
     ensures place { IfOk result (λ o. o ≡ place_from
-        (rows_by (D.data tables.now) layout.old (string_bytes characters)) offset) }
+        (rows_by (D.data tables.now) view.old (string_bytes characters)) offset) }
+    ensures side { OnOk result (is_side view.old.w ≡ true) }
 {
     let Ok(text) = Text::open(alloc, characters) else {
         return Err(OutOfMemory);
     };
     let index = Index::build(alloc, &text, tables)?;
-    let place = layout.place_from(&Source::of(&text, &index, tables), offset)?;
+    let place = view.place_from(&Source::of(&text, &index, tables), offset)?;
     Ok(place)
 }
 
-/// The first place at or after an offset, in `new` or at its end, once `new` has replaced the bytes of a range. A copy of
-/// the touched paragraphs is laid out.
+/// The first place at or after an offset of the text in which `new` has replaced a range of bytes. The offset is in `new`, or at
+/// its start or end. A copy of the touched paragraphs is laid out.
 pub(crate) fn place_inside<D: BidiData>(
     alloc: Global,
     source: &Source<'_, D>,
-    layout: &mut Layout,
+    view: &mut View,
     range: Range<usize>,
     new: &str,
     offset: usize,
 ) -> Result<usize, OutOfMemory>
-    requires data { IsViewBy (D.data source.now.tables.now) layout.old }
+    requires data { IsViewBy (D.data source.now.tables.now) view.old }
     requires range { IsRange (bytes source.now) range.start range.end }
     requires fits { fits (bytes source.now) range.start range.end new.now ≡ true }
     requires inside { (range.start ≤ offset) × (offset ≤ range.start + length new.now) }
-    ensures keeps { Keeps (D.data source.now.tables.now) layout.old layout.new }
+    ensures keeps { Keeps (D.data source.now.tables.now) view.old view.new }
     ensures place { IfOk result (λ o. o ≡ place_from
-        (rows_by (D.data source.now.tables.now) layout.old
+        (rows_by (D.data source.now.tables.now) view.old
         (splice (bytes source.now) range.start range.end new.now)) offset) }
     ensures text_place { IfOk result (IsTextPlace (D.data source.now.tables.now)
         (splice (bytes source.now) range.start range.end new.now)) }
+    ensures side { OnOk result (is_side view.old.w ≡ true) }
 {
-    // proof only: the width is within its limits
-    let _side = layout.width();
     let (first, characters) = touched(source, range.start, range.end, new)?;
     // The copy is no longer than the text after the edit, so it is not too long.
-    let place = place_in(alloc, characters, source.tables, layout, offset - first)?;
+    let place = place_in(alloc, characters, source.tables, view, offset - first)?;
     Ok(first + place)
 }
 
-/// The last place at or before an offset, in bytes from 0, of a text that is laid out alone, with `layout`'s width and base
-/// direction.
+/// The last place at or before an offset of the text `characters`, which is laid out by itself with `view`'s width and base
+/// direction. The offset counts the bytes of this text.
 fn last_place_in<D: BidiData>(
     alloc: Global,
     characters: String,
     tables: &D,
-    layout: &mut Layout,
+    view: &mut View,
     offset: usize,
 ) -> Result<usize, OutOfMemory>
-    requires data { IsViewBy (D.data tables.now) layout.old }
-    ensures keeps { Keeps (D.data tables.now) layout.old layout.new }
+    requires data { IsViewBy (D.data tables.now) view.old }
+    ensures keeps { Keeps (D.data tables.now) view.old view.new }
     ensures place { IfOk result (λ o. o ≡ place_at
-        (rows_by (D.data tables.now) layout.old (string_bytes characters)) offset) }
+        (rows_by (D.data tables.now) view.old (string_bytes characters)) offset) }
+    ensures side { OnOk result (is_side view.old.w ≡ true) }
 {
     let Ok(text) = Text::open(alloc, characters) else {
         return Err(OutOfMemory);
     };
     let index = Index::build(alloc, &text, tables)?;
-    let place = layout.place_at(&Source::of(&text, &index, tables), offset)?;
+    let place = view.place_at(&Source::of(&text, &index, tables), offset)?;
     Ok(place)
 }
 
-/// The last place at or before an offset behind a range of bytes once `new` has replaced them, in the paragraphs that the edit
-/// touches. A copy of these is laid out.
+/// The last place at or before an offset of the text in which `new` has replaced a range of bytes. The offset is at or after
+/// the end of `new`, before the end of the touched paragraphs, of which a copy is laid out.
 pub(crate) fn place_at_inside<D: BidiData>(
     alloc: Global,
     source: &Source<'_, D>,
-    layout: &mut Layout,
+    view: &mut View,
     range: Range<usize>,
     new: &str,
     offset: usize,
 ) -> Result<usize, OutOfMemory>
-    requires data { IsViewBy (D.data source.now.tables.now) layout.old }
+    requires data { IsViewBy (D.data source.now.tables.now) view.old }
     requires range { IsRange (bytes source.now) range.start range.end }
     requires fits { fits (bytes source.now) range.start range.end new.now ≡ true }
     requires behind { range.start + length new.now ≤ offset }
     requires inside { offset + range.end < touched_stop (D.data source.now.tables.now) (bytes source.now) range.end + range.start + length new.now }
-    ensures keeps { Keeps (D.data source.now.tables.now) layout.old layout.new }
+    ensures keeps { Keeps (D.data source.now.tables.now) view.old view.new }
     ensures place { IfOk result (λ o. o ≡ place_at
-        (rows_by (D.data source.now.tables.now) layout.old
+        (rows_by (D.data source.now.tables.now) view.old
         (splice (bytes source.now) range.start range.end new.now)) offset) }
     ensures text_place { IfOk result (IsTextPlace (D.data source.now.tables.now)
         (splice (bytes source.now) range.start range.end new.now)) }
 {
-    // proof only: the width is within its limits
-    let _side = layout.width();
     let (first, characters) = touched(source, range.start, range.end, new)?;
     // The copy is no longer than the text after the edit, so it is not too long.
-    let place = last_place_in(alloc, characters, source.tables, layout, offset - first)?;
+    let place = last_place_in(alloc, characters, source.tables, view, offset - first)?;
     Ok(first + place)
 }
 
-/// The place after a pending edit that replaces the bytes of a range with `new`. If one held paragraph contains the range,
+/// The place after a pending edit that replaces the bytes of a range with `new`. If one cached paragraph contains the range,
 /// the edit is made in it; otherwise a copy of the touched paragraphs is laid out.
 pub(crate) fn place_after<D: BidiData>(
     alloc: Global,
     source: &Source<'_, D>,
-    layout: &mut Layout,
+    view: &mut View,
     range: Range<usize>,
     new: &str,
 ) -> Result<usize, OutOfMemory>
-    requires data { IsViewBy (D.data source.now.tables.now) layout.old }
+    requires data { IsViewBy (D.data source.now.tables.now) view.old }
     requires range { IsRange (bytes source.now) range.start range.end }
     requires fits { fits (bytes source.now) range.start range.end new.now ≡ true }
-    ensures keeps { Keeps (D.data source.now.tables.now) layout.old layout.new }
+    ensures keeps { Keeps (D.data source.now.tables.now) view.old view.new }
     ensures place { IfOk result (λ o. o ≡ place_from
-        (rows_by (D.data source.now.tables.now) layout.old
+        (rows_by (D.data source.now.tables.now) view.old
         (splice (bytes source.now) range.start range.end new.now)) (range.start + length new.now)) }
     ensures text_place { IfOk result (IsTextPlace (D.data source.now.tables.now)
         (splice (bytes source.now) range.start range.end new.now)) }
+    ensures order { IfOk result (λ o. range.start + length new.now ≤ o) }
 {
-    // proof only: the width is within its limits
-    let _side = layout.width();
-    if let Some(place) = layout.edit(source, range.start, range.end, new)? {
+    if let Some(place) = view.edit(source, range.start, range.end, new)? {
         return Ok(place);
     }
     let offset = range.start + new.len();
-    let place = place_inside(alloc, source, layout, range, new, offset)?;
+    let place = place_inside(alloc, source, view, range, new, offset)?;
     Ok(place)
 }

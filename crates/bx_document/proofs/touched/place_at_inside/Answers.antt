@@ -8,8 +8,8 @@ overflow_add-result g c =
     let s = c.args.source.now in
     let text = s.text.now.edited.text in
     let range = c.args.range in
-    let is = last_found (g.D.BidiData.data s.tables.now) c.args.layout.now text range.start range.end c.args.new.now
-    c.width-side.ensures.side s.utf8 c.requires.range c.utf8.new (string_bytes c.in_ok-first.characters) c.in_ok-first.first
+    let is = last_found (g.D.BidiData.data s.tables.now) c.args.view.now text range.start range.end c.args.new.now
+    c.in_ok-place.ensures.side s.utf8 c.requires.range c.utf8.new (string_bytes c.in_ok-first.characters) c.in_ok-first.first
     c.args.offset _ c.in_ok-place.place c.requires.behind c.requires.inside c.in_ok-first.ensures.start
     c.in_ok-first.ensures.text refl c.in_ok-place.ensures.place in
     omega (arith, is.boundary.0, splice_short text range.start range.end c.args.new.now c.requires.range c.requires.fits)
@@ -19,8 +19,8 @@ returns-clause-place g c =
     let s = c.args.source.now in
     let text = s.text.now.edited.text in
     let range = c.args.range in
-    (last_found (g.D.BidiData.data s.tables.now) c.args.layout.now text range.start range.end c.args.new.now
-    c.width-side.ensures.side s.utf8 c.requires.range c.utf8.new (string_bytes c.in_ok-first.characters) c.in_ok-first.first
+    (last_found (g.D.BidiData.data s.tables.now) c.args.view.now text range.start range.end c.args.new.now
+    c.in_ok-place.ensures.side s.utf8 c.requires.range c.utf8.new (string_bytes c.in_ok-first.characters) c.in_ok-first.first
     c.args.offset _ c.in_ok-place.place c.requires.behind c.requires.inside c.in_ok-first.ensures.start
     c.in_ok-first.ensures.text refl c.in_ok-place.ensures.place).place
 
@@ -29,7 +29,7 @@ returns-clause-text_place g c =
     let s = c.args.source.now in
     let text = s.text.now.edited.text in
     let range = c.args.range in
-    (last_found (g.D.BidiData.data s.tables.now) c.args.layout.now text range.start range.end c.args.new.now
-    c.width-side.ensures.side s.utf8 c.requires.range c.utf8.new (string_bytes c.in_ok-first.characters) c.in_ok-first.first
+    (last_found (g.D.BidiData.data s.tables.now) c.args.view.now text range.start range.end c.args.new.now
+    c.in_ok-place.ensures.side s.utf8 c.requires.range c.utf8.new (string_bytes c.in_ok-first.characters) c.in_ok-first.first
     c.args.offset _ c.in_ok-place.place c.requires.behind c.requires.inside c.in_ok-first.ensures.start
     c.in_ok-first.ensures.text refl c.in_ok-place.ensures.place).text_place

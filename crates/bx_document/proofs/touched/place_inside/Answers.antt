@@ -5,24 +5,24 @@ use Rattle.bx_document.proofs.touched.place_inside.Goals as goal
 pub overflow_add-result : goal.overflow_add-result
 overflow_add-result g c =
     let s = c.args.source.now in
-    let is = found (g.D.BidiData.data s.tables.now) c.args.layout.now s.text.now.edited.text
+    let is = found (g.D.BidiData.data s.tables.now) c.args.view.now s.text.now.edited.text
     c.args.range.start c.args.range.end c.args.new.now (string_bytes c.in_ok-first.characters) c.in_ok-first.first c.args.offset _ c.in_ok-place.place
-    c.width-side.ensures.side s.utf8 c.requires.range c.utf8.new c.requires.inside.0 c.requires.inside.1
+    c.in_ok-place.ensures.side s.utf8 c.requires.range c.utf8.new c.requires.inside.0 c.requires.inside.1
     c.in_ok-first.ensures.start c.in_ok-first.ensures.text refl c.in_ok-place.ensures.place in
     omega (arith, is.boundary.0, splice_short s.text.now.edited.text c.args.range.start c.args.range.end c.args.new.now c.requires.range c.requires.fits)
 
 pub returns-clause-place : goal.returns-clause-place
 returns-clause-place g c =
     let s = c.args.source.now in
-    (found (g.D.BidiData.data s.tables.now) c.args.layout.now s.text.now.edited.text
+    (found (g.D.BidiData.data s.tables.now) c.args.view.now s.text.now.edited.text
     c.args.range.start c.args.range.end c.args.new.now (string_bytes c.in_ok-first.characters) c.in_ok-first.first c.args.offset _ c.in_ok-place.place
-    c.width-side.ensures.side s.utf8 c.requires.range c.utf8.new c.requires.inside.0 c.requires.inside.1
+    c.in_ok-place.ensures.side s.utf8 c.requires.range c.utf8.new c.requires.inside.0 c.requires.inside.1
     c.in_ok-first.ensures.start c.in_ok-first.ensures.text refl c.in_ok-place.ensures.place).place
 
 pub returns-clause-text_place : goal.returns-clause-text_place
 returns-clause-text_place g c =
     let s = c.args.source.now in
-    (found (g.D.BidiData.data s.tables.now) c.args.layout.now s.text.now.edited.text
+    (found (g.D.BidiData.data s.tables.now) c.args.view.now s.text.now.edited.text
     c.args.range.start c.args.range.end c.args.new.now (string_bytes c.in_ok-first.characters) c.in_ok-first.first c.args.offset _ c.in_ok-place.place
-    c.width-side.ensures.side s.utf8 c.requires.range c.utf8.new c.requires.inside.0 c.requires.inside.1
+    c.in_ok-place.ensures.side s.utf8 c.requires.range c.utf8.new c.requires.inside.0 c.requires.inside.1
     c.in_ok-first.ensures.start c.in_ok-first.ensures.text refl c.in_ok-place.ensures.place).text_place

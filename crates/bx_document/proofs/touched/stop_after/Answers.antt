@@ -1,47 +1,34 @@
-use Rattle.std.proofs.Common.{subst, sym, arith}
+use Rattle.std.proofs.Common.{◌≡◌, ◌+◌, subst, sym, arith}
 use Rattle.bx_text.specs.Edits.{IsRange}
-use Rattle.bx_document.proofs.TouchedSpan.{stop_inside, stop_range, stop_of_span, there}
+use Rattle.bx_document.specs.Touched.{touched_stop}
+use Rattle.bx_document.proofs.TouchedSpan.{stop_inside, stop_of_walk, stop_range}
 use Rattle.bx_document.proofs.touched.stop_after.Goals as goal
+use Rattle.bx_document.proofs.touched.stop_after.Goals.{After-separator}
 
-pub span-requires : goal.span-requires
-span-requires g c =
+reached : (g : _) (c : After-separator g)
+    → c.span.result.1 + c.separator.result ≡ touched_stop (g.D.BidiData.data c.args.source.now.tables.now) c.args.source.now.text.now.edited.text c.args.stop
+reached g c =
     let s = c.args.source.now in
-    there (g.D.BidiData.data s.tables.now) s.text.now.edited.text s.index.now.paragraphs s.utf8
-    s.indexed c.args.stop c.paragraph_of-number.result c.paragraph_of-number.ensures
-
-pub separator-requires : goal.separator-requires
-separator-requires g c =
-    let s = c.args.source.now in
-    there (g.D.BidiData.data s.tables.now) s.text.now.edited.text s.index.now.paragraphs s.utf8
-    s.indexed c.args.stop c.paragraph_of-number.result c.paragraph_of-number.ensures
+    stop_of_walk (g.D.BidiData.data s.tables.now) s.text.now.edited.text s.index.now.paragraphs s.utf8 s.indexed c.args.stop
+    c.walk_at_offset-walk.result c.span.result c.separator.result c.walk_at_offset-walk.ensures c.span.ensures c.separator.ensures
 
 pub overflow_add-result : goal.overflow_add-result
 overflow_add-result g c =
     let s = c.args.source.now in
-    let stop_is = stop_of_span (g.D.BidiData.data s.tables.now) s.text.now.edited.text s.index.now.paragraphs s.utf8
-    s.indexed c.args.stop c.paragraph_of-number.result c.span.result c.separator.result c.paragraph_of-number.ensures c.span.ensures
-    c.separator.ensures in
     omega (
       arith,
-      stop_is,
+      reached g ((goal.at.overflow_add-result g c).After-separator),
       stop_inside (g.D.BidiData.data s.tables.now) s.text.now.edited.text s.index.now.paragraphs s.utf8 s.indexed
           c.args.stop c.requires.bounds,
       s.short,
     )
 
 pub returns-clause-stop : goal.returns-clause-stop
-returns-clause-stop g c =
-    let s = c.args.source.now in
-    stop_of_span (g.D.BidiData.data s.tables.now) s.text.now.edited.text s.index.now.paragraphs s.utf8
-    s.indexed c.args.stop c.paragraph_of-number.result c.span.result c.separator.result c.paragraph_of-number.ensures c.span.ensures
-    c.separator.ensures
+returns-clause-stop g c = reached g ((goal.at.returns-clause-stop g c).After-separator)
 
 pub returns-clause-range : goal.returns-clause-range
 returns-clause-range g c =
     let s = c.args.source.now in
-    subst (IsRange s.text.now.edited.text c.args.stop)
-    (sym (stop_of_span (g.D.BidiData.data s.tables.now) s.text.now.edited.text s.index.now.paragraphs s.utf8
-    s.indexed c.args.stop c.paragraph_of-number.result c.span.result c.separator.result c.paragraph_of-number.ensures c.span.ensures
-    c.separator.ensures))
+    subst (IsRange s.text.now.edited.text c.args.stop) (sym (reached g ((goal.at.returns-clause-range g c).After-separator)))
     (stop_range (g.D.BidiData.data s.tables.now) s.text.now.edited.text s.index.now.paragraphs s.utf8 s.indexed
     c.args.stop c.requires.bounds)

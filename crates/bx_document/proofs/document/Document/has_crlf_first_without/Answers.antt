@@ -3,14 +3,16 @@ use Rattle.std.proofs.lemmas.Str.{IsCharBoundary-start}
 use Rattle.bx_text.specs.Edits.{IsRange, splice}
 use Rattle.bx_document.specs.FirstSeparator.{has_crlf_first}
 use Rattle.bx_document.proofs.SeparatorsRead.{told}
+use Rattle.bx_document.proofs.SameState.{lent}
 use Rattle.bx_document.proofs.document.Document.has_crlf_first_without.Goals as goal
 
 pub after_range-before-requires : goal.after_range-before-requires
 after_range-before-requires g c =
-    let range = subst (λ s. IsRange s.document.content.text c.args.start c.args.stop) (sym c.self.view_is) c.requires.range in
+    let same = lent c.source-source.ensures.tables c.source-source.ensures.text c.self.view_is in
+    let range = subst (λ s. IsRange s.document.content.text c.args.start c.args.stop) (sym same) c.requires.range in
     record {
       range = record {
-        start_bounds = IsCharBoundary-start c.self.inside.text.edited.text c.len-len.ensures.utf8;
+        start_bounds = IsCharBoundary-start c.source-source.result.text.now.edited.text c.len-len.ensures.utf8;
         stop_bounds = range.start_bounds;
         in_order = omega arith;
       };
@@ -18,10 +20,11 @@ after_range-before-requires g c =
 
 pub returns : goal.returns
 returns g c =
-    let i = c.self.inside in
-    let says = g.D.BidiData.data i.tables in
-    let range = subst (λ s. IsRange s.document.content.text c.args.start c.args.stop) (sym c.self.view_is) c.requires.range in
+    let same = lent c.source-source.ensures.tables c.source-source.ensures.text c.self.view_is in
+    let s = c.source-source.result in
+    let says = g.D.BidiData.data s.tables.now in
+    let range = subst (λ s. IsRange s.document.content.text c.args.start c.args.stop) (sym same) c.requires.range in
     c.is_crlf.ensures says
-    ∙ told says i.text.edited.text c.args.start c.args.stop c.len-len.result c.after_range-before.result c.after_range.result
+    ∙ told says s.text.now.edited.text c.args.start c.args.stop c.len-len.result c.after_range-before.result c.after_range.result
     c.len-len.ensures.utf8 range.start_bounds c.len-len.ensures.len c.after_range-before.ensures c.after_range.ensures
-    ∙ ap (λ s. has_crlf_first (g.D.BidiData.data s.tables) (splice s.document.content.text c.args.start c.args.stop [])) c.self.view_is
+    ∙ ap (λ s. has_crlf_first (g.D.BidiData.data s.tables) (splice s.document.content.text c.args.start c.args.stop [])) same

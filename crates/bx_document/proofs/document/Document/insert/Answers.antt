@@ -1,7 +1,7 @@
-use Rattle.std.proofs.Common.{◌∙◌, IsUtf8, ap, arith, subst}
-use Rattle.bx_text.specs.Text.{TextState}
+use Rattle.std.proofs.Common.{◌∙◌, IsUtf8, arith, subst, refl}
 use Rattle.bx_view.proofs.TextPlaces.{place-between}
 use Rattle.bx_document.proofs.PlacesKept.{keeps_edited}
+use Rattle.bx_document.proofs.SameState.{edited}
 use Rattle.bx_document.proofs.document.Document.insert.Goals as goal
 
 pub place_after-requires-clause-range : goal.place_after-requires-clause-range
@@ -13,7 +13,8 @@ place_after-requires-clause-range g c =
 
 pub invariant_of-self-2 : goal.invariant_of-self-2
 invariant_of-self-2 g c =
-    let keeps = keeps_edited g.D.BidiData.data _ c.args.self.now c.insert.new.self.edited c.args.place c.args.place c.args.new.now c.args.place c.in_ok-after.after
-    (c.self-2.view_is ∙ c.place_after.ensures.same) (ap (λ (x : TextState). x.edited) c.in-Ok.ensures.ok) c.self-2.invariant.2 c.requires.text_place
+    let keeps = keeps_edited g.D.BidiData.data _ c.args.self.now _ c.args.place c.args.place c.args.new.now c.args.place c.in_ok-after.after
+    (c.self-2.view_is ∙ c.place_after.ensures.same) refl c.self-2.invariant.1 c.requires.text_place
     c.in_ok-after.ensures.text_place in
-    (c.follow.ensures, c.self-2.invariant.1, keeps, c.self-2.invariant.3)
+    let i = c.self-2.inside in
+    edited g.D.BidiData.data i.view i.row_cache i.own c.insert.new.self _ c.in_ok-insert.ensures.ok c.self-2.invariant.0 keeps c.self-2.invariant.2

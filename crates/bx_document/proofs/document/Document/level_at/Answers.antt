@@ -7,60 +7,67 @@ use Rattle.bx_view.specs.Places.{IsTextPlace}
 use Rattle.bx_view.proofs.Numbers.{IsUnder, paragraph-under}
 use Rattle.bx_document.specs.PlaceLevel.{place_level}
 use Rattle.bx_document.proofs.PlaceLevels.{bound-of-body, level-is, place-of-body}
+use Rattle.bx_document.proofs.SameState.{lent}
 use Rattle.bx_document.proofs.document.Document.level_at.Goals as goal
 use Rattle.bx_document.proofs.document.Document.level_at.Goals.{After-span_at-start}
 
 -- the paragraph that the place falls in
 under : (g : _) (c : After-span_at-start g)
-    → IsUnder (g.D.BidiData.data c.self.inside.tables) c.self.inside.text.edited.text c.args.place
+    → IsUnder (g.D.BidiData.data c.source-source.result.tables.now) c.source-source.result.text.now.edited.text c.args.place
     c.span_at-start.result.0 c.span_at-start.result.1.0 c.span_at-start.result.1.1
 under g c =
-    let i = c.self.inside in
-    paragraph-under (g.D.BidiData.data i.tables) i.text.edited.text i.index.paragraphs c.args.place
+    let s = c.source-source.result in
+    paragraph-under (g.D.BidiData.data s.tables.now) s.text.now.edited.text s.index.now.paragraphs c.args.place
     c.span_at-start.result.0 c.span_at-start.result.1.0 c.span_at-start.result.1.1
-    c.len-utf8.ensures.utf8 c.self.invariant.0 c.span_at-start.ensures.number c.span_at-start.ensures.span
+    c.source-source.result.utf8 s.indexed c.span_at-start.ensures.number c.span_at-start.ensures.span
 
 pub copy-requires : goal.copy-requires
-copy-requires g c = record {
-  range = subst (λ s. IsRange s.document.content.text c.span_at-start.result.1.0 c.span_at-start.result.1.1) c.self.view_is (under g c).span.range;
-}
+copy-requires g c =
+    let same = lent c.source-source.ensures.tables c.source-source.ensures.text c.self.view_is in
+    record {
+      range = subst (λ s. IsRange s.document.content.text c.span_at-start.result.1.0 c.span_at-start.result.1.1) same (under g c).span.range;
+    }
 
 pub overflow_sub-place : goal.overflow_sub-place
 overflow_sub-place g c = (under g ((goal.at.overflow_sub-place g c).After-span_at-start)).before
 
 pub unit_level-requires-clause-place : goal.unit_level-requires-clause-place
 unit_level-requires-clause-place g c =
-    let i = c.self.inside in
+    let same = lent c.source-source.ensures.tables c.source-source.ensures.text c.self.view_is in
+    let s = c.source-source.result in
     let u = under g ((goal.at.unit_level-requires-clause-place g c).After-span_at-start) in
-    let place = subst (λ s. IsTextPlace (g.D.BidiData.data s.tables) s.document.content.text c.args.place) (sym c.self.view_is) c.requires.text_place in
+    let place = subst (λ s. IsTextPlace (g.D.BidiData.data s.tables) s.document.content.text c.args.place) (sym same) c.requires.text_place in
     let body = c.as_str-body.ensures.value ∙ c.in_ok-copy.ensures
-    ∙ ap (λ s. slice_range s.document.content.text c.span_at-start.result.1.0 c.span_at-start.result.1.1) (sym c.self.view_is) ∙ u.span.body in
-    place-of-body (g.D.BidiData.data i.tables) i.text.edited.text c.len-utf8.ensures.utf8 c.args.place
+    ∙ ap (λ s. slice_range s.document.content.text c.span_at-start.result.1.0 c.span_at-start.result.1.1) (sym same) ∙ u.span.body in
+    place-of-body (g.D.BidiData.data s.tables.now) s.text.now.edited.text c.source-source.result.utf8 c.args.place
     c.span_at-start.result.0 c.span_at-start.result.1.0 c.as_str-body.result.now
-    (c.span_at-start.ensures.number ∙ ap (λ ls. paragraph_of ls c.args.place) c.self.invariant.0) u.span.start body place
+    (c.span_at-start.ensures.number ∙ ap (λ ls. paragraph_of ls c.args.place) s.indexed) u.span.start body place
 
 pub unit_level-requires-clause-bounds : goal.unit_level-requires-clause-bounds
 unit_level-requires-clause-bounds g c =
-    let i = c.self.inside in
+    let same = lent c.source-source.ensures.tables c.source-source.ensures.text c.self.view_is in
+    let s = c.source-source.result in
     let u = under g ((goal.at.unit_level-requires-clause-bounds g c).After-span_at-start) in
-    let place = subst (λ s. IsTextPlace (g.D.BidiData.data s.tables) s.document.content.text c.args.place) (sym c.self.view_is) c.requires.text_place in
+    let place = subst (λ s. IsTextPlace (g.D.BidiData.data s.tables) s.document.content.text c.args.place) (sym same) c.requires.text_place in
     let body = c.as_str-body.ensures.value ∙ c.in_ok-copy.ensures
-    ∙ ap (λ s. slice_range s.document.content.text c.span_at-start.result.1.0 c.span_at-start.result.1.1) (sym c.self.view_is) ∙ u.span.body in
-    bound-of-body (g.D.BidiData.data i.tables) i.text.edited.text c.len-utf8.ensures.utf8 c.args.place
+    ∙ ap (λ s. slice_range s.document.content.text c.span_at-start.result.1.0 c.span_at-start.result.1.1) (sym same) ∙ u.span.body in
+    bound-of-body (g.D.BidiData.data s.tables.now) s.text.now.edited.text c.source-source.result.utf8 c.args.place
     c.span_at-start.result.0 c.span_at-start.result.1.0 c.as_str-body.result.now
-    (c.span_at-start.ensures.number ∙ ap (λ ls. paragraph_of ls c.args.place) c.self.invariant.0) u.span.start body place
+    (c.span_at-start.ensures.number ∙ ap (λ ls. paragraph_of ls c.args.place) s.indexed) u.span.start body place
 
 pub returns : goal.returns
 returns g c =
+    let same = lent c.source-source.ensures.tables c.source-source.ensures.text c.self.view_is in
     let i = c.self.inside in
-    let says = g.D.BidiData.data i.tables in
+    let s = c.source-source.result in
+    let says = g.D.BidiData.data s.tables.now in
     let u = under g ((goal.at.returns g c).After-span_at-start) in
     let body = c.as_str-body.ensures.value ∙ c.in_ok-copy.ensures
-    ∙ ap (λ s. slice_range s.document.content.text c.span_at-start.result.1.0 c.span_at-start.result.1.1) (sym c.self.view_is) ∙ u.span.body in
+    ∙ ap (λ s. slice_range s.document.content.text c.span_at-start.result.1.0 c.span_at-start.result.1.1) (sym same) ∙ u.span.body in
     let each = c.as_slice.ensures.value ∙ c.in_ok-levels.ensures.each ∙ ap (λ b. levels_under says b (chars c.as_str-body.result.now)) c.base.ensures in
     c.unit_level.ensures
-    ∙ level-is says i.text.edited.text c.len-utf8.ensures.utf8 c.args.place
+    ∙ level-is says s.text.now.edited.text c.source-source.result.utf8 c.args.place
     c.span_at-start.result.0 c.span_at-start.result.1.0 c.as_str-body.result.now
-    (c.span_at-start.ensures.number ∙ ap (λ ls. paragraph_of ls c.args.place) c.self.invariant.0) u.span.start body
-    i.layout.base c.as_slice.result.now each
-    ∙ ap (λ s. place_level (g.D.BidiData.data s.tables) s.document.base s.document.content.text c.args.place) c.self.view_is
+    (c.span_at-start.ensures.number ∙ ap (λ ls. paragraph_of ls c.args.place) s.indexed) u.span.start body
+    i.view.base c.as_slice.result.now each
+    ∙ ap (λ s. place_level (g.D.BidiData.data s.tables) s.document.base s.document.content.text c.args.place) same

@@ -1,80 +1,75 @@
-use Rattle.std.proofs.Common.{◌≡◌, ◌≤◌, ◌*◌, ◌++◌, ap, drop, subst, sym}
+use Rattle.std.proofs.Common.{◌≡◌, ◌*◌, ◌++◌, drop, subst}
 use Rattle.bx_view.specs.Position.{IsPosition}
 use Rattle.bx_view.specs.FoundRow.{rows_by}
 use Rattle.bx_view.specs.Top.{follow}
-use Rattle.bx_paragraph.proofs.Starts.{side-some}
 use Rattle.bx_document.specs.Document.{rows}
 use Rattle.bx_document.specs.Drawing.{IsAmong}
 use Rattle.bx_document.specs.Shown.{rows_above, shown_columns}
-use Rattle.bx_view.proofs.CellColumns.{cell-inside}
 use Rattle.bx_document.proofs.ShownTop.{above-is, among, drawn-told, top-is}
+use Rattle.bx_document.proofs.SameState.{lent}
 use Rattle.bx_document.proofs.document.Document.show.Goals as goal
 
 pub returns-clause-top : goal.returns-clause-top
 returns-clause-top g c =
+    let same = lent c.source-source.ensures.tables c.source-source.ensures.text c.self.view_is in
     let i = c.self.inside in
-    let says = g.D.BidiData.data i.tables in
-    let text = i.text.edited.text in
+    let s = c.source-source.result in
+    let says = g.D.BidiData.data s.tables.now in
+    let text = s.text.now.edited.text in
     let located = c.in_ok-located.located in
     let told = c.in_ok-located.ensures in
-    subst (λ s. c.first_in-first.result ≡ follow (rows (g.D.BidiData.data s.tables) s.document) c.args.top c.args.place c.args.count) c.self.view_is
-    (subst (λ n. c.first_in-first.result ≡ follow (rows_by says i.layout text) c.args.top c.args.place n) c.from.ensures
-    (top-is says i.layout c.locate.new.self text c.len-utf8.ensures.utf8 c.locate.ensures.keeps located.top c.args.top c.args.place c.from.result
+    subst (λ s. c.first_in-first.result ≡ follow (rows (g.D.BidiData.data s.tables) s.document) c.args.top c.args.place c.args.count) same
+    (subst (λ n. c.first_in-first.result ≡ follow (rows_by says i.view text) c.args.top c.args.place n) c.from.ensures
+    (top-is says i.view c.locate.new.self text c.source-source.result.utf8 c.locate.ensures.keeps located.top c.args.top c.args.place c.from.result
     c.first_in-first.result located.above told.top (c.first_in-first.ensures _ told.top) told.above))
 
 pub returns-clause-among : goal.returns-clause-among
 returns-clause-among g c =
+    let same = lent c.source-source.ensures.tables c.source-source.ensures.text c.self.view_is in
     let i = c.self.inside in
-    let says = g.D.BidiData.data i.tables in
-    let text = i.text.edited.text in
+    let s = c.source-source.result in
+    let says = g.D.BidiData.data s.tables.now in
+    let text = s.text.now.edited.text in
     let located = c.in_ok-located.located in
     let told = c.in_ok-located.ensures in
-    subst (λ s. IsAmong (rows (g.D.BidiData.data s.tables) s.document) c.first_in-first.result c.args.place c.args.count) c.self.view_is
+    subst (λ s. IsAmong (rows (g.D.BidiData.data s.tables) s.document) c.first_in-first.result c.args.place c.args.count) same
     (subst (IsAmong _ c.first_in-first.result c.args.place) c.from.ensures
-    (among says i.layout c.locate.new.self text c.len-utf8.ensures.utf8 c.locate.ensures.keeps located.top c.args.top c.args.place c.from.result
+    (among says i.view c.locate.new.self text c.source-source.result.utf8 c.locate.ensures.keeps located.top c.args.top c.args.place c.from.result
     c.first_in-first.result located.above told.top (c.first_in-first.ensures _ told.top) told.above told.few))
 
 pub returns-clause-drawn : goal.returns-clause-drawn
 returns-clause-drawn g c =
+    let same = lent c.source-source.ensures.tables c.source-source.ensures.text c.self.view_is in
     let i = c.self.inside in
-    let says = g.D.BidiData.data i.tables in
-    let text = i.text.edited.text in
+    let s = c.source-source.result in
+    let says = g.D.BidiData.data s.tables.now in
+    let text = s.text.now.edited.text in
     let located = c.in_ok-located.located in
     let told = c.in_ok-located.ensures in
     let was = c.args.grid.now in
     let first = c.first_in-first.result in
     subst (λ s. c.draw_rows.new.grid ≡ record was {
       columns = shown_columns (g.D.BidiData.data s.tables) s.document first c.args.region c.args.count ++ drop (c.args.count * was.width) was.columns;
-    }) c.self.view_is
-    (drawn-told says i.layout c.locate.new.self text c.len-utf8.ensures.utf8 c.locate.ensures.keeps located.top c.args.top c.args.place c.from.result
+    }) same
+    (drawn-told says i.view c.locate.new.self text c.source-source.result.utf8 c.locate.ensures.keeps located.top c.args.top c.args.place c.from.result
     first located.above told.top (c.first_in-first.ensures _ told.top) told.above was c.draw_rows.new.grid c.args.region c.args.count
     (c.in_ok-draw_rows.ensures.drawn _ told.top))
 
 pub returns-clause-row : goal.returns-clause-row
 returns-clause-row g c =
+    let same = lent c.source-source.ensures.tables c.source-source.ensures.text c.self.view_is in
     let i = c.self.inside in
-    let says = g.D.BidiData.data i.tables in
-    let text = i.text.edited.text in
+    let s = c.source-source.result in
+    let says = g.D.BidiData.data s.tables.now in
+    let text = s.text.now.edited.text in
     let located = c.in_ok-located.located in
     let told = c.in_ok-located.ensures in
-    subst (λ s. located.above ≡ rows_above (g.D.BidiData.data s.tables) s.document c.first_in-first.result c.args.place) c.self.view_is
-    (above-is says i.layout c.locate.new.self text c.len-utf8.ensures.utf8 c.locate.ensures.keeps located.top c.args.top c.args.place c.from.result
+    subst (λ s. located.above ≡ rows_above (g.D.BidiData.data s.tables) s.document c.first_in-first.result c.args.place) same
+    (above-is says i.view c.locate.new.self text c.source-source.result.utf8 c.locate.ensures.keeps located.top c.args.top c.args.place c.from.result
     c.first_in-first.result located.above told.top (c.first_in-first.ensures _ told.top) told.above)
 
 pub returns-clause-position : goal.returns-clause-position
 returns-clause-position g c =
+    let same = lent c.source-source.ensures.tables c.source-source.ensures.text c.self.view_is in
     subst (λ s. IsPosition (g.D.BidiData.data s.tables) s.document.w s.document.content.text (rows (g.D.BidiData.data s.tables) s.document) c.args.place
-    c.in_ok-located.located.position) c.self.view_is c.in_ok-located.ensures.position
-
-pub returns-clause-inside : goal.returns-clause-inside
-returns-clause-inside g c =
-    let i = c.self.inside in
-    let says = g.D.BidiData.data i.tables in
-    let text = i.text.edited.text in
-    let located = c.in_ok-located.located in
-    let told = c.in_ok-located.ensures in
-    let w = i.layout.w in
-    let column = located.position.column in
-    let in_window = cell-inside says i.layout.base w text c.args.place (side-some w c.width-side.ensures.side) c.len-utf8.ensures.utf8 in
-    subst (λ n. (1 ≤ column) × (column ≤ n)) (ap (λ s. s.document.w) c.self.view_is)
-    (subst (λ n. (1 ≤ n) × (n ≤ w)) (sym told.position.column) in_window)
+    c.in_ok-located.located.position) same c.in_ok-located.ensures.position

@@ -1,10 +1,10 @@
-use Rattle.std.proofs.Common.{rules, ◌≡◌, ◌∙◌, true, ap, arith, subst, sym}
+use Rattle.std.proofs.Common.{rules, ◌≡◌, ◌∙◌, true, arith, subst, sym, refl}
 use Rattle.std.proofs.lemmas.Bool.Decides.{nat_tests}
 use Rattle.bx_text.specs.Edits.{IsRange, fits_both}
-use Rattle.bx_text.specs.Text.{TextState}
 use Rattle.bx_view.specs.Places.{IsTextPlace}
 use Rattle.bx_document.specs.Document.{wrapped_text}
 use Rattle.bx_document.proofs.PlacesKept.{keeps_wrapped}
+use Rattle.bx_document.proofs.SameState.{edited}
 use Rattle.bx_document.proofs.document.Document.wrap.Goals as goal
 
 pub place_after-requires-clause-range : goal.place_after-requires-clause-range
@@ -33,7 +33,8 @@ invariant_of-self-2 g c =
     let is = subst (λ s. IsTextPlace (g.D.BidiData.data s.tables)
     (wrapped_text s.document.content.text c.args.start c.args.stop c.args.front.now c.args.back.now) after)
     c.place_after.ensures.same c.in_ok-after.ensures.text_place in
-    let keeps = keeps_wrapped g.D.BidiData.data _ c.args.self.now c.wrap.new.self.edited c.args.start c.args.stop c.args.front.now c.args.back.now
+    let keeps = keeps_wrapped g.D.BidiData.data _ c.args.self.now _ c.args.start c.args.stop c.args.front.now c.args.back.now
     c.args.place c.in_ok-between.between after (c.self-2.view_is ∙ c.place_after_wrap.ensures.same ∙ c.place_after.ensures.same)
-    (ap (λ (x : TextState). x.edited) c.in-Ok.ensures.ok) c.self-2.invariant.2 c.requires.text_place c.in_ok-between.ensures.text_place is in
-    (c.follow.ensures, c.self-2.invariant.1, keeps, c.self-2.invariant.3)
+    refl c.self-2.invariant.1 c.requires.text_place c.in_ok-between.ensures.text_place is in
+    let i = c.self-2.inside in
+    edited g.D.BidiData.data i.view i.row_cache i.own c.insert_pair.new.self _ c.in_ok-insert_pair.ensures.ok c.self-2.invariant.0 keeps c.self-2.invariant.2

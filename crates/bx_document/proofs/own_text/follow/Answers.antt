@@ -1,6 +1,6 @@
 use Rattle.std.proofs.Common.{arith}
 use Rattle.bx_index.proofs.Followed.{room_for_bytes}
-use Rattle.bx_document.proofs.edits.follow.Goals as goal
+use Rattle.bx_document.proofs.own_text.follow.Goals as goal
 
 pub edited-requires-clause-room : goal.edited-requires-clause-room
 edited-requires-clause-room g c =
