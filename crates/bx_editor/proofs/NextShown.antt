@@ -2,7 +2,7 @@
 use Rattle.std.proofs.Common.{◌≡◌, ◌≤◌, ◌+◌, ◌∙◌, ℕ, true, List, [], ◌∷◌, length, refl, ap, sym}
 use Rattle.std.specs.Prelude.{Option, Some, None, option_map, IsUtf8, if◌then◌else◌}
 use Rattle.bx_ucd.specs.Data.{Data}
-use Rattle.bx_find.specs.Matches.{first_from_by}
+use Rattle.bx_find.specs.Matches.{first_from}
 use Rattle.bx_text.specs.Edits.{IsRange, fits, splice}
 use Rattle.bx_view.specs.Moves.{place_at}
 use Rattle.bx_view.specs.TextRows.{TextRow}
@@ -21,13 +21,13 @@ module _ (d : Data) (e : Editor) (stop : ℕ) where
   text_with new = splice e.content.text e.at stop new
 
   abbrev pub first_with : List ℕ → Option ℕ
-  first_with new = first_from_by d (reading e.aim) (sought d e) (text_with new) (e.at + length new)
+  first_with new = first_from d (reading e.aim) (sought d e) (text_with new) (e.at + length new)
 
   match-with : (new : List ℕ) (n z : ℕ) → e.at ≤ length e.content.text
-      → next_match d (with_matches_replaced d e stop new n) z ≡ first_from_by d (reading e.aim) (sought d e) (text_with new) z
+      → next_match d (with_matches_replaced d e stop new n) z ≡ first_from d (reading e.aim) (sought d e) (text_with new) z
   match-with [] n z inside = refl
   match-with (b ∷ bs) n z inside =
-      ap (λ text. first_from_by d (reading e.aim) (sought d e) text z) (out-and-in e.content.text e.at stop (b ∷ bs) inside)
+      ap (λ text. first_from d (reading e.aim) (sought d e) text z) (out-and-in e.content.text e.at stop (b ∷ bs) inside)
 
   rows-with : (new : List ℕ) (n : ℕ) → e.at ≤ length e.content.text
       → rows d (with_matches_replaced d e stop new n) ≡ rows_of d e (text_with new)

@@ -1,5 +1,5 @@
 -- Where no step is made the text stays; behind a run's steps the past has the length that the run leads to.
-use Rattle.std.proofs.Common.{◌≡◌, ℕ, List, [], ◌∷◌, length, refl, ap}
+use Rattle.std.proofs.Common.{◌≡◌, ℕ, List, [], ◌∷◌, length, refl, ap, zero, suc, ◌+◌, ◌≤◌, ◌∙◌, arith}
 use Rattle.std.specs.Prelude.{Option, Some, None, is_some}
 use Rattle.std.specs.Option.{option_map}
 use Rattle.bx_text.specs.declared.change.Change.{Change}
@@ -9,8 +9,10 @@ use Rattle.bx_document.specs.History.{next_change, next_changes, stepped, steppe
 use Rattle.bx_document.specs.declared.history.HistoryStep.{HistoryStep}
 use Rattle.bx_document.specs.declared.history.HistoryStep.TheVariants.{Undo, Redo}
 use Rattle.bx_editor.specs.Editor.{Editor, cleared, nothing_left, with_step}
-use Rattle.bx_editor.specs.Runs.{by_run, is_changed_at, run_length}
-use Rattle.bx_editor.proofs.StoredText.{run-ends}
+use Rattle.bx_editor.specs.Runs.{by_run, is_changed_at, run_length, run_goal}
+use Rattle.bx_runs.specs.Runs.{run_end}
+use Rattle.bx_runs.proofs.Steps.{end-bound, end-last, end-same, start-bound}
+use Rattle.bx_editor.proofs.ManySteps.{past-again, past-back}
 
 pub no-step : (step : HistoryStep) (n : ℕ) (t : Edited) → next_changes step n t ≡ None → stepped_times step n t ≡ t
 no-step Undo n t none = nothing_undone n t.text t.past t.future (ap (λ c. is_some c) none)
@@ -35,6 +37,20 @@ none-mapped (Some change) is = absurd (cc is)
 pub cleared-length : (step : HistoryStep) (e : Editor) → run_length step (cleared e) ≡ run_length step e
 cleared-length Undo e = refl
 cleared-length Redo e = refl
+
+end-from : (numbers : List ℕ) (n left : ℕ) → n ≤ run_end numbers n (n + left)
+end-from numbers n zero = let same : n + 0 ≡ n = omega arith in omega (arith, ap (run_end numbers n) same ∙ end-same numbers n)
+end-from numbers n (suc left) = omega (arith, end-bound numbers n (n + suc left) (omega arith))
+
+pub run-ends : (way : HistoryStep) (e : Editor) → length (stepped_times way (run_length way e) e.content).past ≡ run_goal way e
+run-ends Undo e =
+    let n = length e.content.past in
+    past-back (run_length Undo e) e.content.text e.content.past e.content.future ∙ omega (arith, start-bound e.runs n)
+run-ends Redo e =
+    let n = length e.content.past in
+    let last = n + length e.content.future in
+    past-again (run_length Redo e) e.content.text e.content.past e.content.future (omega (arith, end-last e.runs n last))
+    ∙ omega (arith, end-from e.runs n (length e.content.future))
 
 -- what a run's steps leave, by the length of the past behind them
 abbrev pub by_length : HistoryStep → Editor → Option Change → Editor

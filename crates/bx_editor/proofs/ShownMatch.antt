@@ -1,16 +1,16 @@
 -- What holds while a match is shown, and while the other text is asked for.
 use Rattle.std.proofs.Common.{◌≡◌, ◌≢◌, ◌≤◌, ◌<◌, ◌+◌, ℕ, true, false, List, [], ◌∷◌, length, chars, drop}
-use Rattle.std.proofs.Common.{ap, subst, arith, IsUtf8}
-use Rattle.std.specs.Prelude.{Option, Some, None, MatchOption}
+use Rattle.std.proofs.Common.{ap, subst, arith, refl, IsUtf8}
+use Rattle.std.specs.Prelude.{Option, Some, None, IsNone, IsSome, MatchOption}
 use Rattle.std.proofs.lemmas.Bool.{and_parts}
 use Rattle.bx_terms.specs.Sizes.{largest_text}
 use Rattle.bx_ucd.specs.Data.{Data}
-use Rattle.bx_find.specs.Laws.{MatchesAtBy, IsFirstBy}
-use Rattle.bx_find.specs.Letters.{letters_of, letters_by}
-use Rattle.bx_find.specs.Matches.{is_match_by, is_some, first_from_by}
+use Rattle.bx_find.specs.Nearest.{MatchesAt, IsFirst}
+use Rattle.bx_find.specs.Letters.{letters_of, letters}
+use Rattle.bx_find.specs.Matches.{is_match, is_some, first_from}
 use Rattle.bx_find.specs.Spans.{match_end, spans_from}
 use Rattle.bx_find.specs.declared.reading.Reading.{Reading}
-use Rattle.bx_find.proofs.Nearest.{first_by_is}
+use Rattle.bx_find.proofs.Nearest.{first_is}
 use Rattle.bx_find.proofs.SpansOf.{span_found}
 use Rattle.bx_text.specs.Edits.{IsRange, splice}
 use Rattle.bx_view.specs.Places.{IsTextPlace}
@@ -26,28 +26,28 @@ use Rattle.bx_editor.proofs.MatchSpans.{no-more-than-bytes}
 
 -- ---- a match
 
-none-matches : (d : Data) (r : Reading) (cs : List ℕ) → is_match_by d r [] cs ≡ true → ⊥
+none-matches : (d : Data) (r : Reading) (cs : List ℕ) → is_match d r [] cs ≡ true → ⊥
 none-matches d r [] h = absurd (cc)
 none-matches d r (c ∷ cs) h = let both = and_parts (is_some (letters_of d r c)) false h in absurd (cc)
 
 -- a match is one of some letters
-pub some-letters : (d : Data) (r : Reading) (sought text : List ℕ) (at : ℕ) → MatchesAtBy d r sought text at → sought ≢ []
+pub some-letters : (d : Data) (r : Reading) (sought text : List ℕ) (at : ℕ) → MatchesAt d r sought text at → sought ≢ []
 some-letters d r sought text at h none =
-    none-matches d r (chars (drop at text)) (subst (λ (ls : List ℕ). is_match_by d r ls (chars (drop at text)) ≡ true) none h.1)
+    none-matches d r (chars (drop at text)) (subst (λ (ls : List ℕ). is_match d r ls (chars (drop at text)) ≡ true) none h.1)
 
 module _ (d : Data) (r : Reading) (sought text : List ℕ) (u : IsUtf8 text) where
   abbrev IsTold : ℕ → Option ℕ → Type 0
-  IsTold x o = MatchOption o ((i : ℕ) → x ≤ i → ¬ (MatchesAtBy d r sought text i)) (IsFirstBy d r sought text x)
+  IsTold x o = MatchOption o ((i : ℕ) → x ≤ i → ¬ (MatchesAt d r sought text i)) (IsFirst d r sought text x)
 
-  first-by : (x a : ℕ) (o : Option ℕ) → Some a ≡ o → IsTold x o → IsFirstBy d r sought text x a
+  first-by : (x a : ℕ) (o : Option ℕ) → Some a ≡ o → IsTold x o → IsFirst d r sought text x a
   first-by x a None e h = absurd (cc)
-  first-by x a (Some b) e h = let same : b ≡ a = cc in subst (IsFirstBy d r sought text x) same h
+  first-by x a (Some b) e h = let same : b ≡ a = cc in subst (IsFirst d r sought text x) same h
 
   -- what is found is the first
-  pub first-is : (x a : ℕ) → Some a ≡ first_from_by d r sought text x → IsFirstBy d r sought text x a
-  first-is x a e = first-by x a (first_from_by d r sought text x) e (first_by_is d r sought text x u)
+  pub first-is : (x a : ℕ) → Some a ≡ first_from d r sought text x → IsFirst d r sought text x a
+  first-is x a e = first-by x a (first_from d r sought text x) e (first_is d r sought text x u)
 
-  here-by : (at : ℕ) (o : Option ℕ) → IsTold at o → MatchesAtBy d r sought text at → Some at ≡ o
+  here-by : (at : ℕ) (o : Option ℕ) → IsTold at o → MatchesAt d r sought text at → Some at ≡ o
   here-by at None none h = absurd (none at (omega arith) h)
   here-by at (Some a) first h =
       let low : a ≤ at = first.least at (omega arith) h in
@@ -55,10 +55,15 @@ module _ (d : Data) (r : Reading) (sought text : List ℕ) (u : IsUtf8 text) whe
       ap (λ n. Some n) same
 
   -- the end of a match is behind its start
-  pub end-behind : (at : ℕ) → MatchesAtBy d r sought text at → at < match_end d r sought text at
-  end-behind at h = (span_found d r sought text u at at (here-by at _ (first_by_is d r sought text at u) h)).1.0
+  pub end-behind : (at : ℕ) → MatchesAt d r sought text at → at < match_end d r sought text at
+  end-behind at h = (span_found d r sought text u at at (here-by at _ (first_is d r sought text at u) h)).1.0
 
 -- ---- while it is shown
+
+-- what is not none is some
+pub some-if : {A : Type 0} (o : Option A) → ¬ (IsNone o) → IsSome o
+some-if None h = absurd (h refl)
+some-if (Some a) h = refl
 
 -- an editor's state that is seen in another way shows the same match
 pub shown-in : {D : Type 0} (says : D → Data) (was now : EditorState D) → was ≡ now → now.editor.seek ≡ Replacing
@@ -73,8 +78,8 @@ shown-in {D = D} says was now same is h =
 
 module _ (d : Data) (aim : Aim) (query text : List ℕ) where
   -- the query's letters
-  abbrev pub letters : List ℕ
-  letters = letters_by d (reading aim) (chars query)
+  abbrev pub query-letters : List ℕ
+  query-letters = letters d (reading aim) (chars query)
 
   pub at-match : (seek : Seek) (at count : ℕ) → seek ≡ Replacing → StandsAt d aim query text seek at count
       → IsAtMatch d aim query text at count
@@ -82,30 +87,30 @@ module _ (d : Data) (aim : Aim) (query text : List ℕ) where
 
   -- one more may be replaced
   pub room-for-one : (at count : ℕ) → IsUtf8 text → IsAtMatch d aim query text at count → (stop : ℕ)
-      → stop ≡ match_end d (reading aim) letters text at → stop ≤ length text → count + 1 ≤ largest_text
-  room-for-one at count u h stop is inside = omega (arith, h.few, inside, is, end-behind d (reading aim) letters text u at h.here)
+      → stop ≡ match_end d (reading aim) query-letters text at → stop ≤ length text → count + 1 ≤ largest_text
+  room-for-one at count u h stop is inside = omega (arith, h.few, inside, is, end-behind d (reading aim) query-letters text u at h.here)
 
   -- all that follow may be replaced
   pub room-for-all : (at count : ℕ) → IsUtf8 text → IsAtMatch d aim query text at count
-      → last_stop at (spans_from d (reading aim) letters text at) ≤ length text
-      → count + length (spans_from d (reading aim) letters text at) ≤ largest_text
-  room-for-all at count u h inside = omega (arith, h.few, inside, no-more-than-bytes d (reading aim) letters text u at)
+      → last_stop at (spans_from d (reading aim) query-letters text at) ≤ length text
+      → count + length (spans_from d (reading aim) query-letters text at) ≤ largest_text
+  room-for-all at count u h inside = omega (arith, h.few, inside, no-more-than-bytes d (reading aim) query-letters text u at)
 
   -- at a later match
   pub passed-over : (at count x next : ℕ) → IsUtf8 text → IsAtMatch d aim query text at count → at ≤ x
-      → Some next ≡ first_from_by d (reading aim) letters text x → IsAtMatch d aim query text next count
+      → Some next ≡ first_from d (reading aim) query-letters text x → IsAtMatch d aim query text next count
   passed-over at count x next u h on is =
-      let first = first-is d (reading aim) letters text u x next is in
+      let first = first-is d (reading aim) query-letters text u x next is in
       record { here = first.is_match; few = omega (arith, h.few, on, first.not_before) }
 
   -- at the next match once this one was replaced
   pub replaced-one : (at count stop next : ℕ) (new : List ℕ) → IsUtf8 text → IsUtf8 (splice text at stop new)
-      → IsAtMatch d aim query text at count → IsRange text at stop → stop ≡ match_end d (reading aim) letters text at
-      → Some next ≡ first_from_by d (reading aim) letters (splice text at stop new) (at + length new)
+      → IsAtMatch d aim query text at count → IsRange text at stop → stop ≡ match_end d (reading aim) query-letters text at
+      → Some next ≡ first_from d (reading aim) query-letters (splice text at stop new) (at + length new)
       → IsAtMatch d aim query (splice text at stop new) next (count + 1)
   replaced-one at count stop next new u v h range is found =
-      let first = first-is d (reading aim) letters (splice text at stop new) v (at + length new) next found in
-      let less = end-behind d (reading aim) letters text u at h.here in
+      let first = first-is d (reading aim) query-letters (splice text at stop new) v (at + length new) next found in
+      let less = end-behind d (reading aim) query-letters text u at h.here in
       let bounds = range.stop_bounds in
       record {
         here = first.is_match;
@@ -125,9 +130,9 @@ module _ (d : Data) (aim : Aim) (query text : List ℕ) where
 
   -- the first match is shown
   pub shown : (at count x : ℕ) → IsUtf8 text → length text ≤ largest_text → IsAsked d aim query count
-      → Some at ≡ first_from_by d (reading aim) letters text x → IsAtMatch d aim query text at count
+      → Some at ≡ first_from d (reading aim) query-letters text x → IsAtMatch d aim query text at count
   shown at count x u short h is =
-      record { here = (first-is d (reading aim) letters text u x at is).is_match; few = omega (arith, h.none, short) }
+      record { here = (first-is d (reading aim) query-letters text u x at is).is_match; few = omega (arith, h.none, short) }
 
 pub asked-began : (d : Data) (text : List ℕ) (seek : Seek) (origin : ℕ) → asks_other seek ≡ true → BeganAt d text seek origin
     → IsTextPlace d text origin

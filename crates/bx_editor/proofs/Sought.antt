@@ -4,7 +4,7 @@ use Rattle.std.proofs.Common.{ltb-true, ne_eqb, if◌then◌else◌}
 use Rattle.std.specs.Prelude.{◌==◌, find, not, unwrap_or}
 use Rattle.bx_ucd.specs.Data.{Data}
 use Rattle.bx_find.specs.declared.reading.Reading.{Reading}
-use Rattle.bx_find.specs.Matches.{first_from_by, last_before_by}
+use Rattle.bx_find.specs.Matches.{first_from, last_before}
 use Rattle.bx_view.specs.Places.{IsTextPlace}
 use Rattle.bx_view.specs.TextRows.{TextRow}
 use Rattle.bx_editor.specs.declared.aim.Aim.TheVariants as aims
@@ -29,15 +29,15 @@ began d text Replacing origin is = is
 
 pub forward-some : (d : Data) (r : Reading) (rows : List TextRow) (text : List ℕ) (x : ℕ) (sought : List ℕ) → (sought ≡ [] → ⊥)
     → forward d r rows text x sought
-    ≡ match_or rows None (match_or rows (Some FromStart) not_found (first_from_by d r sought text 0))
-    (first_from_by d r sought text x)
+    ≡ match_or rows None (match_or rows (Some FromStart) not_found (first_from d r sought text 0))
+    (first_from d r sought text x)
 forward-some d r rows text x [] some = absurd (some refl)
 forward-some d r rows text x (c ∷ cs) some = refl
 
 pub backward-some : (d : Data) (r : Reading) (rows : List TextRow) (text : List ℕ) (x : ℕ) (sought : List ℕ) → (sought ≡ [] → ⊥)
     → backward d r rows text x sought
-    ≡ match_or rows None (match_or rows (Some FromEnd) not_found (last_before_by d r sought text (length text)))
-    (last_before_by d r sought text x)
+    ≡ match_or rows None (match_or rows (Some FromEnd) not_found (last_before d r sought text (length text)))
+    (last_before d r sought text x)
 backward-some d r rows text x [] some = absurd (some refl)
 backward-some d r rows text x (c ∷ cs) some = refl
 

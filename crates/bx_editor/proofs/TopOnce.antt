@@ -5,8 +5,9 @@ use Rattle.bx_view.specs.Laws.{MovesLeast}
 use Rattle.bx_view.specs.Top.{follow}
 use Rattle.bx_view.proofs.LeastMove.{text-moves-least}
 use Rattle.bx_paragraph.proofs.Starts.{side-some}
-use Rattle.bx_editor.specs.Editor.{rows, text_height}
-use Rattle.bx_editor.specs.Laws.{TopStays}
+use Rattle.bx_editor.specs.Editor.{rows, text_height, Editor, HasRows}
+use Rattle.bx_ucd.specs.Data.{Data}
+use Rattle.bx_editor.specs.Picture.{next_top}
 
 height-some : (height : ℕ) → 0 < text_height height
 height-some height = go (nat_le 2 height) refl
@@ -21,7 +22,7 @@ once : (ended : Bool) (top : ℕ) (F : ℕ → ℕ) → F (F top) ≡ F top → 
 once true top F stays = refl
 once false top F stays = stays
 
-pub top-stays : TopStays
+pub top-stays : (d : Data) (e : Editor) (top : ℕ) → HasRows e → next_top d e (next_top d e top) ≡ next_top d e top
 top-stays d e top has =
     let least : MovesLeast (rows d e) = text-moves-least d e.base e.width e.content.text (side-some e.width has.columns) has.text in
     let F : ℕ → ℕ = λ t. follow (rows d e) t e.place (text_height e.height) in

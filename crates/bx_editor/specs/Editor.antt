@@ -1,5 +1,5 @@
--- The editor's state, and its changes. Offsets and places count bytes of the text.
-use Rattle.std.specs.Prelude.{ℕ, ◌+◌, ◌-◌, Bool, true, false, not, ◌||◌, nat_le, nat_lt, List, [], ◌∷◌, length, Option, Some, None, if◌then◌else◌}
+-- The editor's state, and its changes. Offsets and places count bytes of the text. `d` is Unicode's data, `e` the editor.
+use Rattle.std.specs.Prelude.{ℕ, ◌+◌, ◌-◌, Bool, true, false, not, ◌||◌, nat_le, nat_lt, List, [], ◌∷◌, length, Option, Some, None, if◌then◌else◌, ◌≡◌, IsUtf8}
 use Rattle.bx_terms.specs.declared.base.Base.{Base}
 use Rattle.bx_terms.specs.declared.base.Base.TheVariants.{Auto, Ltr, Rtl}
 use Rattle.bx_asking.specs.declared.question.Ask.{Ask}
@@ -23,7 +23,9 @@ use Rattle.bx_runs.specs.declared.typing.Typing.{Typing}
 use Rattle.bx_runs.specs.declared.typing.Typing.TheVariants as typings
 use Rattle.bx_runs.specs.Runs.{edited}
 use Rattle.bx_ucd.specs.Data.{Data}
+use Rattle.bx_terms.specs.Sizes.{is_side}
 
+-- an editor's state, without Unicode's tables; which row is shown first is the session's
 pub record Editor : Type 0 where
   -- the text, with its past and its future
   pub content : Edited
@@ -31,12 +33,13 @@ pub record Editor : Type 0 where
   pub place : ℕ
   -- the mark's place: the region lies between it and the cursor's place
   pub mark : Option ℕ
-  -- whether the mark was set by a selection, and a key was pressed since
+  -- how fresh a selection is
   pub soft : Soft
   -- the text copied or cut last, in UTF-8
   pub held : List ℕ
   -- the query of the search, or of the latest one: at most 64 characters, in UTF-8
   pub query : List ℕ
+  -- how far the search is
   pub seek : Seek
   -- what the search, or the latest one, is for
   pub aim : Aim
@@ -119,12 +122,14 @@ text_height height = if nat_le 2 height then height - 1 else 1
 
 -- ---- edits: each that changes the text removes the mark and ends the search
 
--- an edit made at a smaller length of the past loses the text that was stored
+-- `stored` once an edit was made where the past has `n` edits: a stored text with a longer past is reached no more, since an edit
+-- drops what could be redone
 abbrev pub stored_behind : ℕ → Option ℕ → Option ℕ
 stored_behind n None = None
 stored_behind n (Some stored) = if nat_lt n stored then None else Some stored
 
--- the text, with its past and future, once it was edited at the place `place`; the edit goes on with the run before, or begins one
+-- the editor once the text was edited: `content` with its past and future, and the cursor's new place. `goes_on`: the edit goes on
+-- with the run before; else it begins one
 abbrev pub with_edit : Editor → Edited → ℕ → Bool → Editor
 with_edit e content place goes_on =
     let n = length e.content.past in
@@ -166,11 +171,12 @@ with_exchange d e start stop (b ∷ bs) = with_insertion_at d (with_removal d e 
 
 -- ---- undo and redo
 
--- the text after undoing or redoing, with the cursor at this place
+-- the text after undoing or redoing, with the cursor at this place. `changed`: it counts as changed
 abbrev pub with_step : Editor → Edited → ℕ → Bool → Editor
 with_step e content place changed = record e { content = content; place = place; mark = None; soft = softness.Off; seek = seeks.Off; changed = changed }
 
--- the latest edit is undone, and the cursor returns to its place before it
+-- the latest edit is undone, and the cursor returns to its place before it. One edit undone or redone counts as a change, even where
+-- it gives the stored text again
 abbrev pub after_undo : Editor → List Edit → Editor
 after_undo e [] = record e { message = Some messages.NothingToUndo }
 after_undo e (edit ∷ past) = with_step e (undone e.content) edit.before.place true
@@ -180,6 +186,7 @@ abbrev pub after_redo : Editor → List Edit → Editor
 after_redo e [] = record e { message = Some messages.NothingToRedo }
 after_redo e (edit ∷ future) = with_step e (redone e.content) edit.after.place true
 
+-- one edit is undone, or redone
 abbrev pub after_step : HistoryStep → Editor → Editor
 after_step steps.Undo e = after_undo e e.content.past
 after_step steps.Redo e = after_redo e e.content.future
@@ -203,22 +210,26 @@ after_quit e again =
     then record e { quit_before = true; ended = true }
     else record e { quit_before = true; message = Some messages.Unsaved }
 
+-- the next base direction in the cycle Auto, Ltr, Rtl
 abbrev pub next_base : Base → Base
 next_base Auto = Ltr
 next_base Ltr = Rtl
 next_base Rtl = Auto
 
+-- paragraphs get this base direction, and it is told
 abbrev pub with_base : Editor → Base → Editor
 with_base e base = record e { base = base; message = Some (messages.Direction base) }
 
--- the control keys are listed, or the others, if the message before listed the first ones
+-- the first list of keys, or the second one if the message before was the first
 abbrev pub help_behind : Option Message → Message
 help_behind (Some messages.Help) = messages.MoreHelp
 help_behind _ = messages.Help
 
+-- `told`: the message before
 abbrev pub after_help : Editor → Option Message → Editor
 after_help e told = record e { message = Some (help_behind told) }
 
+-- the window gets this size, in rows and columns
 abbrev pub with_size : Editor → ℕ → ℕ → Editor
 with_size e height width = record e { height = height; width = width }
 
@@ -236,3 +247,8 @@ with_notice e notice = record e { message = Some (messages.Notice notice) }
 -- what a key that the user presses finds: no message, no earlier Quit, and nothing that the next edit goes on with
 abbrev pub cleared : Editor → Editor
 cleared e = record e { message = None; quit_before = false; typing = typings.Off }
+
+-- the text is UTF-8 and the window has from 1 to 500 columns, as in every editor of the code
+pub record HasRows (e : Editor) : Type 0 where
+  pub text : IsUtf8 e.content.text
+  pub columns : is_side e.width ≡ true

@@ -19,9 +19,3 @@ pub mod Replay
 pub mod Opening
 pub mod Picture
 pub mod Status
-pub mod Laws
-pub mod WorkLaws
-pub mod RunLaws
-pub mod SelectionLaws
-pub mod AskingLaws
-pub mod ReplaceLaws

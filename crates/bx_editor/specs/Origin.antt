@@ -1,9 +1,9 @@
--- What holds in each state of a search.
+-- What holds in each state of a search. `d` is Unicode's data, `at` the offset of a match.
 use Rattle.std.specs.Prelude.{◌≡◌, ◌≢◌, ℕ, ◌+◌, ◌-◌, ◌≤◌, Bool, true, false, List, [], length, chars}
 use Rattle.bx_terms.specs.Sizes.{largest_text}
 use Rattle.bx_ucd.specs.Data.{Data}
-use Rattle.bx_find.specs.Laws.{MatchesAtBy}
-use Rattle.bx_find.specs.Letters.{letters_by}
+use Rattle.bx_find.specs.Nearest.{MatchesAt}
+use Rattle.bx_find.specs.Letters.{letters}
 use Rattle.bx_view.specs.Places.{IsTextPlace}
 use Rattle.bx_editor.specs.declared.aim.Aim.{Aim}
 use Rattle.bx_editor.specs.declared.seek.Seek.{Seek}
@@ -21,14 +21,16 @@ BeganAt d text Replacing origin = IsTextPlace d text origin
 
 -- while the other text is asked for, the query has letters, and no match was replaced
 pub record IsAsked (d : Data) (aim : Aim) (query : List ℕ) (count : ℕ) : Type 0 where
-  pub letters : letters_by d (reading aim) (chars query) ≢ []
+  pub some : letters d (reading aim) (chars query) ≢ []
   pub none : count ≡ 0
 
--- a match that is shown is one, and no more were replaced than a text has bytes
+-- a match begins at the offset `at`, and the number of the replaced matches with that of the bytes from `at` on is at most the
+-- greatest length of a text, so that it can count all matches that follow
 pub record IsAtMatch (d : Data) (aim : Aim) (query text : List ℕ) (at count : ℕ) : Type 0 where
-  pub here : MatchesAtBy d (reading aim) (letters_by d (reading aim) (chars query)) text at
+  pub here : MatchesAt d (reading aim) (letters d (reading aim) (chars query)) text at
   pub few : count + (length text - at) ≤ largest_text
 
+-- what holds, in each state, of the match's offset and the number of the replaced matches
 abbrev pub StandsAt : Data → Aim → List ℕ → List ℕ → Seek → ℕ → ℕ → Type 0
 StandsAt d aim query text WithBegun at count = IsAsked d aim query count
 StandsAt d aim query text WithTyped at count = IsAsked d aim query count

@@ -3,11 +3,11 @@ ghost use Rattle.std.specs.Prelude.{◌≡◌, IfOk, OnErr, OnOk};
 ghost use Rattle.bx_view.specs.Places.{IsTextPlace};
 ghost use Rattle.bx_asking.specs.Answers.{lengthened};
 ghost use Rattle.bx_asking.specs.Codes.{coded};
-ghost use Rattle.bx_asking.specs.Names.{closing};
+ghost use Rattle.bx_asking.specs.Names.{closing, named};
 ghost use Rattle.bx_document.specs.QueryRow.{IsNarrow};
 ghost use Rattle.bx_editor.specs.Answers.{limit_of};
-ghost use Rattle.bx_editor.specs.Asking.{after_answer_letter, after_code, after_going, after_line_letter, after_named, after_shorter_answer, asking};
-ghost use Rattle.bx_editor.specs.Asking.{target_place, with_answer, with_character, without_ask};
+ghost use Rattle.bx_editor.specs.Asking.{after_answer_letter, after_code, after_code_letter, after_going, after_line_letter, after_name_letter};
+ghost use Rattle.bx_editor.specs.Asking.{after_named, after_shorter_answer, asking, target_place, with_answer, with_character, without_ask};
 ghost use Rattle.bx_editor.specs.Editor.{cleared, with_typing};
 ghost use Rattle.bx_editor.specs.Putting.{only_paste};
 
@@ -22,11 +22,17 @@ use bx_runs::{Kind, Typing};
 use bx_terms::OutOfMemory;
 use bx_ucd::BidiData;
 
-/// The most characters of the answer to the question for a line.
-const LONGEST_LINE: usize = 16;
-
-/// The most digits of a code.
-const LONGEST_CODE: usize = 6;
+/// The most characters of the answer to a question: `longest_line` and `longest_code` of specs/Asking.antt, where their reasons are.
+/// A name has none, since its one letter answers; without a question the answer is the latest one.
+fn limit_of(ask: Ask) -> usize
+    ensures { result ≡ limit_of ask }
+{
+    match ask {
+        Ask::Off | Ask::Line => 16,
+        Ask::Name => 0,
+        Ask::Code => 6,
+    }
+}
 
 impl<D: BidiData + Drop> Editor<D> {
     /// Asks, with an empty answer. Allocates nothing.
@@ -45,28 +51,28 @@ impl<D: BidiData + Drop> Editor<D> {
         self.ask = Ask::Off;
     }
 
-    /// Appends a character to the answer, unless it has its limit.
-    fn lengthen(&mut self, c: char, limit: usize) -> Result<(), OutOfMemory>
-        requires limit { limit ≡ limit_of self.old.editor.ask }
+    /// Appends a character to the answer, unless it has as many as it may.
+    fn lengthen(&mut self, c: char) -> Result<(), OutOfMemory>
         requires narrow { IsNarrow c }
         ensures ok { OnOk result (self.new ≡ record self.old {
-          editor = with_answer (cleared self.old.editor) (lengthened limit self.old.editor.answer c);
+          editor = with_answer (cleared self.old.editor) (lengthened (limit_of self.old.editor.ask) self.old.editor.answer c);
         }) }
         ensures err { OnErr result (self.new ≡ self.old) }
     {
+        let limit = limit_of(self.ask);
         let answer = lengthened(*self.answer.allocator(), self.answer.as_str(), c, limit)?;
         self.answer = answer;
         self.clear();
         Ok(())
     }
 
-    /// The place of a paragraph and a unit in it; without a paragraph, in the place's own.
+    /// The place of a paragraph and a unit in it; without a paragraph, of that unit of the paragraph where the cursor is.
     fn place_of(&mut self, target: Target) -> Result<usize, OutOfMemory>
         ensures same { self.new ≡ self.old }
         ensures place { IfOk result (λ o. o ≡ target_place (D.data self.old.tables) self.old.editor target) }
         ensures text_place { IfOk result (IsTextPlace (D.data self.old.tables) self.old.editor.content.text) }
     {
-        let own = self.document.paragraph_at(self.place);
+        let own = self.document.paragraph_at(self.cursor.place);
         let paragraph = target.paragraph.unwrap_or(own);
         self.document.place_of(paragraph, target.unit)
     }
@@ -100,7 +106,7 @@ impl<D: BidiData + Drop> Editor<D> {
         if c == '\n' && !is_paste(typing) {
             self.go()?;
         } else if is_line_letter(c) {
-            self.lengthen(c, LONGEST_LINE)?;
+            self.lengthen(c)?;
         } else {
             self.clear();
         }
@@ -108,13 +114,14 @@ impl<D: BidiData + Drop> Editor<D> {
         Ok(())
     }
 
-    /// Puts a character in as Insert does, but in no selection's place.
+    /// Puts a character in at the place, as the beginning of a run; a selection's text stays.
     fn put_character(&mut self, c: char) -> Result<(), OutOfMemory>
         ensures ok { OnOk result (self.new ≡ record self.old {
           editor = with_character (D.data self.old.tables) (cleared self.old.editor) c;
         }) }
         ensures err { OnErr result (self.new ≡ self.old) }
     {
+        // a character has at most four bytes
         let mut buffer = [0; 4];
         let new = c.encode_utf8(&mut buffer);
         let kind = Kind::of(self.document.class(c));
@@ -128,7 +135,7 @@ impl<D: BidiData + Drop> Editor<D> {
         Ok(())
     }
 
-    /// Puts the character that a letter names in, around the region if it begins what another character ends.
+    /// Puts in `c`, which a letter names; if it begins what another character ends, puts both around the region, if there is one.
     fn put_named(&mut self, letter: char, c: char) -> Result<(), OutOfMemory>
         ensures ok { OnOk result (self.new ≡ record self.old {
           editor = after_named (D.data self.old.tables) (cleared self.old.editor) c (closing letter);
@@ -142,18 +149,14 @@ impl<D: BidiData + Drop> Editor<D> {
         }
     }
 
-    /// Takes a letter that names a character; a paste answers nothing.
+    /// Takes a letter that names a character.
     fn answer_name(&mut self, letter: char) -> Result<(), OutOfMemory>
         requires ask { self.old.editor.ask ≡ Ask.Name }
         ensures ok { OnOk result (self.new ≡ record self.old {
-          editor = after_answer_letter (D.data self.old.tables) self.old.editor.typing Ask.Name (cleared self.old.editor) letter;
+          editor = after_name_letter (D.data self.old.tables) (cleared self.old.editor) letter (named letter);
         }) }
         ensures err { OnErr result (self.new ≡ self.old) }
     {
-        if is_paste(self.typing) {
-            self.rest();
-            return Ok(());
-        }
         if let Some(c) = named(letter) {
             self.put_named(letter, c)?;
             self.leave_question();
@@ -184,31 +187,27 @@ impl<D: BidiData + Drop> Editor<D> {
         }
     }
 
-    /// Takes a digit of a code, or its end; a paste answers nothing.
+    /// Takes a digit of a code, or LF, which ends it.
     fn answer_code(&mut self, letter: char) -> Result<(), OutOfMemory>
         requires ask { self.old.editor.ask ≡ Ask.Code }
         ensures ok { OnOk result (self.new ≡ record self.old {
-          editor = after_answer_letter (D.data self.old.tables) self.old.editor.typing Ask.Code (cleared self.old.editor) letter;
+          editor = after_code_letter (D.data self.old.tables) (cleared self.old.editor) letter;
         }) }
         ensures err { OnErr result (self.new ≡ self.old) }
     {
-        if is_paste(self.typing) {
-            self.rest();
-            return Ok(());
-        }
         if letter == '\n' {
             self.put_coded()?;
             self.leave_question();
             return Ok(());
         }
         if is_code_letter(letter) {
-            return self.lengthen(letter, LONGEST_CODE);
+            return self.lengthen(letter);
         }
         self.clear();
         Ok(())
     }
 
-    /// Takes a typed character as part of the answer.
+    /// Takes a typed character as part of the answer. What is pasted answers no question for a character.
     pub(crate) fn answer_question(&mut self, c: char) -> Result<(), OutOfMemory>
         ensures ok { OnOk result (self.new ≡ record self.old {
           editor = after_answer_letter (D.data self.old.tables) self.old.editor.typing self.old.editor.ask (cleared self.old.editor) c;
@@ -221,6 +220,10 @@ impl<D: BidiData + Drop> Editor<D> {
                 Ok(())
             }
             Ask::Line => self.answer_line(c),
+            Ask::Name | Ask::Code if is_paste(self.typing) => {
+                self.rest();
+                Ok(())
+            }
             Ask::Name => self.answer_name(c),
             Ask::Code => self.answer_code(c),
         }

@@ -9,27 +9,28 @@ ghost use Rattle.bx_editor.specs.Editor.{with_size};
 ghost use Rattle.bx_editor.specs.Search.{without_search};
 
 use crate::aim::Aim;
+use crate::cursor::Cursor;
 use crate::message::Message;
+use crate::past::Past;
 use crate::seek::Seek;
 use crate::soft::Soft;
 use bx_asking::Ask;
 use bx_document::Document;
-use bx_runs::{Runs, Typing};
+use bx_runs::Typing;
 use bx_text::Slices;
 use bx_ucd::BidiData;
 use std::marker::Model;
 
 /// A text under edit, the cursor's place in it, the mark, the text copied or cut last, the query of a search, and the message
-/// of the last key, in a window of rows and columns.
+/// of the last key, in a window of rows and columns. `specs/Editor.antt` says what each field means and counts; `view` says which
+/// of its fields are in `document`, `cursor` and `past`. 64: `LONGEST_QUERY`.
 #[derive(Drop)]
 pub struct Editor<D: BidiData + Drop> {
     pub(crate) document: Document<D>,
-    pub(crate) place: usize,
-    pub(crate) mark: Option<usize>,
-    pub(crate) soft: Soft,
+    pub(crate) cursor: Cursor,
+    pub(crate) past: Past,
     pub(crate) held: String,
     pub(crate) query: String,
-    pub(crate) seek: Seek,
     pub(crate) aim: Aim,
     pub(crate) origin: usize,
     pub(crate) other: String,
@@ -37,10 +38,7 @@ pub struct Editor<D: BidiData + Drop> {
     pub(crate) count: usize,
     pub(crate) ask: Ask,
     pub(crate) answer: String,
-    pub(crate) runs: Runs,
     pub(crate) typing: Typing,
-    pub(crate) stored: Option<usize>,
-    pub(crate) changed: bool,
     pub(crate) message: Option<Message>,
     pub(crate) quit_before: bool,
     pub(crate) ended: bool,
@@ -62,12 +60,12 @@ impl<D: BidiData + Drop> Model for Editor<D> {
       tables = e.document.tables;
       editor = record {
         content = e.document.document.content;
-        place = e.place;
-        mark = e.mark;
-        soft = e.soft;
+        place = e.cursor.place;
+        mark = e.cursor.mark;
+        soft = e.cursor.soft;
         held = string_bytes e.held;
         query = string_bytes e.query;
-        seek = e.seek;
+        seek = e.cursor.seek;
         aim = e.aim;
         origin = e.origin;
         other = string_bytes e.other;
@@ -75,10 +73,10 @@ impl<D: BidiData + Drop> Model for Editor<D> {
         count = e.count;
         ask = e.ask;
         answer = string_bytes e.answer;
-        runs = e.runs.numbers;
+        runs = e.past.runs.numbers;
         typing = e.typing;
-        stored = e.stored;
-        changed = e.changed;
+        stored = e.past.stored;
+        changed = e.past.changed;
         message = e.message;
         quit_before = e.quit_before;
         ended = e.ended;
@@ -89,14 +87,14 @@ impl<D: BidiData + Drop> Model for Editor<D> {
       };
     } };
 
-    ghost invariant = { λ e. IsTextPlace (D.data e.document.tables) e.document.document.content.text e.place
+    ghost invariant = { λ e. IsTextPlace (D.data e.document.tables) e.document.document.content.text e.cursor.place
         × (is_side e.height ≡ true)
-        × IfSome e.mark (IsTextPlace (D.data e.document.tables) e.document.document.content.text)
+        × IfSome e.cursor.mark (IsTextPlace (D.data e.document.tables) e.document.document.content.text)
         × (length (chars (string_bytes e.query)) ≤ 64)
         × (length (chars (string_bytes e.other)) ≤ 64)
         × IsAnswer e.ask (string_bytes e.answer)
-        × BeganAt (D.data e.document.tables) e.document.document.content.text e.seek e.origin
-        × StandsAt (D.data e.document.tables) e.aim (string_bytes e.query) e.document.document.content.text e.seek e.at e.count };
+        × BeganAt (D.data e.document.tables) e.document.document.content.text e.cursor.seek e.origin
+        × StandsAt (D.data e.document.tables) e.aim (string_bytes e.query) e.document.document.content.text e.cursor.seek e.at e.count };
 }
 
 impl<D: BidiData + Drop> Editor<D> {
@@ -113,8 +111,8 @@ impl<D: BidiData + Drop> Editor<D> {
     pub fn count_as_changed(&mut self)
         ensures { self.new ≡ record self.old { editor = record self.old.editor { stored = None; changed = true } } }
     {
-        self.stored = None;
-        self.changed = true;
+        self.past.stored = None;
+        self.past.changed = true;
     }
 
     /// The text in consecutive pieces. Allocates nothing.
@@ -132,25 +130,25 @@ impl<D: BidiData + Drop> Editor<D> {
         self.ended
     }
 
-    /// Whether there was an edit since the opening or the last save. Allocates nothing.
+    /// Whether there was an edit since the opening or the last save, or the text is not the stored one. Allocates nothing.
     pub fn changed(&self) -> bool
         ensures { result ≡ self.now.editor.changed }
     {
-        self.changed
+        self.past.changed
     }
 
     /// The cursor's place, in bytes from 0. Allocates nothing.
     pub fn place(&self) -> usize
         ensures { result ≡ self.now.editor.place }
     {
-        self.place
+        self.cursor.place
     }
 
     /// The mark's place, if there is a mark. Allocates nothing.
     pub fn mark(&self) -> Option<usize>
         ensures { result ≡ self.now.editor.mark }
     {
-        self.mark
+        self.cursor.mark
     }
 
     /// The text that was copied or cut last. Allocates nothing.
@@ -174,11 +172,11 @@ impl<D: BidiData + Drop> Editor<D> {
         self.other.as_str()
     }
 
-    /// Whether a search is on. Allocates nothing.
+    /// How far the search is. Allocates nothing.
     pub fn seek(&self) -> Seek
         ensures { result ≡ self.now.editor.seek }
     {
-        self.seek
+        self.cursor.seek
     }
 
     /// What the search, or the latest one, is for. Allocates nothing.
@@ -222,6 +220,6 @@ impl<D: BidiData + Drop> Editor<D> {
     pub(crate) fn leave_search(&mut self)
         ensures { self.new ≡ record self.old { editor = without_search self.old.editor } }
     {
-        self.seek = Seek::Off;
+        self.cursor.seek = Seek::Off;
     }
 }

@@ -8,7 +8,6 @@ ghost use Rattle.bx_editor.specs.Erasing.{after_erasing, after_erasing_word, aft
 ghost use Rattle.bx_editor.specs.Region.{region};
 ghost use Rattle.bx_runs.specs.declared.typing.Removal.{Removal};
 
-use crate::editing::{settle, stored_behind};
 use crate::editor::Editor;
 use bx_runs::Removal;
 use bx_terms::OutOfMemory;
@@ -29,19 +28,11 @@ impl<D: BidiData + Drop> Editor<D> {
         }) }
         ensures err { OnErr result (self.new ≡ self.old) }
     {
-        self.runs.reserve()?;
+        self.past.runs.reserve()?;
         let n = self.document.past_len();
-        let place = self.document.remove(start, stop, self.place)?;
-        self.runs.edited(n, goes_on);
-        self.stored = stored_behind(n, self.stored);
-        settle(
-            &mut self.place,
-            &mut self.mark,
-            &mut self.soft,
-            &mut self.seek,
-            place,
-        );
-        self.changed = true;
+        let place = self.document.remove(start, stop, self.cursor.place)?;
+        self.past.edited(n, goes_on);
+        self.cursor.settle(place);
         self.clear();
         Ok(())
     }
@@ -99,9 +90,7 @@ impl<D: BidiData + Drop> Editor<D> {
             (rows (D.data self.old.tables) self.old.editor) back self.old.editor.place) }
         ensures range { IfOk result (λ p. IsRange self.old.editor.content.text p self.old.editor.place) }
     {
-        // proof only: the text is UTF-8
-        let _utf8 = self.document.len();
-        let place = self.document.moved(back, self.place)?;
+        let place = self.document.moved(back, self.cursor.place)?;
         Ok(place)
     }
 
@@ -113,9 +102,7 @@ impl<D: BidiData + Drop> Editor<D> {
             (rows (D.data self.old.tables) self.old.editor) on self.old.editor.place) }
         ensures range { IfOk result (λ p. IsRange self.old.editor.content.text self.old.editor.place p) }
     {
-        // proof only: the text is UTF-8
-        let _utf8 = self.document.len();
-        let place = self.document.moved(on, self.place)?;
+        let place = self.document.moved(on, self.cursor.place)?;
         Ok(place)
     }
 
@@ -131,7 +118,7 @@ impl<D: BidiData + Drop> Editor<D> {
             return self.remove_selection();
         }
         let start = self.back_by(Move::Logical(Logical::Back))?;
-        self.remove_on(Removal::Erase, start, self.place)
+        self.remove_on(Removal::Erase, start, self.cursor.place)
     }
 
     /// Removes the last point of the unit before the place; if its last character is no point, the unit. A selection is removed
@@ -147,8 +134,8 @@ impl<D: BidiData + Drop> Editor<D> {
             return self.remove_selection();
         }
         let unit = self.back_by(Move::Logical(Logical::Back))?;
-        let start = self.document.start_of_point(unit, self.place)?;
-        self.remove_on(Removal::Erase, start, self.place)
+        let start = self.document.start_of_point(unit, self.cursor.place)?;
+        self.remove_on(Removal::Erase, start, self.cursor.place)
     }
 
     /// Removes the unit after the place, or the selection.
@@ -163,7 +150,7 @@ impl<D: BidiData + Drop> Editor<D> {
             return self.remove_selection();
         }
         let stop = self.on_by(Move::Logical(Logical::Forward))?;
-        self.remove_on(Removal::Delete, self.place, stop)
+        self.remove_on(Removal::Delete, self.cursor.place, stop)
     }
 
     /// Removes all from the word stop before the place, or the selection.
@@ -178,7 +165,7 @@ impl<D: BidiData + Drop> Editor<D> {
             return self.remove_selection();
         }
         let start = self.back_by(Move::Word(Logical::Back))?;
-        self.remove_alone(start, self.place)
+        self.remove_alone(start, self.cursor.place)
     }
 
     /// Removes all up to the word stop after the place, or the selection.
@@ -193,6 +180,6 @@ impl<D: BidiData + Drop> Editor<D> {
             return self.remove_selection();
         }
         let stop = self.on_by(Move::Word(Logical::Forward))?;
-        self.remove_alone(self.place, stop)
+        self.remove_alone(self.cursor.place, stop)
     }
 }

@@ -63,7 +63,7 @@ impl<D: BidiData + Drop> Editor<D> {
     {
         let again = self.quit_before;
         self.clear();
-        if !self.changed || again {
+        if !self.past.changed || again {
             self.ended = true;
         } else {
             self.message = Some(Message::Unsaved);
@@ -71,7 +71,7 @@ impl<D: BidiData + Drop> Editor<D> {
         self.quit_before = true;
     }
 
-    /// Lists the control keys, or the others, if the message listed the first ones.
+    /// Shows the first list of keys, or the second one if the first is the message.
     fn help(&mut self)
         ensures { self.new ≡ record self.old { editor = after_help (cleared self.old.editor) self.old.editor.message } }
     {
@@ -97,8 +97,8 @@ impl<D: BidiData + Drop> Editor<D> {
     {
         match fault {
             None => {
-                self.stored = Some(self.document.past_len());
-                self.changed = false;
+                self.past.stored = Some(self.document.past_len());
+                self.past.changed = false;
                 self.tell(Message::Saved);
             }
             Some(fault) => self.tell(Message::SaveFailed(fault.cause)),
@@ -108,7 +108,7 @@ impl<D: BidiData + Drop> Editor<D> {
             Ask::Line | Ask::Name | Ask::Code => self.leave_question(),
         }
         self.goal = None;
-        self.soft = aged(self.soft);
+        self.cursor.soft = aged(self.cursor.soft);
     }
 
     /// Applies a key other than Save and Size.
@@ -129,13 +129,13 @@ impl<D: BidiData + Drop> Editor<D> {
             _ => {
                 self.press_any(key)?;
                 self.goal = goal_behind(key, self.goal);
-                self.soft = soft_behind(key, self.soft);
+                self.cursor.soft = soft_behind(key, self.cursor.soft);
             }
         }
         Ok(())
     }
 
-    /// Applies a key, in a search or outside.
+    /// Applies a key that the user presses: in a question, in a search, or outside both.
     fn press_any(&mut self, key: Key) -> Result<(), OutOfMemory>
         requires no_save { is_save key ≡ false }
         requires typed { is_told_key key ≡ false }
@@ -145,7 +145,7 @@ impl<D: BidiData + Drop> Editor<D> {
         ensures err { OnErr result (self.new ≡ self.old) }
         ensures edits { OnErr result (is_edit_or_move key ≡ true) }
     {
-        match (self.ask, self.seek) {
+        match (self.ask, self.cursor.seek) {
             (Ask::Off, Seek::Off) => self.press(key),
             (Ask::Off, Seek::Begun | Seek::Typed) => self.press_in_search(key),
             (Ask::Off, Seek::WithBegun | Seek::WithTyped) => self.press_for_other(key),
@@ -154,7 +154,7 @@ impl<D: BidiData + Drop> Editor<D> {
         }
     }
 
-    /// Applies a key outside a search.
+    /// Applies a key outside a search and a question.
     pub(crate) fn press(&mut self, key: Key) -> Result<(), OutOfMemory>
         requires no_save { is_save key ≡ false }
         requires typed { is_told_key key ≡ false }

@@ -1,7 +1,7 @@
 //! The next and previous match of a query, and the cursor's place there.
 ghost use Rattle.std.specs.Prelude.{◌≡◌, ◌≤◌, ◌==◌, not, None, Some, IfOk, IsCharBoundary, IfSome, chars, length};
-ghost use Rattle.bx_find.specs.Letters.{letters_by};
-ghost use Rattle.bx_find.specs.Matches.{first_from_by, last_before_by};
+ghost use Rattle.bx_find.specs.Letters.{letters};
+ghost use Rattle.bx_find.specs.Matches.{first_from, last_before};
 ghost use Rattle.bx_view.specs.Places.{IsTextPlace};
 ghost use Rattle.bx_document.specs.Document.{rows};
 ghost use Rattle.bx_editor.specs.Search.{backward, forward, match_or, not_found};
@@ -39,12 +39,12 @@ pub(crate) fn has_letters<D: BidiData + Drop>(
     query: &str,
 ) -> bool
     requires few { length (chars query.now) ≤ 64 }
-    ensures { result ≡ not (length (letters_by (D.data document.now.tables) reading (chars query.now)) == 0) }
+    ensures { result ≡ not (length (letters (D.data document.now.tables) reading (chars query.now)) == 0) }
 {
     document.query(reading, query).is_some()
 }
 
-/// Leads to the place of a match.
+/// Leads to the place of the match at `offset`, with this message.
 fn at_match<D: BidiData + Drop>(
     document: &mut Document<D>,
     offset: usize,
@@ -69,10 +69,10 @@ fn from_start<D: BidiData + Drop>(
     place: usize,
 ) -> Result<Landing, OutOfMemory>
     requires bounds { IsCharBoundary document.old.document.content.text place }
-    requires none_from { first_from_by (D.data document.old.tables) reading sought.now document.old.document.content.text place ≡ None }
+    requires none_from { first_from (D.data document.old.tables) reading sought.now document.old.document.content.text place ≡ None }
     ensures same { document.new ≡ document.old }
     ensures landing { IfOk result (λ l. l ≡ match_or (rows (D.data document.old.tables) document.old.document) (Some Message.FromStart) not_found
-        (first_from_by (D.data document.old.tables) reading sought.now document.old.document.content.text 0)) }
+        (first_from (D.data document.old.tables) reading sought.now document.old.document.content.text 0)) }
     ensures text_place { IfOk result (λ l. IfSome l.place (IsTextPlace (D.data document.old.tables) document.old.document.content.text)) }
 {
     match document.first_before(reading, sought, place) {
@@ -89,10 +89,10 @@ fn from_end<D: BidiData + Drop>(
     place: usize,
 ) -> Result<Landing, OutOfMemory>
     requires bounds { IsCharBoundary document.old.document.content.text place }
-    requires none_before { last_before_by (D.data document.old.tables) reading sought.now document.old.document.content.text place ≡ None }
+    requires none_before { last_before (D.data document.old.tables) reading sought.now document.old.document.content.text place ≡ None }
     ensures same { document.new ≡ document.old }
     ensures landing { IfOk result (λ l. l ≡ match_or (rows (D.data document.old.tables) document.old.document) (Some Message.FromEnd) not_found
-        (last_before_by (D.data document.old.tables) reading sought.now document.old.document.content.text (length document.old.document.content.text))) }
+        (last_before (D.data document.old.tables) reading sought.now document.old.document.content.text (length document.old.document.content.text))) }
     ensures text_place { IfOk result (λ l. IfSome l.place (IsTextPlace (D.data document.old.tables) document.old.document.content.text)) }
 {
     match document.last_from(reading, sought, place) {
@@ -113,11 +113,9 @@ pub(crate) fn forward<D: BidiData + Drop>(
     requires text_place { IsTextPlace (D.data document.old.tables) document.old.document.content.text place }
     ensures same { document.new ≡ document.old }
     ensures landing { IfOk result (λ l. l ≡ forward (D.data document.old.tables) reading (rows (D.data document.old.tables) document.old.document)
-        document.old.document.content.text place (letters_by (D.data document.old.tables) reading (chars query.now))) }
+        document.old.document.content.text place (letters (D.data document.old.tables) reading (chars query.now))) }
     ensures text_place { IfOk result (λ l. IfSome l.place (IsTextPlace (D.data document.old.tables) document.old.document.content.text)) }
 {
-    // proof only: the text is UTF-8
-    let _utf8 = document.len();
     let Some(sought) = document.query(reading, query) else {
         return Ok(NOTHING_SOUGHT);
     };
@@ -139,11 +137,9 @@ pub(crate) fn backward<D: BidiData + Drop>(
     requires text_place { IsTextPlace (D.data document.old.tables) document.old.document.content.text place }
     ensures same { document.new ≡ document.old }
     ensures landing { IfOk result (λ l. l ≡ backward (D.data document.old.tables) reading (rows (D.data document.old.tables) document.old.document)
-        document.old.document.content.text place (letters_by (D.data document.old.tables) reading (chars query.now))) }
+        document.old.document.content.text place (letters (D.data document.old.tables) reading (chars query.now))) }
     ensures text_place { IfOk result (λ l. IfSome l.place (IsTextPlace (D.data document.old.tables) document.old.document.content.text)) }
 {
-    // proof only: the text is UTF-8
-    let _utf8 = document.len();
     let Some(sought) = document.query(reading, query) else {
         return Ok(NOTHING_SOUGHT);
     };

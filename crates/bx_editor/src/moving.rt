@@ -13,7 +13,7 @@ use bx_terms::OutOfMemory;
 use bx_ucd::BidiData;
 use bx_view::{Move, Vertical};
 
-/// The kept column behind a key that the user pressed: kept by moves from row to row, by Select and by Repaint.
+/// The kept column, from 1, behind a key that the user pressed; None if that forgets it.
 pub(crate) fn goal_behind(key: Key, goal: Option<u16>) -> Option<u16>
     ensures { result ≡ goal_behind key goal }
 {
@@ -30,7 +30,7 @@ impl<D: BidiData + Drop> Editor<D> {
         requires text_place { IsTextPlace (D.data self.old.tables) self.old.editor.content.text place }
         ensures { self.new ≡ record self.old { editor = with_place (cleared self.old.editor) place } }
     {
-        self.place = place;
+        self.cursor.place = place;
         self.clear();
     }
 
@@ -65,7 +65,7 @@ impl<D: BidiData + Drop> Editor<D> {
         }) }
         ensures err { OnErr result (self.new ≡ self.old) }
     {
-        let place = self.document.moved(m, self.place)?;
+        let place = self.document.moved(m, self.cursor.place)?;
         self.set_place(place);
         self.unselect();
         Ok(())
@@ -78,11 +78,11 @@ impl<D: BidiData + Drop> Editor<D> {
     {
         match self.goal {
             Some(column) => Ok(column),
-            None => self.document.column(self.place),
+            None => self.document.column(self.cursor.place),
         }
     }
 
-    /// Goes up or down by `n` rows in the kept column, which becomes the cursor's if none is kept.
+    /// Goes up or down by `n` rows in the kept column; if none is kept, in the cursor's, which is kept then.
     pub(crate) fn move_by_rows(&mut self, way: Vertical, n: usize) -> Result<(), OutOfMemory>
         ensures ok { OnOk result (self.new ≡ record self.old {
           editor = after_row_move (D.data self.old.tables) (unselected (cleared self.old.editor)) way n;

@@ -6,8 +6,10 @@ ghost use Rattle.bx_editor.specs.Editor.{at_start};
 ghost use Rattle.bx_editor.specs.Opening.{Causes, IsLongestUtf8};
 
 use crate::aim::Aim;
+use crate::cursor::Cursor;
 use crate::editor::Editor;
 use crate::error::OpenError;
+use crate::past::Past;
 use crate::seek::Seek;
 use crate::soft::Soft;
 use bx_asking::Ask;
@@ -63,12 +65,19 @@ impl<D: BidiData + Drop> Editor<D> {
         match Document::open(alloc, text, tables, width, base) {
             Ok(document) => Ok(Editor {
                 document,
-                place: 0,
-                mark: None,
-                soft: Soft::Off,
+                cursor: Cursor {
+                    place: 0,
+                    mark: None,
+                    soft: Soft::Off,
+                    seek: Seek::Off,
+                },
+                past: Past {
+                    runs: Runs::new(alloc),
+                    stored: Some(0),
+                    changed: false,
+                },
                 held: String::new(alloc),
                 query: String::new(alloc),
-                seek: Seek::Off,
                 aim: Aim::Find,
                 origin: 0,
                 other: String::new(alloc),
@@ -76,10 +85,7 @@ impl<D: BidiData + Drop> Editor<D> {
                 count: 0,
                 ask: Ask::Off,
                 answer: String::new(alloc),
-                runs: Runs::new(alloc),
                 typing: Typing::Off,
-                stored: Some(0),
-                changed: false,
                 message: None,
                 quit_before: false,
                 ended: false,

@@ -1,5 +1,5 @@
 //! The question for the other text, which replaces matches.
-ghost use Rattle.std.specs.Prelude.{◌≡◌, ◌↔◌, [], true, IfSome, IsNone, OnErr, OnOk};
+ghost use Rattle.std.specs.Prelude.{◌≡◌, ◌↔◌, [], true, IfSome, IsNone, IsSome, IsUtf8, OnErr, OnOk};
 ghost use Rattle.bx_view.specs.Places.{IsTextPlace};
 ghost use Rattle.bx_editor.specs.Editor.{cleared};
 ghost use Rattle.bx_editor.specs.Origin.{asks_other, is_queried};
@@ -21,6 +21,8 @@ impl<D: BidiData + Drop> Editor<D> {
     pub(crate) fn sought(&self) -> Option<Query>
         ensures letters { IfSome result (λ q. q ≡ sought (D.data self.now.tables) self.now.editor) }
         ensures none { IsNone result ↔ (sought (D.data self.now.tables) self.now.editor ≡ []) }
+        ensures some { self.now.editor.seek ≡ Seek.Replacing → IsSome result }
+        ensures utf8 { IsUtf8 self.now.editor.content.text }
     {
         self.document
             .query(reading_of(self.aim), self.query.as_str())
@@ -41,15 +43,15 @@ impl<D: BidiData + Drop> Editor<D> {
             self.clear();
             return Ok(());
         }
-        let landing = forward(&mut self.document, Reading::Close, query, self.place)?;
+        let landing = forward(&mut self.document, Reading::Close, query, self.cursor.place)?;
         self.aim = Aim::Replace;
         self.settle_at(landing);
         match landing.place {
             Some(_) => {
-                self.seek = Seek::WithBegun;
+                self.cursor.seek = Seek::WithBegun;
                 self.count = 0;
             }
-            None => self.seek = Seek::Typed,
+            None => self.cursor.seek = Seek::Typed,
         }
         Ok(())
     }
@@ -64,10 +66,10 @@ impl<D: BidiData + Drop> Editor<D> {
         ensures err { OnErr result (self.new ≡ self.old) }
     {
         if c != '\t' && !self.document.separates(c) {
-            let kept = kept(self.seek, self.other.as_str());
+            let kept = kept(self.cursor.seek, self.other.as_str());
             let other = lengthened(*self.other.allocator(), kept, c, LONGEST_QUERY)?;
             self.other = other;
-            self.seek = Seek::WithTyped;
+            self.cursor.seek = Seek::WithTyped;
         }
         self.clear();
         Ok(())
@@ -79,29 +81,27 @@ impl<D: BidiData + Drop> Editor<D> {
         ensures ok { OnOk result (self.new ≡ record self.old { editor = after_shorter_other (cleared self.old.editor) }) }
         ensures err { OnErr result (self.new ≡ self.old) }
     {
-        let kept = kept(self.seek, self.other.as_str());
+        let kept = kept(self.cursor.seek, self.other.as_str());
         let other = shortened(*self.other.allocator(), kept)?;
         self.other = other;
-        self.seek = Seek::WithTyped;
+        self.cursor.seek = Seek::WithTyped;
         self.clear();
         Ok(())
     }
 
-    /// Shows the match of the place. Allocates nothing.
+    /// Shows the first match from the place on, to which the search led. Allocates nothing.
     pub(crate) fn show_match(&mut self)
         requires asked { asks_other self.old.editor.seek ≡ true }
         ensures { self.new ≡ record self.old { editor = after_showing (D.data self.old.tables) (cleared self.old.editor) } }
     {
         self.clear();
-        // proof only: the text is UTF-8 and within its limit
-        let _utf8 = self.document.len();
         let Some(query) = self.sought() else {
             return;
         };
         let reading = reading_of(self.aim);
-        if let Some(at) = self.document.first_from(reading, &query, self.place) {
+        if let Some(at) = self.document.first_from(reading, &query, self.cursor.place) {
             self.at = at;
-            self.seek = Seek::Replacing;
+            self.cursor.seek = Seek::Replacing;
         }
     }
 }

@@ -5,7 +5,6 @@ ghost use Rattle.bx_editor.specs.Editor.{cleared, with_insertion};
 ghost use Rattle.bx_editor.specs.Putting.{after_character, after_new_line, after_put, has_room, is_paste, only_paste, put_in, typed, with_selection_replaced};
 ghost use Rattle.bx_editor.specs.Region.{region};
 
-use crate::editing::{settle, stored_behind};
 use crate::editor::Editor;
 use crate::message::Message;
 use bx_runs::{Kind, Typing};
@@ -13,7 +12,7 @@ use bx_terms::OutOfMemory;
 use bx_ucd::BidiData;
 use std::mem;
 
-/// Whether a paste is read.
+/// Whether a paste is being read.
 pub(crate) fn is_paste(typing: Typing) -> bool
     ensures { result ≡ is_paste typing }
 {
@@ -39,21 +38,13 @@ impl<D: BidiData + Drop> Editor<D> {
         }) }
         ensures err { OnErr result (self.new ≡ self.old) }
     {
-        self.runs.reserve()?;
+        self.past.runs.reserve()?;
         let n = self.document.past_len();
-        let Some(place) = self.document.insert(self.place, new)? else {
+        let Some(place) = self.document.insert(self.cursor.place, new)? else {
             return Ok(false);
         };
-        self.runs.edited(n, goes_on);
-        self.stored = stored_behind(n, self.stored);
-        settle(
-            &mut self.place,
-            &mut self.mark,
-            &mut self.soft,
-            &mut self.seek,
-            place,
-        );
-        self.changed = true;
+        self.past.edited(n, goes_on);
+        self.cursor.settle(place);
         Ok(true)
     }
 
@@ -66,22 +57,14 @@ impl<D: BidiData + Drop> Editor<D> {
         ensures err { OnErr result (self.new ≡ self.old) }
     {
         let (start, stop) = self.region();
-        self.runs.reserve()?;
+        self.past.runs.reserve()?;
         let n = self.document.past_len();
-        let Some(place) = self.document.replace(start, stop, new, self.place)? else {
+        let Some(place) = self.document.replace(start, stop, new, self.cursor.place)? else {
             return Ok(false);
         };
-        // The second edit goes on with the first one's run: it changes neither the runs nor what is stored once more.
-        self.runs.edited(n, false);
-        self.stored = stored_behind(n, self.stored);
-        settle(
-            &mut self.place,
-            &mut self.mark,
-            &mut self.soft,
-            &mut self.seek,
-            place,
-        );
-        self.changed = true;
+        // Two edits are noted as one: the second goes on with the first one's run, and changes neither `runs` nor `stored`.
+        self.past.edited(n, false);
+        self.cursor.settle(place);
         Ok(true)
     }
 
@@ -105,7 +88,7 @@ impl<D: BidiData + Drop> Editor<D> {
         Ok(room)
     }
 
-    /// Types bytes of a kind.
+    /// Types `new`, whose characters are of one kind.
     fn type_text(&mut self, new: &str, kind: Kind) -> Result<(), OutOfMemory>
         ensures ok { OnOk result (self.new ≡ record self.old {
           editor = typed (D.data self.old.tables) self.old.editor.typing (cleared self.old.editor) new.now kind;
@@ -122,7 +105,7 @@ impl<D: BidiData + Drop> Editor<D> {
         Ok(())
     }
 
-    /// Types the line end of the text without the part that gives way.
+    /// Types a line end, as the text has it without the selection that gives way to it.
     pub(crate) fn new_line(&mut self) -> Result<(), OutOfMemory>
         ensures ok { OnOk result (self.new ≡ record self.old {
           editor = after_new_line (D.data self.old.tables) self.old.editor.typing (cleared self.old.editor);
@@ -149,6 +132,7 @@ impl<D: BidiData + Drop> Editor<D> {
             return self.new_line();
         }
         let kind = Kind::of(self.document.class(c));
+        // a character has at most four bytes
         let mut buffer = [0; 4];
         let new = c.encode_utf8(&mut buffer);
         self.type_text(new, kind)

@@ -25,22 +25,22 @@ impl<D: BidiData + Drop> Editor<D> {
     pub(crate) fn turn_mark(&mut self)
         ensures { self.new ≡ record self.old { editor = after_mark (cleared self.old.editor) } }
     {
-        if is_at_mark(self.mark, self.place) {
-            self.mark = None;
+        if is_at_mark(self.cursor.mark, self.cursor.place) {
+            self.cursor.mark = None;
             self.tell(Message::MarkOff);
         } else {
-            self.mark = Some(self.place);
+            self.cursor.mark = Some(self.cursor.place);
             self.tell(Message::MarkSet);
         }
-        self.soft = Soft::Off;
+        self.cursor.soft = Soft::Off;
     }
 
     /// Removes the mark.
     pub(crate) fn remove_mark(&mut self)
         ensures { self.new ≡ record self.old { editor = without_mark (cleared self.old.editor) } }
     {
-        self.mark = None;
-        self.soft = Soft::Off;
+        self.cursor.mark = None;
+        self.cursor.soft = Soft::Off;
         self.clear();
     }
 
@@ -51,8 +51,8 @@ impl<D: BidiData + Drop> Editor<D> {
     {
         // proof only: the text is UTF-8
         let _utf8 = self.document.len();
-        let mark = self.mark.unwrap_or(self.place);
-        (mark.min(self.place), mark.max(self.place))
+        let mark = self.cursor.mark.unwrap_or(self.cursor.place);
+        (mark.min(self.cursor.place), mark.max(self.cursor.place))
     }
 
     /// The offsets of the text that Cut takes: the region, or the line if the region is empty.
@@ -62,12 +62,12 @@ impl<D: BidiData + Drop> Editor<D> {
     {
         let (start, stop) = self.region();
         if start == stop {
-            return self.document.line_of(self.place);
+            return self.document.line_of(self.cursor.place);
         }
         (start, stop)
     }
 
-    /// Copies the bytes from `start` to `stop`, and clears the mark.
+    /// Makes the bytes from `start` to `stop` the held text, removes the mark, and sets the message.
     fn hold(&mut self, start: usize, stop: usize, message: Message) -> Result<(), OutOfMemory>
         requires range { IsRange self.old.editor.content.text start stop }
         ensures ok { OnOk result (self.new ≡ record self.old {
@@ -81,8 +81,8 @@ impl<D: BidiData + Drop> Editor<D> {
         ensures err { OnErr result (self.new ≡ self.old) }
     {
         self.held = self.document.copy(start, stop)?;
-        self.mark = None;
-        self.soft = Soft::Off;
+        self.cursor.mark = None;
+        self.cursor.soft = Soft::Off;
         self.tell(message);
         Ok(())
     }
@@ -98,12 +98,12 @@ impl<D: BidiData + Drop> Editor<D> {
         if start != stop {
             return self.hold(start, stop, Message::Copied);
         }
-        let (start, stop) = self.document.line_of(self.place);
+        let (start, stop) = self.document.line_of(self.cursor.place);
         if start != stop {
             return self.hold(start, stop, Message::LineCopied);
         }
-        self.mark = None;
-        self.soft = Soft::Off;
+        self.cursor.mark = None;
+        self.cursor.soft = Soft::Off;
         self.tell(Message::NothingToCopy);
         Ok(())
     }

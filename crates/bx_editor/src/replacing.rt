@@ -1,32 +1,44 @@
 //! A match that is shown: it is replaced or passed over, or it and all that follow are replaced.
-ghost use Rattle.std.specs.Prelude.{◌≡◌, ◌+◌, ◌≤◌, true, if◌then◌else◌, IfOk, IfSome, IsCharBoundary, OnErr, OnOk};
+ghost use Rattle.std.specs.Prelude.{◌≡◌, ◌+◌, ◌≤◌, true, if◌then◌else◌, IfOk, IfSome, IsCharBoundary, IsUtf8, OnErr, OnOk};
 ghost use Rattle.bx_terms.specs.Sizes.{largest_text};
 ghost use Rattle.bx_text.specs.Edits.{IsRange, fits, splice};
 ghost use Rattle.bx_view.specs.Places.{IsTextPlace};
 ghost use Rattle.bx_editor.specs.Editor.{cleared};
 ghost use Rattle.bx_editor.specs.Replacing.{after_ending, after_passing_over, after_replacing, after_replacing_all};
 ghost use Rattle.bx_editor.specs.Replacing.{match_stop, next_behind, next_match, seen, with_matches_replaced};
+ghost use Rattle.bx_editor.specs.Search.{sought};
 
-use crate::editing::{settle, stored_behind};
 use crate::editor::Editor;
 use crate::message::Message;
 use crate::query::reading_of;
 use crate::seek::Seek;
+use bx_find::Query;
 use bx_terms::OutOfMemory;
 use bx_ucd::BidiData;
 
 impl<D: BidiData + Drop> Editor<D> {
+    /// The query, of which a match is shown. Allocates nothing.
+    fn shown_query(&self) -> Query
+        requires shown { self.now.editor.seek ≡ Seek.Replacing }
+        ensures query { result ≡ sought (D.data self.now.tables) self.now.editor }
+        ensures utf8 { IsUtf8 self.now.editor.content.text }
+    {
+        let Some(query) = self.sought() else {
+            unreachable!()
+        };
+        query
+    }
+
     /// The offset behind the match that is shown. Allocates nothing.
     fn match_stop(&self) -> usize
         requires shown { self.now.editor.seek ≡ Seek.Replacing }
         ensures stop { result ≡ match_stop (D.data self.now.tables) self.now.editor }
         ensures range { IsRange self.now.editor.content.text self.now.editor.at result }
+        ensures utf8 { IsUtf8 self.now.editor.content.text }
     {
-        let (reading, at) = (reading_of(self.aim), self.at);
-        let Some(query) = self.sought() else {
-            unreachable!()
-        };
-        self.document.match_end(reading, &query, at)
+        let query = self.shown_query();
+        self.document
+            .match_end(reading_of(self.aim), &query, self.at)
     }
 
     /// The offsets of the part of the text in the other rendition: the units of the match that is shown, else the region. Allocates
@@ -34,24 +46,22 @@ impl<D: BidiData + Drop> Editor<D> {
     pub(crate) fn seen(&self) -> (usize, usize)
         ensures { result ≡ seen (D.data self.now.tables) self.now.editor }
     {
-        match self.seek {
-            Seek::Replacing => (self.place, self.match_stop()),
+        match self.cursor.seek {
+            Seek::Replacing => (self.cursor.place, self.match_stop()),
             _ => self.region(),
         }
     }
 
-    /// The first match at or after an offset. Allocates nothing.
+    /// The offset of the first match at or after `x`. Allocates nothing.
     fn next_match(&self, x: usize) -> Option<usize>
         requires shown { self.now.editor.seek ≡ Seek.Replacing }
         requires bounds { IsCharBoundary self.now.editor.content.text x }
         ensures next { result ≡ next_match (D.data self.now.tables) self.now.editor x }
         ensures boundary { IfSome result (IsCharBoundary self.now.editor.content.text) }
+        ensures utf8 { IsUtf8 self.now.editor.content.text }
     {
-        let reading = reading_of(self.aim);
-        let Some(query) = self.sought() else {
-            unreachable!()
-        };
-        self.document.first_from(reading, &query, x)
+        let query = self.shown_query();
+        self.document.first_from(reading_of(self.aim), &query, x)
     }
 
     /// Ends replacing, and tells how many matches were replaced. Allocates nothing.
@@ -59,7 +69,7 @@ impl<D: BidiData + Drop> Editor<D> {
         ensures { self.new ≡ record self.old { editor = after_ending (cleared self.old.editor) } }
     {
         self.tell(Message::Replaced(self.count));
-        self.seek = Seek::Off;
+        self.cursor.seek = Seek::Off;
     }
 
     /// Goes on to the next match behind the first character of this one; if there is none, replacing ends.
@@ -70,14 +80,12 @@ impl<D: BidiData + Drop> Editor<D> {
         }) }
         ensures err { OnErr result (self.new ≡ self.old) }
     {
-        // proof only: the text is UTF-8 and within its limit
-        let _utf8 = self.document.len();
         let behind = self.document.behind_character(self.at);
         let Some(at) = self.next_match(behind) else {
             self.end_replacing();
             return Ok(());
         };
-        self.place = self.document.place_at(at)?;
+        self.cursor.place = self.document.place_at(at)?;
         self.at = at;
         self.clear();
         Ok(())
@@ -94,8 +102,6 @@ impl<D: BidiData + Drop> Editor<D> {
         ensures text_place { IfOk result (λ next. IfSome next (λ found. IsTextPlace (D.data self.old.tables)
             (splice self.old.editor.content.text self.old.editor.at stop new.now) found.1)) }
     {
-        // proof only: the text is UTF-8 and within its limit
-        let _utf8 = self.document.len();
         let Some(offset) = self.next_match(stop) else {
             return Ok(None);
         };
@@ -116,22 +122,17 @@ impl<D: BidiData + Drop> Editor<D> {
         }) }
         ensures err { OnErr result (self.new ≡ self.old) }
     {
-        self.runs.reserve()?;
+        self.past.runs.reserve()?;
         let n = self.document.past_len();
-        let Some(place) = self.document.exchange(self.at, stop, new, self.place)? else {
+        let Some(place) = self
+            .document
+            .exchange(self.at, stop, new, self.cursor.place)?
+        else {
             return Ok(false);
         };
-        // A second edit goes on with the first one's run: it changes neither the runs nor what is stored once more.
-        self.runs.edited(n, false);
-        self.stored = stored_behind(n, self.stored);
-        settle(
-            &mut self.place,
-            &mut self.mark,
-            &mut self.soft,
-            &mut self.seek,
-            place,
-        );
-        self.changed = true;
+        // One or two edits are noted as one: a second one goes on with the first one's run, and changes neither `runs` nor `stored`.
+        self.past.edited(n, false);
+        self.cursor.settle(place);
         self.origin = 0;
         self.count += count;
         Ok(true)
@@ -146,8 +147,6 @@ impl<D: BidiData + Drop> Editor<D> {
         }) }
         ensures err { OnErr result (self.new ≡ self.old) }
     {
-        // proof only: the text is UTF-8 and within its limit
-        let _utf8 = self.document.len();
         let stop = self.match_stop();
         if !self.document.has_room(self.at, stop, self.other.as_str()) {
             self.tell(Message::TextFull);
@@ -161,8 +160,8 @@ impl<D: BidiData + Drop> Editor<D> {
             return Ok(());
         };
         self.at = at;
-        self.place = place;
-        self.seek = Seek::Replacing;
+        self.cursor.place = place;
+        self.cursor.seek = Seek::Replacing;
         self.clear();
         Ok(())
     }
@@ -175,12 +174,8 @@ impl<D: BidiData + Drop> Editor<D> {
         }) }
         ensures err { OnErr result (self.new ≡ self.old) }
     {
-        // proof only: the text is UTF-8 and within its limit
-        let _utf8 = self.document.len();
         let reading = reading_of(self.aim);
-        let Some(query) = self.sought() else {
-            unreachable!()
-        };
+        let query = self.shown_query();
         let other = self.other.as_str();
         let Some(swap) = self.document.swap(reading, &query, self.at, other)? else {
             self.tell(Message::TextFull);

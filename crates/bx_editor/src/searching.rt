@@ -1,4 +1,5 @@
-//! The keys of a search.
+//! The calls by which a search begins, goes on and is given up, and FindNext outside a search. `keys.rt` and `search_keys.rt` say
+//! which key makes which call.
 ghost use Rattle.std.specs.Prelude.{◌≡◌, ◌==◌, not, length, IfOk, IfSome, OnErr, OnOk};
 ghost use Rattle.bx_view.specs.Places.{IsTextPlace};
 ghost use Rattle.bx_editor.specs.Editor.{cleared};
@@ -24,8 +25,8 @@ impl<D: BidiData + Drop> Editor<D> {
         ensures { self.new ≡ record self.old { editor = after_beginning aim (unselected (cleared self.old.editor)) } }
     {
         self.unselect();
-        self.origin = self.place;
-        self.seek = Seek::Begun;
+        self.origin = self.cursor.place;
+        self.cursor.seek = Seek::Begun;
         self.aim = aim;
         self.clear();
     }
@@ -43,29 +44,30 @@ impl<D: BidiData + Drop> Editor<D> {
         requires origin { IsTextPlace (D.data self.old.tables) self.old.editor.content.text self.old.editor.origin }
         ensures { self.new ≡ record self.old { editor = after_giving_up (cleared self.old.editor) } }
     {
-        self.place = self.origin;
+        self.cursor.place = self.origin;
         self.end_search();
     }
 
-    /// Moves the cursor to where a match is, and sets the message. Allocates nothing.
+    /// Moves the cursor to where a search led, if anywhere, and sets its message. How far the search is stays. Allocates nothing.
     pub(crate) fn settle_at(&mut self, landing: Landing)
         requires place { IfSome landing.place (IsTextPlace (D.data self.old.tables) self.old.editor.content.text) }
         ensures { self.new ≡ record self.old { editor = landed (cleared self.old.editor) landing } }
     {
-        self.place = landing.place.unwrap_or(self.place);
+        self.cursor.place = landing.place.unwrap_or(self.cursor.place);
         self.message = landing.message;
         self.quit_before = false;
         self.typing = Typing::Off;
     }
 
-    /// Moves the cursor to where a search led, and sets its message.
+    /// Moves the cursor to where a search led, if anywhere, and sets its message. The query counts as typed: the next letter is
+    /// appended to it.
     fn land(&mut self, landing: Landing)
         requires origin { IsTextPlace (D.data self.old.tables) self.old.editor.content.text self.old.editor.origin }
         requires place { IfSome landing.place (IsTextPlace (D.data self.old.tables) self.old.editor.content.text) }
         ensures { self.new ≡ record self.old { editor = landed (record (cleared self.old.editor) { seek = Seek.Typed }) landing } }
     {
         self.settle_at(landing);
-        self.seek = Seek::Typed;
+        self.cursor.seek = Seek::Typed;
     }
 
     /// Appends a character to the query, and seeks it from the place on. A line feed ends the search; a tab or another character
@@ -85,15 +87,15 @@ impl<D: BidiData + Drop> Editor<D> {
             self.clear();
             return Ok(());
         }
-        let kept = kept(self.seek, self.query.as_str());
+        let kept = kept(self.cursor.seek, self.query.as_str());
         let query = lengthened(*self.query.allocator(), kept, c, LONGEST_QUERY)?;
         let landing = forward(
             &mut self.document,
             reading_of(self.aim),
             query.as_str(),
-            self.place,
+            self.cursor.place,
         )?;
-        self.seek = Seek::Typed;
+        self.cursor.seek = Seek::Typed;
         self.query = query;
         self.land(landing);
         Ok(())
@@ -107,7 +109,7 @@ impl<D: BidiData + Drop> Editor<D> {
         }) }
         ensures err { OnErr result (self.new ≡ self.old) }
     {
-        let kept = kept(self.seek, self.query.as_str());
+        let kept = kept(self.cursor.seek, self.query.as_str());
         let query = shortened(*self.query.allocator(), kept)?;
         let landing = forward(
             &mut self.document,
@@ -115,9 +117,9 @@ impl<D: BidiData + Drop> Editor<D> {
             query.as_str(),
             self.origin,
         )?;
-        self.seek = Seek::Typed;
+        self.cursor.seek = Seek::Typed;
         self.query = query;
-        self.place = self.origin;
+        self.cursor.place = self.origin;
         self.land(landing);
         Ok(())
     }
@@ -130,8 +132,8 @@ impl<D: BidiData + Drop> Editor<D> {
     {
         let next = self
             .document
-            .moved(Move::Logical(Logical::Forward), self.place)?;
-        if self.place < next {
+            .moved(Move::Logical(Logical::Forward), self.cursor.place)?;
+        if self.cursor.place < next {
             return Ok(next);
         }
         Ok(0)
@@ -178,7 +180,7 @@ impl<D: BidiData + Drop> Editor<D> {
         let query = self.query.as_str();
         let landing = forward(&mut self.document, Reading::Wide, query, next)?;
         self.settle_at(landing);
-        self.seek = Seek::Off;
+        self.cursor.seek = Seek::Off;
         self.aim = Aim::Find;
         self.unselect();
         Ok(())
@@ -196,7 +198,7 @@ impl<D: BidiData + Drop> Editor<D> {
             &mut self.document,
             reading_of(self.aim),
             self.query.as_str(),
-            self.place,
+            self.cursor.place,
         )?;
         self.land(landing);
         Ok(())

@@ -1,6 +1,6 @@
-//! Whether a search is on.
+//! How far a search is.
 
-/// The state of a search.
+/// How far a search is: what is asked for, and whether it was typed already.
 #[derive(Clone, Copy, PartialEq, Eq, Debug)]
 pub enum Seek {
     /// No search is on.

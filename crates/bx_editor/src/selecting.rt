@@ -18,7 +18,7 @@ pub(crate) fn is_soft(soft: Soft) -> bool
     }
 }
 
-/// The softness once another key than Select was pressed.
+/// The softness once another key than Select and Repaint was pressed.
 pub(crate) fn aged(soft: Soft) -> Soft
     ensures { result ≡ aged soft }
 {
@@ -53,12 +53,12 @@ impl<D: BidiData + Drop> Editor<D> {
     pub(crate) fn select(&mut self)
         ensures { self.new ≡ record self.old { editor = after_select (cleared self.old.editor) } }
     {
-        match (self.mark, self.soft) {
+        match (self.cursor.mark, self.cursor.soft) {
             (None, _) => {
-                self.mark = Some(self.place);
-                self.soft = Soft::Fresh;
+                self.cursor.mark = Some(self.cursor.place);
+                self.cursor.soft = Soft::Fresh;
             }
-            (Some(_), Soft::Old) => self.soft = Soft::Fresh,
+            (Some(_), Soft::Old) => self.cursor.soft = Soft::Fresh,
             (Some(_), _) => {}
         }
         self.clear();
@@ -68,9 +68,9 @@ impl<D: BidiData + Drop> Editor<D> {
     pub(crate) fn unselect(&mut self)
         ensures { self.new ≡ record self.old { editor = unselected self.old.editor } }
     {
-        let (mark, soft) = unselected(self.mark, self.soft);
-        self.mark = mark;
-        self.soft = soft;
+        let (mark, soft) = unselected(self.cursor.mark, self.cursor.soft);
+        self.cursor.mark = mark;
+        self.cursor.soft = soft;
     }
 
     /// Whether there is a region that gives way to what is typed, put in or removed.
@@ -78,6 +78,6 @@ impl<D: BidiData + Drop> Editor<D> {
         ensures { result ≡ is_selection self.now.editor }
     {
         let (start, stop) = self.region();
-        is_soft(self.soft) && start != stop
+        is_soft(self.cursor.soft) && start != stop
     }
 }

@@ -1,13 +1,13 @@
 //! Selections.
 
-/// Whether the mark is a selection's, which gives way to what is typed.
+/// How fresh a selection is. It gives way to what is typed.
 #[derive(Clone, Copy, PartialEq, Eq, Debug, Default)]
 pub enum Soft {
     /// No selection: there is no mark, or Mark set it.
     #[default]
     Off,
-    /// Select was pressed last: the next move goes on selecting.
+    /// Select was pressed last, but for Repaint: the next move goes on selecting.
     Fresh,
-    /// A key was pressed since: the next move without Select takes the mark off.
+    /// Another key was pressed since: the next move without Select takes the mark off.
     Old,
 }

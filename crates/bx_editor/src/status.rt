@@ -9,13 +9,13 @@ use crate::editor::Editor;
 use crate::seek::Seek;
 use bx_asking::Ask;
 use bx_document::Document;
-use bx_grid::OwnedRow;
+use bx_grid::Grid;
 use bx_terms::OutOfMemory;
 use bx_ucd::BidiData;
 use itoa::Buffer;
 use std::alloc::{AllocError, Global};
 
-/// Writes the text of the status row, but no message.
+/// Writes the text that `status_line` returns.
 fn write_line(
     alloc: Global,
     changed: bool,
@@ -50,6 +50,7 @@ pub(crate) fn status_line(
     Ok(line)
 }
 
+/// The prompt before the query.
 fn query_prompt(aim: Aim) -> &'static str
     ensures text { result.now ≡ query_prompt aim }
     ensures printable { are_ascii_printable result.now ≡ true }
@@ -60,6 +61,7 @@ fn query_prompt(aim: Aim) -> &'static str
     }
 }
 
+/// The prompt of a search, empty if none is on.
 fn search_prompt(aim: Aim, seek: Seek) -> &'static str
     ensures text { result.now ≡ search_prompt aim seek }
     ensures printable { are_ascii_printable result.now ≡ true }
@@ -80,12 +82,14 @@ fn draw_search<D: BidiData + Drop>(
     seek: Seek,
     query: &str,
     other: &str,
-) -> Result<OwnedRow, OutOfMemory>
+) -> Result<Grid, OutOfMemory>
     requires { are_ascii_printable (string_bytes line) ≡ true }
-    ensures row { IfOk result (λ row. row ≡ glyph_row document.now.document.w
+    ensures row { IfOk result (λ row. row.columns ≡ glyph_row document.now.document.w
         (letter_glyphs (string_bytes line)
         ++ (letter_glyphs (search_prompt aim seek) ++ search_glyphs (D.data document.now.tables) query.now other.now seek))) }
-    ensures filled { IfOk result (λ row. length row ≡ document.now.document.w) }
+    ensures filled { IfOk result (λ row. length row.columns ≡ document.now.document.w) }
+    ensures one { IfOk result (λ row. row.height ≡ 1) }
+    ensures wide { IfOk result (λ row. row.width ≡ document.now.document.w) }
 {
     let mut line = line;
     line.push_str(search_prompt(aim, seek))?;
@@ -96,6 +100,7 @@ fn draw_search<D: BidiData + Drop>(
     }
 }
 
+/// The prompt of a question, empty if nothing is asked.
 fn prompt_text(ask: Ask) -> &'static str
     ensures text { result.now ≡ prompt_text ask }
     ensures printable { are_ascii_printable result.now ≡ true }
@@ -114,12 +119,14 @@ fn draw_question<D: BidiData + Drop>(
     line: String,
     ask: Ask,
     answer: &str,
-) -> Result<OwnedRow, OutOfMemory>
+) -> Result<Grid, OutOfMemory>
     requires line { are_ascii_printable (string_bytes line) ≡ true }
     requires narrow { All IsNarrow (chars answer.now) }
-    ensures row { IfOk result (λ row. row ≡ glyph_row document.now.document.w
+    ensures row { IfOk result (λ row. row.columns ≡ glyph_row document.now.document.w
         (letter_glyphs (string_bytes line) ++ (letter_glyphs (prompt_text ask) ++ typed_glyphs answer.now))) }
-    ensures filled { IfOk result (λ row. length row ≡ document.now.document.w) }
+    ensures filled { IfOk result (λ row. length row.columns ≡ document.now.document.w) }
+    ensures one { IfOk result (λ row. row.height ≡ 1) }
+    ensures wide { IfOk result (λ row. row.width ≡ document.now.document.w) }
 {
     let mut line = line;
     line.push_str(prompt_text(ask))?;
@@ -129,18 +136,20 @@ fn draw_question<D: BidiData + Drop>(
 
 impl<D: BidiData + Drop> Editor<D> {
     /// Draws the status row: its text, then the prompt of a question or a search, with what was typed after it.
-    pub(crate) fn draw_status(&self, line: String) -> Result<OwnedRow, OutOfMemory>
+    pub(crate) fn draw_status(&self, line: String) -> Result<Grid, OutOfMemory>
         requires { are_ascii_printable (string_bytes line) ≡ true }
-        ensures row { IfOk result (λ row. row ≡ glyph_row self.now.editor.width
+        ensures row { IfOk result (λ row. row.columns ≡ glyph_row self.now.editor.width
             (letter_glyphs (string_bytes line) ++ prompt_glyphs (D.data self.now.tables) self.now.editor self.now.editor.ask)) }
-        ensures filled { IfOk result (λ row. length row ≡ self.now.editor.width) }
+        ensures filled { IfOk result (λ row. length row.columns ≡ self.now.editor.width) }
+        ensures one { IfOk result (λ row. row.height ≡ 1) }
+        ensures wide { IfOk result (λ row. row.width ≡ self.now.editor.width) }
     {
         match self.ask {
             Ask::Off => draw_search(
                 &self.document,
                 line,
                 self.aim,
-                self.seek,
+                self.cursor.seek,
                 self.query.as_str(),
                 self.other.as_str(),
             ),

@@ -26,7 +26,7 @@ fn write_replaced(line: &mut String, count: usize) -> Result<(), OutOfMemory>
 }
 
 impl<D: BidiData + Drop> Editor<D> {
-    /// Writes the characters of the unit at the place with their classes, and its level; at the text's end, that.
+    /// Writes the characters of the unit at the place with their classes, and its level; at the text's end, "end of text".
     ///
     /// Errors: `OutOfMemory`, and a part is written.
     fn write_told(&mut self, line: &mut String) -> Result<(), OutOfMemory>
@@ -34,7 +34,7 @@ impl<D: BidiData + Drop> Editor<D> {
         ensures told { IfOk result (λ _. string_bytes line.new ≡ string_bytes line.old ++ told_at_place (D.data self.old.tables) self.old.editor) }
         ensures printable { IfOk result (λ _. are_ascii_printable (told_at_place (D.data self.old.tables) self.old.editor) ≡ true) }
     {
-        let place = self.place;
+        let place = self.cursor.place;
         if place == self.document.len() {
             line.push_str("end of text")?;
             return Ok(());

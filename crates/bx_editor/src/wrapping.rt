@@ -3,7 +3,6 @@ ghost use Rattle.std.specs.Prelude.{◌≡◌, IfOk, OnErr, OnOk};
 ghost use Rattle.bx_editor.specs.Editor.{cleared};
 ghost use Rattle.bx_editor.specs.Wrapping.{after_wrapping, cursor_end, spans_lines};
 
-use crate::editing::{settle, stored_behind};
 use crate::editor::Editor;
 use crate::message::Message;
 use bx_document::RegionEnd;
@@ -26,7 +25,7 @@ impl<D: BidiData + Drop> Editor<D> {
         ensures { result ≡ cursor_end self.now.editor }
     {
         let (start, _) = self.region();
-        if self.place == start {
+        if self.cursor.place == start {
             RegionEnd::Start
         } else {
             RegionEnd::Stop
@@ -47,28 +46,21 @@ impl<D: BidiData + Drop> Editor<D> {
         }
         let (start, stop) = self.region();
         let end = self.cursor_end();
+        // a character has at most four bytes
         let (mut front, mut back) = ([0; 4], [0; 4]);
         let front = opener.encode_utf8(&mut front);
         let back = closer.encode_utf8(&mut back);
-        self.runs.reserve()?;
+        self.past.runs.reserve()?;
         let n = self.document.past_len();
         let Some(place) = self
             .document
-            .wrap(start, stop, front, back, self.place, end)?
+            .wrap(start, stop, front, back, self.cursor.place, end)?
         else {
             self.tell(Message::TextFull);
             return Ok(());
         };
-        self.runs.edited(n, false);
-        self.stored = stored_behind(n, self.stored);
-        settle(
-            &mut self.place,
-            &mut self.mark,
-            &mut self.soft,
-            &mut self.seek,
-            place,
-        );
-        self.changed = true;
+        self.past.edited(n, false);
+        self.cursor.settle(place);
         self.clear();
         Ok(())
     }

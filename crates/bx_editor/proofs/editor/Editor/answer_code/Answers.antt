@@ -1,30 +1,22 @@
-use Rattle.std.proofs.Common.{◌≡◌, ap, false, sym, ◌∙◌}
+use Rattle.std.proofs.Common.{◌≡◌, ap, sym, ◌∙◌}
 use Rattle.std.specs.Prelude.{if◌then◌else◌}
 use Rattle.std.proofs.lemmas.Bool.{eq-eqb}
 use Rattle.bx_asking.specs.Answers.{lengthened}
 use Rattle.bx_asking.specs.Codes.{coded, is_code_letter}
-use Rattle.bx_editor.specs.Answers.{limit_of}
-use Rattle.bx_editor.specs.Asking.{after_code, after_code_letter, longest_code, with_answer, without_ask}
-use Rattle.bx_editor.specs.Editor.{Editor, EditorState, cleared, with_typing}
-use Rattle.bx_editor.specs.Putting.{is_paste}
+use Rattle.bx_editor.specs.Asking.{after_code, longest_code, with_answer, without_ask}
+use Rattle.bx_editor.specs.Editor.{Editor, EditorState, cleared}
 use Rattle.bx_editor.proofs.QuestionLeft.{code-left}
 use Rattle.bx_editor.proofs.editor.Editor.answer_code.Goals as goal
-
-pub lengthen-requires-clause-limit : goal.lengthen-requires-clause-limit
-lengthen-requires-clause-limit g c = sym (ap limit_of c.requires.ask)
 
 pub returns-then-letter-eq10-clause-ok : goal.returns-then-letter-eq10-clause-ok
 returns-then-letter-eq10-clause-ok g c =
     let now : EditorState g.row.D.Denot = c.args.self.now in
     let d = g.D.BidiData.data now.tables in
     let e : Editor = cleared now.editor in
-    let typing = now.editor.typing in
     let state : Editor → EditorState g.row.D.Denot = λ x. record { tables = now.tables; editor = x } in
-    let typed : is_paste typing ≡ false = ap (λ s. is_paste s.editor.typing) (sym c.self.view_is) ∙ sym c.is_paste.ensures ∙ c.if-is_paste.false in
     let other : Editor = if is_code_letter c.args.letter then with_answer e (lengthened longest_code e.answer c.args.letter) else e in
     let ended = eq-eqb c.args.letter 0xA c.if-letter-eq10.true in
     c.leave_question.ensures
     ∙ ap (λ (s : EditorState g.row.D.Denot). (let left : EditorState g.row.D.Denot = record s { editor = without_ask s.editor } in left)) c.in_ok-put_coded.ensures.ok
     ∙ ap state (sym (code-left d e (coded e.answer)))
     ∙ ap (λ b. state (if b then after_code d (without_ask e) (coded e.answer) else other)) (sym ended)
-    ∙ ap (λ b. state (if b then with_typing e typing else after_code_letter d e c.args.letter)) (sym typed)

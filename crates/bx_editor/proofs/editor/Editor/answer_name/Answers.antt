@@ -1,11 +1,9 @@
-use Rattle.std.proofs.Common.{◌≡◌, ap, false, Some, sym, subst, string_bytes, ◌∙◌}
+use Rattle.std.proofs.Common.{◌≡◌, ap, Some, sym, subst, string_bytes, ◌∙◌}
 use Rattle.bx_asking.specs.Names.{closing, named}
 use Rattle.bx_asking.specs.declared.question.Ask.TheVariants.{Name}
 use Rattle.bx_editor.specs.Answers.{IsAnswer}
 use Rattle.bx_editor.specs.Asking.{after_name_letter, without_ask}
-use Rattle.bx_editor.specs.Editor.{Editor, EditorState, cleared, with_typing}
-use Rattle.bx_editor.specs.Putting.{is_paste}
-use Rattle.std.specs.Prelude.{if◌then◌else◌}
+use Rattle.bx_editor.specs.Editor.{Editor, EditorState, cleared}
 use Rattle.bx_editor.proofs.AnswersKept.{answer-coded}
 use Rattle.bx_editor.proofs.QuestionLeft.{named-left}
 use Rattle.bx_editor.proofs.editor.Editor.answer_name.Goals as goal
@@ -15,21 +13,18 @@ returns-in-Some-clause-ok g c =
     let now : EditorState g.row.D.Denot = c.args.self.now in
     let d = g.D.BidiData.data now.tables in
     let e : Editor = cleared now.editor in
-    let typing = now.editor.typing in
     let letter = c.args.letter in
     let state : Editor → EditorState g.row.D.Denot = λ x. record { tables = now.tables; editor = x } in
-    let typed : is_paste typing ≡ false = ap (λ s. is_paste s.editor.typing) (sym c.self.view_is) ∙ sym c.is_paste.ensures ∙ c.if-is_paste.false in
     let is : named letter ≡ Some c.in-Some.c = sym c.named.ensures ∙ c.in-Some.is in
     c.leave_question.ensures
     ∙ ap (λ (s : EditorState g.row.D.Denot). (let left : EditorState g.row.D.Denot = record s { editor = without_ask s.editor } in left)) c.in_ok-put_named.ensures.ok
     ∙ ap state (sym (named-left d e c.in-Some.c (closing letter)))
     ∙ ap (λ o. state (after_name_letter d e letter o)) (sym is)
-    ∙ ap (λ b. state (if b then with_typing e typing else after_name_letter d e letter (named letter))) (sym typed)
 
 pub invariant_of-self : goal.invariant_of-self
 invariant_of-self g c =
-    let i = c.self-then-asks_code.inside in
-    let kept = c.self-then-asks_code.invariant in
+    let i = c.self.inside in
+    let kept = c.self.invariant in
     let ask : i.ask ≡ Name =
-    ap (λ s. s.editor.ask) c.self-then-asks_code.view_is ∙ ap (λ s. s.editor.ask) c.clear.ensures ∙ c.requires.ask in
+    ap (λ s. s.editor.ask) c.self.view_is ∙ ap (λ s. s.editor.ask) c.clear.ensures ∙ c.requires.ask in
     (kept.0, kept.1, kept.2, kept.3, kept.4, answer-coded _ (subst (λ a. IsAnswer a (string_bytes i.answer)) ask kept.5), kept.6, kept.7)

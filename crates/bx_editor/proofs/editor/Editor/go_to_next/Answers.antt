@@ -1,6 +1,6 @@
 use Rattle.std.proofs.Common.{◌≡◌, ◌∙◌, ap, chars, false, length, subst, sym}
 use Rattle.std.specs.Prelude.{◌==◌}
-use Rattle.bx_find.specs.Letters.{letters_by}
+use Rattle.bx_find.specs.Letters.{letters}
 use Rattle.bx_find.specs.declared.reading.Reading.TheVariants.{Wide}
 use Rattle.bx_editor.specs.declared.aim.Aim.TheVariants.{Find}
 use Rattle.bx_editor.specs.declared.seek.Seek.TheVariants.{Off}
@@ -23,7 +23,7 @@ returns-clause-ok g c =
     c.settle_at.new.self ≡ record {
       tables = s.tables;
       editor = landed (cleared x)
-          (forward says Wide (rows says x) x.content.text (next_or_start says x) (letters_by says Wide (chars x.query)));
+          (forward says Wide (rows says x) x.content.text (next_or_start says x) (letters says Wide (chars x.query)));
     })) view
     (simp (
       c.in_ok-landing.ensures.same,

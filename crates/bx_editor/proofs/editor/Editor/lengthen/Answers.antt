@@ -1,7 +1,6 @@
-use Rattle.std.proofs.Common.{string_bytes, ap, sym, ◌∙◌}
+use Rattle.std.proofs.Common.{string_bytes, ap, ◌∙◌}
 use Rattle.std.proofs.lemmas.Str.{IsUtf8-encode, IsUtf8-string_bytes}
 use Rattle.bx_asking.specs.Answers.{lengthened}
-use Rattle.bx_editor.specs.Answers.{limit_of}
 use Rattle.bx_editor.proofs.AnswersKept.{answer-longer}
 use Rattle.bx_editor.proofs.editor.Editor.lengthen.Goals as goal
 
@@ -10,15 +9,15 @@ invariant_of-self g c =
     let i = c.self.inside in
     let new = c.in_ok-answer.answer in
     let kept = c.self.invariant in
-    let limit = c.requires.limit ∙ sym (ap (λ s. limit_of s.editor.ask) c.self.view_is) in
-    let longer = c.in_ok-answer.ensures.longer ∙ ap (λ t. lengthened c.args.limit t c.args.c) c.as_str.ensures.value in (
+    let limit = c.limit_of-limit.result in
+    let longer = c.in_ok-answer.ensures.longer ∙ ap (λ t. lengthened limit t c.args.c) c.as_str.ensures.value in (
       kept.0,
       kept.1,
       kept.2,
       kept.3,
       kept.4,
-      answer-longer i.ask c.args.limit (string_bytes i.answer) (string_bytes new) c.args.c (IsUtf8-string_bytes i.answer)
-          (IsUtf8-encode c.args.c c.ranges.c.0) limit kept.5 c.requires.narrow longer c.in_ok-answer.ensures.few,
+      answer-longer i.ask limit (string_bytes i.answer) (string_bytes new) c.args.c (IsUtf8-string_bytes i.answer)
+          (IsUtf8-encode c.args.c c.ranges.c.0) c.limit_of-limit.ensures kept.5 c.requires.narrow longer c.in_ok-answer.ensures.few,
       kept.6,
       kept.7,
     )

@@ -10,9 +10,9 @@ pub returns-clause-next : goal.returns-clause-next
 returns-clause-next g c =
     let i = c.self.inside in
     let ps = places (text_rows (g.D.BidiData.data i.document.tables) i.document.document.base i.document.document.w i.document.document.content.text) in
-    let next : c.in_ok-next.next ≡ unwrap_or (find (nat_lt i.place) ps) i.place = c.in_ok-next.ensures.place in
+    let next : c.in_ok-next.next ≡ unwrap_or (find (nat_lt i.cursor.place) ps) i.cursor.place = c.in_ok-next.ensures.place in
     subst (λ s. 0 ≡ next_or_start (g.D.BidiData.data s.tables) s.editor) c.self.view_is
-    (sym (next-is-start i.place ps (λ less. omega (arith, less, next, c.if-self-next.false))))
+    (sym (next-is-start i.cursor.place ps (λ less. omega (arith, less, next, c.if-self-next.false))))
 
 pub returns-clause-text_place : goal.returns-clause-text_place
 returns-clause-text_place g c = begin-is-place (g.D.BidiData.data c.args.self.now.tables) c.args.self.now.editor.content.text

@@ -1,7 +1,7 @@
 use Rattle.std.proofs.Common.{◌≡◌, ◌≤◌, ◌∙◌, true, ap, arith, chars, length, string_bytes, subst, sym, IfSome}
 use Rattle.std.specs.Prelude.{Some}
 use Rattle.bx_terms.specs.Sizes.{is_side}
-use Rattle.bx_find.specs.Matches.{first_from_by}
+use Rattle.bx_find.specs.Matches.{first_from}
 use Rattle.bx_document.specs.Document.{DocumentState}
 use Rattle.bx_view.specs.Places.{IsTextPlace}
 use Rattle.bx_editor.specs.Answers.{IsAnswer}
@@ -10,7 +10,8 @@ use Rattle.bx_editor.specs.Origin.{BeganAt, StandsAt}
 use Rattle.bx_editor.specs.Replacing.{next_match}
 use Rattle.bx_editor.specs.Search.{reading}
 use Rattle.bx_editor.specs.declared.seek.Seek.TheVariants.{Replacing}
-use Rattle.bx_editor.proofs.ShownMatch.{at-match, letters, passed-over}
+use Rattle.bx_editor.proofs.ShownMatch.{at-match, query-letters, passed-over}
+use Rattle.bx_editor.proofs.Viewed.{holds_with}
 use Rattle.bx_editor.proofs.editor.Editor.pass_over.Goals as goal
 
 pub invariant_of-self-2 : goal.invariant_of-self-2
@@ -23,22 +24,15 @@ invariant_of-self-2 g c =
     let at = c.in-Some.at in
     let behind = c.behind_character-behind.result in
     let kept = c.self.invariant in
-    let seek : i.seek ≡ Replacing = ap (λ (s : EditorState g.row.D.Denot). s.editor.seek) c.self.view_is ∙ c.requires.shown in
-    let shown = at-match d i.aim query text i.seek i.at i.count seek kept.7 in
-    let found : Some at ≡ first_from_by d (reading i.aim) (letters d i.aim query text) text behind =
+    let seek : i.cursor.seek ≡ Replacing = ap (λ (s : EditorState g.row.D.Denot). s.editor.seek) c.self.view_is ∙ c.requires.shown in
+    let shown = at-match d i.aim query text i.cursor.seek i.at i.count seek kept.7 in
+    let found : Some at ≡ first_from d (reading i.aim) (query-letters d i.aim query text) text behind =
     sym c.in-Some.is ∙ c.next_match.ensures.next
     ∙ sym (ap (λ (s : EditorState g.row.D.Denot). next_match (g.D.BidiData.data s.tables) s.editor behind) c.self.view_is) in
     let on : i.at ≤ behind = omega (arith, c.behind_character-behind.ensures.behind) in
-    let next = passed-over d i.aim query text i.at i.count behind at c.len-utf8.ensures.utf8 shown on found in
+    let next = passed-over d i.aim query text i.at i.count behind at c.behind_character-behind.ensures.utf8 shown on found in
     let place = c.in_ok-self-inside.field-0 in
-    subst (λ (x : DocumentState g.row.D.Denot). IsTextPlace (g.D.BidiData.data x.tables) x.document.content.text place
-    × (is_side i.height ≡ true)
-    × IfSome i.mark (IsTextPlace (g.D.BidiData.data x.tables) x.document.content.text)
-    × (length (chars (string_bytes i.query)) ≤ 64)
-    × (length (chars (string_bytes i.other)) ≤ 64)
-    × IsAnswer i.ask (string_bytes i.answer)
-    × BeganAt (g.D.BidiData.data x.tables) x.document.content.text i.seek i.origin
-    × StandsAt (g.D.BidiData.data x.tables) i.aim (string_bytes i.query) x.document.content.text i.seek at i.count)
+    subst (holds_with g.D.BidiData (record i { cursor = record i.cursor { place = place }; at = at }))
     (sym c.in_ok-self-inside.ensures.same) (
       c.in_ok-self-inside.ensures.text_place,
       kept.1,

@@ -17,106 +17,32 @@ use Rattle.bx_editor.specs.Replacing.{seen}
 use Rattle.bx_editor.specs.Status.{status_columns}
 use Rattle.bx_editor.proofs.OnItsCell.{stands}
 use Rattle.bx_editor.proofs.Shown.{all-blank, drawn-front, picture-is}
+use Rattle.bx_editor.proofs.Viewed.{value, value_with}
 use Rattle.bx_editor.proofs.editor.Editor.picture.Goals as goal
 
 pub put_status-requires-clause-position : goal.put_status-requires-clause-position
 put_status-requires-clause-position g c =
     let i = c.self.inside in
-    subst (λ doc. IsPosition (g.D.BidiData.data doc.tables) doc.document.w doc.document.content.text (rows (g.D.BidiData.data doc.tables) (record {
-      content = doc.document.content;
-      place = i.place;
-      mark = i.mark;
-      soft = i.soft;
-      held = string_bytes i.held;
-      query = string_bytes i.query;
-      seek = i.seek;
-      aim = i.aim;
-      origin = i.origin;
-      other = string_bytes i.other;
-      at = i.at;
-      count = i.count;
-      ask = i.ask;
-      answer = string_bytes i.answer;
-      runs = i.runs.numbers;
-      typing = i.typing;
-      stored = i.stored;
-      changed = i.changed;
-      message = i.message;
-      quit_before = i.quit_before;
-      ended = i.ended;
-      base = doc.document.base;
-      goal = i.goal;
-      height = i.height;
-      width = doc.document.w;
-    })) i.place c.in_ok-shown.shown.position) (sym c.show.ensures.same) c.in_ok-shown.ensures.position
+    subst (λ t. (let s = value_with g.D.BidiData i t in
+    let says : Data = g.D.BidiData.data s.tables in
+    IsPosition says s.editor.width s.editor.content.text (rows says s.editor) s.editor.place c.in_ok-shown.shown.position))
+    (sym c.show.ensures.same) c.in_ok-shown.ensures.position
 
 pub returns-clause-top : goal.returns-clause-top
 returns-clause-top g c =
     let i = c.self.inside in
     let d : Data = g.D.BidiData.data i.document.tables in
-    let e : Editor = (record {
-      content = i.document.document.content;
-      place = i.place;
-      mark = i.mark;
-      soft = i.soft;
-      held = string_bytes i.held;
-      query = string_bytes i.query;
-      seek = i.seek;
-      aim = i.aim;
-      origin = i.origin;
-      other = string_bytes i.other;
-      at = i.at;
-      count = i.count;
-      ask = i.ask;
-      answer = string_bytes i.answer;
-      runs = i.runs.numbers;
-      typing = i.typing;
-      stored = i.stored;
-      changed = i.changed;
-      message = i.message;
-      quit_before = i.quit_before;
-      ended = i.ended;
-      base = i.document.document.base;
-      goal = i.goal;
-      height = i.height;
-      width = i.document.document.w;
-    }) in
+    let e : Editor = (value g.D.BidiData i).editor in
     let count = c.text_height-count.ensures.rows in
     subst (λ s. c.in_ok-shown.shown.top ≡ next_top (g.D.BidiData.data s.tables) s.editor c.args.top) c.self.view_is
-    (c.in_ok-shown.ensures.top ∙ ap (follow (rows d e) c.args.top i.place) count
-    ∙ sym (ap (λ b. if b then c.args.top else follow (rows d e) c.args.top i.place (text_height i.height)) c.if-self.false))
+    (c.in_ok-shown.ensures.top ∙ ap (follow (rows d e) c.args.top i.cursor.place) count
+    ∙ sym (ap (λ b. if b then c.args.top else follow (rows d e) c.args.top i.cursor.place (text_height i.height)) c.if-self.false))
 
 pub returns-clause-picture : goal.returns-clause-picture
 returns-clause-picture g c =
     let i = c.self.inside in
     let d : Data = g.D.BidiData.data i.document.tables in
-    let e : Editor = (record {
-      content = i.document.document.content;
-      place = i.place;
-      mark = i.mark;
-      soft = i.soft;
-      held = string_bytes i.held;
-      query = string_bytes i.query;
-      seek = i.seek;
-      aim = i.aim;
-      origin = i.origin;
-      other = string_bytes i.other;
-      at = i.at;
-      count = i.count;
-      ask = i.ask;
-      answer = string_bytes i.answer;
-      runs = i.runs.numbers;
-      typing = i.typing;
-      stored = i.stored;
-      changed = i.changed;
-      message = i.message;
-      quit_before = i.quit_before;
-      ended = i.ended;
-      base = i.document.document.base;
-      goal = i.goal;
-      height = i.height;
-      width = i.document.document.w;
-    }) in
+    let e : Editor = (value g.D.BidiData i).editor in
     let all : List TextRow = rows d e in
     let top = c.in_ok-shown.shown.top in
     let n = c.text_height-count.result in
@@ -126,41 +52,17 @@ returns-clause-picture g c =
     let drawn = c.in_ok-shown.ensures.drawn in
     let row = c.in_ok-shown.ensures.row in
     let cell = c.in_ok-shown.ensures.position.column in
-    let status = subst (λ doc. new ≡ record mid {
-      columns = take (text_height i.height * doc.document.w) mid.columns ++ status_columns (g.D.BidiData.data doc.tables) (record {
-        content = doc.document.content;
-        place = i.place;
-        mark = i.mark;
-        soft = i.soft;
-        held = string_bytes i.held;
-        query = string_bytes i.query;
-        seek = i.seek;
-        aim = i.aim;
-        origin = i.origin;
-        other = string_bytes i.other;
-        at = i.at;
-        count = i.count;
-        ask = i.ask;
-        answer = string_bytes i.answer;
-        runs = i.runs.numbers;
-        typing = i.typing;
-        stored = i.stored;
-        changed = i.changed;
-        message = i.message;
-        quit_before = i.quit_before;
-        ended = i.ended;
-        base = doc.document.base;
-        goal = i.goal;
-        height = i.height;
-        width = doc.document.w;
-      });
-    }) c.show.ensures.same c.in_ok-put_status.ensures.status in
+    let status = subst (λ t. (let s = value_with g.D.BidiData i t in
+    new ≡ record mid {
+      columns = take (text_height s.editor.height * s.editor.width) mid.columns
+          ++ status_columns (g.D.BidiData.data s.tables) s.editor;
+    })) c.show.ensures.same c.in_ok-put_status.ensures.status in
     let high = c.requires.height ∙ sym (ap (λ s. s.editor.height) c.self.view_is) in
     let wide = ap (λ x. x.width) drawn ∙ c.requires.width ∙ sym (ap (λ s. s.editor.width) c.self.view_is) in
     let part = c.seen-region.result in
     let told : part ≡ seen d e = c.seen-region.ensures ∙ ap (λ s. seen (g.D.BidiData.data s.tables) s.editor) (sym c.self.view_is) in
     let front = drawn-front was mid (shown_columns d i.document.document top part n) n (omega (arith, high, c.text_height-count.ensures.inside))
-    c.columns-columns.ensures.grid.sized.each c.columns-columns-2.ensures.grid.sized.each drawn in
+    c.height-height.ensures.sized c.put_status.ensures.sized drawn in
     let shown : take (text_height i.height * i.document.document.w) mid.columns
     ≡ region_rows d e.width (seen d e) (text_height i.height) (shown_rows all top (text_height i.height)) =
     ap₂ (λ t w. take (t * w) mid.columns) (sym c.text_height-count.ensures.rows) (sym wide) ∙ front
@@ -178,11 +80,13 @@ returns-clause-cursor g c = λ live.
     let same = c.self.view_is in
     let top = c.in_ok-shown.shown.top in
     let count = c.text_height-count.ensures.rows in
-    let some = subst (λ n. 1 ≤ n) c.requires.width c.columns-columns.ensures.grid.sized.narrow in
-    let utf8 = subst (λ s. IsUtf8 s.editor.content.text) same c.len-utf8.ensures.utf8 in
+    let column = c.in_ok-shown.ensures.inside in
+    let wide : 1 ≤ i.document.document.w = omega (arith, column.0, column.1) in
+    let some = subst (λ s. 1 ≤ s.editor.width) same wide in
+    let utf8 = subst (λ s. IsUtf8 s.editor.content.text) same c.show.ensures.utf8 in
     let place = subst (λ s. IsTextPlace (g.D.BidiData.data s.tables) s.editor.content.text s.editor.place) same c.self.invariant.0 in
     let shown = subst (λ s. IsAmong (rows (g.D.BidiData.data s.tables) s.editor) top s.editor.place (text_height s.editor.height)) same
-    (subst (λ n. IsAmong (document_rows (g.D.BidiData.data i.document.tables) i.document.document) top i.place n) count c.in_ok-shown.ensures.among) in
+    (subst (λ n. IsAmong (document_rows (g.D.BidiData.data i.document.tables) i.document.document) top i.cursor.place n) count c.in_ok-shown.ensures.among) in
     let now = c.args.self.now in
     let e : Editor = now.editor in
     let d : Data = g.D.BidiData.data now.tables in
@@ -197,11 +101,10 @@ returns-then-self-clause-picture g c =
     let e : Editor = now.editor in
     let d : Data = g.D.BidiData.data now.tables in
     let was = c.args.page in
-    let height = ap (λ s. s.editor.height) c.self.view_is ∙ sym c.requires.height in
-    let step = c.blank_rows.ensures ∙ ap (λ h. with_rows was 0 (replicate ((h - 0) * was.width) blank)) height in
+    let step = c.blank_rows.ensures ∙ ap (λ h. with_rows was 0 (replicate ((h - 0) * was.width) blank)) c.height-height.ensures.height in
     let ended = sym (ap (λ s. s.editor.ended) c.self.view_is) ∙ c.if-self.true in
     c.new.ensures
     ∙ ap (λ (x : GridState). record { height = x.height; width = x.width; columns = x.columns; row = 1 - 1; column = 1 - 1 })
-    (all-blank was c.blank_rows.new.self c.columns-columns.ensures.grid.sized.each step)
+    (all-blank was c.blank_rows.new.self c.height-height.ensures.sized step)
     ∙ ap₂ (λ h w. blank_picture h w) c.requires.height c.requires.width
     ∙ sym (ap (λ b. if b then blank_picture e.height e.width else text_picture d e c.args.top (rows d e)) ended)

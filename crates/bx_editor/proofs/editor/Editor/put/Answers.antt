@@ -4,6 +4,7 @@ use Rattle.bx_ucd.specs.Data.{Data}
 use Rattle.bx_editor.specs.Editor.{Editor, EditorState, cleared}
 use Rattle.bx_editor.specs.Putting.{after_put, put_in}
 use Rattle.bx_editor.proofs.HeldApart.{held-apart, put-is}
+use Rattle.bx_editor.proofs.Viewed.{value}
 use Rattle.bx_editor.proofs.editor.Editor.put.Goals as goal
 
 pub returns-clause-ok : goal.returns-clause-ok
@@ -11,33 +12,7 @@ returns-clause-ok g c =
     let i = c.self.inside in
     let tables = i.document.tables in
     let d : Data = g.D.BidiData.data tables in
-    let e : Editor = record {
-      content = i.document.document.content;
-      place = i.place;
-      mark = i.mark;
-      soft = i.soft;
-      held = string_bytes i.held;
-      query = string_bytes i.query;
-      seek = i.seek;
-      aim = i.aim;
-      origin = i.origin;
-      other = string_bytes i.other;
-      at = i.at;
-      count = i.count;
-      ask = i.ask;
-      answer = string_bytes i.answer;
-      runs = i.runs.numbers;
-      typing = i.typing;
-      stored = i.stored;
-      changed = i.changed;
-      message = i.message;
-      quit_before = i.quit_before;
-      ended = i.ended;
-      base = i.document.document.base;
-      goal = i.goal;
-      height = i.height;
-      width = i.document.document.w;
-    } in
+    let e : Editor = (value g.D.BidiData i).editor in
     let held : List ℕ → EditorState g.row.D.Denot → EditorState g.row.D.Denot = λ h s. record s { editor = record s.editor { held = h } } in
     let put : List ℕ → List ℕ → EditorState g.row.D.Denot =
     λ h new. record { tables = tables; editor = put_in d (cleared (record e { held = h })) new false } in

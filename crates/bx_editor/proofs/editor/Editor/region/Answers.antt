@@ -7,8 +7,8 @@ use Rattle.bx_editor.proofs.editor.Editor.region.Goals as goal
 pub returns-clause-range : goal.returns-clause-range
 returns-clause-range g c =
     let i = c.self.inside in
-    let low : c.min.result ≡ min (unwrap_or i.mark i.place) i.place = c.min.ensures ∙ ap (λ m. min m i.place) c.unwrap_or-mark.ensures in
-    let high : c.max.result ≡ max (unwrap_or i.mark i.place) i.place = c.max.ensures ∙ ap (λ m. max m i.place) c.unwrap_or-mark.ensures in
+    let low : c.min.result ≡ min (unwrap_or i.cursor.mark i.cursor.place) i.cursor.place = c.min.ensures ∙ ap (λ m. min m i.cursor.place) c.unwrap_or-mark.ensures in
+    let high : c.max.result ≡ max (unwrap_or i.cursor.mark i.cursor.place) i.cursor.place = c.max.ensures ∙ ap (λ m. max m i.cursor.place) c.unwrap_or-mark.ensures in
     subst (λ s. IsRange s.editor.content.text c.min.result c.max.result) c.self.view_is
-    (region_range (g.D.BidiData.data i.document.tables) i.document.document.content.text i.mark i.place c.min.result c.max.result
+    (region_range (g.D.BidiData.data i.document.tables) i.document.document.content.text i.cursor.mark i.cursor.place c.min.result c.max.result
     c.len-utf8.ensures.utf8 c.self.invariant.0 c.self.invariant.2 low high)

@@ -1,13 +1,13 @@
-use Rattle.std.proofs.Common.{◌≡◌, ◌∙◌, true, ap, ap₂, string_bytes, sym}
+use Rattle.std.proofs.Common.{◌≡◌, ◌∙◌, IsUtf8, true, ap, ap₂, string_bytes, subst, sym}
 use Rattle.std.specs.Prelude.{Some}
-use Rattle.bx_find.specs.Matches.{first_from_by}
+use Rattle.bx_find.specs.Matches.{first_from}
 use Rattle.bx_view.proofs.TextPlaces.{place-between}
 use Rattle.bx_editor.specs.Editor.{EditorState, cleared}
 use Rattle.bx_editor.specs.Origin.{asks_other}
 use Rattle.bx_editor.specs.Replacing.{next_match, shown_at}
 use Rattle.bx_editor.specs.Search.{reading, sought}
 use Rattle.bx_editor.specs.declared.seek.Seek.TheVariants.{Replacing}
-use Rattle.bx_editor.proofs.ShownMatch.{asked, asked-began, letters, shown}
+use Rattle.bx_editor.proofs.ShownMatch.{asked, asked-began, query-letters, shown}
 use Rattle.bx_editor.proofs.editor.Editor.show_match.Goals as goal
 
 pub first_from-requires : goal.first_from-requires
@@ -15,7 +15,8 @@ first_from-requires g c =
     let i = c.self.inside in
     let t = i.document in
     let d = g.D.BidiData.data t.tables in
-    record { bounds = place-between d t.document.content.text i.place c.len-utf8.ensures.utf8 c.self.invariant.0 }
+    let utf8 = subst (λ (s : EditorState g.row.D.Denot). IsUtf8 s.editor.content.text) (sym c.self.view_is) c.sought.ensures.utf8 in
+    record { bounds = place-between d t.document.content.text i.cursor.place utf8 c.self.invariant.0 }
 
 pub invariant_of-self : goal.invariant_of-self
 invariant_of-self g c =
@@ -25,11 +26,11 @@ invariant_of-self g c =
     let query = string_bytes i.query in
     let at = c.in-Some-first_from.at in
     let kept = c.self.invariant in
-    let asks : asks_other i.seek ≡ true =
+    let asks : asks_other i.cursor.seek ≡ true =
     ap (λ (s : EditorState g.row.D.Denot). asks_other s.editor.seek) (c.self.view_is ∙ c.clear.ensures) ∙ c.requires.asked in
-    let found : Some at ≡ first_from_by d (reading i.aim) (letters d i.aim query text) text i.place =
+    let found : Some at ≡ first_from d (reading i.aim) (query-letters d i.aim query text) text i.cursor.place =
     sym c.in-Some-first_from.is ∙ c.first_from.ensures.found
-    ∙ ap₂ (λ r q. first_from_by d r q text i.place) c.reading_of-reading.ensures
+    ∙ ap₂ (λ r q. first_from d r q text i.cursor.place) c.reading_of-reading.ensures
     (c.in-Some.ensures.letters
     ∙ sym (ap (λ (s : EditorState g.row.D.Denot). sought (g.D.BidiData.data s.tables) s.editor) c.self.view_is)) in (
       kept.0,
@@ -38,9 +39,9 @@ invariant_of-self g c =
       kept.3,
       kept.4,
       kept.5,
-      asked-began d text i.seek i.origin asks kept.6,
-      shown d i.aim query text at i.count i.place c.len-utf8.ensures.utf8 c.len-utf8.ensures.short
-          (asked d i.aim query text i.seek i.at i.count asks kept.7) found,
+      asked-began d text i.cursor.seek i.origin asks kept.6,
+      shown d i.aim query text at i.count i.cursor.place c.first_from.ensures.utf8 c.first_from.ensures.short
+          (asked d i.aim query text i.cursor.seek i.at i.count asks kept.7) found,
     )
 
 pub returns-in-Some-first_from : goal.returns-in-Some-first_from
@@ -51,9 +52,9 @@ returns-in-Some-first_from g c =
     let text = i.document.document.content.text in
     let at = c.in-Some-first_from.at in
     let was = c.self.view_is ∙ c.clear.ensures in
-    let found : Some at ≡ first_from_by d (reading i.aim) (letters d i.aim (string_bytes i.query) text) text i.place =
+    let found : Some at ≡ first_from d (reading i.aim) (query-letters d i.aim (string_bytes i.query) text) text i.cursor.place =
     sym c.in-Some-first_from.is ∙ c.first_from.ensures.found
-    ∙ ap₂ (λ r q. first_from_by d r q text i.place) c.reading_of-reading.ensures
+    ∙ ap₂ (λ r q. first_from d r q text i.cursor.place) c.reading_of-reading.ensures
     (c.in-Some.ensures.letters
     ∙ sym (ap (λ (s : EditorState g.row.D.Denot). sought (g.D.BidiData.data s.tables) s.editor) c.self.view_is)) in
     ap (λ (s : EditorState g.row.D.Denot). (let t : EditorState g.row.D.Denot = record s {

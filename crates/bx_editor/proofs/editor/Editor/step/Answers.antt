@@ -6,6 +6,7 @@ use Rattle.bx_view.specs.Places.{IsTextPlace}
 use Rattle.bx_editor.specs.Answers.{IsAnswer}
 use Rattle.bx_editor.specs.Origin.{BeganAt, StandsAt}
 use Rattle.bx_editor.proofs.RunSteps.{none-mapped, not-stepped}
+use Rattle.bx_editor.proofs.Viewed.{holds_with}
 use Rattle.bx_editor.proofs.editor.Editor.step.Goals as goal
 
 pub invariant_of-self-in_default : goal.invariant_of-self-in_default
@@ -16,12 +17,4 @@ invariant_of-self-in_default g c =
     let same : c.step.new.self ≡ t =
     c.in_ok-place.ensures.ok
     ∙ ap (λ x. record t { document = record t.document { content = x } }) (not-stepped c.args.step t.document.content none) in
-    subst (λ (x : DocumentState g.row.D.Denot). IsTextPlace (g.D.BidiData.data x.tables) x.document.content.text i.place
-    × (is_side i.height ≡ true)
-    × IfSome i.mark (IsTextPlace (g.D.BidiData.data x.tables) x.document.content.text)
-    × (length (chars (string_bytes i.query)) ≤ 64)
-    × (length (chars (string_bytes i.other)) ≤ 64)
-    × IsAnswer i.ask (string_bytes i.answer)
-    × BeganAt (g.D.BidiData.data x.tables) x.document.content.text i.seek i.origin
-    × StandsAt (g.D.BidiData.data x.tables) i.aim
-    (string_bytes i.query) x.document.content.text i.seek i.at i.count) (sym same) c.self.invariant
+    subst (holds_with g.D.BidiData i) (sym same) c.self.invariant

@@ -10,6 +10,7 @@ use Rattle.bx_editor.specs.Answers.{IsAnswer}
 use Rattle.bx_editor.specs.Origin.{BeganAt, StandsAt}
 use Rattle.bx_editor.specs.Runs.{by_run, run_length}
 use Rattle.bx_editor.proofs.RunSteps.{by-length-is, cleared-length, no-step, none-mapped}
+use Rattle.bx_editor.proofs.Viewed.{holds_with, value_with}
 use Rattle.bx_editor.proofs.editor.Editor.step_run.Goals as goal
 
 pub invariant_of-self-in_default : goal.invariant_of-self-in_default
@@ -20,14 +21,7 @@ invariant_of-self-in_default g c =
     let none = none-mapped (next_changes c.args.step n t.document.content) (sym c.in_ok-place.ensures.place ∙ c.in_default.is) in
     let same : c.step_times.new.self ≡ t =
     c.in_ok-place.ensures.ok ∙ ap (λ x. record t { document = record t.document { content = x } }) (no-step c.args.step n t.document.content none) in
-    subst (λ (x : DocumentState g.row.D.Denot). IsTextPlace (g.D.BidiData.data x.tables) x.document.content.text i.place
-    × (is_side i.height ≡ true)
-    × IfSome i.mark (IsTextPlace (g.D.BidiData.data x.tables) x.document.content.text)
-    × (length (chars (string_bytes i.query)) ≤ 64)
-    × (length (chars (string_bytes i.other)) ≤ 64)
-    × IsAnswer i.ask (string_bytes i.answer)
-    × BeganAt (g.D.BidiData.data x.tables) x.document.content.text i.seek i.origin
-    × StandsAt (g.D.BidiData.data x.tables) i.aim (string_bytes i.query) x.document.content.text i.seek i.at i.count) (sym same) c.self.invariant
+    subst (holds_with g.D.BidiData i) (sym same) c.self.invariant
 
 pub returns-in_default-clause-ok : goal.returns-in_default-clause-ok
 returns-in_default-clause-ok g c =
@@ -45,36 +39,7 @@ returns-in_default-clause-ok g c =
     let told : Message → EditorState g.row.D.Denot → EditorState g.row.D.Denot =
     λ m s. record s { editor = record (cleared s.editor) { message = Some m } } in
     c.tell.ensures
-    ∙ ap (λ (x : DocumentState g.row.D.Denot). told c.nothing_left.result (record {
-      tables = x.tables;
-      editor = record {
-        content = x.document.content;
-        place = i.place;
-        mark = i.mark;
-        soft = i.soft;
-        held = string_bytes i.held;
-        query = string_bytes i.query;
-        seek = i.seek;
-        aim = i.aim;
-        origin = i.origin;
-        other = string_bytes i.other;
-        at = i.at;
-        count = i.count;
-        ask = i.ask;
-        answer = string_bytes i.answer;
-        runs = i.runs.numbers;
-        typing = i.typing;
-        stored = i.stored;
-        changed = i.changed;
-        message = i.message;
-        quit_before = i.quit_before;
-        ended = i.ended;
-        base = x.document.base;
-        goal = i.goal;
-        height = i.height;
-        width = x.document.w;
-      };
-    })) same
+    ∙ ap (λ (x : DocumentState g.row.D.Denot). told c.nothing_left.result (value_with g.D.BidiData i x)) same
     ∙ ap (told c.nothing_left.result) c.self.view_is
     ∙ ap (λ m. told m now) c.nothing_left.ensures
     ∙ ap (λ x. record now { editor = by_run c.args.step (cleared now.editor) x }) (sym left)

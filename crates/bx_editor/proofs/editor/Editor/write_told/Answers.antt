@@ -18,7 +18,7 @@ returns-clause-printable g c =
     let printable : are_ascii_printable (told_text d (chars (string_bytes unit)) level) ≡ true = search rules in
     let told-level =
     c.in_ok-level.ensures
-    ∙ ap (λ s. place_level (g.D.BidiData.data s.tables) s.editor.base s.editor.content.text c.self.inside.place)
+    ∙ ap (λ s. place_level (g.D.BidiData.data s.tables) s.editor.base s.editor.content.text c.self.inside.cursor.place)
     (c.self-2.view_is ∙ c.in_ok-stop.ensures.same)
     ∙ ap (place_level d e.base e.content.text) place in
     told-here d e (string_bytes unit) level (λ at. c.if-place-len.false (place ∙ at ∙ sym len)) (search rules) told-level printable
@@ -35,7 +35,7 @@ returns-clause-told g c =
     let same = c.self-2.view_is ∙ c.in_ok-stop.ensures.same in
     let told-level =
     c.in_ok-level.ensures
-    ∙ ap (λ s. place_level (g.D.BidiData.data s.tables) s.editor.base s.editor.content.text c.self.inside.place) same
+    ∙ ap (λ s. place_level (g.D.BidiData.data s.tables) s.editor.base s.editor.content.text c.self.inside.cursor.place) same
     ∙ ap (place_level d e.base e.content.text) place in
     let tables = c.tables.ensures ∙ ap (λ (s : EditorState g.row.D.Denot). s.tables) same in
     c.in_ok-write_told.ensures.told

@@ -1,5 +1,0 @@
-use Rattle.bx_editor.proofs.IsolateLevels.{isolates-raise}
-use Rattle.bx_editor.proofs.asking_laws.isolates_raise.Goals as goal
-
-pub returns : goal.returns
-returns c = isolates-raise

@@ -1,5 +1,0 @@
-use Rattle.bx_editor.proofs.LettersPut.{letter-wraps}
-use Rattle.bx_editor.proofs.asking_laws.letter_wraps.Goals as goal
-
-pub returns : goal.returns
-returns c = letter-wraps

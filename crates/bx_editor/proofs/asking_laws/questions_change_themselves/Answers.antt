@@ -1,5 +1,0 @@
-use Rattle.bx_editor.proofs.QuestionKeys.{questions-change-themselves}
-use Rattle.bx_editor.proofs.asking_laws.questions_change_themselves.Goals as goal
-
-pub returns : goal.returns
-returns c = questions-change-themselves

@@ -1,5 +1,0 @@
-use Rattle.bx_editor.proofs.ToldLine.{told-numbers-lead-back}
-use Rattle.bx_editor.proofs.asking_laws.told_numbers_lead_back.Goals as goal
-
-pub returns : goal.returns
-returns c = told-numbers-lead-back

@@ -1,5 +1,0 @@
-use Rattle.bx_editor.proofs.PutBack.{put-restores-cut}
-use Rattle.bx_editor.proofs.laws.put_restores_cut.Goals as goal
-
-pub returns : goal.returns
-returns c = put-restores-cut

@@ -1,5 +1,0 @@
-use Rattle.bx_editor.proofs.TakenBack.{redo_mirrors_undo}
-use Rattle.bx_editor.proofs.laws.redo_mirrors_undo.Goals as goal
-
-pub returns : goal.returns
-returns c = redo_mirrors_undo

@@ -1,5 +1,0 @@
-use Rattle.bx_editor.proofs.TopOnce.{top-stays}
-use Rattle.bx_editor.proofs.laws.top_stays.Goals as goal
-
-pub returns : goal.returns
-returns c = top-stays

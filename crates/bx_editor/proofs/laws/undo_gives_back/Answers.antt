@@ -1,5 +1,0 @@
-use Rattle.bx_editor.proofs.TakenBack.{undo_gives_back}
-use Rattle.bx_editor.proofs.laws.undo_gives_back.Goals as goal
-
-pub returns : goal.returns
-returns c = undo_gives_back

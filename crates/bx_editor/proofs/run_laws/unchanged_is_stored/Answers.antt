@@ -1,5 +1,0 @@
-use Rattle.bx_editor.proofs.StoredText.{unchanged-is-stored}
-use Rattle.bx_editor.proofs.run_laws.unchanged_is_stored.Goals as goal
-
-pub returns : goal.returns
-returns c = unchanged-is-stored

@@ -1,5 +1,0 @@
-use Rattle.bx_editor.proofs.GivenWay.{selection-comes-back}
-use Rattle.bx_editor.proofs.selection_laws.selection_comes_back.Goals as goal
-
-pub returns : goal.returns
-returns c = selection-comes-back

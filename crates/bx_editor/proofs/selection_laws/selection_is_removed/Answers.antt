@@ -1,5 +1,0 @@
-use Rattle.bx_editor.proofs.GivenWay.{selection-is-removed}
-use Rattle.bx_editor.proofs.selection_laws.selection_is_removed.Goals as goal
-
-pub returns : goal.returns
-returns c = selection-is-removed

@@ -1,0 +1,28 @@
+//! The cursor, with all that an edit settles.
+ghost use Rattle.std.specs.Prelude.{◌≡◌, None};
+
+use crate::seek::Seek;
+use crate::soft::Soft;
+
+/// The cursor's place and the mark's, in bytes of the text, how fresh a selection is and how far a search is.
+#[derive(Clone, Copy)]
+pub(crate) struct Cursor {
+    pub(crate) place: usize,
+    pub(crate) mark: Option<usize>,
+    pub(crate) soft: Soft,
+    pub(crate) seek: Seek,
+}
+
+impl Cursor {
+    /// Goes to the place behind an edit, which removes the mark and ends the search.
+    pub(crate) fn settle(&mut self, place: usize)
+        ensures { self.new ≡ record { place = place; mark = None; soft = Soft.Off; seek = Seek.Off } }
+    {
+        *self = Cursor {
+            place,
+            mark: None,
+            soft: Soft::Off,
+            seek: Seek::Off,
+        };
+    }
+}
