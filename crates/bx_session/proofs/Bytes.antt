@@ -8,16 +8,16 @@ use Rattle.bx_keys.specs.Keys.{rest_after}
 use Rattle.bx_keys.specs.Waiting.{head_of}
 use Rattle.bx_store.specs.declared.store.StoreFault.{StoreFault}
 use Rattle.bx_ucd.specs.Data.{Data}
-use Rattle.bx_editor.specs.Editor.{EditorState, at_start}
-use Rattle.bx_editor.specs.Keys.{asks_for_whole}
+use Rattle.bx_editor.specs.Editor.{Editor, EditorState, at_start}
+use Rattle.bx_editor.specs.Keys.{after_key, asks_for_whole}
 use Rattle.bx_session.specs.declared.error.Refused.{Refused}
 use Rattle.bx_session.specs.declared.error.Refused.TheVariants.{Edit, Paint, Size}
-use Rattle.bx_session.specs.Session.{Session, SessionState, with_painting, with_painting_owed, at_opening, key_of_byte, after_spending}
-use Rattle.bx_session.specs.Session.{session_after_any, unpainted_after_byte, is_idle, after_byte, unpainted_after_told}
+use Rattle.bx_session.specs.Session.{Session, SessionState, with_painting, with_painting_owed, at_opening, key_of_byte, after_spending, session_after_any}
+use Rattle.bx_session.specs.Session.{unpainted_after_byte, is_idle, after_byte, unpainted_after_told}
 use Rattle.bx_session.specs.Painting.{QueuesPicture, FeedPaints}
 use Rattle.bx_session.specs.Saving.{AfterByte, ToldBy}
 use Rattle.bx_session.specs.declared.status.Status.{Status}
-use Rattle.bx_session.proofs.Applied.{same_ended}
+use Rattle.bx_session.proofs.KeySizes.{same_ended}
 
 -- ---- opening
 
@@ -49,6 +49,13 @@ opening_is {D} says tables text height width base e rest queue new is waits empt
     ∙ rw (waits, empty) refl in
     ap (λ (x : D). record { tables = x; session = new.session }) (same ∙ ap (λ (x : EditorState D). x.tables) is)
     ∙ ap (λ (x : Session). record { tables = tables; session = x }) state
+
+-- ---- a key
+
+pub applied : {D : Type 0} (says : D → Data) (old new : EditorState D) (key : Key) → new.editor ≡ after_key (says old.tables) None old.editor key
+    → new.tables ≡ old.tables → new ≡ record old { editor = after_key (says old.tables) None old.editor key }
+applied {D} says old new key is same =
+    ap (λ (x : D). record { tables = x; editor = new.editor }) same ∙ ap (λ (x : Editor). record { tables = old.tables; editor = x }) is
 
 -- ---- a byte
 

@@ -1,10 +1,10 @@
--- A key keeps the window's size, unless it tells one.
-use Rattle.std.proofs.Common.{◌≡◌, ℕ, ◌+◌, Bool, true, false, List, [], ◌∷◌, Option, Some, None, refl, sym, subst, ◌∙◌, if◌then◌else◌}
+-- A key keeps the window's size, unless it tells one, and only a Quit ends a session.
+use Rattle.std.proofs.Common.{◌≡◌, ℕ, ◌+◌, Bool, true, false, List, [], ◌∷◌, Option, Some, None, refl, sym, ap, subst, ◌∙◌, if◌then◌else◌}
 use Rattle.std.specs.Prelude.{not, ◌||◌, ◌&&◌, ◌==◌, encode_utf8, length}
 use Rattle.bx_text.specs.declared.change.Change.{Change}
 use Rattle.bx_text.specs.Edits.{Edit, fits, splice}
 use Rattle.bx_keys.specs.declared.key.Key.{Key}
-use Rattle.bx_keys.specs.declared.key.Key.TheVariants.{Size}
+use Rattle.bx_keys.specs.declared.key.Key.TheVariants.{Quit, Size}
 use Rattle.bx_grid.specs.Picture.{PictureState}
 use Rattle.bx_store.specs.declared.store.StoreFault.{StoreFault}
 use Rattle.bx_ucd.specs.Data.{Data}
@@ -26,10 +26,10 @@ use Rattle.bx_editor.specs.declared.soft.Soft.{Soft}
 use Rattle.bx_editor.specs.declared.soft.Soft.TheVariants as softness
 use Rattle.bx_editor.specs.Asking.{without_ask}
 use Rattle.bx_editor.specs.Editor.{Editor, after_quit, after_redo, after_save, after_step, after_undo, cleared, with_exchange}
-use Rattle.bx_editor.specs.Effects.{Effect, Types, BeginsLine, Puts, Removes, RemovesWord, Steps, StepsRun, Goes, GoesByRows, Marks, Selects}
-use Rattle.bx_editor.specs.Effects.{Unmarks, Copies, Cuts, Seeks, SeeksNext, Saves, Quits, Turns, Helps, AsksLine, AsksName, Tells, Rests, Before, before, by}
+use Rattle.bx_editor.specs.Effects.{Effect, Types, BeginsLine, Puts, Removes, RemovesWord, Steps, StepsRun, Goes, GoesByRows, Marks, Selects, Unmarks, Copies}
+use Rattle.bx_editor.specs.Effects.{Cuts, Seeks, SeeksNext, Saves, Quits, Turns, Helps, AsksLine, AsksName, Tells, Rests, Before, before, by}
 use Rattle.bx_editor.specs.Erasing.{after_erasing, after_erasing_word, after_removing, or_selection, removed_on}
-use Rattle.bx_editor.specs.Keys.{Answer, Letter, Shortens, GoesBack, Next, Previous, Replaces, Stays, Ends, after_any, after_asking, after_key, answer_of}
+use Rattle.bx_editor.specs.Keys.{Answer, Letter, Shortens, GoesBack, Next, Previous, Replaces, Stays, Ends, after_any, after_asking, after_key, after_user, answer_of}
 use Rattle.bx_editor.specs.Keys.{answered, answered_match, answered_other, asks_for_whole, effect_of, is_size_key}
 use Rattle.bx_editor.specs.Putting.{after_character, after_new_line, after_put, has_room, is_paste, line_end, put_in, typed, yielding}
 use Rattle.bx_editor.specs.Region.{after_copy, after_cut, after_mark, is_at_mark, is_empty, line, region, taken}
@@ -41,229 +41,259 @@ use Rattle.bx_editor.specs.Selecting.{is_selection, selecting, unselected}
 use Rattle.bx_editor.proofs.InSearch.{each-key}
 use Rattle.bx_editor.proofs.Questions.{IsKept, question-keeps}
 use Rattle.bx_session.specs.Painting.{FitsEditor}
+use Rattle.bx_session.specs.Parts.{is_quit}
+use Rattle.bx_session.proofs.KeyKinds.{effect_kind, is_quitting}
 
 abbrev pub SameSize : Editor → Editor → Type 0
 SameSize e new = (new.height ≡ e.height) × (new.width ≡ e.width)
 
-size_if : (g : Bool) (e a b : Editor) → SameSize e a → SameSize e b → SameSize e (if g then a else b)
-size_if true e a b x y = x
-size_if false e a b x y = y
+-- the size, and unless the key is Quit, whether the session has ended
+record Part : Type 0 where
+  pub height : ℕ
+  pub width : ℕ
+  pub ended : Bool
 
--- ---- edits
+abbrev part : Key → Editor → Part
+part key e = record { height = e.height; width = e.width; ended = is_quit (Some key) || e.ended }
 
-put_in_size : (d : Data) (e : Editor) (new : List ℕ) (on : Bool) → SameSize e (put_in d e new on)
-put_in_size d e new on = size_if (has_room e new) e _ _ (size_if (is_selection e) e _ _ (refl, refl) (refl, refl)) (refl, refl)
+module _ (key : Key) where
+  abbrev Keeps : Editor → Editor → Type 0
+  Keeps e new = part key new ≡ part key e
 
-typed_size : (d : Data) (typing : Typing) (e : Editor) (new : List ℕ) (kind : Kind) → SameSize e (typed d typing e new kind)
-typed_size d typing e new kind = put_in_size d e new (goes_on typing kind)
+  kept_if : (g : Bool) (e a b : Editor) → Keeps e a → Keeps e b → Keeps e (if g then a else b)
+  kept_if true e a b x y = x
+  kept_if false e a b x y = y
 
-new_line_size : (d : Data) (typing : Typing) (e : Editor) → SameSize e (after_new_line d typing e)
-new_line_size d typing e = let part = yielding e in typed_size d typing e (line_end d (splice e.content.text part.0 part.1 [])) Separator
+  -- ---- edits
 
-character_size : (d : Data) (typing : Typing) (e : Editor) (c : ℕ) → SameSize e (after_character d typing e c)
-character_size d typing e c =
-    size_if ((c == 0xA) && is_paste typing) e _ _ (new_line_size d typing e) (typed_size d typing e (encode_utf8 c) (kind_of (d.class c)))
+  put_in_kept : (d : Data) (e : Editor) (new : List ℕ) (on : Bool) → Keeps e (put_in d e new on)
+  put_in_kept d e new on = kept_if (has_room e new) e _ _ (kept_if (is_selection e) e _ _ refl refl) refl
 
-put_size : (d : Data) (e : Editor) → SameSize e (after_put d e)
-put_size d e = size_if (length e.held == 0) e _ _ (refl, refl) (put_in_size d e e.held false)
+  typed_kept : (d : Data) (typing : Typing) (e : Editor) (new : List ℕ) (kind : Kind) → Keeps e (typed d typing e new kind)
+  typed_kept d typing e new kind = put_in_kept d e new (goes_on typing kind)
 
-selection_size : (d : Data) (e other : Editor) → SameSize e other → SameSize e (or_selection d e other)
-selection_size d e other h = size_if (is_selection e) e _ _ (refl, refl) h
+  new_line_kept : (d : Data) (typing : Typing) (e : Editor) → Keeps e (after_new_line d typing e)
+  new_line_kept d typing e = let part = yielding e in typed_kept d typing e (line_end d (splice e.content.text part.0 part.1 [])) Separator
 
-erasing_size : (d : Data) (typing : Typing) (how : Removal) (e : Editor) (start stop : ℕ) → SameSize e (after_erasing d typing how e start stop)
-erasing_size d typing how e start stop =
-    selection_size d e (removed_on d typing how e start stop) (size_if (start == stop) e _ _ (refl, refl) (refl, refl))
+  character_kept : (d : Data) (typing : Typing) (e : Editor) (c : ℕ) → Keeps e (after_character d typing e c)
+  character_kept d typing e c =
+      kept_if ((c == 0xA) && is_paste typing) e _ _ (new_line_kept d typing e) (typed_kept d typing e (encode_utf8 c) (kind_of (d.class c)))
 
-word_size : (d : Data) (e : Editor) (start stop : ℕ) → SameSize e (after_erasing_word d e start stop)
-word_size d e start stop = selection_size d e (after_removing d e start stop false) (size_if (start == stop) e _ _ (refl, refl) (refl, refl))
+  put_kept : (d : Data) (e : Editor) → Keeps e (after_put d e)
+  put_kept d e = kept_if (length e.held == 0) e _ _ refl (put_in_kept d e e.held false)
 
-undo_size : (e : Editor) (past : List Edit) → SameSize e (after_undo e past)
-undo_size e [] = (refl, refl)
-undo_size e (edit ∷ past) = (refl, refl)
+  selection_kept : (d : Data) (e other : Editor) → Keeps e other → Keeps e (or_selection d e other)
+  selection_kept d e other h = kept_if (is_selection e) e _ _ refl h
 
-redo_size : (e : Editor) (future : List Edit) → SameSize e (after_redo e future)
-redo_size e [] = (refl, refl)
-redo_size e (edit ∷ future) = (refl, refl)
+  erasing_kept : (d : Data) (typing : Typing) (how : Removal) (e : Editor) (start stop : ℕ) → Keeps e (after_erasing d typing how e start stop)
+  erasing_kept d typing how e start stop =
+      selection_kept d e (removed_on d typing how e start stop) (kept_if (start == stop) e _ _ refl refl)
 
-step_size : (step : HistoryStep) (e : Editor) → SameSize e (after_step step e)
-step_size history.Undo e = undo_size e e.content.past
-step_size history.Redo e = redo_size e e.content.future
+  word_kept : (d : Data) (e : Editor) (start stop : ℕ) → Keeps e (after_erasing_word d e start stop)
+  word_kept d e start stop = selection_kept d e (after_removing d e start stop false) (kept_if (start == stop) e _ _ refl refl)
 
-run_size : (step : HistoryStep) (e : Editor) (change : Option Change) → SameSize e (by_run step e change)
-run_size step e None = (refl, refl)
-run_size step e (Some change) = (refl, refl)
+  undo_kept : (e : Editor) (past : List Edit) → Keeps e (after_undo e past)
+  undo_kept e [] = refl
+  undo_kept e (edit ∷ past) = refl
 
--- ---- the other effects
+  redo_kept : (e : Editor) (future : List Edit) → Keeps e (after_redo e future)
+  redo_kept e [] = refl
+  redo_kept e (edit ∷ future) = refl
 
-select_size : (e : Editor) (mark : Option ℕ) (soft : Soft) → SameSize e (selecting e mark soft)
-select_size e None soft = (refl, refl)
-select_size e (Some mark) softness.Off = (refl, refl)
-select_size e (Some mark) softness.Fresh = (refl, refl)
-select_size e (Some mark) softness.Old = (refl, refl)
+  step_kept : (step : HistoryStep) (e : Editor) → Keeps e (after_step step e)
+  step_kept history.Undo e = undo_kept e e.content.past
+  step_kept history.Redo e = redo_kept e e.content.future
 
-save_size : (e : Editor) (fault : Option StoreFault) → SameSize e (after_save e fault)
-save_size e None = (refl, refl)
-save_size e (Some fault) = (refl, refl)
+  run_kept : (step : HistoryStep) (e : Editor) (change : Option Change) → Keeps e (by_run step e change)
+  run_kept step e None = refl
+  run_kept step e (Some change) = refl
 
-quit_size : (e : Editor) (again : Bool) → SameSize e (after_quit e again)
-quit_size e again = size_if (not e.changed || again) e _ _ (refl, refl) (refl, refl)
+  -- ---- the other effects
 
-mark_size : (e : Editor) → SameSize e (after_mark e)
-mark_size e = size_if (is_at_mark e.mark e.place) e _ _ (refl, refl) (refl, refl)
+  select_kept : (e : Editor) (mark : Option ℕ) (soft : Soft) → Keeps e (selecting e mark soft)
+  select_kept e None soft = refl
+  select_kept e (Some mark) softness.Off = refl
+  select_kept e (Some mark) softness.Fresh = refl
+  select_kept e (Some mark) softness.Old = refl
 
-copy_size : (d : Data) (e : Editor) → SameSize e (after_copy d e)
-copy_size d e = size_if (is_empty (region e)) e _ _ (size_if (is_empty (line d e)) e _ _ (refl, refl) (refl, refl)) (refl, refl)
+  save_kept : (e : Editor) (fault : Option StoreFault) → Keeps e (after_save e fault)
+  save_kept e None = refl
+  save_kept e (Some fault) = refl
 
-cut_size : (d : Data) (e : Editor) → SameSize e (after_cut d e)
-cut_size d e = size_if (is_empty (taken d e)) e _ _ (copy_size d e) (refl, refl)
+  either_end : (quits now was : Bool) → quits ≡ true → (quits || now) ≡ (quits || was)
+  either_end true now was h = refl
+  either_end false now was h = absurd (cc h)
 
--- ---- a key
+  quit_kept : (e : Editor) (again : Bool) → is_quit (Some key) ≡ true → Keeps e (after_quit e again)
+  quit_kept e again quits =
+      kept_if (not e.changed || again) e _ _
+      (ap (λ (ended : Bool). record (part key e) { ended = ended }) (either_end (is_quit (Some key)) true e.ended quits)) refl
 
-by_size : (d : Data) (fault : Option StoreFault) (was : Before) (e : Editor) (effect : Effect) → SameSize e (by d fault was e effect)
-by_size d fault was e (Types c) = character_size d was.typing e c
-by_size d fault was e BeginsLine = new_line_size d was.typing e
-by_size d fault was e Puts = put_size d e
-by_size d fault was e (Removes how start stop) = erasing_size d was.typing how e start stop
-by_size d fault was e (RemovesWord start stop) = word_size d e start stop
-by_size d fault was e (Steps step) = step_size step e
-by_size d fault was e (StepsRun step) = run_size step e (next_changes step (run_length step e) e.content)
-by_size d fault was e (Goes place) = (refl, refl)
-by_size d fault was e (GoesByRows way n) = (refl, refl)
-by_size d fault was e Marks = mark_size e
-by_size d fault was e Selects = select_size e e.mark e.soft
-by_size d fault was e Unmarks = (refl, refl)
-by_size d fault was e Copies = copy_size d e
-by_size d fault was e Cuts = cut_size d e
-by_size d fault was e (Seeks aim) = (refl, refl)
-by_size d fault was e SeeksNext = size_if (length (sought d (unselected e)) == 0) e _ _ (refl, refl) (refl, refl)
-by_size d fault was e Saves = save_size e fault
-by_size d fault was e Quits = quit_size e was.again
-by_size d fault was e Turns = (refl, refl)
-by_size d fault was e Helps = (refl, refl)
-by_size d fault was e AsksLine = (refl, refl)
-by_size d fault was e AsksName = (refl, refl)
-by_size d fault was e Tells = (refl, refl)
-by_size d fault was e Rests = (refl, refl)
+  mark_kept : (e : Editor) → Keeps e (after_mark e)
+  mark_kept e = kept_if (is_at_mark e.mark e.place) e _ _ refl refl
 
-letter_size : (d : Data) (e : Editor) (c : ℕ) → SameSize e (after_letter d e c)
-letter_size d e c = size_if (c == 0xA) e _ _ (refl, refl) (size_if (is_no_letter d c) e _ _ (refl, refl) (refl, refl))
+  copy_kept : (d : Data) (e : Editor) → Keeps e (after_copy d e)
+  copy_kept d e = kept_if (is_empty (region e)) e _ _ (kept_if (is_empty (line d e)) e _ _ refl refl) refl
 
-exchange_size : (d : Data) (e : Editor) (start stop : ℕ) (new : List ℕ) → SameSize e (with_exchange d e start stop new)
-exchange_size d e start stop [] = (refl, refl)
-exchange_size d e start stop (b ∷ bs) = (refl, refl)
+  cut_kept : (d : Data) (e : Editor) → Keeps e (after_cut d e)
+  cut_kept d e = kept_if (is_empty (taken d e)) e _ _ (copy_kept d e) refl
 
-at_size : (d : Data) (at : Option ℕ) (e new : Editor) → SameSize e new → SameSize e (at_match d new at)
-at_size d None e new h = h
-at_size d (Some at) e new h = h
+  -- ---- a key
 
-replacing_size : (d : Data) (e : Editor) → SameSize e (after_replacing d e)
-replacing_size d e =
-    let stop = match_stop d e in
-    let one = with_matches_replaced d e stop e.other 1 in
-    size_if (fits e.content.text e.at stop e.other) e _ _
-    (at_size d (next_match d one (e.at + length e.other)) e one (exchange_size d e e.at stop e.other)) (refl, refl)
+  by_kept : (d : Data) (fault : Option StoreFault) (was : Before) (e : Editor) (effect : Effect) → is_quitting effect ≡ is_quit (Some key)
+      → Keeps e (by d fault was e effect)
+  by_kept d fault was e (Types c) is = character_kept d was.typing e c
+  by_kept d fault was e BeginsLine is = new_line_kept d was.typing e
+  by_kept d fault was e Puts is = put_kept d e
+  by_kept d fault was e (Removes how start stop) is = erasing_kept d was.typing how e start stop
+  by_kept d fault was e (RemovesWord start stop) is = word_kept d e start stop
+  by_kept d fault was e (Steps step) is = step_kept step e
+  by_kept d fault was e (StepsRun step) is = run_kept step e (next_changes step (run_length step e) e.content)
+  by_kept d fault was e (Goes place) is = refl
+  by_kept d fault was e (GoesByRows way n) is = refl
+  by_kept d fault was e Marks is = mark_kept e
+  by_kept d fault was e Selects is = select_kept e e.mark e.soft
+  by_kept d fault was e Unmarks is = refl
+  by_kept d fault was e Copies is = copy_kept d e
+  by_kept d fault was e Cuts is = cut_kept d e
+  by_kept d fault was e (Seeks aim) is = refl
+  by_kept d fault was e SeeksNext is = kept_if (length (sought d (unselected e)) == 0) e _ _ refl refl
+  by_kept d fault was e Saves is = save_kept e fault
+  by_kept d fault was e Quits is = quit_kept e was.again (sym is)
+  by_kept d fault was e Turns is = refl
+  by_kept d fault was e Helps is = refl
+  by_kept d fault was e AsksLine is = refl
+  by_kept d fault was e AsksName is = refl
+  by_kept d fault was e Tells is = refl
+  by_kept d fault was e Rests is = refl
 
-all_size : (d : Data) (e : Editor) → SameSize e (after_replacing_all d e)
-all_size d e =
-    let spans = matches_on d e in
-    let stop = last_stop e.at spans in
-    let new = swapped e.at e.content.text e.other spans in
-    size_if (fits e.content.text e.at stop new) e _ _ (exchange_size d e e.at stop new) (refl, refl)
+  ends : (d : Data) (fault : Option StoreFault) (was : Before) (e : Editor) → Keeps e (by d fault was e (effect_of d e key))
+  ends d fault was e = by_kept d fault was e (effect_of d e key) (effect_kind d e key).1
 
-shown_size : (e : Editor) (at : Option ℕ) → SameSize e (shown_at e at)
-shown_size e None = (refl, refl)
-shown_size e (Some at) = (refl, refl)
+  letter_kept : (d : Data) (e : Editor) (c : ℕ) → Keeps e (after_letter d e c)
+  letter_kept d e c = kept_if (c == 0xA) e _ _ refl (kept_if (is_no_letter d c) e _ _ refl refl)
 
-asked_size : (e landed : Editor) (place : Option ℕ) → SameSize e landed → SameSize e (asked_at place landed)
-asked_size e landed None h = h
-asked_size e landed (Some place) h = h
+  exchange_kept : (d : Data) (e : Editor) (start stop : ℕ) (new : List ℕ) → Keeps e (with_exchange d e start stop new)
+  exchange_kept d e start stop [] = refl
+  exchange_kept d e start stop (b ∷ bs) = refl
 
-asking_other_size : (d : Data) (e : Editor) → SameSize e (after_asking_other d e)
-asking_other_size d e =
-    let aimed : Editor = record e { aim = Replace } in
-    let landing = landing_from d e.place aimed in
-    size_if (length (sought d aimed) == 0) e _ _ (refl, refl) (asked_size e (landed aimed landing) landing.place (refl, refl))
+  at_kept : (d : Data) (at : Option ℕ) (e new : Editor) → Keeps e new → Keeps e (at_match d new at)
+  at_kept d None e new h = h
+  at_kept d (Some at) e new h = h
 
-sought_letter_size : (d : Data) (typing : Typing) (e : Editor) (c : ℕ) → SameSize e (after_sought_letter d typing e c)
-sought_letter_size d typing e c =
-    size_if ((c == 0xA) && is_replacing e.aim) e _ _ (size_if (is_paste typing) e _ _ (refl, refl) (asking_other_size d e)) (letter_size d e c)
+  replacing_kept : (d : Data) (e : Editor) → Keeps e (after_replacing d e)
+  replacing_kept d e =
+      let stop = match_stop d e in
+      let one = with_matches_replaced d e stop e.other 1 in
+      kept_if (fits e.content.text e.at stop e.other) e _ _
+      (at_kept d (next_match d one (e.at + length e.other)) e one (exchange_kept d e e.at stop e.other)) refl
 
-other_letter_size : (d : Data) (typing : Typing) (e : Editor) (c : ℕ) → SameSize e (after_other_letter d typing e c)
-other_letter_size d typing e c =
-    size_if (c == 0xA) e _ _ (size_if (is_paste typing) e _ _ (refl, refl) (shown_size e (next_match d e e.place)))
-    (size_if (is_no_letter d c) e _ _ (refl, refl) (refl, refl))
+  all_kept : (d : Data) (e : Editor) → Keeps e (after_replacing_all d e)
+  all_kept d e =
+      let spans = matches_on d e in
+      let stop = last_stop e.at spans in
+      let new = swapped e.at e.content.text e.other spans in
+      kept_if (fits e.content.text e.at stop new) e _ _ (exchange_kept d e e.at stop new) refl
 
-match_letter_size : (d : Data) (typing : Typing) (e : Editor) (c : ℕ) → SameSize e (after_match_letter d typing e c)
-match_letter_size d typing e c = size_if ((c == 0xA) && not (is_paste typing)) e _ _ (replacing_size d e) (refl, refl)
+  shown_kept : (e : Editor) (at : Option ℕ) → Keeps e (shown_at e at)
+  shown_kept e None = refl
+  shown_kept e (Some at) = refl
 
-answered_size : (d : Data) (fault : Option StoreFault) (was : Before) (e : Editor) (key : Key) (answer : Answer)
-    → SameSize e (answered d fault was e key answer)
-answered_size d fault was e key (Letter c) = sought_letter_size d was.typing e c
-answered_size d fault was e key Shortens = (refl, refl)
-answered_size d fault was e key GoesBack = (refl, refl)
-answered_size d fault was e key Next = (refl, refl)
-answered_size d fault was e key Previous = (refl, refl)
-answered_size d fault was e key Replaces = asking_other_size d e
-answered_size d fault was e key Stays = (refl, refl)
-answered_size d fault was e key Ends = by_size d fault was e (effect_of d e key)
+  asked_kept : (e landed : Editor) (place : Option ℕ) → Keeps e landed → Keeps e (asked_at place landed)
+  asked_kept e landed None h = h
+  asked_kept e landed (Some place) h = h
 
--- while the other text is asked for
-other_text_size : (d : Data) (fault : Option StoreFault) (was : Before) (e : Editor) (key : Key) (answer : Answer)
-    → SameSize e (answered_other d fault was e key answer)
-other_text_size d fault was e key (Letter c) = other_letter_size d was.typing e c
-other_text_size d fault was e key Shortens = (refl, refl)
-other_text_size d fault was e key GoesBack = (refl, refl)
-other_text_size d fault was e key Next = (refl, refl)
-other_text_size d fault was e key Previous = (refl, refl)
-other_text_size d fault was e key Replaces = shown_size e (next_match d e e.place)
-other_text_size d fault was e key Stays = (refl, refl)
-other_text_size d fault was e key Ends = by_size d fault was (without_search e) (effect_of d (without_search e) key)
+  asking_other_kept : (d : Data) (e : Editor) → Keeps e (after_asking_other d e)
+  asking_other_kept d e =
+      let aimed : Editor = record e { aim = Replace } in
+      let landing = landing_from d e.place aimed in
+      kept_if (length (sought d aimed) == 0) e _ _ refl (asked_kept e (landed aimed landing) landing.place refl)
 
--- while a match is shown
-match_size : (d : Data) (fault : Option StoreFault) (was : Before) (e : Editor) (key : Key) (answer : Answer)
-    → SameSize e (answered_match d fault was e key answer)
-match_size d fault was e key (Letter c) = match_letter_size d was.typing e c
-match_size d fault was e key Shortens = (refl, refl)
-match_size d fault was e key GoesBack = (refl, refl)
-match_size d fault was e key Next = at_size d (next_match d e (behind_character e.content.text e.at)) e e (refl, refl)
-match_size d fault was e key Previous = (refl, refl)
-match_size d fault was e key Replaces = all_size d e
-match_size d fault was e key Stays = (refl, refl)
-match_size d fault was e key Ends = by_size d fault was (without_search e) (effect_of d (without_search e) key)
+  sought_letter_kept : (d : Data) (typing : Typing) (e : Editor) (c : ℕ) → Keeps e (after_sought_letter d typing e c)
+  sought_letter_kept d typing e c =
+      kept_if ((c == 0xA) && is_replacing e.aim) e _ _ (kept_if (is_paste typing) e _ _ refl (asking_other_kept d e)) (letter_kept d e c)
 
--- in a question
-question_size : (d : Data) (e : Editor) → IsKept d (SameSize e)
-question_size d e = record {
-  inserted = λ x new h. h;
-  wrapped = λ x opener closer h. h;
-  told = λ x message h. h;
-  placed = λ x place h. h;
-  typed = λ x typing h. h;
-  asked = λ x ask answer h. h;
-}
+  other_letter_kept : (d : Data) (typing : Typing) (e : Editor) (c : ℕ) → Keeps e (after_other_letter d typing e c)
+  other_letter_kept d typing e c =
+      kept_if (c == 0xA) e _ _ (kept_if (is_paste typing) e _ _ refl (shown_kept e (next_match d e e.place)))
+      (kept_if (is_no_letter d c) e _ _ refl refl)
 
-asking_size : (d : Data) (fault : Option StoreFault) (was : Before) (e : Editor) (key : Key) → SameSize e (after_asking d fault was e key)
-asking_size d fault was e key =
-    question-keeps d (SameSize e) (question_size d e) fault was e key (answer_of key) (refl, refl)
-    (by_size d fault was (without_ask e) (effect_of d (without_ask e) key))
+  match_letter_kept : (d : Data) (typing : Typing) (e : Editor) (c : ℕ) → Keeps e (after_match_letter d typing e c)
+  match_letter_kept d typing e c = kept_if ((c == 0xA) && not (is_paste typing)) e _ _ (replacing_kept d e) refl
 
-any_size : (d : Data) (fault : Option StoreFault) (was : Before) (ask : Ask) (seek : Seek) (e : Editor) (key : Key)
-    → SameSize e (after_any d fault was ask seek e key)
-any_size d fault was asks.Off Off e key = by_size d fault was e (effect_of d e key)
-any_size d fault was asks.Off Begun e key = answered_size d fault was e key (answer_of key)
-any_size d fault was asks.Off Typed e key = answered_size d fault was e key (answer_of key)
-any_size d fault was asks.Off WithBegun e key = other_text_size d fault was e key (answer_of key)
-any_size d fault was asks.Off WithTyped e key = other_text_size d fault was e key (answer_of key)
-any_size d fault was asks.Off Replacing e key = match_size d fault was e key (answer_of key)
-any_size d fault was asks.Line seek e key = asking_size d fault was e key
-any_size d fault was asks.Name seek e key = asking_size d fault was e key
-any_size d fault was asks.Code seek e key = asking_size d fault was e key
+  answered_kept : (d : Data) (fault : Option StoreFault) (was : Before) (e : Editor) (answer : Answer)
+      → Keeps e (answered d fault was e key answer)
+  answered_kept d fault was e (Letter c) = sought_letter_kept d was.typing e c
+  answered_kept d fault was e Shortens = refl
+  answered_kept d fault was e GoesBack = refl
+  answered_kept d fault was e Next = refl
+  answered_kept d fault was e Previous = refl
+  answered_kept d fault was e Replaces = asking_other_kept d e
+  answered_kept d fault was e Stays = refl
+  answered_kept d fault was e Ends = ends d fault was e
+
+  -- while the other text is asked for
+  other_text_kept : (d : Data) (fault : Option StoreFault) (was : Before) (e : Editor) (answer : Answer)
+      → Keeps e (answered_other d fault was e key answer)
+  other_text_kept d fault was e (Letter c) = other_letter_kept d was.typing e c
+  other_text_kept d fault was e Shortens = refl
+  other_text_kept d fault was e GoesBack = refl
+  other_text_kept d fault was e Next = refl
+  other_text_kept d fault was e Previous = refl
+  other_text_kept d fault was e Replaces = shown_kept e (next_match d e e.place)
+  other_text_kept d fault was e Stays = refl
+  other_text_kept d fault was e Ends = ends d fault was (without_search e)
+
+  -- while a match is shown
+  match_kept : (d : Data) (fault : Option StoreFault) (was : Before) (e : Editor) (answer : Answer)
+      → Keeps e (answered_match d fault was e key answer)
+  match_kept d fault was e (Letter c) = match_letter_kept d was.typing e c
+  match_kept d fault was e Shortens = refl
+  match_kept d fault was e GoesBack = refl
+  match_kept d fault was e Next = at_kept d (next_match d e (behind_character e.content.text e.at)) e e refl
+  match_kept d fault was e Previous = refl
+  match_kept d fault was e Replaces = all_kept d e
+  match_kept d fault was e Stays = refl
+  match_kept d fault was e Ends = ends d fault was (without_search e)
+
+  -- in a question
+  question_kept : (d : Data) (e : Editor) → IsKept d (Keeps e)
+  question_kept d e = record {
+    inserted = λ x new h. h;
+    wrapped = λ x opener closer h. h;
+    told = λ x message h. h;
+    placed = λ x place h. h;
+    typed = λ x typing h. h;
+    asked = λ x ask answer h. h;
+  }
+
+  asking_kept : (d : Data) (fault : Option StoreFault) (was : Before) (e : Editor) → Keeps e (after_asking d fault was e key)
+  asking_kept d fault was e =
+      question-keeps d (Keeps e) (question_kept d e) fault was e key (answer_of key) refl
+      (ends d fault was (without_ask e))
+
+  any_kept : (d : Data) (fault : Option StoreFault) (was : Before) (ask : Ask) (seek : Seek) (e : Editor)
+      → Keeps e (after_any d fault was ask seek e key)
+  any_kept d fault was asks.Off Off e = ends d fault was e
+  any_kept d fault was asks.Off Begun e = answered_kept d fault was e (answer_of key)
+  any_kept d fault was asks.Off Typed e = answered_kept d fault was e (answer_of key)
+  any_kept d fault was asks.Off WithBegun e = other_text_kept d fault was e (answer_of key)
+  any_kept d fault was asks.Off WithTyped e = other_text_kept d fault was e (answer_of key)
+  any_kept d fault was asks.Off Replacing e = match_kept d fault was e (answer_of key)
+  any_kept d fault was asks.Line seek e = asking_kept d fault was e
+  any_kept d fault was asks.Name seek e = asking_kept d fault was e
+  any_kept d fault was asks.Code seek e = asking_kept d fault was e
+
+-- ---- told keys too
+
+same_size : (key : Key) (e new : Editor) → part key new ≡ part key e → SameSize e new
+same_size key e new h = (ap (λ (p : Part). p.height) h, ap (λ (p : Part). p.width) h)
 
 key_size : (d : Data) (fault : Option StoreFault) (e : Editor) (P : Key → Type 0) → ((height width : ℕ) → P (Size height width) → ⊥) → (key : Key) → P key
     → SameSize e (after_key d fault e key)
 key_size d fault e P none =
     each-key d fault e (λ k new. P k → SameSize e new) (λ height width told. absurd (none height width told)) (λ notice told. (refl, refl))
-    (λ told. (refl, refl), λ told. (refl, refl)) (λ k other told. any_size d fault (before e) e.ask e.seek (cleared e) k)
+    (λ told. (refl, refl), λ told. (refl, refl)) (λ k other told. same_size k e (after_user d fault e k) (any_kept k d fault (before e) e.ask e.seek (cleared e)))
 
 pub other_size : (d : Data) (fault : Option StoreFault) (e : Editor) (key : Key) → is_size_key key ≡ false → SameSize e (after_key d fault e key)
 other_size d fault e = key_size d fault e (λ key. is_size_key key ≡ false) (λ height width told. cc told)
@@ -277,3 +307,26 @@ pub still_fits : (d : Data) (fault : Option StoreFault) (painted : Option Pictur
     → new ≡ after_key d fault e key → FitsEditor painted e → FitsEditor painted new
 still_fits d fault painted e new key told is was =
     fits_still painted e new (subst (SameSize e) (sym is) (key_size d fault e (λ k. asks_for_whole k ≡ false) (λ height width sized. cc sized) key told)) was
+
+-- ---- only a Quit ends a session
+
+unless_quit : (quits now was : Bool) → quits ≡ false → (quits || now) ≡ (quits || was) → now ≡ was
+unless_quit true now was other h = absurd (cc other)
+unless_quit false now was other h = h
+
+pub key_goes_on : (d : Data) (fault : Option StoreFault) (e : Editor) (key : Key) → is_quit (Some key) ≡ false → (after_key d fault e key).ended ≡ e.ended
+key_goes_on d fault e =
+    each-key d fault e (λ k new. is_quit (Some k) ≡ false → new.ended ≡ e.ended) (λ height width on. refl) (λ notice on. refl)
+    (λ on. refl, λ on. refl) (λ k other on. unless_quit (is_quit (Some k)) _ e.ended on (ap (λ (p : Part). p.ended) (any_kept k d fault (before e) e.ask e.seek (cleared e))))
+
+-- what a Quit does does not depend on a Save
+quit_alike : (d : Data) (fault : Option StoreFault) (was : Before) (ask : Ask) (seek : Seek) (e : Editor)
+    → after_any d fault was ask seek e Quit ≡ after_any d None was ask seek e Quit
+quit_alike d fault was asks.Off Off e = refl
+quit_alike d fault was asks.Off seek e = refl
+quit_alike d fault was ask seek e = refl
+
+-- nor does whether any key ends the session
+pub same_ended : (d : Data) (fault : Option StoreFault) (e : Editor) (key : Key) → (after_key d fault e key).ended ≡ (after_key d None e key).ended
+same_ended d fault e Quit = ap (λ (x : Editor). x.ended) (quit_alike d fault (before e) e.ask e.seek (cleared e))
+same_ended d fault e key = key_goes_on d fault e key refl ∙ sym (key_goes_on d None e key refl)

@@ -5,7 +5,8 @@ use Rattle.bx_grid.specs.Picture.{PictureState, AreWholeTokens, IsPicture}
 use Rattle.bx_ucd.specs.Data.{Data}
 use Rattle.bx_editor.specs.Editor.{Editor, rows}
 use Rattle.bx_editor.specs.Picture.{StandsOnItsCell, picture, next_top, blank_picture, text_picture}
-use Rattle.bx_session.specs.Session.{Session, painting, with_painting}
+use Rattle.bx_session.specs.declared.session.Session.TheInside.{Inside}
+use Rattle.bx_session.specs.Session.{Session, known_if, painting, with_painting}
 use Rattle.bx_session.specs.Painting.{QueuesPicture, Updates}
 
 either_height : (ended : Bool) (p q : PictureState) (h : ℕ) → p.height ≡ h → q.height ≡ h → (if ended then p else q).height ≡ h
@@ -25,6 +26,18 @@ picture_width d e top = either_width e.ended (blank_picture e.height e.width) (t
 -- bytes appended to a queue whose first bytes were sent
 pub longer_queue : (n : ℕ) (queue more new : List ℕ) → n ≤ length queue → new ≡ queue ++ more → drop n new ≡ drop n queue ++ more
 longer_queue n queue more new fits is = ap (drop n) is ∙ drop-append-le n queue more fits
+
+-- the value of a session's fields
+abbrev pub value_of : {D : Type 0} → Inside D → Session
+value_of s = record {
+  editor = s.editor.editor;
+  top = s.top;
+  rest = s.decoder;
+  painted = s.painted;
+  known = known_if s.is_known s.painted;
+  painting_owed = s.painting_owed;
+  pending = drop s.taken s.queue.items;
+}
 
 -- a session with this painting queued
 pub painting_is : (d : Data) (s : Session) (e : Editor) (top : ℕ) (p : PictureState) (pending : List ℕ) → e ≡ s.editor

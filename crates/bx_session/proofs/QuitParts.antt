@@ -1,6 +1,6 @@
 -- Only a Quit ends a session, so all bytes of a part are fed.
-use Rattle.std.proofs.Common.{◌≡◌, ◌≤◌, ◌<◌, ◌+◌, ℕ, suc, Bool, true, false, List, [], ◌∷◌, ◌++◌, Option, Some, None, Result, Ok, Err}
-use Rattle.std.proofs.Common.{refl, sym, ap, subst, ◌∙◌, append_assoc, take, drop, length, take-append-drop, if◌then◌else◌, arith}
+use Rattle.std.proofs.Common.{◌≡◌, ◌≤◌, ◌<◌, ◌+◌, ℕ, suc, Bool, true, false, List, [], ◌∷◌, ◌++◌, Option, Some, None, Result, Ok, Err, refl, sym, ap, subst}
+use Rattle.std.proofs.Common.{◌∙◌, append_assoc, take, drop, length, take-append-drop, if◌then◌else◌, arith}
 use Rattle.std.specs.List.{concat}
 use Rattle.std.proofs.lemmas.List.Folds.{concat-append}
 use Rattle.std.proofs.lemmas.List.{append-nil, length-append, length-map, length-take-le, map-append}
@@ -9,8 +9,7 @@ use Rattle.bx_keys.specs.Keys.{key_after, rest_after}
 use Rattle.bx_keys.specs.Waiting.{head_of}
 use Rattle.bx_store.specs.declared.store.StoreFault.{StoreFault}
 use Rattle.bx_ucd.specs.Data.{Data}
-use Rattle.bx_editor.specs.Editor.{Editor, after_save, cleared}
-use Rattle.bx_editor.specs.Keys.{after_key}
+use Rattle.bx_editor.specs.Editor.{Editor}
 use Rattle.bx_session.specs.declared.error.Refused.{Refused}
 use Rattle.bx_session.specs.declared.error.Refused.TheVariants as refused
 use Rattle.bx_session.specs.declared.status.Status.{Status}
@@ -23,26 +22,14 @@ use Rattle.bx_session.specs.Saving.{StoreState, Feeds}
 use Rattle.bx_session.specs.Session.{Session}
 use Rattle.bx_session.proofs.Logged.{appends_more, did_more}
 use Rattle.bx_session.proofs.Turns.{FeedsAll-append}
-use Rattle.bx_session.proofs.Alike.{Work}
-use Rattle.bx_session.proofs.Recovered.{Leaves, byte_leaves, editor_after}
-use Rattle.bx_session.proofs.Replayed.{each-replayed, other_goes_on, save_works}
+use Rattle.bx_session.proofs.KeySizes.{key_goes_on}
+use Rattle.bx_session.proofs.Leaving.{Leaves, byte_leaves, editor_after}
 
 -- ---- only a Quit ends a session
 
-save_goes_on : (e : Editor) (fault : Option StoreFault) → e.ended ≡ false → (after_save e fault).ended ≡ false
-save_goes_on e None h = h
-save_goes_on e (Some fault) h = h
-
--- any key but Quit
-key_goes_on : (d : Data) (fault : Option StoreFault) (e : Editor) (key : Key) → is_quit (Some key) ≡ false → e.ended ≡ false → (after_key d fault e key).ended ≡ false
-key_goes_on d fault e key =
-    each-replayed d e.ask e.seek e (λ k new. is_quit (Some k) ≡ false → e.ended ≡ false → (after_key d fault e k).ended ≡ false)
-    (λ other h. ap (λ (w : Work). w.ended) (save_works d fault e) ∙ save_goes_on (cleared e) fault h) (λ other h. absurd (cc other))
-    (λ k other small h. other_goes_on d fault e k other ∙ h) key
-
 any_goes_on : (d : Data) (fault : Option StoreFault) (e : Editor) (key : Option Key) → is_quit key ≡ false → e.ended ≡ false → (editor_after d fault e key).ended ≡ false
 any_goes_on d fault e None other h = h
-any_goes_on d fault e (Some key) other h = key_goes_on d fault e key other h
+any_goes_on d fault e (Some key) other h = key_goes_on d fault e key other ∙ h
 
 -- a session after a byte that completes no Quit
 record GoesOn (rest : List ℕ) (new : Session) : Type 0 where

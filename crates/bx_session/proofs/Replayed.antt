@@ -2,143 +2,39 @@
 use Rattle.std.proofs.Common.{◌≡◌, ℕ, Bool, true, false, List, [], ◌∷◌, ◌++◌, Option, Some, None, refl, sym, ap, ap₂, ◌∙◌, append_assoc, if◌then◌else◌}
 use Rattle.std.specs.Prelude.{option_to_list}
 use Rattle.bx_keys.specs.declared.key.Key.{Key}
-use Rattle.bx_keys.specs.declared.key.Key.TheVariants.{Insert, Erase, Delete, Back, Forward, Up, Down, Right, Left, RowHome, RowEnd, PageUp, PageDown, Save}
-use Rattle.bx_keys.specs.declared.key.Key.TheVariants.{Quit, Undo, Redo, Repaint, Direction, Size, Mark, Copy, Cut, Put}
-use Rattle.bx_keys.specs.declared.key.Key.TheVariants.{Find, FindBack, WordLeft, WordRight, TextStart, TextEnd, Help, Notice}
-use Rattle.bx_keys.specs.declared.key.Key.TheVariants.{EraseWord, DeleteWord, ErasePoint, NewLine, FindNext, Cancel, LineUp, LineDown, PageBack, PageOn}
-use Rattle.bx_keys.specs.declared.key.Key.TheVariants.{Select, UndoRun, RedoRun, GoTo, Replace, Name, Tell, PasteStart, PasteEnd}
+use Rattle.bx_keys.specs.declared.key.Key.TheVariants.{Save, Quit}
 use Rattle.bx_keys.specs.Keys.{key_after, rest_after}
 use Rattle.bx_keys.specs.Waiting.{head_of}
-use Rattle.bx_store.specs.declared.store.StoreFault.{StoreFault}
 use Rattle.bx_ucd.specs.Data.{Data}
 use Rattle.bx_asking.specs.declared.question.Ask.{Ask}
 use Rattle.bx_asking.specs.declared.question.Ask.TheVariants as asks
-use Rattle.bx_editor.specs.Asking.{without_ask}
-use Rattle.bx_editor.specs.Editor.{Editor, after_save, cleared}
+use Rattle.bx_editor.specs.Editor.{Editor, cleared}
 use Rattle.bx_editor.specs.declared.seek.Seek.{Seek}
-use Rattle.bx_editor.specs.declared.seek.Seek.TheVariants.{Off, Begun, Typed, WithBegun, WithTyped, Replacing}
-use Rattle.bx_editor.specs.Effects.{Before, before}
+use Rattle.bx_editor.specs.declared.seek.Seek.TheVariants.{Off}
+use Rattle.bx_editor.specs.Effects.{before}
 use Rattle.bx_editor.specs.Keys.{after_any, after_key}
 use Rattle.bx_editor.specs.Replay.{after_passed_save}
-use Rattle.bx_editor.specs.Search.{without_search}
 use Rattle.bx_session.specs.Laws.{keys_from, after_replaying, ReplaysKeys}
-use Rattle.bx_session.specs.Session.{Session, after_all_replayed, after_replay, after_replayed, after_replayed_key, session_after_key, session_after_replayed, with_painting_owed}
-use Rattle.bx_session.proofs.Alike.{Work, work}
-use Rattle.bx_session.proofs.KeysAlike.{key_alike}
-use Rattle.bx_session.proofs.Deeds.{deeds_go_on}
-use Rattle.bx_session.proofs.Lasting.{is_other}
+use Rattle.bx_session.specs.Session.{Session, after_all_replayed, after_replay, after_replayed, after_replayed_key, session_after_key, session_after_replayed}
+use Rattle.bx_session.specs.Session.{with_painting_owed}
+use Rattle.bx_session.proofs.KeyKinds.{is_other, not_quitting}
+use Rattle.bx_session.proofs.KeySizes.{key_goes_on}
 
 -- ---- the keys of a replay
 
 pub each-replayed : (d : Data) (ask : Ask) (seek : Seek) (e : Editor) (P : Key → Editor → Type 0) → P Save (after_passed_save e) → P Quit (after_replayed d ask seek e Quit)
     → ((key : Key) → is_other key ≡ true → P key (after_key d None e key)) → (key : Key) → P key (after_replayed d ask seek e key)
-each-replayed d ask seek e P save quit other (Insert c) = other (Insert c) refl
-each-replayed d ask seek e P save quit other Erase = other Erase refl
-each-replayed d ask seek e P save quit other Delete = other Delete refl
-each-replayed d ask seek e P save quit other Back = other Back refl
-each-replayed d ask seek e P save quit other Forward = other Forward refl
-each-replayed d ask seek e P save quit other Up = other Up refl
-each-replayed d ask seek e P save quit other Down = other Down refl
-each-replayed d ask seek e P save quit other Right = other Right refl
-each-replayed d ask seek e P save quit other Left = other Left refl
-each-replayed d ask seek e P save quit other RowHome = other RowHome refl
-each-replayed d ask seek e P save quit other RowEnd = other RowEnd refl
-each-replayed d ask seek e P save quit other PageUp = other PageUp refl
-each-replayed d ask seek e P save quit other PageDown = other PageDown refl
 each-replayed d ask seek e P save quit other Save = save
 each-replayed d ask seek e P save quit other Quit = quit
-each-replayed d ask seek e P save quit other Undo = other Undo refl
-each-replayed d ask seek e P save quit other Redo = other Redo refl
-each-replayed d ask seek e P save quit other Repaint = other Repaint refl
-each-replayed d ask seek e P save quit other Direction = other Direction refl
-each-replayed d ask seek e P save quit other Mark = other Mark refl
-each-replayed d ask seek e P save quit other Copy = other Copy refl
-each-replayed d ask seek e P save quit other Cut = other Cut refl
-each-replayed d ask seek e P save quit other Put = other Put refl
-each-replayed d ask seek e P save quit other Find = other Find refl
-each-replayed d ask seek e P save quit other FindBack = other FindBack refl
-each-replayed d ask seek e P save quit other WordLeft = other WordLeft refl
-each-replayed d ask seek e P save quit other WordRight = other WordRight refl
-each-replayed d ask seek e P save quit other TextStart = other TextStart refl
-each-replayed d ask seek e P save quit other TextEnd = other TextEnd refl
-each-replayed d ask seek e P save quit other Help = other Help refl
-each-replayed d ask seek e P save quit other EraseWord = other EraseWord refl
-each-replayed d ask seek e P save quit other DeleteWord = other DeleteWord refl
-each-replayed d ask seek e P save quit other ErasePoint = other ErasePoint refl
-each-replayed d ask seek e P save quit other NewLine = other NewLine refl
-each-replayed d ask seek e P save quit other FindNext = other FindNext refl
-each-replayed d ask seek e P save quit other Cancel = other Cancel refl
-each-replayed d ask seek e P save quit other LineUp = other LineUp refl
-each-replayed d ask seek e P save quit other LineDown = other LineDown refl
-each-replayed d ask seek e P save quit other PageBack = other PageBack refl
-each-replayed d ask seek e P save quit other PageOn = other PageOn refl
-each-replayed d ask seek e P save quit other Select = other Select refl
-each-replayed d ask seek e P save quit other UndoRun = other UndoRun refl
-each-replayed d ask seek e P save quit other RedoRun = other RedoRun refl
-each-replayed d ask seek e P save quit other GoTo = other GoTo refl
-each-replayed d ask seek e P save quit other Replace = other Replace refl
-each-replayed d ask seek e P save quit other Name = other Name refl
-each-replayed d ask seek e P save quit other Tell = other Tell refl
-each-replayed d ask seek e P save quit other PasteStart = other PasteStart refl
-each-replayed d ask seek e P save quit other PasteEnd = other PasteEnd refl
-each-replayed d ask seek e P save quit other (Size height width) = other (Size height width) refl
-each-replayed d ask seek e P save quit other (Notice notice) = other (Notice notice) refl
+each-replayed d ask seek e P save quit other key = other key refl
 
 -- and the session that each leaves
 pub each-session : (d : Data) (ask : Ask) (seek : Seek) (s : Session) (P : Key → Session → Type 0) → P Save (record s { editor = after_passed_save s.editor })
     → P Quit (session_after_replayed d ask seek s Quit) → ((key : Key) → is_other key ≡ true → P key (session_after_key d None s key)) → (key : Key)
     → P key (session_after_replayed d ask seek s key)
-each-session d ask seek s P save quit other (Insert c) = other (Insert c) refl
-each-session d ask seek s P save quit other Erase = other Erase refl
-each-session d ask seek s P save quit other Delete = other Delete refl
-each-session d ask seek s P save quit other Back = other Back refl
-each-session d ask seek s P save quit other Forward = other Forward refl
-each-session d ask seek s P save quit other Up = other Up refl
-each-session d ask seek s P save quit other Down = other Down refl
-each-session d ask seek s P save quit other Right = other Right refl
-each-session d ask seek s P save quit other Left = other Left refl
-each-session d ask seek s P save quit other RowHome = other RowHome refl
-each-session d ask seek s P save quit other RowEnd = other RowEnd refl
-each-session d ask seek s P save quit other PageUp = other PageUp refl
-each-session d ask seek s P save quit other PageDown = other PageDown refl
 each-session d ask seek s P save quit other Save = save
 each-session d ask seek s P save quit other Quit = quit
-each-session d ask seek s P save quit other Undo = other Undo refl
-each-session d ask seek s P save quit other Redo = other Redo refl
-each-session d ask seek s P save quit other Repaint = other Repaint refl
-each-session d ask seek s P save quit other Direction = other Direction refl
-each-session d ask seek s P save quit other Mark = other Mark refl
-each-session d ask seek s P save quit other Copy = other Copy refl
-each-session d ask seek s P save quit other Cut = other Cut refl
-each-session d ask seek s P save quit other Put = other Put refl
-each-session d ask seek s P save quit other Find = other Find refl
-each-session d ask seek s P save quit other FindBack = other FindBack refl
-each-session d ask seek s P save quit other WordLeft = other WordLeft refl
-each-session d ask seek s P save quit other WordRight = other WordRight refl
-each-session d ask seek s P save quit other TextStart = other TextStart refl
-each-session d ask seek s P save quit other TextEnd = other TextEnd refl
-each-session d ask seek s P save quit other Help = other Help refl
-each-session d ask seek s P save quit other EraseWord = other EraseWord refl
-each-session d ask seek s P save quit other DeleteWord = other DeleteWord refl
-each-session d ask seek s P save quit other ErasePoint = other ErasePoint refl
-each-session d ask seek s P save quit other NewLine = other NewLine refl
-each-session d ask seek s P save quit other FindNext = other FindNext refl
-each-session d ask seek s P save quit other Cancel = other Cancel refl
-each-session d ask seek s P save quit other LineUp = other LineUp refl
-each-session d ask seek s P save quit other LineDown = other LineDown refl
-each-session d ask seek s P save quit other PageBack = other PageBack refl
-each-session d ask seek s P save quit other PageOn = other PageOn refl
-each-session d ask seek s P save quit other Select = other Select refl
-each-session d ask seek s P save quit other UndoRun = other UndoRun refl
-each-session d ask seek s P save quit other RedoRun = other RedoRun refl
-each-session d ask seek s P save quit other GoTo = other GoTo refl
-each-session d ask seek s P save quit other Replace = other Replace refl
-each-session d ask seek s P save quit other Name = other Name refl
-each-session d ask seek s P save quit other Tell = other Tell refl
-each-session d ask seek s P save quit other PasteStart = other PasteStart refl
-each-session d ask seek s P save quit other PasteEnd = other PasteEnd refl
-each-session d ask seek s P save quit other (Size height width) = other (Size height width) refl
-each-session d ask seek s P save quit other (Notice notice) = other (Notice notice) refl
+each-session d ask seek s P save quit other key = other key refl
 
 -- a key that a replay applies as it is
 other_replayed : (d : Data) (ask : Ask) (seek : Seek) (e : Editor) (key : Key) → is_other key ≡ true → after_key d None e key ≡ after_replayed d ask seek e key
@@ -148,25 +44,13 @@ other_replayed d ask seek e =
 
 quit_editor : (d : Data) (ask : Ask) (seek : Seek) (s : Session) → (session_after_replayed d ask seek s Quit).editor ≡ after_replayed d ask seek s.editor Quit
 quit_editor d asks.Off Off s = refl
-quit_editor d asks.Off Begun s = refl
-quit_editor d asks.Off Typed s = refl
-quit_editor d asks.Off WithBegun s = refl
-quit_editor d asks.Off WithTyped s = refl
-quit_editor d asks.Off Replacing s = refl
-quit_editor d asks.Line seek s = refl
-quit_editor d asks.Name seek s = refl
-quit_editor d asks.Code seek s = refl
+quit_editor d asks.Off seek s = refl
+quit_editor d ask seek s = refl
 
 quit_rest : (d : Data) (ask : Ask) (seek : Seek) (s : Session) → (session_after_replayed d ask seek s Quit).rest ≡ s.rest
 quit_rest d asks.Off Off s = refl
-quit_rest d asks.Off Begun s = refl
-quit_rest d asks.Off Typed s = refl
-quit_rest d asks.Off WithBegun s = refl
-quit_rest d asks.Off WithTyped s = refl
-quit_rest d asks.Off Replacing s = refl
-quit_rest d asks.Line seek s = refl
-quit_rest d asks.Name seek s = refl
-quit_rest d asks.Code seek s = refl
+quit_rest d asks.Off seek s = refl
+quit_rest d ask seek s = refl
 
 editor_is : (d : Data) (ask : Ask) (seek : Seek) (s : Session) (key : Key) → (session_after_replayed d ask seek s key).editor ≡ after_replayed d ask seek s.editor key
 editor_is d ask seek s =
@@ -176,52 +60,17 @@ editor_is d ask seek s =
 rest_stays : (d : Data) (ask : Ask) (seek : Seek) (s : Session) (key : Key) → (session_after_replayed d ask seek s key).rest ≡ s.rest
 rest_stays d ask seek s = each-session d ask seek s (λ key new. new.rest ≡ s.rest) refl (quit_rest d ask seek s) (λ key other. refl)
 
--- ---- a Quit outside a search, and a key that is neither Save nor Quit, leave a running session running
+-- ---- a replay ends no session
 
--- a Quit changes nothing that edits and steps change, whether a search or a question is on or not
-pub quit_works : (d : Data) (ask : Ask) (seek : Seek) (e : Editor) → e.ask ≡ ask → e.seek ≡ seek → work (after_replayed d ask seek e Quit) ≡ work e
-quit_works d asks.Off Off e asked is = refl
-quit_works d asks.Off Begun e asked is = ap₂ (λ (a : Ask) (s : Seek). work (after_any d None (before e) a s (cleared e) Quit)) asked is
-quit_works d asks.Off Typed e asked is = ap₂ (λ (a : Ask) (s : Seek). work (after_any d None (before e) a s (cleared e) Quit)) asked is
-quit_works d asks.Off WithBegun e asked is = ap₂ (λ (a : Ask) (s : Seek). work (after_any d None (before e) a s (cleared e) Quit)) asked is
-quit_works d asks.Off WithTyped e asked is = ap₂ (λ (a : Ask) (s : Seek). work (after_any d None (before e) a s (cleared e) Quit)) asked is
-quit_works d asks.Off Replacing e asked is = ap₂ (λ (a : Ask) (s : Seek). work (after_any d None (before e) a s (cleared e) Quit)) asked is
-quit_works d asks.Line seek e asked is = ap (λ (a : Ask). work (after_any d None (before e) a e.seek (cleared e) Quit)) asked
-quit_works d asks.Name seek e asked is = ap (λ (a : Ask). work (after_any d None (before e) a e.seek (cleared e) Quit)) asked
-quit_works d asks.Code seek e asked is = ap (λ (a : Ask). work (after_any d None (before e) a e.seek (cleared e) Quit)) asked
-
--- nor does a Save of a session change more of that than any Save does
-saved_work : (e : Editor) (fault : Option StoreFault) → work (after_save (without_ask e) fault) ≡ work (after_save e fault)
-saved_work e None = refl
-saved_work e (Some fault) = refl
-
-sought_work : (e : Editor) (fault : Option StoreFault) → work (after_save (without_search e) fault) ≡ work (after_save e fault)
-sought_work e None = refl
-sought_work e (Some fault) = refl
-
-save_any : (d : Data) (fault : Option StoreFault) (was : Before) (ask : Ask) (seek : Seek) (e : Editor)
-    → work (after_any d fault was ask seek e Save) ≡ work (after_save e fault)
-save_any d fault was asks.Off Off e = refl
-save_any d fault was asks.Off Begun e = refl
-save_any d fault was asks.Off Typed e = refl
-save_any d fault was asks.Off WithBegun e = sought_work e fault
-save_any d fault was asks.Off WithTyped e = sought_work e fault
-save_any d fault was asks.Off Replacing e = sought_work e fault
-save_any d fault was asks.Line seek e = saved_work e fault
-save_any d fault was asks.Name seek e = saved_work e fault
-save_any d fault was asks.Code seek e = saved_work e fault
-
-pub save_works : (d : Data) (fault : Option StoreFault) (e : Editor) → work (after_key d fault e Save) ≡ work (after_save (cleared e) fault)
-save_works d fault e = save_any d fault (before e) e.ask e.seek (cleared e)
-
-pub other_goes_on : (d : Data) (fault : Option StoreFault) (e : Editor) (key : Key) → is_other key ≡ true → (after_key d fault e key).ended ≡ e.ended
-other_goes_on d fault e key other =
-    let h = key_alike d fault e e key other in ap (λ (w : Work). w.ended) h.first ∙ deeds_go_on h.deeds (work e)
+quit_goes_on : (d : Data) (ask : Ask) (seek : Seek) (e : Editor) → e.ask ≡ ask → e.seek ≡ seek → (after_replayed d ask seek e Quit).ended ≡ e.ended
+quit_goes_on d asks.Off Off e asked is = refl
+quit_goes_on d asks.Off seek e asked is = ap₂ (λ (a : Ask) (s : Seek). (after_any d None (before e) a s (cleared e) Quit).ended) asked is
+quit_goes_on d ask seek e asked is = ap (λ (a : Ask). (after_any d None (before e) a e.seek (cleared e) Quit).ended) asked
 
 goes_on : (d : Data) (e : Editor) (key : Key) → e.ended ≡ false → (after_replayed d e.ask e.seek e key).ended ≡ false
 goes_on d e key h =
-    each-replayed d e.ask e.seek e (λ k new. new.ended ≡ e.ended) refl (ap (λ (w : Work). w.ended) (quit_works d e.ask e.seek e refl refl))
-    (λ k other. other_goes_on d None e k other) key
+    each-replayed d e.ask e.seek e (λ k new. new.ended ≡ e.ended) refl (quit_goes_on d e.ask e.seek e refl refl)
+    (λ k other. key_goes_on d None e k (not_quitting k other)) key
     ∙ h
 
 -- ---- a byte

@@ -9,5 +9,3 @@ pub mod Journal
 pub mod Parts
 pub mod Laws
 pub mod Beginning
-pub mod Anew
-pub mod Recovery

@@ -1,8 +1,8 @@
--- The effect of queued bytes on a terminal.
+-- The effect of queued bytes on a terminal. `d` is Unicode's data, `s` a session, `e` an editor, `t` a terminal, `b` a byte of
+-- input.
 use Rattle.std.specs.Prelude.{◌≡◌, ℕ, false, List, ◌++◌, Option, Some, None, IfSome}
 use Rattle.bx_grid.specs.Picture.{PictureState, AreWholeTokens, IsIdle, IsPicture, Shows}
 use Rattle.bx_grid.specs.Terminal.{Terminal, reads}
-use Rattle.bx_grid.specs.Screens.{IfShown}
 use Rattle.bx_ucd.specs.Data.{Data}
 use Rattle.bx_editor.specs.Editor.{Editor}
 use Rattle.bx_editor.specs.Picture.{StandsOnItsCell, picture}
@@ -30,22 +30,20 @@ pub record Paints (d : Data) (before : List ℕ) (old : Option PictureState) (ne
   -- until the session's end the cursor is on the cell of its place
   pub cursor : new.editor.ended ≡ false → StandsOnItsCell d new.editor new.top (picture d new.editor new.top)
 
+-- bytes that paint the session's picture were appended, where `known` is the picture that the screen was taken to show, None for
+-- unknown content
 abbrev pub QueuesPicture : Data → List ℕ → Option PictureState → Session → Type 0
 QueuesPicture d before known new = (bytes : List ℕ) × Paints d before known new bytes
 
--- a byte that was not refused and is not idle; the end of a Save leaves the screen's content known or unknown as before
+-- A byte that was not refused and is not idle queues its painting. A Save's result changes nothing about the screen's content, so
+-- None stands in its place here.
 abbrev pub FeedPaints : Data → Session → ℕ → Session → Type 0
 FeedPaints d old b new = QueuesPicture d old.pending (unpainted_after_byte d None old b).known new
 
--- a told size that was not refused: the screen's content is unknown
+-- a told size that was not refused queues a whole painting, since the screen's content is unknown
 abbrev pub ToldPaints : Data → Session → Session → Type 0
 ToldPaints d old new = QueuesPicture d old.pending None new
 
 -- the picture, if there is one, has the editor's size
 abbrev pub FitsEditor : Option PictureState → Editor → Type 0
 FitsEditor painted e = IfSome painted (λ p. (p.height ≡ e.height) × (p.width ≡ e.width))
-
--- a terminal that has not failed shows the picture; never so if there is none
-abbrev pub IsShownOn : Option PictureState → Option Terminal → Type 0
-IsShownOn None screen = ⊥
-IsShownOn (Some p) screen = IfShown screen p

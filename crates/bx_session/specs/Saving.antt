@@ -1,4 +1,5 @@
--- The store after a byte, and the meaning of each answer to a byte or a told size.
+-- The store after a byte, and the meaning of each answer to a byte or a told size. `d` is Unicode's data, `s` a session, `b` a
+-- byte of input.
 use Rattle.std.specs.Prelude.{◌≡◌, ℕ, Bool, true, false, List, Option, Some, None, option_map, Result, Ok, Err}
 use Rattle.bx_keys.specs.declared.key.Key.{Key}
 use Rattle.bx_grid.specs.Picture.{is_size}
@@ -12,11 +13,12 @@ use Rattle.bx_session.specs.declared.error.Refused.{Refused}
 use Rattle.bx_session.specs.declared.error.Refused.TheVariants as refused
 use Rattle.bx_session.specs.Session.{Session, key_of_byte, after_spending, after_byte, owing_after_byte, status_of, is_idle, after_told, owing_after_told}
 
--- a store's content, if it is known, and its failed calls
+-- a store's content, None if it is not known, and its failed calls: their number and the latest fault
 pub record StoreState : Type 0 where
   pub contents : Option (List ℕ)
   pub faults : Faults
 
+-- the state of a store of any type, of which these functions give content and failed calls
 abbrev pub store_state : {S : Type 0} → (S → Option (List ℕ)) → (S → Faults) → S → StoreState
 store_state contents faults store = record { contents = contents store; faults = faults store }
 
@@ -24,11 +26,13 @@ store_state contents faults store = record { contents = contents store; faults =
 abbrev pub with_text : List ℕ → StoreState → StoreState
 with_text text store = record store { contents = option_map (λ _. text) store.contents }
 
--- a save that succeeds stores the text; one that fails leaves the content as it was and counts one more failed call, with its fault
+-- a save that succeeds stores the text; one that fails leaves the content as it was and counts one more failed call, with its
+-- fault
 abbrev pub SaveEnds : Option StoreFault → List ℕ → StoreState → StoreState → Type 0
 SaveEnds None text old new = new ≡ with_text text old
 SaveEnds (Some fault) text old new = (new.contents ≡ old.contents) × (new.faults ≡ with_fault fault old.faults)
 
+-- there is a key, and it is Save
 abbrev pub is_save_key : Option Key → Bool
 is_save_key None = false
 is_save_key (Some key) = is_save key
@@ -42,11 +46,12 @@ abbrev pub StoreAfter : Bool → Option StoreFault → List ℕ → StoreState �
 StoreAfter true fault text old new = SaveEnds fault text old new
 StoreAfter false fault text old new = new ≡ old
 
+-- there is a key, and it is one that may be refused for want of memory
 abbrev pub is_edit_or_move_key : Option Key → Bool
 is_edit_or_move_key None = false
 is_edit_or_move_key (Some key) = is_edit_or_move key
 
--- the session after a byte, by the answer; `fault`: why a Save failed, None if it succeeded
+-- the session after a byte `b`, by the answer, which is never `Size`; `fault`: why a Save failed, None if it succeeded
 abbrev pub AfterByte : Data → Option StoreFault → Session → ℕ → Result Status Refused → Session → Type 0
 AfterByte d fault old b (Ok status) new = (new ≡ after_byte d fault old b) × (status ≡ status_of new)
 AfterByte d fault old b (Err refused.Edit) new = (new ≡ after_spending old b) × (is_edit_or_move_key (key_of_byte old b) ≡ true)
@@ -58,7 +63,7 @@ abbrev pub Feeds : Data → Session → StoreState → ℕ → Result Status Ref
 Feeds d old store b result new store' =
     (fault : Option StoreFault) × StoreAfter (is_save_byte old b) fault old.editor.content.text store store' × AfterByte d fault old b result new
 
--- the session after a told size, by the answer
+-- the session after it was told the window's size, by the answer, which is never `Edit`
 abbrev pub ToldBy : {A : Type 0} → Data → Session → ℕ → ℕ → Result A Refused → Session → Type 0
 ToldBy d old height width (Ok _) new = (is_size height width ≡ true) × (new ≡ after_told d old height width)
 ToldBy d old height width (Err refused.Size) new = (is_size height width ≡ false) × (new ≡ old)

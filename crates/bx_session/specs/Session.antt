@@ -1,4 +1,5 @@
--- The session's state, and its changes.
+-- The session's state, and its changes: an editor, the input that waits for more, and the bytes queued for the terminal. `d` is
+-- Unicode's data, `s` the session before, `b` a byte of input.
 use Rattle.std.specs.Prelude.{ℕ, Bool, true, false, not, ◌&&◌, ◌||◌, is_some, List, [], ◌∷◌, ◌++◌, drop, Option, Some, None, if◌then◌else◌}
 use Rattle.bx_terms.specs.declared.base.Base.{Base}
 use Rattle.bx_keys.specs.declared.key.Key.{Key}
@@ -21,22 +22,23 @@ use Rattle.bx_editor.specs.Picture.{picture, next_top}
 use Rattle.bx_session.specs.declared.status.Status.{Status}
 use Rattle.bx_session.specs.declared.status.Status.TheVariants.{Running, Ended}
 
+-- a session, without Unicode's tables
 pub record Session : Type 0 where
   pub editor : Editor
-  -- the offset that the top row was last shown from
+  -- the offset, in bytes of the text, whose row was last shown first
   pub top : ℕ
-  -- the unfinished input, as far as it can still become a key
+  -- the input bytes that are not a whole key yet (`head_of`: of more than 12 bytes, which can give no key, the first 12)
   pub rest : List ℕ
-  -- the picture last painted; none before the first
+  -- the picture last painted; None before the first
   pub painted : Option PictureState
-  -- the picture that the screen is taken to show once it has read all bytes; none if its content is unknown
+  -- the picture that the screen is taken to show once it has read all bytes; None if its content is unknown
   pub known : Option PictureState
   -- the screen needs a painting that is not queued yet
   pub painting_owed : Bool
   -- bytes for the terminal
   pub pending : List ℕ
 
--- a session and its tables
+-- the value of a `Session` (`src/session.rt`): a session and Unicode's tables
 pub record SessionState (D : Type 0) : Type 0 where
   pub tables : D
   pub session : Session
@@ -47,11 +49,12 @@ pub record SessionState (D : Type 0) : Type 0 where
 abbrev pub known_if : Bool → Option PictureState → Option PictureState
 known_if is_known painted = if is_known then painted else None
 
--- the bytes that paint a picture: its changes from the picture shown, or the whole if none is known to be shown
+-- the bytes that paint a new picture: its changes from the picture shown, or the whole if none is known to be shown
 abbrev pub painting : Option PictureState → PictureState → List ℕ
 painting None new = whole_bytes new
 painting (Some old) new = changes_bytes old new
 
+-- a picture, with the row of the offset `top` first, is painted
 abbrev pub with_picture : Session → ℕ → PictureState → Session
 with_picture s top new = record s {
   top = top;
@@ -71,6 +74,7 @@ with_painting_owed s = record s { painting_owed = true }
 
 -- ---- opening
 
+-- a text is opened in a window of `height` rows and `width` columns, and nothing is painted yet
 abbrev pub before_painting : List ℕ → ℕ → ℕ → Base → Session
 before_painting text height width base = record {
   editor = at_start text height width base;
@@ -82,20 +86,22 @@ before_painting text height width base = record {
   pending = [];
 }
 
+-- a text is opened, and its first picture queued
 abbrev pub at_opening : Data → List ℕ → ℕ → ℕ → Base → Session
 at_opening d text height width base = with_painting d (before_painting text height width base)
 
 -- ---- a byte
 
--- the key that a byte completes; none after the session's end
+-- the key that a byte completes; None if it completes none, and after the session's end
 abbrev pub key_of_byte : Session → ℕ → Option Key
 key_of_byte s b = if s.editor.ended then None else key_after s.rest b
 
--- the byte is consumed
+-- a byte is consumed, whatever it completes
 abbrev pub after_spending : Session → ℕ → Session
 after_spending s b = if s.editor.ended then s else record s { rest = head_of (rest_after s.rest b) }
 
--- the picture known to be shown after a key that leads to this editor: none if the key asks for that, or at the end
+-- the picture known to be shown after a key that leads to the editor `e`: None after Repaint or a size, and at the session's
+-- end, so that the painting is of the whole screen
 abbrev pub known_after : Option PictureState → Key → Editor → Option PictureState
 known_after known key e = if asks_for_whole key || e.ended then None else known
 
@@ -105,6 +111,7 @@ session_after_key d fault s key =
     let e = after_key d fault s.editor key in
     record s { editor = e; known = known_after s.known key e }
 
+-- a byte's key, if it completes one, is applied, and not yet painted
 abbrev pub session_after_any : Data → Option StoreFault → Session → Option Key → Session
 session_after_any d fault s None = s
 session_after_any d fault s (Some key) = session_after_key d fault s key
@@ -137,17 +144,18 @@ after_replayed d ask seek e Save = after_passed_save e
 after_replayed d asks.Off Off e Quit = after_passed_quit e
 after_replayed d ask seek e key = after_key d None e key
 
--- keys in sequence
+-- the editor after keys of a journal in sequence
 abbrev pub after_all_replayed : Data → Editor → List Key → Editor
 after_all_replayed d e [] = e
 after_all_replayed d e (key ∷ keys) = after_all_replayed d (after_replayed d e.ask e.seek e key) keys
 
--- the session after such a key
+-- the session after a key of a journal, in these states of question and search
 abbrev pub session_after_replayed : Data → Ask → Seek → Session → Key → Session
 session_after_replayed d ask seek s Save = record s { editor = after_passed_save s.editor }
 session_after_replayed d asks.Off Off s Quit = record s { editor = after_passed_quit s.editor }
 session_after_replayed d ask seek s key = session_after_key d None s key
 
+-- the session after the key of a journal's byte, if it completes one
 abbrev pub after_replayed_key : Data → Session → Option Key → Session
 after_replayed_key d s None = s
 after_replayed_key d s (Some key) = session_after_replayed d s.editor.ask s.editor.seek s key
@@ -186,9 +194,11 @@ as_changed s = with_painting_owed (record s { editor = record s.editor { stored 
 abbrev pub unpainted_after_told : Session → ℕ → ℕ → Session
 unpainted_after_told s height width = record s { editor = with_size s.editor height width; known = None }
 
+-- the session after a told size, with its painting
 abbrev pub after_told : Data → Session → ℕ → ℕ → Session
 after_told d s height width = with_painting d (unpainted_after_told s height width)
 
+-- the session after a told size whose painting was refused
 abbrev pub owing_after_told : Session → ℕ → ℕ → Session
 owing_after_told s height width = with_painting_owed (unpainted_after_told s height width)
 

@@ -1,12 +1,12 @@
 //! Feeding a session: input bytes, and the window's size.
 
-ghost use Rattle.std.specs.Prelude.{◌≡◌, Option, true, false, not, IfOk, IfSome, IsOk, OnErr, OnOk};
+ghost use Rattle.std.specs.Prelude.{◌≡◌, Option, None, true, false, not, IfOk, IfSome, IsOk, OnErr, OnOk};
 ghost use Rattle.bx_grid.specs.Picture.{is_size};
 ghost use Rattle.bx_keys.specs.Keys.{HasSides};
 ghost use Rattle.bx_editor.specs.Keys as keys;
 ghost use Rattle.bx_store.specs.declared.store.StoreFault.{StoreFault};
 ghost use Rattle.bx_session.specs.Painting.{FeedPaints, ToldPaints};
-ghost use Rattle.bx_session.specs.Saving.{Feeds, StoreAfter, ToldBy, is_edit_or_move_key, is_save_byte, store_state};
+ghost use Rattle.bx_session.specs.Saving.{Feeds, SaveEnds, StoreAfter, ToldBy, is_edit_or_move_key, is_save_byte, store_state};
 ghost use Rattle.bx_session.specs.Session.{after_spending, is_idle, key_of_byte, session_after_key, unpainted_after_byte, unpainted_after_told};
 
 use crate::error::Refused;
@@ -15,11 +15,12 @@ use crate::session::Session;
 use crate::status::Status;
 use bx_editor::Editor;
 use bx_keys::Key;
-use bx_store::{Store, StoreFault};
+use bx_store::Store;
 use bx_terms::is_side;
 use bx_ucd::BidiData;
 
-/// Whether the screen's content counts as unknown after a key.
+/// Whether the screen's content counts as unknown after a key: after Repaint, and after a size, since a resized terminal may show
+/// anything.
 fn asks_for_whole(key: Key) -> bool
     ensures { result ≡ keys.asks_for_whole key }
 {
@@ -33,25 +34,20 @@ fn is_size(height: u16, width: u16) -> bool
     is_side(height) && is_side(width)
 }
 
-/// Applies a key to the editor. `fault` tells why a Save failed; None if the store has the text.
+/// Applies a key other than Save to the editor.
 ///
 /// Errors: `Edit` if memory runs out, only for a key that edits, moves, copies or finds; nothing has changed.
-fn apply<D: BidiData + Drop>(
-    editor: &mut Editor<D>,
-    key: Key,
-    fault: Option<StoreFault>,
-) -> Result<(), Refused>
+fn apply<D: BidiData + Drop>(editor: &mut Editor<D>, key: Key) -> Result<(), Refused>
+    requires no_save { keys.is_save key ≡ false }
     requires sides { HasSides key }
-    ensures after_key { OnOk result (editor.new ≡ record editor.old { editor = keys.after_key (D.data editor.old.tables) fault editor.old.editor key }) }
+    ensures after_key { OnOk result (editor.new ≡ record editor.old {
+      editor = keys.after_key (D.data editor.old.tables) None editor.old.editor key;
+    }) }
     ensures err { OnErr result (editor.new ≡ editor.old) }
     ensures edits { OnErr result (keys.is_edit_or_move key ≡ true) }
     ensures refused { OnErr result (result ≡ Err Refused.Edit) }
 {
     match key {
-        Key::Save => {
-            editor.finish_save(fault);
-            Ok(())
-        }
         Key::Size(height, width) => {
             editor.resize(height, width);
             Ok(())
@@ -64,11 +60,12 @@ fn apply<D: BidiData + Drop>(
 }
 
 impl<D: BidiData + Drop> Session<D> {
-    /// Decodes a byte. Returns the key that it completes; none after the session's end.
+    /// Decodes a byte. Returns the key that it completes; None if it completes no key, and after the session's end.
     pub(crate) fn decode(&mut self, byte: u8) -> Option<Key>
         ensures key { result ≡ key_of_byte self.old.session byte }
         ensures rest { self.new ≡ record self.old { session = after_spending self.old.session byte } }
         ensures sides { IfSome result HasSides }
+        ensures runs { IfSome result (λ key. self.new.session.editor.ended ≡ false) }
     {
         if self.editor.ended() {
             return None;
@@ -76,29 +73,34 @@ impl<D: BidiData + Drop> Session<D> {
         self.decoder.feed(byte)
     }
 
-    /// Stores the text if the key is Save. Returns the store's fault; none if the text was stored.
-    fn save_on<S: Store>(&self, key: Key, store: &mut S) -> Option<StoreFault>
-        ensures after { StoreAfter (keys.is_save key) result self.now.session.editor.content.text
-            (store_state S.contents S.faults store.old) (store_state S.contents S.faults store.new) }
-        ensures untouched { keys.is_save key ≡ false → store.new ≡ store.old }
+    /// Stores the text, and tells the editor how that ended. Paints nothing.
+    fn save<S: Store>(&mut self, store: &mut S)
+        requires runs { self.old.session.editor.ended ≡ false }
+        ensures saved { (fault : Option StoreFault)
+            × SaveEnds fault self.old.session.editor.content.text
+            (store_state S.contents S.faults store.old) (store_state S.contents S.faults store.new)
+            × (self.new ≡ record self.old {
+              session = session_after_key (D.data self.old.tables) fault self.old.session Key.Save;
+            }) }
     {
-        match key {
-            Key::Save => save_pieces(self.editor.pieces(), store).err(),
-            _ => None,
-        }
+        let fault = save_pieces(self.editor.pieces(), store).err();
+        self.editor.finish_save(fault);
     }
 
-    /// Applies a key without painting. `fault` tells why a Save failed; None if the store has the text.
+    /// Applies a key other than Save, without painting.
     ///
     /// Errors: `Edit` if memory runs out, only for a key that edits, moves, copies or finds; nothing has changed.
-    pub(crate) fn press(&mut self, key: Key, fault: Option<StoreFault>) -> Result<(), Refused>
+    pub(crate) fn press(&mut self, key: Key) -> Result<(), Refused>
+        requires no_save { keys.is_save key ≡ false }
         requires sides { HasSides key }
-        ensures after_key { OnOk result (self.new ≡ record self.old { session = session_after_key (D.data self.old.tables) fault self.old.session key }) }
+        ensures after_key { OnOk result (self.new ≡ record self.old {
+          session = session_after_key (D.data self.old.tables) None self.old.session key;
+        }) }
         ensures err { OnErr result (self.new ≡ self.old) }
         ensures edits { OnErr result (keys.is_edit_or_move key ≡ true) }
         ensures refused { OnErr result (result ≡ Err Refused.Edit) }
     {
-        apply(&mut self.editor, key, fault)?;
+        apply(&mut self.editor, key)?;
         if asks_for_whole(key) || self.editor.ended() {
             self.is_known = false;
         }
@@ -121,9 +123,12 @@ impl<D: BidiData + Drop> Session<D> {
         ensures refused { OnErr result (result ≡ Err Refused.Edit) }
     {
         match self.decode(byte) {
+            Some(Key::Save) => {
+                self.save(store);
+                Ok(true)
+            }
             Some(key) => {
-                let fault = self.save_on(key, store);
-                self.press(key, fault)?;
+                self.press(key)?;
                 Ok(true)
             }
             None => Ok(self.painting_owed),
@@ -133,7 +138,7 @@ impl<D: BidiData + Drop> Session<D> {
     /// Handles a byte of input. A byte that completes no key allocates nothing if no painting is owed.
     ///
     /// Errors: `Edit` if memory runs out for the key: its bytes are consumed, and nothing else has changed. `Paint` if it runs
-    /// out while painting: the key is applied, and the queue is unchanged.
+    /// out while painting: the key is applied, the queue is unchanged, and the painting is owed.
     pub fn feed<S: Store>(&mut self, byte: u8, store: &mut S) -> Result<Status, Refused>
         ensures after_byte { Feeds (D.data self.old.tables) self.old.session (store_state S.contents S.faults store.old) byte result
             self.new.session (store_state S.contents S.faults store.new) }
@@ -156,8 +161,8 @@ impl<D: BidiData + Drop> Session<D> {
 
     /// Sets the window's size, in rows and columns, and paints the screen whole.
     ///
-    /// Errors: `Size` if a side is not from 1 to 500: nothing has changed. `Paint` if memory runs out: the size is set, and
-    /// the queue is unchanged.
+    /// Errors: `Size` if a side is not from 1 to 500: nothing has changed. `Paint` if memory runs out: the size is set, the queue
+    /// is unchanged, and the painting is owed.
     pub fn told(&mut self, height: u16, width: u16) -> Result<(), Refused>
         ensures told { ToldBy (D.data self.old.tables) self.old.session height width result self.new.session }
         ensures tables { self.new.tables ≡ self.old.tables }

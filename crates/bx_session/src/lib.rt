@@ -9,7 +9,6 @@ mod feeding;
 mod going;
 mod journal;
 mod keeping;
-mod laws;
 mod memory_device;
 mod open;
 mod over_reader;
@@ -28,12 +27,8 @@ pub use device::{Device, DeviceFault};
 pub use end::{End, RunFault};
 pub use error::Refused;
 pub use journal::{Journal, JournalFault, NoJournal, Recorder, WrittenJournal};
-pub use laws::{
-    devices_log_all, journals_give_back, keys_are_those_of_input, painting_anew_sends_nothing,
-    paintings_keep_up, recovery_gives_back, replays_apply_keys,
-};
 pub use memory_device::MemoryDevice;
-pub use over_reader::{run, run_recorded, run_within};
+pub use over_reader::{run, run_recorded};
 pub use running::run_device;
 pub use session::Session;
 pub use status::Status;

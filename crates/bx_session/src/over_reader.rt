@@ -1,4 +1,4 @@
-//! Runs of a session over a reader, a writer and a store.
+//! Runs of a session over a reader, a writer and a store, with a journal or without: what the programs call.
 
 ghost use Rattle.std.specs.Prelude.{◌≡◌, IsErrOf};
 ghost use Rattle.bx_session.specs.Journal.{RunsRecorded};
@@ -14,33 +14,8 @@ use bx_store::Store;
 use bx_ucd::BidiData;
 use std::io::{Read, Write};
 
-/// Limit of reads in a run.
-const READS: u64 = 1_000_000_000;
-
-/// Runs a session: writes the pending bytes and flushes; then, until the end, reads at most 256 bytes,
-/// feeds each until the session ends, writes the pending bytes and flushes. Bytes after the end are
-/// dropped, and a refused byte does not end the run.
-///
-/// Errors: `ReadFault`; `WriteFault`: a prefix of the output was written, and the rest is still
-/// pending; `ReadLimit` after 1,000,000,000 reads.
+/// Runs a session as [`run_recorded`] does, without a journal.
 pub fn run<D: BidiData + Drop, R: Read, W: Write, S: Store>(
-    reader: &mut R,
-    writer: &mut W,
-    store: &mut S,
-    session: &mut Session<D>,
-) -> Result<End, RunFault>
-    ensures runs { Runs (D.data session.old.tables) session.old.session session.new.session
-        (store_state S.contents S.faults store.old) (store_state S.contents S.faults store.new)
-        (R.remaining reader.old) (R.remaining reader.new) (W.contents writer.old) (W.contents writer.new) }
-    ensures tables { session.new.tables ≡ session.old.tables }
-    ensures ends { EndsWith result session.new.session (R.remaining reader.new) }
-    ensures limit { IsErrOf result RunFault.ReadLimit → HasRead 1000000000 (R.remaining reader.old) (R.remaining reader.new) }
-{
-    run_within(READS, reader, writer, store, session)
-}
-
-/// Runs a session as [`run`] does, with at most `limit` reads. `ReadLimit` comes after `limit` reads that each gave a byte.
-pub fn run_within<D: BidiData + Drop, R: Read, W: Write, S: Store>(
     limit: u64,
     reader: &mut R,
     writer: &mut W,
@@ -55,30 +30,16 @@ pub fn run_within<D: BidiData + Drop, R: Read, W: Write, S: Store>(
     ensures limit { IsErrOf result RunFault.ReadLimit → HasRead limit (R.remaining reader.old) (R.remaining reader.new) }
 {
     let mut recorder = Recorder::new(*session.queue.allocator(), NoJournal);
-    run_limited(limit, reader, &mut recorder, writer, store, session)
+    run_recorded(limit, reader, &mut recorder, writer, store, session)
 }
 
-/// Runs a session as [`run`] does, and hands each byte to the journal before it feeds it. What follows the session's end is not
-/// handed over.
+/// Runs a session: writes the pending bytes and flushes; then, until the end, reads at most 256 bytes, hands those up to the
+/// session's end to the journal and feeds them, part by part, writes the pending bytes and flushes. Bytes after the end are
+/// dropped, and a refused byte does not end the run.
+///
+/// Errors: `ReadFault`; `WriteFault`: a prefix of the output was written, and the rest is still pending; `ReadLimit` after
+/// `limit` reads that each gave a byte.
 pub fn run_recorded<D: BidiData + Drop, R: Read, J: Journal + Drop, W: Write, S: Store>(
-    reader: &mut R,
-    recorder: &mut Recorder<J>,
-    writer: &mut W,
-    store: &mut S,
-    session: &mut Session<D>,
-) -> Result<End, RunFault>
-    ensures runs { RunsRecorded J.contents J.failure_count (D.data session.old.tables) session.old.session session.new.session
-        (store_state S.contents S.faults store.old) (store_state S.contents S.faults store.new)
-        (R.remaining reader.old) (R.remaining reader.new) (W.contents writer.old) (W.contents writer.new) recorder.old recorder.new }
-    ensures tables { session.new.tables ≡ session.old.tables }
-    ensures ends { EndsWith result session.new.session (R.remaining reader.new) }
-    ensures limit { IsErrOf result RunFault.ReadLimit → HasRead 1000000000 (R.remaining reader.old) (R.remaining reader.new) }
-{
-    run_limited(READS, reader, recorder, writer, store, session)
-}
-
-/// Runs a session with a journal and at most `limit` reads, over a device of reader, recorder and writer.
-fn run_limited<D: BidiData + Drop, R: Read, J: Journal + Drop, W: Write, S: Store>(
     limit: u64,
     reader: &mut R,
     recorder: &mut Recorder<J>,
@@ -101,7 +62,7 @@ fn run_limited<D: BidiData + Drop, R: Read, J: Journal + Drop, W: Write, S: Stor
     run_wired(limit, &mut device, store, session)
 }
 
-/// Runs a session with a journal and at most `limit` reads.
+/// Runs a session over the reader, the recorder and the writer of a device, which has the same three afterwards.
 fn run_wired<D: BidiData + Drop, R: Read, J: Journal + Drop, W: Write, S: Store>(
     limit: u64,
     device: &mut Wired<'_, '_, '_, R, J, W>,

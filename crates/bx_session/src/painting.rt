@@ -30,8 +30,6 @@ fn append(
     ensures tokens { AreWholeTokens (painting (known_if is_known painted.now) picture.now) }
     ensures is_picture { IsPicture picture.now }
 {
-    // proof only: it is a picture
-    let _grid = picture.grid();
     match painted {
         Some(old) if is_known => changes_into(queue, old, picture),
         _ => whole_into(queue, picture),
@@ -55,7 +53,7 @@ fn page_of(alloc: Global, spare: Option<Grid>, height: u16, width: u16) -> Resul
     }
 }
 
-/// Recovers the page of an old picture for reuse.
+/// The page of an old picture, on which the next picture can be made.
 fn spare_of(picture: Option<Picture>) -> Option<Grid> {
     match picture {
         Some(picture) => Some(picture.into_grid()),

@@ -23,10 +23,22 @@ use Rattle.bx_world.specs.declared.step.StepFault.{StepFault}
 use Rattle.bx_world.specs.declared.step.StepFault.TheVariants as faults
 use Rattle.bx_world.specs.Answers.{answer_of, mark_after}
 use Rattle.bx_world.specs.Steps.{AfterByteStep, AfterToldStep, AfterReadStep}
+use Rattle.bx_world.specs.declared.world.World.TheInside.{Inside}
 use Rattle.bx_world.specs.World.{World, unknown_terminal, with_byte, with_told_size, told_after, told_after_key, is_window, after_send}
 use Rattle.bx_world.specs.Showing.{CursorStands, IsInStep}
 use Rattle.bx_world.proofs.Keys.{spent, byte_keeps, byte_pending, both, same_number}
 use Rattle.bx_world.proofs.Steps.{opened, kept, painted, resized, sent, received, failed}
+
+-- the value of a world's fields
+abbrev pub value_of : {D : Type 0} → Inside D → World
+value_of w = record {
+  session = w.session.session;
+  line = w.line.items;
+  height = w.height;
+  width = w.width;
+  screen = w.screen;
+  told = w.told;
+}
 
 -- ---- opening
 

@@ -7,8 +7,8 @@ use Rattle.std.specs.Prelude.{nat_le, ◌&&◌, ◌+◌}
 use Rattle.bx_grid.specs.Columns.{run_columns}
 use Rattle.bx_grid.specs.Picture.{IsIdle}
 use Rattle.bx_grid.specs.Tokens.{fate, command}
-use Rattle.bx_grid.specs.declared.token.Command.{Command}
-use Rattle.bx_grid.specs.declared.token.Command.TheVariants.{Move, Clear, Erase, Render, Other}
+use Rattle.bx_grid.specs.declared.command.Command.{Command}
+use Rattle.bx_grid.specs.declared.command.Command.TheVariants.{Move, Clear, Erase, Render, Other}
 use Rattle.bx_grid.specs.Terminal.{Terminal, all_unknown, after_clear, after_erase, after_command, run_put, run_ended}
 use Rattle.bx_grid.specs.Terminal.{character_read, token_read, after_first_byte_as, after_first_byte, after_next_byte, read_after, byte_read, reads}
 use Rattle.bx_world.specs.Showing.{begins_sequence, NoRunInSequence, HasSize}

@@ -1,5 +1,6 @@
--- The picture that a world's terminal shows, and will show once it has read all bytes in transit.
-use Rattle.std.specs.Prelude.{◌≡◌, ℕ, Bool, true, false, List, [], ◌∷◌, ◌==◌, IfSome}
+-- The picture that a world's terminal shows, and will show once it has read all bytes in transit. `d` is Unicode's data, `w` a
+-- world, `s` its session, `e` an editor, `t` a terminal.
+use Rattle.std.specs.Prelude.{◌≡◌, ℕ, Bool, true, false, List, [], ◌∷◌, ◌==◌, IfSome, Option, Some, None}
 use Rattle.bx_grid.specs.Picture.{PictureState, IsIdle, Shows}
 use Rattle.bx_grid.specs.Terminal.{Terminal, reads}
 use Rattle.bx_ucd.specs.Data.{Data}
@@ -8,6 +9,7 @@ use Rattle.bx_editor.specs.Picture.{StandsOnItsCell, picture}
 use Rattle.bx_session.specs.Session.{Session}
 use Rattle.bx_session.specs.Painting.{ShowsState}
 use Rattle.bx_world.specs.World.{World, unread}
+use Rattle.bx_terminal.specs.Screens.{IfShown}
 
 -- the picture of the state: the rows that the rules give for the text, and the cursor's cell
 abbrev pub picture_of : Data → Session → PictureState
@@ -40,21 +42,24 @@ CursorStands d s = s.painting_owed ≡ false → s.editor.ended ≡ false → St
 
 -- ---- the invariant of all steps
 
--- a sequence is half read
+-- the bytes begin with ESC, as a control sequence does
 abbrev pub begins_sequence : List ℕ → Bool
 begins_sequence [] = false
 begins_sequence (b ∷ rest) = b == 0x1B
 
--- an escape ends a run, so there is no run while a sequence is half read
+-- ESC ends a terminal's run of characters, so there is none while a sequence is half read
 abbrev pub NoRunInSequence : Terminal → Type 0
 NoRunInSequence t = begins_sequence t.half_read ≡ true → t.run ≡ []
 
+-- the terminal has these rows and columns
 abbrev pub HasSize : ℕ → ℕ → Terminal → Type 0
 HasSize height width t = (t.height ≡ height) × (t.width ≡ width)
 
+-- the editor has these rows and columns
 abbrev pub FitsWindow : ℕ → ℕ → Editor → Type 0
 FitsWindow height width e = (e.height ≡ height) × (e.width ≡ width)
 
+-- the world, wherever steps led it
 pub record IsInStep (d : Data) (w : World) : Type 0 where
   -- unless a painting is owed, the picture last painted is the state's, and the screen is assumed to show it
   pub state : ShowsState d w.session
@@ -64,3 +69,8 @@ pub record IsInStep (d : Data) (w : World) : Type 0 where
   pub whole : StaysWhole w
   pub screen : IfSome w.screen (λ t. HasSize w.height w.width t × NoRunInSequence t)
   pub size : w.told ≡ true → FitsWindow w.height w.width w.session.editor
+
+-- a terminal that has not failed shows the picture; never so if there is none
+abbrev pub IsShownOn : Option PictureState → Option Terminal → Type 0
+IsShownOn None screen = ⊥
+IsShownOn (Some p) screen = IfShown screen p

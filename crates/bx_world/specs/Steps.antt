@@ -1,4 +1,5 @@
--- The world after a step, by its answer, and after a list of steps.
+-- The world after a step, by its answer, and after a list of steps. `d` is Unicode's data, `b` a byte of input; an answer that a
+-- step never gives has ⊥.
 use Rattle.std.specs.Prelude.{◌≡◌, ◌≢◌, ℕ, Bool, true, false, List, [], ◌∷◌, take, drop, Option, Result, Ok, Err, IsSome}
 use Rattle.std.specs.List.{AllByRecursion}
 use Rattle.bx_grid.specs.Picture.{is_size}
@@ -16,7 +17,7 @@ use Rattle.bx_world.specs.World.{World, with_byte, with_told_size, after_window,
 
 -- ---- one step
 
--- a byte; `fault`: that of a Save, none if it succeeded
+-- the world after a byte, by the answer; `fault`: why a Save failed, None if it succeeded
 abbrev pub AfterByteStep : {A : Type 0} → Data → Option StoreFault → World → ℕ → Result A StepFault → World → Type 0
 AfterByteStep d fault old b (Ok _) new = new ≡ with_byte old b (after_byte d fault old.session b)
 AfterByteStep d fault old b (Err (faults.Session refused.Paint)) new =
@@ -27,6 +28,7 @@ AfterByteStep d fault old b (Err (faults.Session refused.Size)) new = ⊥
 AfterByteStep d fault old b (Err (faults.Screen _)) new = ⊥
 AfterByteStep d fault old b (Err faults.Line) new = ⊥
 
+-- the world after the session was told a size, by the answer
 abbrev pub AfterToldStep : {A : Type 0} → Data → World → ℕ → ℕ → Result A StepFault → World → Type 0
 AfterToldStep d old height width (Ok _) new =
     (is_size height width ≡ true) × (new ≡ with_told_size old height width (after_told d old.session height width))
@@ -37,7 +39,7 @@ AfterToldStep d old height width (Err (faults.Session refused.Edit)) new = ⊥
 AfterToldStep d old height width (Err (faults.Screen fault)) new = ⊥
 AfterToldStep d old height width (Err faults.Line) new = ⊥
 
--- a failed terminal answers `OutOfMemory`, whatever the size
+-- the world after the window got a size, by the answer; a failed terminal answers `OutOfMemory`, whatever the size
 abbrev pub AfterWindowStep : {A : Type 0} → World → ℕ → ℕ → Result A StepFault → World → Type 0
 AfterWindowStep old height width (Ok _) new = (is_size height width ≡ true) × IsSome old.screen × (new ≡ after_window old height width)
 AfterWindowStep old height width (Err (faults.Screen grid.SizeOutOfRange)) new =
@@ -47,15 +49,15 @@ AfterWindowStep old height width (Err (faults.Screen grid.OutOfMemory)) new =
 AfterWindowStep old height width (Err (faults.Session fault)) new = ⊥
 AfterWindowStep old height width (Err faults.Line) new = ⊥
 
--- a count beyond the pending bytes sends all of them
+-- the world after pending bytes went to the line, by the answer; a count beyond the pending bytes sends all of them
 abbrev pub AfterSendStep : {A : Type 0} → World → ℕ → Result A StepFault → World → Type 0
 AfterSendStep old count (Ok _) new = new ≡ after_send old count
 AfterSendStep old count (Err faults.Line) new = new ≡ old
 AfterSendStep old count (Err (faults.Session fault)) new = ⊥
 AfterSendStep old count (Err (faults.Screen fault)) new = ⊥
 
--- A count beyond the line reads all of it. A read of no byte is answered Ok, even by a failed terminal. If the terminal
--- runs out of memory, the bytes of the read are off the line.
+-- The world after the terminal read from the line, by the answer. A count beyond the line reads all of it. A read of no byte is
+-- answered Ok, even by a failed terminal. If the terminal runs out of memory, the bytes of the read are off the line.
 abbrev pub AfterReadStep : {A : Type 0} → World → ℕ → Result A StepFault → World → Type 0
 AfterReadStep old count (Ok _) new = (take count old.line ≢ [] → IsSome old.screen) × (new ≡ after_read old count)
 AfterReadStep old count (Err (faults.Screen grid.OutOfMemory)) new =
@@ -81,6 +83,7 @@ PlaysTo d old store [] new store' = (new ≡ old) × (store' ≡ store)
 PlaysTo d old store (s ∷ more) new store' =
     (mid : World) × (mid_store : StoreState) × StepsTo d old store s.0 s.1 mid mid_store × PlaysTo d mid mid_store more new store'
 
+-- the step was accepted
 abbrev pub is_ok : {A : Type 0} → Result A StepFault → Bool
 is_ok (Ok _) = true
 is_ok (Err fault) = false
@@ -93,7 +96,7 @@ accepted_after before (Window height width) answer = before
 accepted_after before (Send count) answer = before
 accepted_after before (Read count) answer = before
 
--- whether the last byte or told size of a schedule was accepted
+-- whether the last byte or told size of a schedule was accepted; `before` if it has none
 abbrev pub is_last_accepted : {A : Type 0} → Bool → List (Step × Result A StepFault) → Bool
 is_last_accepted before [] = before
 is_last_accepted before (s ∷ more) = is_last_accepted (accepted_after before s.0 s.1) more

@@ -1,4 +1,4 @@
-//! Laws of runs and worlds. The functions are empty: their contracts are the laws.
+//! Laws that bring runs into worlds, so that the screen of a run is right. The functions are empty: their contracts are the laws.
 
 ghost use Rattle.bx_world.specs.Laws.{BeginsWithKeys, HeadlineInChangingWindows, HeadlineOfRuns, RunsArePlays, TurnsArePlays};
 
@@ -20,7 +20,7 @@ pub fn runs_keep_headline()
     ensures { HeadlineOfRuns }
 {}
 
-/// The headline for such a run in a window whose size changes meanwhile.
+/// The headline for a run, as `runs_keep_headline` has it, in a window whose size changes meanwhile.
 pub fn windows_keep_headline()
     ensures { HeadlineInChangingWindows }
 {}

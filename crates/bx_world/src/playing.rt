@@ -1,4 +1,4 @@
-//! Running a whole schedule.
+//! Playing a whole schedule: the call with the promise that the screen is right.
 
 ghost use Rattle.std.specs.Prelude.{◌≡◌, ◌≤◌, ℕ, List, [], Bool, IfOk, OnErr, length, not, vec_capacity};
 ghost use Rattle.std.specs.List.{zip};
@@ -15,7 +15,7 @@ use bx_store::Store;
 use bx_ucd::BidiData;
 
 impl<D: BidiData + Drop> World<D> {
-    /// Takes steps in order, and appends their answers to a list with room for them.
+    /// Takes steps in order, and puts their answers into an empty list with room for them.
     fn play_into<S: Store>(
         &mut self,
         steps: &[Step],

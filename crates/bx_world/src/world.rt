@@ -1,34 +1,36 @@
-//! The world's state.
+//! The world's state, and what can be read of it.
 
 ghost use Rattle.std.specs.Prelude.{◌≡◌, ◌≤◌, ◌↔◌, true, false, IfErr, IfOk, IsTrue, IsUtf8, OnOk, length};
 ghost use Rattle.bx_terms.specs.Sizes.{largest_text};
 ghost use Rattle.bx_grid.specs.Picture.{is_size};
-ghost use Rattle.bx_grid.specs.Screens.{IfShown};
+ghost use Rattle.bx_terminal.specs.Screens.{IfShown};
 ghost use Rattle.bx_editor.specs.Opening.{Causes};
-ghost use Rattle.bx_session.specs.Painting.{IsShownOn};
+ghost use Rattle.bx_world.specs.Showing.{IsShownOn};
 ghost use Rattle.bx_session.specs.Session.{at_opening};
 ghost use Rattle.bx_world.specs.Showing.{IsInStep, StaysWhole, WillShow, picture_of};
 ghost use Rattle.bx_world.specs.World.{around};
 
-use bx_grid::Screen;
 use bx_session::{OpenError, Session};
+use bx_terminal::Screen;
 use bx_terms::Base;
 use bx_ucd::BidiData;
 use std::alloc::Global;
 use std::marker::Model;
 
-/// A session, the bytes in transit to the terminal, the window's size, and the terminal. After any steps, a terminal that
-/// has read all bytes in transit shows the picture last painted, if the session was told the window's last size.
+/// A session, the line (the bytes in transit to the terminal), the window's size, and the terminal. After any steps, a terminal
+/// that has read the line and what is pending shows the picture last painted, if the session was told the window's last size.
 #[derive(Drop)]
 pub struct World<D: BidiData + Drop> {
+    // the session, whose pending bytes go to the line
     pub(crate) session: Session<D>,
-    // bytes sent and not yet read
+    // the bytes sent to the terminal and not yet read by it
     pub(crate) line: Vec<u8>,
     // the window's rows and columns
     pub(crate) height: u16,
     pub(crate) width: u16,
+    // the terminal, which fails for good once memory runs out for it
     pub(crate) screen: Screen,
-    // the session was told the window's last size
+    // whether the session was told the window's last size
     pub(crate) told: bool,
 }
 
@@ -61,7 +63,8 @@ impl<D: BidiData + Drop> Model for World<D> {
 }
 
 impl<D: BidiData + Drop> World<D> {
-    /// Opens a file's bytes in a window of this size, with an empty line. An error drops the bytes and the tables.
+    /// Opens a file's bytes in a window of `height` rows and `width` columns, with no bytes in transit and a terminal of unknown
+    /// content. An error drops the bytes and the tables.
     ///
     /// Errors, in this order: `TooLong` above 16,777,216 bytes; `NotUtf8` with the length of the longest UTF-8 prefix;
     /// `SizeOutOfRange` if a side is not from 1 to 500; `OutOfMemory`.
@@ -104,7 +107,7 @@ impl<D: BidiData + Drop> World<D> {
         &self.session
     }
 
-    /// The bytes sent and not yet read.
+    /// The bytes sent to the terminal and not yet read by it.
     pub fn line(&self) -> &[u8]
         ensures { result.now ≡ self.now.world.line }
     {
@@ -125,10 +128,14 @@ impl<D: BidiData + Drop> World<D> {
             → (IsTrue result ↔ IfShown self.now.world.screen (picture_of (D.data self.now.tables) self.now.world.session)) }
     {
         self.keep_up();
-        self.session.is_shown_on(&self.screen)
+        match self.session.painted() {
+            Some(picture) => self.screen.shows(picture),
+            None => false,
+        }
     }
 
-    /// The invariant of all steps: the terminal will show the picture last painted.
+    /// The invariant of all steps: the terminal will show the picture last painted. It does nothing: a call brings the invariant
+    /// into a proof.
     pub(crate) fn keep_up(&self)
         ensures in_step { IsInStep (D.data self.now.tables) self.now.world }
     {

@@ -1,7 +1,7 @@
 //! Runs over readers, writers and stores, some of which fail.
 
 use crate::faulty::{Letters, Narrow, Refusal};
-use bx_session::{End, RunFault, Session, run, run_within};
+use bx_session::{End, RunFault, Session, run};
 use bx_store::{MemoryStore, Store};
 use bx_terms::Base;
 use bx_ucd::{Tables, sample_tables};
@@ -11,8 +11,11 @@ use std::test::Fail;
 /// The output for `ab` in a row of five columns: at the opening, and then at the end.
 const OPENED_AND_ENDED: &[u8] = b"\x1b[0m\x1b[2J\x1b[1;1Hab\x1b[1;1H\x1b[0m\x1b[2J\x1b[1;1H";
 
-/// Number of its bytes before the first read.
+/// Number of the bytes of `OPENED_AND_ENDED` that are written before the first read.
 const OPENED: usize = 22;
+
+/// More reads than any run here makes.
+const READS: u64 = 99;
 
 /// The key Save.
 const SAVE: u8 = 0x13;
@@ -29,7 +32,7 @@ fn ends(alloc: Global, text: &str, mut keys: &[u8], end: End, output: &[u8]) -> 
     let mut session = opened(alloc, text, 1, 5)?;
     let mut written = Vec::new(alloc);
     let mut store = MemoryStore::new(alloc, None);
-    let found = run(&mut keys, &mut written, &mut store, &mut session);
+    let found = run(READS, &mut keys, &mut written, &mut store, &mut session);
     Ok(found == Ok(end) && written.as_slice() == output)
 }
 
@@ -64,7 +67,13 @@ fn a_run_writes_all_and_tells_its_end(rt: HostRuntime) -> Result<(), Fail> {
 fn breaks_at_write(alloc: Global, writer: &mut Narrow, count: usize) -> Result<bool, Fail> {
     let mut session = opened(alloc, "ab", 1, 5)?;
     let mut store = MemoryStore::new(alloc, None);
-    let found = run(&mut b"\x11".as_slice(), writer, &mut store, &mut session);
+    let found = run(
+        READS,
+        &mut b"\x11".as_slice(),
+        writer,
+        &mut store,
+        &mut session,
+    );
     let queued = if session.ended() {
         OPENED_AND_ENDED.len()
     } else {
@@ -84,6 +93,7 @@ fn a_write_that_fails_is_a_fault(rt: HostRuntime) -> Result<(), Fail> {
             let mut writer = Narrow {
                 written: Vec::new(rt.alloc()),
                 room,
+                // more than a run makes
                 flushes: 9,
                 refusal,
             };
@@ -101,6 +111,7 @@ fn a_flush_that_fails_is_a_fault(rt: HostRuntime) -> Result<(), Fail> {
     for (flushes, count) in [(0, OPENED), (1, OPENED_AND_ENDED.len())] {
         let mut writer = Narrow {
             written: Vec::new(rt.alloc()),
+            // more than the output has bytes
             room: 99,
             flushes,
             refusal: Refusal::Error,
@@ -133,7 +144,7 @@ fn breaks_at_read(
     let mut output = Vec::new(alloc);
     let mut store = MemoryStore::new(alloc, None);
     let reader = &mut Letters { left: letters };
-    let found = run_within(limit, reader, &mut output, &mut store, &mut session);
+    let found = run(limit, reader, &mut output, &mut store, &mut session);
     Ok(
         found == Err(fault)
             && output.len() == written
@@ -151,6 +162,7 @@ fn a_read_that_fails_is_a_fault(rt: HostRuntime) -> Result<(), Fail> {
             breaks_at_read(
                 rt.alloc(),
                 left,
+                // more reads than it makes
                 99,
                 RunFault::ReadFault,
                 written,
@@ -167,7 +179,7 @@ fn ends_within_one_read(alloc: Global) -> Result<bool, Fail> {
     let mut session = opened(alloc, "ab", 1, 5)?;
     let mut output = Vec::new(alloc);
     let mut store = MemoryStore::new(alloc, None);
-    let found = run_within(
+    let found = run(
         1,
         &mut b"\x11".as_slice(),
         &mut output,
@@ -201,7 +213,7 @@ fn output_of(
     mut keys: &[u8],
 ) -> Result<Vec<u8>, Fail> {
     let mut output = Vec::new(alloc);
-    run(&mut keys, &mut output, store, session)?;
+    run(READS, &mut keys, &mut output, store, session)?;
     Ok(output)
 }
 
@@ -237,6 +249,7 @@ fn fails_at_call(alloc: Global, call: u64) -> Result<Option<bool>, Fail> {
 #[test]
 fn a_save_fails_at_each_call_of_the_store(rt: HostRuntime) -> Result<(), Fail> {
     let mut failed = 0;
+    // more calls than a Save makes
     for call in 1..99 {
         let Some(is_right) = fails_at_call(rt.alloc(), call)? else {
             break;
@@ -244,6 +257,7 @@ fn a_save_fails_at_each_call_of_the_store(rt: HostRuntime) -> Result<(), Fail> {
         assert!(rt; is_right, "at call {call}");
         failed = call;
     }
+    // a Save calls at least begin, put and commit
     assert!(rt; 3 <= failed && failed < 98, "{failed} calls");
     Ok(())
 }

@@ -1,13 +1,13 @@
 //! BidiCharacterTest.txt. A line has characters, a direction, and the expected paragraph level, levels and order.
-use crate::fields::{is_case, levels, order, text_of};
+use crate::fields::{levels, order, text_of};
 use crate::layout::{Layout, find_layout};
-use crate::score::Score;
+use crate::score::{Score, score_cases};
 use anyhow::{Context, Result, bail};
 use bx_terms::Base;
 use bx_ucd::Tables;
 use std::alloc::Global;
 
-/// Parses a paragraph direction.
+/// Parses a paragraph direction, by the numbers that BidiCharacterTest.txt defines.
 fn base_of(field: &str) -> Result<Base> {
     match field {
         "0" => Ok(Base::Ltr),
@@ -38,12 +38,5 @@ fn check(alloc: Global, line: &str, tables: &Tables, score: &mut Score) -> Resul
 
 /// Runs the suite.
 pub fn score(alloc: Global, text: &str, tables: &Tables) -> Result<Score> {
-    let mut score = Score::new(alloc);
-    for (number, line) in text.lines().enumerate() {
-        if is_case(line) {
-            let number = number.saturating_add(1);
-            check(alloc, line, tables, &mut score).context(format_args!("line {number}"))?;
-        }
-    }
-    Ok(score)
+    score_cases(alloc, text, |line, score| check(alloc, line, tables, score))
 }

@@ -1,7 +1,7 @@
-//! GraphemeBreakTest.txt. A line has characters separated by signs that say whether a cluster ends there.
-use crate::fields::{character, is_case};
-use crate::score::Score;
-use anyhow::{Context, Result};
+//! GraphemeBreakTest.txt. A line has characters between signs: ÷ for a break between clusters or at an end, × for none.
+use crate::fields::character;
+use crate::score::{Score, score_cases};
+use anyhow::Result;
 use bx_cells::units;
 use bx_ucd::Tables;
 use std::alloc::{AllocError, Global};
@@ -48,14 +48,7 @@ fn check(alloc: Global, line: &str, tables: &Tables, score: &mut Score) -> Resul
 
 /// Runs the suite.
 pub fn score(alloc: Global, text: &str, tables: &Tables) -> Result<Score> {
-    let mut score = Score::new(alloc);
-    for (number, line) in text.lines().enumerate() {
-        if is_case(line) {
-            let number = number.saturating_add(1);
-            check(alloc, line, tables, &mut score).context(format_args!("line {number}"))?;
-        }
-    }
-    Ok(score)
+    score_cases(alloc, text, |line, score| check(alloc, line, tables, score))
 }
 
 /// The version in the first line, if it has one.

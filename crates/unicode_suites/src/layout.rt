@@ -1,11 +1,12 @@
-//! The layout that the code finds for a paragraph of one row.
+//! The layout that the code finds for a paragraph of one row, in the suites' notation.
 ghost use Rattle.std.specs.Prelude.{All, IfOk};
 ghost use Rattle.bx_cells.specs.Units.{StandsIn};
 
 use anyhow::{Result, bail};
 use bx_cells::{Face, Unit};
 use bx_resolve::{Level, Levels, levels};
-use bx_rows::{row_levels, visual};
+use bx_rows::visual;
+use bx_rows_laws::row_levels;
 use bx_terms::Base;
 use bx_ucd::{BidiData, Class, Tables};
 use std::alloc::Global;

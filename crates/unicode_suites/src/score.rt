@@ -1,15 +1,20 @@
 //! The score of a suite.
+use crate::fields::is_case;
+use anyhow::{Context, Result};
 use std::alloc::{AllocError, Global};
 use std::{fmt, io};
 
-/// Number of differing cases kept.
+/// Number of differing cases that are printed, so that a broken table does not fill the screen.
 const KEPT: usize = 5;
 
 /// The number of cases, the number that agree, and the first that differ.
 #[derive(Drop)]
 pub struct Score {
+    /// Number of cases.
     cases: u64,
+    /// Number of those that agree.
     agreeing: u64,
+    /// The first that differ, as they are printed.
     differing: Vec<String>,
 }
 
@@ -51,6 +56,24 @@ impl Score {
         }
         Ok(())
     }
+}
+
+/// The score of a suite in which each line that is a case stands alone. `check` adds the case to the score.
+pub fn score_cases<F: Fn(&str, &mut Score) -> Result<()>>(
+    alloc: Global,
+    text: &str,
+    check: F,
+) -> Result<Score>
+    requires { F.IsAlwaysCallable check }
+{
+    let mut score = Score::new(alloc);
+    for (number, line) in text.lines().enumerate() {
+        if is_case(line) {
+            let number = number.saturating_add(1);
+            check(line, &mut score).context(format_args!("line {number}"))?;
+        }
+    }
+    Ok(score)
 }
 
 impl fmt::Display for Score {

@@ -3,7 +3,7 @@ use Rattle.std.proofs.lemmas.List.{length-append}
 use Rattle.bx_grid.specs.Picture.{PictureState}
 use Rattle.bx_ucd.specs.Data.{Data}
 use Rattle.bx_editor.specs.Editor.{Editor, EditorState}
-use Rattle.bx_session.proofs.Pictures.{picture_height, picture_width, longer_queue, painting_is, painting_queues}
+use Rattle.bx_session.proofs.Pictures.{picture_height, picture_width, longer_queue, painting_is, painting_queues, value_of}
 use Rattle.bx_session.specs.Session.{Session, SessionState, known_if, painting, with_painting}
 use Rattle.bx_session.proofs.session.Session.paint.Goals as goal
 
@@ -27,15 +27,7 @@ invariant_of-self-2 g c =
 pub returns-clause-ok : goal.returns-clause-ok
 returns-clause-ok g c =
     let d : Data = g.D.BidiData.data c.self.inside.editor.tables in
-    let s : Session = record {
-      editor = c.self.inside.editor.editor;
-      top = c.self.inside.top;
-      rest = c.self.inside.decoder;
-      painted = c.self.inside.painted;
-      known = known_if c.self.inside.is_known c.self.inside.painted;
-      painting_owed = c.self.inside.painting_owed;
-      pending = drop c.self.inside.taken c.self.inside.queue.items;
-    } in
+    let s : Session = value_of c.self.inside in
     painting_is d s c.picture.new.self.editor c.in-Ok-picture.top c.in-Ok-picture.picture (drop c.self.inside.taken c.append.new.queue.items)
     (ap (λ (x : EditorState g.row.D.Denot). x.editor) c.in-Ok-picture.ensures.same) c.in-Ok-picture.ensures.top c.in-Ok-picture.ensures.picture
     (longer_queue c.self.inside.taken c.self.inside.queue.items (painting (known_if c.self.inside.is_known c.self.inside.painted) c.in-Ok-picture.picture) c.append.new.queue.items c.self.invariant.0
@@ -45,15 +37,7 @@ returns-clause-ok g c =
 pub returns-clause-paints : goal.returns-clause-paints
 returns-clause-paints g c =
     let d : Data = g.D.BidiData.data c.self.inside.editor.tables in
-    let s : Session = record {
-      editor = c.self.inside.editor.editor;
-      top = c.self.inside.top;
-      rest = c.self.inside.decoder;
-      painted = c.self.inside.painted;
-      known = known_if c.self.inside.is_known c.self.inside.painted;
-      painting_owed = c.self.inside.painting_owed;
-      pending = drop c.self.inside.taken c.self.inside.queue.items;
-    } in
+    let s : Session = value_of c.self.inside in
     rw (← c.self.view_is)
     (painting_queues d s c.picture.new.self.editor c.in-Ok-picture.top c.in-Ok-picture.picture (drop c.self.inside.taken c.append.new.queue.items)
     (ap (λ (x : EditorState g.row.D.Denot). x.editor) c.in-Ok-picture.ensures.same) c.in-Ok-picture.ensures.picture

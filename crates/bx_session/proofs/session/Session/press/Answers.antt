@@ -1,4 +1,4 @@
-use Rattle.std.proofs.Common.{◌∙◌, ap, sym}
+use Rattle.std.proofs.Common.{None, ◌∙◌, ap, sym}
 use Rattle.bx_ucd.specs.Data.{Data}
 use Rattle.bx_editor.specs.Editor.{EditorState}
 use Rattle.bx_session.specs.Session.{known_if}
@@ -10,7 +10,7 @@ invariant_of-self-else-ended g c =
     let says : g.row.D.Denot → Data = g.D.BidiData.data in
     let old = c.self.inside in (
       c.self.invariant.0,
-      still_fits (says old.editor.tables) c.args.fault (known_if old.is_known old.painted) old.editor.editor c.apply.new.editor.editor c.args.key
+      still_fits (says old.editor.tables) None (known_if old.is_known old.painted) old.editor.editor c.apply.new.editor.editor c.args.key
           (sym c.asks_for_whole.ensures ∙ c.if-asks_for_whole.false) (ap (λ (x : EditorState g.row.D.Denot). x.editor) c.in_ok-apply.ensures.after_key)
           c.self.invariant.1,
     )

@@ -1,17 +1,10 @@
 use Rattle.bx_ucd.specs.Data.{Data}
 use Rattle.bx_world.specs.World.{World}
-use Rattle.bx_world.proofs.Calls.{window_call}
+use Rattle.bx_world.proofs.Calls.{window_call, value_of}
 use Rattle.bx_world.proofs.world.World.resize.Goals as goal
 
 pub invariant_of-self : goal.invariant_of-self
 invariant_of-self g c =
     let says : g.row.D.Denot → Data = g.D.BidiData.data in
-    let w : World = record {
-      session = c.self.inside.session.session;
-      line = c.self.inside.line.items;
-      height = c.self.inside.height;
-      width = c.self.inside.width;
-      screen = c.self.inside.screen;
-      told = c.self.inside.told;
-    } in
+    let w : World = value_of c.self.inside in
     window_call (says c.self.inside.session.tables) w c.args.height c.args.width c.window.new.self c.self.invariant c.in-Ok.ensures.ok

@@ -5,20 +5,13 @@ use Rattle.bx_session.specs.Saving.{StoreAfter, is_save_byte, store_state}
 use Rattle.bx_world.specs.Answers.{mark_after}
 use Rattle.bx_world.specs.Steps.{AfterByteStep}
 use Rattle.bx_world.specs.World.{World, WorldState}
-use Rattle.bx_world.proofs.Calls.{byte_call, byte_steps}
+use Rattle.bx_world.proofs.Calls.{byte_call, byte_steps, value_of}
 use Rattle.bx_world.proofs.world.World.type_byte.Goals as goal
 
 pub invariant_of-self : goal.invariant_of-self
 invariant_of-self g c =
     let says : g.row.D.Denot → Data = g.D.BidiData.data in
-    let w : World = record {
-      session = c.self.inside.session.session;
-      line = c.self.inside.line.items;
-      height = c.self.inside.height;
-      width = c.self.inside.width;
-      screen = c.self.inside.screen;
-      told = c.self.inside.told;
-    } in
+    let w : World = value_of c.self.inside in
     byte_call says c.self.inside.session.tables c.feed-answer.new.self.tables w c.feed-answer.new.self.session
     (store_state g.S.Store.contents g.S.Store.faults c.args.store.now) (store_state g.S.Store.contents g.S.Store.faults c.feed-answer.new.store)
     c.args.byte c.feed-answer.result c.mark_after.new.told c.feed-answer.ensures.tables
@@ -28,14 +21,7 @@ invariant_of-self g c =
 pub returns-clause-step : goal.returns-clause-step
 returns-clause-step g c =
     let says : g.row.D.Denot → Data = g.D.BidiData.data in
-    let w : World = record {
-      session = c.self.inside.session.session;
-      line = c.self.inside.line.items;
-      height = c.self.inside.height;
-      width = c.self.inside.width;
-      screen = c.self.inside.screen;
-      told = c.self.inside.told;
-    } in
+    let w : World = value_of c.self.inside in
     subst (λ (x : WorldState g.row.D.Denot). (fault : Option StoreFault)
     × StoreAfter (is_save_byte x.world.session c.args.byte) fault x.world.session.editor.content.text
     (store_state g.S.Store.contents g.S.Store.faults c.args.store.now) (store_state g.S.Store.contents g.S.Store.faults c.feed-answer.new.store)

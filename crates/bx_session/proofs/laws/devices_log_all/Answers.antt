@@ -1,5 +1,0 @@
-use Rattle.bx_session.proofs.WholeLog.{has_whole_log}
-use Rattle.bx_session.proofs.laws.devices_log_all.Goals as goal
-
-pub returns : goal.returns
-returns c = has_whole_log

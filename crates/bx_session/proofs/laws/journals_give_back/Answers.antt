@@ -1,5 +1,0 @@
-use Rattle.bx_session.proofs.GivenBack.{journals_give_back}
-use Rattle.bx_session.proofs.laws.journals_give_back.Goals as goal
-
-pub returns : goal.returns
-returns g c = journals_give_back g.J.Journal.contents g.J.Journal.failure_count

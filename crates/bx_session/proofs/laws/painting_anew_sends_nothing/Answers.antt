@@ -1,5 +1,0 @@
-use Rattle.bx_session.proofs.PaintedAnew.{always_stays}
-use Rattle.bx_session.proofs.laws.painting_anew_sends_nothing.Goals as goal
-
-pub returns : goal.returns
-returns c = always_stays
