@@ -8,8 +8,8 @@ use Rattle.bx_grid.specs.Columns.{Col, blank, columns_before, cut_after, put, pu
 use Rattle.bx_grid.specs.Glyphs.{WholeGlyph, IsGlyph, whole_columns, AreWhole}
 use Rattle.bx_grid.proofs.Pasted.{past_blanks}
 use Rattle.bx_grid.proofs.Whole.{columns_form, whole_split, whole_after, whole_left, whole_right}
-use Rattle.bx_grid.proofs.Spoils.{length-cut_after}
-use Rattle.bx_grid.proofs.Uncut.{cut_after-drop}
+use Rattle.bx_grid.proofs.CutColumns.{length-cut_after}
+use Rattle.bx_grid.proofs.CutColumns.{cut_after-drop}
 
 -- ---- the columns after an index
 

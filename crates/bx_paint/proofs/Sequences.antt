@@ -5,8 +5,8 @@ use Rattle.std.specs.List.{list_all}
 use Rattle.std.proofs.lemmas.Bool.Decides.{nat_tests}
 use Rattle.std.proofs.lemmas.List.{append-nil}
 use Rattle.bx_grid.specs.Columns.{Col, blank, put}
-use Rattle.bx_grid.specs.declared.token.Command.{Command}
-use Rattle.bx_grid.specs.declared.token.Command.TheVariants.{Move}
+use Rattle.bx_grid.specs.declared.command.Command.{Command}
+use Rattle.bx_grid.specs.declared.command.Command.TheVariants.{Move}
 use Rattle.bx_grid.specs.Tokens.{is_param, command_of}
 use Rattle.bx_grid.specs.Effects.{Effect, Erases, pending_effects, command_effects}
 use Rattle.bx_grid.specs.Terminal.{Terminal, run_ended, after_command}

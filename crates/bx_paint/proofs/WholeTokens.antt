@@ -14,7 +14,7 @@ use Rattle.bx_grid.proofs.Doing.{run_is, sequence_does}
 use Rattle.bx_grid.proofs.Reading.{at, IsFinal, move_params, move_params_fit, reads-append}
 use Rattle.bx_grid.proofs.Texts.{glyph_does}
 use Rattle.bx_grid.proofs.Whole.{columns_form, rows_whole}
-use Rattle.bx_grid.proofs.InTokens.{idle_command}
+use Rattle.bx_grid.proofs.Idle.{idle_command}
 use Rattle.bx_grid.proofs.RunEnds.{no_run}
 use Rattle.bx_paint.specs.Painting.{Step, Sent, nothing_sent, move_bytes, render_bytes, render_change, erase_bytes, before_tail}
 use Rattle.bx_paint.specs.Painting.{leading_blanks, is_sent, glyph_bytes, column_sent, columns_sent}

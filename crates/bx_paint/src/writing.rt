@@ -1,4 +1,6 @@
-//! Writes the bytes of a painting.
+//! Writes the bytes of a painting: what of two grids differs. Rows and columns count from 0, and are below 65535, so that
+//! the numbers of a move, counted from 1, fit in 16 bits. `negative` and `pen` are the state before; a returned bool is the
+//! rendition after, a returned `Pen` the state after.
 
 ghost use Rattle.std.specs.Prelude.{◌≡◌, ℕ, ◌+◌, ◌*◌, ◌<◌, ◌≤◌, ◌^◌, [], ◌∷◌, ◌++◌, length, true};
 ghost use Rattle.std.specs.Prelude.{false, IfOk, OnOk, OnErr, string_bytes, take, drop, replicate};
@@ -23,6 +25,7 @@ pub fn write_move(out: &mut Output, row: u16, column: u16) -> Result<(), AllocEr
     write_column_number(out, column + 1)
 }
 
+/// Changes the rendition from one to the other, if they differ; true is negative.
 pub fn write_rendition(out: &mut Output, from: bool, to: bool) -> Result<(), AllocError>
     ensures bytes { OnOk result (out.new.painting ≡ out.old.painting ++ render_change from to) }
     ensures before { out.new.before ≡ out.old.before }
@@ -37,14 +40,16 @@ pub fn write_rendition(out: &mut Output, from: bool, to: bool) -> Result<(), All
     }
 }
 
-/// Whether a character from SPACE to TILDE was sent for the column before, and the rendition.
+/// The state between two glyphs of a row.
 #[derive(Clone, Copy)]
 struct Pen {
+    /// A character from SPACE to TILDE was sent for the column before, so that another such character needs no move.
     near: bool,
+    /// The rendition.
     negative: bool,
 }
 
-/// Sends a glyph.
+/// Sends a glyph whose rendition is `negative`.
 fn write_glyph(
     out: &mut Output,
     row: u16,
@@ -64,7 +69,7 @@ fn write_glyph(
     out.append(text.as_bytes())
 }
 
-/// Whether the first `count` columns of both are the same, or all if there are fewer.
+/// Whether the first `count` columns of both are the same, or all if there are fewer. Codes alone often tell that they differ.
 fn is_same_front(old: &BorrowedRow<'_>, new: &BorrowedRow<'_>, count: u16) -> bool
     ensures { result ≡ are_equal (take count old.now) (take count new.now) }
 {
@@ -157,7 +162,7 @@ fn write_at(
     )
 }
 
-/// Sends the changed glyphs of a row before its tail.
+/// Sends the changed glyphs of a row before its tail. Returns the rendition after them.
 fn write_columns(
     out: &mut Output,
     row: u16,
@@ -209,7 +214,8 @@ fn blanks_len(columns: &[Column]) -> usize
     len
 }
 
-/// Erases a row's tail from its first column that differs.
+/// Erases a row's tail, which begins at `column`, from the first of its old columns that is not blank; sends nothing if all are
+/// blank.
 fn write_tail(
     out: &mut Output,
     row: u16,
@@ -233,25 +239,6 @@ fn write_tail(
 }
 
 /// Sends the changes of a row, before its tail and in it.
-fn write_changed_row(
-    out: &mut Output,
-    row: u16,
-    negative: bool,
-    old: &BorrowedRow<'_>,
-    new: &BorrowedRow<'_>,
-) -> Result<bool, AllocError>
-    requires small { (row < 65535) × (length new.now < 65535) }
-    requires same { length old.now ≡ length new.now }
-    ensures bytes { OnOk result (out.new.painting ≡ out.old.painting ++ (row_sent row negative old.now new.now).bytes) }
-    ensures before { out.new.before ≡ out.old.before }
-    ensures rendition { IfOk result (λ after. after ≡ (row_sent row negative old.now new.now).negative) }
-{
-    let front = front_len(new.columns());
-    let negative = write_columns(out, row, negative, &old.front(front), &new.front(front))?;
-    write_tail(out, row, front as u16, negative, old.rest(front).columns())
-}
-
-/// Sends the changes of a row, if it has any.
 fn write_row(
     out: &mut Output,
     row: u16,
@@ -268,7 +255,9 @@ fn write_row(
     if old.is_same(new) {
         return Ok(negative);
     }
-    write_changed_row(out, row, negative, old, new)
+    let front = front_len(new.columns());
+    let negative = write_columns(out, row, negative, &old.front(front), &new.front(front))?;
+    write_tail(out, row, front as u16, negative, old.rest(front).columns())
 }
 
 /// Sends the changes of all rows between two grids of one size.
