@@ -1,14 +1,15 @@
 //! A full-screen editor: keys come from standard input, the screen goes to standard output.
 //!
 //! `bidi_edit [--rows N] [--cols N] [--direction auto|ltr|rtl] [--line N] [--text PATH] [--unsaved] [--journal PATH [--in-place
-//! MARK]] [--itself] [--replay PATH [--to PATH]] [--before TEXT] [--words] --classes F --brackets F --mirroring F [--joining F --characters F]
-//! FILE`. With `--check` it only checks that FILE can be opened. Exit status 0: ended by Quit, or the input ended without unsaved
-//! changes, or FILE can be opened; 1: a fault, with a line on standard error; 2: the command line was refused, and standard error
-//! says why.
+//! MARK]] [--itself] [--replay PATH [--to PATH]] [--before TEXT] [--words] --classes F --brackets F --mirroring F [--joining F
+//! --characters F] FILE`. `Options` of `bx_command` says what each option is for. With `--check` it only checks that FILE can
+//! be opened. Exit status 0: ended by Quit, or the input ended without unsaved changes, or FILE can be opened; 1: a fault, with
+//! a line on standard error; 2: the command line was refused, and standard error says why.
 //!
 //! With `--before`, TEXT goes to standard output once FILE is read and can be opened. With `--words`, standard error gets words,
 //! each of which ends with NUL: `o DEVICE INODE SIZE SECONDS NANOS`, or `o -` if FILE does not exist, or `o changed`, once it was
-//! read; `f KIND` or `f KIND VALUE` for a fault; `j lost` and `j kept` for a journal that could not be written, and is kept again.
+//! read; `f KIND` or `f KIND VALUE` for a fault; `j lost` and `j kept` for a journal that could not be written, and is kept
+//! again.
 #![tactic(auto)]
 
 mod edit;
@@ -16,7 +17,7 @@ mod fault;
 mod look;
 mod telling;
 
-use bx_cli::{is_text_of, refuse, refuse_words, text_of};
+use bx_cli::{is_text_of, refuse, refuse_words, text_of, words_of};
 use bx_command::{Files, JournalFile, Options, TextFault, check_text, command_line, empty_journal};
 use bx_recovery::{Beginning, is_foreign, recover};
 use bx_session::{Recorder, WrittenJournal};
@@ -24,8 +25,7 @@ use bx_store::{FileStore, Store, StoreFault};
 use edit::{Changes, edit};
 use fault::ProgramFault;
 use look::Look;
-use std::env;
-use std::io::{self, Read, Write};
+use std::io::{Read, Write};
 use std::process::ExitCode;
 use telling::{finish, journal_notes, tell_look, tell_lost_journal};
 
@@ -54,7 +54,8 @@ fn edit_file<'a, R: Read + Drop, W: Write, S: Store>(
     Ok(())
 }
 
-/// Stores the text recovered from a journal, and writes how the edited file relates to it.
+/// Stores the text recovered from a journal, and writes a line: what FILE holds compared with it, and the number of keys. A FILE
+/// that does not exist counts as empty.
 fn recover_to<'a, W: Write, S: Store>(
     rt: &HostRuntime,
     options: &Options<'a>,
@@ -70,7 +71,7 @@ fn recover_to<'a, W: Write, S: Store>(
     }
 }
 
-/// The start of a session over these files.
+/// The start of a session over these files. `text` is the opened text; None if FILE does not exist.
 fn beginning_of<'a>(
     rt: &HostRuntime,
     options: &Options<'_>,
@@ -90,7 +91,7 @@ fn beginning_of<'a>(
     }
 }
 
-/// The store that Saves write to.
+/// The store that Saves write to, or the recovered text with `--to`.
 fn store_of<'a>(
     rt: &'a HostRuntime,
     options: &Options<'_>,
@@ -105,8 +106,9 @@ fn store_of<'a>(
     Ok(store)
 }
 
-/// Whether FILE may have changed since the opened text was copied from it. A text that counts as changed from the start is not
-/// compared.
+/// Whether FILE may have changed since the opened text was copied from it: then the first save is a fault. Only a text named by
+/// `--text` is compared, and neither one to be recovered nor one that counts as changed from the start. A FILE that cannot be
+/// read may have changed; one that does not exist has not.
 fn is_changed(
     rt: &HostRuntime,
     options: &Options<'_>,
@@ -130,7 +132,8 @@ fn is_changed(
     }
 }
 
-/// Whether FILE is not a text that the replayed session knows. It is read whole, and the session is opened a second time.
+/// Whether FILE holds no text that the replayed session knows, or cannot be read. FILE is read whole, and the session is opened a
+/// second time, and replayed.
 fn is_unknown(
     rt: &HostRuntime,
     options: &Options<'_>,
@@ -196,7 +199,7 @@ fn run<'a, R: Read + Drop, W: Write>(
     reader: R,
     writer: &mut W,
 ) -> Result<(), ProgramFault<'a>> {
-    // before the files are read, so that the first save notices a change by another program in between
+    // made before the files are read, so that the first save notices a change by another program in between
     let mut store = store_of(rt, options)?;
     let mut files = read_files(rt, options, &mut store)?;
     if let Some(text) = options.before {
@@ -221,11 +224,6 @@ fn program<'a, R: Read + Drop, W: Write>(
         return check_file(rt, options.file);
     }
     run(rt, options, reader, writer)
-}
-
-/// The command line's words after the program's name.
-fn words_of(rt: &HostRuntime) -> io::Result<Vec<String>> {
-    Ok(env::args(rt)?.skip(1).collect(rt.alloc())?)
 }
 
 fn main(rt: HostRuntime) -> ExitCode {

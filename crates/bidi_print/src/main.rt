@@ -1,19 +1,18 @@
 //! Prints a text to standard output, one line for each row that UAX #9 gives.
 //!
-//! `bidi_print [--cols N] [--direction auto|ltr|rtl] [--marks] --classes F --brackets F --mirroring F [--joining F --characters F]
-//! FILE`. Exit status 0: all was written; 1: a fault, with a line on standard error; 2: the command line was refused, and standard
-//! error says why.
+//! `bidi_print [--cols N] [--direction auto|ltr|rtl] [--marks] --classes F --brackets F --mirroring F
+//! [--joining F --characters F] FILE`. With `--marks` a mark is printed as its letter in brackets, else not at all. Exit status
+//! 0: all was written; 1: a fault, with a line on standard error; 2: the command line was refused, and standard error says why.
 #![tactic(auto)]
 
 mod fault;
 mod printing;
 mod words;
 
-use bx_cli::{FileFault, UnicodeBytes, finish, refuse, refuse_words, text_of};
+use bx_cli::{FileFault, UnicodeBytes, finish, refuse, refuse_words, text_of, words_of};
 use fault::ProgramFault;
 use printing::print_bytes;
-use std::env;
-use std::io::{self, Write};
+use std::io::Write;
 use std::process::ExitCode;
 use words::{Options, command_line};
 
@@ -37,11 +36,6 @@ fn program<'a, W: Write>(
         unicode.lend(),
         options.style,
     )
-}
-
-/// The command line's words after the program's name.
-fn words_of(rt: &HostRuntime) -> io::Result<Vec<String>> {
-    Ok(env::args(rt)?.skip(1).collect(rt.alloc())?)
 }
 
 fn main(rt: HostRuntime) -> ExitCode {

@@ -1,8 +1,7 @@
 //! The program's command line.
 
-use bx_cli::{UnicodePaths, direction, direction_of, paths_of, side, side_of, with_tables};
+use bx_cli::{UnicodePaths, direction, direction_of, parse, paths_of, side, side_of, with_tables};
 use bx_print::{Marks, Style};
-use clap::error::ErrorKind;
 use clap::{Arg, ArgAction, ArgMatches, Command};
 use std::alloc::{AllocError, Global};
 use std::convert::AsStr;
@@ -18,7 +17,7 @@ pub struct Options<'a> {
     pub file: &'a str,
 }
 
-/// The program's command line.
+/// The program's command line. Rows have 80 columns, those of a usual terminal, where `--cols` is missing.
 fn command<'a>(alloc: Global) -> Result<Command<'a>, AllocError> {
     let style = Command::new(alloc, "bidi_print")
         .no_binary_name(true)
@@ -34,7 +33,7 @@ fn command<'a>(alloc: Global) -> Result<Command<'a>, AllocError> {
     with_tables(style, alloc)?.arg(Arg::new(alloc, "file").value_name("FILE").required(true))
 }
 
-/// Whether marks are printed, by the flag.
+/// How marks are printed, by the flag `--marks`.
 fn marks_of(matches: &ArgMatches<'_>) -> Marks {
     if matches.get_flag("marks") {
         Marks::Bracketed
@@ -66,11 +65,5 @@ pub fn command_line<'a, S: AsStr>(
     alloc: Global,
     words: &'a [S],
 ) -> Result<Options<'a>, clap::Error> {
-    let mut command = command(alloc)?;
-    let matches = command.try_get_matches_from_mut(words)?;
-    match options_of(&matches) {
-        Some(options) => Ok(options),
-        // unreachable: clap requires or defaults each argument, and parses its value
-        None => Err(command.error(ErrorKind::InvalidValue, "a value is missing")?),
-    }
+    parse(command(alloc)?, words, |matches| options_of(matches))
 }

@@ -3,13 +3,39 @@
 ghost use Rattle.bx_cli.specs.Arguments.{GivesDirection, GivesSide};
 
 use bx_terms::{Base, LARGEST_SIDE, is_side};
-use clap::{Arg, ArgMatches, value_parser};
+use clap::error::ErrorKind;
+use clap::{Arg, ArgMatches, Command, value_parser};
 use std::alloc::Global;
+use std::convert::AsStr;
+use std::{env, io};
 
 /// The names of the directions.
 static DIRECTIONS: [&str; 3] = ["auto", "ltr", "rtl"];
 
-/// An option whose value is a side of a window.
+/// The command line's words after the program's name.
+pub fn words_of(rt: &HostRuntime) -> io::Result<Vec<String>> {
+    Ok(env::args(rt)?.skip(1).collect(rt.alloc())?)
+}
+
+/// Parses the words after a program's name. `options_of` reads the options from what clap matched.
+///
+/// Errors: clap's, with a message for the user.
+pub fn parse<'a, S: AsStr, O, F: FnOnce(&ArgMatches<'a>) -> Option<O>>(
+    mut command: Command<'a>,
+    words: &'a [S],
+    options_of: F,
+) -> Result<O, clap::Error>
+    requires { F.IsAlwaysCallable options_of }
+{
+    let matches = command.try_get_matches_from_mut(words)?;
+    match options_of(&matches) {
+        Some(options) => Ok(options),
+        // unreachable: clap requires or defaults each argument, and parses its value
+        None => Err(command.error(ErrorKind::InvalidValue, "a value is missing")?),
+    }
+}
+
+/// An option whose value is a side of a window, from 1 to 500.
 pub fn side<'a>(alloc: Global, name: &'a str, default: &'a str) -> Arg<'a> {
     Arg::new(alloc, name)
         .long(name)

@@ -7,7 +7,7 @@ mod files;
 mod shown;
 mod unicode;
 
-pub use arguments::{direction, direction_of, side, side_of};
+pub use arguments::{direction, direction_of, parse, side, side_of, words_of};
 pub use ending::{finish, refuse, refuse_words};
 pub use files::{FileFault, bytes_of, is_text_of, text_of};
 pub use shown::{Inner, Numbered, Shown, Style, style_of};

@@ -1,11 +1,10 @@
-//! The editor's command line.
+//! The options of the editor's command line, and how they are parsed.
 
 ghost use Rattle.std.specs.Prelude.{IfSome};
 ghost use Rattle.bx_command.specs.Options.{AreOptionsIn};
 
 use crate::parsed::Options;
-use bx_cli::{direction, direction_of, paths_of, side, side_of, with_tables};
-use clap::error::ErrorKind;
+use bx_cli::{direction, direction_of, parse, paths_of, side, side_of, with_tables};
 use clap::{Arg, ArgAction, ArgMatches, Command, value_parser};
 use std::alloc::{AllocError, Global};
 use std::convert::AsStr;
@@ -112,11 +111,5 @@ pub fn command_line<'a, S: AsStr>(
     alloc: Global,
     words: &'a [S],
 ) -> Result<Options<'a>, clap::Error> {
-    let mut command = command(alloc)?;
-    let matches = command.try_get_matches_from_mut(words)?;
-    match options_of(&matches) {
-        Some(options) => Ok(options),
-        // unreachable: clap requires or defaults each argument, and parses its value
-        None => Err(command.error(ErrorKind::InvalidValue, "a value is missing")?),
-    }
+    parse(command(alloc)?, words, |matches| options_of(matches))
 }

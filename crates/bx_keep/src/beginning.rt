@@ -4,7 +4,7 @@ use crate::around::Around;
 use crate::causes::Unkept;
 use crate::checking::Edited;
 use crate::saying::warn;
-use crate::shelf::unkept_by;
+use crate::sessions_folder::unkept_by;
 use crate::stop::Stop;
 use bx_cli::Shown;
 use bx_keys::Notice;
@@ -15,13 +15,13 @@ use std::rt::Files;
 use std::thread;
 use std::time::Duration;
 
-/// The room that a session takes beside its text, in bytes.
+/// The room that a session takes beside its text, in bytes: for its short files and the first keys.
 const BESIDE_TEXT: u64 = 65_536;
 
 /// How long a message stays before the screen hides it, in seconds.
 const PAUSE: u64 = 1;
 
-/// The message where FILE could not be saved.
+/// What the refusal of a FILE that could not be saved adds.
 const FORCE: &str = "--force opens it all the same";
 
 /// A session, as the program starts.
@@ -43,15 +43,15 @@ pub struct Begun {
     pub is_itself: bool,
     /// The user wants no session.
     pub is_unwanted: bool,
-    /// Why unsaved text is not kept.
+    /// Why unsaved text is not kept; None while it is kept.
     pub unkept: Option<Unkept>,
-    /// FILE, where its session goes on with a new file beside it.
+    /// FILE's name, where the session goes on with a new file beside FILE; else None.
     pub aside_of: Option<String>,
-    /// FILE's permissions in the session, where FILE is gone.
+    /// FILE's permissions as the session notes them, where FILE is gone; else None.
     pub lost_mode: Option<u32>,
 }
 
-/// FILE's permissions in a session, where FILE is gone and the session tells them.
+/// FILE's permissions as a session notes them; None where FILE is there, or the session does not tell.
 fn lost_mode(around: Around<'_>, edited: &Edited, kept: &Kept) -> Option<u32> {
     if edited.destination.is_there(around.rt) || !kept.session.has(around.rt, Part::Mode) {
         return None;
@@ -94,7 +94,7 @@ impl Begun {
         }
     }
 
-    /// Makes the session's folder; where that cannot be, `unkept` tells why.
+    /// Makes the session's folder; where that cannot be, `unkept` tells why. The session waits if FILE's text has no room there.
     fn make<H: Host>(
         &mut self,
         around: Around<'_>,
@@ -102,16 +102,16 @@ impl Begun {
         edited: &mut Edited,
     ) -> Result<(), Stop> {
         let alloc = around.alloc();
-        edited.shelf.make(around)?;
-        let Some(sessions) = &edited.shelf.sessions else {
-            self.unkept = edited.shelf.unkept.take();
+        edited.sessions_folder.make(around)?;
+        let Some(sessions) = &edited.sessions_folder.sessions else {
+            self.unkept = edited.sessions_folder.unkept.take();
             return Ok(());
         };
-        // what cannot be removed stays
+        // a folder that cannot be removed is tried again at the next start
         let _ = sweep(around.rt, sessions);
         match begin(around.rt, sessions) {
             Ok(kept) => {
-                // without it other starts find the session once it is filled
+                // if this fails, other starts find the session only once it has its files
                 let _ = kept.announce(
                     around.rt,
                     edited.destination.path.as_str(),
@@ -124,33 +124,48 @@ impl Begun {
                 return Ok(());
             }
         }
-        let size = around
-            .rt
-            .metadata(edited.destination.path.as_str())
-            .map_or(0, |found| found.len());
+        self.look_for_room(
+            around,
+            host,
+            edited.destination.path.as_str(),
+            sessions.path(),
+        )
+    }
+
+    /// Has the session wait where its folder has no room for the text of FILE, which is at `path`. If the host cannot tell, there
+    /// is room.
+    fn look_for_room<H: Host>(
+        &mut self,
+        around: Around<'_>,
+        host: &mut H,
+        path: &str,
+        folder: &str,
+    ) -> Result<(), Stop> {
+        let alloc = around.alloc();
+        let size = around.rt.metadata(path).map_or(0, |found| found.len());
         let wanted = size.saturating_add(BESIDE_TEXT);
-        if !has_room(host, sessions.path(), wanted).unwrap_or(true) {
-            let folder = Shown(sessions.path());
+        if !has_room(host, folder, wanted).unwrap_or(true) {
+            let shown = Shown(folder);
             self.is_waiting = true;
-            let why = format!(in alloc; "{folder} has no room for it")?;
+            let why = format!(in alloc; "{shown} has no room for it")?;
             self.unkept = Some(Unkept::new(alloc, why.as_str(), Notice::NoSpace)?);
         }
         Ok(())
     }
 
-    /// Gives a session up that waits for room, which a save into FILE itself needs at once.
+    /// Gives up a session that waits for room: a save into FILE itself needs the room at once.
     fn give_up(&mut self, around: Around<'_>) {
         if !self.is_waiting {
             return;
         }
         if let Some(kept) = self.kept.take() {
-            // an empty folder is swept later
+            // an empty folder that stays is removed at a later start
             let _ = kept.session.remove(around.rt);
         }
         self.is_waiting = false;
     }
 
-    /// Notes in the session that its saves are written into FILE itself. Whether that can be.
+    /// Notes in the session that its saves are written into FILE itself. Returns whether it could; not if the session waits.
     fn note_in_place(&self, around: Around<'_>, edited: &Edited) -> bool {
         let path = edited.path().as_bytes();
         match &self.kept {
@@ -161,8 +176,8 @@ impl Begun {
         }
     }
 
-    /// Settles whether saves are written into FILE itself. The session's folder holds the whole text meanwhile; where there is
-    /// none, and the user forces it, FILE's own folder.
+    /// Settles whether saves are written into FILE itself. Meanwhile the session's folder holds the whole text; where there is no
+    /// session, and the user forces it, FILE's own folder does, unless the user cannot replace files there (`Protected`).
     ///
     /// Errors: the refusal of a FILE that needs a session and has none, unless it is forced.
     fn settle_in_place<H: Host>(
@@ -206,6 +221,7 @@ impl Begun {
         let (file, told, harm) = (Shown(edited.file()), reason.text(), reason.harm());
         let unkept = match &self.unkept {
             Some(unkept) => unkept.why.as_str(),
+            // the session is there, and `note_in_place` could not write in it
             None => "there is no room",
         };
         Ok(format!(in around.alloc();
@@ -213,7 +229,8 @@ impl Begun {
         )?)
     }
 
-    /// Tells that unsaved text is not kept, before the screen changes, and waits a second unless the user asked for that.
+    /// Tells that unsaved text is not kept, before the screen changes, and rings the bell and waits a second unless the user
+    /// asked for no session.
     fn tell_unkept<H: Host>(
         &self,
         around: Around<'_>,
@@ -255,10 +272,10 @@ impl Begun {
         Ok(begun)
     }
 
-    /// Goes on with a session.
+    /// Goes on with a session. It begins with the window of its first start, since its keys are replayed from there.
     ///
     /// Errors: as `fresh`.
-    pub fn resumed<H: Host>(
+    pub fn resume<H: Host>(
         around: Around<'_>,
         host: &mut H,
         edited: &Edited,
@@ -272,9 +289,9 @@ impl Begun {
         begun.is_resumed = true;
         begun.is_joined = begun.is_joined && !kept.session.has(around.rt, Part::Unjoined);
         let window = around.start.window;
-        // without room the host tells the program the window, which journals it like keys
+        // if the disk is full, the host still tells the program the window, and the program writes it into the journal
         let _ = kept.session.resume(around.rt, window.rows, window.cols);
-        // joined letters change no text and no place
+        // if this fails nothing is lost: whether letters are joined changes neither the text nor the cursor's place
         let _ = kept.session.put_joining(around.rt, begun.is_joined);
         begun.lost_mode = lost_mode(around, edited, &kept);
         begun.kept = Some(kept);

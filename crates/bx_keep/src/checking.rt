@@ -2,7 +2,7 @@
 
 use crate::around::Around;
 use crate::saying::warn;
-use crate::shelf::Shelf;
+use crate::sessions_folder::SessionsFolder;
 use crate::stop::Stop;
 use bx_cli::Shown;
 use bx_launch::{Destination, FileFault, check_kind};
@@ -11,21 +11,23 @@ use bx_wire::Host;
 use std::alloc::{AllocError, Global};
 use std::rt::Files;
 
-/// The exit status of a refusal that was reported before.
+/// The exit status of a refusal whose cause was told before.
 const REFUSED: u8 = 1;
 
 /// FILE, and where its sessions are.
 #[derive(Drop)]
 pub struct Edited {
+    /// Where saves go.
     pub destination: Destination,
-    pub shelf: Shelf,
-    /// Why saves are written into FILE itself.
+    /// The folder of its sessions.
+    pub sessions_folder: SessionsFolder,
+    /// Why saves are written into FILE itself; None where a save replaces FILE.
     pub in_place: Option<Reason>,
     /// FILE is there and cannot be read.
     pub is_closed: bool,
 }
 
-/// The message about a save that was cut off; None if none was.
+/// The message about a save that was cut off; None if none was. `mark` is the path of the file with its whole text.
 pub fn mended_line(
     alloc: Global,
     file: &str,
@@ -42,39 +44,6 @@ pub fn mended_line(
             "a save of {file} was cut off, and its text cannot be put back: it is {mark}"
         ).map(Some),
     }
-}
-
-/// The folder and the last name of an absolute path.
-fn split_path(path: &str) -> (&str, &str) {
-    match path.rsplit_once('/') {
-        Some((folder, name)) => (folder, name),
-        None => ("", path),
-    }
-}
-
-/// Where the saves of a FILE go whose folder is gone, as the system resolves its path.
-fn lost_destination<H: Host>(
-    around: Around<'_>,
-    host: &mut H,
-    file: &str,
-) -> Result<Destination, Stop> {
-    let alloc = around.alloc();
-    let facts = host.facts(file)?;
-    let path = String::from_str(alloc, facts.real_path.as_str())?;
-    let target = String::from_str(alloc, path.as_str())?;
-    let (folder, name) = split_path(target.as_str());
-    let folder_facts = host.facts(folder)?;
-    let folder = String::from_str(alloc, folder)?;
-    let name = String::from_str(alloc, name)?;
-    Ok(Destination {
-        file: String::from_str(alloc, file)?,
-        target,
-        folder,
-        name,
-        path,
-        facts,
-        folder_facts,
-    })
 }
 
 /// Whether FILE's folder is not there.
@@ -106,11 +75,12 @@ impl Edited {
         let alloc = around.alloc();
         check_kind(around.rt, alloc, file).map_err(|fault| Stop::of_file(alloc, fault))?;
         let found = Destination::find(around.rt, host, alloc, file);
-        let destination = if has_no_folder(&found) {
-            lost_destination(around, host, file)?
+        let found = if has_no_folder(&found) {
+            Destination::find_lost(host, alloc, file)
         } else {
-            found.map_err(|fault| Stop::of_file(alloc, fault))?
+            found
         };
+        let destination = found.map_err(|fault| Stop::of_file(alloc, fault))?;
         Edited::at(around, host, destination)
     }
 
@@ -120,7 +90,7 @@ impl Edited {
         host: &mut H,
         destination: Destination,
     ) -> Result<Edited, Stop> {
-        let shelf = Shelf::find(around, host, &destination)?;
+        let sessions_folder = SessionsFolder::find(around, host, &destination)?;
         let in_place = match around.rt.metadata(destination.path.as_str()) {
             Ok(found) => find_in_place(&destination.facts, &found, &destination.folder_facts),
             Err(_) => None,
@@ -128,7 +98,7 @@ impl Edited {
         let is_closed = destination.is_closed(around.rt);
         Ok(Edited {
             destination,
-            shelf,
+            sessions_folder,
             in_place,
             is_closed,
         })
@@ -144,9 +114,9 @@ impl Edited {
         self.destination.path.as_str()
     }
 
-    /// Repairs FILE after saves of ended sessions that were cut off. Returns whether FILE is whole.
+    /// Repairs FILE after saves of ended sessions that were cut off. Returns false if FILE is still torn.
     pub fn mend<H: Host>(&self, around: Around<'_>, host: &mut H) -> Result<bool, Stop> {
-        let Some(sessions) = &self.shelf.sessions else {
+        let Some(sessions) = &self.sessions_folder.sessions else {
             return Ok(true);
         };
         let target = around.target(self.path());
@@ -191,8 +161,8 @@ impl Edited {
         saving.map_err(|fault| Stop::of_file(alloc, fault))
     }
 
-    /// Finds FILE, and refuses one that is not a plain file, and, unless that is forced, one that cannot be read or saved.
-    /// Repairs it.
+    /// Finds and repairs FILE. Refuses one that is not a plain file and, unless that is forced, one that cannot be read or saved,
+    /// or that is still torn.
     ///
     /// Errors: the refusal; `Gone`; `OutOfMemory`.
     pub fn check<H: Host>(

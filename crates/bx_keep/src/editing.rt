@@ -23,7 +23,7 @@ fn check_terminal(around: Around<'_>) -> Result<(), Stop> {
     }
 }
 
-/// Has the host start the program.
+/// Has the host start the program: its words, the title, the permissions that new files never get, the first notice, go.
 fn start<R: Read + Drop, W: Write + Drop>(
     wire: &mut Wire<R, W>,
     running: &Running<'_>,
@@ -67,7 +67,7 @@ fn run<R: Read + Drop, W: Write + Drop, P: Replayer>(
     }
 }
 
-/// Edits FILE with a session that goes on, or a new one.
+/// Edits FILE with a session that goes on (`taken`, whose file may be a new one beside FILE), or with a new session.
 fn edit_with<R: Read + Drop, W: Write + Drop, P: Replayer>(
     around: Around<'_>,
     wire: &mut Wire<R, W>,
@@ -85,7 +85,7 @@ fn edit_with<R: Read + Drop, W: Write + Drop, P: Replayer>(
             } = taken;
             let file = file.as_str();
             edited = Edited::check(around, wire, file, options.is_forced)?;
-            let mut begun = Begun::resumed(around, wire, &edited, options, kept)?;
+            let mut begun = Begun::resume(around, wire, &edited, options, kept)?;
             begun.aside_of = aside_of;
             begun
         }
@@ -106,14 +106,15 @@ pub fn edit<R: Read + Drop, W: Write + Drop, P: Replayer>(
     check_terminal(around)?;
     edited.tell_unusual(around, wire)?;
     let met = meet(around, wire, &edited, replayer)?;
-    // an answer takes time
+    // FILE may have changed while the user was asked
     if met.was_asked && met.taken.is_none() {
         edited = Edited::check(around, wire, file, options.is_forced)?;
     }
     edit_with(around, wire, edited, options, met.taken, replayer)
 }
 
-/// Recovers FILE's session. Returns the exit status; None if the host is gone.
+/// Recovers FILE's session, and goes on with it, or stores its text as another file where the user names one. Returns the
+/// exit status; None if the host is gone.
 pub fn edit_recovered<R: Read + Drop, W: Write + Drop, P: Replayer>(
     around: Around<'_>,
     wire: &mut Wire<R, W>,

@@ -1,4 +1,4 @@
-//! The text of a session as it was opened, which is copied beside the first painting.
+//! The text of a session as it was opened: copied into the session once the program has read FILE.
 
 use crate::around::Around;
 use crate::beginning::Begun;
@@ -11,10 +11,10 @@ use std::io;
 use std::os::unix::fs::MetadataExt;
 use std::rt::Files;
 
-/// How often FILE is copied where the copy is not what the program read.
+/// How often FILE is copied at most, where the copy is not what the program read.
 const TRIES: u32 = 2;
 
-/// The bits of a mode that a session notes.
+/// The bits of a mode that a session notes: no set-ID and sticky bits.
 const PERMISSIONS: u32 = 0o777;
 
 /// The bits of a mode that let others than the owner read.
@@ -31,17 +31,20 @@ pub enum Text {
     Waiting(Vec<u8>),
     /// FILE was changed before it could be copied, so the session cannot be kept.
     Lost,
-    /// No session is kept. Whether all its lines ended with CR LF.
+    /// No session is kept. Whether FILE had lines, and all ended with CR LF.
     Unkept(bool),
 }
 
 /// FILE as the program read it.
 #[derive(Clone, Copy)]
 struct AsRead<'a> {
+    /// The system's files.
     rt: &'a HostRuntime,
+    /// FILE's path.
     path: &'a str,
-    /// FILE, opened before the program started: a save that replaces FILE leaves its bytes in it.
+    /// FILE, opened before the program started: where a save replaces FILE, the old bytes are still there.
     handle: Option<&'a File>,
+    /// FILE's look, as the program said.
     look: Look,
 }
 
@@ -68,7 +71,7 @@ impl AsRead<'_> {
     }
 }
 
-/// FILE's text in memory, until there is room for it.
+/// FILE's text in memory, until there is room for it; the empty text if `read` is None.
 fn wait(around: Around<'_>, read: Option<&AsRead<'_>>) -> Text {
     match read {
         None => Text::Waiting(Vec::new(around.alloc())),
@@ -79,7 +82,8 @@ fn wait(around: Around<'_>, read: Option<&AsRead<'_>>) -> Text {
     }
 }
 
-/// Whether all lines of FILE end with CR LF.
+/// Whether FILE, as the program read it, has lines and all end with CR LF; false where there is no FILE, or it cannot be read
+/// so any more.
 fn has_all_crlf(read: Option<&AsRead<'_>>) -> bool {
     match read {
         None => false,
@@ -90,7 +94,8 @@ fn has_all_crlf(read: Option<&AsRead<'_>>) -> bool {
     }
 }
 
-/// Fills a session from a source.
+/// Fills a session with the text of a source, and notes what is known of FILE. Returns the look of the copied file, if the
+/// source is one.
 pub fn fill(
     around: Around<'_>,
     edited: &Edited,
@@ -98,7 +103,7 @@ pub fn fill(
     kept: &Kept,
     source: Source<'_>,
 ) -> Result<Option<Look>, FillFault> {
-    let Some(sessions) = &edited.shelf.sessions else {
+    let Some(sessions) = &edited.sessions_folder.sessions else {
         return Err(FillFault::Unwritten(io::ErrorKind::NotFound.into()));
     };
     let process = match around.process() {
@@ -141,7 +146,7 @@ fn copy(
     Text::Lost
 }
 
-/// Opens FILE before the program starts, whose saves may replace it. None where the session has its text, or FILE cannot be read.
+/// Opens FILE before the program starts, since saves may replace it. None where the session has its text, or FILE cannot be read.
 pub fn open_early(around: Around<'_>, edited: &Edited, begun: &Begun) -> Option<File> {
     if begun.is_resumed {
         return None;
@@ -149,7 +154,8 @@ pub fn open_early(around: Around<'_>, edited: &Edited, begun: &Begun) -> Option<
     open_plain(around.rt, edited.path()).ok()
 }
 
-/// Keeps the text that the program read, as it said. `handle` is what `open_early` gave.
+/// Keeps the text that the program read. `handle` is what `open_early` gave, `look` FILE's look as the program said; None if FILE
+/// was not there.
 pub fn keep_text(
     around: Around<'_>,
     edited: &Edited,
@@ -158,7 +164,7 @@ pub fn keep_text(
     look: Option<Look>,
 ) -> Text {
     let read = match look {
-        // what cannot be read is opened empty
+        // a FILE that cannot be read is opened as an empty text
         Some(look) if !edited.is_closed => Some(AsRead {
             rt: around.rt,
             path: edited.path(),

@@ -1,4 +1,4 @@
-//! FILE's other sessions, before FILE is opened.
+//! The questions about FILE's other sessions, before FILE is opened.
 
 use crate::around::Around;
 use crate::asking::{Choice, ask_choice, ask_to_go_on};
@@ -15,20 +15,22 @@ use bx_wire::Host;
 /// What came of meeting FILE's sessions.
 #[derive(Drop)]
 pub struct Met {
-    /// The session that goes on.
+    /// The session that goes on; None if FILE is opened without one.
     pub taken: Option<Taken>,
-    /// The user was asked, which takes time.
+    /// The user was asked, so that FILE may have changed meanwhile.
     pub was_asked: bool,
 }
 
 /// What came of one try.
 enum Try {
+    /// It is settled which session goes on, if any.
     Met(Met),
-    /// Another start of the editor has the session by now.
+    /// Another start of the editor has the session by now, so the sessions are looked for again.
     Again,
 }
 
-/// Tells that another window of the user's may have FILE open, and asks whether to go on. All sessions that are found are his own.
+/// Tells that another window of the user's has FILE open (`is_live`), or may have it open where that cannot be seen from here,
+/// and asks whether to go on. Only the user's own sessions are found.
 pub fn ask_beside<H: Host>(
     around: Around<'_>,
     host: &mut H,
@@ -64,7 +66,7 @@ pub fn ask_beside<H: Host>(
     ask_to_go_on(host, alloc, "Edit it all the same")
 }
 
-/// Asks whether to go on beside a session that runs or may run; whether there was one to ask about.
+/// Asks whether to go on beside a session that runs or may run. Returns whether there was one to ask about.
 pub fn ask_beside_live<H: Host>(
     around: Around<'_>,
     host: &mut H,
@@ -116,7 +118,7 @@ fn ask_what_to_do<H: Host, P: Replayer>(
     })
 }
 
-/// Tells that a session was missed.
+/// Tells that another start of the editor took the session first.
 pub fn tell_missed<H: Host>(around: Around<'_>, host: &mut H) -> Result<(), Stop> {
     let line = "another start of the editor has that session by now";
     Ok(tell(host, around.alloc(), line)?)
@@ -156,16 +158,16 @@ fn meet_once<'a, H: Host, P: Replayer>(
     }
 }
 
-/// Asks about FILE's other sessions before FILE is opened.
+/// Asks about FILE's other sessions before FILE is opened, until it is settled which goes on, if any.
 ///
-/// Errors: what ends the start.
+/// Errors: what ends the start, as a no of the user.
 pub fn meet<H: Host, P: Replayer>(
     around: Around<'_>,
     host: &mut H,
     edited: &Edited,
     replayer: &P,
 ) -> Result<Met, Stop> {
-    if let Some(sessions) = &edited.shelf.sessions {
+    if let Some(sessions) = &edited.sessions_folder.sessions {
         for _ in 0..u64::MAX {
             match meet_once(around, host, edited, sessions, replayer)? {
                 Try::Met(met) => return Ok(met),

@@ -6,18 +6,12 @@ use crate::free_name::free_name;
 use crate::saying::tell;
 use crate::stop::Stop;
 use bx_cli::Shown;
-use bx_sessions::{Part, Session};
+use bx_sessions::{Part, Session, write_new_file};
 use bx_wire::Host;
 use std::alloc::{AllocError, Global};
-use std::fs::{OpenFile, OpenOptions};
-use std::io::{self, ErrorKind, Write};
-use std::os::unix::fs::OpenOptionsExt;
-use std::rt::Files;
+use std::io::ErrorKind;
 
-/// The permissions of a part: for the user alone.
-const FOR_USER_ALONE: u32 = 0o600;
-
-/// The parts that are kept, the ends of their names, and what they are.
+/// The parts that are kept, the ends of their names (FILE.ENDING), and what messages call them.
 const PARTS: [(Part, &str, &str); 4] = [
     (Part::Text, "session-text", "the text as it was opened"),
     (Part::Journal, "session-journal", "the keys"),
@@ -33,24 +27,6 @@ const PARTS: [(Part, &str, &str); 4] = [
     ),
 ];
 
-/// Writes a new file, for the user alone. One that cannot be written whole is removed.
-pub fn write_new_file(rt: &HostRuntime, path: &str, bytes: &[u8]) -> io::Result<()> {
-    let mut file = OpenOptions::new()
-        .write(true)
-        .create_new(true)
-        .mode(FOR_USER_ALONE)
-        .open(rt, path)?;
-    let written = match file.write_all(bytes) {
-        Ok(()) => file.sync_all(),
-        failed => failed,
-    };
-    if written.is_err() {
-        // the first fault is the one to report
-        let _ = rt.remove_file(path);
-    }
-    written
-}
-
 /// The fault of a file that cannot be written.
 pub fn unwritten(alloc: Global, path: &str, kind: ErrorKind) -> Result<Stop, AllocError> {
     let (path, cause) = (Shown(path), cause_of(kind));
@@ -58,7 +34,7 @@ pub fn unwritten(alloc: Global, path: &str, kind: ErrorKind) -> Result<Stop, All
     Ok(Stop::fault(alloc, line.as_str()))
 }
 
-/// The fault of a session's part that cannot be read.
+/// The fault of a session's part that cannot be read; `what` the part is, as in `PARTS`.
 fn unread(alloc: Global, session: &Session, what: &str) -> Result<Stop, AllocError> {
     let folder = Shown(session.path());
     let line = format!(in alloc;
@@ -91,7 +67,7 @@ pub fn keep_parts<H: Host>(
         let line = format!(in alloc; "{shown}: {what}")?;
         tell(host, alloc, line.as_str())?;
     }
-    // what stays is asked about at another start
+    // if the session cannot be removed, the next start asks about it
     let _ = session.remove(around.rt);
     Ok(())
 }

@@ -1,4 +1,4 @@
-//! `--recover FILE`.
+//! `--recover FILE`: a session goes on, or its text is stored as another file (`--to OTHER`).
 
 use crate::around::Around;
 use crate::asking::ask_to_go_on;
@@ -6,21 +6,21 @@ use crate::checking::Edited;
 use crate::free_name::is_free;
 use crate::meeting::{ask_beside_live, tell_missed};
 use crate::mode::give_mode;
-use crate::parts::{unwritten, write_new_file};
+use crate::parts::unwritten;
 use crate::replaying::{ReplayFault, Replayer};
 use crate::saying::tell;
-use crate::shelf::unwritable;
+use crate::sessions_folder::unwritable;
 use crate::stop::Stop;
 use crate::taking::{Outcome, Taken, Taking, tell_cut, tell_unsure};
 use crate::telling::{machine_text, number_of_keys, process_text};
 use bx_cli::Shown;
-use bx_sessions::{Found, LockFault, Part, Session, Sessions, find};
+use bx_sessions::{Found, LockFault, Part, Session, Sessions, find, write_new_file};
 use bx_wire::Host;
 
-/// The exit status of a refusal that was reported before.
+/// The exit status of a refusal whose cause was told before.
 const REFUSED: u8 = 1;
 
-/// The sessions of FILE, for a recovery.
+/// The sessions of the file at a path, for a recovery. Errors: a folder of sessions that cannot be read.
 fn find_all(around: Around<'_>, sessions: &Sessions, path: &str) -> Result<Found, Stop> {
     let target = around.target(path);
     match find(around.rt, sessions, &target, around.here) {
@@ -32,11 +32,11 @@ fn find_all(around: Around<'_>, sessions: &Sessions, path: &str) -> Result<Found
     }
 }
 
-/// The fault of a FILE without a session to recover.
+/// The fault of a FILE without a session to recover; where `is_live`, its only session is still running.
 fn no_session(around: Around<'_>, edited: &Edited, is_live: bool) -> Result<Stop, Stop> {
     let alloc = around.alloc();
     let file = Shown(edited.file());
-    let cause = match &edited.shelf.unkept {
+    let cause = match &edited.sessions_folder.unkept {
         _ if is_live => format!(in alloc; "the session of {file} goes on")?,
         None => format!(in alloc; "there is no session of {file} to recover")?,
         Some(unkept) => {
@@ -69,33 +69,41 @@ fn ask_of_elsewhere<H: Host>(
     ask_to_go_on(host, alloc, "Has it ended")
 }
 
-/// Picks the session to recover: an unfinished one, else one whose changes were dropped, else one of another machine that ended.
-fn pick<H: Host>(
-    around: Around<'_>,
-    host: &mut H,
-    edited: &Edited,
-    found: Found,
-) -> Result<Session, Stop> {
-    let is_elsewhere = found.unfinished.is_none() && found.dropped.is_none();
-    if !is_elsewhere {
-        ask_beside_live(around, host, edited.file(), &found)?;
-    }
+/// Whether no session was found that ended on this machine.
+fn is_none_here(found: &Found) -> bool {
+    found.unfinished.is_none() && found.dropped.is_none()
+}
+
+/// Picks a session: an unfinished one, else one whose changes were dropped, else one of another machine. Errors: `no_session`.
+fn pick(around: Around<'_>, edited: &Edited, found: Found) -> Result<Session, Stop> {
     let Found {
         live,
         elsewhere,
         unfinished,
         dropped,
     } = found;
-    if let Some(session) = unfinished.or(dropped) {
-        return Ok(session);
-    }
-    match elsewhere {
-        Some(session) => {
-            ask_of_elsewhere(around, host, edited.file(), &session)?;
-            Ok(session)
-        }
+    match unfinished.or(dropped).or(elsewhere) {
+        Some(session) => Ok(session),
         None => Err(no_session(around, edited, live.is_some())?),
     }
+}
+
+/// The session to recover. Asks whether one of another machine has ended.
+fn session_to_recover<H: Host>(
+    around: Around<'_>,
+    host: &mut H,
+    edited: &Edited,
+    found: Found,
+) -> Result<Session, Stop> {
+    let is_elsewhere = is_none_here(&found);
+    if !is_elsewhere {
+        ask_beside_live(around, host, edited.file(), &found)?;
+    }
+    let session = pick(around, edited, found)?;
+    if is_elsewhere {
+        ask_of_elsewhere(around, host, edited.file(), &session)?;
+    }
+    Ok(session)
 }
 
 /// Recovers FILE's session without asking which. None if FILE has all of it, or the session is left.
@@ -111,7 +119,7 @@ pub fn recover<H: Host, P: Replayer>(
     if !edited.mend(around, host)? {
         return Err(Stop::Told(REFUSED));
     }
-    let Some(sessions) = &edited.shelf.sessions else {
+    let Some(sessions) = &edited.sessions_folder.sessions else {
         return Err(no_session(around, &edited, false)?);
     };
     let taking = Taking {
@@ -122,7 +130,7 @@ pub fn recover<H: Host, P: Replayer>(
     };
     for _ in 0..u64::MAX {
         let found = find_all(around, sessions, edited.path())?;
-        let session = pick(around, host, &edited, found)?;
+        let session = session_to_recover(around, host, &edited, found)?;
         match taking.take(host, session)? {
             Outcome::Taken(taken) => return Ok(Some(taken)),
             Outcome::Opened => return Ok(None),
@@ -175,31 +183,25 @@ fn text_of<H: Host, P: Replayer>(
     }
 }
 
-/// The session whose text is stored elsewhere, which is locked.
+/// The session whose text is stored as another file. One of another machine is refused: only `--recover` without `--to` asks
+/// whether it has ended.
 fn session_to_store(around: Around<'_>, edited: &Edited, found: Found) -> Result<Session, Stop> {
     let alloc = around.alloc();
-    let file = Shown(edited.file());
-    let Found {
-        live,
-        elsewhere,
-        unfinished,
-        dropped,
-    } = found;
-    if let Some(session) = unfinished.or(dropped) {
-        return Ok(session);
-    }
-    if elsewhere.is_some() {
+    let is_elsewhere = is_none_here(&found);
+    let session = pick(around, edited, found)?;
+    if is_elsewhere {
+        let file = Shown(edited.file());
         let cause = format!(in alloc;
             "the session of {file} began on another machine: bidi-edit --recover {file} asks of it"
         )?;
         return Err(Stop::fault(alloc, cause.as_str()));
     }
-    Err(no_session(around, edited, live.is_some())?)
+    Ok(session)
 }
 
-/// Stores the text of FILE's session as a new file. The session stays.
+/// Stores the text of FILE's session as the new file `other`. The session stays.
 ///
-/// Errors: what cannot be done.
+/// Errors: where there is no session, `other` is there already, or its text cannot be had or stored.
 pub fn recover_elsewhere<H: Host, P: Replayer>(
     around: Around<'_>,
     host: &mut H,
@@ -211,7 +213,7 @@ pub fn recover_elsewhere<H: Host, P: Replayer>(
     let edited = Edited::find_lost(around, host, file)?;
     // the text can be stored elsewhere even if FILE cannot be repaired
     edited.mend(around, host)?;
-    let Some(sessions) = &edited.shelf.sessions else {
+    let Some(sessions) = &edited.sessions_folder.sessions else {
         return Err(no_session(around, &edited, false)?);
     };
     let found = find_all(around, sessions, edited.path())?;
@@ -224,7 +226,7 @@ pub fn recover_elsewhere<H: Host, P: Replayer>(
     store_session(around, host, &edited, &session, other, replayer)
 }
 
-/// Stores the text of a session as a new file.
+/// Stores the text of a session, locked meanwhile, as a new file, and tells so.
 fn store_session<H: Host, P: Replayer>(
     around: Around<'_>,
     host: &mut H,
@@ -245,6 +247,7 @@ fn store_session<H: Host, P: Replayer>(
     };
     let text = text_of(around, host, edited, session, replayer)?;
     let keys = number_of_keys(around, session);
+    // a session whose note of FILE's permissions cannot be read: for the user alone
     let mode = session.mode(around.rt).unwrap_or(0o600);
     store(around, other, text.as_slice(), mode)?;
     let (file, other) = (Shown(edited.file()), Shown(other));

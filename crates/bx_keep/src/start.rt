@@ -7,17 +7,18 @@ use std::alloc::Global;
 use std::io::{Read, Write};
 use std::str;
 
-/// The window's rows and columns, each from 1 to 500.
+/// The window's size in rows and columns, each from 1 to 500.
 #[derive(Clone, Copy, PartialEq, Eq, Debug)]
 pub struct Window {
     pub rows: u32,
     pub cols: u32,
 }
 
-/// The window where the host tells none.
+/// The window where the host tells none: as large as a VT100's.
 const USUAL_WINDOW: Window = Window { rows: 24, cols: 80 };
 
-/// What the host says at the start. A variable that is not UTF-8 counts as not set.
+/// What the host says at the start. Where a field's comment is the name of a variable of the environment, the field is its
+/// value; a value that is not UTF-8 counts as not set, but for BIDI_EDIT_DATA.
 #[derive(Drop)]
 pub struct Start {
     /// The words of the command line.
@@ -34,7 +35,9 @@ pub struct Start {
     pub tables: Option<Vec<u8>>,
     /// The folder of the editor's own tables.
     pub own_tables: Vec<u8>,
+    /// The user's effective number.
     user: u32,
+    /// The user's home by the user database; may be empty.
     own_home: String,
     /// The toolchain that was noted at the build.
     pub toolchain: Option<String>,
@@ -42,6 +45,7 @@ pub struct Start {
     pub terminal: String,
     /// The columns of the terminal on standard output; 0 if it is none.
     pub columns: u64,
+    /// The terminal's size.
     pub window: Window,
 }
 
@@ -50,7 +54,7 @@ fn text_of(alloc: Global, message: Message) -> String {
     String::from_utf8(message.text).unwrap_or(String::new(alloc))
 }
 
-/// The window that the words `ROWS COLUMNS` name.
+/// The window that the words `ROWS COLUMNS` of a message name; None if they are others.
 fn window_of(message: &Message) -> Option<Window> {
     let (rows, cols) = message.str()?.split_once(' ')?;
     Some(Window {
@@ -60,6 +64,7 @@ fn window_of(message: &Message) -> Option<Window> {
 }
 
 impl Start {
+    /// A start of which the host has said nothing.
     fn new(alloc: Global) -> Self {
         Start {
             words: Vec::new(alloc),
@@ -101,7 +106,7 @@ impl Start {
         Ok(())
     }
 
-    /// Takes a message in.
+    /// Takes a message in. Errors: `Gone` for one that is not said at the start.
     fn take(&mut self, alloc: Global, message: Message) -> Result<(), Stop> {
         match message.heard {
             Heard::Word => self.words.push(message.text)?,
@@ -149,7 +154,7 @@ impl Start {
     }
 }
 
-/// The user's number.
+/// The user's number that a message tells. Errors: `Gone` if it tells none.
 fn user_of(message: &Message) -> Result<u32, Stop> {
     match message.str() {
         Some(text) => text.parse().map_err(|_| Stop::Gone),

@@ -18,7 +18,7 @@ pub struct Destination {
     pub file: String,
     /// The path that saves go to: FILE, or where its links lead.
     pub target: String,
-    /// The folder of the target, as a path from the same place.
+    /// The target's folder, relative or absolute as the target is.
     pub folder: String,
     /// The last name of the target.
     pub name: String,
@@ -39,7 +39,7 @@ fn split_path(path: &str) -> (&str, &str) {
     }
 }
 
-/// The path that the words of a link lead to.
+/// The path that a link leads to, which is at the path `link` and holds `words`.
 fn joined(alloc: Global, link: &str, words: &str) -> Result<String, AllocError> {
     match link.rsplit_once('/') {
         Some((folder, _)) if !words.starts_with('/') => format!(in alloc; "{folder}/{words}"),
@@ -61,7 +61,7 @@ fn cause_of(kind: ErrorKind) -> FileCause {
     }
 }
 
-/// Where a file's links lead. What is there need not exist.
+/// The path that a file's links lead to. Nothing need be there.
 ///
 /// Errors: `LeadsInCircle`; `LinkNotUtf8`; `LeadsNowhere` where a link cannot be read; `OutOfMemory`.
 fn followed(rt: &impl Files, alloc: Global, file: &str) -> Result<String, FileFault> {
@@ -79,7 +79,7 @@ fn followed(rt: &impl Files, alloc: Global, file: &str) -> Result<String, FileFa
     Err(FileFault::refused(alloc, file, FileCause::LeadsInCircle))
 }
 
-/// Refuses a folder that is none, or that is not there.
+/// Refuses what is not a folder (`NotFolder`), or is not there (`NoFolder`).
 fn check_folder(rt: &impl Files, alloc: Global, folder: &str) -> Result<(), FileFault> {
     match kind_at(rt, folder) {
         Kind::Folder => Ok(()),
@@ -145,6 +145,29 @@ impl Destination {
             target,
             folder,
             name,
+            path,
+            facts,
+            folder_facts,
+        })
+    }
+
+    /// Where the saves of a FILE go whose folder is gone, as the system resolves its path.
+    ///
+    /// Errors: `FolderNotUtf8`; `Host`; `OutOfMemory`.
+    pub fn find_lost(
+        host: &mut impl Host,
+        alloc: Global,
+        file: &str,
+    ) -> Result<Destination, FileFault> {
+        let facts = facts_of(host, alloc, file, file)?;
+        let path = String::from_str(alloc, facts.real_path.as_str())?;
+        let (folder, name) = split_path(path.as_str());
+        let folder_facts = facts_of(host, alloc, file, folder)?;
+        Ok(Destination {
+            file: String::from_str(alloc, file)?,
+            target: String::from_str(alloc, path.as_str())?,
+            folder: String::from_str(alloc, folder)?,
+            name: String::from_str(alloc, name)?,
             path,
             facts,
             folder_facts,

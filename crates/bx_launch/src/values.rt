@@ -10,13 +10,13 @@ use bx_terms::{Base, LARGEST_SIDE};
 use std::alloc::Global;
 use std::str;
 
-/// The number of the last line of the longest text: 16,777,216 line feeds end one line fewer.
+/// The number of the last line of the longest text: 16,777,216 line feeds end as many lines, and one more line follows.
 pub const LAST_LINE: u64 = 16_777_217;
 
-/// The most digits of a number of columns.
+/// The most digits of a number of columns, which is at most 500.
 const MOST_DIGITS: usize = 3;
 
-/// The least number that counts as the last line's: one of nine digits.
+/// What numbers of more than eight digits become while they are read, so that they do not overflow.
 const TOO_LARGE: u64 = 100_000_000;
 
 /// The line that decimal digits name: the last line if the number has more than eight digits after zeros in front. None if
@@ -57,15 +57,15 @@ pub fn line_of(value: &[u8]) -> Result<Option<u64>, WordFault<'_>> {
 
 /// What the word `+..` says of the line, after the `+`, as other editors take it: nothing for the last one, a number, or a
 /// number with a column after a comma or colon, which is passed over. None for another command, which is ignored.
-pub fn line_of_plus(place: &[u8]) -> Option<Option<u64>> {
-    if place.is_empty() {
+pub fn line_of_plus(words: &[u8]) -> Option<Option<u64>> {
+    if words.is_empty() {
         return Some(Some(LAST_LINE));
     }
-    let end = place
+    let end = words
         .iter()
         .position(|b| *b == b',' || *b == b':')
-        .unwrap_or(place.len());
-    line_of_digits(&place[..end]).map(line_option)
+        .unwrap_or(words.len());
+    line_of_digits(&words[..end]).map(line_option)
 }
 
 /// The direction that the value of `--direction` names.

@@ -1,4 +1,4 @@
-//! Reading a command line.
+//! Reading a command line: options, and then FILE.
 
 ghost use Rattle.std.specs.Prelude.{◌≡◌, IfOk, drop};
 ghost use Rattle.bx_launch.specs.Calls.{HasNoFile, IsLastWord, OfFile};
@@ -13,8 +13,11 @@ use std::alloc::Global;
 /// An option with a value.
 #[derive(Clone, Copy)]
 enum Valued {
+    /// `--direction`
     Direction,
+    /// `--line`
     Line,
+    /// `--to`
     To,
 }
 
@@ -29,39 +32,47 @@ impl Valued {
     }
 }
 
-/// What a word is, where options are looked for.
+/// What a word is, as long as options are looked for.
 enum Word<'a> {
+    /// `-h` or `--help`
     Help,
+    /// `--version`
     Version,
-    /// What follows is about printing.
+    /// `--print`: the words that follow are read by `print_reading.rt`.
     Print,
     /// An option whose value is the next word.
     Wants(Valued),
     /// An option, whole.
     Option(Setting<'a>),
-    /// The end of the options.
+    /// `--`, the end of the options.
     End,
-    /// No option.
+    /// FILE.
     Name,
 }
 
 /// An option in one word.
 enum Setting<'a> {
+    /// An option with its value.
     Value(Valued, &'a [u8]),
+    /// `--force`
     Force,
+    /// `-n`
     Unkept,
+    /// `--no-joining`
     Unjoined,
+    /// `--recover`
     Recover,
+    /// `--forget`
     Forget,
-    /// A place, after its `+`.
-    Place(&'a [u8]),
+    /// `+LINE`, without its `+`.
+    Plus(&'a [u8]),
     /// An option of other editors: no new window, wait for the end.
     Ignored,
-    /// No option that there is.
+    /// It begins with `-`, and is not one of these options.
     Unknown(&'a [u8]),
 }
 
-/// A word that begins with `-`, where it is an option with its value, as `--line=7`.
+/// What a word is that begins with `-` and is no option by itself: one with its value, as `--line=7`, or unknown.
 fn setting_of(word: &[u8]) -> Setting<'_> {
     if let Some(value) = word.strip_prefix(b"--direction=") {
         Setting::Value(Valued::Direction, value)
@@ -74,7 +85,7 @@ fn setting_of(word: &[u8]) -> Setting<'_> {
     }
 }
 
-/// What a word is, where options are looked for.
+/// What a word is, as long as options are looked for.
 fn word_of(word: &[u8]) -> Word<'_> {
     match word {
         b"-h" | b"--help" => Word::Help,
@@ -91,7 +102,7 @@ fn word_of(word: &[u8]) -> Word<'_> {
         b"-f" | b"-w" | b"-nw" | b"--nofork" | b"--wait" => Word::Option(Setting::Ignored),
         b"--" => Word::End,
         [b'-', _, ..] => Word::Option(setting_of(word)),
-        [b'+', place @ ..] => Word::Option(Setting::Place(place)),
+        [b'+', line @ ..] => Word::Option(Setting::Plus(line)),
         _ => Word::Name,
     }
 }
@@ -99,14 +110,18 @@ fn word_of(word: &[u8]) -> Word<'_> {
 /// What the options before FILE say.
 #[derive(Drop)]
 struct Before<'a> {
+    /// How FILE is edited.
     options: Options,
+    /// `--recover` was given.
     is_recovery: bool,
+    /// `--forget` was given.
     is_forgetting: bool,
     /// The value of `--to`.
     other: Option<&'a [u8]>,
 }
 
 impl<'a> Before<'a> {
+    /// No option.
     fn new() -> Self {
         Before {
             options: Options {
@@ -122,6 +137,7 @@ impl<'a> Before<'a> {
         }
     }
 
+    /// Takes the value of an option.
     fn take_value(&mut self, option: Valued, value: &'a [u8]) -> Result<(), WordFault<'a>> {
         match option {
             Valued::Direction => self.options.direction = direction_of(value)?,
@@ -132,6 +148,7 @@ impl<'a> Before<'a> {
         Ok(())
     }
 
+    /// Takes an option in one word.
     fn take(&mut self, setting: Setting<'a>) -> Result<(), WordFault<'a>> {
         match setting {
             Setting::Value(option, value) => self.take_value(option, value)?,
@@ -140,8 +157,8 @@ impl<'a> Before<'a> {
             Setting::Unjoined => self.options.is_unjoined = true,
             Setting::Recover => self.is_recovery = true,
             Setting::Forget => self.is_forgetting = true,
-            Setting::Place(place) => {
-                if let Some(line) = line_of_plus(place) {
+            Setting::Plus(line) => {
+                if let Some(line) = line_of_plus(line) {
                     self.options.line = line;
                 }
             }

@@ -1,4 +1,4 @@
-//! Sessions that are removed: unfinished folders, dropped changes, and what the user has forgotten.
+//! Sessions that are removed: folders that a killed start left, dropped changes, and what `--forget` names.
 
 use crate::belongs::{Belonging, Target};
 use crate::finding::{State, state_of};
@@ -10,15 +10,15 @@ use std::io;
 use std::rt::Files;
 use std::time::SystemTime;
 
-/// The age, in seconds, at which a folder without a path was left by a start that was killed.
+/// The age, in seconds, from which on a folder without a path is one that a killed start left.
 const HOUR: u64 = 3600;
 
 /// A session that was removed.
 #[derive(Drop)]
 pub struct Forgotten {
-    /// The path of its file; None if it had none that is UTF-8.
+    /// The path of its file; None if it noted none, or none that is UTF-8.
     pub path: Option<String>,
-    /// The time of its last key.
+    /// The time of its last key, or of its beginning; None if the system does not tell.
     pub changed: Option<SystemTime>,
     /// Its changes had been dropped by a second Quit.
     pub was_dropped: bool,
@@ -43,7 +43,7 @@ pub fn sweep(rt: &HostRuntime, sessions: &Sessions) -> io::Result<()> {
             continue;
         }
         if is_old(rt, &folder).unwrap_or(false) {
-            // what cannot be removed now is tried again
+            // a folder that cannot be removed now is tried again at the next start
             let _ = folder.remove(rt);
         }
     }
@@ -56,14 +56,14 @@ pub fn sweep(rt: &HostRuntime, sessions: &Sessions) -> io::Result<()> {
 pub fn forget_dropped(rt: &HostRuntime, sessions: &Sessions, except: &Session) -> io::Result<()> {
     for session in sessions.all(rt)? {
         if session.path() != except.path() && session.has(rt, Part::Dropped) {
-            // one that another start holds by now stays
+            // a session that another start has locked by now stays
             let _ = session.drop_unless_locked(rt);
         }
     }
     Ok(())
 }
 
-/// Whether a session is of a file, or any file is meant.
+/// Whether a session is of the file that is meant; None means all files.
 fn is_meant(rt: &HostRuntime, session: &Session, target: Option<&Target<'_>>) -> bool {
     match target {
         None => true,
@@ -74,7 +74,8 @@ fn is_meant(rt: &HostRuntime, session: &Session, target: Option<&Target<'_>>) ->
     }
 }
 
-/// Whether a session that ended may be removed, and had something to tell.
+/// Removes a session that ended, unless another start has it by now. Returns what is to be told of it; None if it stays, or
+/// held no unsaved text.
 fn forget_one(rt: &HostRuntime, session: &Session, state: State) -> Option<Forgotten> {
     let forgotten = Forgotten {
         path: session.file_path(rt).unwrap_or(None),

@@ -62,7 +62,7 @@ pub use places::{PlaceFault, all_folders, sessions_folder};
 pub use reasons::{Reason, find_in_place};
 pub use renewing::renew;
 pub use room::has_room;
-pub use session::Session;
+pub use session::{Session, write_new_file};
 pub use sessions::Sessions;
 pub use surroundings::{ROOT, Surroundings};
 pub use versions::Versions;

@@ -1,31 +1,36 @@
-//! The machine on which a session runs.
+//! The machine on which a session runs, since its lock may not be seen from another one.
 
 use std::alloc::{AllocError, Global};
 use std::fs;
 
-/// The files by which the kernel tells its name and its boot.
+/// The file by which the kernel tells the machine's name.
 const HOST_NAME: &str = "/proc/sys/kernel/hostname";
 
+/// The file by which the kernel tells a name of this boot.
 const BOOT: &str = "/proc/sys/kernel/random/boot_id";
 
 /// What is written for a boot that is not known.
 const UNKNOWN: &str = "-";
 
-/// A machine: its name, since containers on one machine have names of their own, and its boot, if that is known.
+/// A machine, or a container on one: containers of one machine have names of their own, and the same boot.
 #[derive(Drop, PartialEq, Eq, Debug)]
 pub struct Machine {
+    /// Its name.
     pub host: String,
+    /// Its boot; None if that is not known.
     pub boot: Option<String>,
 }
 
 /// A process that began or resumed a session.
 #[derive(Drop, PartialEq, Eq, Debug)]
 pub struct Process {
+    /// Its number.
     pub number: u32,
+    /// Where it ran.
     pub machine: Machine,
 }
 
-/// The first line of a small file, without blanks around it; None if it cannot be read or is empty.
+/// The text of a file of one line, without blanks and line ends around it; None if it cannot be read or is empty.
 fn line_of(rt: &HostRuntime, path: &str) -> Result<Option<String>, AllocError> {
     match fs::read_to_string(rt, path) {
         Ok(text) => {
@@ -52,7 +57,7 @@ impl Machine {
         })
     }
 
-    /// Another copy.
+    /// A copy of it.
     pub fn copied(&self) -> Result<Machine, AllocError> {
         let boot = match &self.boot {
             Some(boot) => Some(boot.clone()?),
@@ -66,7 +71,7 @@ impl Machine {
 }
 
 impl Process {
-    /// The words of a session's file.
+    /// The words of the part `Process`: the number, the machine's name, and the boot or `-`.
     pub fn words(&self, alloc: Global) -> Result<String, AllocError> {
         let number = self.number;
         let host = self.machine.host.as_str();
@@ -77,7 +82,7 @@ impl Process {
         format!(in alloc; "{number} {host} {boot}\n")
     }
 
-    /// The process that such words name; None if they are others.
+    /// The process that words of this form name; None if they have another form.
     pub fn parse(alloc: Global, words: &str) -> Result<Option<Process>, AllocError> {
         let mut words = words.split_ascii_whitespace();
         let (number, host, boot) = (words.next(), words.next(), words.next());

@@ -1,4 +1,4 @@
-//! The files in a session's folder.
+//! The files in a session's folder. Their names stay: sessions of other versions of the editor have them too.
 
 /// A file in a session's folder.
 #[derive(Clone, Copy, PartialEq, Eq, Debug)]
@@ -39,16 +39,16 @@ pub enum Part {
     MarkDraft,
     /// The path of the FILE that saves are written into, where they are made in place.
     InPlace,
-    /// The text of the last mark that was left.
+    /// The text of the last mark, once FILE was repaired by it or needed no repair.
     Save,
-    /// FILE's device and inode as it was opened.
+    /// FILE's device, inode and birth as it was opened.
     File,
     /// FILE could be read by root alone.
     Secret,
 }
 
 impl Part {
-    /// Its name.
+    /// The file's name in the folder.
     pub fn name(self) -> &'static str {
         match self {
             Part::Text => "text",

@@ -57,7 +57,7 @@ fn without_end(path: &str) -> &str {
     path.trim_end_matches('/')
 }
 
-/// Whether a path is that of a folder or below it.
+/// Whether a path is the folder's or below the folder.
 fn is_in(path: &str, folder: &str) -> bool {
     match path.strip_prefix(without_end(folder)) {
         Some(rest) => rest.is_empty() || rest.starts_with('/'),
@@ -65,20 +65,20 @@ fn is_in(path: &str, folder: &str) -> bool {
     }
 }
 
-/// The name of the user's folder of sessions in a folder that others may use too.
+/// The path of the user's folder of sessions in a folder that others may use too.
 fn own_folder_in(rt: &HostRuntime, folder: &str, user: u32) -> Result<String, AllocError> {
     let folder = without_end(folder);
     format!(in rt.alloc(); "{folder}/bidi_edit.{user}")
 }
 
-/// How long a folder stays that is in one of these.
+/// `Temporary`, if a path without links is in this folder of temporary files; None if it is not, or the folder is not there.
 fn stay_in(rt: &HostRuntime, path: &str, folder: &str) -> Result<Option<Stay>, AllocError> {
     let real = match Path::new(folder).canonicalize(rt) {
         Ok(real) => real.into_string(),
         Err(error) if error.kind() == ErrorKind::OutOfMemory => return Err(AllocError),
         Err(_) => return Ok(None),
     };
-    // a variable that names the root says nothing of what is below
+    // a variable that names the root does not make all folders temporary
     if real.as_str() != "/" && is_in(path, real.as_str()) {
         Ok(Some(Stay::Temporary(real)))
     } else {
@@ -113,7 +113,7 @@ impl<'a> Surroundings<'a> {
     }
 }
 
-/// The folder at which the file system of an existing folder begins.
+/// The first folder, from the root on, of a path whose file system is that of the folder at the path.
 fn root_of_file_system<'p>(rt: &HostRuntime, path: &'p str) -> &'p str {
     let device = fs::metadata(rt, path).map_or(0, |found| found.dev());
     for (end, _) in path.match_indices('/') {
@@ -128,7 +128,8 @@ fn root_of_file_system<'p>(rt: &HostRuntime, path: &'p str) -> &'p str {
     path
 }
 
-/// Picks a folder in memory for the sessions of a file in memory: one that the user may write.
+/// Picks a folder in memory for the sessions of a file in memory: the first one that the user may write of the file's own file
+/// system, the user's folder in memory and the one that all have.
 fn memory_folder<H: Host>(
     rt: &HostRuntime,
     host: &mut H,
@@ -153,7 +154,7 @@ fn memory_folder<H: Host>(
 /// Picks the folder of sessions for a file: the state folder, unless the file is more short-lived than that. None if there is
 /// no folder for it. The path of the file's folder is without links.
 ///
-/// Errors: that of the host; out of memory.
+/// Errors: `Host`, as the host answers; `OutOfMemory`.
 pub fn sessions_folder<H: Host>(
     rt: &HostRuntime,
     host: &mut H,

@@ -12,13 +12,15 @@ use std::time::SystemTime;
 /// The permissions of a session's files: for the user alone.
 const FOR_USER_ALONE: u32 = 0o600;
 
-/// The largest file that is read whole but for texts and journals, in bytes.
+/// The most bytes of a file that is neither a text nor a journal: more than the longest of them, a path, can have.
 const LARGEST_NOTE: u64 = 65_536;
 
 /// A session's folder.
 #[derive(Drop)]
 pub struct Session {
+    /// Its path.
     path: String,
+    /// Which folder it is, whatever has its path by now.
     id: FileId,
 }
 
@@ -38,6 +40,20 @@ pub fn create(rt: &HostRuntime, path: &str) -> io::Result<File> {
         .create_new(true)
         .mode(FOR_USER_ALONE)
         .open(rt, path)
+}
+
+/// Makes a new file for the user alone, with these bytes, and syncs it. One that cannot be written whole is removed.
+pub fn write_new_file(rt: &HostRuntime, path: &str, bytes: &[u8]) -> io::Result<()> {
+    let mut file = create(rt, path)?;
+    let written = match file.write_all(bytes) {
+        Ok(()) => file.sync_all(),
+        failed => failed,
+    };
+    if written.is_err() {
+        // the first fault is the one to report
+        let _ = rt.remove_file(path);
+    }
+    written
 }
 
 /// Syncs a folder, so that the names in it survive a crash of the machine.
@@ -88,7 +104,8 @@ impl Session {
         }
     }
 
-    /// Whether the folder and all in it is the user's, and none is a link, a pipe or a device.
+    /// Whether nobody but the user owns or can write the folder, and all in it are plain files of the user's; false where that
+    /// cannot be seen.
     pub fn is_own(&self, rt: &HostRuntime, user: u32) -> bool {
         self.holds_own(rt, user).unwrap_or(false)
     }
@@ -103,7 +120,7 @@ impl Session {
         matches!(&self.look(rt, part), Ok(Some(_)))
     }
 
-    /// Whether each file in the folder is a plain file of the user's.
+    /// Whether the folder is one of the user's alone, and all in it are plain files of the user's.
     fn holds_own(&self, rt: &HostRuntime, user: u32) -> io::Result<bool> {
         if !is_own_folder(&rt.symlink_metadata(self.path())?, user) {
             return Ok(false);
@@ -147,21 +164,12 @@ impl Session {
         self.write_at(rt, path.as_str(), bytes)
     }
 
-    /// Makes a new file at a path in the folder.
+    /// Makes a new file at a path in the folder and syncs it. Errors: as `write_new`.
     fn write_at(&self, rt: &HostRuntime, path: &str, bytes: &[u8]) -> io::Result<()> {
         if !self.is_there(rt) {
             return Err(ErrorKind::NotFound.into());
         }
-        let mut file = create(rt, path)?;
-        let written = match file.write_all(bytes) {
-            Ok(()) => file.sync_all(),
-            failed => failed,
-        };
-        if written.is_err() {
-            // the first fault is the one to report
-            let _ = rt.remove_file(path);
-        }
-        written
+        write_new_file(rt, path, bytes)
     }
 
     /// Writes a file in the folder, in place of the one that is there, if any. At every moment the file has its old bytes or
@@ -217,6 +225,7 @@ impl Session {
         for entry in fs::read_dir(rt, self.path())? {
             blocks = blocks.saturating_add(entry?.metadata()?.blocks());
         }
+        // the system counts blocks of 512 bytes
         Ok(blocks.div_ceil(2))
     }
 }

@@ -1,4 +1,4 @@
-//! A folder of sessions.
+//! A folder of sessions: judged, listed, and given new sessions.
 
 use crate::fault::FolderFault;
 use crate::file_id::FileId;
@@ -16,10 +16,10 @@ use std::time::SystemTime;
 /// The permissions of a folder of sessions, and of a session's: for the user alone.
 const FOR_USER_ALONE: u32 = 0o700;
 
-/// Number of random letters in a session's name.
+/// Number of random letters in a session's name: 40 bits, five each, which nobody can guess.
 const LETTERS: usize = 8;
 
-/// The letters of which a session's name has some.
+/// The letters for a session's name: 32, so that a random byte picks each with the same chance.
 const ALPHABET: &[u8; 32] = b"abcdefghijklmnopqrstuvwxyz234567";
 
 /// Number of names that are tried for a session.
@@ -28,12 +28,15 @@ const TRIES: usize = 16;
 /// How the name of a folder begins into which an older editor replayed keys.
 const REPLAY: &str = ".replay.";
 
-/// A folder of sessions that was judged: it is not a link, it and all in it is the user's own, and nobody but the user and root
-/// can exchange it or write in it.
+/// A folder of sessions that was judged: it is not a link, it is the user's own, and nobody but the user and root can exchange
+/// it or write in it. What is in it is judged by `Session::is_own`.
 #[derive(Drop)]
 pub struct Sessions {
+    /// Its path, with all links resolved.
     path: String,
+    /// Which folder was judged.
     id: FileId,
+    /// The number of the user whose sessions these are.
     user: u32,
 }
 
@@ -58,14 +61,14 @@ fn random_letters(rt: &HostRuntime) -> io::Result<String> {
     Ok(letters)
 }
 
-/// Whether a name in the folder is that of a session.
+/// Whether a name in the folder is a session's: it begins with a digit.
 fn is_session(name: &str) -> bool {
     name.as_bytes()
         .first()
         .is_some_and(|byte| byte.is_ascii_digit())
 }
 
-/// Whether a name in the folder is that of a folder into which an older editor replayed keys.
+/// Whether a name in the folder belongs to a folder into which an older editor replayed keys.
 fn is_replay(name: &str) -> bool {
     name.starts_with(REPLAY)
 }
@@ -136,7 +139,7 @@ impl Sessions {
         for entry in fs::read_dir(rt, self.path())? {
             match entry {
                 Ok(entry) => names.push(String::from_str(rt.alloc(), entry.file_name())?)?,
-                // no name of a session
+                // a name that is not UTF-8 is no session's
                 Err(error) if error.kind() == ErrorKind::InvalidFilename => {}
                 Err(error) => return Err(error),
             }
@@ -145,14 +148,14 @@ impl Sessions {
         Ok(names)
     }
 
-    /// The folder of this name.
+    /// The session in the folder of this name; None if no folder is there.
     fn folder(&self, rt: &HostRuntime, name: &str) -> io::Result<Option<Session>> {
         let path = self.path();
         let path = format!(in rt.alloc(); "{path}/{name}")?;
         Session::at(rt, path)
     }
 
-    /// The folders of these names, in their order.
+    /// The sessions in the folders of these names, in their order; names without a folder are passed over.
     fn folders(&self, rt: &HostRuntime, names: &[String]) -> io::Result<Vec<Session>> {
         let mut folders = Vec::new(rt.alloc());
         for name in names {
@@ -170,7 +173,7 @@ impl Sessions {
         self.folders(rt, names.as_slice())
     }
 
-    /// All sessions, and the folders into which an older editor replayed keys.
+    /// All sessions, and, as sessions too, the folders into which an older editor replayed keys.
     pub fn all_folders(&self, rt: &HostRuntime) -> io::Result<Vec<Session>> {
         let mut names = self.names(rt)?;
         names.retain(|name| is_session(name.as_str()) || is_replay(name.as_str()));

@@ -1,4 +1,4 @@
-//! The time on the user's clock.
+//! The time on the user's clock, for the names of sessions and for messages.
 
 use jiff_core::Timestamp;
 use jiff_core::civil::DateTime;
@@ -10,9 +10,10 @@ use std::{fs, io};
 /// The folder of time zones that TZ names.
 const ZONES: &str = "/usr/share/zoneinfo";
 
-/// The user's time zone: that of TZ, else of the system, else UTC.
+/// The user's time zone: the one that TZ names, else the system's, else UTC.
 #[derive(Drop)]
 pub struct LocalClock {
+    /// That of the system, or the name that TZ gives.
     system: SystemTimeZone,
     /// The zone that TZ names, if it names one.
     named: TimeZoneDatabase,
@@ -22,11 +23,11 @@ pub struct LocalClock {
 #[derive(Clone, Copy)]
 pub struct LocalTime(DateTime);
 
-/// Reads the zone that TZ names, which the system's zone lacks.
+/// Reads the file of the zone that TZ names into `zones`.
 fn read_named(rt: &HostRuntime, name: &str, zones: &mut TimeZoneDatabase) -> io::Result<()> {
     let path = format!(in rt.alloc(); "{ZONES}/{name}")?;
     let bytes = fs::read(rt, path.as_str())?;
-    // a zone that cannot be read leaves UTC
+    // if the zone cannot be read, times are in UTC
     let _ = zones.insert(name, bytes.as_slice());
     Ok(())
 }
@@ -50,7 +51,7 @@ impl LocalClock {
             ..
         } = &system
         {
-            // without the zone's file times are UTC
+            // if the zone's file cannot be read, times are in UTC
             let _ = read_named(rt, name.as_str(), &mut named);
         }
         LocalClock { system, named }

@@ -40,12 +40,15 @@ pub struct FileStore<'a, R: Files>
 where
     R::File: AsFd,
 {
+    /// The file that saves go to, as last seen.
     watch: Watch<'a, R>,
     /// The path of the mark; None if it is a draft beside the file, where saves overwrite the file.
     mark: Option<String>,
     /// The mark of a save that overwrote the file and broke off: the file may lack its bytes.
     torn: Option<String>,
+    /// The save in progress.
     draft: Option<Saving<R::File>>,
+    /// The failed calls.
     failures: Faults,
 }
 
@@ -95,7 +98,7 @@ where
         self.watch.distrust();
     }
 
-    /// Opens a draft.
+    /// Opens a draft: one that will replace the file, or one of the mark where the file is to be overwritten.
     fn open_draft(&mut self) -> Result<Saving<R::File>, StoreFault>
         ensures { self.new.failures ≡ self.old.failures }
     {

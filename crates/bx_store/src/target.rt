@@ -7,7 +7,7 @@ use std::os::unix::fs::MetadataExt;
 use std::path::Path;
 use std::rt::Files;
 
-/// Number of links that the system follows for one name.
+/// Number of links that the system follows for one name, as Linux does.
 const MOST_LINKS: u32 = 40;
 
 /// Turns the error `NotFound` into None.
@@ -87,7 +87,7 @@ pub fn is_unchanged(old: &Metadata, new: &Metadata) -> bool {
     let is_as_written = old.size() == new.size()
         && old.mtime() == new.mtime()
         && old.mtime_nsec() == new.mtime_nsec();
-    // within a tick of the system's clock the times stay
+    // compared too, since within a tick of the system's clock the times stay
     let has_same_rights = old.mode() == new.mode()
         && old.uid() == new.uid()
         && old.gid() == new.gid();

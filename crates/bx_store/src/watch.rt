@@ -1,4 +1,4 @@
-//! The file of a store, as last seen.
+//! The file of a store, as last seen, by which changes of other programs are noticed.
 ghost use Rattle.std.specs.Prelude.{◌≡◌, Some, Err, OnErr};
 ghost use Rattle.bx_store.specs.Causes.{fault};
 ghost use Rattle.bx_store.specs.declared.cause.SaveCause.TheVariants.{OutOfMemory};
@@ -16,18 +16,21 @@ use std::rt::Files;
 /// A path and the file that it leads to, which is looked at again at each save.
 #[derive(Drop)]
 pub struct Watch<'a, R: Files> {
+    /// The file system.
     pub files: &'a R,
+    /// The path as it was given; links on it are followed at each look.
     path: String,
     /// The path without links that saves go to; None if it could not be resolved yet.
     target: Option<String>,
-    /// The place without a file that the path led to when a look last failed for that.
+    /// The place, without a file, to which the path led when a look last failed since it led elsewhere; None if none did.
     elsewhere: Option<String>,
     /// The file's metadata when last seen; None if it never was.
     seen: Option<Metadata>,
     /// Whether the next look is a fault, if the file is there.
     is_distrusted: bool,
-    /// The metadata of a file of which a rename loses at most other names: that of the file as first seen, or as last replaced by
-    /// a save. An access list and the like cannot be seen, but to give a file one changes its time of change.
+    /// The file's metadata when first seen, or when a save last replaced it: while it has these, a rename loses at most its other
+    /// names. An access list and the like cannot be seen, but to give a file one changes its time of change. None if there was
+    /// no file, or a rename would lose more.
     plain: Option<Metadata>,
 }
 
@@ -56,7 +59,7 @@ fn seen_at<R: Files>(files: &R, target: &Option<String>) -> Result<Option<Metada
     Ok(if_answered(find(files, target.as_str()))?.unwrap_or(None))
 }
 
-/// The file at a path without links, if one is there. A link, which another program put there, is none.
+/// The file at a path without links, if one is there. A link, which another program put there, counts as no file.
 ///
 /// Errors: `NotPlain` if it is a folder, a device, a pipe or a socket.
 fn file_at<R: Files>(files: &R, target: &str) -> Result<Option<Metadata>, StoreFault> {
@@ -114,7 +117,8 @@ impl<'a, R: Files> Watch<'a, R> {
         self.seen = written.ok();
     }
 
-    /// Notes the file that replaced it, by two looks. A change between them shows as one of something that a rename loses.
+    /// Notes the file that replaced the old one, by two looks. Where it changed between them, it counts as a file of which a
+    /// rename loses something.
     pub fn note_replaced(&mut self, first: io::Result<Metadata>, second: io::Result<Metadata>) {
         self.plain = first.ok();
         self.seen = second.ok();
@@ -147,7 +151,8 @@ impl<'a, R: Files> Watch<'a, R> {
         }
     }
 
-    /// Whether the path led to this place at first, or once before when a look failed for that.
+    /// Whether the path led to this place at first, or when a look last failed since it led elsewhere. Any place is known as long
+    /// as the path could not be resolved.
     fn is_known_place(&self, place: &str) -> bool {
         let is_first = match &self.target {
             Some(target) => target.as_str() == place,
@@ -191,7 +196,8 @@ impl<'a, R: Files> Watch<'a, R> {
 
     /// Resolves the path and notes the metadata found. Returns the path that saves go to, and whether a file exists there.
     ///
-    /// Errors: `NotPlain` if it is not a plain file, `Changed` if it changed since last seen or the path leads elsewhere.
+    /// Errors: `NotPlain` if it is not a plain file, `Changed` if it changed since last seen or the path leads elsewhere,
+    /// `FolderGone` as `place_of_saves`.
     pub fn look(&mut self) -> Result<(String, bool), StoreFault> {
         let place = target_of(self.files, self.allocator(), self.path.as_str())?;
         if !self.is_known_place(place.as_str()) {

@@ -30,14 +30,15 @@ pub struct Facts {
     pub longest_name: u64,
     /// The free bytes there for the user.
     pub free: u64,
-    /// The absolute path without links. Of what is not there, that of the nearest folder above and the rest as written.
+    /// The absolute path without links. Where nothing is there: the path without links of the nearest folder above, and the
+    /// rest as written.
     pub real_path: String,
 }
 
 impl Facts {
     ghost use Rattle.bx_wire.specs.Facts.{HasLetters};
 
-    /// Facts by their letters, as the host gives them.
+    /// Facts by their letters, as the host gives them (`host/facts.c`): a fact is true where its letter is there.
     pub fn of(letters: &[u8], longest_name: u64, free: u64, real_path: String) -> Facts
         ensures letters { HasLetters result letters.now }
         ensures longest_name { result.longest_name ≡ longest_name }

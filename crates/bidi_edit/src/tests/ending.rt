@@ -1,4 +1,4 @@
-//! Lines and exit statuses of faults.
+//! The lines and the exit statuses of faults.
 
 use crate::fault::ProgramFault;
 use crate::telling::finish;
@@ -8,6 +8,24 @@ use bx_session::{OpenError, Refused, RunFault};
 use bx_store::StoreFault;
 use std::process::ExitCode;
 use std::test::Fail;
+
+/// The lines of all kinds of faults, in the order in which the test makes them.
+const LINES: &str = "\
+bidi_edit: cannot read 'a path'\n\
+bidi_edit: out of memory\n\
+bidi_edit: file too long\n\
+bidi_edit: not UTF-8 in line 3\n\
+bidi_edit: file too long\n\
+bidi_edit: not UTF-8 at byte 1\n\
+bidi_edit: out of memory\n\
+bidi_edit: input failed\n\
+bidi_edit: output failed\n\
+bidi_edit: too many reads\n\
+bidi_edit: out of memory\n\
+bidi_edit: out of memory\n\
+bidi_edit: input ended before saving\n\
+bidi_edit: cannot write the recovered text\n\
+bidi_edit: output failed\n";
 
 #[test]
 fn faults_by_their_lines(rt: HostRuntime) -> Result<(), Fail> {
@@ -32,24 +50,7 @@ fn faults_by_their_lines(rt: HostRuntime) -> Result<(), Fail> {
         let line = format!(in rt.alloc(); "{fault}\n")?;
         text.push_str(line.as_str())?;
     }
-    assert_eq!(rt;
-        text.as_str(),
-        "bidi_edit: cannot read 'a path'\n\
-         bidi_edit: out of memory\n\
-         bidi_edit: file too long\n\
-         bidi_edit: not UTF-8 in line 3\n\
-         bidi_edit: file too long\n\
-         bidi_edit: not UTF-8 at byte 1\n\
-         bidi_edit: out of memory\n\
-         bidi_edit: input failed\n\
-         bidi_edit: output failed\n\
-         bidi_edit: too many reads\n\
-         bidi_edit: out of memory\n\
-         bidi_edit: out of memory\n\
-         bidi_edit: input ended before saving\n\
-         bidi_edit: cannot write the recovered text\n\
-         bidi_edit: output failed\n"
-    );
+    assert_eq!(rt; text.as_str(), LINES);
     Ok(())
 }
 

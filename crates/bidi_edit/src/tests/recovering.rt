@@ -11,6 +11,7 @@ use std::alloc::Global;
 use std::io::{self, ErrorKind, Read, Write};
 use std::test::Fail;
 
+/// The start of a session of the text `ab` with the bytes of a journal. In these `\x13` is Save, and `\x11` Quit.
 fn beginning<'a>(alloc: Global, keys: &'a [u8]) -> Result<Beginning<'a>, Fail> {
     Ok(Beginning {
         alloc,
@@ -26,7 +27,7 @@ fn beginning<'a>(alloc: Global, keys: &'a [u8]) -> Result<Beginning<'a>, Fail> {
 }
 
 /// Recovers these keys into a store, and compares the text with a file of these bytes.
-fn recovered(
+fn recover_beside(
     alloc: Global,
     store: &mut MemoryStore,
     keys: &[u8],
@@ -44,7 +45,7 @@ fn a_journal_beside_its_file(rt: HostRuntime) -> Result<(), Fail> {
         (b"xa".as_slice(), FileText::Foreign),
     ] {
         let mut store = MemoryStore::new(rt.alloc(), None);
-        let replayed = recovered(rt.alloc(), &mut store, b"x\x13y\x11\x11", file)?;
+        let replayed = recover_beside(rt.alloc(), &mut store, b"x\x13y\x11\x11", file)?;
         assert_eq!(rt; replayed, Ok(Replayed { held, keys: 5 }));
         assert_eq!(rt; store.contents(), b"xyab".as_slice());
     }
@@ -53,14 +54,15 @@ fn a_journal_beside_its_file(rt: HostRuntime) -> Result<(), Fail> {
 
 #[test]
 fn a_text_that_cannot_be_stored(rt: HostRuntime) -> Result<(), Fail> {
+    // its first call fails
     let mut store = MemoryStore::new(rt.alloc(), Some(1));
-    let replayed = recovered(rt.alloc(), &mut store, b"x", b"ab")?;
+    let replayed = recover_beside(rt.alloc(), &mut store, b"x", b"ab")?;
     assert_eq!(rt; replayed, Err(RecoveryFault::Unwritten));
     Ok(())
 }
 
 /// Replays keys, then types `y`, Save and Quit. Returns whether the run ended saved.
-fn resumed(alloc: Global, store: &mut MemoryStore, keys: &[u8]) -> Result<bool, Fail> {
+fn resume(alloc: Global, store: &mut MemoryStore, keys: &[u8]) -> Result<bool, Fail> {
     let changes = edit(
         &mut b"y\x13\x11".as_slice(),
         &mut Recorder::new(alloc, NoJournal),
@@ -74,7 +76,7 @@ fn resumed(alloc: Global, store: &mut MemoryStore, keys: &[u8]) -> Result<bool, 
 #[test]
 fn typing_goes_on_behind_what_is_replayed(rt: HostRuntime) -> Result<(), Fail> {
     let mut store = MemoryStore::new(rt.alloc(), None);
-    assert!(rt; resumed(rt.alloc(), &mut store, b"x\x13\x11\x11")?);
+    assert!(rt; resume(rt.alloc(), &mut store, b"x\x13\x11\x11")?);
     assert_eq!(rt; store.contents(), b"xyab".as_slice());
     Ok(())
 }
@@ -92,7 +94,7 @@ impl Read for Pairs<'_> {
     }
 }
 
-/// A journal that refuses its first `refused` writes, then has room for `room` bytes, and takes at most two at a time.
+/// A journal, `bytes`, that refuses its next `refused` writes, then has room for `room` bytes, and takes at most two at a time.
 #[derive(Drop)]
 struct Small {
     bytes: Vec<u8>,
@@ -117,7 +119,8 @@ impl Write for Small {
     }
 }
 
-/// Runs over the input `abcdef`. Returns whether all of it was typed, and whether the journal has all.
+/// Runs over the input `abcdef`, two bytes a read: the journal is called for each of the three reads and at the input's end. The
+/// limit of 9 reads is not reached. Returns whether all of it was typed, and whether the journal has all.
 fn run_kept(alloc: Global, journal: &mut Small) -> Result<(bool, bool), Fail> {
     let mut session = Session::open(Vec::new(alloc), sample_tables(alloc)?, 1, 9, Base::Auto)?;
     let mut recorder = Recorder::new(alloc, WrittenJournal::new(journal));
@@ -125,6 +128,7 @@ fn run_kept(alloc: Global, journal: &mut Small) -> Result<(bool, bool), Fail> {
     let mut output = Vec::new(alloc);
     let mut store = MemoryStore::new(alloc, None);
     let _ = run_recorded(
+        9,
         &mut input,
         &mut recorder,
         &mut output,

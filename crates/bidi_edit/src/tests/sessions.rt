@@ -1,6 +1,6 @@
-//! Recorded sessions, with the small tables.
+//! Recorded sessions, with the small tables: `sessions/vectors.rt` has them, and says what each field of a line is.
 
-ghost use Rattle.std.specs.Prelude.{◌≡◌, ◌<◌, true, IfOk, IfSome};
+ghost use Rattle.std.specs.Prelude.{◌≡◌, true, IfOk};
 ghost use Rattle.bx_terms.specs.Sizes.{is_side};
 
 mod vectors;
@@ -13,32 +13,20 @@ use bx_store::MemoryStore;
 use bx_terms::{Base, is_side};
 use std::alloc::Global;
 use std::process::Abort;
+use std::str;
 use std::test::Fail;
 use vectors::SESSIONS;
-
-fn hex_digit(byte: u8) -> Option<u8>
-    ensures { IfSome result (λ digit. digit < 16) }
-{
-    match byte {
-        b'0'..=b'9' => Some(byte - b'0'),
-        b'a'..=b'f' => Some(byte - b'a' + 10),
-        _ => None,
-    }
-}
 
 /// Decodes a field in hexadecimal.
 fn from_hex(alloc: Global, hex: &str) -> Result<Vec<u8>, Fail> {
     let mut bytes = Vec::new(alloc);
     for pair in hex.as_bytes().chunks(2) {
-        let [high, low] = pair else {
-            return Err("an odd number of digits".into());
-        };
-        bytes.push(hex_digit(*high).ok_or("no digit")? * 16 + hex_digit(*low).ok_or("no digit")?)?;
+        bytes.push(u8::from_str_radix(str::from_utf8(pair)?, 16)?)?;
     }
     Ok(bytes)
 }
 
-/// Parses a side of the window.
+/// Parses a side of the window, its rows or columns, from 1 to 500.
 fn side_of(field: &str) -> Result<u16, Fail>
     ensures { IfOk result (λ n. is_side n ≡ true) }
 {
@@ -52,16 +40,20 @@ fn side_of(field: &str) -> Result<u16, Fail>
 /// The input of a recorded session.
 #[derive(Drop)]
 struct Given {
+    /// The window's rows and columns.
     rows: u16,
     cols: u16,
     direction: Base,
+    /// The file's bytes; None if there is no file.
     file: Option<Vec<u8>>,
+    /// The bytes of the keys.
     keys: Vec<u8>,
     ghost has_rows: { is_side rows ≡ true },
     ghost has_cols: { is_side cols ≡ true },
 }
 
 impl Given {
+    /// Parses the fields before the `=` of a line.
     fn of_fields(alloc: Global, text: &str) -> Result<Given, Fail> {
         let mut fields = text.split('|');
         let rows = side_of(fields.next().ok_or("no rows")?)?;
@@ -110,7 +102,7 @@ impl Given {
     }
 }
 
-/// The file's bytes; none if there is no file.
+/// The file's bytes; None if there is no file.
 fn file_of(alloc: Global, field: &str) -> Result<Option<Vec<u8>>, Fail> {
     if field == "none" {
         return Ok(None);
@@ -123,7 +115,8 @@ fn are_bytes(alloc: Global, bytes: &[u8], field: &str) -> Result<bool, Fail> {
     Ok(bytes == from_hex(alloc, field)?.as_slice())
 }
 
-/// Whether a store holds the saved bytes of a field; for an empty field, nothing or the file's bytes.
+/// Whether a store holds the saved bytes of the field `field`; if this is empty, nothing, or the file's bytes, the fourth field
+/// of `given`.
 fn is_saved(alloc: Global, contents: &[u8], field: &str, given: &str) -> Result<bool, Fail> {
     if contents.is_empty() || !field.is_empty() {
         return are_bytes(alloc, contents, field);
@@ -132,7 +125,7 @@ fn is_saved(alloc: Global, contents: &[u8], field: &str, given: &str) -> Result<
     Ok(file != "none" && are_bytes(alloc, contents, file)?)
 }
 
-/// The first difference from the recorded session, if any.
+/// The name of the first result that differs from the recorded session's, of which `session` is the line; None if none does.
 fn fault_of(
     alloc: Global,
     written: &mut Vec<u8>,
@@ -166,6 +159,7 @@ fn check_session(rt: &impl Abort, alloc: Global, session: &str) -> Result<(), Fa
 
 #[test]
 fn recorded_sessions(rt: HostRuntime) -> Result<(), Fail> {
+    // all of the sessions are there, a line each
     assert_eq!(rt; SESSIONS.lines().count(), 24);
     for session in SESSIONS.lines() {
         check_session(&rt, rt.alloc(), session)?;
