@@ -1,5 +1,6 @@
-//! Levels of a paragraph: PATTERN CHARACTERS TIMES. The cost of a character is the difference of two runs that differ in TIMES
-//! alone, divided by the difference in characters. The time is linear if that cost does not depend on CHARACTERS.
+//! Levels of a paragraph: PATTERN CHARACTERS TIMES, with the patterns of `texts.rt`. The cost of a character is the difference of
+//! two runs that differ in TIMES alone, divided by the difference in characters. The time is linear if that cost does not depend
+//! on CHARACTERS.
 
 use crate::outcome::{Outcome, number};
 use crate::texts::text;
@@ -51,12 +52,7 @@ fn outcome_of<R: CpuClock + AllocGlobal>(
 ) -> Result<Outcome> {
     let start = rt.thread_cpu_time()?;
     let sum = sum(rt.alloc(), tables, body, times)?;
-    let end = rt.thread_cpu_time()?;
-    let line = format!(in rt.alloc(); "{sum}")?;
-    Ok(Outcome {
-        line,
-        time: end.saturating_sub(start),
-    })
+    Outcome::since(rt, start, sum)
 }
 
 /// Carries out the words. Reports the sum of the levels.

@@ -34,7 +34,7 @@ use std::rt::Env;
 use std::time::CpuClock;
 
 /// Carries out the words.
-fn measured<R: CpuClock + AllocGlobal>(rt: &R, words: &[String]) -> Result<Outcome> {
+fn measure<R: CpuClock + AllocGlobal>(rt: &R, words: &[String]) -> Result<Outcome> {
     match words {
         [layer, rest @ ..] if layer.as_str() == "text" => edits::run(rt, rest),
         [layer, rest @ ..] if layer.as_str() == "paragraphs" => paragraphs::run(rt, rest),
@@ -50,7 +50,7 @@ fn measured<R: CpuClock + AllocGlobal>(rt: &R, words: &[String]) -> Result<Outco
     }
 }
 
-/// The runs of `each`.
+/// The runs of `each`, small enough to end at once. This crate's `stdout` has their lines.
 const EACH: [&str; 8] = [
     "text scattered 100000 2000",
     "paragraphs edit 10000 50 20",
@@ -69,7 +69,7 @@ fn each<R: Print + CpuClock + AllocGlobal>(rt: &R) -> Result<()> {
         for word in line.split(' ') {
             words.push(String::from_str(rt.alloc(), word)?)?;
         }
-        let outcome = measured(rt, &words)?;
+        let outcome = measure(rt, &words)?;
         let line = outcome.line.as_str();
         println!(rt; "{line}")?;
     }
@@ -78,7 +78,7 @@ fn each<R: Print + CpuClock + AllocGlobal>(rt: &R) -> Result<()> {
 
 /// Runs the layer that the words name.
 fn one<R: Print + CpuClock + AllocGlobal>(rt: &R, words: &[String], is_timed: bool) -> Result<()> {
-    let outcome = measured(rt, words)?;
+    let outcome = measure(rt, words)?;
     let line = outcome.line.as_str();
     println!(rt; "{line}")?;
     if is_timed {
@@ -88,6 +88,7 @@ fn one<R: Print + CpuClock + AllocGlobal>(rt: &R, words: &[String], is_timed: bo
     Ok(())
 }
 
+/// Carries out the command line.
 fn run<R: Print + Env + CpuClock + AllocGlobal>(rt: &R) -> Result<()> {
     let mut words = Vec::new(rt.alloc());
     for word in env::args(rt)?.skip(1) {

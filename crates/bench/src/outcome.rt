@@ -1,13 +1,28 @@
 //! The result of a measurement.
 
 use anyhow::{Context, Result};
-use std::time::Duration;
+use std::time::{CpuClock, Duration};
 
 /// A line that depends on all work done, and the processor time of the measured part.
 #[derive(Drop)]
 pub(crate) struct Outcome {
     pub(crate) line: String,
     pub(crate) time: Duration,
+}
+
+impl Outcome {
+    /// The outcome of work that began at `start`: the sum of its results, and its time.
+    pub(crate) fn since<R: CpuClock + AllocGlobal>(
+        rt: &R,
+        start: Duration,
+        sum: u64,
+    ) -> Result<Outcome> {
+        let end = rt.thread_cpu_time()?;
+        Ok(Outcome {
+            line: format!(in rt.alloc(); "{sum}")?,
+            time: end.saturating_sub(start),
+        })
+    }
 }
 
 /// Parses a number.

@@ -8,8 +8,9 @@ ghost use Rattle.bx_grid.specs.Columns.{is_one_glyph, run_width};
 use crate::glyphs::{Glyph, Script};
 use crate::outcome::{Outcome, number};
 use anyhow::{Context, Result, bail};
-use bx_grid::{Cell, Grid, Picture, Screen};
+use bx_grid::{Cell, Grid, Picture};
 use bx_paint::{changes, whole};
+use bx_terminal::Screen;
 use std::alloc::Global;
 use std::time::CpuClock;
 
@@ -30,8 +31,8 @@ fn put_glyph(grid: &mut Grid, cell: Cell, glyph: Glyph, negative: bool) -> Resul
     Ok(())
 }
 
-/// Fills a line with glyphs except for its last five or six columns. If `marked`, the glyph at column 41 is another one, and
-/// negative.
+/// Fills a line of 80 columns with glyphs except for its last six columns, a blank tail. If `marked`, the glyph at column 41,
+/// the middle, is another one, and negative.
 fn put_line(grid: &mut Grid, script: Script, line: u16, marked: bool) -> Result<()> {
     let mut column = 1;
     while column < 75 {
@@ -43,8 +44,8 @@ fn put_line(grid: &mut Grid, script: Script, line: u16, marked: bool) -> Result<
     Ok(())
 }
 
-/// A picture full of glyphs except for the last five or six columns of each row. If `marked`, one glyph is another one, and
-/// negative.
+/// A picture of 24 rows and 80 columns, full of glyphs except for the last six columns of each row. If `marked`, one glyph, in
+/// line 12, the middle, is another one, and negative.
 fn full(alloc: Global, script: Script, marked: bool) -> Result<Picture> {
     let mut grid = Grid::blank(alloc, 24, 80)?;
     for line in 1..25 {
@@ -69,7 +70,7 @@ fn changes_len(alloc: Global, old: &Picture, new: &Picture) -> Result<usize> {
     Ok(changes(alloc, old, new)?.len())
 }
 
-/// The measured work.
+/// The measured work, as the file's head says it.
 #[derive(Clone, Copy)]
 enum Task {
     Changes,
@@ -111,14 +112,20 @@ impl Task {
 /// The values that the tasks work on.
 #[derive(Drop)]
 struct Work {
+    /// What the pictures are filled with.
     script: Script,
+    /// The picture without the other glyph.
     old: Picture,
+    /// The picture with it.
     new: Picture,
+    /// The bytes that paint `new` whole.
     painting: Vec<u8>,
+    /// Reads the painting.
     screen: Screen,
 }
 
 impl Work {
+    /// The pictures of a script, a painting and a screen.
     fn new(alloc: Global, script: Script) -> Result<Work> {
         let old = full(alloc, script, false)?;
         let new = full(alloc, script, true)?;
@@ -177,10 +184,5 @@ pub(crate) fn run<R: CpuClock + AllocGlobal>(rt: &R, words: &[String]) -> Result
     let times = number(times)?;
     let start = rt.thread_cpu_time()?;
     let sum = sum(rt.alloc(), task, script, times)?;
-    let end = rt.thread_cpu_time()?;
-    let line = format!(in rt.alloc(); "{sum}")?;
-    Ok(Outcome {
-        line,
-        time: end.saturating_sub(start),
-    })
+    Outcome::since(rt, start, sum)
 }

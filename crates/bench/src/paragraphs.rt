@@ -1,7 +1,8 @@
 //! The index of paragraphs: the time of building it, and of following edits.
 //!
-//! The text has BYTES bytes, in lines of LINE bytes. Each edit inserts a line feed in the text's middle, or removes the whole
-//! text and undoes that.
+//! TASK BYTES LINE [EDITS]. The text has BYTES bytes, in lines of LINE bytes. TASK is `build` (of the index), `walk` (over all
+//! paragraphs and back), or EDITS times `edit` (a line feed is inserted in the text's middle) or `restore` (the whole text is
+//! removed and that undone).
 
 ghost use Rattle.std.specs.Prelude.{◌≡◌, OnOk};
 ghost use Rattle.bx_index.specs.Paragraphs.{lengths};
@@ -36,24 +37,9 @@ fn edit<D: BidiData>(text: &mut Text, index: &mut Index, tables: &D) -> Result<(
     let at = len / 2;
     index.ready(1)?;
     let put = text.insert(at, "\n", at, at)?;
+    // the contract of `len` tells the proofs that the text is UTF-8
     let _still = text.len();
     index.edited(text, tables, &put);
-    Ok(())
-}
-
-/// Makes `edits` such edits.
-fn edit_often<D: BidiData>(
-    text: &mut Text,
-    index: &mut Index,
-    tables: &D,
-    edits: usize,
-) -> Result<()>
-    requires { index.old.paragraphs ≡ lengths (D.data tables.now) text.old.edited.text }
-    ensures { OnOk result (index.new.paragraphs ≡ lengths (D.data tables.now) text.new.edited.text) }
-{
-    for _ in 0..edits {
-        edit(text, index, tables)?;
-    }
     Ok(())
 }
 
@@ -65,6 +51,7 @@ fn clear<D: BidiData>(text: &mut Text, index: &mut Index, tables: &D) -> Result<
     let len = text.len();
     index.ready(0)?;
     let change = text.remove(0, len, 0, 0)?;
+    // the contract of `len` tells the proofs that the text is UTF-8
     let _still = text.len();
     index.edited(text, tables, &change);
     Ok(())
@@ -77,46 +64,44 @@ fn take_back<D: BidiData>(text: &mut Text, index: &mut Index, tables: &D) -> Res
 {
     // reserves before the index does, so that the index frees memory at the heap's end
     text.ready(0)?;
+    // the contract of `len` tells the proofs that the text is UTF-8
     let _utf8 = text.len();
     let Some(next) = text.next_undo() else {
         return Ok(());
     };
     index.ready(next.added)?;
     if let Some(change) = text.undo()? {
+        // the contract of `len` tells the proofs that the text is UTF-8
         let _still = text.len();
         index.edited(text, tables, &change);
     }
     Ok(())
 }
 
-/// Removes the whole text and undoes that, `edits` times.
-fn restore_often<D: BidiData>(
-    text: &mut Text,
-    index: &mut Index,
-    tables: &D,
-    edits: usize,
-) -> Result<()>
+/// Removes the whole text and undoes that, with the index following.
+fn restore<D: BidiData>(text: &mut Text, index: &mut Index, tables: &D) -> Result<()>
     requires { index.old.paragraphs ≡ lengths (D.data tables.now) text.old.edited.text }
     ensures { OnOk result (index.new.paragraphs ≡ lengths (D.data tables.now) text.new.edited.text) }
 {
-    for _ in 0..edits {
-        clear(text, index, tables)?;
-        take_back(text, index, tables)?;
-    }
-    Ok(())
+    clear(text, index, tables)?;
+    take_back(text, index, tables)
 }
 
 /// The work measured after the index is built.
 #[derive(Clone, Copy)]
 enum Task {
+    /// Nothing more: the building itself is measured.
     Build,
+    /// A line feed is inserted this number of times.
     Edit(usize),
+    /// The text is removed and that undone this number of times.
     Restore(usize),
+    /// A walk over all paragraphs and back.
     Walk,
 }
 
 /// Walks over all paragraphs and back to the first. Returns their number.
-fn walked(index: &Index) -> usize {
+fn walk(index: &Index) -> usize {
     let mut seen: usize = 1;
     let mut walk = index.walk_at_offset(0);
     for _ in 0..index.count() {
@@ -137,15 +122,23 @@ fn follow<D: BidiData>(text: &mut Text, index: &mut Index, tables: &D, task: Tas
 {
     match task {
         Task::Build => {}
-        Task::Edit(edits) => edit_often(text, index, tables, edits)?,
-        Task::Restore(edits) => restore_often(text, index, tables, edits)?,
-        Task::Walk => return Ok(walked(index)),
+        Task::Edit(edits) => {
+            for _ in 0..edits {
+                edit(text, index, tables)?;
+            }
+        }
+        Task::Restore(edits) => {
+            for _ in 0..edits {
+                restore(text, index, tables)?;
+            }
+        }
+        Task::Walk => return Ok(walk(index)),
     }
     Ok(index.count())
 }
 
 /// The number of paragraphs, and the times after building the index and at the end.
-fn ended<R: CpuClock, D: BidiData>(
+fn time_task<R: CpuClock, D: BidiData>(
     rt: &R,
     text: &mut Text,
     index: &mut Index,
@@ -161,7 +154,7 @@ fn ended<R: CpuClock, D: BidiData>(
 }
 
 /// The number of paragraphs, and the time of building the index or of the work after that.
-fn measured<R: CpuClock + AllocGlobal>(
+fn measure<R: CpuClock + AllocGlobal>(
     rt: &R,
     text: &mut Text,
     task: Task,
@@ -169,8 +162,8 @@ fn measured<R: CpuClock + AllocGlobal>(
     let tables = sample_tables(rt.alloc())?;
     let start = rt.thread_cpu_time()?;
     let mut index = Index::build(rt.alloc(), text, &tables)?;
-    let ended = ended(rt, text, &mut index, &tables, task);
-    ended.map(|(count, built, end)| match task {
+    let timed = time_task(rt, text, &mut index, &tables, task);
+    timed.map(|(count, built, end)| match task {
         Task::Build => (count, built.saturating_sub(start)),
         _ => (count, end.saturating_sub(built)),
     })
@@ -188,7 +181,7 @@ fn task_of(name: &str, edits: Option<usize>) -> Option<Task> {
 }
 
 /// Parses the task, and the text's length and line length.
-fn asked(words: &[String]) -> Result<(Task, usize, usize)> {
+fn parse(words: &[String]) -> Result<(Task, usize, usize)> {
     let (name, bytes, line, edits) = match words {
         [name, bytes, line] => (name, bytes, line, None),
         [name, bytes, line, edits] => (name, bytes, line, Some(number(edits)?)),
@@ -200,14 +193,14 @@ fn asked(words: &[String]) -> Result<(Task, usize, usize)> {
 
 /// Measures a task over a text. Reports the number of paragraphs.
 fn outcome_of<R: CpuClock + AllocGlobal>(rt: &R, text: &mut Text, task: Task) -> Result<Outcome> {
-    let (count, time) = measured(rt, text, task)?;
+    let (count, time) = measure(rt, text, task)?;
     let line = format!(in rt.alloc(); "{count} paragraphs")?;
     Ok(Outcome { line, time })
 }
 
 /// Carries out the words. Reports the number of paragraphs.
 pub(crate) fn run<R: CpuClock + AllocGlobal>(rt: &R, words: &[String]) -> Result<Outcome> {
-    let (task, bytes, line) = asked(words)?;
+    let (task, bytes, line) = parse(words)?;
     let mut text = Text::open(rt.alloc(), lines(rt.alloc(), bytes, line)?)?;
     outcome_of(rt, &mut text, task)
 }

@@ -2,29 +2,29 @@
 //! includes `visual`), and TEXT is a text of `units`. A part runs for each row of the text's lines, in a window of 80 columns.
 //! Its inputs are computed once, so they cancel in the difference of two runs.
 
-ghost use Rattle.std.specs.Prelude.{◌≡◌, ◌≤◌, ◌<◌, All, length};
-ghost use Rattle.bx_cells.specs.Units.{StandsIn};
-ghost use Rattle.bx_rows.specs.Lines.{ShowsFace, units_at};
-ghost use Rattle.bx_rows.specs.RowPicture.{columns_used};
+ghost use Rattle.std.specs.Prelude.{◌<◌, length};
 
 use crate::outcome::{Outcome, number};
 use crate::units::text_of;
 use crate::visual::leftmost;
 use anyhow::{Context, Result, bail};
-use bx_cells::Unit;
 use bx_resolve::levels;
-use bx_rows::{LeveledRow, Lines, draw, row_starts};
+use bx_rows::{LaidRow, Lines, row_starts};
 use bx_terms::Base;
 use bx_ucd::{BidiData, Tables, sample_tables};
 use std::alloc::Global;
 use std::time::CpuClock;
 
-/// A part of showing a row.
+/// A part of showing a row, as the file's head names it.
 #[derive(Clone, Copy)]
 enum Part {
+    /// `units`
     Units,
+    /// `levels`
     Levels,
+    /// `visual`
     Order,
+    /// `draw`
     Picture,
 }
 
@@ -41,38 +41,13 @@ impl Part {
     }
 }
 
-/// Runs a part of row `number` once; `each` has the levels of the row's units. Returns the number of units, levels or glyphs, or
-/// the leftmost unit.
-fn once<D: BidiData>(
-    alloc: Global,
-    part: Part,
-    lines: &Lines<'_, '_, D>,
-    number: usize,
-    units: &[Unit],
-    each: &[u8],
-) -> Result<usize>
-    requires number { number < length lines.now.starts.now }
-    requires units { units.now ≡ units_at lines.now number }
-    requires stand { All (StandsIn lines.now.body.now) units.now }
-    requires faces { All (ShowsFace lines.now) units.now }
-    requires fits { columns_used lines.now.w units.now ≤ lines.now.w }
-    requires each { length each.now ≡ length units.now }
-{
+/// Runs a part of a row once. Returns the number of units, levels or glyphs, or the leftmost unit.
+fn once<D: BidiData>(alloc: Global, part: Part, row: &LaidRow<'_, '_, D>) -> Result<usize> {
     match part {
-        Part::Units => Ok(lines.units(alloc, number)?.len()),
-        Part::Levels => Ok(lines.levels(alloc, number, units)?.len()),
-        Part::Order => leftmost(alloc, each),
-        Part::Picture => {
-            let row = LeveledRow {
-                units,
-                levels: each,
-                paragraph: lines.levels.paragraph,
-                each: lines.levels.each.as_slice(),
-                start: lines.starts[number],
-            };
-            let picture = draw(alloc, lines.body, &row, lines.tables, lines.w)?;
-            Ok(picture.glyphs.len())
-        }
+        Part::Units => Ok(row.lines.units(alloc, row.number)?.len()),
+        Part::Levels => Ok(row.lines.levels(alloc, row.number, &row.units)?.len()),
+        Part::Order => leftmost(alloc, &row.levels),
+        Part::Picture => Ok(row.picture(alloc)?.glyphs.len()),
     }
 }
 
@@ -86,11 +61,10 @@ fn often<D: BidiData>(
 ) -> Result<u64>
     requires { number < length lines.now.starts.now }
 {
-    let units = lines.units(alloc, number)?;
-    let each = lines.levels(alloc, number, &units)?;
+    let row = lines.row(alloc, number)?;
     let mut sum: u64 = 0;
     for _ in 0..times {
-        let count = once(alloc, part, lines, number, &units, &each)?;
+        let count = once(alloc, part, &row)?;
         sum = sum.wrapping_add(count as u64);
     }
     Ok(sum)
@@ -141,12 +115,7 @@ fn outcome_of<R: CpuClock + AllocGlobal>(
 ) -> Result<Outcome> {
     let start = rt.thread_cpu_time()?;
     let sum = sum(rt.alloc(), part, text, tables, times)?;
-    let end = rt.thread_cpu_time()?;
-    let line = format!(in rt.alloc(); "{sum}")?;
-    Ok(Outcome {
-        line,
-        time: end.saturating_sub(start),
-    })
+    Outcome::since(rt, start, sum)
 }
 
 /// Carries out the words.

@@ -5,14 +5,15 @@
 ghost use Rattle.bx_paragraph.specs.Layout.{IsLayoutBy};
 
 use crate::outcome::{Outcome, number};
+use crate::texts::repeated;
 use anyhow::{Result, bail};
 use bx_paragraph::{LentRow, ParagraphLayout};
 use bx_terms::Base;
 use bx_ucd::{BidiData, sample_tables};
-use std::alloc::{AllocError, Global};
+use std::alloc::Global;
 use std::time::CpuClock;
 
-/// The words that a text repeats.
+/// The words that a text repeats; those of `ascii` for other names.
 fn words_of(name: &str) -> &'static str {
     if name == "hebrew" {
         "\u{5e9}\u{5dc}\u{5d5}\u{5dd} \u{5e2}\u{5d5}\u{5dc}\u{5dd} "
@@ -23,20 +24,8 @@ fn words_of(name: &str) -> &'static str {
     }
 }
 
-/// A text of `count` letters.
-fn letters(alloc: Global, words: &str, count: usize) -> Result<String, AllocError> {
-    let mut text = String::new(alloc);
-    let length = words.chars().count().max(1);
-    for i in 0..count {
-        if let Some(c) = words.chars().nth(i % length) {
-            text.push(c)?;
-        }
-    }
-    Ok(text)
-}
-
-/// Draws all rows. Returns the number of glyphs.
-fn page<D: BidiData>(layout: &ParagraphLayout, tables: &D) -> Result<usize>
+/// Draws all rows, or finds their slots. Returns the number of glyphs or slots.
+fn each_row<D: BidiData>(layout: &ParagraphLayout, tables: &D, are_drawn: bool) -> Result<usize>
     requires { IsLayoutBy (D.data tables.now) layout.now }
 {
     let mut count: usize = 0;
@@ -45,29 +34,18 @@ fn page<D: BidiData>(layout: &ParagraphLayout, tables: &D) -> Result<usize>
             paragraph: layout,
             tables,
             number,
+            start: 0,
         };
-        count = count.wrapping_add(row.picture()?.glyphs.len());
+        count = count.wrapping_add(if are_drawn {
+            row.picture()?.glyphs.len()
+        } else {
+            row.slots()?.len()
+        });
     }
     Ok(count)
 }
 
-/// Finds the slots of all rows. Returns their number.
-fn slots<D: BidiData>(layout: &ParagraphLayout, tables: &D) -> Result<usize>
-    requires { IsLayoutBy (D.data tables.now) layout.now }
-{
-    let mut count: usize = 0;
-    for number in 0..layout.row_count() {
-        let row = LentRow {
-            paragraph: layout,
-            tables,
-            number,
-        };
-        count = count.wrapping_add(row.slots()?.len());
-    }
-    Ok(count)
-}
-
-/// Runs a task once. Returns the number of glyphs, slots or rows.
+/// Runs a task once; other words than `page` and `slots` count as `resolved`. Returns the number of glyphs, slots or rows.
 fn once<D: BidiData>(
     alloc: Global,
     task: &str,
@@ -76,15 +54,12 @@ fn once<D: BidiData>(
 ) -> Result<usize>
     requires { IsLayoutBy (D.data tables.now) layout.now }
 {
-    if task == "page" {
-        page(layout, tables)
-    } else if task == "slots" {
-        slots(layout, tables)
-    } else {
-        let body = layout.body().to_owned(alloc)?;
-        let again = ParagraphLayout::of(alloc, body, tables, 80, layout.base())?;
-        Ok(again.row_count())
+    if task == "page" || task == "slots" {
+        return each_row(layout, tables, task == "page");
     }
+    let body = layout.body().to_owned(alloc)?;
+    let again = ParagraphLayout::of(alloc, body, tables, 80, layout.base())?;
+    Ok(again.row_count())
 }
 
 /// Measures a task run `times` times. Reports the sum of its results.
@@ -98,16 +73,11 @@ fn rounds<R: CpuClock + AllocGlobal, D: BidiData>(
     requires { IsLayoutBy (D.data tables.now) layout.now }
 {
     let start = rt.thread_cpu_time()?;
-    let mut sum: usize = 0;
+    let mut sum: u64 = 0;
     for _ in 0..times {
-        sum = sum.wrapping_add(once(rt.alloc(), task, layout, tables)?);
+        sum = sum.wrapping_add(once(rt.alloc(), task, layout, tables)? as u64);
     }
-    let end = rt.thread_cpu_time()?;
-    let line = format!(in rt.alloc(); "{sum}")?;
-    Ok(Outcome {
-        line,
-        time: end.saturating_sub(start),
-    })
+    Outcome::since(rt, start, sum)
 }
 
 /// Carries out the words.
@@ -116,7 +86,7 @@ pub(crate) fn run<R: CpuClock + AllocGlobal>(rt: &R, words: &[String]) -> Result
         bail!("usage: bench rows TASK TEXT LETTERS TIMES");
     };
     let times = number(times)?;
-    let body = letters(rt.alloc(), words_of(text.as_str()), number(count)?)?;
+    let body = repeated(rt.alloc(), words_of(text.as_str()), number(count)?)?;
     let tables = sample_tables(rt.alloc())?;
     let layout = ParagraphLayout::of(rt.alloc(), body, &tables, 80, Base::Auto)?;
     rounds(rt, task.as_str(), &layout, &tables, times)

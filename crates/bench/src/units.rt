@@ -1,10 +1,11 @@
-//! Units and rows of a text in lines: TASK TEXT BYTES TIMES, in a window of 80 columns. Each task includes splitting the text
-//! into lines.
+//! Units and rows of a text in lines: TASK TEXT BYTES TIMES, in a window of 80 columns, with the tasks of `named` and the texts
+//! of `words_of`. Each task includes splitting the text into lines.
 
 use crate::outcome::{Outcome, number};
 use anyhow::{Context, Result, bail};
 use bx_cells::{face, units};
-use bx_rows::{has_one_row, row_starts, wrap};
+use bx_rows::row_starts;
+use bx_rows_laws::{has_one_row, wrap};
 use bx_ucd::{Tables, sample_tables};
 use std::alloc::{AllocError, Global};
 use std::time::CpuClock;
@@ -13,57 +14,47 @@ use unicode_segmentation::UnicodeSegmentation;
 /// The window's width in columns.
 const WIDTH: u16 = 80;
 
-/// Number of characters by which a line exceeds its minimum length; one line in eight is wider than the window.
+/// Number of characters by which a line exceeds its minimum length; of `ascii` one line in eight is wider than the window.
 const TURNS: [usize; 8] = [0, 4, 1, 5, 3, 20, 2, 6];
 
-/// The words that a text repeats, and the minimum length of its lines in characters.
+/// The words that a text repeats, and one less than the minimum length of its lines, in characters.
 fn words_of(name: &str) -> Option<(&'static str, usize)> {
-    if name == "ascii" {
-        Some((
+    Some(match name {
+        "ascii" => (
             "The old man, who had 12 books (and no more), went to the sea. ",
             70,
-        ))
-    } else if name == "emoji" {
-        Some((
+        ),
+        "emoji" => (
             "The old man, who had 12 books (and no more), went to the sea, and came back in the evening \
             of the third day, which was a Thursday; nobody asked him where he had been, nor did he \
             tell anyone but us. \u{1f600} ",
             70,
-        ))
-    } else if name == "mixed" {
-        Some((
+        ),
+        "mixed" => (
             "שלום לכל the readers, והנה עוד 12 ספרים (books) אשר with a word נקראו היום. ",
             70,
-        ))
-    } else if name == "hebrew" {
-        Some(("שלום לכל הקוראים, והנה עוד מעט ספרים אשר נקראו היום. ", 70))
-    } else if name == "arabic" {
-        Some((
+        ),
+        "hebrew" => ("שלום לכל הקוראים, והנה עוד מעט ספרים אשר נקראו היום. ", 70),
+        "arabic" => (
             "السلام عليكم، هذا كتاب آخر من الكتب التي قرأناها اليوم. ",
             70,
-        ))
-    } else if name == "points" {
-        Some((
+        ),
+        "points" => (
             "בְּרֵאשִׁית בָּרָא אֱלֹהִים אֵת הַשָּׁמַיִם וְאֵת הָאָרֶץ׃ ",
             124,
-        ))
-    } else if name == "cjk" {
-        Some(("私は昨日友達と一緒に図書館へ行きました。天地玄黃宇宙洪荒、日月盈昃。", 35))
-    } else if name == "hindi" {
-        Some((
+        ),
+        "cjk" => ("私は昨日友達と一緒に図書館へ行きました。天地玄黃宇宙洪荒、日月盈昃。", 35),
+        "hindi" => (
             "सभी मनुष्यों को गौरव और अधिकारों के मामले में जन्मजात स्वतन्त्रता और समानता प्राप्त है। ",
             100,
-        ))
-    } else if name == "hangul" {
-        Some(("모든 인간은 태어날 때부터 자유로우며 그 존엄과 권리에 있어 동등하다. ", 42))
-    } else if name == "tabs" {
-        Some(("name\tvalue\tand a third\t12\t", 40))
-    } else {
-        None
-    }
+        ),
+        "hangul" => ("모든 인간은 태어날 때부터 자유로우며 그 존엄과 권리에 있어 동등하다. ", 42),
+        "tabs" => ("name\tvalue\tand a third\t12\t", 40),
+        _ => return None,
+    })
 }
 
-/// A text of at least `bytes` bytes, in lines.
+/// A text of at least `bytes` bytes, in lines of more than `least` characters.
 fn text(alloc: Global, words: &str, least: usize, bytes: usize) -> Result<String, AllocError> {
     let mut text = String::new(alloc);
     let mut line: usize = 0;
@@ -99,13 +90,18 @@ enum Task {
     Split,
     /// The clusters of `unicode_segmentation`'s iterator, each with its face.
     Iterator,
+    /// The units of the line.
     Units,
+    /// The units, and the rows that they make.
     Wrap,
+    /// Where the rows start.
     RowStarts,
+    /// Whether the line has one row.
     HasOneRow,
 }
 
 impl Task {
+    /// The task with this name.
     fn named(word: &str) -> Option<Task> {
         if word == "split" {
             Some(Task::Split)
@@ -125,7 +121,7 @@ impl Task {
     }
 }
 
-/// Runs a task on a line. Returns the number of bytes, units or rows.
+/// Runs a task on a line. Returns the number of bytes, units or rows, or 1 if the line has one row.
 fn once(alloc: Global, task: Task, line: &str, tables: &Tables) -> Result<usize> {
     match task {
         Task::Split => Ok(line.len()),
@@ -133,6 +129,7 @@ fn once(alloc: Global, task: Task, line: &str, tables: &Tables) -> Result<usize>
             let mut count: usize = 0;
             for cluster in line.graphemes(true) {
                 let shown = face(cluster, tables, WIDTH);
+                // a tab counts twice, so that the result depends on each face
                 count = count.wrapping_add(if shown == bx_cells::Face::Tab { 2 } else { 1 });
             }
             Ok(count)
@@ -168,12 +165,7 @@ fn outcome_of<R: CpuClock + AllocGlobal>(
 ) -> Result<Outcome> {
     let start = rt.thread_cpu_time()?;
     let sum = sum(rt.alloc(), task, text, tables, times)?;
-    let end = rt.thread_cpu_time()?;
-    let line = format!(in rt.alloc(); "{sum}")?;
-    Ok(Outcome {
-        line,
-        time: end.saturating_sub(start),
-    })
+    Outcome::since(rt, start, sum)
 }
 
 /// Carries out the words.

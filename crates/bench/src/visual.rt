@@ -41,10 +41,5 @@ pub(crate) fn run<R: CpuClock + AllocGlobal>(rt: &R, words: &[String]) -> Result
     let levels = scattered_levels(rt.alloc(), number(highest)?, number(count)?)?;
     let start = rt.thread_cpu_time()?;
     let sum = sum(rt.alloc(), &levels, times)?;
-    let end = rt.thread_cpu_time()?;
-    let line = format!(in rt.alloc(); "{sum}")?;
-    Ok(Outcome {
-        line,
-        time: end.saturating_sub(start),
-    })
+    Outcome::since(rt, start, sum)
 }

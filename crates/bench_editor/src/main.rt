@@ -31,8 +31,8 @@ use table_files::TableFiles;
 use task::Task;
 use texts::Script;
 
-/// Carries out the last four words.
-fn measured<R: CpuClock + AllocGlobal>(
+/// Carries out the last four words: TASK, TEXT, BYTES and TIMES.
+fn measure<R: CpuClock + AllocGlobal>(
     rt: &R,
     files: &TableFiles,
     words: &[String],
@@ -58,7 +58,7 @@ fn measured<R: CpuClock + AllocGlobal>(
 }
 
 /// Carries out the words after --tables and its files.
-fn joined<R: Files + CpuClock + AllocGlobal>(
+fn measure_joined<R: Files + CpuClock + AllocGlobal>(
     rt: &R,
     mut files: TableFiles,
     words: &[String],
@@ -66,14 +66,14 @@ fn joined<R: Files + CpuClock + AllocGlobal>(
     match words {
         [option, joining, characters, rest @ ..] if option.as_str() == "--joining" => {
             files.add_joining(rt, joining.as_str(), characters.as_str())?;
-            measured(rt, &files, rest)
+            measure(rt, &files, rest)
         }
-        all => measured(rt, &files, all),
+        all => measure(rt, &files, all),
     }
 }
 
 /// Carries out the words after --time.
-fn asked<R: Files + CpuClock + AllocGlobal>(rt: &R, words: &[String]) -> Result<Outcome> {
+fn run_task<R: Files + CpuClock + AllocGlobal>(rt: &R, words: &[String]) -> Result<Outcome> {
     match words {
         [option, classes, brackets, mirroring, rest @ ..] if option.as_str() == "--tables" => {
             let files = TableFiles::read(
@@ -82,13 +82,13 @@ fn asked<R: Files + CpuClock + AllocGlobal>(rt: &R, words: &[String]) -> Result<
                 brackets.as_str(),
                 mirroring.as_str(),
             )?;
-            joined(rt, files, rest)
+            measure_joined(rt, files, rest)
         }
-        all => measured(rt, &TableFiles::small(rt.alloc())?, all),
+        all => measure(rt, &TableFiles::small(rt.alloc())?, all),
     }
 }
 
-/// The runs of `each`.
+/// The runs of `each`, as the last four words. Each task is done once at least, in texts that are small enough for a test.
 const EACH: [&str; 11] = [
     "opening hebrew 20000 2",
     "letter hebrew 20000 7",
@@ -103,7 +103,7 @@ const EACH: [&str; 11] = [
     "repaint paragraph 5000 1",
 ];
 
-/// Runs every task once.
+/// Makes the runs of `each`.
 fn each<R: Print + CpuClock + AllocGlobal>(rt: &R) -> Result<()> {
     let files = TableFiles::small(rt.alloc())?;
     for line in EACH {
@@ -111,7 +111,7 @@ fn each<R: Print + CpuClock + AllocGlobal>(rt: &R) -> Result<()> {
         for word in line.split(' ') {
             words.push(String::from_str(rt.alloc(), word)?)?;
         }
-        let outcome = measured(rt, &files, &words)?;
+        let outcome = measure(rt, &files, &words)?;
         let line = outcome.line.as_str();
         println!(rt; "{line}")?;
     }
@@ -124,7 +124,7 @@ fn one<R: Print + Files + CpuClock + AllocGlobal>(
     words: &[String],
     is_timed: bool,
 ) -> Result<()> {
-    let outcome = asked(rt, words)?;
+    let outcome = run_task(rt, words)?;
     let line = outcome.line.as_str();
     println!(rt; "{line}")?;
     if is_timed {

@@ -1,4 +1,4 @@
-//! Rounds of keys, in the middle of a text.
+//! The tasks done by keys: rounds in the middle of a text, all in one session.
 
 use crate::outcome::{Measurement, Outcome, Traffic};
 use crate::table_files::TableFiles;
@@ -25,7 +25,7 @@ fn rounds<R: CpuClock>(
 }
 
 /// The traffic and the time of a task's rounds.
-fn measured<R: CpuClock + AllocGlobal>(
+fn measure<R: CpuClock + AllocGlobal>(
     rt: &R,
     files: &TableFiles,
     task: Task,
@@ -50,7 +50,7 @@ pub(crate) fn run<R: CpuClock + AllocGlobal>(
 ) -> Result<Outcome> {
     let text = wanted.script.text(rt.alloc(), wanted.bytes)?;
     let length = text.len();
-    let (traffic, time) = measured(rt, files, task, wanted, text)?;
+    let (traffic, time) = measure(rt, files, task, wanted, text)?;
     let outcome = Outcome::new(rt.alloc(), name, length, traffic, time, wanted.times)?;
     Ok(outcome)
 }

@@ -25,17 +25,23 @@ fn kinds(
     Ok(kinds_found(&found))
 }
 
+/// Makes a file, another name of it, and another file. Returns their paths.
+fn make_files(rt: &HostRuntime, folder: &str) -> io::Result<(String, String, String)> {
+    let file = format!(in rt.alloc(); "{folder}/file")?;
+    let name = format!(in rt.alloc(); "{folder}/name")?;
+    let other = format!(in rt.alloc(); "{folder}/other")?;
+    fs::write(rt, file.as_str(), "text")?;
+    fs::write(rt, other.as_str(), "text")?;
+    fs::hard_link(rt, file.as_str(), name.as_str())?;
+    Ok((file, name, other))
+}
+
 #[test]
 fn a_session_from_its_beginning_to_its_end(rt: HostRuntime) -> Result<(), Fail> {
     let top = new_folder(&rt, "finding")?;
     let top = top.as_str();
     let process = this_process(&rt)?;
-    let file = format!(in rt.alloc(); "{top}/file")?;
-    let name = format!(in rt.alloc(); "{top}/name")?;
-    let other = format!(in rt.alloc(); "{top}/other")?;
-    fs::write(&rt, file.as_str(), "text")?;
-    fs::write(&rt, other.as_str(), "text")?;
-    fs::hard_link(&rt, file.as_str(), name.as_str())?;
+    let (file, name, other) = make_files(&rt, top)?;
     let path = format!(in rt.alloc(); "{top}/sessions")?;
     let sessions = Sessions::make(&rt, path.as_str(), user_of(&rt, top))?;
     let kept = begin(&rt, &sessions)?;
@@ -43,7 +49,10 @@ fn a_session_from_its_beginning_to_its_end(rt: HostRuntime) -> Result<(), Fail> 
     kept.announce(&rt, file.as_str(), &process)?;
     let announced = kinds(&rt, &sessions, name.as_str(), &process)?;
     fill(&rt, &sessions, &kept, file.as_str(), &process)?;
-    let text = kept.session.read(&rt, Part::Text)?;
+    let text = kept
+        .session
+        .read(&rt, Part::Text)?
+        .unwrap_or(Vec::new(rt.alloc()));
     let at_first = kinds(&rt, &sessions, file.as_str(), &process)?;
     let by_name = kinds(&rt, &sessions, name.as_str(), &process)?;
     let of_other = kinds(&rt, &sessions, other.as_str(), &process)?;
@@ -57,10 +66,7 @@ fn a_session_from_its_beginning_to_its_end(rt: HostRuntime) -> Result<(), Fail> 
     let forgotten = forget(&rt, &sessions, Some(&target), &process.machine)?.len();
     let at_last = kinds(&rt, &sessions, file.as_str(), &process)?;
     fs::remove_dir_all(&rt, top)?;
-    assert_eq!(rt;
-        text.as_ref().map(|text| text.as_slice()),
-        Some(b"text".as_slice())
-    );
+    assert_eq!(rt; text.as_slice(), b"text".as_slice());
     assert_eq!(rt; unsaid, (false, false, false));
     assert_eq!(rt; announced, (true, false, false));
     assert_eq!(rt; at_first, (true, false, false));

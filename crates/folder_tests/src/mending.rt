@@ -5,8 +5,8 @@ use bx_sessions::{Mended, Part, Sessions, Target, mend_all};
 use std::fs;
 use std::test::Fail;
 
-/// What becomes of a file with these bytes by a mark of `hello`, and its bytes then.
-fn mended(rt: &HostRuntime, test: &str, bytes: &str) -> Result<(Option<Mended>, String), Fail> {
+/// What becomes of a file with these bytes by a mark of `hello`, and its bytes then. `test` names its folder.
+fn mend_file(rt: &HostRuntime, test: &str, bytes: &str) -> Result<(Option<Mended>, String), Fail> {
     let top = new_folder(rt, test)?;
     let top = top.as_str();
     let process = this_process(rt)?;
@@ -35,7 +35,7 @@ fn torn_files_and_others(rt: HostRuntime) -> Result<(), Fail> {
         ("other", "help", Mended::Whole, "help"),
         ("longer", "hello there", Mended::Whole, "hello there"),
     ] {
-        let (mended, left) = mended(&rt, test, bytes)?;
+        let (mended, left) = mend_file(&rt, test, bytes)?;
         assert_eq!(rt; mended, Some(outcome));
         assert_eq!(rt; left.as_str(), text);
     }

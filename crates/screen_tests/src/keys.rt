@@ -1,13 +1,12 @@
 //! The keys of inputs: random inputs, and worked rows.
 
-ghost use Rattle.std.specs.Prelude.{◌<◌, IfSome};
-
 mod bytes;
 mod vectors;
 
 use bx_keys::{Decoder, Key};
 use std::alloc::{AllocError, Global};
 use std::process::Abort;
+use std::str;
 use std::test::Fail;
 use vectors::VECTORS;
 
@@ -99,29 +98,11 @@ fn decoding(alloc: Global, input: &[u8]) -> Result<(String, Decoder), AllocError
     Ok((words_of(alloc, keys.as_slice())?, decoder))
 }
 
-fn hex_digit(byte: u8) -> Option<u8>
-    ensures { IfSome result (λ digit. digit < 16) }
-{
-    match byte {
-        b'0'..=b'9' => Some(byte - b'0'),
-        b'a'..=b'f' => Some(byte - b'a' + 10),
-        _ => None,
-    }
-}
-
-/// The byte of two hexadecimal digits.
-fn byte_of(pair: &[u8]) -> Option<u8> {
-    match pair {
-        [high, low] => Some(hex_digit(*high)? * 16 + hex_digit(*low)?),
-        _ => None,
-    }
-}
-
 /// The bytes of a hexadecimal field.
 fn from_hex(alloc: Global, hex: &str) -> Result<Vec<u8>, Fail> {
     let mut bytes = Vec::new(alloc);
     for pair in hex.as_bytes().chunks(2) {
-        bytes.push(byte_of(pair).ok_or("no byte")?)?;
+        bytes.push(u8::from_str_radix(str::from_utf8(pair)?, 16)?)?;
     }
     Ok(bytes)
 }
@@ -154,7 +135,7 @@ fn random_inputs_have_the_model_s_keys(rt: HostRuntime) -> Result<(), Fail> {
     Ok(())
 }
 
-/// Asserts the keys of each input, in words.
+/// Asserts that each input has these keys, in words.
 fn keys_are(rt: &impl Abort, alloc: Global, rows: &[(&[u8], &str)]) -> Result<(), Fail> {
     for (input, keys) in rows {
         let (words, _) = decoding(alloc, input)?;

@@ -1,4 +1,5 @@
-//! Every byte, alone and after each of nine beginnings.
+//! Every byte, alone and after each of nine beginnings, by tables that say the grammar of input (ECMA-35, ECMA-48, UTF-8)
+//! once more.
 
 use bx_keys::{Decoder, Key};
 use std::test::Fail;
@@ -6,12 +7,16 @@ use std::test::Fail;
 /// The effect of a byte, by the grammar of input bytes.
 #[derive(Clone, Copy)]
 enum Effect {
+    /// It begins an item, or goes on with one.
     Waits,
+    /// It ends an item, which has this key.
     Ends(Option<Key>),
     /// It drops the bytes before it, and is read as if alone.
     ReadAfresh,
 }
 
+/// The beginnings of items that come before the byte: of escape sequences, and of characters of two to four bytes in UTF-8.
+/// `bytes_of` has their bytes.
 #[derive(Clone, Copy, Debug)]
 enum Beginning {
     Escape,
@@ -25,6 +30,7 @@ enum Beginning {
     ThreeOfFourBytes,
 }
 
+/// All beginnings.
 const BEGINNINGS: [Beginning; 9] = [
     Beginning::Escape,
     Beginning::Csi,
@@ -37,6 +43,7 @@ const BEGINNINGS: [Beginning; 9] = [
     Beginning::ThreeOfFourBytes,
 ];
 
+/// The bytes of a beginning.
 fn bytes_of(beginning: Beginning) -> &'static [u8] {
     match beginning {
         Beginning::Escape => b"\x1B",
@@ -51,6 +58,7 @@ fn bytes_of(beginning: Beginning) -> &'static [u8] {
     }
 }
 
+/// The effect of a byte where none waits. One that begins no item is dropped, which counts as an item without a key.
 fn effect_alone(byte: u8) -> Effect {
     match byte {
         0x02 => Effect::Ends(Some(Key::Back)),
@@ -74,28 +82,39 @@ fn effect_alone(byte: u8) -> Effect {
     }
 }
 
+/// The effect of a byte after ESC.
+fn effect_after_escape(byte: u8) -> Effect {
+    match byte {
+        0x20..=0x2F => Effect::Waits,
+        0x30..=0x4E => Effect::Ends(None),
+        0x4F => Effect::Waits,
+        0x50..=0x5A => Effect::Ends(None),
+        0x5B => Effect::Waits,
+        0x5C..=0x7E => Effect::Ends(None),
+        _ => Effect::ReadAfresh,
+    }
+}
+
+/// The effect of a byte after CSI: parameter and intermediate bytes wait, a final byte ends the sequence (ECMA-48, 5.4).
+fn effect_after_csi(byte: u8) -> Effect {
+    match byte {
+        0x20..=0x3F => Effect::Waits,
+        0x41 => Effect::Ends(Some(Key::Up)),
+        0x42 => Effect::Ends(Some(Key::Down)),
+        0x43 => Effect::Ends(Some(Key::Right)),
+        0x44 => Effect::Ends(Some(Key::Left)),
+        0x46 => Effect::Ends(Some(Key::RowEnd)),
+        0x48 => Effect::Ends(Some(Key::RowHome)),
+        0x40..=0x7E => Effect::Ends(None),
+        _ => Effect::ReadAfresh,
+    }
+}
+
+/// The effect of a byte after a beginning.
 fn effect_after(beginning: Beginning, byte: u8) -> Effect {
     match beginning {
-        Beginning::Escape => match byte {
-            0x20..=0x2F => Effect::Waits,
-            0x30..=0x4E => Effect::Ends(None),
-            0x4F => Effect::Waits,
-            0x50..=0x5A => Effect::Ends(None),
-            0x5B => Effect::Waits,
-            0x5C..=0x7E => Effect::Ends(None),
-            _ => Effect::ReadAfresh,
-        },
-        Beginning::Csi => match byte {
-            0x20..=0x3F => Effect::Waits,
-            0x41 => Effect::Ends(Some(Key::Up)),
-            0x42 => Effect::Ends(Some(Key::Down)),
-            0x43 => Effect::Ends(Some(Key::Right)),
-            0x44 => Effect::Ends(Some(Key::Left)),
-            0x46 => Effect::Ends(Some(Key::RowEnd)),
-            0x48 => Effect::Ends(Some(Key::RowHome)),
-            0x40..=0x7E => Effect::Ends(None),
-            _ => Effect::ReadAfresh,
-        },
+        Beginning::Escape => effect_after_escape(byte),
+        Beginning::Csi => effect_after_csi(byte),
         Beginning::Ss3 => match byte {
             0x20..=0x7E => Effect::Ends(None),
             _ => Effect::ReadAfresh,
@@ -110,6 +129,7 @@ fn effect_after(beginning: Beginning, byte: u8) -> Effect {
             0x80..=0xBF => inserts(0xC0 + (u32::from(byte) - 0x80)),
             _ => Effect::ReadAfresh,
         },
+        // after E0 (Unicode, table 3-7)
         Beginning::ThreeBytes => match byte {
             0xA0..=0xBF => Effect::Waits,
             _ => Effect::ReadAfresh,
@@ -119,6 +139,7 @@ fn effect_after(beginning: Beginning, byte: u8) -> Effect {
             0x80..=0xBF => inserts(0x2000 + (u32::from(byte) - 0x80)),
             _ => Effect::ReadAfresh,
         },
+        // after F0 (Unicode, table 3-7)
         Beginning::FourBytes => match byte {
             0x90..=0xBF => Effect::Waits,
             _ => Effect::ReadAfresh,
@@ -131,6 +152,7 @@ fn effect_after(beginning: Beginning, byte: u8) -> Effect {
     }
 }
 
+/// The effect of a byte that ends the character of this code.
 fn inserts(code: u32) -> Effect {
     Effect::Ends(char::from_u32(code).map(Key::Insert))
 }
