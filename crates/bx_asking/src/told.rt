@@ -1,4 +1,4 @@
-//! What is told of a unit: its first characters with their classes, and its level.
+//! What is told of a unit in the status row: its first four characters with their classes, and its level.
 ghost use Rattle.std.specs.Prelude.{◌≡◌, ◌++◌, ◌∷◌, [], ◌<◌, IfOk, chars, drop, slice_get, string_bytes, Some, true};
 ghost use Rattle.bx_terms.specs.Characters.{are_ascii_printable};
 ghost use Rattle.bx_asking.specs.Told.{behind, character_text, class_name, code_text, digit_at, hex_digit, last_four, level_text, others_text, told_text};
@@ -19,7 +19,7 @@ fn hex_digit(digit: u32) -> char
     char::from(b'A' + (digit - 10) as u8)
 }
 
-/// Writes the digit of a code at a power of 16.
+/// Writes the hexadecimal digit of a code at a power of 16.
 fn push_digit(line: &mut String, code: u32, power: u32) -> Result<(), AllocError>
     requires { 0 < power }
     ensures { IfOk result (λ _. string_bytes line.new ≡ string_bytes line.old ++ digit_at code power ∷ []) }
@@ -39,7 +39,7 @@ fn push_last_four(line: &mut String, code: u32) -> Result<(), AllocError>
     Ok(())
 }
 
-/// Writes a code of four to six digits.
+/// Writes a code with four to six digits, as many as it needs.
 fn push_code(line: &mut String, code: u32) -> Result<(), AllocError>
     ensures { IfOk result (λ _. string_bytes line.new ≡ string_bytes line.old ++ code_text code) }
 {
@@ -100,7 +100,7 @@ fn push_character<D: BidiData>(line: &mut String, tables: &D, c: char) -> Result
     Ok(())
 }
 
-/// Writes a character behind a blank, if there is one.
+/// Writes a blank and a character after it, if there is one.
 fn push_behind<D: BidiData>(
     line: &mut String,
     tables: &D,
@@ -118,7 +118,7 @@ fn push_behind<D: BidiData>(
     }
 }
 
-/// The first character, if there is one, and the others.
+/// The first character of a text, if it has one, and the text after it.
 fn next_char(text: &str) -> (Option<char>, &str)
     ensures first { result.0 ≡ slice_get (chars text.now) 0 }
     ensures others { chars result.1.now ≡ drop 1 (chars text.now) }
@@ -129,7 +129,7 @@ fn next_char(text: &str) -> (Option<char>, &str)
     }
 }
 
-/// Writes the rest of a unit after its first character: three more at most, and a sign if there are others.
+/// Writes the rest of a unit after its first character: three more at most, and `...` if there are others.
 fn push_others<D: BidiData>(line: &mut String, tables: &D, others: &str) -> Result<(), AllocError>
     ensures { IfOk result (λ _. string_bytes line.new ≡ string_bytes line.old ++ others_text (D.data tables.now) (chars others.now)) }
 {

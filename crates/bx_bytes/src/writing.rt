@@ -1,4 +1,4 @@
-//! Writing bytes until a writer has all of them.
+//! Writing bytes until a writer has all of them, or fails.
 
 ghost use Rattle.std.specs.Prelude.{◌≤◌, IfErr, OnOk, length, take};
 ghost use Rattle.std.specs.Io.KnownBytes.{Appends, WriteAppends};
@@ -12,7 +12,7 @@ use thiserror::Error;
 #[derive(Clone, Copy, PartialEq, Eq, Debug, Error)]
 #[error("the write failed after {written} bytes")]
 pub struct WriteFault {
-    /// Number of bytes that were written before.
+    /// The number of bytes that were written before the failure.
     pub written: usize,
 }
 
@@ -39,6 +39,7 @@ pub fn write_all<W: Write>(writer: &mut W, bytes: &[u8]) -> Result<(), WriteFaul
     ensures part { IfErr result (λ fault. Appends (W.contents writer.old) (W.contents writer.new) (take fault.written bytes.now)) }
 {
     let mut written = 0;
+    // In effect without end: so many writes never come.
     'writes: for _ in 0..u64::MAX {
         if written == bytes.len() {
             return Ok(());

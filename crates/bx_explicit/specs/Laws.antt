@@ -1,4 +1,4 @@
--- A law of the rules for explicit levels.
+-- Laws of the rules for explicit levels: the states give the levels, and their stacks have room.
 use Rattle.std.specs.Prelude.{◌≡◌, ◌≤◌, ℕ, ◌+◌, List, [], ◌∷◌, Option, All, length}
 use Rattle.bx_ucd.specs.declared.class.Class.{Class}
 use Rattle.bx_explicit.specs.declared.entry.ExplicitChar.{ExplicitChar}
@@ -23,7 +23,7 @@ given_between (s ∷ []) cs = []
 given_between (s ∷ t ∷ ss) [] = []
 given_between (s ∷ t ∷ ss) (c ∷ cs) = kept_by (role_of c) c s t ∷ given_between (t ∷ ss) cs
 
--- these states give each character its explicit level
+-- the states over a paragraph give each character its explicit level
 abbrev pub StatesGiveLevels : Type 0
 StatesGiveLevels = (level : ℕ) (cs : List Class) → given_between (states level cs) cs ≡ explicit_levels level cs
 
@@ -31,6 +31,6 @@ StatesGiveLevels = (level : ℕ) (cs : List Class) → given_between (states lev
 abbrev pub HasRoom : State → Type 0
 HasRoom s = length s.stack ≤ max_depth + 2
 
--- over any text each state keeps to it
+-- over any text, the stack of each state has room
 abbrev pub AlwaysHasRoom : Type 0
 AlwaysHasRoom = (level : ℕ) (cs : List Class) → level ≤ max_depth → All HasRoom (states level cs)

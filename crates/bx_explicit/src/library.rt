@@ -14,10 +14,10 @@ use smallvec::SmallVec;
 use std::alloc::{AllocError, Global};
 use std::marker::Model;
 
-/// The indexes of a sequence. Up to 8 need no allocation.
+/// The indexes of a sequence. Up to 8, a chosen number, need no allocation.
 type Indexes = SmallVec<usize, 8>;
 
-/// An isolating run sequence.
+/// An isolating run sequence: the indexes and the level of its characters, and the types before and after them (X10).
 #[derive(Drop)]
 pub struct Sequence {
     indexes: Indexes,
@@ -72,7 +72,7 @@ impl Sequence {
     }
 }
 
-/// Appends the indexes of the run that begins at `first`.
+/// Appends the indexes of the run of `level` that begins at index `first`.
 fn add_run(
     indexes: &mut Indexes,
     kept: &[Option<ExplicitChar>],
@@ -94,7 +94,7 @@ fn add_run(
     Ok(())
 }
 
-/// The indexes of the runs of one level that begin at `firsts`.
+/// The indexes of the runs of one level that begin at the indexes `firsts`.
 fn indexes_from(
     alloc: Global,
     kept: &[Option<ExplicitChar>],

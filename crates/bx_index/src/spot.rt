@@ -1,4 +1,4 @@
-//! Where paragraphs are stored in the blocks.
+//! Where paragraphs are stored in the blocks: the spots that a walk goes through.
 
 ghost use Rattle.std.specs.Prelude.{◌≡◌, ◌+◌, ◌-◌, ◌<◌, ◌≤◌, [], length, take, get_or, MatchOption};
 ghost use Rattle.bx_index.specs.Flat.{flat};
@@ -12,7 +12,7 @@ use crate::lengths::Lengths;
 pub struct Spot {
     /// The paragraph's number, from 0.
     pub number: usize,
-    /// The number of its block, from 0.
+    /// The number of its block, from 0; for the text's last paragraph, the number of blocks.
     pub block: usize,
     /// Its index in the block, from 0.
     pub within: usize,
@@ -32,7 +32,7 @@ pub fn spot_of(blocks: &Blocks, number: usize) -> Spot
     }
 }
 
-/// The first block from `from` on that has a paragraph; the number of blocks if none has.
+/// The number of the first block from the block `from` on that has a paragraph; the number of blocks if none has.
 #[tactic(auto, using(crate::proofs::Flats::length_flat_more))]
 fn first_filled(blocks: &Blocks, from: usize) -> usize
     requires { from ≤ length blocks.now.blocks }
@@ -50,7 +50,7 @@ fn first_filled(blocks: &Blocks, from: usize) -> usize
     at
 }
 
-/// The last block before `to` that has a paragraph, and its number of paragraphs.
+/// The number of the last block before the block `to` that has a paragraph, and how many paragraphs it has.
 #[tactic(auto, using(crate::proofs::Flats::length_flat_more))]
 fn last_filled(blocks: &Blocks, to: usize) -> (usize, usize)
     requires inside { to ≤ length blocks.now.blocks }

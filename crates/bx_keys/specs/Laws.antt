@@ -1,4 +1,4 @@
--- Laws of items, of bytes that wait, of input in pieces and of the parts of input.
+-- Laws of items, of bytes that wait, of input in pieces and of the parts of input. `bs` are bytes.
 use Rattle.std.specs.Prelude.{◌≡◌, ◌↔◌, ℕ, ◌≤◌, List, [], ◌∷◌, ◌++◌, length, take, filter, flat_map, option_to_list}
 use Rattle.std.specs.List.{concat}
 use Rattle.bx_bytes.specs.declared.fate.Fate.{Fate}
@@ -22,12 +22,14 @@ ComesInPieces = (bs more : List ℕ) →
 
 -- ---- the parts of input
 
--- A part is a whole item, the beginning of one that the byte after it breaks, or one byte that begins none.
+-- A part is a whole item, the beginning of one that the byte after it breaks, or one byte that begins none. `after` is the
+-- bytes that follow it.
 abbrev pub IsPartBy : Fate → List ℕ → List ℕ → Type 0
 IsPartBy Ends part after = Unit {0}
 IsPartBy Waits part after = (1 ≤ length part) × (fate (part ++ take 1 after) ≡ Breaks)
 IsPartBy Breaks part after = length part ≡ 1
 
+-- a part of input, by the bytes that follow it
 abbrev pub IsPart : List ℕ → List ℕ → Type 0
 IsPart part after = IsPartBy (fate part) part after
 

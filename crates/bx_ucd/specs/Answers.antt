@@ -29,7 +29,7 @@ default (Default r) = Some r
 abbrev pub class_by_ranges : List ClassRange → ℕ → Option Class
 class_by_ranges ranges code = option_map (λ r. r.class) (find_last (λ r. covers r.range code) ranges)
 
--- the class of the last data line that covers the code, else of the last default that does, else L
+-- the class of the last data line that covers the code, else of the last default (`@missing` line) that does, else L
 abbrev pub class_by_lines : List ClassEntry → ℕ → Class
 class_by_lines entries code = unwrap_or (option_or (class_by_ranges (filter_map given entries) code) (class_by_ranges (filter_map default entries) code)) L
 
@@ -37,6 +37,6 @@ class_by_lines entries code = unwrap_or (option_or (class_by_ranges (filter_map 
 abbrev pub bracket_by_lines : List BracketEntry → ℕ → Option (Side × ℕ)
 bracket_by_lines entries code = option_map (λ e. (e.side, e.paired)) (find_last (λ e. e.bracket == code) entries)
 
--- the mirrored character, by the last line for it
+-- the mirror of a character, by the last line for it
 abbrev pub mirror_by_lines : List MirrorEntry → ℕ → Option ℕ
 mirror_by_lines entries code = option_map (λ e. e.mirror) (find_last (λ e. e.character == code) entries)

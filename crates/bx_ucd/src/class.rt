@@ -3,7 +3,8 @@
 ghost use Rattle.std.specs.Prelude.{◌≡◌};
 ghost use Rattle.bx_ucd.specs.Class.{is_initiator, is_strong, is_neutral, is_unlettered, direction};
 
-/// A bidirectional class, under its short name in the data files.
+/// A bidirectional class, under its short name in the data files. The order of the formatting classes, LRE to PDI without another
+/// between them, makes a test for them one range test (`bx_resolve/src/uniform.rt`).
 #[derive(Clone, Copy, PartialEq, Eq, Debug)]
 pub enum Class {
     /// Left_To_Right
@@ -68,7 +69,8 @@ pub fn is_strong(class: Class) -> bool
     matches!(class, Class::L | Class::R | Class::AL)
 }
 
-/// Whether the class is one of marks, joiners and formatting characters, which have no letter of their own.
+/// Whether the class is one of combining marks (NSM), of joiners and control characters (BN), or of formatting characters, which
+/// have no letter of their own.
 #[inline(always)]
 pub fn is_unlettered(class: Class) -> bool
     ensures { result ≡ is_unlettered class }

@@ -13,8 +13,9 @@ type Classes = [Class; BLOCK_SIZE];
 /// The class of each code point. Equal blocks are stored once.
 #[derive(Drop)]
 pub struct ClassTable {
-    /// For each 256 codes, the index of their block in `stored`.
+    /// For each 256 codes, the index of their block in `stored`. 16 bits suffice: there are 4352 blocks at most (`BLOCK_COUNT`).
     numbers: Vec<u16>,
+    /// The different blocks, in the order in which they were first met.
     stored: Vec<Classes>,
     ghost complete: { vec_len numbers ≡ 4352 },
     ghost in_range: { All (λ n. n < vec_len stored) numbers.items },
