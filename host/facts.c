@@ -26,6 +26,7 @@ struct letters {
     size_t count;
 };
 
+/* Appends a letter, if it is so. */
 static void put_letter(struct letters *letters, char letter, bool is_so) {
     if (is_so && letters->count + 1 < sizeof letters->text) letters->text[letters->count++] = letter;
 }
@@ -40,7 +41,8 @@ static void escape(const char *path, char *escaped, size_t room) {
     escaped[length] = 0;
 }
 
-/* Looks for a path without links in the kernel's list of mounts, where it is the fifth word of a line. */
+/* Looks for a path without links in the kernel's list of mounts, where it is the fifth word of a line. 16383 is a byte less than
+ * `root` has. */
 static enum answer is_in_mounts(const char *real) {
     static char escaped[4 * PATH_MAX], words[4 * PATH_MAX + 256], root[4 * PATH_MAX];
     FILE *mounts = fopen("/proc/self/mountinfo", "re");
@@ -53,6 +55,7 @@ static enum answer is_in_mounts(const char *real) {
     return found;
 }
 
+/* Whether something is mounted at a path: by the kernel's word, else by its list. */
 static enum answer is_mount(const char *path, const char *real) {
     struct statx look;
     if (statx(AT_FDCWD, path, AT_STATX_DONT_SYNC, 0, &look) == 0 && (look.stx_attributes_mask & STATX_ATTR_MOUNT_ROOT))
@@ -60,6 +63,7 @@ static enum answer is_mount(const char *path, const char *real) {
     return is_in_mounts(real);
 }
 
+/* Whether a folder's files are in memory, and on no disk. */
 static bool is_in_memory(const char *folder) {
     struct statfs look;
     if (statfs(folder, &look) != 0) return false;
@@ -74,6 +78,9 @@ static bool is_held_by_folder(struct path path, const struct stat *look) {
     return user != 0 && user != look->st_uid && user != folder.st_uid;
 }
 
+/* r, w and x: the user may read, write, and run or enter it; l: it has an access list; s: a label, as has_label says; m: it is a
+ * mount; k: its folder keeps the user from replacing it; ?: one of l, s and m is not known. add_facts adds t: it is, or would be,
+ * in memory. */
 static void put_own_letters(struct letters *letters, const char *path, const struct path *real, const struct stat *look) {
     struct path above = *real;
     go_up(&above);
@@ -88,6 +95,7 @@ static void put_own_letters(struct letters *letters, const char *path, const str
     put_letter(letters, '?', list == UNKNOWN || label == UNKNOWN || mount == UNKNOWN);
 }
 
+/* The bytes that the user may still write there; root may take the reserve too. */
 static uint64_t free_room(const char *folder) {
     struct statvfs look;
     if (statvfs(folder, &look) != 0) return 0;
@@ -112,6 +120,7 @@ void add_facts(struct queue *queue, const char *path) {
     put_letter(&letters, 't', is_in_memory(folder.text));
     long longest = pathconf(folder.text, _PC_NAME_MAX);
     add_message(queue, 'a', letters.text);
+    /* 255 is what most file systems have */
     add_number(queue, 'l', longest > 0 ? (uint64_t)longest : 255);
     add_number(queue, 'm', free_room(folder.text));
     add_message(queue, 'r', real.text);

@@ -12,12 +12,13 @@ extern volatile sig_atomic_t end_signal, is_resized, is_continued;
 /* When the first signal came that asked for the end. */
 extern volatile int64_t end_time;
 
+/* Blocks the signals, and sets their handlers. */
 void set_signals(void);
 
 /* Gives a child the signals that the host was started with. */
 void give_back_signals(void);
 
-/* Lets the host's own timer ring, or no more. */
+/* Unblocks SIGALRM, by which the host's own timer rings, or blocks it again. */
 void let_timer_in(bool is_let);
 
 /* Waits for the files and for signals until the time `end`, for ever where it is 0. Returns what poll returns. */

@@ -8,10 +8,12 @@
 #include <termios.h>
 #include <unistd.h>
 
+/* The longest side of a window, as in the editor; the bytes that wait for the terminal at most; how often settings are tried. */
 enum { LONGEST = 500, MOST_SHOWN = 16384, TRIES = 3 };
 
 int line = -1, screen = -1;
 struct queue shown;
+/* The settings from before, and the host's own. */
 static struct termios cooked, raw;
 
 bool open_terminal(void) {
@@ -39,6 +41,7 @@ bool measure(struct size *size) {
 
 bool note_settings(void) {
     if (tcgetattr(line, &cooked) != 0) return false;
+    /* as `stty raw -echo -iexten` sets them */
     raw = cooked;
     raw.c_iflag &= ~(tcflag_t)(IGNBRK | BRKINT | IGNPAR | PARMRK | INPCK | ISTRIP | INLCR | IGNCR | ICRNL);
     raw.c_iflag &= ~(tcflag_t)(IXON | IXOFF | IXANY | IUCLC | IMAXBEL);

@@ -14,4 +14,4 @@ command -v python3 >/dev/null || {
     echo 'skipped: bidi_keep is not built'
     exit 77
 }
-exec python3 "$top/host/tests/check_keeper.py" "$keeper" "$top/data" "$@"
+exec python3 -B "$top/host/tests/check_keeper.py" "$keeper" "$top/data" "$@"

@@ -15,7 +15,7 @@ set -eu
 export LC_ALL=C
 
 top=$(cd "$(dirname "$0")/.." && pwd)
-editor=$top/crates/bidi_edit/out/bidi_edit
+# all sizes are divided by it
 part=1
 if [ "${1:-}" = --quick ]; then
     part=10
@@ -31,19 +31,8 @@ for run in $asked; do
         ;;
     esac
 done
-if ! [ -x "$editor" ]; then
-    echo 'skipped: the program is not built (rt run in crates/bidi_edit builds it)'
-    exit 77
-fi
-if ! command -v python3 >/dev/null 2>&1; then
-    echo 'skipped: there is no python3'
-    exit 77
-fi
-
-folder=$(mktemp -d)
-trap 'rm -rf "$folder"' EXIT
-trap 'exit 1' HUP INT TERM
-cd "$folder"
+# shellcheck source=scripts/own_folder.sh
+. "$top/scripts/own_folder.sh"
 passed=0 failed=0
 
 # Limits of a run, in seconds of processor time and of wall time on a busy machine.
@@ -110,15 +99,16 @@ run_editor() { # ROWS COLS COMMAND..
         text 2>told | "$@"
 }
 
-# The beginning of a whole painting, and the move to the first cell, at its end on a blank screen.
+# The beginning of a whole painting, 8 bytes, and the move to the first cell, 6 bytes, at its end on a blank screen.
 cleared=$(printf '\033[0m\033[2J') first_cell=$(printf '\033[1;1H')
 
-# Keeps the first eight bytes and the last fourteen.
+# Keeps the first eight bytes and the last fourteen, as many as those have.
 keep_ends() {
     head -c 8 >beginning
     tail -c 14 >end
 }
 
+# Notes what is wrong with the run, in `wrong`, which `report` tells.
 differ() { # WORDS
     wrong="$wrong, $1"
 }
@@ -151,12 +141,14 @@ check_noise() { # ROWS COLS COUNT
     report "noise of $3 bytes in $1x$2"
 }
 
-# Prints the end of the painting at opening in 24x80.
+# Prints the end of the painting at opening in 24x80: the rendition sequence BEFORE (may be empty), the status row `- 1:1`, whose
+# blank the cleared screen has, and the cursor's move to the first cell.
 opening_end() { # BEFORE
     printf '\033[24;1H%b-\033[24;3H1:1\033[1;1H' "$1"
 }
 
-# Prints the painting at opening of 23 rows equal to the file `row`, with rendition sequences before and after each.
+# Prints the painting at opening of 23 rows equal to the file `row`, with the rendition sequence BEFORE before the first row and
+# BEHIND before the status row; each may be empty.
 opening_of_rows() { # BEFORE BEHIND
     printf '\033[0m\033[2J'
     line=1
@@ -195,6 +187,7 @@ check_text() { # NAME BYTES
 
 # ---- all runs
 
+# Whether this run is to be made: all are where none is named.
 is_asked() { # RUN
     [ -z "$asked" ] || case " $asked " in
     *" $1 "*) ;;
@@ -207,10 +200,12 @@ for window in 24x80 1x1 100x400; do
     is_asked "$window" || continue
     check_noise "${window%x*}" "${window#*x}" $((4000000 / part))
 done
+# a painting of this window takes the longest
 if is_asked 500x500; then
     check_noise 500 500 $((50000 / part))
 fi
 
+# the greatest length of a text, or a tenth, but even, since brackets are pairs
 bytes=$((16777216 / part / 2 * 2))
 if is_asked line; then
     repeated a "$bytes" >original

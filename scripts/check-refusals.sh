@@ -1,7 +1,8 @@
 #!/bin/sh
-# check-refusals.sh [SESSIONS]: runs the built programs with one memory growth refused: the first, the second and so on, until a
-# run needs no more. It is not part of `rt ci`. The last lines count the runs by kind. Exit status 1: a run does something that
-# no refusal may cause, or a required kind did not occur; 77: nothing failed and something could not run.
+# check-refusals.sh [SESSIONS]: runs the built programs with one memory growth (an allocation: a call of malloc and the like)
+# refused: the first, the second and so on, until a run needs no more. It is not part of `rt ci`. The last lines count the runs by
+# kind. Exit status 1: a run does something that no refusal may cause, or a required kind did not occur; 77: nothing failed and
+# something could not run.
 #
 # A library in C, which scripts/refusals/loaded.sh builds, is loaded into each program. It refuses the growth, gives the program
 # its input one byte a read, and reports how many bytes were read at the refusal.
@@ -19,7 +20,7 @@
 #    - no memory for the answers of a play: all is as without steps;
 #    - no memory for a Save: all else is as with a failing call of the store;
 #    - no memory for the text at the scene's end: it is `?`, and all else is the same.
-#    So the check detects two refusals in one run, and a refusal with any other effect.
+#    So a run with two refusals, or with one that has any other effect, fails the check.
 # 2. Worked scenes: one run of each must give exactly the answer in scripts/refusals/scenes.sh.
 # 3. ucd_lookup with a class file: it answers as without a refusal, or reports that memory ran out.
 # 4. Twenty of the recorded sessions in SESSIONS (see sessions.sh) by bidi_edit. A run must print, leave and end as the session
@@ -28,9 +29,9 @@
 #    - a dropped key: all is as with a byte that ends no key in K's place;
 #    - a failed save: all is as with renames refused after K, or with the first rename refused if the store's growth was refused
 #      before the first byte;
-#    - a postponed painting: status, fault and FILE are as without the refusal, and K sends nothing. With Repaint typed after K
-#      and the same growth refused, all is as in the session with Repaint and without a refusal, except for the bytes that K
-#      sends.
+#    - a painting put off (owed, as docs/ARCHITECTURE.md says): status, fault and FILE are as without the refusal, and K sends
+#      nothing. With Repaint typed after K and the same growth refused, all is as in the session with Repaint and without a
+#      refusal, except for the bytes that K sends.
 set -eu
 export LC_ALL=C
 
@@ -53,6 +54,7 @@ trap 'rm -rf "$scratch"' EXIT
 trap 'exit 1' HUP INT TERM
 cd "$scratch"
 failed=0 skipped=0
+# a line for each run that does what it may: its kind
 : >kinds
 
 skip() { # WORDS

@@ -1,9 +1,9 @@
 #!/bin/sh
-# Runs the editor on a shared system: with other users and their files, with a second start, in a second process namespace, on
-# a small disk, and with simultaneous signals. Each part of scripts/shared_system runs as root and as a plain user
-# (setpriv), in tmux. As a plain user it checks only what needs no root. Names after it select parts and checks whose
-# names begin so. The last line has the totals. Exit status 1: a check failed; 77: tmux, setpriv or the built programs are
-# missing.
+# check-shared-system.sh [NAME..]: runs the editor on a shared system: with other users and their files, with a second start, in a
+# second process namespace, on a small disk, and with simultaneous signals. Each part of scripts/shared_system runs as root and as
+# a plain user (setpriv), in tmux; if a plain user starts the script, only as that user, without what needs root. A NAME selects
+# the parts whose names begin with it. The last line has the totals. Exit status 1: a check failed; 77: tmux, setpriv or the built
+# programs are missing.
 set -u
 
 export LC_ALL=C.UTF-8
@@ -25,10 +25,11 @@ done
 # shellcheck disable=SC2034
 wanted="$*"
 passed=0 failed=0 skipped=0
+# the folder of all rounds, and the places that are to be unmounted at the end
 room=$(mktemp -d) || exit 1
+mounted=''
 chmod 755 "$room"
 socket=bidi-edit-$$
-mounted=''
 clean_up() {
     tmux -L "$socket" kill-server 2>/dev/null
     for each in $mounted; do umount "$each"; done
@@ -39,9 +40,7 @@ trap 'exit 1' HUP INT TERM
 
 # Settings of a check for its own sessions; see scripts/launcher/person.sh.
 # shellcheck disable=SC2034
-tables='' setup='' cleanup='' redirection='' is_flooded='' lines_told=1
-# shellcheck disable=SC2034
-key_reader='.*bidi_input'
+tables='' setup='' cleanup='' redirection='' is_flooded=''
 # shellcheck source=scripts/launcher/person.sh
 . "$top/scripts/launcher/person.sh"
 # shellcheck source=scripts/launcher/recorder.sh
@@ -57,7 +56,9 @@ for file in "$top"/scripts/shared_system/*.sh; do
 done
 
 install_copy
+# keeps the tmux server alive between two checks
 terminal -f /dev/null new-session -d -s keep -x 80 -y 24 'sleep 36000'
+# 61001 and 61002 are users that no system should have
 if [ "$(id -u)" = 0 ]; then
     run_round 0 61001
     run_round 61001 61002

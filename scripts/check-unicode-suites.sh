@@ -1,7 +1,7 @@
 #!/bin/sh
-# Runs unicode_suites on Unicode's test suites, from Debian's package unicode-data, and compares the number of agreeing cases
-# with the number of cases in the files; for clusters with the number known to agree. A folder after it replaces the package's;
-# files may be packed. Exit status 1: a number differs; 77: a file is missing.
+# check-unicode-suites.sh [FOLDER]: runs unicode_suites on Unicode's test suites, from FOLDER or from Debian's package
+# unicode-data, and compares the number of agreeing cases with the number of cases in the files; for clusters with the number
+# known to agree. The files may be packed. Exit status 1: a number differs; 77: a file is missing.
 set -eu
 export LC_ALL=C
 
@@ -13,7 +13,7 @@ scratch=$(mktemp -d)
 trap 'rm -rf "$scratch"' EXIT
 
 # Copies the file with this name, unpacked, to the scratch folder.
-unpack() {
+unpack() { # NAME
     found=$(find "$folder" -name "$1" -o -name "$1.gz" -o -name "$1.bz2" -o -name "$1.xz" | sort | head -n 1)
     case $found in
     '') return 1 ;;
@@ -48,7 +48,7 @@ want() { # LINE
     }
 }
 
-# The number of clusters that agree in a file of another version of Unicode. Of 15.0.0 all agree but one: two U+2701 and a
+# Prints the number of clusters that agree in a file of another version of Unicode. Of 15.0.0 all agree but one: two U+2701 and a
 # joiner between them, which are no longer one cluster.
 known_clusters() { # VERSION
     case $1 in
@@ -57,9 +57,11 @@ known_clusters() { # VERSION
     esac
 }
 
+# a case of BidiTest counts once for each of the directions in its bitset: 1 auto, 2 left to right, 4 right to left
 characters=$(grep -c '^[0-9A-F]' BidiCharacterTest.txt)
 sequences=$(awk -F';' '/^[A-Z]/ { n += $2 % 2 + int($2 / 2) % 2 + int($2 / 4) % 2 } END { print n }' BidiTest.txt)
 clusters=$(grep -c '^÷' GraphemeBreakTest.txt)
+# what the program says before the number of clusters where the file is of another version than its own
 skipped=$(sed -n 's/^GraphemeBreakTest: \(skipped, the file is of [^ ]* and the code of [^ ]*; \).*/\1/p' found)
 version=$(sed -n '1s/^# GraphemeBreakTest-\(.*\)\.txt.*/\1/p' GraphemeBreakTest.txt)
 agreeing=$clusters

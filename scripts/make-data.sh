@@ -1,5 +1,5 @@
 #!/bin/sh
-# Writes data/ from Unicode's five files, from Debian's package unicode-data or from the folder named after it. It keeps facts
+# make-data.sh [FOLDER]: writes data/ from Unicode's five files, from Debian's package unicode-data or from FOLDER. It keeps facts
 # only, in the files' own format: the ranges with their classes, also the @missing ones, the brackets, the mirrors, the joining
 # types, and of UnicodeData.txt the lines that give a letter's form. It joins adjacent ranges of one class, and drops comments
 # and names. scripts/check-data.sh compares the answers.
@@ -12,13 +12,13 @@ classes=$folder/extracted/DerivedBidiClass.txt
 data=$(dirname "$0")/../data
 mkdir -p "$data"
 
-# Writes a file's version, and that the file is generated.
-head_line() {
+# Prints the first line of a table: the version of Unicode's file, and that the table is made from it.
+head_line() { # FILE
     sed -n '1s/^# *\(.*\)\.txt.*$/# \1, its facts alone, by scripts\/make-data.sh/p' "$1"
 }
 
 # Prints a file's data lines without comments and blanks.
-facts() {
+facts() { # FILE
     sed -e 's/#.*//' -e 's/[[:blank:]]//g' -e '/^$/d' "$1"
 }
 

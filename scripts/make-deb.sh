@@ -35,6 +35,7 @@ has_tool() { # NAME TOOL
     return 1
 }
 
+# Refuses a program that is not built and proved.
 need_proved() { # PROGRAM
     built=$top/crates/$1/out/$1
     if ! [ -x "$built" ] || ! [ -f "$built.stamp" ]; then refuse "$built is not built and proved: launcher/proving/prove.sh . $1 does it"; fi
@@ -59,6 +60,7 @@ libc_version() { # PROGRAM..
     grep -a -h -o 'GLIBC_[0-9][0-9.]*' "$@" | sed 's/GLIBC_//' | sort -u -V | tail -n 1
 }
 
+# Writes the package's description, and the sums of its files.
 make_control() { # FOLDER MAINTAINER
     cat >"$1/DEBIAN/control" <<END
 Package: bidi-edit
@@ -79,6 +81,7 @@ END
     (cd "$1" && find usr -type f -exec md5sum {} +) >"$1/DEBIAN/md5sums"
 }
 
+# Writes the package's copyright and changelog.
 make_documents() { # FOLDER MAINTAINER
     documents=$1/usr/share/doc/bidi-edit
     mkdir -p "$documents"
@@ -122,6 +125,7 @@ fi
 END
 }
 
+# Makes the package from `package`, its tree. The maintainer is the author of the last commit.
 make_package() {
     package=$folder/package
     maintainer=$(git -C "$top" log -1 --format='%an <%ae>' 2>/dev/null) || maintainer='bidi_edit maintainers <root@localhost>'
@@ -146,6 +150,7 @@ make_tar() {
 
 # ---- the checks
 
+# Whether a row of the screen has this text.
 has_line() { # TEXT
     tmux -L "$socket" capture-pane -p -t person | grep -q -F -e "$1"
 }
@@ -172,6 +177,7 @@ exec sleep 600
 END
     tmux -u -L "$socket" -f /dev/null new-session -d -s person -x 60 -y 8 "sh '$folder/run'"
     wait_for 100 has_line '1:1' || :
+    # the forms of the word's letters from left to right: an isolated beh, a final alef, an initial beh
     has_line "$(printf '\357\272\217\357\272\216\357\272\221')" && found=0 || found=1
     report "$1, used: joined letters" "$found" 'the word is not seen joined'
     type_keys א
@@ -186,7 +192,8 @@ END
     tmux -L "$socket" kill-session -t person
 }
 
-tell_version() { # NAME FOLDER
+# Checks the version that the host of a tree tells.
+check_version() { # NAME FOLDER
     same "$1, the version" "$(BIDI_EDIT_DATA="$2/share/bidi_edit" "$2/bin/bidi-edit" --version | head -n 1)" "bidi-edit $version"
 }
 
@@ -205,7 +212,7 @@ check_manual() {
     same 'manual, its version' "$(sed -n '1s/.*"bidi_edit \([^"]*\)".*/\1/p' "$manual")" "$version"
 }
 
-# Runs a command in a root folder with dpkg's list and without the C library.
+# Runs dpkg with these words on a root folder that has its lists and no C library.
 in_root() { # WORD..
     PATH=$PATH:/usr/sbin:/sbin dpkg --root="$folder/tree" --force-not-root --force-depends --force-script-chrootless --log=/dev/null "$@" >"$folder/dpkg" 2>&1
 }
@@ -221,7 +228,7 @@ check_package() {
         '/etc/alternatives/editor /usr/bin/bidi-edit'
     same 'package, as editor: its manual' "$(readlink "$folder/tree/usr/share/man/man1/editor.1.gz" "$folder/tree/etc/alternatives/editor.1.gz" | paste -s -d ' ')" \
         '/etc/alternatives/editor.1.gz /usr/share/man/man1/bidi-edit.1.gz'
-    tell_version package "$folder/tree/usr"
+    check_version package "$folder/tree/usr"
     use package "$folder/tree/usr"
     in_root --purge bidi-edit && found=0 || found=1
     report 'package, removed' "$found" "$(cat "$folder/dpkg")"
@@ -231,7 +238,7 @@ check_package() {
 check_tar() {
     mkdir "$folder/unpacked"
     tar -C "$folder/unpacked" -xzf "$target/$name.tar.gz"
-    tell_version tar "$folder/unpacked/bidi-edit-$version"
+    check_version tar "$folder/unpacked/bidi-edit-$version"
     use tar "$folder/unpacked/bidi-edit-$version"
     same 'tar, the same tree' "$(cd "$folder/unpacked/bidi-edit-$version" && find . ! -type d | sort)" \
         "$(cd "$package/usr" && find . ! -type d ! -path '*/lintian/*' | sort)"

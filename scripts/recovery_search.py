@@ -12,7 +12,8 @@ class Search:
     def __init__(self):
         # a search is None, begun or typed, or asks for the other text with begun or with typed, or is at a match, replacing
         self.search, self.query, self.origin = None, "", 0
-        # what a search is for, find or replace; the text that takes a match's place, the match, and the number of those replaced
+        # what a search is for, find or replace; the text that takes a match's place, the place of the match that is shown, and
+        # the number of those replaced
         self.aim, self.other, self.at, self.count = "find", "", 0, 0
 
     def begin_search(self, aim):
@@ -25,6 +26,7 @@ class Search:
         return letters.translate(FOUND_AS) if self.aim == "find" else letters
 
     def find_next(self):
+        """F3 without a search: the next match of the last query, or a search where there is no query yet."""
         if self.letters_of(self.query):
             self.unselect()
             self.aim = "find"
@@ -45,9 +47,11 @@ class Search:
         elif is_query:
             self.look_for(self.kept(self.query) + letter)
         else:
+            # as long as the editor's, as is the query in `look_for`
             self.search, self.other = "with typed", (self.kept(self.other) + letter)[:64]
 
     def answer_by_enter(self):
+        """What Enter does where letters are to be replaced."""
         if self.search == "replacing":
             self.replace_match()
         elif self.search in ("begun", "typed"):
@@ -56,7 +60,7 @@ class Search:
             self.show_match()
 
     def kept(self, text):
-        """What a letter is added to: where a search is begun or another text just asked for, the latest one gives way."""
+        """What a letter is added to; nothing where a search was begun or the other text just asked for: the old one gives way."""
         return "" if self.search in ("begun", "with begun") else text
 
     def look_for(self, query):
@@ -71,6 +75,7 @@ class Search:
         return [(places[i], places[i + len(query) - 1] + 1) for i in starts]
 
     def matches(self):
+        """Where the query stands."""
         return [start for start, _ in self.spans()]
 
     def look_from(self, place):
@@ -79,9 +84,11 @@ class Search:
         self.place = next((at for at in found if at >= place), found[0] if found else self.place)
 
     def look_on(self):
+        """Goes to the next match, from the last one to the first."""
         self.look_from(self.place + 1 if self.place < len(self.text) else 0)
 
     def look_back(self):
+        """Goes to the match before, from the first one to the last."""
         found = self.matches()
         self.place = next((at for at in reversed(found) if at < self.place), found[-1] if found else self.place)
 
@@ -106,6 +113,7 @@ class Search:
         return True
 
     def query_takes(self, name):
+        """What a key does while the query is typed. Returns False for one that ends the search and is then obeyed without it."""
         if name in ("erase", "delete"):
             self.place = self.origin
             self.look_for(self.kept(self.query)[:-1])
@@ -123,6 +131,7 @@ class Search:
         return True
 
     def other_takes(self, name):
+        """What a key does while the other text is typed. Returns as `query_takes`."""
         if name in ("erase", "delete"):
             self.search, self.other = "with typed", self.kept(self.other)[:-1]
         elif name in ("find", "find next", "find back"):
@@ -135,6 +144,7 @@ class Search:
         return True
 
     def match_takes(self, name):
+        """What a key does while a match is shown. Returns as `query_takes`."""
         if name in ("find", "find next"):
             self.go_on_from(self.at + 1)
         elif name == "find back":
@@ -156,6 +166,7 @@ class Search:
                 self.search, self.count = "with begun", 0
 
     def show_match(self):
+        """Asks about the match at the place."""
         self.search, self.at = "replacing", self.place
 
     def go_on_from(self, at):
@@ -167,7 +178,7 @@ class Search:
                 break
 
     def exchange(self, stop, new, count):
-        """Puts a text in the place of matches from the one that is shown on: as at most two edits, which are of one run."""
+        """Puts a text in the place of `count` matches, from the one shown up to `stop`: as at most two edits of one run."""
         at = self.at
         self.remove(at, stop)
         if new:
@@ -179,7 +190,7 @@ class Search:
         self.go_on_from(self.at + len(self.other))
 
     def replace_all(self):
-        """Replaces the match that is shown and each behind it that has no part in one before."""
+        """Replaces the match that is shown and each after it that has no part in one before."""
         new, stop, count = "", self.at, 0
         for start, end in self.spans():
             if start >= stop:

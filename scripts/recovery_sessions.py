@@ -16,13 +16,14 @@ from recovery_editor import BYTES, CLOSERS, MOVES, NAMED, Editor
 
 # each letter is a unit of its own in any context
 LETTERS = "abcxyz ,.()0123456789" + "\u05d0\u05d1\u05d2\u05e9\u05dc\u05de\u05dd" + "\u0623\u0627\u0628\u062a\u0645"
+# what `press` draws from: all keys once, and some once or twice more, so that they come more often
 NAMES = [*BYTES, "select", "undo run", "redo run", "enter", "tab", "size", "quit", "named", "replaced", "replaced"]
 # how keys1 end
 ENDS = ["no search", "in a search", "a search given up", "a search that a save ended", "in a paste", "a selection", "between runs",
         "in a question", "a named character", "a region in an isolate", "behind Tell", "the other text asked for", "a match shown",
         "matches replaced"]
-# the ends that have a method of their own
-PARTS = {"in a paste": "begin_paste", "a selection": "make_selection", "between runs": "type_runs", "in a question": "ask_something",
+# the method of each end that has one of its own
+METHODS = {"in a paste": "begin_paste", "a selection": "make_selection", "between runs": "type_runs", "in a question": "ask_something",
          "a named character": "name_character", "a region in an isolate": "wrap_letters", "behind Tell": "tell_letter",
          "the other text asked for": "ask_for_other", "a match shown": "show_some_match", "matches replaced": "replace_some"}
 # the first bytes of a character or a sequence
@@ -35,6 +36,7 @@ class Session(Editor):
     """An editor that random keys are typed into."""
 
     def press(self):
+        """A random key, or several that belong together: six of ten are letters."""
         name = random.choice(NAMES) if random.random() < 0.4 else "insert"
         if name == "insert":
             self.insert(random.choice(LETTERS))
@@ -70,7 +72,7 @@ class Session(Editor):
             self.enter() if name == "enter" else self.key(name)
 
     def search_ahead(self, name="find"):
-        """Searches for letters of one direction that stand behind the place, so that no message comes."""
+        """Searches for letters of one direction that stand after the place, so that no message comes."""
         words = "[a-z]+|[\u05d0-\u05ea]+|[\u0623-\u064a]+"
         if not re.search(words, self.text[self.place:]):
             self.key("text start")
@@ -87,8 +89,8 @@ class Session(Editor):
         self.insert("q")
         if end == "no search":
             return
-        if end in PARTS:
-            getattr(self, PARTS[end])()
+        if end in METHODS:
+            getattr(self, METHODS[end])()
             return
         self.search_ahead()
         if end == "in a search":
@@ -110,7 +112,7 @@ class Session(Editor):
             self.key(random.choice(MOVES))
 
     def type_runs(self):
-        """Types words, and takes some runs of them back, so that some are before the place in the history and some behind it."""
+        """Types words, and takes some runs of them back, so that some are before the place in the history and some after it."""
         for letter in random.sample(LETTERS, 9) + [" ", "x"]:
             self.insert(letter)
         for _ in range(random.randint(0, 2)):
@@ -144,7 +146,7 @@ class Session(Editor):
         self.insert(random.choice([*CLOSERS]))
 
     def ask_for_other(self):
-        """Asks for letters that stand behind the place, and then for those that are to take their place."""
+        """Asks for letters that stand after the place, and then for those that are to take their place."""
         self.search_ahead("replace")
         self.enter()
         for letter in random.choice(["b", "xy", "\u05d0\u05e9\u05dd", "\u0628\u0623"]):
@@ -155,7 +157,7 @@ class Session(Editor):
         self.enter()
 
     def replace_some(self):
-        """Replaces a match, or all behind it too. Where none is left, the number of them is told."""
+        """Replaces a match, or all after it too. Where none is left, the number of them is told."""
         self.show_some_match()
         if random.random() < 0.5:
             self.enter()
@@ -177,12 +179,15 @@ class Session(Editor):
 
 def files_of(number):
     """The files of a session."""
+    # two LF, so that lines end more often than any letter occurs
     session = Session("".join(random.choice(LETTERS + "\n\n") for _ in range(random.randint(0, 120))))
     files = {"file": session.text}
     for _ in range(random.randint(1, 60)):
         session.press()
+    # each end with each way
     end = ENDS[number // len(WAYS) % len(ENDS)]
     session.end_by(end)
+    # keys1 are up to here
     cut = len(session.keys)
     files["torn"] = random.choice(TORN)
     recovered = session.recovered()

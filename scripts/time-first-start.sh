@@ -22,7 +22,8 @@ kept_folder() {
     echo "${rt%/*/bin/rt}/rattle-kept"
 }
 
-# Runs this script again with an empty folder in place of that one.
+# Runs this script again, with an empty folder in place of the one with kept proofs (kept_folder), and in BIDI_EDIT_HIDDEN the
+# folder for all files of the run.
 hide_kept() { # WORD..
     for tool in rt tmux git unshare pgrep; do
         command -v "$tool" >/dev/null || skip "there is no $tool"
@@ -39,24 +40,30 @@ hide_kept() { # WORD..
 
 # ---- a start
 
+# Runs a command of tmux on the server of this run, whose session `person` has the editor.
 in_terminal() { # WORD..
     tmux -u -L "$socket" -f /dev/null "$@"
 }
 
+# Whether the editor has the screen.
 has_screen() {
     [ "$(in_terminal display-message -p -t person '#{alternate_on}')" = 1 ]
 }
 
+# Prints the last line on the screen.
 show_last() {
     in_terminal capture-pane -p -t person | grep . | tail -n 1
 }
 
+# Makes a clean clone of a commit, in a folder of this name; sets `clone` to its path.
 make_clone() { # COMMIT NAME
     clone=$folder/$2
     git clone -q "$top" "$clone"
     git -C "$clone" checkout -q "$1"
 }
 
+# Starts the building in the clone: with --crates alone, as the process `child`, else with the editor after it, in the terminal.
+# Notes the time in `begun`.
 begin() {
     begun=$(date +%s)
     : >"$folder/copies"
@@ -65,15 +72,18 @@ begin() {
         sh "$clone/launcher/proving/prove.sh" "$clone" $crates >"$folder/said" 2>&1 &
         child=$!
     else
+        # the sleep, longer than a usual limit, keeps what stands there after a failure
         in_terminal new-session -d -s person -x 100 -y 24 "cd '$clone' && ./bidi-edit '$folder/note'; exec sleep 60000"
     fi
 }
 
+# Whether the building or the start is at its end; proving.log is there only after a failure.
 is_over() {
     if [ -n "$crates" ]; then [ ! -d "/proc/$child" ]; else has_screen || [ -e "$clone/out/proving.log" ]; fi
 }
 
-# Notes the copies that the prover made of itself and that are at work: the crate, the process, its start and the time.
+# Notes the copies that the prover (antt-kernel) made of itself and that are at work: the crate, the process, its start in ticks
+# since the machine's (field 22 of proc's `stat`) and the time now.
 note_copies() {
     for process in $(pgrep -x antt-kernel); do
         place=$(readlink "/proc/$process/cwd") || continue
@@ -85,13 +95,14 @@ note_copies() {
 # Stops the building as Ctrl-C does, and lets it store its work.
 stop() {
     if [ -n "$crates" ]; then kill "$child" 2>/dev/null || :; else in_terminal send-keys -t person C-c; fi
+    # ten seconds, until its folder is gone
     for _ in 1 2 3 4 5 6 7 8 9 10; do
         sleep 1
         [ -e "$clone/out/proving" ] || break
     done
 }
 
-# Leaves the editor, or takes the end of the building.
+# Leaves the editor, or takes the end of the building. Its status says whether there was a screen, or all was built.
 leave() {
     if [ -n "$crates" ]; then
         wait "$child" || return 1
@@ -102,7 +113,8 @@ leave() {
     fi
 }
 
-# Starts the editor in the clone and prints the time to its first screen.
+# Starts the editor (with --crates the building) in the clone, and prints the time to its first screen (to its end), after WHAT.
+# Its status says whether that came within the limit.
 start() { # WHAT
     begin
     until is_over; do
@@ -125,7 +137,7 @@ start() { # WHAT
 
 # ---- where the time went
 
-# Prints the lines of the copies with their times in seconds of the epoch: the crate, start and end.
+# Prints a line for each copy in `copies`: its crate, its start, and when it was last seen, in seconds of the epoch.
 copies_seen() {
     awk -v now="$(date +%s.%N)" -v ticks="$(getconf CLK_TCK)" '
         FNR == NR { booted = now - $1; next }
@@ -139,14 +151,15 @@ modules_of() { # CRATE
     find "$clone/crates/$1/out/incremental" -name '*.oantt' ! -name '*.decls.oantt' -printf '%T@ %f\n' 2>/dev/null | sort -n
 }
 
-# Prints a line for each crate that was built: its name, start, end, jobs and processor time.
+# Prints a line for each crate that was built: its name, start, end, jobs and processor time. In proving.times, which
+# launcher/proving/prove.sh writes, the fields 5 to 8 are such as 1m2.3s: user and system time, of the shell and of its children.
 crate_times() {
     awk '
         function seconds(time,    part) { split(time, part, /[ms]/); return part[1] * 60 + part[2] }
         { print $1, $2, $3, $4, seconds($5) + seconds($6) + seconds($7) + seconds($8) }' "$clone/out/proving.times"
 }
 
-# Writes to `times` and `parts` what was built, and what each crate's time went to.
+# Writes to the files `times` and `parts` the lines of crate_times, and what functions.awk tells of each of these crates.
 find_parts() {
     : >"$folder/parts"
     : >"$folder/times"
@@ -160,11 +173,13 @@ find_parts() {
     done <"$folder/times"
 }
 
+# Tells where the time of the last start went; crates.awk says how.
 tell_parts() {
     find_parts
     awk -v cores="$(nproc)" -f "$parts/crates.awk" "$clone/crates.txt" "$folder/times" "$folder/parts"
 }
 
+# Measures `rt selftest`, by the clock and in processor time: `times` tells that of shell and children in a line each.
 tell_selftest() {
     begun=$(date +%s)
     (rt selftest >/dev/null && times) >"$folder/selftest"
@@ -175,7 +190,7 @@ tell_selftest() {
 
 # ---- again
 
-# Starts the editor in the clone, and prints what was proved anew.
+# Starts the editor in the clone, and prints the time, and the number of functions that were proved, of all and by crates.
 start_again() { # WHAT
     rm -f "$clone/out/proving.times"
     start "$1" || return 1
@@ -194,6 +209,7 @@ run_gate() { # WHAT
     grep -e '^rt: ok' -e '^[0-9]* passed, ' "$folder/said" | sed 's/^/    /'
 }
 
+# Measures what is proved anew: in a second clone, by the gate after a start, and by a start after the gate in a third clone.
 time_again() { # COMMIT
     make_clone "$1" first
     start_again "$1, a first start" || return 1

@@ -10,18 +10,7 @@
 set -eu
 
 top=$(cd "$(dirname "$0")/.." && pwd)
-editor=$top/crates/bidi_edit/out/bidi_edit
-if ! [ -x "$editor" ]; then
-    echo 'skipped: the program is not built (rt run in crates/bidi_edit builds it)'
-    exit 77
-fi
-if ! command -v python3 >/dev/null 2>&1; then
-    echo 'skipped: there is no python3'
-    exit 77
-fi
-folder=$(mktemp -d)
-trap 'rm -rf "$folder"' EXIT
-trap 'exit 1' HUP INT TERM
-cd "$folder"
+# shellcheck source=scripts/own_folder.sh
+. "$top/scripts/own_folder.sh"
 
 python3 "$top/scripts/time_keys.py" "$editor" "$top/data" "$@"

@@ -1,12 +1,15 @@
 """Ends at random moments. After each no process is left within five seconds, the terminal's settings are back, and where it takes
-output the alternate screen, pastes, reordering and the modes of Alt and of arrows are as before, with nothing behind that."""
+output the alternate screen, pastes, reordering and the modes of Alt and of arrows are as before, with nothing after that."""
 import os, random, re, signal, termios, time
 from terminals import Run
 
+# What the host writes last: the title is given back, the alternate screen ends.
 TAIL = b'\x1b[23;0t\x1b[?1049l'
-LIMIT = 5
+LIMIT = 5  # seconds from what ends the host until all is over (host/closing.c, host/watcher.c), and of waits for a screen
 
-# What ends the host, each by its signal. The last ones are left to the watcher.
+# Statuses are as waitpid gives them: a signal's number, or an exit status in the second byte.
+
+# What ends the host, each by its signal. The last two kill it at once, and the watcher restores the terminal.
 SIGNALS = {name: getattr(signal, 'SIG' + name.upper()) for name in (
     'hup', 'int', 'quit', 'usr1', 'usr2', 'alrm', 'pipe', 'xcpu', 'xfsz', 'vtalrm', 'prof', 'io', 'pwr', 'abrt', 'sys')}
 KINDS = ['term', 'term-job', 'kill', 'kill-job', 'kill-program', 'kill-keeper', 'kill-filter', 'kill-watcher', 'stop', 'closed', 'blocked', *SIGNALS]
@@ -30,10 +33,12 @@ def restored(output):
 
 
 def moment():
+    """Seconds from the start until an end: mostly within the host's start, sometimes once it edits."""
     return random.choice((random.uniform(0, 0.012), random.uniform(0, 0.05), random.uniform(0.03, 0.3)))
 
 
 def send(process, number):
+    """Sends a signal to a process that may be gone."""
     try:
         os.kill(process, number)
     except ProcessLookupError:
@@ -41,6 +46,7 @@ def send(process, number):
 
 
 def send_job(run, number):
+    """Sends a signal to all processes of the job, or, where it is no group yet or any more, to its first."""
     try:
         os.killpg(run.job, number)
     except ProcessLookupError:
@@ -48,7 +54,7 @@ def send_job(run, number):
 
 
 def wait_for_child(run, name):
-    """The number of the job's child of this name, once it is there."""
+    """The number of the job's child of this name, some time after it is there; 0 if it does not come."""
     end = time.perf_counter() + LIMIT
     while not (child := run.child(name)) and time.perf_counter() < end and run.status is None:
         run.rest(0.001)
@@ -57,7 +63,7 @@ def wait_for_child(run, name):
 
 
 def block(run):
-    """Has the terminal take no output any more."""
+    """Has the terminal take no output any more: nobody reads it, and each key paints until it is full, or it is stopped at once."""
     if random.random() < 0.5:
         termios.tcflow(run.slave, termios.TCOOFF)
     run.is_read = False
@@ -74,7 +80,7 @@ def block(run):
 
 
 def stop_and_go_on(run):
-    """Stops the host or its job up to three times; returns what was written since the last time."""
+    """Stops the host or its job, and has it go on, one to three times. Returns how much was written before it last went on."""
     for _ in range(random.randint(1, 3)):
         send_this = random.choice((lambda number: send_job(run, number), lambda number: send(run.job, number)))
         send_this(signal.SIGSTOP)
@@ -88,10 +94,12 @@ def stop_and_go_on(run):
 
 
 def is_cooked(run):
+    """Whether the terminal is not in the host's mode: it shows keys, or gives them by lines."""
     return termios.tcgetattr(run.slave)[3] & (termios.ECHO | termios.ICANON)
 
 
 def try_stop(run, wrong):
+    """Stops and continues the host, which must paint and be raw again, and quits. Returns as `act` does."""
     seen = stop_and_go_on(run)
     if not run.pump(LIMIT, b'hello'):
         wrong.append('no screen')
@@ -105,7 +113,7 @@ def try_stop(run, wrong):
     if is_cooked(run):
         wrong.append('not raw after the stop')
     before = time.perf_counter()
-    for _ in range(20):
+    for _ in range(20):  # until it has ended, in case a key is lost
         run.type(b'\x11')
         if run.pump(0.3):
             break
@@ -113,14 +121,16 @@ def try_stop(run, wrong):
 
 
 def resize(run):
+    """Gives the window another size, so that SIGWINCH comes beside the SIGTERM. Any from 1 to 500 will do: these are usual ones."""
     run.resize(random.randint(5, 60), random.randint(20, 200))
 
 
 def act(kind, run, wrong):
-    """Does what the kind says. Returns when, and the statuses that are right; none if any is."""
+    """Ends the run as the kind says. Returns when that was done, and the statuses that are right, or None if any is."""
     if kind == 'stop':
         run.rest(moment())
         return try_stop(run, wrong)
+    # 137: ended by the signal 9; without the keeper the host ends with 1
     children = {'kill-program': ('bidi_edit', (137 << 8,)), 'kill-filter': ('bidi_input', None), 'kill-keeper': ('bidi_keep', (1 << 8,))}
     if kind in children:
         name, statuses = children[kind]
@@ -156,7 +166,7 @@ def act(kind, run, wrong):
 
 
 def kill_watcher(run):
-    """Kills the process in a job of its own, which harms nothing, and quits."""
+    """Kills the watcher, the one process in a job of its own, which harms nothing, and quits. Returns as `act` does."""
     run.pump(LIMIT, b'hello')
     watchers = [process for process in run.processes() if process != run.job and os.getpgid(process) == process]
     for process in watchers:
@@ -174,7 +184,7 @@ def try_once(tree, kind, name):
     before, statuses = kill_watcher(run) if kind == 'kill-watcher' else act(kind, run, wrong)
     if not run.pump(LIMIT):
         wrong.append('the host did not end')
-    elif statuses and run.status not in statuses and run.status & 0x7F not in statuses:
+    elif statuses and run.status not in statuses and run.status & 0x7F not in statuses:  # bit 0x80 tells of a core dump
         wrong.append(f'status {run.status}')
     left = run.left(max(0.0, before + LIMIT - time.perf_counter()))
     took = time.perf_counter() - before

@@ -3,7 +3,8 @@
 # Crates with longer chains come first.
 #
 # Times are seconds of processor time with one job, as measured on a machine with four processors: 0.13 to 0.19 seconds for a
-# line of a library, and 15 for a crate of a few lines.
+# line of a library, and 15 for a crate of a few lines. Given are `programs`, and `already`, the crates that are built, both with
+# blanks between.
 
 FILENAME == ARGV[1] {
     sub(/#.*/, "")
@@ -33,6 +34,7 @@ function want(name,    n, i, used) {
         }
 }
 
+# Returns the seconds of the longest chain of crates that starts with one: each uses the one before it.
 function chain(name,    n, i, users, longest) {
     if (name in chains) return chains[name]
     n = split(above[name], users, " ")
@@ -41,6 +43,7 @@ function chain(name,    n, i, users, longest) {
     return chains[name] = seconds(name) + longest
 }
 
+# Returns the estimated seconds of a crate; for one that is built rt only looks whether something has changed.
 function seconds(name) {
     return name in built ? 2 : int(15 + 0.17 * lines[name])
 }

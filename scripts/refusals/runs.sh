@@ -1,9 +1,10 @@
 # shellcheck shell=sh
 # shellcheck disable=SC2154 # variables that check-refusals.sh sets
-# The recorded sessions of check-refusals.sh.
+# The recorded sessions of check-refusals.sh. A run NAME has its output in NAME.out, and its end in NAME.end; `whole` is the one
+# without a refusal, `found` the one that is judged. `session` is the session's folder, `place` the folder where it runs.
 
-# Runs the session `session` with other input. Its output goes to a file with this name, and its status, the content of `told`
-# and the resulting FILE to another.
+# Runs the session `session` with the input in the file KEYS and these variables of the library. Its end is the status, standard
+# error and the resulting FILE. Sets `refused_at` to the content of `told`.
 run_session() { # NAME KEYS VARIABLE..
     name=$1 keys=$2 status=0
     shift 2
@@ -13,8 +14,8 @@ run_session() { # NAME KEYS VARIABLE..
     IFS= read -r refused_at <told || refused_at=''
 }
 
-# Prints the end of a run.
-ending() { # STATUS TOLD FILE
+# Prints the end of a run: ERRORS is a file with its standard error.
+ending() { # STATUS ERRORS FILE
     echo "status $1"
     if [ -f "$3" ]; then cat "$2" "$3"; else cat "$2" && echo 'no file'; fi
 }
@@ -24,8 +25,9 @@ are_alike() { # NAME NAME
     cmp -s "$1.out" "$2.out" && cmp -s "$1.end" "$2.end"
 }
 
-# Makes the runs that a refusal at a byte is compared with, unless they exist: with a byte that ends no key in its place, with
-# failing renames, with Repaint after it and its output discarded, and the session before it.
+# Makes the runs that a refusal at the byte BYTE, counted from 1, is compared with, unless they exist. Of each the name ends with
+# BYTE: `dropped`, with a byte that ends no key in its place; `failing`, with failing renames; `repainted`, with Repaint after it
+# and its output discarded; `before`, the session before its output.
 make_answers() { # BYTE
     [ ! -f "dropped$1.out" ] || return 0
     { head -c "$(($1 - 1))" keys && printf '\0' && tail -c "+$(($1 + 1))" keys; } >keys_dropped
@@ -37,14 +39,14 @@ make_answers() { # BYTE
     run_session "before$1" keys_before "MUTED=$1"
 }
 
-# Whether the painting of a byte was postponed in the run `found`, in which this growth was refused.
+# Whether the painting of a byte was put off in the run `found`, in which the growth of this number was refused.
 is_painting_put_off() { # BYTE NUMBER
     cmp -s found.end whole.end && head -c "$(wc -c <"before$1.out")" found.out | cmp -s - "before$1.out" || return 1
     run_session anew "keys_repainted$1" "REFUSED=$2"
     [ "$refused_at" = "$1" ] && are_alike anew "repainted$1"
 }
 
-# Prints the kind of the run `found`, in which this growth was refused after BYTES bytes were read.
+# Prints the kind of the run `found`, in which the growth of this number was refused after BYTES bytes were read.
 kind_of_run() { # NUMBER BYTES
     if [ -z "$2" ]; then
         kind='FAILS it ended by a signal or not at all'
@@ -108,7 +110,7 @@ sweep_session() { # SESSION
         if [ "$refused_at" = -1 ]; then
             are_alike found whole && echo 'session: nothing refused' || echo 'FAILS refused nothing, it differs'
             return
-        elif [ "$number" -ge 5000 ]; then
+        elif [ "$number" -ge 5000 ]; then # no session has so many
             echo 'FAILS 5000 growths are not all'
             return
         fi

@@ -1,6 +1,7 @@
 # shellcheck shell=sh
 # shellcheck disable=SC2154 # variables that check-refusals.sh sets
-# The scenes and the tables of check-refusals.sh.
+# The scenes and the tables of check-refusals.sh. crates/play_scenes/src/main.rt tells what the fields of a scene and of its
+# answer are, and what the steps do. FILE is in hexadecimal; a WAY is `step`, `play` or `alone`.
 
 # Plays scenes without refusals.
 play() {
@@ -20,8 +21,8 @@ scene_of() { # ROWS COLS FILE STEPS WAY
 }
 
 # Prints the variants of a scene that its refused runs are compared with: itself; for each step, itself with a byte that ends no
-# key, or with nothing sent, in its place; for each step, the scene before it; and itself with each call of the store failing,
-# and some calls more than it makes.
+# key, or with nothing sent, in its place; for each step, the scene before it; and itself with each call of the store failing:
+# twelve, more than it makes.
 variants() {
     awk -F '\t' -v OFS='\t' '
         { head = $1 OFS $2 OFS $3 OFS $4; file = $6; way = $8; count = split($7, step, " ") }
@@ -87,6 +88,7 @@ check_worked() { # NAME ROWS COLS FILE STEPS WAY WANTED [BEFORE]
     else
         fail "$1: no run answers $wanted"
     fi
+    # runs that ended by a signal or not at all, that report two refusals, or that failed by anything but a want of memory
     awk -F '\t' '
         { letters = $5; refusals = letters ~ /^refused: / ? 0 : gsub(/[EPLNf]/, "", letters) }
         $3 == "" || refusals > 1 { print; next }
@@ -95,7 +97,9 @@ check_worked() { # NAME ROWS COLS FILE STEPS WAY WANTED [BEFORE]
     [ ! -s odd ] || fail "$1: $(head -n 1 odd)"
 }
 
+# Bytes of sequences are those of crates/bx_keys/specs/Keys.antt: B1b B5b B38 B32 B7e is CSI 82~, which undoes a run.
 check_all_scenes() {
+    # all is sent and read
     rest='S1000 R1000'
     check_scenes 'quit' 1 5 6162 "B11 $rest"
     check_scenes 'windows and sizes' 4 20 6162 'S38 R11 W2,5 R27 T4,20 T2,5 S1000 R1000'

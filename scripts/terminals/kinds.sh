@@ -1,6 +1,7 @@
 # shellcheck shell=sh
 # shellcheck disable=SC2154 # variables shared with other parts
-# How each terminal is started, with 60 columns and 10 rows in one font, and what it is known for.
+# How each terminal is started, with 60 columns and 10 rows in one font, and what it is known for. `start_KIND` becomes the
+# terminal, with the shell of window.sh; `room` is its folder.
 
 start_xterm() {
     exec xterm -fa FreeMono -fs 12 -geometry 60x10+0+0 -xrm "XTerm*printerCommand: cat >'$room/read'" -xrm 'XTerm*printAttributes: 0' \
@@ -44,6 +45,7 @@ exec_kitty() {
 start_vte_tmux() { start_vte; }
 start_konsole_tmux() { start_konsole; }
 
+# Prints the name of the terminal's program.
 program_of() { # KIND
     case $1 in
     vte*) echo xfce4-terminal ;;
@@ -121,19 +123,19 @@ sends_shift_end() { # KIND
     [ "$1" != st ]
 }
 
-# Whether it sends keys of their own for Left, Right, Home and End with Control and Shift.
+# Whether it sends keys of their own for Left, Right, Home and End with Ctrl and Shift.
 sends_control_shift() { # KIND
     case $1 in xterm | alacritty | qterminal | vte | konsole | mlterm) return 0 ;; esac
     return 1
 }
 
-# Whether it sends keys of their own for arrows, Home and End with Control.
+# Whether it sends keys of their own for arrows, Home and End with Ctrl.
 sends_control() { # KIND
     case $1 in xterm | urxvt | terminology) return 0 ;; esac
     return 1
 }
 
-# Whether it sends keys of their own for Backspace with Control and with Alt, and for Delete with Control.
+# Whether it sends keys of their own for Backspace with Ctrl and with Alt, and for Delete with Ctrl.
 sends_words() { # KIND
     case $1 in xterm | urxvt) return 0 ;; esac
     return 1

@@ -1,6 +1,6 @@
-/* The end: the terminal as it was. Host and watcher do this. */
-#ifndef ENDING_H
-#define ENDING_H
+/* Restoring what the terminal showed, at the end. Host and watcher do this. */
+#ifndef RESTORING_H
+#define RESTORING_H
 
 #include <stdint.h>
 
@@ -10,7 +10,7 @@
 extern enum kind terminal_kind;
 extern struct reordering terminal_reordering;
 
-/* Restores the screen within this time, as far as the terminal takes it. */
+/* Restores the screen within this many milliseconds, as far as the terminal takes it. */
 void restore_screen(int64_t limit);
 
 #endif

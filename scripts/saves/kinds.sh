@@ -1,0 +1,207 @@
+# shellcheck shell=sh
+# shellcheck disable=SC2034,SC2154 # variables shared with other parts
+# Files beside FILE, kinds of places, and what a rename would lose. Uses scenes.sh and changes.sh.
+
+# ---- files beside FILE, and kinds of places
+
+# Checks the cause in the last row. Where blanks were there already, the painter moves the cursor over them.
+says() { # CAUSE
+    sed "s/$(printf '\033')\[[0-9]*;[0-9]*H/ /g" "$folder/out" | grep -q "save failed: $1" || fails "the cause is not told: $1"
+}
+
+# Saves once, and checks the state of FILE.
+check_save() { # NAME STATE COMMAND..
+    begin_point "$1"
+    wanted_state=$2
+    shift 2
+    edit "$@" <"$folder/keys" >"$folder/out" 2>/dev/null
+    status=$?
+    if [ "$wanted_state" = new ]; then same "the status" "$status" 0; else same "the status" "$status" 1; fi
+    same "FILE" "$(state)" "$wanted_state"
+}
+
+# Drafts are FILE.bx, and FILE.bx1 to FILE.bx9 where that is taken.
+check_drafts() {
+    begin_kind 'what is beside FILE'
+    prepare plain
+    for number in '' 1 2 3 4 5 6 7 8; do
+        echo "$number" >"$kept.bx$number"
+    done
+    before=$(names)
+    check_save 'nine drafts of others' new env
+    same "what is there" "$(names)" "$before"
+    put_old "$kept" 640
+    ln -s nowhere "$kept.bx9"
+    before=$(names)
+    check_save 'ten drafts of others' old env
+    same "what is there" "$(names)" "$before"
+    same "a draft's bytes" "$(cat "$kept.bx7")" 7
+
+    prepare plain
+    ln "$kept" "$place/links/second"
+    check_save 'two names' new env
+    same "the other name's file" "$(stat -c %i "$place/links/second")" "$(stat -c %i "$kept")"
+    same "what is there" "$(names)" 'links text'
+}
+
+# A name has 255 bytes at most, of which a draft needs three.
+check_names() {
+    begin_kind 'long names'
+    long=$(printf '%0252d' 7)
+    prepare plain
+    mv "$kept" "$place/$long"
+    file=$place/$long kept=$place/$long
+    check_save '252 bytes' new env
+    mv "$kept" "${kept}8"
+    file=$place/${long}8 kept=$place/${long}8
+    put_old "$kept" 640
+    check_save '253 bytes' old env
+    same "what is there" "$(names | wc -w)" 2
+}
+
+# ---- what a rename would lose
+
+# Gives a file with one name a second one, during a session.
+check_second_name() {
+    begin_point 'a second name'
+    prepare plain
+    open_session env
+    ln "$kept" "$place/links/second"
+    save_all
+    same "FILE after the first save" "$(state)" old
+    press '\023'
+    same "FILE after the second save" "$(state)" new
+    same "the other name's file" "$(stat -c %i "$place/links/second")" "$(stat -c %i "$kept")"
+    check_place
+    check_nothing_left
+    rm "$place/links/second"
+    press 'x\023\177\023'
+    same "FILE with one name again" "$(state)" new
+    close_session 0
+}
+
+# Prints FILE's access list.
+list_of() {
+    getfacl -c -p "$kept" 2>/dev/null
+}
+
+# Gives one user what FILE's group may not do. Its permissions then seem to be the group's.
+give_list() {
+    setfacl -m u:54322:rw "$kept" 2>/dev/null && list_of | grep -q '^group::---'
+}
+
+# FILE gets an access list during a session, or has one at its start (`itself`). A rename would lose it.
+check_access_list() {
+    begin_point 'an access list, during a session'
+    prepare secret
+    if ! command -v getfacl >/dev/null || ! give_list; then
+        skip 'an access list: there is no setfacl, or the disk takes none'
+        return
+    fi
+    prepare secret
+    open_session env
+    give_list
+    list=$(list_of)
+    save_all
+    same "FILE after the first save" "$(state)" old
+    press '\023'
+    same "FILE after the second save" "$(state)" new
+    same "the access list" "$(list_of)" "$list"
+    # without the list, its permissions are nobody's
+    rm "$kept"
+    press 'x\023\177\023'
+    same "FILE that was made again" "$(state)" new
+    same "the mode of FILE that was made again" "$(stat -c %a "$kept")" 600
+    check_nothing_left
+    close_session 0
+
+    way=itself
+    begin_point 'an access list at the start'
+    prepare secret
+    give_list
+    list=$(list_of)
+    open_session env
+    save_all
+    same "FILE" "$(state)" new
+    same "the access list" "$(list_of)" "$list"
+    check_nothing_left
+    close_session 0
+    way=beside
+}
+
+# A file that is gone is made again with its mode, also where the text was copied from other bytes.
+check_modes_made_again() {
+    for mode_of_before in 755 600; do
+        for copied in '' other; do
+            begin_point "a file of mode $mode_of_before that is gone${copied:+, and was changed before the start}"
+            prepare plain
+            mode=$mode_of_before
+            chmod "$mode" "$kept"
+            if [ -n "$copied" ]; then
+                copy=$own/text
+                cp "$folder/old" "$copy"
+                cat "$folder/theirs" >"$kept"
+            fi
+            open_session env
+            rm "$kept"
+            save_all
+            same "FILE" "$(state)" new
+            check_place
+            check_nothing_left
+            close_session 0
+            copy=''
+        done
+    done
+}
+
+# Exchanges FILE, or its folder, for a link into a folder where no such file is. Nothing may be made there.
+check_made_elsewhere() {
+    begin_point 'a link to nowhere in place of FILE'
+    prepare plain
+    mkdir "$place/links/closed"
+    open_session env
+    rm "$kept"
+    ln -s links/closed/new "$kept"
+    save_all
+    same "FILE after the first save" "$(state)" none
+    press '\023'
+    same "FILE after the second save" "$(state)" new
+    same "whether FILE is a link" "$(stat -c %F "$kept")" 'regular file'
+    same "what is in the folder of the link" "$(ls -A "$place/links/closed")" ''
+    check_place
+    close_session 0
+
+    begin_point 'a link in place of the folder of FILE'
+    prepare plain
+    mkdir "$place/inner" "$place/links/closed"
+    mv "$kept" "$place/inner/text"
+    file=$place/inner/text kept=$place/inner/text
+    open_session env
+    mv "$place/inner" "$place/gone"
+    ln -s links/closed "$place/inner"
+    save_all
+    press '\023'
+    press '\023\014'
+    same "what is in the folder of the link" "$(ls -A "$place/links/closed")" ''
+    kept=$place/gone/text
+    same "FILE" "$(state)" old
+    close_session 1
+}
+
+# The limit of a file's size, in blocks of 512 bytes or of 1,024, below the 80,000 bytes of the text; the host has the program
+# ignore the signal.
+check_limit() {
+    prepare long
+    check_save 'a limit of the size of files' old sh -c 'trap "" XFSZ; ulimit -f 60; exec "$@"' sh
+    says 'file too large'
+    check_nothing_left
+}
+
+check_losses() {
+    begin_kind 'what a rename would lose'
+    check_second_name
+    check_access_list
+    check_modes_made_again
+    check_made_elsewhere
+    check_limit
+}
