@@ -4,7 +4,7 @@ use Rattle.bx_terms.specs.declared.base.Base.{Base}
 use Rattle.bx_ucd.specs.Data.{Data}
 use Rattle.bx_text.specs.Edits.{Edited}
 use Rattle.bx_view.specs.Caching.{IsViewBy, ViewState}
-use Rattle.bx_document.specs.Cache.{AreDrawnBy, DrawnRowState}
+use Rattle.bx_document.specs.Cache.{AreDrawnBy, EntryState}
 use Rattle.bx_document.specs.Document.{DocumentState}
 use Rattle.bx_document.specs.OwnText.{OwnState}
 use Rattle.bx_document.specs.Past.{KeepsPlaces}
@@ -19,7 +19,7 @@ pub lent : {D : Type 0} {t u : D} {x y : Edited} {base : Base} {w : ℕ} {now : 
 lent {D} {t} {u} {x} {y} {base} {w} {now} e f same = ap₂ (λ v z. state_of v z base w) e f ∙ same
 
 -- what a document keeps, where its own text was edited
-pub edited : {D : Type 0} (says : D → Data) (v : ViewState) (cache : List DrawnRowState) (old new : OwnState D) (u : Edited)
+pub edited : {D : Type 0} (says : D → Data) (v : ViewState) (cache : List EntryState) (old new : OwnState D) (u : Edited)
     → new ≡ record old { content = u } → IsViewBy (says old.tables) v → KeepsPlaces (says old.tables) u → AreDrawnBy (says old.tables) cache
     → IsViewBy (says new.tables) v × KeepsPlaces (says new.tables) new.content × AreDrawnBy (says new.tables) cache
 edited says v cache old new u e held places drawn =

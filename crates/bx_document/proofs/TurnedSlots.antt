@@ -1,8 +1,8 @@
 -- A row that is put into a grid, and slots that are turned in it.
 use Rattle.std.proofs.Common.{◌≡◌, ℕ, ◌+◌, ◌-◌, ◌*◌, ◌<◌, ◌≤◌, List, ◌++◌, length, take, drop, get_or, sym, ap, subst, ◌∙◌, refl, arith, append_assoc}
 use Rattle.std.specs.Prelude.{All}
-use Rattle.std.proofs.Math.Nat.{mul-le-mul_right}
-use Rattle.std.proofs.lemmas.List.{at_drop_more, drop_all, drop_at, length-drop, length-take-le, take_at}
+use Rattle.std.proofs.Math.Nat.{min-le_left, mul-le-mul_right}
+use Rattle.std.proofs.lemmas.List.{at_drop_more, drop_all, drop_at, length-drop, length-take, length-take-le, take-append-drop, take_at}
 use Rattle.bx_grid.specs.Columns.{Col, paste}
 use Rattle.bx_grid.specs.Picture.{GridState}
 use Rattle.bx_grid.specs.Turned.{turned_in}
@@ -29,9 +29,10 @@ length-row g row size below =
 -- the first `i` of some slots are turned in the row
 pub record AreTurned (old : GridState) (row : ℕ) (slots : List Slot) (i : ℕ) (g : GridState) : Type 0 where
   pub grid : g ≡ with_rows old row (row_in g row)
-  pub wide : length (row_in g row) ≡ old.width
+  pub most : length (row_in g row) ≤ old.width
   pub rest : turned_slots (drop i slots) (row_in g row) ≡ turned_slots slots (row_in old row)
   pub spans : All (IsSpan (row_in g row)) slots
+  pub sized : length g.columns ≡ g.height * g.width → length old.columns ≡ old.height * old.width
 
 module _ (old : GridState) (row : ℕ) (size : length old.columns ≡ old.height * old.width) (below : row < old.height) where
   room : row * old.width + old.width ≤ length old.columns
@@ -59,41 +60,53 @@ module _ (old : GridState) (row : ℕ) (size : length old.columns ≡ old.height
   put-over one news put new len wide first second =
       second ∙ ap (λ g. with_rows g row news) first ∙ ap (λ cs. record old { columns = cs }) (put-again one news len wide)
 
-  pub none-turned : (slots : List Slot) → All (IsSpan (row_in old row)) slots → AreTurned old row slots 0 old
-  none-turned slots spans = record {
-    grid = sym (ap (λ cs. record old { columns = cs })
-        (put_same old.columns (row_in old row) (row * old.width) old.width refl (length-row old row size below)));
-    wide = length-row old row size below;
-    rest = refl;
-    spans = spans;
-  }
+-- columns put back where they are
+put-back : (xs : List Col) (k n : ℕ) → paste xs k (take n (drop k xs)) ≡ xs
+put-back xs k n =
+    let ys = drop k xs in
+    let m = length (take n ys) in
+    put_same xs (take n ys) k m (ap (take m) (sym (take-append-drop n ys)) ∙ take_at (take n ys) (drop n ys) m refl) refl
 
-  module _ (slots : List Slot) (i : ℕ) (g : GridState) (p : AreTurned old row slots i g) where
-    pub height-same : g.height ≡ old.height
-    height-same = ap (λ (x : GridState). x.height) p.grid
+pub none-turned : (old : GridState) (row : ℕ) (slots : List Slot) → All (IsSpan (row_in old row)) slots → AreTurned old row slots 0 old
+none-turned old row slots spans = record {
+  grid = sym (ap (λ cs. record old { columns = cs }) (put-back old.columns (row * old.width) old.width));
+  most =
+      let behind = drop (row * old.width) old.columns in
+      omega (arith, length-take old.width behind, min-le_left old.width (length behind));
+  rest = refl;
+  spans = spans;
+  sized = λ size. size;
+}
 
-    pub width-same : g.width ≡ old.width
-    width-same = ap (λ (x : GridState). x.width) p.grid
+module _ (old : GridState) (row : ℕ) (below : row < old.height) (slots : List Slot) (i : ℕ) (g : GridState) (p : AreTurned old row slots i g) where
+  pub height-same : g.height ≡ old.height
+  height-same = ap (λ (x : GridState). x.height) p.grid
 
-    pub next-turned : (s : Slot) (new : GridState) → i < length slots → s ≡ get_or slots i s
-        → new ≡ record g { columns = paste g.columns (row * g.width) (turned_in (row_in g row) (s.column - 1) s.columns) }
-        → AreTurned old row slots (i + 1) new
-    next-turned s new inside is step =
-        let mine = row_in g row in
-        let here : IsSpan mine s = subst (IsSpan mine) (sym is) (p.spans i s inside) in
-        let news = turned_in mine (s.column - 1) s.columns in
-        let len : length news ≡ old.width = length-turned mine (s.column - 1) s.columns here.fits ∙ p.wide in
-        let put : new ≡ with_rows old row news = put-over mine news g new p.wide len p.grid step in
-        let now : row_in new row ≡ news = ap (λ x. row_in x row) put ∙ row-put news len in
-        record {
-          grid = put ∙ ap (with_rows old row) (sym now);
-          wide = ap length now ∙ len;
-          rest = ap (turned_slots (drop (i + 1) slots)) now
-              ∙ ap (λ (x : Slot). turned_slots (drop (i + 1) slots) (turned_in mine (x.column - 1) x.columns)) is
-              ∙ sym (at_drop_more (λ ss. turned_slots ss mine) slots i s inside)
-              ∙ p.rest;
-          spans = λ j d h. subst (λ cs. IsSpan cs (get_or slots j d)) (sym now) (span-turned mine s (get_or slots j d) here (p.spans j d h));
-        }
+  pub width-same : g.width ≡ old.width
+  width-same = ap (λ (x : GridState). x.width) p.grid
 
-    pub all-turned : length slots ≤ i → g ≡ with_rows old row (turned_slots slots (row_in old row))
-    all-turned past = p.grid ∙ ap (with_rows old row) (ap (λ ss. turned_slots ss (row_in g row)) (sym (drop_all i slots past)) ∙ p.rest)
+  pub next-turned : length g.columns ≡ g.height * g.width → (s : Slot) (new : GridState) → i < length slots → s ≡ get_or slots i s
+      → new ≡ record g { columns = paste g.columns (row * g.width) (turned_in (row_in g row) (s.column - 1) s.columns) }
+      → AreTurned old row slots (i + 1) new
+  next-turned size s new inside is step =
+      let mine = row_in g row in
+      let here : IsSpan mine s = subst (IsSpan mine) (sym is) (p.spans i s inside) in
+      let news = turned_in mine (s.column - 1) s.columns in
+      let was = p.sized size in
+      let wide : length mine ≡ old.width = length-row g row size (omega (arith, height-same, below)) ∙ width-same in
+      let len : length news ≡ old.width = length-turned mine (s.column - 1) s.columns here.fits ∙ wide in
+      let put : new ≡ with_rows old row news = put-over old row was below mine news g new wide len p.grid step in
+      let now : row_in new row ≡ news = ap (λ x. row_in x row) put ∙ row-put old row was below news len in
+      record {
+        grid = put ∙ ap (with_rows old row) (sym now);
+        most = omega (arith, ap length now ∙ len);
+        rest = ap (turned_slots (drop (i + 1) slots)) now
+            ∙ ap (λ (x : Slot). turned_slots (drop (i + 1) slots) (turned_in mine (x.column - 1) x.columns)) is
+            ∙ sym (at_drop_more (λ ss. turned_slots ss mine) slots i s inside)
+            ∙ p.rest;
+        spans = λ j d h. subst (λ cs. IsSpan cs (get_or slots j d)) (sym now) (span-turned mine s (get_or slots j d) here (p.spans j d h));
+        sized = λ next. was;
+      }
+
+  pub all-turned : length slots ≤ i → g ≡ with_rows old row (turned_slots slots (row_in old row))
+  all-turned past = p.grid ∙ ap (with_rows old row) (ap (λ ss. turned_slots ss (row_in g row)) (sym (drop_all i slots past)) ∙ p.rest)

@@ -51,8 +51,6 @@ pub(crate) fn draw_rows<D: BidiData>(
     let mut here = at;
     let mut row = 0;
     'rows: loop {
-        // proof only: the number of the grid's columns
-        let _columns = grid.columns();
         cache.put_row(view, source, here, grid, row)?;
         turn_row(view, source, here, grid, row, page.region)?;
         row += 1;

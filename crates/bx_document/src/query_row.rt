@@ -11,7 +11,7 @@ ghost use Rattle.bx_document.specs.QueryRow.{fitting, glyph_row, letter_glyphs, 
 
 use crate::document::Document;
 use crate::drawing::draw_glyphs;
-use bx_grid::OwnedRow;
+use bx_grid::Grid;
 use bx_paragraph::{LentRow, ParagraphLayout};
 use bx_rows::{Drawn, RowPicture};
 use bx_terms::{Base, OutOfMemory};
@@ -38,13 +38,15 @@ fn fit_count(glyphs: &[Drawn<'_>], width: u16) -> usize
     glyphs.len()
 }
 
-/// Draws the leftmost glyphs that fit into a row of `width` columns, and blanks on their right.
-fn glyph_row(alloc: Global, picture: &RowPicture<'_>, width: u16) -> Result<OwnedRow, OutOfMemory>
+/// Draws the leftmost glyphs that fit into a row of `width` columns, and blanks on their right, as a grid of one row.
+fn glyph_row(alloc: Global, picture: &RowPicture<'_>, width: u16) -> Result<Grid, OutOfMemory>
     requires side { is_side width ≡ true }
     requires glyphs { All (λ g. is_one_glyph (cow_str_bytes g.text) ≡ true) picture.now.glyphs.items }
     requires widths { All (λ g. run_width (cow_str_bytes g.text) ≡ g.columns) picture.now.glyphs.items }
-    ensures row { IfOk result (λ row. row ≡ glyph_row width (map glyph_of picture.now.glyphs.items)) }
-    ensures filled { IfOk result (λ row. length row ≡ width) }
+    ensures row { IfOk result (λ row. row.columns ≡ glyph_row width (map glyph_of picture.now.glyphs.items)) }
+    ensures filled { IfOk result (λ row. length row.columns ≡ width) }
+    ensures one { IfOk result (λ row. row.height ≡ 1) }
+    ensures wide { IfOk result (λ row. row.width ≡ width) }
 {
     let count = fit_count(&picture.glyphs, width);
     let row = draw_glyphs(alloc, &picture.glyphs[..count], width)?;
@@ -126,10 +128,12 @@ fn push_typed(alloc: Global, glyphs: &mut Vec<Drawn<'_>>, typed: &str) -> Result
 
 impl<D: BidiData + Drop> Document<D> {
     /// Draws a text into a row of the window's width, as far as it fits. It has only characters from SPACE to TILDE.
-    pub fn draw_text(&self, text: &str) -> Result<OwnedRow, OutOfMemory>
+    pub fn draw_text(&self, text: &str) -> Result<Grid, OutOfMemory>
         requires { are_ascii_printable text.now ≡ true }
-        ensures row { IfOk result (λ row. row ≡ glyph_row self.now.document.w (letter_glyphs text.now)) }
-        ensures filled { IfOk result (λ row. length row ≡ self.now.document.w) }
+        ensures row { IfOk result (λ row. row.columns ≡ glyph_row self.now.document.w (letter_glyphs text.now)) }
+        ensures filled { IfOk result (λ row. length row.columns ≡ self.now.document.w) }
+        ensures one { IfOk result (λ row. row.height ≡ 1) }
+        ensures wide { IfOk result (λ row. row.width ≡ self.now.document.w) }
     {
         let picture = RowPicture::of_letters(self.alloc, text)?;
         let row = glyph_row(self.alloc, &picture, self.width())?;
@@ -138,11 +142,13 @@ impl<D: BidiData + Drop> Document<D> {
 
     /// Draws a text, and after it a query in its visual order, into a row of the window's width, as far as their glyphs fit.
     /// The text has only characters from SPACE to TILDE.
-    pub fn draw_query(&self, text: &str, query: &str) -> Result<OwnedRow, OutOfMemory>
+    pub fn draw_query(&self, text: &str, query: &str) -> Result<Grid, OutOfMemory>
         requires { are_ascii_printable text.now ≡ true }
-        ensures row { IfOk result (λ row. row ≡ glyph_row self.now.document.w
+        ensures row { IfOk result (λ row. row.columns ≡ glyph_row self.now.document.w
             (letter_glyphs text.now ++ query_glyphs (D.data self.now.tables) query.now)) }
-        ensures filled { IfOk result (λ row. length row ≡ self.now.document.w) }
+        ensures filled { IfOk result (λ row. length row.columns ≡ self.now.document.w) }
+        ensures one { IfOk result (λ row. row.height ≡ 1) }
+        ensures wide { IfOk result (λ row. row.width ≡ self.now.document.w) }
     {
         let layout = lay_out(self.alloc, query, self.own.tables())?;
         let picture = text_and_query(self.alloc, text, &layout, self.own.tables())?;
@@ -152,11 +158,13 @@ impl<D: BidiData + Drop> Document<D> {
 
     /// Draws a text, and after it characters in the order in which they were typed, into a row of the window's width, as far as
     /// they fit. The text has only characters from SPACE to TILDE, and a terminal shows each typed one in one column.
-    pub fn draw_typed(&self, text: &str, typed: &str) -> Result<OwnedRow, OutOfMemory>
+    pub fn draw_typed(&self, text: &str, typed: &str) -> Result<Grid, OutOfMemory>
         requires printable { are_ascii_printable text.now ≡ true }
         requires narrow { All IsNarrow (chars typed.now) }
-        ensures row { IfOk result (λ row. row ≡ glyph_row self.now.document.w (letter_glyphs text.now ++ typed_glyphs typed.now)) }
-        ensures filled { IfOk result (λ row. length row ≡ self.now.document.w) }
+        ensures row { IfOk result (λ row. row.columns ≡ glyph_row self.now.document.w (letter_glyphs text.now ++ typed_glyphs typed.now)) }
+        ensures filled { IfOk result (λ row. length row.columns ≡ self.now.document.w) }
+        ensures one { IfOk result (λ row. row.height ≡ 1) }
+        ensures wide { IfOk result (λ row. row.width ≡ self.now.document.w) }
     {
         let mut picture = RowPicture::of_letters(self.alloc, text)?;
         push_typed(self.alloc, &mut picture.glyphs, typed)?;

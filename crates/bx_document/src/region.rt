@@ -17,8 +17,6 @@ fn turn_slots(grid: &mut Grid, row: u16, slots: &[Slot])
     requires spans { All (IsSpan (row_in grid.old row)) slots.now }
     ensures { grid.new ≡ with_rows grid.old row (turned_slots slots.now (row_in grid.old row)) }
 {
-    // proof only: the number of the grid's columns
-    let _columns = grid.columns();
     for slot in slots {
         grid.turn(row, slot.column - 1, slot.columns);
     }

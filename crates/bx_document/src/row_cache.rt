@@ -1,12 +1,12 @@
 //! A cache of drawn rows.
-ghost use Rattle.std.specs.Prelude.{◌≡◌, ◌<◌, [], length, HoldsAt, IfSome, IsTrue, OnOk};
+ghost use Rattle.std.specs.Prelude.{◌≡◌, ◌*◌, ◌<◌, [], length, HoldsAt, IfSome, IsTrue, OnOk};
 ghost use Rattle.bx_ucd.specs.Data.{Data};
 ghost use Rattle.bx_view.specs.Source.{OfRow, Stands};
 ghost use Rattle.bx_document.specs.Cache.{AreDrawnBy, HoldsRow, IsDrawnBy, IsRowOf};
 ghost use Rattle.bx_document.specs.Drawing.{row_columns, with_rows};
 
 use crate::drawing::draw_row;
-use bx_grid::{Grid, OwnedRow};
+use bx_grid::Grid;
 use bx_terms::{Base, OutOfMemory};
 use bx_ucd::BidiData;
 use bx_view::{RowAt, Source, View};
@@ -16,114 +16,103 @@ use std::marker::Model;
 // In bytes. Each cached row copies its paragraph's body, so rows of a longer body are not cached.
 const LARGEST_BODY: usize = 16_384;
 
-/// A row's key: everything that determines its columns, except Unicode's tables.
-#[derive(Clone, Copy)]
-struct RowKey<'b> {
-    /// The body of the row's paragraph.
-    body: &'b str,
-    /// The base direction.
-    base: Base,
-    /// The row's number in the body, from 0.
-    number: usize,
-    /// The window's columns.
-    width: u16,
-}
-
-/// A drawn row with its key: the body of its paragraph, the base direction and its number in the body, from 0. The width
-/// is the number of its columns.
+/// An entry of the cache: a drawn row, the only one of a grid, and all that determines its columns except Unicode's tables.
+/// That is the body of its paragraph, the base direction, its number in the body, from 0, and the width, which is the grid's.
 #[derive(Drop)]
-struct DrawnRow {
+struct Entry {
     body: String,
     base: Base,
     number: usize,
-    columns: OwnedRow,
+    grid: Grid,
 }
 
-impl Model for DrawnRow {
+impl Model for Entry {
     ghost use Rattle.std.specs.Prelude.{string_bytes};
-    ghost use Rattle.bx_document.specs.Cache.{DrawnRowState};
+    ghost use Rattle.bx_document.specs.Cache.{EntryState};
 
-    ghost Value = { DrawnRowState };
+    ghost Value = { EntryState };
 
-    ghost view = { λ r. record { body = string_bytes r.body; base = r.base; number = r.number; columns = r.columns } };
+    ghost view = { λ e. record { body = string_bytes e.body; base = e.base; number = e.number; grid = e.grid } };
 }
 
-/// A cache of drawn rows. A row's columns depend only on its key and Unicode's tables, so no edit invalidates one. The rows
-/// of the latest page come first, each at its number in the page if all before it could be cached.
+/// A cache of drawn rows. A row's columns depend only on the rest of its entry and Unicode's tables, so no edit invalidates one.
+/// The rows of the latest page come first, each at its number in the page if all before it could be cached.
 #[derive(Drop)]
 pub(crate) struct RowCache {
-    rows: Vec<DrawnRow>,
+    entries: Vec<Entry>,
     // the number of rows of the page
     page: usize,
 }
 
 impl Model for RowCache {
     ghost use Rattle.std.specs.Prelude.{List};
-    ghost use Rattle.bx_document.specs.Cache.{DrawnRowState};
+    ghost use Rattle.bx_document.specs.Cache.{EntryState};
 
-    ghost Value = { List DrawnRowState };
+    ghost Value = { List EntryState };
 
-    ghost view = { λ c. c.rows.items };
+    ghost view = { λ c. c.entries.items };
 }
 
-impl DrawnRow {
-    /// Whether the row has this key. Allocates nothing.
-    fn is_of(&self, key: &RowKey<'_>) -> bool
-        ensures { IsTrue result → IsRowOf key.now.body.now key.now.base key.now.number key.now.width self.now }
+impl Entry {
+    /// Whether the row is this one of the body, drawn in `width` columns. Allocates nothing.
+    fn is_of(&self, body: &str, base: Base, number: usize, width: u16) -> bool
+        ensures { IsTrue result → IsRowOf body.now base number width self.now }
     {
-        self.number == key.number
-            && self.base == key.base
-            && self.columns.width() == key.width as usize
-            && self.body.as_str() == key.body
+        self.number == number
+            && self.base == base
+            && self.grid.width() == width
+            && self.body.as_str() == body
     }
 }
 
-/// Whether there is a row at index `i` and it has this key. Allocates nothing.
-fn is_kept(rows: &[DrawnRow], i: usize, key: &RowKey<'_>) -> bool
-    ensures { IsTrue result → HoldsRow key.now.body.now key.now.base key.now.number key.now.width rows.now i }
+/// Whether there is an entry at index `i` and it has this row. Allocates nothing.
+fn is_kept(entries: &[Entry], i: usize, body: &str, base: Base, number: usize, width: u16) -> bool
+    ensures { IsTrue result → HoldsRow body.now base number width entries.now i }
 {
-    i < rows.len() && rows[i].is_of(key)
+    i < entries.len() && entries[i].is_of(body, base, number, width)
 }
 
-/// The index of the first row with this key, from index `start` on. Allocates nothing.
-fn position(rows: &[DrawnRow], start: usize, key: &RowKey<'_>) -> Option<usize>
-    ensures { IfSome result (HoldsRow key.now.body.now key.now.base key.now.number key.now.width rows.now) }
+/// The index of the first entry with this row, from index `start` on. Allocates nothing.
+fn position(
+    entries: &[Entry],
+    start: usize,
+    body: &str,
+    base: Base,
+    number: usize,
+    width: u16,
+) -> Option<usize>
+    ensures { IfSome result (HoldsRow body.now base number width entries.now) }
 {
-    for i in start..rows.len() {
-        if is_kept(rows, i, key) {
+    for i in start..entries.len() {
+        if is_kept(entries, i, body, base, number, width) {
             return Some(i);
         }
     }
     None
 }
 
-/// Swaps the rows at indexes `i` and `at` if `at` is lower.
-fn bring(rows: &mut Vec<DrawnRow>, i: usize, at: usize)
-    ensures { (d : Data) → AreDrawnBy d rows.old.items → AreDrawnBy d rows.new.items }
+/// Swaps the entries at indexes `i` and `at` if `at` is lower.
+fn bring(entries: &mut Vec<Entry>, i: usize, at: usize)
+    ensures { (d : Data) → AreDrawnBy d entries.old.items → AreDrawnBy d entries.new.items }
 {
-    if at < i && i < rows.len() {
-        rows.swap(at, i);
+    if at < i && i < entries.len() {
+        entries.swap(at, i);
     }
 }
 
-/// Stores a row at index `at`. The row that it displaces moves to index `after`, past the page, and replaces the row
+/// Stores an entry at index `at`. The one that it displaces moves to index `after`, past the page, and replaces the one
 /// there; or to the end, if the cache is shorter.
-fn put_in(
-    rows: &mut Vec<DrawnRow>,
-    at: usize,
-    after: usize,
-    new: DrawnRow,
-) -> Result<(), AllocError>
-    ensures { (d : Data) → AreDrawnBy d rows.old.items → IsDrawnBy d new → AreDrawnBy d rows.new.items }
+fn put_in(entries: &mut Vec<Entry>, at: usize, after: usize, new: Entry) -> Result<(), AllocError>
+    ensures { (d : Data) → AreDrawnBy d entries.old.items → IsDrawnBy d new → AreDrawnBy d entries.new.items }
 {
-    if after < rows.len() {
-        rows[after] = new;
-        bring(rows, after, at);
+    if after < entries.len() {
+        entries[after] = new;
+        bring(entries, after, at);
         return Ok(());
     }
-    rows.push(new)?;
-    let last = rows.len() - 1;
-    bring(rows, last, at);
+    entries.push(new)?;
+    let last = entries.len() - 1;
+    bring(entries, last, at);
     Ok(())
 }
 
@@ -133,68 +122,67 @@ impl RowCache {
         ensures { result ≡ [] }
     {
         RowCache {
-            rows: Vec::new(alloc),
+            entries: Vec::new(alloc),
             page: 0,
         }
     }
 
-    /// Begins a page of `count` rows, and evicts rows beyond twice that number. Allocates nothing.
+    /// Begins a page of `count` rows, and evicts entries beyond twice that number. Allocates nothing.
     pub(crate) fn begin(&mut self, count: u16)
         ensures { (d : Data) → AreDrawnBy d self.old → AreDrawnBy d self.new }
     {
         self.page = usize::from(count);
-        self.rows.truncate(2 * usize::from(count));
+        self.entries.truncate(2 * usize::from(count));
     }
 
-    /// The allocator of cached rows.
+    /// The allocator of entries.
     fn allocator(&self) -> Global {
-        *self.rows.allocator()
+        *self.entries.allocator()
     }
 
     /// The index of a cached row, searched from its number in the page on. Allocates nothing.
-    fn find(&self, at: u16, key: &RowKey<'_>) -> Option<usize>
-        ensures { IfSome result (HoldsRow key.now.body.now key.now.base key.now.number key.now.width self.now) }
+    fn find(&self, at: u16, body: &str, base: Base, number: usize, width: u16) -> Option<usize>
+        ensures { IfSome result (HoldsRow body.now base number width self.now) }
     {
-        position(&self.rows, at as usize, key)
+        position(&self.entries, at as usize, body, base, number, width)
     }
 
-    /// The columns of the cached row at index `i`.
-    fn columns(&self, i: usize) -> &OwnedRow
+    /// The grid of the cached row at index `i`.
+    fn grid(&self, i: usize) -> &Grid
         requires { i < length self.now }
-        ensures { HoldsAt (λ r. result.now ≡ r.columns) self.now i }
+        ensures { HoldsAt (λ e. result.now ≡ e.grid) self.now i }
     {
-        let row = &self.rows[i];
-        &row.columns
+        let entry = &self.entries[i];
+        &entry.grid
     }
 
     /// Moves the cached row at index `i` to its number in the page. Allocates nothing.
     fn bring(&mut self, i: usize, at: u16)
         ensures { (d : Data) → AreDrawnBy d self.old → AreDrawnBy d self.new }
     {
-        bring(&mut self.rows, i, at as usize);
+        bring(&mut self.entries, i, at as usize);
     }
 
     /// Caches a row at its number in the page, unless its body is too long or memory runs out.
-    fn keep(&mut self, key: &RowKey<'_>, columns: OwnedRow, at: u16)
+    fn keep(&mut self, body: &str, base: Base, number: usize, grid: Grid, at: u16)
         ensures { (d : Data) → AreDrawnBy d self.old
-            → IsDrawnBy d (record { body = key.now.body.now; base = key.now.base; number = key.now.number; columns = columns })
-            → AreDrawnBy d self.new }
+            → IsDrawnBy d (record { body = body.now; base = base; number = number; grid = grid }) → AreDrawnBy d self.new }
     {
-        if key.body.len() > LARGEST_BODY {
+        if body.len() > LARGEST_BODY {
             return;
         }
-        let Ok(body) = String::from_str(self.allocator(), key.body) else {
+        let Ok(body) = String::from_str(self.allocator(), body) else {
             return;
         };
-        let new = DrawnRow {
+        let new = Entry {
             body,
-            base: key.base,
-            number: key.number,
-            columns,
+            base,
+            number,
+            grid,
         };
         let at = usize::from(at);
         let after = at.saturating_add(self.page);
-        let _kept = put_in(&mut self.rows, at, after, new);
+        let _kept = put_in(&mut self.entries, at, after, new);
     }
 
     /// Puts a row of the text into row `row` of a grid, from 0. A cached row is copied; any other is drawn and cached.
@@ -214,23 +202,20 @@ impl RowCache {
             OnOk result (grid.new ≡ with_rows grid.old row (row_columns (D.data source.now.tables.now) view.now.w r))) }
         ensures filled { OfRow source.now view.now at (λ r.
             OnOk result (length (row_columns (D.data source.now.tables.now) view.now.w r) ≡ view.now.w)) }
+        ensures sized { OnOk result (length grid.old.columns ≡ grid.old.height * grid.old.width) }
         ensures cache { AreDrawnBy (D.data source.now.tables.now) self.new }
     {
         let (body, number) = view.row_in_body(source, at);
-        let key = RowKey {
-            body,
-            base: view.base(),
-            number,
-            width: view.width(),
-        };
-        if let Some(i) = self.find(row, &key) {
-            grid.put_row(row, self.columns(i))?;
+        let base = view.base();
+        let width = view.width();
+        if let Some(i) = self.find(row, body, base, number, width) {
+            grid.put_row(row, self.grid(i))?;
             self.bring(i, row);
             return Ok(());
         }
         let new = draw_row(self.allocator(), view, source, at)?;
         grid.put_row(row, &new)?;
-        self.keep(&key, new, row);
+        self.keep(body, base, number, new, row);
         Ok(())
     }
 }

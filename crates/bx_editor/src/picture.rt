@@ -1,5 +1,5 @@
 //! The picture of an editor.
-ghost use Rattle.std.specs.Prelude.{◌≡◌, ◌*◌, ◌≤◌, ◌++◌, false, true, IfOk, OnOk, take};
+ghost use Rattle.std.specs.Prelude.{◌≡◌, ◌*◌, ◌≤◌, ◌++◌, false, true, IfOk, OnOk, length, take};
 ghost use Rattle.bx_terms.specs.Sizes.{is_side};
 ghost use Rattle.bx_view.specs.Position.{IsPosition};
 ghost use Rattle.bx_editor.specs.Editor.{rows, text_height};
@@ -42,10 +42,10 @@ impl<D: BidiData + Drop> Editor<D> {
           columns = take (text_height self.old.editor.height * self.old.editor.width) page.old.columns
               ++ status_columns (D.data self.old.tables) self.old.editor;
         }) }
+        ensures sized { length page.old.columns ≡ page.old.height * page.old.width }
     {
-        // proof only: the number of the page's columns
-        let _columns = page.columns();
-        if self.height < 2 {
+        let height = page.height();
+        if height < 2 {
             return Ok(());
         }
         let Position {
@@ -56,7 +56,7 @@ impl<D: BidiData + Drop> Editor<D> {
         let mut line = status_line(alloc, self.past.changed, paragraph, unit)?;
         self.write_message(&mut line)?;
         let row = self.draw_status(line)?;
-        page.put_row(self.height - 1, &row)?;
+        page.put_row(height - 1, &row)?;
         Ok(())
     }
 
@@ -79,10 +79,9 @@ impl<D: BidiData + Drop> Editor<D> {
             → IfOk result (λ shown. StandsOnItsCell (D.data self.old.tables) self.old.editor shown.0 shown.1) }
     {
         let mut page = page;
-        // proof only: the number of the page's columns
-        let _columns = page.columns();
+        let height = page.height();
         if self.ended {
-            page.blank_rows(0, self.height);
+            page.blank_rows(0, height);
             let cursor = Cell { line: 1, column: 1 };
             return Ok((top, Picture::new(page, cursor)));
         }
@@ -93,8 +92,6 @@ impl<D: BidiData + Drop> Editor<D> {
         let shown = self
             .document
             .show(&mut page, top, self.cursor.place, count, region)?;
-        // proof only: the number is unchanged
-        let _columns = page.columns();
         self.put_status(alloc, &mut page, shown.position)?;
         let cursor = Cell {
             line: shown.row + 1,

@@ -9,7 +9,7 @@ use crate::editor::Editor;
 use crate::seek::Seek;
 use bx_asking::Ask;
 use bx_document::Document;
-use bx_grid::OwnedRow;
+use bx_grid::Grid;
 use bx_terms::OutOfMemory;
 use bx_ucd::BidiData;
 use itoa::Buffer;
@@ -80,12 +80,14 @@ fn draw_search<D: BidiData + Drop>(
     seek: Seek,
     query: &str,
     other: &str,
-) -> Result<OwnedRow, OutOfMemory>
+) -> Result<Grid, OutOfMemory>
     requires { are_ascii_printable (string_bytes line) ≡ true }
-    ensures row { IfOk result (λ row. row ≡ glyph_row document.now.document.w
+    ensures row { IfOk result (λ row. row.columns ≡ glyph_row document.now.document.w
         (letter_glyphs (string_bytes line)
         ++ (letter_glyphs (search_prompt aim seek) ++ search_glyphs (D.data document.now.tables) query.now other.now seek))) }
-    ensures filled { IfOk result (λ row. length row ≡ document.now.document.w) }
+    ensures filled { IfOk result (λ row. length row.columns ≡ document.now.document.w) }
+    ensures one { IfOk result (λ row. row.height ≡ 1) }
+    ensures wide { IfOk result (λ row. row.width ≡ document.now.document.w) }
 {
     let mut line = line;
     line.push_str(search_prompt(aim, seek))?;
@@ -114,12 +116,14 @@ fn draw_question<D: BidiData + Drop>(
     line: String,
     ask: Ask,
     answer: &str,
-) -> Result<OwnedRow, OutOfMemory>
+) -> Result<Grid, OutOfMemory>
     requires line { are_ascii_printable (string_bytes line) ≡ true }
     requires narrow { All IsNarrow (chars answer.now) }
-    ensures row { IfOk result (λ row. row ≡ glyph_row document.now.document.w
+    ensures row { IfOk result (λ row. row.columns ≡ glyph_row document.now.document.w
         (letter_glyphs (string_bytes line) ++ (letter_glyphs (prompt_text ask) ++ typed_glyphs answer.now))) }
-    ensures filled { IfOk result (λ row. length row ≡ document.now.document.w) }
+    ensures filled { IfOk result (λ row. length row.columns ≡ document.now.document.w) }
+    ensures one { IfOk result (λ row. row.height ≡ 1) }
+    ensures wide { IfOk result (λ row. row.width ≡ document.now.document.w) }
 {
     let mut line = line;
     line.push_str(prompt_text(ask))?;
@@ -129,11 +133,13 @@ fn draw_question<D: BidiData + Drop>(
 
 impl<D: BidiData + Drop> Editor<D> {
     /// Draws the status row: its text, then the prompt of a question or a search, with what was typed after it.
-    pub(crate) fn draw_status(&self, line: String) -> Result<OwnedRow, OutOfMemory>
+    pub(crate) fn draw_status(&self, line: String) -> Result<Grid, OutOfMemory>
         requires { are_ascii_printable (string_bytes line) ≡ true }
-        ensures row { IfOk result (λ row. row ≡ glyph_row self.now.editor.width
+        ensures row { IfOk result (λ row. row.columns ≡ glyph_row self.now.editor.width
             (letter_glyphs (string_bytes line) ++ prompt_glyphs (D.data self.now.tables) self.now.editor self.now.editor.ask)) }
-        ensures filled { IfOk result (λ row. length row ≡ self.now.editor.width) }
+        ensures filled { IfOk result (λ row. length row.columns ≡ self.now.editor.width) }
+        ensures one { IfOk result (λ row. row.height ≡ 1) }
+        ensures wide { IfOk result (λ row. row.width ≡ self.now.editor.width) }
     {
         match self.ask {
             Ask::Off => draw_search(

@@ -90,6 +90,19 @@ rows_kept g r n news is low size new =
       rows = rows_put g.height g.width r n g.columns news is.sized.each low size new is.rows;
     }
 
+-- the only row of a grid
+pub length_of_one : (g : GridState) → length g.columns ≡ g.height * g.width → g.height ≡ 1 → length g.columns ≡ g.width
+length_of_one g sized one = let once : 1 * g.width ≡ g.width = omega arith in sized ∙ ap (λ h. h * g.width) one ∙ once
+
+pub all_of_one : (g : GridState) → length g.columns ≡ g.height * g.width → g.height ≡ 1 → take g.width (drop (0 * g.width) g.columns) ≡ g.columns
+all_of_one g sized one =
+    let none : 0 * g.width ≡ 0 = omega arith in
+    ap (λ k. take g.width (drop k g.columns)) none ∙ take_all g.width g.columns (omega (arith, length_of_one g sized one))
+
+pub whole_of_one : (height width w : ℕ) (columns : List Col) → AreWholeRows height width columns → height ≡ 1 → width ≡ w → AreWholeRows 1 w columns
+whole_of_one height width w columns rows one wide =
+    subst (λ n. AreWholeRows 1 n columns) wide (subst (λ h. AreWholeRows h width columns) one rows)
+
 -- columns that are there already
 pub put_same : (xs news : List Col) (k n : ℕ) → take n (drop k xs) ≡ news → length news ≡ n → paste xs k news ≡ xs
 put_same xs news k n there len =

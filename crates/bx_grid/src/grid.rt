@@ -154,6 +154,7 @@ impl Grid {
         ensures row { result ≡ take self.now.width (drop (row * self.now.width) self.now.columns) }
         ensures width { length result ≡ self.now.width }
         ensures wide { length result ≤ largest_side }
+        ensures sized { length self.now.columns ≡ self.now.height * self.now.width }
     {
         let start = row as usize * self.width as usize;
         let stop = start + self.width as usize;
@@ -165,6 +166,7 @@ impl Grid {
         ensures height { result ≡ self.now.height }
         ensures low { 1 ≤ result }
         ensures high { result ≤ largest_side }
+        ensures sized { length self.now.columns ≡ self.now.height * self.now.width }
     {
         self.height
     }

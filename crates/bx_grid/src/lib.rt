@@ -15,8 +15,8 @@ mod error;
 mod glyph_run;
 mod glyph_text;
 mod grid;
-mod owned_row;
 mod picture;
+mod rows;
 mod turning;
 
 pub use borrowed_row::BorrowedRow;
@@ -28,7 +28,6 @@ pub use error::GridError;
 pub use glyph_run::GlyphRun;
 pub use glyph_text::GlyphText;
 pub use grid::Grid;
-pub use owned_row::OwnedRow;
 pub use picture::Picture;
 
 /// Two pictures of one size differ in whole glyphs: a column that both have belongs to a glyph that both have as a whole,

@@ -35,10 +35,11 @@ impl Grid {
         requires fits { column + count ≤ self.old.width }
         requires begins { IsBorder (take self.old.width (drop (row * self.old.width) self.old.columns)) column }
         requires ends { IsBorder (take self.old.width (drop (row * self.old.width) self.old.columns)) (column + count) }
-        ensures { self.new ≡ record self.old {
+        ensures turned { self.new ≡ record self.old {
           columns = paste self.old.columns (row * self.old.width)
               (turned_in (take self.old.width (drop (row * self.old.width) self.old.columns)) column count);
         } }
+        ensures sized { length self.old.columns ≡ self.old.height * self.old.width }
     {
         let start = row as usize * self.width as usize + column as usize;
         let stop = start + count as usize;

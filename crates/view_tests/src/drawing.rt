@@ -1,16 +1,16 @@
 //! Rows drawn from a text, and from a text and a query.
 
 use crate::scene::document_of;
-use bx_grid::{Column, OwnedRow};
+use bx_grid::{Column, Grid};
 use bx_terms::{Base, are_ascii_printable};
 use bx_ucd::sample_tables;
 use std::alloc::Global;
 use std::test::Fail;
 
-/// The glyphs of a row, those in negative rendition in brackets.
-fn glyphs_of(alloc: Global, row: &OwnedRow) -> Result<String, Fail> {
+/// The glyphs of a grid of one row, those in negative rendition in brackets.
+fn glyphs_of(alloc: Global, row: &Grid) -> Result<String, Fail> {
     let mut line = String::new(alloc);
-    for column in row.as_row().columns() {
+    for column in row.columns() {
         if let Column::Glyph {
             text,
             offset: 0,

@@ -1,7 +1,7 @@
 use Rattle.std.proofs.Common.{◌≡◌, ◌+◌, ◌-◌, ◌*◌, ◌≤◌, ◌++◌, ◌∙◌, ap, arith, length, refl, replicate, subst, sym, take, take_all}
 use Rattle.bx_terms.specs.Glyphs.{run_width}
 use Rattle.bx_grid.specs.Columns.{blank, paste, run_columns}
-use Rattle.bx_grid.specs.Picture.{HasRoom}
+use Rattle.bx_grid.specs.Picture.{GridState, HasRoom}
 use Rattle.bx_document.proofs.PutOn.{all_put, some_put}
 use Rattle.bx_document.proofs.RowGlyphs.{columns_in, glyphs_columns, is_next, length-glyphs, next_put, room, within}
 use Rattle.bx_document.proofs.drawing.draw_glyphs.Goals as goal
@@ -42,10 +42,15 @@ returns-clause-row c =
     let past : length ds ≤ i = omega (arith, c.loop-glyph-test.false) in
     let whole : take i ds ≡ ds = take_all i ds past in
     let wide : length (glyphs_columns (take i ds)) ≡ columns_in ds = ap (λ xs. length (glyphs_columns xs)) whole ∙ length-glyphs ds in
-    c.into_row.ensures
-    ∙ some_put c.args.width (columns_in ds) (glyphs_columns (take i ds)) c.loop-glyph.grid c.loop-glyph.invariant.grid wide
+    some_put c.args.width (columns_in ds) (glyphs_columns (take i ds)) c.loop-glyph.grid c.loop-glyph.invariant.grid wide
     ∙ ap (λ xs. glyphs_columns xs ++ replicate (c.args.width - columns_in ds) blank) whole
 
 pub returns-clause-full : goal.returns-clause-full
 returns-clause-full c = λ full.
     returns-clause-row c ∙ all_put c.args.width (columns_in c.args.glyphs.now) (glyphs_columns c.args.glyphs.now) full
+
+pub returns-clause-one : goal.returns-clause-one
+returns-clause-one c = ap (λ (g : GridState). g.height) c.loop-glyph.invariant.grid
+
+pub returns-clause-wide : goal.returns-clause-wide
+returns-clause-wide c = ap (λ (g : GridState). g.width) c.loop-glyph.invariant.grid

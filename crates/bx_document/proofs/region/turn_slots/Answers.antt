@@ -8,10 +8,10 @@ abbrev no-slot : Slot
 no-slot = record { offset = 0; column = 0; columns = 0 }
 
 pub loop-slot-init : goal.loop-slot-init
-loop-slot-init c = none-turned c.args.grid.now c.args.row c.columns-columns.ensures.grid.sized.each c.requires.inside c.args.slots.now c.requires.spans
+loop-slot-init c = none-turned c.args.grid.now c.args.row c.args.slots.now c.requires.spans
 
 pub loop-slot-preserved : goal.loop-slot-preserved
 loop-slot-preserved c =
-    next-turned c.args.grid.now c.args.row c.columns-columns.ensures.grid.sized.each c.requires.inside c.args.slots.now c.loop-slot.slot-index
-    c.loop-slot.grid c.loop-slot.invariant (get_or c.args.slots.now c.loop-slot.slot-index no-slot) c.turn.new.self c.loop-slot-test.true
-    (get_or_default c.args.slots.now c.loop-slot.slot-index no-slot (get_or c.args.slots.now c.loop-slot.slot-index no-slot) c.loop-slot-test.true) c.turn.ensures
+    next-turned c.args.grid.now c.args.row c.requires.inside c.args.slots.now c.loop-slot.slot-index
+    c.loop-slot.grid c.loop-slot.invariant c.turn.ensures.sized (get_or c.args.slots.now c.loop-slot.slot-index no-slot) c.turn.new.self c.loop-slot-test.true
+    (get_or_default c.args.slots.now c.loop-slot.slot-index no-slot (get_or c.args.slots.now c.loop-slot.slot-index no-slot) c.loop-slot-test.true) c.turn.ensures.turned

@@ -1,4 +1,4 @@
-use Rattle.std.proofs.Common.{◌≡◌, ◌≤◌, ◌*◌, ◌++◌, ap, drop, subst, sym}
+use Rattle.std.proofs.Common.{◌≡◌, ◌*◌, ◌++◌, drop, subst}
 use Rattle.bx_view.specs.Position.{IsPosition}
 use Rattle.bx_view.specs.FoundRow.{rows_by}
 use Rattle.bx_view.specs.Top.{follow}

@@ -11,8 +11,8 @@ returns-in-Off-clause-row g c =
     let now : EditorState g.row.D.Denot = c.args.self.now in
     let line = letter_glyphs (string_bytes c.args.line) in
     subst (λ (a : Ask). IfOk c.draw_search.result
-    (λ row. row ≡ glyph_row now.editor.width (line ++ prompt_glyphs (g.D.BidiData.data now.tables) now.editor a)))
+    (λ row. row.columns ≡ glyph_row now.editor.width (line ++ prompt_glyphs (g.D.BidiData.data now.tables) now.editor a)))
     (sym c.in-Off.is ∙ ap (λ (s : EditorState g.row.D.Denot). s.editor.ask) c.self.view_is)
     (subst (λ (s : EditorState g.row.D.Denot). IfOk c.draw_search.result
-    (λ row. row ≡ glyph_row s.editor.width (line ++ prompt_glyphs (g.D.BidiData.data s.tables) s.editor asks.Off)))
+    (λ row. row.columns ≡ glyph_row s.editor.width (line ++ prompt_glyphs (g.D.BidiData.data s.tables) s.editor asks.Off)))
     c.self.view_is (simp (c.as_str.ensures.value, c.as_str-in-Off.ensures.value) at c.draw_search.ensures.row))

@@ -62,7 +62,7 @@ returns-clause-picture g c =
     let part = c.seen-region.result in
     let told : part ≡ seen d e = c.seen-region.ensures ∙ ap (λ s. seen (g.D.BidiData.data s.tables) s.editor) (sym c.self.view_is) in
     let front = drawn-front was mid (shown_columns d i.document.document top part n) n (omega (arith, high, c.text_height-count.ensures.inside))
-    c.columns-columns.ensures.grid.sized.each c.columns-columns-2.ensures.grid.sized.each drawn in
+    c.height-height.ensures.sized c.put_status.ensures.sized drawn in
     let shown : take (text_height i.height * i.document.document.w) mid.columns
     ≡ region_rows d e.width (seen d e) (text_height i.height) (shown_rows all top (text_height i.height)) =
     ap₂ (λ t w. take (t * w) mid.columns) (sym c.text_height-count.ensures.rows) (sym wide) ∙ front
@@ -80,7 +80,9 @@ returns-clause-cursor g c = λ live.
     let same = c.self.view_is in
     let top = c.in_ok-shown.shown.top in
     let count = c.text_height-count.ensures.rows in
-    let some = subst (λ n. 1 ≤ n) c.requires.width c.columns-columns.ensures.grid.sized.narrow in
+    let column = c.in_ok-shown.ensures.inside in
+    let wide : 1 ≤ i.document.document.w = omega (arith, column.0, column.1) in
+    let some = subst (λ s. 1 ≤ s.editor.width) same wide in
     let utf8 = subst (λ s. IsUtf8 s.editor.content.text) same c.len-utf8.ensures.utf8 in
     let place = subst (λ s. IsTextPlace (g.D.BidiData.data s.tables) s.editor.content.text s.editor.place) same c.self.invariant.0 in
     let shown = subst (λ s. IsAmong (rows (g.D.BidiData.data s.tables) s.editor) top s.editor.place (text_height s.editor.height)) same
@@ -99,11 +101,10 @@ returns-then-self-clause-picture g c =
     let e : Editor = now.editor in
     let d : Data = g.D.BidiData.data now.tables in
     let was = c.args.page in
-    let height = ap (λ s. s.editor.height) c.self.view_is ∙ sym c.requires.height in
-    let step = c.blank_rows.ensures ∙ ap (λ h. with_rows was 0 (replicate ((h - 0) * was.width) blank)) height in
+    let step = c.blank_rows.ensures ∙ ap (λ h. with_rows was 0 (replicate ((h - 0) * was.width) blank)) c.height-height.ensures.height in
     let ended = sym (ap (λ s. s.editor.ended) c.self.view_is) ∙ c.if-self.true in
     c.new.ensures
     ∙ ap (λ (x : GridState). record { height = x.height; width = x.width; columns = x.columns; row = 1 - 1; column = 1 - 1 })
-    (all-blank was c.blank_rows.new.self c.columns-columns.ensures.grid.sized.each step)
+    (all-blank was c.blank_rows.new.self c.height-height.ensures.sized step)
     ∙ ap₂ (λ h w. blank_picture h w) c.requires.height c.requires.width
     ∙ sym (ap (λ b. if b then blank_picture e.height e.width else text_picture d e c.args.top (rows d e)) ended)

@@ -24,7 +24,6 @@ returns-clause-status g c =
     ∙ ap₂ (λ (s : EditorState g.row.D.Denot) (l : List ℕ). glyph_row s.editor.width (letter_glyphs l ++ prompt_glyphs (g.D.BidiData.data s.tables) s.editor s.editor.ask))
     same text in
     let wide = c.in_ok-row.ensures.filled ∙ ap (λ s. s.editor.width) same ∙ sym c.requires.width in
-    let height = ap (λ s. s.editor.height) (c.self-2.view_is ∙ same) in
-    let first = ap (λ s. s.editor.height) c.self.view_is in
-    some-status d e was c.requires.height c.requires.width c.columns-columns.ensures.grid.sized.each (c.self-2.inside.height - 1) c.in_ok-row.row c.put_row.new.self
-    (omega (arith, c.if-self-lt2.false, first)) (omega (arith, height)) wide columns c.in_ok-put_row.ensures.ok
+    let height : c.height-height.result ≡ e.height = c.height-height.ensures.height ∙ c.requires.height in
+    some-status d e was c.requires.height c.requires.width c.height-height.ensures.sized (c.height-height.result - 1) c.in_ok-row.row.columns c.put_row.new.self
+    (omega (arith, c.if-height-lt2.false, height)) (omega (arith, height)) wide columns c.in_ok-put_row.ensures.ok

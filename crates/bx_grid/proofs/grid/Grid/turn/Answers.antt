@@ -48,8 +48,8 @@ invariant_of-self c =
           ∙ ap (λ cs. codes_of (all_seen cs)) c.deref.ensures.value,
     )
 
-pub returns : goal.returns
-returns c =
+pub returns-clause-turned : goal.returns-clause-turned
+returns-clause-turned c =
     let g : GridState = record { height = c.self.inside.height; width = c.self.inside.width; columns = all_seen c.self.inside.columns.items } in
     let w = g.width in
     let row = c.args.row in
@@ -72,3 +72,6 @@ returns c =
       width = x.width;
       columns = paste x.columns (row * x.width) (turned_in (take x.width (drop (row * x.width) x.columns)) k n);
     }) c.self.view_is
+
+pub returns-clause-sized : goal.returns-clause-sized
+returns-clause-sized c = subst (λ (x : GridState). length x.columns ≡ x.height * x.width) c.self.view_is c.self.invariant.0.sized.each

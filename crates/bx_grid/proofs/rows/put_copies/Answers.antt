@@ -4,7 +4,7 @@ use Rattle.std.proofs.lemmas.Result.{on_err_weaker}
 use Rattle.bx_grid.specs.Columns.{blank, paste}
 use Rattle.bx_grid.specs.Seen.{all_seen}
 use Rattle.bx_grid.proofs.Pasted.{pasted_around}
-use Rattle.bx_grid.proofs.owned_row.put_copies.Goals as goal
+use Rattle.bx_grid.proofs.rows.put_copies.Goals as goal
 
 pub returns-then-is_err-clause-err : goal.returns-then-is_err-clause-err
 returns-then-is_err-clause-err c =

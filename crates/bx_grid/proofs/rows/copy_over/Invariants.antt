@@ -1,7 +1,7 @@
 use Rattle.std.proofs.Common.{◌≡◌, ◌≤◌, ◌-◌, length, take}
 use Rattle.bx_grid.specs.Columns.{paste}
 use Rattle.bx_grid.specs.Seen.{all_seen}
-use Rattle.bx_grid.proofs.owned_row.copy_over.Given as goal
+use Rattle.bx_grid.proofs.rows.copy_over.Given as goal
 
 abbrev pub invariant-loop-next : goal.invariant-loop-next
 invariant-loop-next l =

@@ -4,7 +4,7 @@ use Rattle.bx_grid.specs.Columns as spec
 use Rattle.bx_grid.specs.Seen.{seen, all_seen}
 use Rattle.bx_grid.proofs.Copied.{copied_over}
 use Rattle.bx_grid.proofs.Pasted.{paste_around, err_always}
-use Rattle.bx_grid.proofs.owned_row.copy_over.Goals as goal
+use Rattle.bx_grid.proofs.rows.copy_over.Goals as goal
 
 pub loop-next-preserved : goal.loop-next-preserved
 loop-next-preserved c =

@@ -1,6 +1,6 @@
 use Rattle.std.proofs.Common.{refl}
 use Rattle.bx_grid.proofs.Copied.{copied_over}
-use Rattle.bx_grid.proofs.owned_row.copy_short.Goals as goal
+use Rattle.bx_grid.proofs.rows.copy_short.Goals as goal
 
 pub loop-i-preserved : goal.loop-i-preserved
 loop-i-preserved c = λ start fits before.

@@ -1,4 +1,4 @@
-//! A row of columns outside a grid, to be put into one.
+//! Whole rows of a grid: puts one from another grid, and blanks some.
 
 ghost use Rattle.std.specs.Prelude.{List, ◌≡◌, ◌+◌, ◌-◌, ◌*◌, ◌≤◌, ◌<◌, ◌++◌, length, take, drop, replicate, OnOk, OnErr};
 ghost use Rattle.bx_grid.specs.Columns.{Col, blank, paste, AreSameAround};
@@ -11,70 +11,33 @@ use crate::columns::fill_blank;
 use crate::grid::Grid;
 use bx_terms::OutOfMemory;
 use std::alloc::{AllocError, Global};
-use std::marker::Model;
-
-/// A row of columns outside a grid: whole glyphs side by side.
-#[derive(Drop)]
-pub struct OwnedRow {
-    columns: Vec<Column>,
-    codes: Vec<u64>,
-}
-
-// Contracts see the content of the columns.
-impl Model for OwnedRow {
-    ghost use Rattle.std.specs.Prelude.{◌≡◌, List};
-    ghost use Rattle.bx_grid.specs.Columns.{Col};
-    ghost use Rattle.bx_grid.specs.Codes.{codes_of};
-    ghost use Rattle.bx_grid.specs.Glyphs.{AreWhole};
-    ghost use Rattle.bx_grid.specs.Seen.{all_seen};
-
-    ghost Value = { List Col };
-
-    ghost view = { λ r. all_seen r.columns.items };
-
-    ghost invariant = { λ r. AreWhole (all_seen r.columns.items) × (r.codes.items ≡ codes_of (all_seen r.columns.items)) };
-}
-
-impl OwnedRow {
-    /// Number of columns.
-    pub fn width(&self) -> usize
-        ensures { result ≡ length self.now }
-    {
-        self.columns.len()
-    }
-
-    /// The row, borrowed.
-    pub fn as_row(&self) -> BorrowedRow<'_>
-        ensures { result ≡ self.now }
-    {
-        BorrowedRow::new(&self.columns, &self.codes)
-    }
-}
 
 impl Grid {
-    /// The only row of a grid of one row. Allocates nothing.
-    pub fn into_row(self) -> OwnedRow
-        requires { self.height ≡ 1 }
-        ensures { result ≡ self.columns }
+    /// The row of a grid that has no other.
+    fn only_row(&self) -> BorrowedRow<'_>
+        requires one { self.now.height ≡ 1 }
+        ensures row { result ≡ self.now.columns }
+        ensures filled { length self.now.columns ≡ self.now.width }
     {
-        OwnedRow {
-            columns: self.columns,
-            codes: self.codes,
-        }
+        self.row(0)
     }
 
-    /// Replaces a row, counted from 0, by one of the same width. A row that looks the same already is not written.
+    /// Replaces a row, counted from 0, by the only row of a grid of the same width. A row that looks the same already is not
+    /// written.
     ///
     /// Errors: `OutOfMemory`, and the row is blank.
-    pub fn put_row(&mut self, row: u16, new: &OwnedRow) -> Result<(), OutOfMemory>
+    pub fn put_row(&mut self, row: u16, new: &Grid) -> Result<(), OutOfMemory>
         requires inside { row < self.old.height }
-        requires width { length new.now ≡ self.old.width }
-        ensures ok { OnOk result (self.new ≡ record self.old { columns = paste self.old.columns (row * self.old.width) new.now }) }
+        requires one { new.now.height ≡ 1 }
+        requires width { new.now.width ≡ self.old.width }
+        ensures ok { OnOk result (self.new ≡ record self.old { columns = paste self.old.columns (row * self.old.width) new.now.columns }) }
         ensures err { OnErr result (self.new ≡ record self.old {
           columns = paste self.old.columns (row * self.old.width) (replicate self.old.width blank);
         }) }
+        ensures filled { length new.now.columns ≡ self.old.width }
+        ensures sized { length self.old.columns ≡ self.old.height * self.old.width }
     {
-        if self.row(row).is_same(&new.as_row()) {
+        if self.row(row).is_same(&new.only_row()) {
             return Ok(());
         }
         let alloc = *self.columns.allocator();

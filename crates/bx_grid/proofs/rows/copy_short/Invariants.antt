@@ -1,7 +1,7 @@
 use Rattle.std.proofs.Common.{◌≡◌, ◌+◌, ◌≤◌, List, length, take}
 use Rattle.bx_grid.specs.Columns.{Col, paste}
 use Rattle.bx_grid.specs.Seen.{all_seen}
-use Rattle.bx_grid.proofs.owned_row.copy_short.Given as goal
+use Rattle.bx_grid.proofs.rows.copy_short.Given as goal
 
 abbrev pub invariant-loop-i : goal.invariant-loop-i
 invariant-loop-i l =
