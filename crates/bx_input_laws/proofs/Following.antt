@@ -18,11 +18,9 @@ use Rattle.bx_keys.specs.declared.key.Key.{Key}
 use Rattle.bx_keys.specs.declared.key.Key.TheVariants.{PasteStart, PasteEnd}
 use Rattle.bx_keys.proofs.Cuts.{in_pieces, rest_waits}
 use Rattle.bx_keys.proofs.Feeding.{waits_decoding, feeds_waiting, feeds_end, feeds_break, feeds_alone}
-use Rattle.bx_input.specs.Filter as filter
-use Rattle.bx_input.specs.Table as table
-use Rattle.bx_input.specs.Table.{Row, keys_of, sequences, fate, paste_start, paste_end, start_told, end_told}
+use Rattle.bx_input.specs.Table.{Row, keys_of, sequences, fate, paste_start, paste_end, start_told, end_told, rows, row_of}
 use Rattle.bx_input.specs.Paste.{pasted, paste_fate}
-use Rattle.bx_input.specs.Filter.{State, Outside, Within, Step, step_to, ended_in_paste, paste_step_by, fresh_in_paste, ended, start, at_end, apart_from, is_empty}
+use Rattle.bx_input.specs.Filter.{State, Outside, Within, Step, step_to, ended_in_paste, paste_step_by, fresh_in_paste, ended, start, at_end, apart_from, is_empty, fresh, broken, step_by, step, run, filtered}
 use Rattle.bx_input_laws.specs.Laws.{became, longer_by, longer_row, row_behind, is_text_byte, IsText, HasKeys, AddsKeys, BecomesRow, PastesInsert}
 use Rattle.bx_input_laws.proofs.Clean.{pastes_clean}
 use Rattle.bx_input_laws.proofs.Decoding.{IsFree, IsOutside, anew, anew_in_text, after_can, alone_free, sequence_over, still_free, text_inserts}
@@ -156,49 +154,25 @@ row_leaves is_open r rest h w free =
     let parts = and_parts (starts_anew r.becomes) (is_empty (decoding r.becomes).rest) h in
     ap (λ (d : Decoding). d.rest) (sent_anew is_open rest r.becomes parts.0 w free) ∙ is_nothing (decoding r.becomes).rest parts.1
 
-all_whole : (by_delete : Bool) → list_all is_whole (table.rows by_delete) ≡ true
+all_whole : (by_delete : Bool) → list_all is_whole (rows by_delete) ≡ true
 all_whole true = refl
 all_whole false = refl
 
 abbrev is_anew : Row → Bool
 is_anew r = starts_anew r.becomes
 
-all_anew : (by_delete : Bool) → list_all is_anew (table.rows by_delete) ≡ true
+all_anew : (by_delete : Bool) → list_all is_anew (rows by_delete) ≡ true
 all_anew true = refl
 all_anew false = refl
 
 -- ---- whether or not the terminal's own erase character is DELETE
 
 module _ (by_delete : Bool) where
-  abbrev rows : List Row
-  rows = table.rows by_delete
-
-  abbrev row_of : List ℕ → Option Row
-  row_of = table.row_of by_delete
-
-  abbrev fresh : Fate → Bool → ℕ → Step
-  fresh = filter.fresh by_delete
-
-  abbrev broken : List ℕ → Bool → ℕ → Step
-  broken = filter.broken by_delete
-
-  abbrev step_by : Fate → List ℕ → Bool → ℕ → Step
-  step_by = filter.step_by by_delete
-
-  abbrev step : State → ℕ → Step
-  step = filter.step by_delete
-
-  abbrev run : State → List ℕ → Step
-  run = filter.run by_delete
-
-  abbrev filtered : List ℕ → List ℕ
-  filtered = filter.filtered by_delete
-
-  ended_follows : (is_open : Bool) (read : List ℕ) (o : Option Row) (rest : List ℕ) → row_of read ≡ o → editor.fate rest ≡ Waits
+  ended_follows : (is_open : Bool) (read : List ℕ) (o : Option Row) (rest : List ℕ) → row_of by_delete read ≡ o → editor.fate rest ≡ Waits
       → (is_open ≡ false → IsFree rest) → Follows (ended is_open o).state (left rest (ended is_open o).output)
   ended_follows is_open read None rest h w free = subst IsFree (sym (start_leaves rest w)) nothing_free
   ended_follows is_open read (Some r) rest h w free =
-      let is = found (λ (x : Row). bytes_eq x.sequence read) is_whole rows r (all_whole by_delete) h in
+      let is = found (λ (x : Row). bytes_eq x.sequence read) is_whole (rows by_delete) r (all_whole by_delete) h in
       subst (FollowsOutside [] false) (sym (row_leaves is_open r rest is.fits w free)) (nothing_follows false)
 
   -- ---- what breaks off
@@ -275,20 +249,20 @@ module _ (by_delete : Bool) where
 
   fresh_follows_outside : (t : Fate) (waiting : List ℕ) (is_open : Bool) (rest : List ℕ) (b : ℕ) → fate (b ∷ []) ≡ t → editor.fate rest ≡ Waits
       → fate waiting ≡ Waits → fate (waiting ++ b ∷ []) ≡ Breaks → FollowsOutside waiting is_open rest
-      → Follows (fresh t (is_open_after waiting is_open) b).state (left rest (waiting ++ (fresh t (is_open_after waiting is_open) b).output))
+      → Follows (fresh by_delete t (is_open_after waiting is_open) b).state (left rest (waiting ++ (fresh by_delete t (is_open_after waiting is_open) b).output))
   fresh_follows_outside Waits waiting is_open rest b e w h g f =
       subst (λ xs. FollowsOutside (b ∷ []) (is_open_after waiting is_open) (left rest xs)) (sym (append-nil waiting))
       (record { closed = λ c. escape_closed waiting is_open rest w f c; not_bare = λ no s. cc no })
   fresh_follows_outside Ends waiting is_open rest b e w h g f =
       let opened : Bool = is_open_after waiting is_open in
-      let went : Step = ended opened (row_of (b ∷ [])) in
+      let went : Step = ended opened (row_of by_delete (b ∷ [])) in
       subst (Follows went.state) (sym (left_append rest waiting went.output))
-      (ended_follows opened (b ∷ []) (row_of (b ∷ [])) (left rest waiting) refl (rest_waits (rest ++ waiting)) (λ c. escape_closed waiting is_open rest w f c))
+      (ended_follows opened (b ∷ []) (row_of by_delete (b ∷ [])) (left rest waiting) refl (rest_waits (rest ++ waiting)) (λ c. escape_closed waiting is_open rest w f c))
   fresh_follows_outside Breaks waiting is_open rest b e w h g f = other_follows waiting is_open rest b w h g (breaks_no_escape b e) f
 
   broken_follows : (waiting : List ℕ) (is_open : Bool) (rest : List ℕ) (b : ℕ) → editor.fate rest ≡ Waits → fate waiting ≡ Waits
       → fate (waiting ++ b ∷ []) ≡ Breaks → FollowsOutside waiting is_open rest
-      → Follows (broken waiting is_open b).state (left rest (broken waiting is_open b).output)
+      → Follows (broken by_delete waiting is_open b).state (left rest (broken by_delete waiting is_open b).output)
   broken_follows waiting is_open rest b w h g f = fresh_follows_outside (fate (b ∷ [])) waiting is_open rest b refl w h g f
 
   not_nothing : (xs : List ℕ) (b : ℕ) → xs ++ b ∷ [] ≢ []
@@ -297,11 +271,11 @@ module _ (by_delete : Bool) where
 
   outside_follows : (f : Fate) (waiting : List ℕ) (is_open : Bool) (b : ℕ) (rest : List ℕ) → fate (waiting ++ b ∷ []) ≡ f → fate waiting ≡ Waits
       → editor.fate rest ≡ Waits → FollowsOutside waiting is_open rest
-      → Follows (step_by f waiting is_open b).state (left rest (step_by f waiting is_open b).output)
+      → Follows (step_by by_delete f waiting is_open b).state (left rest (step_by by_delete f waiting is_open b).output)
   outside_follows Waits waiting is_open b rest h s w f =
       subst (FollowsOutside (waiting ++ b ∷ []) is_open) (sym (left_none rest w))
       (record { closed = f.closed; not_bare = λ e. absurd (not_nothing waiting b e) })
-  outside_follows Ends waiting is_open b rest h s w f = ended_follows is_open (waiting ++ b ∷ []) (row_of (waiting ++ b ∷ [])) rest refl w f.closed
+  outside_follows Ends waiting is_open b rest h s w f = ended_follows is_open (waiting ++ b ∷ []) (row_of by_delete (waiting ++ b ∷ [])) rest refl w f.closed
   outside_follows Breaks waiting is_open b rest h s w f = broken_follows waiting is_open rest b w s h f
 
   -- ---- within a paste
@@ -333,7 +307,7 @@ module _ (by_delete : Bool) where
   within_follows Breaks waiting after_return b rest free = fresh_follows (paste_fate (b ∷ [])) after_return b rest free
 
   step_free : (waiting : List ℕ) (after_return : Bool) (b : ℕ) (rest : List ℕ) → editor.fate rest ≡ Waits → IsFree rest
-      → IsFree (left rest (step (Within waiting after_return) b).output)
+      → IsFree (left rest (step by_delete (Within waiting after_return) b).output)
   step_free waiting after_return b rest w free =
       let clean = pastes_clean by_delete in
       let read : List ℕ = waiting ++ b ∷ [] in
@@ -343,33 +317,33 @@ module _ (by_delete : Bool) where
             subst IsFree (sym (ap (λ (x : Step). left rest x.output) went ∙ end_leaves rest w)) nothing_free)
         | inr other ↦ (
             let is_other : read ≢ paste_end = λ same. both_ways (bytes_eq read paste_end) other (ap (λ xs. bytes_eq xs paste_end) same) in
-            text_free rest (step (Within waiting after_return) b).output w free (clean.each_byte waiting after_return b is_other))
+            text_free rest (step by_delete (Within waiting after_return) b).output w free (clean.each_byte waiting after_return b is_other))
       ]
 
   step_follows : (s : State) (b : ℕ) (rest : List ℕ) → IsSound s → editor.fate rest ≡ Waits → Follows s rest
-      → Follows (step s b).state (left rest (step s b).output)
+      → Follows (step by_delete s b).state (left rest (step by_delete s b).output)
   step_follows (Outside waiting is_open) b rest s w f = outside_follows (fate (waiting ++ b ∷ [])) waiting is_open b rest refl s w f
   step_follows (Within waiting after_return) b rest s w f =
-      within_follows (paste_fate (waiting ++ b ∷ [])) waiting after_return b (left rest (step (Within waiting after_return) b).output)
+      within_follows (paste_fate (waiting ++ b ∷ [])) waiting after_return b (left rest (step by_delete (Within waiting after_return) b).output)
       (step_free waiting after_return b rest w f)
 
-  run_follows : (s : State) (bs rest : List ℕ) → IsSound s → editor.fate rest ≡ Waits → Follows s rest → Follows (run s bs).state (left rest (run s bs).output)
+  run_follows : (s : State) (bs rest : List ℕ) → IsSound s → editor.fate rest ≡ Waits → Follows s rest → Follows (run by_delete s bs).state (left rest (run by_delete s bs).output)
   run_follows s [] rest h w f = subst (Follows s) (sym (left_none rest w)) f
   run_follows s (b ∷ bs) rest h w f =
-      let first : Step = step s b in
-      subst (Follows (run first.state bs).state) (sym (left_append rest first.output (run first.state bs).output))
+      let first : Step = step by_delete s b in
+      subst (Follows (run by_delete first.state bs).state) (sym (left_append rest first.output (run by_delete first.state bs).output))
       (run_follows first.state bs (left rest first.output) (step_sound by_delete s b) (rest_waits (rest ++ first.output)) (step_follows s b rest h w f))
 
   -- ---- the editor's keys, whatever came before
 
   -- outside a paste nothing is open for the decoder that is not for the filter
-  closed_before : (bs waiting : List ℕ) (is_open : Bool) → (run start bs).state ≡ Outside waiting is_open
-      → is_open_after waiting is_open ≡ false → IsFree (decoding (filtered bs)).rest
+  closed_before : (bs waiting : List ℕ) (is_open : Bool) → (run by_delete start bs).state ≡ Outside waiting is_open
+      → is_open_after waiting is_open ≡ false → IsFree (decoding (filtered by_delete bs)).rest
   closed_before bs waiting is_open at c =
-      let all : Step = run start bs in
+      let all : Step = run by_delete start bs in
       let f : FollowsOutside waiting is_open (decoding all.output).rest =
       subst (λ s. Follows s (decoding all.output).rest) at (run_follows start bs [] refl refl (nothing_follows false)) in
-      let out : filtered bs ≡ all.output ++ waiting = ap (λ s. all.output ++ at_end s) at in
+      let out : filtered by_delete bs ≡ all.output ++ waiting = ap (λ s. all.output ++ at_end s) at in
       subst IsFree (sym (ap (λ xs. (decoding xs).rest) out ∙ ap (λ (d : Decoding). d.rest) (in_pieces all.output waiting)))
       (escape_closed waiting is_open (decoding all.output).rest (rest_waits all.output) f c)
 
@@ -394,19 +368,19 @@ module _ (by_delete : Bool) where
 
   -- the row that an ESC makes longer, if there is one
   adds_by : (o : Option Row) (r : Row) (bs waiting : List ℕ) (is_open : Bool) → IsAlike r → ((q : Row) → o ≡ Some q → IsAlike q × (waiting ≡ 0x1B ∷ []))
-      → (run start bs).state ≡ Outside waiting is_open → run start (bs ++ r.sequence) ≡ step_to start (became by_delete bs waiting is_open r o)
-      → (decoding (filtered (bs ++ r.sequence))).keys ≡ (decoding (filtered bs)).keys ++ keys_of (row_behind r o)
+      → (run by_delete start bs).state ≡ Outside waiting is_open → run by_delete start (bs ++ r.sequence) ≡ step_to start (became by_delete bs waiting is_open r o)
+      → (decoding (filtered by_delete (bs ++ r.sequence))).keys ≡ (decoding (filtered by_delete bs)).keys ++ keys_of (row_behind r o)
   adds_by None r bs waiting is_open is longer at becoming =
       let opened : Bool = is_open_after waiting is_open in
-      let out : filtered (bs ++ r.sequence) ≡ filtered bs ++ apart_from opened r.becomes =
-      ap (λ (x : Step). x.output ++ at_end x.state) becoming ∙ append-nil (filtered bs ++ apart_from opened r.becomes) in
-      ap (λ xs. (decoding xs).keys) out ∙ sent_key r opened (filtered bs) is (closed_before bs waiting is_open at)
+      let out : filtered by_delete (bs ++ r.sequence) ≡ filtered by_delete bs ++ apart_from opened r.becomes =
+      ap (λ (x : Step). x.output ++ at_end x.state) becoming ∙ append-nil (filtered by_delete bs ++ apart_from opened r.becomes) in
+      ap (λ xs. (decoding xs).keys) out ∙ sent_key r opened (filtered by_delete bs) is (closed_before bs waiting is_open at)
   adds_by (Some q) r bs waiting is_open is longer at becoming =
-      let all : Step = run start bs in
+      let all : Step = run by_delete start bs in
       let says = longer q refl in
-      let out : filtered (bs ++ r.sequence) ≡ all.output ++ apart_from is_open q.becomes =
+      let out : filtered by_delete (bs ++ r.sequence) ≡ all.output ++ apart_from is_open q.becomes =
       ap (λ (x : Step). x.output ++ at_end x.state) becoming ∙ append-nil (all.output ++ apart_from is_open q.becomes) in
-      let before : filtered bs ≡ all.output ++ 0x1B ∷ [] = ap (λ s. all.output ++ at_end s) at ∙ ap (λ xs. all.output ++ xs) says.1 in
+      let before : filtered by_delete bs ≡ all.output ++ 0x1B ∷ [] = ap (λ s. all.output ++ at_end s) at ∙ ap (λ xs. all.output ++ xs) says.1 in
       let f : FollowsOutside waiting is_open (decoding all.output).rest =
       subst (λ s. Follows s (decoding all.output).rest) at (run_follows start bs [] refl refl (nothing_follows false)) in
       ap (λ xs. (decoding xs).keys) out
@@ -421,13 +395,13 @@ module _ (by_delete : Bool) where
     | inr later ↦ of_found P p rs q all.1 (sym (cond-false (p x) (Some x) (find p rs) later) ∙ h)
   ]
 
-  row_alike : (read : List ℕ) (q : Row) → row_of read ≡ Some q → IsAlike q
+  row_alike : (read : List ℕ) (q : Row) → row_of by_delete read ≡ Some q → IsAlike q
   row_alike read q h = record {
-    has_keys = of_found HasKeys (λ (x : Row). bytes_eq x.sequence read) rows q (rows_have_keys by_delete) h;
-    is_anew = (found (λ (x : Row). bytes_eq x.sequence read) is_anew rows q (all_anew by_delete) h).fits;
+    has_keys = of_found HasKeys (λ (x : Row). bytes_eq x.sequence read) (rows by_delete) q (rows_have_keys by_delete) h;
+    is_anew = (found (λ (x : Row). bytes_eq x.sequence read) is_anew (rows by_delete) q (all_anew by_delete) h).fits;
   }
 
-  longer_says : (o : Option Row) (waiting read : List ℕ) (q : Row) → row_of read ≡ o → longer_by waiting o ≡ Some q → IsAlike q × (waiting ≡ 0x1B ∷ [])
+  longer_says : (o : Option Row) (waiting read : List ℕ) (q : Row) → row_of by_delete read ≡ o → longer_by waiting o ≡ Some q → IsAlike q × (waiting ≡ 0x1B ∷ [])
   longer_says None waiting read q h is = absurd (cc is)
   longer_says (Some r) waiting read q h is = elim (cases_Bool (bytes_eq waiting (0x1B ∷ []))) [
     | inl same ↦ (
@@ -439,7 +413,7 @@ module _ (by_delete : Bool) where
   adds_keys : (r : Row) → BecomesRow by_delete r → IsAlike r → AddsKeys by_delete r
   adds_keys r becomes is bs waiting is_open at =
       let read : List ℕ = 0x1B ∷ r.sequence in
-      adds_by (longer_row by_delete waiting r) r bs waiting is_open is (λ q e. longer_says (row_of read) waiting read q refl e) at
+      adds_by (longer_row by_delete waiting r) r bs waiting is_open is (λ q e. longer_says (row_of by_delete read) waiting read q refl e) at
       (becomes bs waiting is_open at)
 
   all_add : (rs : List Row) → AllByRecursion (BecomesRow by_delete) rs → AllByRecursion HasKeys rs → list_all is_anew rs ≡ true
@@ -449,8 +423,8 @@ module _ (by_delete : Bool) where
       let parts = and_parts (is_anew r) (list_all is_anew rs) a in
       (adds_keys r b.0 (record { has_keys = k.0; is_anew = parts.0 }), all_add rs b.1 k.1 parts.1)
 
-  pub rows_add_keys : AllByRecursion (AddsKeys by_delete) rows
-  rows_add_keys = all_add rows (rows_become by_delete) (rows_have_keys by_delete) (all_anew by_delete)
+  pub rows_add_keys : AllByRecursion (AddsKeys by_delete) (rows by_delete)
+  rows_add_keys = all_add (rows by_delete) (rows_become by_delete) (rows_have_keys by_delete) (all_anew by_delete)
 
   -- the keys of a paste's marks and the bytes between them
   told_keys : (sent text : List ℕ) → (decoding (sent ++ (start_told ++ (text ++ end_told)))).keys
@@ -470,10 +444,10 @@ module _ (by_delete : Bool) where
   pub pastes_insert : PastesInsert by_delete
   pastes_insert bs waiting is_open text at none =
       let sent : List ℕ = start_told ++ (pasted text ++ end_told) in
-      let out : filtered (bs ++ (paste_start ++ (text ++ paste_end))) ≡ filtered bs ++ sent =
-      ap (λ (x : Step). x.output ++ at_end x.state) (pastes_text by_delete bs waiting is_open text at none) ∙ append-nil (filtered bs ++ sent) in
+      let out : filtered by_delete (bs ++ (paste_start ++ (text ++ paste_end))) ≡ filtered by_delete bs ++ sent =
+      ap (λ (x : Step). x.output ++ at_end x.state) (pastes_text by_delete bs waiting is_open text at none) ∙ append-nil (filtered by_delete bs ++ sent) in
       let clean : IsText (pasted text) = (pastes_clean by_delete).whole text in (
-        ap (λ xs. (decoding xs).keys) out ∙ told_keys (filtered bs) (pasted text),
+        ap (λ xs. (decoding xs).keys) out ∙ told_keys (filtered by_delete bs) (pasted text),
         text_inserts [] (pasted text) refl nothing_free clean,
         λ u. utf8_inserts [] (pasted text) u clean refl nothing_free,
       )

@@ -11,11 +11,9 @@ use Rattle.std.proofs.lemmas.List.{length_push}
 use Rattle.bx_bytes.specs.Pattern.{Piece, is_within, matches, matches_any}
 use Rattle.bx_bytes.specs.declared.fate.Fate.{Fate}
 use Rattle.bx_bytes.specs.declared.fate.Fate.TheVariants.{Waits, Ends, Breaks}
-use Rattle.bx_input.specs.Filter as filter
-use Rattle.bx_input.specs.Table as table
-use Rattle.bx_input.specs.Table.{Row, sequences, fate, exact, paste_start, paste_end}
+use Rattle.bx_input.specs.Table.{Row, sequences, fate, exact, paste_start, paste_end, rows, row_of}
 use Rattle.bx_input.specs.Paste.{pasted_byte, pasted_part, paste_fate}
-use Rattle.bx_input.specs.Filter.{State, Outside, Within, Step, ended_in_paste, paste_step_by, fresh_in_paste, ended, start, at_end, apart_from}
+use Rattle.bx_input.specs.Filter.{State, Outside, Within, Step, ended_in_paste, paste_step_by, fresh_in_paste, ended, start, at_end, apart_from, fresh, broken, step_by, step, run, filtered}
 use Rattle.bx_input_laws.specs.Laws.{waiting_in, is_key_byte, GrowsFiveTimes, GrowsByTenThirds}
 use Rattle.bx_input_laws.proofs.Firsts.{ends_says}
 use Rattle.bx_input.proofs.Rows.{is_open_after}
@@ -84,7 +82,7 @@ row_fits true r h =
 row_fits false r h =
     leb-true (3 * length (apart_from false r.becomes)) (10 * length r.sequence + last_extra r.sequence) (and_parts (fits_in r true) (fits_in r false) h).1
 
-all_fit : (by_delete : Bool) → list_all fits (table.rows by_delete) ≡ true
+all_fit : (by_delete : Bool) → list_all fits (rows by_delete) ≡ true
 unfolding extra last_extra
 all_fit true = refl
 all_fit false = refl
@@ -121,18 +119,18 @@ none_matches (r ∷ rs) read h =
           or_from (matches (exact r.sequence) read) (matches_any (exact_rows rs) read) first (none_matches rs read rest))
     ]
 
-same_patterns : (by_delete : Bool) → exact_rows (table.rows by_delete) ≡ exact_rows (table.rows false)
+same_patterns : (by_delete : Bool) → exact_rows (rows by_delete) ≡ exact_rows (rows false)
 same_patterns true = refl
 same_patterns false = refl
 
 -- a known sequence that no row has is the start of a paste
-pub is_start : (by_delete : Bool) (read : List ℕ) → fate read ≡ Ends → table.row_of by_delete read ≡ None → paste_start ≡ read
+pub is_start : (by_delete : Bool) (read : List ℕ) → fate read ≡ Ends → row_of by_delete read ≡ None → paste_start ≡ read
 is_start by_delete read h none =
-    let others : matches_any (exact_rows (table.rows false)) read ≡ false =
-    ap (λ ps. matches_any ps read) (sym (same_patterns by_delete)) ∙ none_matches (table.rows by_delete) read none in
-    elim (or_cases (matches (exact paste_start) read) (matches_any (exact_rows (table.rows false)) read) (ends_says sequences read h)) [
+    let others : matches_any (exact_rows (rows false)) read ≡ false =
+    ap (λ ps. matches_any ps read) (sym (same_patterns by_delete)) ∙ none_matches (rows by_delete) read none in
+    elim (or_cases (matches (exact paste_start) read) (matches_any (exact_rows (rows false)) read) (ends_says sequences read h)) [
       | inl start ↦ exact_is paste_start read start
-      | inr row ↦ absurd (both_ways (matches_any (exact_rows (table.rows false)) read) others row)
+      | inr row ↦ absurd (both_ways (matches_any (exact_rows (rows false)) read) others row)
     ]
 
 -- ---- the output of a paste
@@ -151,34 +149,10 @@ end_is_shorter (Within waiting after_return) = part_is_shorter waiting
 -- ---- whether or not the terminal's own erase character is DELETE
 
 module _ (by_delete : Bool) where
-  abbrev rows : List Row
-  rows = table.rows by_delete
+  row_of_fits : (read : List ℕ) (r : Row) → row_of by_delete read ≡ Some r → IsFound (λ (x : Row). bytes_eq x.sequence read) fits r
+  row_of_fits read r h = found (λ (x : Row). bytes_eq x.sequence read) fits (rows by_delete) r (all_fit by_delete) h
 
-  abbrev row_of : List ℕ → Option Row
-  row_of = table.row_of by_delete
-
-  abbrev fresh : Fate → Bool → ℕ → Step
-  fresh = filter.fresh by_delete
-
-  abbrev broken : List ℕ → Bool → ℕ → Step
-  broken = filter.broken by_delete
-
-  abbrev step_by : Fate → List ℕ → Bool → ℕ → Step
-  step_by = filter.step_by by_delete
-
-  abbrev step : State → ℕ → Step
-  step = filter.step by_delete
-
-  abbrev run : State → List ℕ → Step
-  run = filter.run by_delete
-
-  abbrev filtered : List ℕ → List ℕ
-  filtered = filter.filtered by_delete
-
-  row_of_fits : (read : List ℕ) (r : Row) → row_of read ≡ Some r → IsFound (λ (x : Row). bytes_eq x.sequence read) fits r
-  row_of_fits read r h = found (λ (x : Row). bytes_eq x.sequence read) fits rows r (all_fit by_delete) h
-
-  ended_weighs : (is_open : Bool) (read : List ℕ) (o : Option Row) → fate read ≡ Ends → row_of read ≡ o
+  ended_weighs : (is_open : Bool) (read : List ℕ) (o : Option Row) → fate read ≡ Ends → row_of by_delete read ≡ o
       → weight (ended is_open o) ≤ 10 * length read + last_extra read
   ended_weighs is_open read None ends h = let six : 6 ≡ length read = ap length (is_start by_delete read ends h) in omega (arith, six)
   ended_weighs is_open read (Some r) ends h =
@@ -188,22 +162,22 @@ module _ (by_delete : Bool) where
 
   -- ---- a byte
 
-  fresh_weighs : (f : Fate) (is_open : Bool) (b : ℕ) → fate (b ∷ []) ≡ f → weight (fresh f is_open b) ≤ 10 + extra b
+  fresh_weighs : (f : Fate) (is_open : Bool) (b : ℕ) → fate (b ∷ []) ≡ f → weight (fresh by_delete f is_open b) ≤ 10 + extra b
   fresh_weighs Waits is_open b h = omega arith
-  fresh_weighs Ends is_open b h = omega (arith, ended_weighs is_open (b ∷ []) (row_of (b ∷ [])) h refl, last_is [] b)
+  fresh_weighs Ends is_open b h = omega (arith, ended_weighs is_open (b ∷ []) (row_of by_delete (b ∷ [])) h refl, last_is [] b)
   fresh_weighs Breaks is_open b h = omega arith
 
-  broken_weighs : (waiting : List ℕ) (is_open : Bool) (b : ℕ) → weight (broken waiting is_open b) ≤ 10 * length waiting + 10 + extra b
+  broken_weighs : (waiting : List ℕ) (is_open : Bool) (b : ℕ) → weight (broken by_delete waiting is_open b) ≤ 10 * length waiting + 10 + extra b
   broken_weighs waiting is_open b =
-      let after : Step = fresh (fate (b ∷ [])) (is_open_after waiting is_open) b in
+      let after : Step = fresh by_delete (fate (b ∷ [])) (is_open_after waiting is_open) b in
       omega (arith, length-append waiting after.output, fresh_weighs (fate (b ∷ [])) (is_open_after waiting is_open) b refl)
 
   outside_weighs : (f : Fate) (waiting : List ℕ) (is_open : Bool) (b : ℕ) → fate (waiting ++ b ∷ []) ≡ f
-      → weight (step_by f waiting is_open b) ≤ 10 * length waiting + 10 + extra b
+      → weight (step_by by_delete f waiting is_open b) ≤ 10 * length waiting + 10 + extra b
   outside_weighs Waits waiting is_open b h = omega (arith, length_push waiting b)
   outside_weighs Ends waiting is_open b h =
       let read : List ℕ = waiting ++ b ∷ [] in
-      omega (arith, length_push waiting b, last_is waiting b, ended_weighs is_open read (row_of read) h refl)
+      omega (arith, length_push waiting b, last_is waiting b, ended_weighs is_open read (row_of by_delete read) h refl)
   outside_weighs Breaks waiting is_open b h = broken_weighs waiting is_open b
 
   pasted_weighs : (f : Fate) (after_return : Bool) (b : ℕ) → weight (fresh_in_paste f after_return b) ≤ 10
@@ -224,22 +198,22 @@ module _ (by_delete : Bool) where
       let after : Step = fresh_in_paste (paste_fate (b ∷ [])) after_return b in
       omega (arith, length-append (pasted_part waiting) after.output, part_is_shorter waiting, pasted_weighs (paste_fate (b ∷ [])) after_return b)
 
-  step_weighs : (s : State) (b : ℕ) → weight (step s b) ≤ 10 * length (waiting_in s) + 10 + extra b
+  step_weighs : (s : State) (b : ℕ) → weight (step by_delete s b) ≤ 10 * length (waiting_in s) + 10 + extra b
   step_weighs (Outside waiting is_open) b = outside_weighs (fate (waiting ++ b ∷ [])) waiting is_open b refl
   step_weighs (Within waiting after_return) b = omega (arith, within_weighs (paste_fate (waiting ++ b ∷ [])) waiting after_return b)
 
   -- ---- input
 
-  run_weighs : (s : State) (bs : List ℕ) → weight (run s bs) ≤ 10 * length (waiting_in s) + 10 * length bs + extras bs
+  run_weighs : (s : State) (bs : List ℕ) → weight (run by_delete s bs) ≤ 10 * length (waiting_in s) + 10 * length bs + extras bs
   unfolding extras
   run_weighs s [] = omega arith
   run_weighs s (b ∷ bs) =
-      let first : Step = step s b in
-      omega (arith, step_weighs s b, run_weighs first.state bs, length-append first.output (run first.state bs).output)
+      let first : Step = step by_delete s b in
+      omega (arith, step_weighs s b, run_weighs first.state bs, length-append first.output (run by_delete first.state bs).output)
 
-  filtered_weighs : (bs : List ℕ) → 3 * length (filtered bs) ≤ 10 * length bs + extras bs
+  filtered_weighs : (bs : List ℕ) → 3 * length (filtered by_delete bs) ≤ 10 * length bs + extras bs
   filtered_weighs bs =
-      let all : Step = run start bs in
+      let all : Step = run by_delete start bs in
       omega (arith, run_weighs start bs, length-append all.output (at_end all.state), end_is_shorter all.state)
 
   five_each : (bs : List ℕ) → extras bs ≤ 5 * length bs

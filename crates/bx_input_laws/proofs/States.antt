@@ -4,11 +4,9 @@ use Rattle.std.specs.Str.{bytes_eq}
 use Rattle.std.proofs.lemmas.Bool.{false≢true}
 use Rattle.bx_bytes.specs.declared.fate.Fate.{Fate}
 use Rattle.bx_bytes.specs.declared.fate.Fate.TheVariants.{Waits, Ends, Breaks}
-use Rattle.bx_input.specs.Filter as filter
-use Rattle.bx_input.specs.Table as table
-use Rattle.bx_input.specs.Table.{Row, sequences, fate, paste_end}
+use Rattle.bx_input.specs.Table.{Row, sequences, fate, paste_end, row_of}
 use Rattle.bx_input.specs.Paste.{paste_fate, paste_sequences}
-use Rattle.bx_input.specs.Filter.{Step, State, Outside, Within, ended_in_paste, paste_step_by, fresh_in_paste, ended, start}
+use Rattle.bx_input.specs.Filter.{State, Outside, Within, ended_in_paste, paste_step_by, fresh_in_paste, ended, start, fresh, broken, step_by, step, run}
 use Rattle.bx_input_laws.specs.Laws.{waiting_in, WaitsForFive}
 use Rattle.bx_input_laws.proofs.Firsts.{waits_says, any_fewer}
 
@@ -24,35 +22,17 @@ ended_sound is_open (Some r) = refl
 -- ---- whether or not the terminal's own erase character is DELETE
 
 module _ (by_delete : Bool) where
-  abbrev row_of : List ℕ → Option Row
-  row_of = table.row_of by_delete
-
-  abbrev fresh : Fate → Bool → ℕ → Step
-  fresh = filter.fresh by_delete
-
-  abbrev broken : List ℕ → Bool → ℕ → Step
-  broken = filter.broken by_delete
-
-  abbrev step_by : Fate → List ℕ → Bool → ℕ → Step
-  step_by = filter.step_by by_delete
-
-  abbrev step : State → ℕ → Step
-  step = filter.step by_delete
-
-  abbrev run : State → List ℕ → Step
-  run = filter.run by_delete
-
-  fresh_outside_sound : (f : Fate) (is_open : Bool) (b : ℕ) → fate (b ∷ []) ≡ f → IsSound (fresh f is_open b).state
+  fresh_outside_sound : (f : Fate) (is_open : Bool) (b : ℕ) → fate (b ∷ []) ≡ f → IsSound (fresh by_delete f is_open b).state
   fresh_outside_sound Waits is_open b h = h
-  fresh_outside_sound Ends is_open b h = ended_sound is_open (row_of (b ∷ []))
+  fresh_outside_sound Ends is_open b h = ended_sound is_open (row_of by_delete (b ∷ []))
   fresh_outside_sound Breaks is_open b h = refl
 
-  broken_sound : (waiting : List ℕ) (is_open : Bool) (b : ℕ) → IsSound (broken waiting is_open b).state
+  broken_sound : (waiting : List ℕ) (is_open : Bool) (b : ℕ) → IsSound (broken by_delete waiting is_open b).state
   broken_sound waiting is_open b = fresh_outside_sound (fate (b ∷ [])) _ b refl
 
-  outside_sound : (f : Fate) (waiting : List ℕ) (is_open : Bool) (b : ℕ) → fate (waiting ++ b ∷ []) ≡ f → IsSound (step_by f waiting is_open b).state
+  outside_sound : (f : Fate) (waiting : List ℕ) (is_open : Bool) (b : ℕ) → fate (waiting ++ b ∷ []) ≡ f → IsSound (step_by by_delete f waiting is_open b).state
   outside_sound Waits waiting is_open b h = h
-  outside_sound Ends waiting is_open b h = ended_sound is_open (row_of (waiting ++ b ∷ []))
+  outside_sound Ends waiting is_open b h = ended_sound is_open (row_of by_delete (waiting ++ b ∷ []))
   outside_sound Breaks waiting is_open b h = broken_sound waiting is_open b
 
   after_end_sound : (t : Bool) → IsSound (ended_in_paste t).state
@@ -70,13 +50,13 @@ module _ (by_delete : Bool) where
   within_sound Ends waiting after_return b h = after_end_sound (bytes_eq (waiting ++ b ∷ []) paste_end)
   within_sound Breaks waiting after_return b h = fresh_sound (paste_fate (b ∷ [])) after_return b refl
 
-  pub step_sound : (s : State) (b : ℕ) → IsSound (step s b).state
+  pub step_sound : (s : State) (b : ℕ) → IsSound (step by_delete s b).state
   step_sound (Outside waiting is_open) b = outside_sound (fate (waiting ++ b ∷ [])) waiting is_open b refl
   step_sound (Within waiting after_return) b = within_sound (paste_fate (waiting ++ b ∷ [])) waiting after_return b refl
 
-  pub run_sound : (s : State) (bs : List ℕ) → IsSound s → IsSound (run s bs).state
+  pub run_sound : (s : State) (bs : List ℕ) → IsSound s → IsSound (run by_delete s bs).state
   run_sound s [] h = h
-  run_sound s (b ∷ bs) h = run_sound (step s b).state bs (step_sound s b)
+  run_sound s (b ∷ bs) h = run_sound (step by_delete s b).state bs (step_sound s b)
 
   five : (s : State) → IsSound s → length (waiting_in s) ≤ 5
   five (Outside waiting is_open) h =
@@ -85,4 +65,4 @@ module _ (by_delete : Bool) where
       let says = waits_says paste_sequences waiting h.0 in omega (arith, any_fewer paste_sequences 6 waiting refl says.begins says.not_whole)
 
   pub waits_for_five : WaitsForFive by_delete
-  waits_for_five bs = five (run start bs).state (run_sound start bs refl)
+  waits_for_five bs = five (run by_delete start bs).state (run_sound start bs refl)

@@ -8,11 +8,9 @@ use Rattle.std.proofs.lemmas.Slice.Eq.{bytes_eq-Decides}
 use Rattle.std.proofs.lemmas.List.{append-nil, length_push}
 use Rattle.bx_bytes.specs.declared.fate.Fate.{Fate}
 use Rattle.bx_bytes.specs.declared.fate.Fate.TheVariants.{Waits, Ends, Breaks}
-use Rattle.bx_input.specs.Filter as filter
-use Rattle.bx_input.specs.Table as table
-use Rattle.bx_input.specs.Table.{Row, fate, paste_end}
+use Rattle.bx_input.specs.Table.{Row, fate, paste_end, row_of, rows}
 use Rattle.bx_input.specs.Paste.{pasted_part, paste_fate}
-use Rattle.bx_input.specs.Filter.{State, Outside, Within, Step, ended_in_paste, paste_step_by, fresh_in_paste, ended, start, at_end, apart_from}
+use Rattle.bx_input.specs.Filter.{State, Outside, Within, Step, ended_in_paste, paste_step_by, fresh_in_paste, ended, start, at_end, apart_from, fresh, step_by, step, run}
 use Rattle.bx_input_laws.specs.Laws.{waiting_in, is_short, has_short, HasNoShort, GrowsByTwoThirds}
 use Rattle.bx_input_laws.proofs.Growth.{found, is_start, byte_is_one, part_is_shorter, end_is_shorter}
 use Rattle.bx_input.proofs.Rows.{is_open_after}
@@ -29,7 +27,7 @@ fits_in r is_open = nat_le (3 * length (apart_from is_open r.becomes)) (5 * leng
 abbrev fits : Row → Bool
 fits r = is_short r || (fits_in r true && fits_in r false)
 
-all_fit : (by_delete : Bool) → list_all fits (table.rows by_delete) ≡ true
+all_fit : (by_delete : Bool) → list_all fits (rows by_delete) ≡ true
 all_fit true = refl
 all_fit false = refl
 
@@ -102,27 +100,6 @@ within_weighs Breaks waiting after_return b =
 -- ---- whether or not the terminal's own erase character is DELETE
 
 module _ (by_delete : Bool) where
-  abbrev row_of : List ℕ → Option Row
-  row_of = table.row_of by_delete
-
-  abbrev fresh : Fate → Bool → ℕ → Step
-  fresh = filter.fresh by_delete
-
-  abbrev broken : List ℕ → Bool → ℕ → Step
-  broken = filter.broken by_delete
-
-  abbrev step_by : Fate → List ℕ → Bool → ℕ → Step
-  step_by = filter.step_by by_delete
-
-  abbrev step : State → ℕ → Step
-  step = filter.step by_delete
-
-  abbrev run : State → List ℕ → Step
-  run = filter.run by_delete
-
-  abbrev filtered : List ℕ → List ℕ
-  filtered = filter.filtered by_delete
-
   abbrev NoShort : List ℕ → Type 0
   NoShort = HasNoShort by_delete
 
@@ -134,32 +111,32 @@ module _ (by_delete : Bool) where
   none_behind : (xs ys : List ℕ) → NoShort (xs ++ ys) → NoShort ys
   none_behind xs ys h front middle back e = h (xs ++ front) middle back (ap (λ zs. xs ++ zs) e ∙ sym (append_assoc xs front (middle ++ back)))
 
-  none_whole : (read : List ℕ) → NoShort read → has_short (row_of read) ≡ false
+  none_whole : (read : List ℕ) → NoShort read → has_short (row_of by_delete read) ≡ false
   none_whole read h = h [] read [] (sym (append-nil read))
 
   -- ---- a byte
 
-  ended_weighs : (is_open : Bool) (read : List ℕ) (o : Option Row) → fate read ≡ Ends → row_of read ≡ o → has_short o ≡ false
+  ended_weighs : (is_open : Bool) (read : List ℕ) (o : Option Row) → fate read ≡ Ends → row_of by_delete read ≡ o → has_short o ≡ false
       → weight (ended is_open o) ≤ 5 * length read
   ended_weighs is_open read None ends h long = let six : 6 ≡ length read = ap length (is_start by_delete read ends h) in omega (arith, six)
   ended_weighs is_open read (Some r) ends h long =
-      let is = found (λ (x : Row). bytes_eq x.sequence read) fits (table.rows by_delete) r (all_fit by_delete) h in
+      let is = found (λ (x : Row). bytes_eq x.sequence read) fits (rows by_delete) r (all_fit by_delete) h in
       let same : r.sequence ≡ read = (bytes_eq-Decides r.sequence read).0 is.passes in
       omega (arith, row_fits is_open r is.fits long, ap length same)
 
-  fresh_weighs : (f : Fate) (is_open : Bool) (b : ℕ) → fate (b ∷ []) ≡ f → NoShort (b ∷ []) → weight (fresh f is_open b) ≤ 5
+  fresh_weighs : (f : Fate) (is_open : Bool) (b : ℕ) → fate (b ∷ []) ≡ f → NoShort (b ∷ []) → weight (fresh by_delete f is_open b) ≤ 5
   fresh_weighs Waits is_open b h none = omega arith
-  fresh_weighs Ends is_open b h none = ended_weighs is_open (b ∷ []) (row_of (b ∷ [])) h refl (none_whole (b ∷ []) none)
+  fresh_weighs Ends is_open b h none = ended_weighs is_open (b ∷ []) (row_of by_delete (b ∷ [])) h refl (none_whole (b ∷ []) none)
   fresh_weighs Breaks is_open b h none = omega arith
 
   outside_weighs : (f : Fate) (waiting : List ℕ) (is_open : Bool) (b : ℕ) → fate (waiting ++ b ∷ []) ≡ f → NoShort (waiting ++ b ∷ [])
-      → weight (step_by f waiting is_open b) ≤ 5 * length (waiting ++ b ∷ [])
+      → weight (step_by by_delete f waiting is_open b) ≤ 5 * length (waiting ++ b ∷ [])
   outside_weighs Waits waiting is_open b h none = omega arith
   outside_weighs Ends waiting is_open b h none =
-      let read : List ℕ = waiting ++ b ∷ [] in ended_weighs is_open read (row_of read) h refl (none_whole read none)
+      let read : List ℕ = waiting ++ b ∷ [] in ended_weighs is_open read (row_of by_delete read) h refl (none_whole read none)
   outside_weighs Breaks waiting is_open b h none =
       let opened : Bool = is_open_after waiting is_open in
-      let after : Step = fresh (fate (b ∷ [])) opened b in
+      let after : Step = fresh by_delete (fate (b ∷ [])) opened b in
       omega (
         arith,
         length_push waiting b,
@@ -167,30 +144,30 @@ module _ (by_delete : Bool) where
         fresh_weighs (fate (b ∷ [])) opened b refl (none_behind waiting (b ∷ []) none),
       )
 
-  step_weighs : (s : State) (b : ℕ) → NoShort (waiting_in s ++ b ∷ []) → weight (step s b) ≤ 5 * length (waiting_in s ++ b ∷ [])
+  step_weighs : (s : State) (b : ℕ) → NoShort (waiting_in s ++ b ∷ []) → weight (step by_delete s b) ≤ 5 * length (waiting_in s ++ b ∷ [])
   step_weighs (Outside waiting is_open) b none = outside_weighs (fate (waiting ++ b ∷ [])) waiting is_open b refl none
   step_weighs (Within waiting after_return) b none = within_weighs (paste_fate (waiting ++ b ∷ [])) waiting after_return b
 
-  fresh_left : (f : Fate) (is_open : Bool) (b : ℕ) → EndsBy (b ∷ []) (waiting_in (fresh f is_open b).state)
+  fresh_left : (f : Fate) (is_open : Bool) (b : ℕ) → EndsBy (b ∷ []) (waiting_in (fresh by_delete f is_open b).state)
   fresh_left Waits is_open b = all_left (b ∷ [])
-  fresh_left Ends is_open b = ended_left is_open (row_of (b ∷ [])) (b ∷ [])
+  fresh_left Ends is_open b = ended_left is_open (row_of by_delete (b ∷ [])) (b ∷ [])
   fresh_left Breaks is_open b = none_left (b ∷ [])
 
-  outside_left : (f : Fate) (waiting : List ℕ) (is_open : Bool) (b : ℕ) → EndsBy (waiting ++ b ∷ []) (waiting_in (step_by f waiting is_open b).state)
+  outside_left : (f : Fate) (waiting : List ℕ) (is_open : Bool) (b : ℕ) → EndsBy (waiting ++ b ∷ []) (waiting_in (step_by by_delete f waiting is_open b).state)
   outside_left Waits waiting is_open b = all_left (waiting ++ b ∷ [])
-  outside_left Ends waiting is_open b = ended_left is_open (row_of (waiting ++ b ∷ [])) (waiting ++ b ∷ [])
+  outside_left Ends waiting is_open b = ended_left is_open (row_of by_delete (waiting ++ b ∷ [])) (waiting ++ b ∷ [])
   outside_left Breaks waiting is_open b = behind waiting (b ∷ []) _ (fresh_left (fate (b ∷ [])) (is_open_after waiting is_open) b)
 
-  step_left : (s : State) (b : ℕ) → EndsBy (waiting_in s ++ b ∷ []) (waiting_in (step s b).state)
+  step_left : (s : State) (b : ℕ) → EndsBy (waiting_in s ++ b ∷ []) (waiting_in (step by_delete s b).state)
   step_left (Outside waiting is_open) b = outside_left (fate (waiting ++ b ∷ [])) waiting is_open b
   step_left (Within waiting after_return) b = within_left (paste_fate (waiting ++ b ∷ [])) waiting after_return b
 
   -- ---- input
 
-  run_weighs : (s : State) (bs : List ℕ) → NoShort (waiting_in s ++ bs) → weight (run s bs) ≤ 5 * length (waiting_in s) + 5 * length bs
+  run_weighs : (s : State) (bs : List ℕ) → NoShort (waiting_in s ++ bs) → weight (run by_delete s bs) ≤ 5 * length (waiting_in s) + 5 * length bs
   run_weighs s [] none = omega arith
   run_weighs s (b ∷ bs) none =
-      let first : Step = step s b in
+      let first : Step = step by_delete s b in
       let read : List ℕ = waiting_in s ++ b ∷ [] in
       let is = step_left s b in
       let whole : NoShort (read ++ bs) = subst NoShort (sym (append_assoc (waiting_in s) (b ∷ []) bs)) none in
@@ -202,10 +179,10 @@ module _ (by_delete : Bool) where
         step_weighs s b (none_in_front read bs whole),
         run_weighs first.state bs rest,
         length_push (waiting_in s) b,
-        length-append first.output (run first.state bs).output,
+        length-append first.output (run by_delete first.state bs).output,
       )
 
   pub grows_by_two_thirds : GrowsByTwoThirds by_delete
   grows_by_two_thirds bs none =
-      let all : Step = run start bs in
+      let all : Step = run by_delete start bs in
       omega (arith, run_weighs start bs none, length-append all.output (at_end all.state), end_is_shorter all.state)
