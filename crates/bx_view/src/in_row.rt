@@ -1,12 +1,9 @@
 //! Rows of the text.
-ghost use Rattle.std.specs.Prelude.{◌≡◌, IfOk};
-ghost use Rattle.bx_view.specs.Moves.{row_end};
+ghost use Rattle.std.specs.Prelude.{◌≡◌};
 ghost use Rattle.bx_view.specs.Placed.{columns, placed};
-ghost use Rattle.bx_view.specs.Source.{IsOfText, IsViewBy, Keeps, OfRow, Stands, rows};
+ghost use Rattle.bx_view.specs.Source.{IsOfText, OfRow, Stands};
 ghost use Rattle.bx_view.specs.TextRows.{first};
 
-use crate::error::ViewError;
-use crate::placed::last_place;
 use crate::row_at::RowAt;
 use crate::source::Source;
 use crate::view::View;
@@ -40,20 +37,5 @@ impl View {
     {
         let paragraph = self.paragraph(source, at.paragraph, at.cached);
         at.start + paragraph.first(at.row)
-    }
-
-    /// The last place of a place's row: the paragraph's end in its last row, else the start of the row's last unit.
-    pub(crate) fn row_end<D: BidiData>(
-        &mut self,
-        source: &Source<'_, D>,
-        place: usize,
-    ) -> Result<usize, ViewError>
-        requires data { IsViewBy source.now self.old }
-        ensures keeps { Keeps source.now self.old self.new }
-        ensures end { IfOk result (λ o. o ≡ row_end (rows source.now self.old) place) }
-    {
-        let at = self.row_at(source, place)?;
-        let end = last_place(&self.row(source, at))?;
-        Ok(end)
     }
 }

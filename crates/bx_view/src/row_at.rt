@@ -6,9 +6,9 @@ pub struct RowAt {
     /// The number of the row's paragraph, from 0.
     pub paragraph: usize,
     /// The offset, in bytes of the text, at which that paragraph's body begins.
-    pub(crate) start: usize,
+    pub start: usize,
     /// The row's number in the paragraph, from 0.
     pub row: usize,
     /// The index of the cached paragraph.
-    pub(crate) cached: usize,
+    pub cached: usize,
 }

@@ -5,7 +5,6 @@ ghost use Rattle.bx_index.specs.Paragraphs.{lengths};
 ghost use Rattle.bx_index.specs.Positions.{paragraph_of};
 ghost use Rattle.bx_view.specs.FoundRow.{IsSameAtEnd};
 ghost use Rattle.bx_view.specs.Caching.{Caches};
-ghost use Rattle.bx_view.specs.Moves.{row_home};
 ghost use Rattle.bx_view.specs.Source.{IsAlong, IsBefore, IsNext, IsOfText, IsSpan, IsViewBy, Keeps, Stands, StandsOn, body_at, bytes, rows};
 ghost use Rattle.bx_view.specs.TextRows.{row_of};
 
@@ -109,7 +108,7 @@ impl View {
     }
 
     /// The index of the cached paragraph with a body of the text. Lays it out if it is not cached.
-    pub(crate) fn find<D: BidiData>(
+    pub fn find<D: BidiData>(
         &mut self,
         source: &Source<'_, D>,
         span: TextSpan,
@@ -135,7 +134,7 @@ impl View {
     }
 
     /// The cached paragraph at index `cached`.
-    pub(crate) fn paragraph<D: BidiData>(
+    pub fn paragraph<D: BidiData>(
         &self,
         source: &Source<'_, D>,
         number: usize,
@@ -275,7 +274,7 @@ impl View {
     }
 
     /// The row before `at`, if there is one, for many steps in turn: the walk is at the paragraph of `at`, and goes along.
-    pub(crate) fn row_before_along<D: BidiData>(
+    pub fn row_before_along<D: BidiData>(
         &mut self,
         source: &Source<'_, D>,
         walk: &mut ParagraphWalk<'_>,
@@ -324,20 +323,5 @@ impl View {
         }
         let cached = self.find(source, span)?;
         Ok(self.row_in(source, span, cached, offset))
-    }
-
-    /// The first offset of the row that a place falls in.
-    pub(crate) fn row_home<D: BidiData>(
-        &mut self,
-        source: &Source<'_, D>,
-        place: usize,
-    ) -> Result<usize, ViewError>
-        requires data { IsViewBy source.now self.old }
-        ensures keeps { Keeps source.now self.old self.new }
-        ensures home { IfOk result (λ home. home ≡ row_home (rows source.now self.old) place) }
-    {
-        let at = self.row_at(source, place)?;
-        let paragraph = self.paragraph(source, at.paragraph, at.cached);
-        Ok(at.start + paragraph.first(at.row))
     }
 }

@@ -1,0 +1,2 @@
+pub mod CachedStops
+pub mod WordRows

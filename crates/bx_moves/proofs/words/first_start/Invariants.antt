@@ -1,0 +1,16 @@
+-- The first start is among those from the offset reached on.
+use Rattle.std.proofs.Common.{◌≡◌, ◌-◌, true, drop, find, length, nat_le}
+use Rattle.std.specs.Str.{IsCharBoundary}
+use Rattle.unicode_segmentation.specs.Grapheme.{graphemes}
+use Rattle.bx_view.specs.Words.{word_starts}
+use Rattle.bx_moves.proofs.words.first_start.Given as goal
+
+abbrev pub invariant-units : goal.invariant-units
+invariant-units g l = record {
+  bound : IsCharBoundary l.body l.at;
+  same : find (nat_le l.from) (word_starts (g.D.BidiData.data l.tables) l.fn.is_inside l.fn.start (graphemes true (drop l.fn.start l.body)))
+      ≡ find (nat_le l.from) (word_starts (g.D.BidiData.data l.tables) l.inside l.at (graphemes true (drop l.at l.body)));
+}
+
+abbrev pub decreases-units : goal.decreases-units
+decreases-units g l = length l.body - l.at

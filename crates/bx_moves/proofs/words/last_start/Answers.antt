@@ -1,0 +1,28 @@
+use Rattle.std.proofs.Common.{◌∙◌, not, ◌&&◌, true, ap, drop, find, nat_lt, reverse, sym, arith}
+use Rattle.std.specs.Option.{option_or}
+use Rattle.unicode_segmentation.specs.Grapheme.{graphemes}
+use Rattle.bx_view.specs.Words.{word_starts}
+use Rattle.bx_view.proofs.WordParts.{last-later, none-from}
+use Rattle.bx_moves.proofs.words.last_start.Goals as goal
+
+pub units-preserved : goal.units-preserved
+units-preserved g c =
+    let says = g.D.BidiData.data c.args.tables.now in
+    let body = c.args.body.now in
+    let is_in = c.unit_at-is_in.result.0 in
+    let stop = c.unit_at-is_in.result.1 in
+    let rest = word_starts says is_in stop (graphemes true (drop stop body)) in
+    record {
+      bound = c.unit_at-is_in.ensures.stop.1;
+      same = c.units.invariant.same
+          ∙ ap (λ os. option_or (find (λ o. nat_lt o c.args.bound) (reverse os)) c.units.found) (c.unit_at-is_in.ensures.words c.units.inside)
+          ∙ last-later c.args.bound c.units.at rest c.units.found (is_in && not c.units.inside) (omega (arith, c.units-test.true, c.min-end.ensures))
+          ∙ ap (λ x. option_or (find (λ o. nat_lt o c.args.bound) (reverse rest)) x) (sym c.later-found.ensures);
+    }
+
+pub returns : goal.returns
+returns g c =
+    let says = g.D.BidiData.data c.args.tables.now in
+    sym (c.units.invariant.same
+    ∙ ap (λ x. option_or x c.units.found) (none-from says c.args.body.now c.units.inside c.units.at c.args.bound
+    (omega (arith, c.units-test.false, c.min-end.ensures))))

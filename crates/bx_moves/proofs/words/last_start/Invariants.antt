@@ -1,0 +1,18 @@
+-- The last start is among those from the offset reached on, or the one found before.
+use Rattle.std.proofs.Common.{◌≡◌, ◌-◌, true, drop, find, nat_lt, reverse}
+use Rattle.std.specs.Option.{option_or}
+use Rattle.std.specs.Str.{IsCharBoundary}
+use Rattle.unicode_segmentation.specs.Grapheme.{graphemes}
+use Rattle.bx_view.specs.Words.{word_starts}
+use Rattle.bx_moves.proofs.words.last_start.Given as goal
+
+abbrev pub invariant-units : goal.invariant-units
+invariant-units g l = record {
+  bound : IsCharBoundary l.body l.at;
+  same : find (λ o. nat_lt o l.fn.bound) (reverse (word_starts (g.D.BidiData.data l.tables) true l.fn.start (graphemes true (drop l.fn.start l.body))))
+      ≡ option_or (find (λ o. nat_lt o l.fn.bound)
+      (reverse (word_starts (g.D.BidiData.data l.tables) l.inside l.at (graphemes true (drop l.at l.body))))) l.found;
+}
+
+abbrev pub decreases-units : goal.decreases-units
+decreases-units g l = l.end - l.at

@@ -1,0 +1,85 @@
+//! One call for all of the cursor's moves.
+ghost use Rattle.std.specs.Prelude.{◌≡◌, true, IfOk};
+ghost use Rattle.std.specs.Str.{IsCharBoundary};
+ghost use Rattle.bx_view.specs.Moves.{is_to_row_end, moved};
+ghost use Rattle.bx_view.specs.Places.{IsTextPlace};
+ghost use Rattle.bx_view.specs.Source.{IsViewBy, Keeps, bytes, rows};
+
+use crate::logical::step_logical;
+use crate::row_ends::{row_end, row_home};
+use crate::vertical::{rows_away, rows_straight};
+use crate::visual::step_visual;
+use crate::word_moves::{step_word, word_towards};
+use bx_ucd::BidiData;
+use bx_view::{Move, Source, View, ViewError};
+
+/// The place that a move leads to from `place`.
+fn led_by<D: BidiData>(
+    view: &mut View,
+    source: &Source<'_, D>,
+    m: Move,
+    place: usize,
+) -> Result<usize, ViewError>
+    requires data { IsViewBy source.now view.old }
+    ensures keeps { Keeps source.now view.old view.new }
+    ensures place { IfOk result (λ o. o ≡ moved (D.data source.now.tables.now) (bytes source.now) view.old.w (rows source.now view.old) m place) }
+{
+    match m {
+        Move::Logical(way) => {
+            let place = step_logical(view, source, way, place)?;
+            Ok(place)
+        }
+        Move::Visual(side) => {
+            let place = step_visual(view, source, side, place)?;
+            Ok(place)
+        }
+        Move::Rows(way, count) => {
+            let place = rows_straight(view, source, way, count, place)?;
+            Ok(place)
+        }
+        Move::RowsIn(way, count, column) => {
+            let place = rows_away(view, source, way, count, column, place)?;
+            Ok(place)
+        }
+        Move::RowHome => {
+            let place = row_home(view, source, place)?;
+            Ok(place)
+        }
+        Move::RowEnd => {
+            let place = row_end(view, source, place)?;
+            Ok(place)
+        }
+        Move::Word(way) => {
+            let place = step_word(view, source, way, place)?;
+            Ok(place)
+        }
+        Move::WordTowards(side) => {
+            let place = word_towards(view, source, side, place)?;
+            Ok(place)
+        }
+        Move::TextStart => Ok(0),
+        Move::TextEnd => Ok(source.text.len()),
+    }
+}
+
+/// The place after a move from `place`.
+pub fn moved<D: BidiData>(
+    view: &mut View,
+    source: &Source<'_, D>,
+    m: Move,
+    place: usize,
+) -> Result<usize, ViewError>
+    requires data { IsViewBy source.now view.old }
+    ensures keeps { Keeps source.now view.old view.new }
+    ensures place { IfOk result (λ o. o ≡ moved (D.data source.now.tables.now) (bytes source.now) view.old.w (rows source.now view.old) m place) }
+    ensures text_place { IsTextPlace (D.data source.now.tables.now) (bytes source.now) place
+        → IfOk result (IsTextPlace (D.data source.now.tables.now) (bytes source.now)) }
+    ensures row_place { is_to_row_end m ≡ true → IfOk result (IsTextPlace (D.data source.now.tables.now) (bytes source.now)) }
+    ensures boundary { IsCharBoundary (bytes source.now) place → IfOk result (λ o. IsCharBoundary (bytes source.now) o) }
+    ensures row_boundary { is_to_row_end m ≡ true → IfOk result (λ o. IsCharBoundary (bytes source.now) o) }
+{
+    // proof only: the width is within its limits
+    let _side = view.width();
+    let place = led_by(view, source, m, place)?;
+    Ok(place)
+}

@@ -1,0 +1,37 @@
+//! Moves to the ends of a row.
+ghost use Rattle.std.specs.Prelude.{◌≡◌, IfOk};
+ghost use Rattle.bx_view.specs.Moves.{row_end, row_home};
+ghost use Rattle.bx_view.specs.Source.{IsViewBy, Keeps, rows};
+
+use bx_ucd::BidiData;
+use bx_view::{Source, View, ViewError, last_place};
+
+/// The first offset of the row that a place falls in.
+pub(crate) fn row_home<D: BidiData>(
+    view: &mut View,
+    source: &Source<'_, D>,
+    place: usize,
+) -> Result<usize, ViewError>
+    requires data { IsViewBy source.now view.old }
+    ensures keeps { Keeps source.now view.old view.new }
+    ensures home { IfOk result (λ home. home ≡ row_home (rows source.now view.old) place) }
+{
+    let at = view.row_at(source, place)?;
+    let paragraph = view.paragraph(source, at.paragraph, at.cached);
+    Ok(at.start + paragraph.first(at.row))
+}
+
+/// The last place of a place's row: the paragraph's end in its last row, else the start of the row's last unit.
+pub(crate) fn row_end<D: BidiData>(
+    view: &mut View,
+    source: &Source<'_, D>,
+    place: usize,
+) -> Result<usize, ViewError>
+    requires data { IsViewBy source.now view.old }
+    ensures keeps { Keeps source.now view.old view.new }
+    ensures end { IfOk result (λ o. o ≡ row_end (rows source.now view.old) place) }
+{
+    let at = view.row_at(source, place)?;
+    let end = last_place(&view.row(source, at))?;
+    Ok(end)
+}

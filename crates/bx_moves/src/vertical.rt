@@ -1,0 +1,125 @@
+//! Moves from row to row.
+ghost use Rattle.std.specs.Prelude.{◌≡◌, ℕ, ◌+◌, ◌-◌, IfOk, length, min};
+ghost use Rattle.bx_view.specs.Moves.{row_away, rows_away};
+ghost use Rattle.bx_view.specs.Source.{IsViewBy, Keeps, Stands, StandsOn, rows};
+ghost use Rattle.bx_view.specs.TextRows.{cell_of};
+
+use crate::placed::entry;
+use bx_ucd::BidiData;
+use bx_view::{RowAt, Source, Vertical, View, ViewError};
+
+/// The row `count` rows above `at`, or the first row.
+pub(crate) fn rows_up<D: BidiData>(
+    view: &mut View,
+    source: &Source<'_, D>,
+    at: RowAt,
+    count: usize,
+) -> Result<RowAt, ViewError>
+    requires row { Stands source.now view.old at }
+    ensures keeps { Keeps source.now view.old view.new }
+    ensures row { (n : ℕ) → StandsOn source.now view.old at n → IfOk result (λ b. StandsOn source.now view.new b (n - count)) }
+{
+    let mut walk = view.walk_from(source, at);
+    let mut here = at;
+    let mut done = 0;
+    while done < count {
+        let Some(before) = view.row_before_along(source, &mut walk, here)? else {
+            return Ok(here);
+        };
+        here = before;
+        done += 1;
+    }
+    Ok(here)
+}
+
+/// The row `count` rows below `at`, or the last row.
+fn rows_down<D: BidiData>(
+    view: &mut View,
+    source: &Source<'_, D>,
+    at: RowAt,
+    count: usize,
+) -> Result<RowAt, ViewError>
+    requires row { Stands source.now view.old at }
+    ensures keeps { Keeps source.now view.old view.new }
+    ensures row { (n : ℕ) → StandsOn source.now view.old at n
+        → IfOk result (λ b. StandsOn source.now view.new b (min (n + count) (length (rows source.now view.old) - 1))) }
+{
+    let mut walk = view.walk_from(source, at);
+    let mut here = at;
+    let mut done = 0;
+    while done < count {
+        let Some(next) = view.next_row_along(source, &mut walk, here)? else {
+            return Ok(here);
+        };
+        here = next;
+        done += 1;
+    }
+    Ok(here)
+}
+
+/// The row `count` rows above or below `at`, or the first or last row.
+fn row_away<D: BidiData>(
+    view: &mut View,
+    source: &Source<'_, D>,
+    way: Vertical,
+    count: usize,
+    at: RowAt,
+) -> Result<RowAt, ViewError>
+    requires row { Stands source.now view.old at }
+    ensures keeps { Keeps source.now view.old view.new }
+    ensures row { (n : ℕ) → StandsOn source.now view.old at n
+        → IfOk result (λ b. StandsOn source.now view.new b (row_away (length (rows source.now view.old)) way count n)) }
+{
+    match way {
+        Vertical::Up => {
+            let there = rows_up(view, source, at, count)?;
+            Ok(there)
+        }
+        Vertical::Down => {
+            let there = rows_down(view, source, at, count)?;
+            Ok(there)
+        }
+    }
+}
+
+/// The place after a move of `count` rows up or down: the target row is entered in a column, from 1. If it is the
+/// place's own row, the place itself.
+pub(crate) fn rows_away<D: BidiData>(
+    view: &mut View,
+    source: &Source<'_, D>,
+    way: Vertical,
+    count: usize,
+    column: u16,
+    place: usize,
+) -> Result<usize, ViewError>
+    requires data { IsViewBy source.now view.old }
+    ensures keeps { Keeps source.now view.old view.new }
+    ensures place { IfOk result (λ o. o ≡ rows_away view.old.w (rows source.now view.old) way count column place) }
+{
+    let at = view.row_at(source, place)?;
+    let own = view.first_in(source, at);
+    let there = row_away(view, source, way, count, at)?;
+    let first = view.first_in(source, there);
+    if first == own {
+        return Ok(place);
+    }
+    let entry = entry(&view.row(source, there), column)?;
+    Ok(entry.unwrap_or(place))
+}
+
+/// The place after a move of `count` rows up or down in the column of the place's cell.
+pub(crate) fn rows_straight<D: BidiData>(
+    view: &mut View,
+    source: &Source<'_, D>,
+    way: Vertical,
+    count: usize,
+    place: usize,
+) -> Result<usize, ViewError>
+    requires data { IsViewBy source.now view.old }
+    ensures keeps { Keeps source.now view.old view.new }
+    ensures place { IfOk result (λ o. o ≡ rows_away view.old.w (rows source.now view.old) way count (cell_of view.old.w (rows source.now view.old) place) place) }
+{
+    let column = view.cell_of(source, place)?;
+    let place = rows_away(view, source, way, count, column, place)?;
+    Ok(place)
+}

@@ -1,0 +1,85 @@
+//! Moves to the left and to the right.
+ghost use Rattle.std.specs.Prelude.{◌≡◌, ℕ, IfOk};
+ghost use Rattle.bx_view.specs.Moves.{end_of, past, row_after, row_before, start_of, step_visual};
+ghost use Rattle.bx_view.specs.Source.{IsViewBy, Keeps, Stands, StandsOn, rows};
+
+use crate::placed::{place_beside, reading_end, reading_start, reads_on};
+use bx_paragraph::Visual;
+use bx_ucd::BidiData;
+use bx_view::{RowAt, Source, View, ViewError};
+
+/// The place at the reading start of the next row, if there is one.
+fn start_after<D: BidiData>(
+    view: &mut View,
+    source: &Source<'_, D>,
+    at: RowAt,
+) -> Result<Option<usize>, ViewError>
+    requires row { Stands source.now view.old at }
+    ensures keeps { Keeps source.now view.old view.new }
+    ensures place { (n : ℕ) → StandsOn source.now view.old at n
+        → IfOk result (λ o. o ≡ start_of view.old.w (row_after (rows source.now view.old) n)) }
+{
+    let Some(there) = view.next_row(source, at)? else {
+        return Ok(None);
+    };
+    let place = reading_start(&view.row(source, there))?;
+    Ok(place)
+}
+
+/// The place at the reading end of the previous row, if there is one.
+fn end_before<D: BidiData>(
+    view: &mut View,
+    source: &Source<'_, D>,
+    at: RowAt,
+) -> Result<Option<usize>, ViewError>
+    requires row { Stands source.now view.old at }
+    ensures keeps { Keeps source.now view.old view.new }
+    ensures place { (n : ℕ) → StandsOn source.now view.old at n
+        → IfOk result (λ o. o ≡ end_of view.old.w (row_before (rows source.now view.old) n)) }
+{
+    let Some(there) = view.row_before(source, at)? else {
+        return Ok(None);
+    };
+    let place = reading_end(&view.row(source, there))?;
+    Ok(place)
+}
+
+/// The place after a move past a row's last slot on a side, if there is a row there.
+fn past<D: BidiData>(
+    view: &mut View,
+    source: &Source<'_, D>,
+    at: RowAt,
+    side: Visual,
+) -> Result<Option<usize>, ViewError>
+    requires row { Stands source.now view.old at }
+    ensures keeps { Keeps source.now view.old view.new }
+    ensures place { (n : ℕ) → StandsOn source.now view.old at n
+        → IfOk result (λ o. o ≡ past view.old.w (rows source.now view.old) side n) }
+{
+    if reads_on(&view.row(source, at), side) {
+        let place = start_after(view, source, at)?;
+        return Ok(place);
+    }
+    let place = end_before(view, source, at)?;
+    Ok(place)
+}
+
+/// The place of the row's next slot on a side; past the last slot, the reading start of the next row or the reading
+/// end of the previous one; if there is no such row, the place itself.
+pub(crate) fn step_visual<D: BidiData>(
+    view: &mut View,
+    source: &Source<'_, D>,
+    side: Visual,
+    place: usize,
+) -> Result<usize, ViewError>
+    requires data { IsViewBy source.now view.old }
+    ensures keeps { Keeps source.now view.old view.new }
+    ensures step { IfOk result (λ o. o ≡ step_visual view.old.w (rows source.now view.old) side place) }
+{
+    let at = view.row_at(source, place)?;
+    if let Some(next) = place_beside(&view.row(source, at), side, place)? {
+        return Ok(next);
+    }
+    let past = past(view, source, at, side)?;
+    Ok(past.unwrap_or(place))
+}

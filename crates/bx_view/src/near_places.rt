@@ -1,0 +1,58 @@
+//! The first place at or after an offset, and the last one at or before it.
+ghost use Rattle.std.specs.Prelude.{◌≡◌, true, IfOk, OnOk};
+ghost use Rattle.std.specs.Str.{IsCharBoundary};
+ghost use Rattle.bx_terms.specs.Sizes.{is_side};
+ghost use Rattle.bx_view.specs.Moves.{place_at, place_from};
+ghost use Rattle.bx_view.specs.Places.{IsTextPlace};
+ghost use Rattle.bx_view.specs.Source.{IsViewBy, Keeps, bytes, rows};
+
+use crate::error::ViewError;
+use crate::placed::{first_place_from, last_place, last_place_at};
+use crate::source::Source;
+use crate::view::View;
+use bx_ucd::BidiData;
+
+impl View {
+    /// The first place at or after an offset; the text's last place, if there is none.
+    pub fn place_from<D: BidiData>(
+        &mut self,
+        source: &Source<'_, D>,
+        offset: usize,
+    ) -> Result<usize, ViewError>
+        requires data { IsViewBy source.now self.old }
+        ensures keeps { Keeps source.now self.old self.new }
+        ensures place { IfOk result (λ o. o ≡ place_from (rows source.now self.old) offset) }
+        ensures text_place { IfOk result (IsTextPlace (D.data source.now.tables.now) (bytes source.now)) }
+        ensures side { OnOk result (is_side self.old.w ≡ true) }
+        ensures boundary { IfOk result (λ o. IsCharBoundary (bytes source.now) o) }
+    {
+        let at = self.row_at(source, offset)?;
+        if let Some(place) = first_place_from(&self.row(source, at), offset)? {
+            return Ok(place);
+        }
+        let Some(next) = self.next_row(source, at)? else {
+            let last = last_place(&self.row(source, at))?;
+            return Ok(last);
+        };
+        Ok(self.first_in(source, next))
+    }
+
+    /// The place of an offset: the last place at or before it.
+    pub fn place_at<D: BidiData>(
+        &mut self,
+        source: &Source<'_, D>,
+        offset: usize,
+    ) -> Result<usize, ViewError>
+        requires data { IsViewBy source.now self.old }
+        ensures keeps { Keeps source.now self.old self.new }
+        ensures place { IfOk result (λ o. o ≡ place_at (rows source.now self.old) offset) }
+        ensures text_place { IfOk result (IsTextPlace (D.data source.now.tables.now) (bytes source.now)) }
+        ensures side { OnOk result (is_side self.old.w ≡ true) }
+        ensures boundary { IfOk result (λ o. IsCharBoundary (bytes source.now) o) }
+    {
+        let at = self.row_at(source, offset)?;
+        // A row begins at a place, so there is one.
+        let place = last_place_at(&self.row(source, at), offset)?;
+        Ok(place.unwrap_or(0))
+    }
+}
