@@ -8,10 +8,9 @@ ghost use Rattle.bx_document.specs.Document.{after_exchange, after_insertion, af
 ghost use Rattle.bx_document.specs.Document.{place_after_replacement, place_after_wrap, replaced_text, rows_of, wrapped_end, wrapped_text};
 
 use crate::document::Document;
-use crate::own_text::EditPlaces;
 use crate::touched::{place_after, place_at_inside, place_inside, stop_after};
 use bx_terms::{LARGEST_TEXT, OutOfMemory};
-use bx_text::Text;
+use bx_text::{EditPlaces, Text};
 use bx_ucd::BidiData;
 use std::alloc::Global;
 

@@ -13,7 +13,7 @@ use crate::history::{HistoryStep, next_changes, step_in};
 use bx_find::Haystack;
 use bx_index::Index;
 use bx_terms::OutOfMemory;
-use bx_text::{Change, Slices, Text, TextError};
+use bx_text::{Change, EditPlaces, Slices, Text, TextError};
 use bx_ucd::BidiData;
 use bx_view::Source;
 use std::alloc::Global;
@@ -50,14 +50,6 @@ impl<D: BidiData + Drop> Haystack for OwnText<D> {
     fn piece_at(&self, offset: usize) -> &str {
         self.text.part_at(offset, self.text.len())
     }
-}
-
-/// The places of the cursor before two edits, between them and after them.
-#[derive(Clone, Copy)]
-pub(crate) struct EditPlaces {
-    pub(crate) before: usize,
-    pub(crate) between: usize,
-    pub(crate) after: usize,
 }
 
 /// Updates the index after an edit, in the room reserved for one separator per added byte. Allocates nothing.
@@ -231,16 +223,7 @@ impl<D: BidiData + Drop> OwnText<D> {
         ensures err { OnErr result (self.new ≡ self.old) }
     {
         self.index.ready(at - range.start + new.len())?;
-        let Ok(change) = self.text.exchange(
-            range.start,
-            range.end,
-            at,
-            new,
-            places.before,
-            places.between,
-            places.after,
-        )
-        else {
+        let Ok(change) = self.text.exchange(range.start, range.end, at, new, places) else {
             return Err(OutOfMemory);
         };
         follow(&mut self.index, &self.text, &self.tables, &change);
@@ -266,16 +249,7 @@ impl<D: BidiData + Drop> OwnText<D> {
     {
         self.index
             .ready(front.len() + (range.end - range.start) + back.len())?;
-        let Ok(change) = self.text.wrap(
-            range.start,
-            range.end,
-            front,
-            back,
-            places.before,
-            places.between,
-            places.after,
-        )
-        else {
+        let Ok(change) = self.text.wrap(range.start, range.end, front, back, places) else {
             return Err(OutOfMemory);
         };
         follow(&mut self.index, &self.text, &self.tables, &change);

@@ -16,5 +16,6 @@ mod turns;
 
 pub use change::Change;
 pub use error::TextError;
+pub use pairs::EditPlaces;
 pub use slices::Slices;
 pub use text::Text;

@@ -18,6 +18,14 @@ use bx_pieces::{Pieces, Spares};
 use bx_terms::LARGEST_TEXT;
 use std::alloc::AllocError;
 
+/// The cursor's places before two edits, between them and after them, in bytes.
+#[derive(Clone, Copy)]
+pub struct EditPlaces {
+    pub before: usize,
+    pub between: usize,
+    pub after: usize,
+}
+
 /// An edit to make: `text` replaces `len` bytes from `start` on. `before` and `after` are the places.
 #[derive(Clone, Copy)]
 pub struct Replacement<'a> {
@@ -159,8 +167,7 @@ impl Text {
     }
 
     /// Removes the text between two character boundaries, and inserts `new` at an offset `at` of the text without it: two
-    /// edits, of which the second is undone first. Empties the future. `before`, `between` and `after` are the places before,
-    /// between and after them.
+    /// edits, of which the second is undone first. Empties the future.
     ///
     /// Errors, in this order, each leaving all unchanged: `NotABoundary`, also where `start > stop`; `TooLong` where the
     /// text would exceed 16,777,216 bytes after both; `OutOfMemory`.
@@ -170,12 +177,13 @@ impl Text {
         stop: usize,
         at: usize,
         new: &str,
-        before: usize,
-        between: usize,
-        after: usize,
+        places: EditPlaces,
     ) -> Result<Change, TextError>
-        ensures ok { OnOk result (self.new ≡ record { edited = exchanged self.old.edited start stop at new.now before between after; room = None }) }
-        ensures change { IfOk result (λ c. c ≡ merged (change_removed start stop between) (change_inserted at (length new.now) after)) }
+        ensures ok { OnOk result (self.new ≡ record {
+          edited = exchanged self.old.edited start stop at new.now places.before places.between places.after;
+          room = None;
+        }) }
+        ensures change { IfOk result (λ c. c ≡ merged (change_removed start stop places.between) (change_inserted at (length new.now) places.after)) }
         ensures is_change { IfOk result (λ c. IsChange self.old.edited.text c self.new.edited.text) }
         ensures err { OnErr result (self.new ≡ self.old) }
 
@@ -203,22 +211,21 @@ impl Text {
             start,
             len: stop - start,
             text: "",
-            before,
-            after: between,
+            before: places.before,
+            after: places.between,
         };
         let insertion = Replacement {
             start: at,
             len: 0,
             text: new,
-            before: between,
-            after,
+            before: places.between,
+            after: places.after,
         };
         self.replace_twice(&removal, &insertion)
     }
 
     /// Inserts `back` after the text between two character boundaries, and `front` before it: two edits, of which the
-    /// second is undone first. Empties the future. `before`, `between` and `after` are the places before, between and after
-    /// them.
+    /// second is undone first. Empties the future.
     ///
     /// Errors, in this order, each leaving all unchanged: `NotABoundary`, also where `start > stop`; `TooLong` where the
     /// text would exceed 16,777,216 bytes after both; `OutOfMemory`.
@@ -228,16 +235,17 @@ impl Text {
         stop: usize,
         front: &str,
         back: &str,
-        before: usize,
-        between: usize,
-        after: usize,
+        places: EditPlaces,
     ) -> Result<Change, TextError>
-        ensures ok { OnOk result (self.new ≡ record { edited = wrapped self.old.edited start stop front.now back.now before between after; room = None }) }
+        ensures ok { OnOk result (self.new ≡ record {
+          edited = wrapped self.old.edited start stop front.now back.now places.before places.between places.after;
+          room = None;
+        }) }
         ensures change { IfOk result (λ c. c ≡ record {
           start = start;
           removed = stop - start;
           added = length front.now + (stop - start) + length back.now;
-          place = after;
+          place = places.after;
         }) }
         ensures is_change { IfOk result (λ c. IsChange self.old.edited.text c self.new.edited.text) }
         ensures err { OnErr result (self.new ≡ self.old) }
@@ -259,15 +267,15 @@ impl Text {
             start: stop,
             len: 0,
             text: back,
-            before,
-            after: between,
+            before: places.before,
+            after: places.between,
         };
         let ahead = Replacement {
             start,
             len: 0,
             text: front,
-            before: between,
-            after,
+            before: places.between,
+            after: places.after,
         };
         self.replace_twice(&behind, &ahead)
     }
