@@ -1,4 +1,4 @@
-/* The time on the screen. */
+/* The run of the program: the terminal is changed, filter and program run, the terminal is restored. */
 #ifndef RUNNING_H
 #define RUNNING_H
 
@@ -6,7 +6,7 @@
 #include "terminal.h"
 
 /* Changes the terminal, runs the filter and the program until the program has ended or cannot be ended, and restores the
- * terminal. Returns the program's status, 128 and the signal's number where a signal ended it; -1 and the cause where it cannot
+ * terminal. Returns the program's status, 128 plus the signal's number where a signal ended it; -1 and the cause where it cannot
  * be started. */
 int run_program(const struct request *request, const char *editor, char *filter_file, struct size first, const char **cause);
 

@@ -1,6 +1,7 @@
-"""Compares printed rows of joined letters with other sources, for check-joined-rows.sh: check_joined_rows.py PROGRAM TABLES ROWS.
+"""Compares printed rows of joined letters with other sources, for check-joined-rows.sh: check_joined_rows.py PROGRAM DATA ROWS.
 
-ROWS may be empty. It writes a file into the working folder.
+DATA is a folder with the tables that the program takes, as data/ is. ROWS is a file in the form that check-joined-rows.sh tells, and
+may be empty. It writes a file into the working folder.
 """
 
 import os, random, re, shutil, subprocess, sys, zipfile
@@ -33,14 +34,14 @@ def tell(name, alike, count):
     print(f"{name}: {alike} of {count} are alike")
 
 
-def printed(lines, tables=data, *words):
+def printed(lines, folder=data, *words):
     """The rows of bidi_print for lines that fit, without the blanks around them."""
     with open("text", "w", encoding="utf-8", newline="") as file:
         file.write("\n".join(lines))
     paths = []
     for word, name in FILES.items():
-        path = f"{tables}/{name}.txt"
-        paths.append(f"--{word}={path if os.path.exists(path) else f'{tables}/extracted/{name}.txt'}")
+        path = f"{folder}/{name}.txt"
+        paths.append(f"--{word}={path if os.path.exists(path) else f'{folder}/extracted/{name}.txt'}")
     run = subprocess.run([program, "--cols", "500", *words, *paths, "text"], capture_output=True, check=True)
     return [row.strip(" ") for row in run.stdout.decode().split("\n")]
 

@@ -8,6 +8,7 @@ from terminals import Run
 ERRORS = {'fork': 'EAGAIN', 'clone': 'EAGAIN', 'vfork': 'EAGAIN', 'mmap': 'ENOMEM', 'brk': 'ENOMEM', 'openat': 'EMFILE', 'pipe2': 'EMFILE', 'readlink': 'EACCES'}
 # The end itself, what does not return, what cannot fail, and what fails in the loader or, as no kernel does, in malloc.
 PASSED_OVER = {'brk', 'mmap', 'exit_group', 'execve', 'rt_sigreturn', 'getpid', 'geteuid', 'gettid', 'arch_prctl', 'set_tid_address', 'set_robust_list', 'rseq', '+++', '---'}
+# The most calls of one kind that are failed, the first ones: each takes a whole session.
 MOST = 12
 
 
@@ -21,6 +22,8 @@ def session(tree, strace):
 
 
 def try_session(tree, strace):
+    """One try. strace is a grandchild (-D), so that the process that is signalled and waited for is the host. The keeper sends a title
+    and a bell each second (the kind `titles`), so that the host writes in idle times too."""
     run = Run(['strace', '-D', *strace, *tree.words('edit', 'titles', tree.file('faults'))], HOME=f'{tree.top}/home')
     if run.pump(4, b'hello'):
         run.resize(30, 90)

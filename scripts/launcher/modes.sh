@@ -111,7 +111,7 @@ check_title() {
     setup=''
 }
 
-# The terminal around tmux, played by another tmux.
+# The terminal around tmux: a pane `outer` of the same tmux server, in which a client shows the session `keep`.
 check_outer() {
     start 8 50 "$recorder" f
     type_keys C-q
@@ -131,7 +131,7 @@ check_outer() {
     terminal kill-session -t outer
 }
 
-# Starts a client of the test's tmux, on its permanent session.
+# Opens that pane and records what the client in it writes. The client starts half a second later, when all of it is recorded.
 start_outer() {
     rm -f "$folder/outer"
     terminal new-session -d -s outer -x 60 -y 12 "sleep 0.5; env -u TMUX tmux -u -L $socket attach -t keep"

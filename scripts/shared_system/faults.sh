@@ -204,7 +204,7 @@ check_home_of_another() {
     leave_files
 }
 
-# The folder of the session is taken away.
+# The state folder is taken away, with the session in it.
 check_state_taken_away() {
     put_note note
     open_typed '' note

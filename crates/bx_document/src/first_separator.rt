@@ -1,4 +1,4 @@
-//! The text's first separator, also without a part of the text.
+//! Whether the text's first separator is CR LF, also where a part of the text is left out.
 ghost use Rattle.std.specs.Prelude.{◌≡◌, ◌++◌, ◌∷◌, [], ℕ, List, chars, slice_range};
 ghost use Rattle.bx_text.specs.Edits.{IsRange, splice};
 ghost use Rattle.bx_document.specs.FirstSeparator.{has_crlf_first};
@@ -32,7 +32,7 @@ fn is_crlf(seen: Seen) -> bool
     }
 }
 
-/// The answer once the next character is read too.
+/// What is known once the next character is read too.
 fn after<D: BidiData>(seen: Seen, c: char, tables: &D) -> Seen
     ensures { (rest : List ℕ) → crlf_from (D.data tables.now) seen (c ∷ rest) ≡ crlf_from (D.data tables.now) result rest }
 {
@@ -51,7 +51,7 @@ fn after<D: BidiData>(seen: Seen, c: char, tables: &D) -> Seen
     }
 }
 
-/// The answer once a part of the text after them is read too.
+/// What is known once the characters of a part, which follows those read before, are read too.
 fn after_part<D: BidiData>(before: Seen, part: &str, tables: &D) -> Seen
     ensures { (rest : List ℕ) → crlf_from (D.data tables.now) before (chars part.now ++ rest) ≡ crlf_from (D.data tables.now) result rest }
 {
@@ -67,7 +67,7 @@ fn after_part<D: BidiData>(before: Seen, part: &str, tables: &D) -> Seen
     seen
 }
 
-/// The answer once the text from `start` to `stop` is read too, piece by piece.
+/// What is known once the text from `start` to `stop`, which follows what was read before, is read too, piece by piece.
 fn after_range<D: BidiData>(
     before: Seen,
     text: &Text,

@@ -137,8 +137,8 @@ fn last_place_in<D: BidiData>(
     Ok(place)
 }
 
-/// The last place at or before an offset behind a range of bytes once `new` has replaced them, in the paragraphs that the edit
-/// touches. A copy of these is laid out.
+/// The last place at or before an offset of the text in which `new` has replaced a range of bytes. The offset is behind `new`, in
+/// the touched paragraphs, of which a copy is laid out.
 pub(crate) fn place_at_inside<D: BidiData>(
     alloc: Global,
     source: &Source<'_, D>,

@@ -7,6 +7,9 @@ use bx_ucd::{BidiData, sample_tables};
 use std::alloc::Global;
 use std::test::Fail;
 
+/// Stands for no place.
+const NONE: usize = 99;
+
 /// Appends the slots of a row, each as its offset and its column.
 fn add_slots<D: BidiData>(
     line: &mut String,
@@ -29,25 +32,25 @@ fn add_places<D: BidiData>(
     let first = row.paragraph.first(row.number);
     let last = row.last()?;
     let count = row.offsets()?.len();
-    let start = row.reading_start()?.unwrap_or(99);
-    let end = row.reading_end()?.unwrap_or(99);
+    let start = row.reading_start()?.unwrap_or(NONE);
+    let end = row.reading_end()?.unwrap_or(NONE);
     line.push_str(format!(in alloc;
         "; {first} to {last}, {count}, {start} on to {end}"
     )?.as_str())?;
     Ok(())
 }
 
-/// Appends the places right and left of a row's first place, its column, and the place at which column 2 is entered.
+/// Appends the places left and right of a row's first place, its column, and the place at which column 2 is entered.
 fn add_steps<D: BidiData>(
     line: &mut String,
     alloc: Global,
     row: &LentRow<'_, '_, D>,
 ) -> Result<(), Fail> {
     let first = row.paragraph.first(row.number);
-    let right = row.beside(Visual::Right, first)?.unwrap_or(99);
-    let left = row.beside(Visual::Left, first)?.unwrap_or(99);
+    let right = row.beside(Visual::Right, first)?.unwrap_or(NONE);
+    let left = row.beside(Visual::Left, first)?.unwrap_or(NONE);
     let column = row.standing(first)?.column;
-    let entry = row.entry(2)?.unwrap_or(99);
+    let entry = row.entry(2)?.unwrap_or(NONE);
     line.push_str(format!(in alloc; "; {left} {right} {column} {entry}|")?.as_str())?;
     Ok(())
 }
