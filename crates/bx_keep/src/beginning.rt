@@ -4,7 +4,7 @@ use crate::around::Around;
 use crate::causes::Unkept;
 use crate::checking::Edited;
 use crate::saying::warn;
-use crate::shelf::unkept_by;
+use crate::sessions_folder::unkept_by;
 use crate::stop::Stop;
 use bx_cli::Shown;
 use bx_keys::Notice;
@@ -102,9 +102,9 @@ impl Begun {
         edited: &mut Edited,
     ) -> Result<(), Stop> {
         let alloc = around.alloc();
-        edited.shelf.make(around)?;
-        let Some(sessions) = &edited.shelf.sessions else {
-            self.unkept = edited.shelf.unkept.take();
+        edited.sessions_folder.make(around)?;
+        let Some(sessions) = &edited.sessions_folder.sessions else {
+            self.unkept = edited.sessions_folder.unkept.take();
             return Ok(());
         };
         // a folder that cannot be removed is tried again at the next start

@@ -2,7 +2,7 @@
 
 use crate::around::Around;
 use crate::saying::warn;
-use crate::shelf::Shelf;
+use crate::sessions_folder::SessionsFolder;
 use crate::stop::Stop;
 use bx_cli::Shown;
 use bx_launch::{Destination, FileFault, check_kind};
@@ -18,7 +18,7 @@ const REFUSED: u8 = 1;
 #[derive(Drop)]
 pub struct Edited {
     pub destination: Destination,
-    pub shelf: Shelf,
+    pub sessions_folder: SessionsFolder,
     /// Why saves are written into FILE itself.
     pub in_place: Option<Reason>,
     /// FILE is there and cannot be read.
@@ -88,7 +88,7 @@ impl Edited {
         host: &mut H,
         destination: Destination,
     ) -> Result<Edited, Stop> {
-        let shelf = Shelf::find(around, host, &destination)?;
+        let sessions_folder = SessionsFolder::find(around, host, &destination)?;
         let in_place = match around.rt.metadata(destination.path.as_str()) {
             Ok(found) => find_in_place(&destination.facts, &found, &destination.folder_facts),
             Err(_) => None,
@@ -96,7 +96,7 @@ impl Edited {
         let is_closed = destination.is_closed(around.rt);
         Ok(Edited {
             destination,
-            shelf,
+            sessions_folder,
             in_place,
             is_closed,
         })
@@ -114,7 +114,7 @@ impl Edited {
 
     /// Repairs FILE after saves of ended sessions that were cut off. Returns whether FILE is whole.
     pub fn mend<H: Host>(&self, around: Around<'_>, host: &mut H) -> Result<bool, Stop> {
-        let Some(sessions) = &self.shelf.sessions else {
+        let Some(sessions) = &self.sessions_folder.sessions else {
             return Ok(true);
         };
         let target = around.target(self.path());

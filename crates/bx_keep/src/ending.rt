@@ -80,7 +80,7 @@ impl Running<'_> {
     /// Repairs FILE after a save into it that was cut off. Returns whether FILE is still torn.
     fn mend<H: Host>(&self, host: &mut H, kept: &Kept) -> Result<bool, Stop> {
         let around = self.around;
-        let Some(sessions) = &self.edited.shelf.sessions else {
+        let Some(sessions) = &self.edited.sessions_folder.sessions else {
             return Ok(false);
         };
         let target = around.target(self.edited.path());
@@ -272,7 +272,7 @@ impl Running<'_> {
     /// Keeps the changes that the user dropped, until others are dropped.
     fn drop_changes<H: Host>(&self, host: &mut H, kept: &Kept) -> Result<(), Stop> {
         self.note_cut(kept);
-        if let Some(sessions) = &self.edited.shelf.sessions {
+        if let Some(sessions) = &self.edited.sessions_folder.sessions {
             // sessions that cannot be removed now are removed at a later end
             let _ = forget_dropped(self.around.rt, sessions, &kept.session);
         }

@@ -98,7 +98,7 @@ pub fn fill(
     kept: &Kept,
     source: Source<'_>,
 ) -> Result<Option<Look>, FillFault> {
-    let Some(sessions) = &edited.shelf.sessions else {
+    let Some(sessions) = &edited.sessions_folder.sessions else {
         return Err(FillFault::Unwritten(io::ErrorKind::NotFound.into()));
     };
     let process = match around.process() {

@@ -23,7 +23,7 @@ mod replaying;
 mod running;
 mod saying;
 mod serving;
-mod shelf;
+mod sessions_folder;
 mod start;
 mod starting;
 mod stop;

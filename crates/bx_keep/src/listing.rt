@@ -3,7 +3,7 @@
 use crate::around::Around;
 use crate::checking::Edited;
 use crate::saying::{tell, warn};
-use crate::shelf::unkept_by;
+use crate::sessions_folder::unkept_by;
 use crate::stop::Stop;
 use crate::telling::{machine_text, number_of_keys, time_text};
 use bx_cli::Shown;
@@ -141,7 +141,7 @@ fn tell_all_forgotten<H: Host>(
 /// Removes the ended sessions of FILE.
 fn forget_file<H: Host>(around: Around<'_>, host: &mut H, file: &str) -> Result<usize, Stop> {
     let edited = Edited::find_lost(around, host, file)?;
-    let Some(sessions) = &edited.shelf.sessions else {
+    let Some(sessions) = &edited.sessions_folder.sessions else {
         return Ok(0);
     };
     let target = around.target(edited.path());

@@ -165,7 +165,7 @@ pub fn meet<H: Host, P: Replayer>(
     edited: &Edited,
     replayer: &P,
 ) -> Result<Met, Stop> {
-    if let Some(sessions) = &edited.shelf.sessions {
+    if let Some(sessions) = &edited.sessions_folder.sessions {
         for _ in 0..u64::MAX {
             match meet_once(around, host, edited, sessions, replayer)? {
                 Try::Met(met) => return Ok(met),

@@ -9,7 +9,7 @@ use crate::mode::give_mode;
 use crate::parts::unwritten;
 use crate::replaying::{ReplayFault, Replayer};
 use crate::saying::tell;
-use crate::shelf::unwritable;
+use crate::sessions_folder::unwritable;
 use crate::stop::Stop;
 use crate::taking::{Outcome, Taken, Taking, tell_cut, tell_unsure};
 use crate::telling::{machine_text, number_of_keys, process_text};
@@ -36,7 +36,7 @@ fn find_all(around: Around<'_>, sessions: &Sessions, path: &str) -> Result<Found
 fn no_session(around: Around<'_>, edited: &Edited, is_live: bool) -> Result<Stop, Stop> {
     let alloc = around.alloc();
     let file = Shown(edited.file());
-    let cause = match &edited.shelf.unkept {
+    let cause = match &edited.sessions_folder.unkept {
         _ if is_live => format!(in alloc; "the session of {file} goes on")?,
         None => format!(in alloc; "there is no session of {file} to recover")?,
         Some(unkept) => {
@@ -119,7 +119,7 @@ pub fn recover<H: Host, P: Replayer>(
     if !edited.mend(around, host)? {
         return Err(Stop::Told(REFUSED));
     }
-    let Some(sessions) = &edited.shelf.sessions else {
+    let Some(sessions) = &edited.sessions_folder.sessions else {
         return Err(no_session(around, &edited, false)?);
     };
     let taking = Taking {
@@ -212,7 +212,7 @@ pub fn recover_elsewhere<H: Host, P: Replayer>(
     let edited = Edited::find_lost(around, host, file)?;
     // the text can be stored elsewhere even if FILE cannot be repaired
     edited.mend(around, host)?;
-    let Some(sessions) = &edited.shelf.sessions else {
+    let Some(sessions) = &edited.sessions_folder.sessions else {
         return Err(no_session(around, &edited, false)?);
     };
     let found = find_all(around, sessions, edited.path())?;

@@ -8,7 +8,7 @@ use crate::free_name::free_name;
 use crate::parts::keep_parts;
 use crate::replaying::{FoundText, Replay, ReplayFault, Replayer};
 use crate::saying::tell;
-use crate::shelf::unwritable;
+use crate::sessions_folder::unwritable;
 use crate::stop::Stop;
 use crate::telling::number_of_keys;
 use bx_cli::Shown;

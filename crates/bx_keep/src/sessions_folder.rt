@@ -1,4 +1,4 @@
-//! The folder of sessions for a file.
+//! The folder of sessions for a file: whether it can be trusted, and why no session is kept in it otherwise.
 
 use crate::around::Around;
 use crate::causes::{Unkept, notice_of};
@@ -10,12 +10,12 @@ use bx_sessions::{FolderFault, PlaceFault, Sessions, sessions_folder};
 use bx_wire::Host;
 use std::alloc::{AllocError, Global};
 
-/// The folder of sessions for a file.
+/// What was found of the folder of sessions for a file.
 #[derive(Drop)]
-pub struct Shelf {
+pub struct SessionsFolder {
     /// Its path; None if there is no place for it.
     pub path: Option<String>,
-    /// The folder, if it is there and nobody else can change it.
+    /// The judged folder; None if it is not there, or is not to be trusted.
     pub sessions: Option<Sessions>,
     /// Why no session can be kept.
     pub unkept: Option<Unkept>,
@@ -43,7 +43,7 @@ pub fn unwritable(alloc: Global, path: &str) -> Result<String, AllocError> {
     format!(in alloc; "nothing can be written in {path}")
 }
 
-impl Shelf {
+impl SessionsFolder {
     /// Finds and judges the folder of sessions for a file. It is not made.
     ///
     /// Errors: `Gone`; `OutOfMemory`.
@@ -51,7 +51,7 @@ impl Shelf {
         around: Around<'_>,
         host: &mut H,
         destination: &Destination,
-    ) -> Result<Shelf, Stop> {
+    ) -> Result<SessionsFolder, Stop> {
         let surroundings = around.start.surroundings();
         let folder = &destination.folder_facts;
         let path = sessions_folder(
@@ -62,8 +62,8 @@ impl Shelf {
             folder.in_memory,
         );
         match path {
-            Ok(Some(path)) => Shelf::at(around, path),
-            Ok(None) | Err(PlaceFault::Host(_)) => Ok(Shelf {
+            Ok(Some(path)) => SessionsFolder::at(around, path),
+            Ok(None) | Err(PlaceFault::Host(_)) => Ok(SessionsFolder {
                 path: None,
                 sessions: None,
                 unkept: Some(Unkept::new(
@@ -77,7 +77,7 @@ impl Shelf {
     }
 
     /// Judges the folder of sessions at a path.
-    fn at(around: Around<'_>, path: String) -> Result<Shelf, Stop> {
+    fn at(around: Around<'_>, path: String) -> Result<SessionsFolder, Stop> {
         let user = around.start.surroundings().user;
         let (sessions, unkept) = match Sessions::open(around.rt, path.as_str(), user) {
             Ok(sessions) => (sessions, None),
@@ -86,7 +86,7 @@ impl Shelf {
                 Some(unkept_by(around.alloc(), path.as_str(), &fault)?),
             ),
         };
-        Ok(Shelf {
+        Ok(SessionsFolder {
             path: Some(path),
             sessions,
             unkept,
