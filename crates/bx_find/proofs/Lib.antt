@@ -7,3 +7,4 @@ pub mod Fronts
 pub mod Offsets
 pub mod Nearest
 pub mod SpansOf
+pub mod Boundaries

@@ -68,13 +68,13 @@ module _ (says : Data) (reading : Reading) where
   ends n at [] = ends-nowhere at _ [] (ends_with n at)
   ends n at (c ∷ cs) = ends-by n at c cs (is_attached says c) refl (λ m. ends m (at + length (encode_utf8 c)) cs)
 
-  not-before : (n at : ℕ) (cs : List ℕ) → at ≤ behind_letters says reading n at cs
-  not-before n at cs = let e = ends n at cs in omega (arith, e.offset)
+  pub not_before : (n at : ℕ) (cs : List ℕ) → at ≤ behind_letters says reading n at cs
+  not_before n at cs = let e = ends n at cs in omega (arith, e.offset)
 
   behind-first : (n at c : ℕ) (cs : List ℕ) → 0 < n → at < behind_letters says reading n at (c ∷ cs)
   behind-first zero at c cs some = absurd (omega (arith, some))
   behind-first (suc n) at c cs some =
-      omega (arith, width-some c, not-before (suc n - length (letters_of says reading c)) (at + length (encode_utf8 c)) cs)
+      omega (arith, width-some c, not_before (suc n - length (letters_of says reading c)) (at + length (encode_utf8 c)) cs)
 
   -- ---- the matches that follow one another
 

@@ -1,5 +1,5 @@
 //! The search of a text for a query: the nearest matches of offsets.
-ghost use Rattle.std.specs.Prelude.{◌≡◌, IsCharBoundary, IsUtf8};
+ghost use Rattle.std.specs.Prelude.{◌≡◌, None, length, IfSome, IsCharBoundary, IsUtf8};
 ghost use Rattle.bx_find.specs.Matches.{first_from, first_before, last_before, last_from};
 
 use crate::backward::{Latest, last_in};
@@ -19,7 +19,8 @@ pub fn first_from<H: Haystack, D: BidiData>(
     x: usize,
 ) -> Option<usize>
     requires { IsCharBoundary (H.text haystack.now) x }
-    ensures { result ≡ first_from (D.data tables.now) reading query.now (H.text haystack.now) x }
+    ensures found { result ≡ first_from (D.data tables.now) reading query.now (H.text haystack.now) x }
+    ensures boundary { IfSome result (IsCharBoundary (H.text haystack.now)) }
 {
     let sought = Sought {
         query,
@@ -63,7 +64,8 @@ pub fn first_before<H: Haystack, D: BidiData>(
     x: usize,
 ) -> Option<usize>
     requires { IsCharBoundary (H.text haystack.now) x }
-    ensures { result ≡ first_before (D.data tables.now) reading query.now (H.text haystack.now) x }
+    ensures found { result ≡ first_before (D.data tables.now) reading query.now (H.text haystack.now) x }
+    ensures boundary { IfSome result (IsCharBoundary (H.text haystack.now)) }
 {
     let sought = Sought {
         query,
@@ -95,7 +97,8 @@ pub fn last_before<H: Haystack, D: BidiData>(
     query: &Query,
     x: usize,
 ) -> Option<usize>
-    ensures { result ≡ last_before (D.data tables.now) reading query.now (H.text haystack.now) x }
+    ensures found { result ≡ last_before (D.data tables.now) reading query.now (H.text haystack.now) x }
+    ensures boundary { IfSome result (IsCharBoundary (H.text haystack.now)) }
 {
     let sought = Sought {
         query,
@@ -129,7 +132,10 @@ pub fn last_from<H: Haystack, D: BidiData>(
     x: usize,
 ) -> Option<usize>
     requires { IsCharBoundary (H.text haystack.now) x }
-    ensures { result ≡ last_from (D.data tables.now) reading query.now (H.text haystack.now) x }
+    ensures found { result ≡ last_from (D.data tables.now) reading query.now (H.text haystack.now) x }
+    ensures boundary { IfSome result (IsCharBoundary (H.text haystack.now)) }
+    ensures around { last_before (D.data tables.now) reading query.now (H.text haystack.now) x ≡ None
+        → result ≡ last_before (D.data tables.now) reading query.now (H.text haystack.now) (length (H.text haystack.now)) }
 {
     let sought = Sought {
         query,

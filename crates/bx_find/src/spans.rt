@@ -56,6 +56,7 @@ pub fn match_end<H: Haystack, D: BidiData>(
     requires { IsCharBoundary (H.text haystack.now) at }
     ensures value { result ≡ match_end (D.data tables.now) reading query.now (H.text haystack.now) at }
     ensures boundary { IsCharBoundary (H.text haystack.now) result }
+    ensures order { at ≤ result }
 {
     let len = haystack.len();
     let sought = Sought {

@@ -1,10 +1,13 @@
 use Rattle.std.proofs.Common.{ℕ, List, ◌≡◌, ◌≤◌, ◌+◌, ◌∙◌, length, chars, drop, ap, sym, arith}
-use Rattle.std.specs.Prelude.{Option, slice_get}
+use Rattle.std.specs.Prelude.{Option, Some, slice_get}
 use Rattle.std.proofs.lemmas.Str.{IsCharBoundary-start}
+use Rattle.bx_find.specs.Matches.{first_before}
 use Rattle.bx_find.specs.Prefix.{to_come}
 use Rattle.bx_find.proofs.Fronts.{front_of, front_ends}
 use Rattle.bx_find.proofs.Offsets.{if_below, below_yes, below_no, before_by_first, none_first, piece_read, none_behind, none_to_come}
+use Rattle.bx_find.proofs.Boundaries.{first_before_bound}
 use Rattle.bx_find.proofs.search.first_before.Goals as goal
+use Rattle.bx_find.proofs.search.first_before.Goals.{Then-found-x}
 
 pub loop-at-init : goal.loop-at-init
 loop-at-init g c =
@@ -19,16 +22,18 @@ loop-at-init g c =
     }
 
 -- the prefix is empty, and what follows is past the bound
-pub returns-then-len-eq0 : goal.returns-then-len-eq0
-returns-then-len-eq0 g c =
+pub returns-then-len-eq0-clause-found : goal.returns-then-len-eq0-clause-found
+returns-then-len-eq0-clause-found g c =
     let says = g.D.BidiData.data c.args.tables.now in
     let text = g.H.Haystack.text c.args.haystack.now in
     let none : length c.loop-at.prefix ≡ 0 = sym c.len.ensures ∙ c.if-len-eq0.true in
     sym (c.loop-at.invariant.first
     ∙ none_first says c.args.reading c.args.query.now c.args.x c.loop-at.at c.loop-at.prefix (chars (drop c.loop-at.at text)) none c.if-at-x.true)
 
-pub returns-then-found-x : goal.returns-then-found-x
-returns-then-found-x g c =
+found : (g : _) (c : Then-found-x g)
+    → Some c.in-Some.found
+    ≡ first_before (g.D.BidiData.data c.args.tables.now) c.args.reading c.args.query.now (g.H.Haystack.text c.args.haystack.now) c.args.x
+found g c =
     let says = g.D.BidiData.data c.args.tables.now in
     let text = g.H.Haystack.text c.args.haystack.now in
     let piece = c.upto-piece.result.now in
@@ -39,8 +44,16 @@ returns-then-found-x g c =
     ∙ ap (λ (cs : List ℕ). if_below c.args.x (slice_get (to_come says c.args.reading c.args.query.now c.loop-at.prefix c.loop-at.at cs) 0)) read
     ∙ ap (if_below c.args.x) (c.in-Some.ensures.found behind) ∙ below_yes c.args.x c.in-Some.found c.if-found-x.true)
 
-pub returns-else-found-x : goal.returns-else-found-x
-returns-else-found-x g c =
+pub returns-then-found-x-clause-found : goal.returns-then-found-x-clause-found
+returns-then-found-x-clause-found g c = found g ((goal.at.returns-then-found-x-clause-found g c).Then-found-x)
+
+pub returns-then-found-x-clause-boundary : goal.returns-then-found-x-clause-boundary
+returns-then-found-x-clause-boundary g c =
+    first_before_bound (g.D.BidiData.data c.args.tables.now) c.args.reading c.args.query.now (g.H.Haystack.text c.args.haystack.now) c.args.x
+    c.len-len.ensures.utf8 (Some c.in-Some.found) (found g ((goal.at.returns-then-found-x-clause-boundary g c).Then-found-x))
+
+pub returns-else-found-x-clause-found : goal.returns-else-found-x-clause-found
+returns-else-found-x-clause-found g c =
     let says = g.D.BidiData.data c.args.tables.now in
     let text = g.H.Haystack.text c.args.haystack.now in
     let piece = c.upto-piece.result.now in
@@ -67,8 +80,8 @@ loop-at-preserved g c =
           ∙ ap (λ (os : List ℕ). if_below c.args.x (slice_get os 0)) (c.in_default.ensures.found behind);
     }
 
-pub returns : goal.returns
-returns g c =
+pub returns-clause-found : goal.returns-clause-found
+returns-clause-found g c =
     let says = g.D.BidiData.data c.args.tables.now in
     let text = g.H.Haystack.text c.args.haystack.now in
     let past : length text ≤ c.loop-at.at = omega (arith, c.loop-at-test.false, c.len-len.ensures.value) in

@@ -2,9 +2,11 @@ use Rattle.std.proofs.Common.{ℕ, List, ◌≡◌, ◌≤◌, ◌+◌, ◌∙�
 use Rattle.std.specs.Prelude.{Option, None}
 use Rattle.std.proofs.lemmas.Str.{IsCharBoundary-start}
 use Rattle.bx_find.specs.Prefix.{to_come}
-use Rattle.bx_find.specs.Matches.{last_below}
+use Rattle.bx_find.specs.Matches.{last_below, last_before}
 use Rattle.bx_find.proofs.Offsets.{from_start, piece_read, none_behind, none_left, none_to_come}
+use Rattle.bx_find.proofs.Boundaries.{last_before_bound}
 use Rattle.bx_find.proofs.search.last_before.Goals as goal
+use Rattle.bx_find.proofs.search.last_before.Goals.{Then-len-eq0, After-loop-at}
 
 pub loop-at-init : goal.loop-at-init
 loop-at-init g c =
@@ -40,8 +42,10 @@ loop-at-preserved g c =
     }
 
 -- the prefix is empty, and what follows is past the bound
-pub returns-then-len-eq0 : goal.returns-then-len-eq0
-returns-then-len-eq0 g c =
+none : (g : _) (c : Then-len-eq0 g)
+    → c.loop-at.latest.found
+    ≡ last_before (g.D.BidiData.data c.args.tables.now) c.args.reading c.args.query.now (g.H.Haystack.text c.args.haystack.now) c.args.x
+none g c =
     let says = g.D.BidiData.data c.args.tables.now in
     let text = g.H.Haystack.text c.args.haystack.now in
     let none : length c.loop-at.prefix ≡ 0 = sym c.len.ensures ∙ c.if-len-eq0.true in
@@ -49,8 +53,18 @@ returns-then-len-eq0 g c =
     ∙ none_left says c.args.reading c.args.query.now c.args.x c.loop-at.at c.loop-at.latest.found c.loop-at.prefix (chars (drop c.loop-at.at text)) none
     c.if-at-x.true)
 
-pub returns : goal.returns
-returns g c =
+pub returns-then-len-eq0-clause-found : goal.returns-then-len-eq0-clause-found
+returns-then-len-eq0-clause-found g c = none g ((goal.at.returns-then-len-eq0-clause-found g c).Then-len-eq0)
+
+pub returns-then-len-eq0-clause-boundary : goal.returns-then-len-eq0-clause-boundary
+returns-then-len-eq0-clause-boundary g c =
+    last_before_bound (g.D.BidiData.data c.args.tables.now) c.args.reading c.args.query.now (g.H.Haystack.text c.args.haystack.now) c.args.x
+    c.len-len.ensures.utf8 c.loop-at.latest.found (none g ((goal.at.returns-then-len-eq0-clause-boundary g c).Then-len-eq0))
+
+found : (g : _) (c : After-loop-at g)
+    → c.loop-at.latest.found
+    ≡ last_before (g.D.BidiData.data c.args.tables.now) c.args.reading c.args.query.now (g.H.Haystack.text c.args.haystack.now) c.args.x
+found g c =
     let says = g.D.BidiData.data c.args.tables.now in
     let text = g.H.Haystack.text c.args.haystack.now in
     let past : length text ≤ c.loop-at.at = omega (arith, c.loop-at-test.false, c.len-len.ensures.value) in
@@ -59,3 +73,11 @@ returns g c =
     (none_behind text c.loop-at.at past)
     ∙ ap (last_below c.args.x c.loop-at.latest.found)
     (none_to_come says c.args.reading c.args.query.now c.loop-at.prefix c.loop-at.at c.loop-at.invariant.fewer))
+
+pub returns-clause-found : goal.returns-clause-found
+returns-clause-found g c = found g ((goal.at.returns-clause-found g c).After-loop-at)
+
+pub returns-clause-boundary : goal.returns-clause-boundary
+returns-clause-boundary g c =
+    last_before_bound (g.D.BidiData.data c.args.tables.now) c.args.reading c.args.query.now (g.H.Haystack.text c.args.haystack.now) c.args.x
+    c.len-len.ensures.utf8 c.loop-at.latest.found (found g ((goal.at.returns-clause-boundary g c).After-loop-at))

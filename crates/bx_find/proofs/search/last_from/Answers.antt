@@ -1,9 +1,11 @@
-use Rattle.std.proofs.Common.{ℕ, List, ◌≤◌, ◌+◌, ◌∙◌, ◌++◌, length, chars, drop, ap, sym, arith}
+use Rattle.std.proofs.Common.{ℕ, List, ◌≡◌, ◌≤◌, ◌+◌, ◌∙◌, ◌++◌, length, chars, drop, ap, sym, arith}
 use Rattle.std.specs.Prelude.{Option, None}
 use Rattle.bx_find.specs.Prefix.{to_come}
-use Rattle.bx_find.specs.Matches.{last_below}
-use Rattle.bx_find.proofs.Offsets.{last_from_offset, piece_read, none_behind, none_to_come}
+use Rattle.bx_find.specs.Matches.{last_below, last_from}
+use Rattle.bx_find.proofs.Offsets.{last_around, last_from_offset, piece_read, none_behind, none_to_come}
+use Rattle.bx_find.proofs.Boundaries.{last_from_bound}
 use Rattle.bx_find.proofs.search.last_from.Goals as goal
+use Rattle.bx_find.proofs.search.last_from.Goals.{After-loop-at}
 
 pub loop-at-init : goal.loop-at-init
 loop-at-init g c =
@@ -39,8 +41,10 @@ loop-at-preserved g c =
           ∙ ap (λ b. last_below b c.last_in.new.latest.found (come c.last_in.new.prefix next behind)) before;
     }
 
-pub returns : goal.returns
-returns g c =
+found : (g : _) (c : After-loop-at g)
+    → c.loop-at.latest.found
+    ≡ last_from (g.D.BidiData.data c.args.tables.now) c.args.reading c.args.query.now (g.H.Haystack.text c.args.haystack.now) c.args.x
+found g c =
     let says = g.D.BidiData.data c.args.tables.now in
     let text = g.H.Haystack.text c.args.haystack.now in
     let past : length text ≤ c.loop-at.at = omega (arith, c.loop-at-test.false, c.len-len.ensures.value) in
@@ -49,3 +53,17 @@ returns g c =
     (none_behind text c.loop-at.at past)
     ∙ ap (last_below (length text) c.loop-at.latest.found)
     (none_to_come says c.args.reading c.args.query.now c.loop-at.prefix c.loop-at.at c.loop-at.invariant.fewer))
+
+pub returns-clause-found : goal.returns-clause-found
+returns-clause-found g c = found g ((goal.at.returns-clause-found g c).After-loop-at)
+
+pub returns-clause-boundary : goal.returns-clause-boundary
+returns-clause-boundary g c =
+    last_from_bound (g.D.BidiData.data c.args.tables.now) c.args.reading c.args.query.now (g.H.Haystack.text c.args.haystack.now) c.args.x
+    c.len-len.ensures.utf8 c.loop-at.latest.found (found g ((goal.at.returns-clause-boundary g c).After-loop-at))
+
+pub returns-clause-around : goal.returns-clause-around
+returns-clause-around g c none =
+    found g ((goal.at.returns-clause-around g c).After-loop-at)
+    ∙ sym (last_around (g.D.BidiData.data c.args.tables.now) c.args.reading c.args.query.now (g.H.Haystack.text c.args.haystack.now) c.args.x
+    c.len-len.ensures.utf8 none)
