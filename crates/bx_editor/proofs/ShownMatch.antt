@@ -1,7 +1,7 @@
 -- What holds while a match is shown, and while the other text is asked for.
 use Rattle.std.proofs.Common.{◌≡◌, ◌≢◌, ◌≤◌, ◌<◌, ◌+◌, ℕ, true, false, List, [], ◌∷◌, length, chars, drop}
-use Rattle.std.proofs.Common.{ap, subst, arith, IsUtf8}
-use Rattle.std.specs.Prelude.{Option, Some, None, MatchOption}
+use Rattle.std.proofs.Common.{ap, subst, arith, refl, IsUtf8}
+use Rattle.std.specs.Prelude.{Option, Some, None, IsNone, IsSome, MatchOption}
 use Rattle.std.proofs.lemmas.Bool.{and_parts}
 use Rattle.bx_terms.specs.Sizes.{largest_text}
 use Rattle.bx_ucd.specs.Data.{Data}
@@ -59,6 +59,11 @@ module _ (d : Data) (r : Reading) (sought text : List ℕ) (u : IsUtf8 text) whe
   end-behind at h = (span_found d r sought text u at at (here-by at _ (first_is d r sought text at u) h)).1.0
 
 -- ---- while it is shown
+
+-- what is not none is some
+pub some-if : {A : Type 0} (o : Option A) → ¬ (IsNone o) → IsSome o
+some-if None h = absurd (h refl)
+some-if (Some a) h = refl
 
 -- an editor's state that is seen in another way shows the same match
 pub shown-in : {D : Type 0} (says : D → Data) (was now : EditorState D) → was ≡ now → now.editor.seek ≡ Replacing

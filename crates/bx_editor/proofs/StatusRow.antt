@@ -1,6 +1,6 @@
 -- The status row: its characters, and its place in a grid.
 use Rattle.std.proofs.Common.{◌≡◌, ℕ, ◌+◌, ◌*◌, ◌%◌, ◌^◌, ◌<◌, ◌≤◌, Bool, true, nat_le, ◌&&◌, false, List, [], ◌∷◌, ◌++◌, length, take}
-use Rattle.std.proofs.Common.{append_assoc, decimal, Option, Some, None, refl, ap, ap₂, ◌∙◌, arith}
+use Rattle.std.proofs.Common.{append_assoc, decimal, Option, Some, None, refl, ap, ap₂, ◌∙◌, ◌⊎◌, ⊎_elim, arith}
 use Rattle.std.specs.Prelude.{codes, if◌then◌else◌}
 use Rattle.std.proofs.lemmas.Bool.Decides.{nat_tests}
 use Rattle.std.proofs.lemmas.Fmt.{decimal_by_steps}
@@ -12,6 +12,7 @@ use Rattle.bx_keys.specs.declared.notice.Notice as told
 use Rattle.bx_keys.specs.declared.notice.Notice.TheVariants as notices
 use Rattle.bx_store.specs.declared.cause.SaveCause.{SaveCause}
 use Rattle.bx_store.specs.declared.cause.SaveCause.TheVariants as causes
+use Rattle.bx_ucd.specs.Data.{Data}
 use Rattle.bx_grid.specs.Columns.{Col}
 use Rattle.bx_grid.specs.Picture.{GridState}
 use Rattle.bx_rows.specs.RowPicture.{Glyph, glyph}
@@ -22,7 +23,8 @@ use Rattle.bx_editor.specs.declared.message.Message.{Message}
 use Rattle.bx_editor.specs.declared.message.Message.TheVariants.{Saved, SaveFailed, TextFull, NothingToUndo, NothingToRedo, Unsaved, Direction, MarkSet, MarkOff}
 use Rattle.bx_editor.specs.declared.message.Message.TheVariants.{Copied, LineCopied, NothingToCopy, NothingToPut, FromStart, FromEnd, NotFound, Help}
 use Rattle.bx_editor.specs.declared.message.Message.TheVariants.{MoreHelp, MoreThanOneLine, NoSuchCharacter, Replaced, Told, Notice}
-use Rattle.bx_editor.specs.Status.{failed_text, letter_glyphs, message_text, notice_text, prompt_text, shown_text, status_line}
+use Rattle.bx_editor.specs.Editor.{Editor}
+use Rattle.bx_editor.specs.Status.{failed_text, letter_glyphs, message_text, notice_text, prompt_glyphs, prompt_text, shown_text, status_line, typed_glyphs}
 
 -- ---- all its characters are from SPACE to TILDE
 
@@ -118,6 +120,15 @@ pub prompted-glyphs : (line prompt : List ℕ) (typed : List Glyph)
 prompted-glyphs line prompt typed =
     ap (λ gs. gs ++ typed) (map-append (λ b. glyph (b ∷ []) 1 false) line prompt)
     ∙ append_assoc (letter_glyphs line) (letter_glyphs prompt) typed
+
+-- a question has its prompt, and behind it the answer as it was typed
+pub question-glyphs : (d : Data) (e : Editor) (ask : Ask) → (ask ≡ asks.Line) ⊎ ((ask ≡ asks.Name) ⊎ (ask ≡ asks.Code))
+    → prompt_glyphs d e ask ≡ letter_glyphs (prompt_text ask) ++ typed_glyphs e.answer
+question-glyphs d e asks.Off some =
+    ⊎_elim (λ line. absurd (cc)) (λ other. ⊎_elim (λ name. absurd (cc)) (λ code. absurd (cc)) other) some
+question-glyphs d e asks.Line some = refl
+question-glyphs d e asks.Name some = refl
+question-glyphs d e asks.Code some = refl
 
 -- ---- the columns in a grid
 

@@ -90,8 +90,6 @@ impl<D: BidiData + Drop> Editor<D> {
             (rows (D.data self.old.tables) self.old.editor) back self.old.editor.place) }
         ensures range { IfOk result (λ p. IsRange self.old.editor.content.text p self.old.editor.place) }
     {
-        // proof only: the text is UTF-8
-        let _utf8 = self.document.len();
         let place = self.document.moved(back, self.cursor.place)?;
         Ok(place)
     }
@@ -104,8 +102,6 @@ impl<D: BidiData + Drop> Editor<D> {
             (rows (D.data self.old.tables) self.old.editor) on self.old.editor.place) }
         ensures range { IfOk result (λ p. IsRange self.old.editor.content.text self.old.editor.place p) }
     {
-        // proof only: the text is UTF-8
-        let _utf8 = self.document.len();
         let place = self.document.moved(on, self.cursor.place)?;
         Ok(place)
     }

@@ -116,8 +116,6 @@ pub(crate) fn forward<D: BidiData + Drop>(
         document.old.document.content.text place (letters (D.data document.old.tables) reading (chars query.now))) }
     ensures text_place { IfOk result (λ l. IfSome l.place (IsTextPlace (D.data document.old.tables) document.old.document.content.text)) }
 {
-    // proof only: the text is UTF-8
-    let _utf8 = document.len();
     let Some(sought) = document.query(reading, query) else {
         return Ok(NOTHING_SOUGHT);
     };
@@ -142,8 +140,6 @@ pub(crate) fn backward<D: BidiData + Drop>(
         document.old.document.content.text place (letters (D.data document.old.tables) reading (chars query.now))) }
     ensures text_place { IfOk result (λ l. IfSome l.place (IsTextPlace (D.data document.old.tables) document.old.document.content.text)) }
 {
-    // proof only: the text is UTF-8
-    let _utf8 = document.len();
     let Some(sought) = document.query(reading, query) else {
         return Ok(NOTHING_SOUGHT);
     };

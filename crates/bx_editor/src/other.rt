@@ -1,5 +1,5 @@
 //! The question for the other text, which replaces matches.
-ghost use Rattle.std.specs.Prelude.{◌≡◌, ◌↔◌, [], true, IfSome, IsNone, OnErr, OnOk};
+ghost use Rattle.std.specs.Prelude.{◌≡◌, ◌↔◌, [], true, IfSome, IsNone, IsSome, IsUtf8, OnErr, OnOk};
 ghost use Rattle.bx_view.specs.Places.{IsTextPlace};
 ghost use Rattle.bx_editor.specs.Editor.{cleared};
 ghost use Rattle.bx_editor.specs.Origin.{asks_other, is_queried};
@@ -21,6 +21,8 @@ impl<D: BidiData + Drop> Editor<D> {
     pub(crate) fn sought(&self) -> Option<Query>
         ensures letters { IfSome result (λ q. q ≡ sought (D.data self.now.tables) self.now.editor) }
         ensures none { IsNone result ↔ (sought (D.data self.now.tables) self.now.editor ≡ []) }
+        ensures some { self.now.editor.seek ≡ Seek.Replacing → IsSome result }
+        ensures utf8 { IsUtf8 self.now.editor.content.text }
     {
         self.document
             .query(reading_of(self.aim), self.query.as_str())
@@ -93,8 +95,6 @@ impl<D: BidiData + Drop> Editor<D> {
         ensures { self.new ≡ record self.old { editor = after_showing (D.data self.old.tables) (cleared self.old.editor) } }
     {
         self.clear();
-        // proof only: the text is UTF-8 and within its limit
-        let _utf8 = self.document.len();
         let Some(query) = self.sought() else {
             return;
         };

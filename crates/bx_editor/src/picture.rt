@@ -85,8 +85,6 @@ impl<D: BidiData + Drop> Editor<D> {
             let cursor = Cell { line: 1, column: 1 };
             return Ok((top, Picture::new(page, cursor)));
         }
-        // proof only: the text is UTF-8
-        let _utf8 = self.document.len();
         let count = text_height(self.height);
         let region = self.seen();
         let shown = self

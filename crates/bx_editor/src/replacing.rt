@@ -1,5 +1,5 @@
 //! A match that is shown: it is replaced or passed over, or it and all that follow are replaced.
-ghost use Rattle.std.specs.Prelude.{◌≡◌, ◌+◌, ◌≤◌, true, if◌then◌else◌, IfOk, IfSome, IsCharBoundary, OnErr, OnOk};
+ghost use Rattle.std.specs.Prelude.{◌≡◌, ◌+◌, ◌≤◌, true, if◌then◌else◌, IfOk, IfSome, IsCharBoundary, IsUtf8, OnErr, OnOk};
 ghost use Rattle.bx_terms.specs.Sizes.{largest_text};
 ghost use Rattle.bx_text.specs.Edits.{IsRange, fits, splice};
 ghost use Rattle.bx_view.specs.Places.{IsTextPlace};
@@ -20,10 +20,9 @@ impl<D: BidiData + Drop> Editor<D> {
     /// The query, of which a match is shown. Allocates nothing.
     fn shown_query(&self) -> Query
         requires shown { self.now.editor.seek ≡ Seek.Replacing }
-        ensures { result ≡ sought (D.data self.now.tables) self.now.editor }
+        ensures query { result ≡ sought (D.data self.now.tables) self.now.editor }
+        ensures utf8 { IsUtf8 self.now.editor.content.text }
     {
-        // proof only: the match is one of the query
-        let _at = self.at;
         let Some(query) = self.sought() else {
             unreachable!()
         };
@@ -35,6 +34,7 @@ impl<D: BidiData + Drop> Editor<D> {
         requires shown { self.now.editor.seek ≡ Seek.Replacing }
         ensures stop { result ≡ match_stop (D.data self.now.tables) self.now.editor }
         ensures range { IsRange self.now.editor.content.text self.now.editor.at result }
+        ensures utf8 { IsUtf8 self.now.editor.content.text }
     {
         let query = self.shown_query();
         self.document
@@ -58,6 +58,7 @@ impl<D: BidiData + Drop> Editor<D> {
         requires bounds { IsCharBoundary self.now.editor.content.text x }
         ensures next { result ≡ next_match (D.data self.now.tables) self.now.editor x }
         ensures boundary { IfSome result (IsCharBoundary self.now.editor.content.text) }
+        ensures utf8 { IsUtf8 self.now.editor.content.text }
     {
         let query = self.shown_query();
         self.document.first_from(reading_of(self.aim), &query, x)
@@ -79,8 +80,6 @@ impl<D: BidiData + Drop> Editor<D> {
         }) }
         ensures err { OnErr result (self.new ≡ self.old) }
     {
-        // proof only: the text is UTF-8 and within its limit
-        let _utf8 = self.document.len();
         let behind = self.document.behind_character(self.at);
         let Some(at) = self.next_match(behind) else {
             self.end_replacing();
@@ -103,8 +102,6 @@ impl<D: BidiData + Drop> Editor<D> {
         ensures text_place { IfOk result (λ next. IfSome next (λ found. IsTextPlace (D.data self.old.tables)
             (splice self.old.editor.content.text self.old.editor.at stop new.now) found.1)) }
     {
-        // proof only: the text is UTF-8 and within its limit
-        let _utf8 = self.document.len();
         let Some(offset) = self.next_match(stop) else {
             return Ok(None);
         };
@@ -150,8 +147,6 @@ impl<D: BidiData + Drop> Editor<D> {
         }) }
         ensures err { OnErr result (self.new ≡ self.old) }
     {
-        // proof only: the text is UTF-8 and within its limit
-        let _utf8 = self.document.len();
         let stop = self.match_stop();
         if !self.document.has_room(self.at, stop, self.other.as_str()) {
             self.tell(Message::TextFull);
@@ -179,8 +174,6 @@ impl<D: BidiData + Drop> Editor<D> {
         }) }
         ensures err { OnErr result (self.new ≡ self.old) }
     {
-        // proof only: the text is UTF-8 and within its limit
-        let _utf8 = self.document.len();
         let reading = reading_of(self.aim);
         let query = self.shown_query();
         let other = self.other.as_str();

@@ -75,6 +75,7 @@ pub fn whole_into(out: &mut Vec<u8>, picture: &Picture) -> Result<(), PaintError
     ensures shows { (t : Terminal) → IsIdle t → t.height ≡ picture.now.height → t.width ≡ picture.now.width
         → Shows (reads t (whole_bytes picture.now)) picture.now }
     ensures tokens { AreWholeTokens (whole_bytes picture.now) }
+    ensures picture { IsPicture picture.now }
 {
     let alloc = *out.allocator();
     let mut output = Output::behind(mem::replace(out, Vec::new(alloc)));
@@ -108,6 +109,7 @@ pub fn changes_into(out: &mut Vec<u8>, old: &Picture, new: &Picture) -> Result<(
     ensures sends { (t : Terminal) → Shows t old.now → effects t (changes_bytes old.now new.now) ≡ changed old.now new.now }
     ensures few { length (changed old.now new.now) ≤ differing old.now.columns new.now.columns }
     ensures nothing { old.now ≡ new.now → changes_bytes old.now new.now ≡ [] }
+    ensures new { IsPicture new.now }
 {
     let alloc = *out.allocator();
     let mut output = Output::behind(mem::replace(out, Vec::new(alloc)));

@@ -15,7 +15,7 @@ use crate::session::Session;
 use crate::status::Status;
 use bx_editor::Editor;
 use bx_keys::Key;
-use bx_store::{Store, StoreFault};
+use bx_store::Store;
 use bx_terms::is_side;
 use bx_ucd::BidiData;
 
@@ -72,14 +72,6 @@ impl<D: BidiData + Drop> Session<D> {
         self.decoder.feed(byte)
     }
 
-    /// Stores the text. Returns the store's fault; none if the text was stored.
-    fn store_text<S: Store>(&self, store: &mut S) -> Option<StoreFault>
-        ensures { SaveEnds result self.now.session.editor.content.text
-            (store_state S.contents S.faults store.old) (store_state S.contents S.faults store.new) }
-    {
-        save_pieces(self.editor.pieces(), store).err()
-    }
-
     /// Stores the text, and tells the editor how that ended. Paints nothing.
     fn save<S: Store>(&mut self, store: &mut S)
         requires runs { self.old.session.editor.ended ≡ false }
@@ -90,7 +82,7 @@ impl<D: BidiData + Drop> Session<D> {
               session = session_after_key (D.data self.old.tables) fault self.old.session Key.Save;
             }) }
     {
-        let fault = self.store_text(store);
+        let fault = save_pieces(self.editor.pieces(), store).err();
         self.editor.finish_save(fault);
     }
 

@@ -30,8 +30,6 @@ fn append(
     ensures tokens { AreWholeTokens (painting (known_if is_known painted.now) picture.now) }
     ensures is_picture { IsPicture picture.now }
 {
-    // proof only: it is a picture
-    let _grid = picture.grid();
     match painted {
         Some(old) if is_known => changes_into(queue, old, picture),
         _ => whole_into(queue, picture),

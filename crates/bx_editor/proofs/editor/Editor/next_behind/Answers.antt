@@ -1,4 +1,4 @@
-use Rattle.std.proofs.Common.{◌≡◌, ◌+◌, ◌-◌, ◌∙◌, length, ap, arith, subst, sym, IsUtf8}
+use Rattle.std.proofs.Common.{◌≡◌, ◌+◌, ◌-◌, ◌∙◌, length, ap, arith, subst, sym}
 use Rattle.std.specs.Prelude.{Some, None}
 use Rattle.bx_text.specs.Edits.{splice}
 use Rattle.bx_view.specs.Moves.{place_at}
@@ -11,7 +11,7 @@ use Rattle.bx_editor.proofs.editor.Editor.next_behind.Goals as goal
 pub returns-in_default-clause-next : goal.returns-in_default-clause-next
 returns-in_default-clause-next g c =
     let now : EditorState g.row.D.Denot = c.args.self.now in
-    let utf8 = subst (λ (s : EditorState g.row.D.Denot). IsUtf8 s.editor.content.text) c.self.view_is c.len-utf8.ensures.utf8 in
+    let utf8 = c.next_match.ensures.utf8 in
     sym (placed-behind (g.D.BidiData.data now.tables) now.editor c.args.stop c.args.new.now None utf8 c.utf8.new c.requires.range
     (sym c.in_default.is ∙ c.next_match.ensures.next))
 
@@ -19,7 +19,7 @@ pub place_behind-requires-clause-behind : goal.place_behind-requires-clause-behi
 place_behind-requires-clause-behind g c =
     let now : EditorState g.row.D.Denot = c.args.self.now in
     let d = g.D.BidiData.data now.tables in
-    let utf8 = subst (λ (s : EditorState g.row.D.Denot). IsUtf8 s.editor.content.text) c.self.view_is c.len-utf8.ensures.utf8 in
+    let utf8 = c.next_match.ensures.utf8 in
     (first-is d (reading now.editor.aim) (sought d now.editor) now.editor.content.text utf8 c.args.stop c.in-Some.offset
     (sym c.in-Some.is ∙ c.next_match.ensures.next)).not_before
 
@@ -27,7 +27,7 @@ pub overflow_sub-result : goal.overflow_sub-result
 overflow_sub-result g c =
     let now : EditorState g.row.D.Denot = c.args.self.now in
     let d = g.D.BidiData.data now.tables in
-    let utf8 = subst (λ (s : EditorState g.row.D.Denot). IsUtf8 s.editor.content.text) c.self.view_is c.len-utf8.ensures.utf8 in
+    let utf8 = c.next_match.ensures.utf8 in
     (first-is d (reading now.editor.aim) (sought d now.editor) now.editor.content.text utf8 c.args.stop c.in-Some.offset
     (sym c.in-Some.is ∙ c.next_match.ensures.next)).not_before
 
@@ -41,7 +41,7 @@ returns-clause-next g c =
     let offset = c.in-Some.offset in
     let text = splice e.content.text e.at stop new in
     let n = offset - stop + c.self.inside.at + length new in
-    let utf8 = subst (λ (s : EditorState g.row.D.Denot). IsUtf8 s.editor.content.text) c.self.view_is c.len-utf8.ensures.utf8 in
+    let utf8 = c.next_match.ensures.utf8 in
     let at : c.self.inside.at ≡ e.at = ap (λ (s : EditorState g.row.D.Denot). s.editor.at) c.self.view_is in
     let moved : n ≡ offset - stop + (e.at + length new) = omega (arith, at) in
     let place : c.in_ok-place.place ≡ place_at (rows_of d e text) n =

@@ -30,7 +30,7 @@ invariant_of-self-2 g c =
     sym c.in-Some.is ∙ c.next_match.ensures.next
     ∙ sym (ap (λ (s : EditorState g.row.D.Denot). next_match (g.D.BidiData.data s.tables) s.editor behind) c.self.view_is) in
     let on : i.at ≤ behind = omega (arith, c.behind_character-behind.ensures.behind) in
-    let next = passed-over d i.aim query text i.at i.count behind at c.len-utf8.ensures.utf8 shown on found in
+    let next = passed-over d i.aim query text i.at i.count behind at c.behind_character-behind.ensures.utf8 shown on found in
     let place = c.in_ok-self-inside.field-0 in
     subst (holds_with g.D.BidiData (record i { cursor = record i.cursor { place = place }; at = at }))
     (sym c.in_ok-self-inside.ensures.same) (

@@ -83,7 +83,7 @@ returns-clause-cursor g c = λ live.
     let column = c.in_ok-shown.ensures.inside in
     let wide : 1 ≤ i.document.document.w = omega (arith, column.0, column.1) in
     let some = subst (λ s. 1 ≤ s.editor.width) same wide in
-    let utf8 = subst (λ s. IsUtf8 s.editor.content.text) same c.len-utf8.ensures.utf8 in
+    let utf8 = subst (λ s. IsUtf8 s.editor.content.text) same c.show.ensures.utf8 in
     let place = subst (λ s. IsTextPlace (g.D.BidiData.data s.tables) s.editor.content.text s.editor.place) same c.self.invariant.0 in
     let shown = subst (λ s. IsAmong (rows (g.D.BidiData.data s.tables) s.editor) top s.editor.place (text_height s.editor.height)) same
     (subst (λ n. IsAmong (document_rows (g.D.BidiData.data i.document.tables) i.document.document) top i.cursor.place n) count c.in_ok-shown.ensures.among) in

@@ -1,4 +1,4 @@
-use Rattle.std.proofs.Common.{◌≤◌, ◌∙◌, ap, ap₂, arith, length, string_bytes, sym}
+use Rattle.std.proofs.Common.{◌≤◌, ◌∙◌, IsUtf8, ap, ap₂, arith, length, string_bytes, subst, sym}
 use Rattle.bx_find.specs.Spans.{spans_from}
 use Rattle.bx_document.specs.Swapped.{last_stop}
 use Rattle.bx_editor.specs.Editor.{EditorState}
@@ -16,12 +16,13 @@ exchange-requires-clause-few g c =
     let shown = at-match d i.aim query text i.cursor.seek i.at i.count
     (ap (λ (s : EditorState g.row.D.Denot). s.editor.seek) c.self.view_is ∙ c.requires.shown) c.self.invariant.7 in
     let same = ap₂ (λ r q. spans_from d r q text i.at) c.reading_of-reading.ensures
-    (c.shown_query-query.ensures
+    (c.shown_query-query.ensures.query
     ∙ sym (ap (λ (s : EditorState g.row.D.Denot). sought (g.D.BidiData.data s.tables) s.editor) c.self.view_is)) in
     let told = rw c.in-Some.is at (c.in_ok-swap.ensures.swap all (sym same)) in
     let range = rw c.in-Some.is at c.in_ok-swap.ensures.range in
     let bounds = range.stop_bounds in
     let inside : last_stop i.at all ≤ length text = omega (arith, told.1, bounds.0) in
-    let room = room-for-all d i.aim query text i.at i.count c.len-utf8.ensures.utf8 shown inside in
+    let utf8 = subst (λ (s : EditorState g.row.D.Denot). IsUtf8 s.editor.content.text) (sym c.self.view_is) c.shown_query-query.ensures.utf8 in
+    let room = room-for-all d i.aim query text i.at i.count utf8 shown inside in
     let count = ap (λ (s : EditorState g.row.D.Denot). s.editor.count) c.self.view_is in
     omega (arith, room, told.2, count)

@@ -1,4 +1,4 @@
-use Rattle.std.proofs.Common.{◌≡◌, ◌∙◌, true, ap, ap₂, string_bytes, sym}
+use Rattle.std.proofs.Common.{◌≡◌, ◌∙◌, IsUtf8, true, ap, ap₂, string_bytes, subst, sym}
 use Rattle.std.specs.Prelude.{Some}
 use Rattle.bx_find.specs.Matches.{first_from}
 use Rattle.bx_view.proofs.TextPlaces.{place-between}
@@ -15,7 +15,8 @@ first_from-requires g c =
     let i = c.self.inside in
     let t = i.document in
     let d = g.D.BidiData.data t.tables in
-    record { bounds = place-between d t.document.content.text i.cursor.place c.len-utf8.ensures.utf8 c.self.invariant.0 }
+    let utf8 = subst (λ (s : EditorState g.row.D.Denot). IsUtf8 s.editor.content.text) (sym c.self.view_is) c.sought.ensures.utf8 in
+    record { bounds = place-between d t.document.content.text i.cursor.place utf8 c.self.invariant.0 }
 
 pub invariant_of-self : goal.invariant_of-self
 invariant_of-self g c =
@@ -39,7 +40,7 @@ invariant_of-self g c =
       kept.4,
       kept.5,
       asked-began d text i.cursor.seek i.origin asks kept.6,
-      shown d i.aim query text at i.count i.cursor.place c.len-utf8.ensures.utf8 c.len-utf8.ensures.short
+      shown d i.aim query text at i.count i.cursor.place c.first_from.ensures.utf8 c.first_from.ensures.short
           (asked d i.aim query text i.cursor.seek i.at i.count asks kept.7) found,
     )
 
