@@ -233,8 +233,8 @@ impl<D: BidiData + Drop> Document<D> {
         Ok(Some(after))
     }
 
-    /// The place to which an offset leads once the bytes from `start` to `stop` have given way to `new`: the last place at or
-    /// before where its byte stands then. The offset is one of the text before that, at or after `stop`.
+    /// The place to which an offset of the text, at or after `stop`, leads once the bytes from `start` to `stop` have given way
+    /// to `new`: the last place at or before the offset that it has then.
     pub fn place_behind(
         &mut self,
         start: usize,
