@@ -19,7 +19,8 @@ use bx_store::{Store, StoreFault};
 use bx_terms::is_side;
 use bx_ucd::BidiData;
 
-/// Whether the screen's content counts as unknown after a key.
+/// Whether the screen's content counts as unknown after a key: after Repaint, and after a size, since a resized terminal may show
+/// anything.
 fn asks_for_whole(key: Key) -> bool
     ensures { result ≡ keys.asks_for_whole key }
 {
@@ -59,7 +60,7 @@ fn apply<D: BidiData + Drop>(editor: &mut Editor<D>, key: Key) -> Result<(), Ref
 }
 
 impl<D: BidiData + Drop> Session<D> {
-    /// Decodes a byte. Returns the key that it completes; none after the session's end.
+    /// Decodes a byte. Returns the key that it completes; None if it completes no key, and after the session's end.
     pub(crate) fn decode(&mut self, byte: u8) -> Option<Key>
         ensures key { result ≡ key_of_byte self.old.session byte }
         ensures rest { self.new ≡ record self.old { session = after_spending self.old.session byte } }
@@ -72,7 +73,7 @@ impl<D: BidiData + Drop> Session<D> {
         self.decoder.feed(byte)
     }
 
-    /// Stores the text. Returns the store's fault; none if the text was stored.
+    /// Stores the text. Returns the store's fault; None if the text was stored.
     fn store_text<S: Store>(&self, store: &mut S) -> Option<StoreFault>
         ensures { SaveEnds result self.now.session.editor.content.text
             (store_state S.contents S.faults store.old) (store_state S.contents S.faults store.new) }
