@@ -1,4 +1,4 @@
--- Cached rows.
+-- The cache of drawn rows: what an entry holds, and that its grid shows just the row that the rest of it names.
 use Rattle.std.specs.Prelude.{◌≡◌, ℕ, ◌<◌, List, length, All, HoldsAt}
 use Rattle.bx_terms.specs.declared.base.Base.{Base}
 use Rattle.bx_grid.specs.Columns.{Col}
@@ -7,7 +7,7 @@ use Rattle.bx_paragraph.specs.BodyRows.{body_rows, row_at}
 use Rattle.bx_ucd.specs.Data.{Data}
 use Rattle.bx_document.specs.Drawing.{body_row_columns}
 
--- an entry: the body of a paragraph, the base direction, the number of a row in the body from 0, and a grid of this row alone
+-- an entry: the body of a paragraph, the base direction, the number of a row in the body, from 0, and a grid of this row alone
 pub record EntryState : Type 0 where
   pub body : List ℕ
   pub base : Base
@@ -22,18 +22,18 @@ numbered_row_columns d body base number w = body_row_columns d w (row_at (body_r
 pub record IsDrawnBy (d : Data) (r : EntryState) : Type 0 where
   pub grid_is : r.grid ≡ record { height = 1; width = r.grid.width; columns = numbered_row_columns d r.body r.base r.number r.grid.width }
 
--- the same for each of these entries
+-- each of these entries is so
 abbrev pub AreDrawnBy : Data → List EntryState → Type 0
 AreDrawnBy d rows = All (IsDrawnBy d) rows
 
--- the entry has row `k` of the body, under this base direction, in a window of `w` columns
+-- the entry is for row `k`, from 0, of the body `text`, under the base direction `direction`, in a window of `w` columns
 pub record IsRowOf (text : List ℕ) (direction : Base) (k w : ℕ) (r : EntryState) : Type 0 where
   pub body_is : r.body ≡ text
   pub base_is : r.base ≡ direction
   pub number_is : r.number ≡ k
   pub width_is : r.grid.width ≡ w
 
--- the entry at index `i` has that row
+-- there is an entry at index `i`, from 0, and it is for that row
 pub record HoldsRow (text : List ℕ) (direction : Base) (k w : ℕ) (rows : List EntryState) (i : ℕ) : Type 0 where
   pub within : i < length rows
   pub is : HoldsAt (IsRowOf text direction k w) rows i

@@ -1,4 +1,5 @@
--- An editable text and its view in a window. Offsets and places count bytes of the text.
+-- An editable text laid out in a window, and what each of its edits makes of it. Offsets and places count bytes of the text.
+-- `d` is the data of Unicode's tables (`says` in other files of this folder), `t` the document before an edit.
 use Rattle.std.specs.Prelude.{ℕ, ◌+◌, List, [], ◌∷◌, length}
 use Rattle.bx_terms.specs.declared.base.Base.{Base}
 use Rattle.bx_document.specs.declared.edits.RegionEnd.{RegionEnd}
@@ -15,11 +16,12 @@ pub record Document : Type 0 where
   -- the window's columns
   pub w : ℕ
 
--- a document and its tables
+-- the value of a `Document` (`src/document.rt`): Unicode's tables, and the document that they lay out
 pub record DocumentState (D : Type 0) : Type 0 where
   pub tables : D
   pub document : Document
 
+-- the document once a text is opened, in a window of `w` columns: nothing can be undone or redone
 abbrev pub at_opening : List ℕ → ℕ → Base → Document
 at_opening text w base = record { content = opened text; base = base; w = w }
 
@@ -48,12 +50,12 @@ after_insertion d t place new = after_insertion_at d t place new place
 abbrev pub after_removal : Data → Document → ℕ → ℕ → ℕ → Document
 after_removal d t start stop place = record t { content = removed t.content start stop place (place_after d t start stop []) }
 
--- the text without the bytes from `start` to `stop`, and with `new` inserted at the place that its removal leads to
+-- the text without the bytes from `start` to `stop`, and with `new` inserted at the place that their removal leads to
 abbrev pub replaced_text : Data → Document → ℕ → ℕ → List ℕ → List ℕ
 replaced_text d t start stop new =
     let between = place_after d t start stop [] in splice (splice t.content.text start stop []) between between new
 
--- the place after it: the first one at or after the end of `new`
+-- the place after that replacement: the first one of `replaced_text` at or after the end of `new`
 abbrev pub place_after_replacement : Data → Document → ℕ → ℕ → List ℕ → ℕ
 place_after_replacement d t start stop new =
     place_from (rows_of d t (replaced_text d t start stop new)) (place_after d t start stop [] + length new)
@@ -63,27 +65,29 @@ place_after_replacement d t start stop new =
 abbrev pub after_replacement : Data → Document → ℕ → ℕ → List ℕ → ℕ → Document
 after_replacement d t start stop new place = after_insertion d (after_removal d t start stop place) (place_after d t start stop []) new
 
--- after the bytes from `start` to `stop` are removed, and then others, if there are any, are inserted where they stood; the cursor
--- was at `place`
+-- after the bytes from `start` to `stop` are removed and then, if they are not empty, other bytes are inserted at `start`; the
+-- cursor was at `place`
 abbrev pub after_exchange : Data → Document → ℕ → ℕ → List ℕ → ℕ → Document
 after_exchange d t start stop [] place = after_removal d t start stop place
 after_exchange d t start stop (b ∷ bs) place = after_insertion_at d (after_removal d t start stop place) start (b ∷ bs) (place_after d t start stop [])
 
--- the text with `back` inserted behind the bytes from `start` to `stop`, and `front` before them
+-- the text with `back` inserted after the bytes from `start` to `stop`, and `front` before them
 abbrev pub wrapped_text : List ℕ → ℕ → ℕ → List ℕ → List ℕ → List ℕ
 wrapped_text text start stop front back = splice (splice text stop stop back) start start front
 
--- the same end of the wrapped bytes in that text
+-- the offset, in the wrapped text, of an end of the bytes that stood from `start` to `stop`
 abbrev pub wrapped_end : RegionEnd → ℕ → ℕ → List ℕ → ℕ
 wrapped_end Start start stop front = start + length front
 wrapped_end Stop start stop front = stop + length front
 
--- the place after it, for a cursor that was at an end of those bytes: the first one at or after that end
+-- the place after a wrap of the bytes from `start` to `stop`, for a cursor that was at their end `at`: the first one at or after
+-- that end in the wrapped text
 abbrev pub place_after_wrap : Data → Document → ℕ → ℕ → List ℕ → List ℕ → RegionEnd → ℕ
 place_after_wrap d t start stop front back at =
     place_from (rows_of d t (wrapped_text t.content.text start stop front back)) (wrapped_end at start stop front)
 
--- after `back` is inserted after those bytes and then `front` before them; the cursor was at `place`, an end of them
+-- after two edits: `back` is inserted at `stop`, then `front` at `start`; the cursor was at `place`, the end `at` of the bytes
+-- between
 abbrev pub after_wrap : Data → Document → ℕ → ℕ → List ℕ → List ℕ → ℕ → RegionEnd → Document
 after_wrap d t start stop front back place at = record t {
   content = wrapped t.content start stop front back place (place_after d t stop stop back) (place_after_wrap d t start stop front back at);

@@ -19,7 +19,7 @@ body_row_columns d width r = side_by_side (row_glyphs d width r)
 abbrev pub row_columns : Data → ℕ → TextRow → List Col
 row_columns d width r = body_row_columns d width r.row
 
--- the row of `place` is one of the `count` rows from the row of the offset `top` on
+-- the row of `place` is one of the `count` rows that begin with the row of the offset `top`
 pub record IsAmong (rows : List TextRow) (top place count : ℕ) : Type 0 where
   pub above : row_of rows top ≤ row_of rows place
   pub below : row_of rows place < row_of rows top + count

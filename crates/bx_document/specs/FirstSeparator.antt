@@ -1,8 +1,9 @@
--- Whether a text's lines end with CR LF, by its first separator.
+-- Whether a text's lines end with CR LF, by its first separator: Enter types what they end with.
 use Rattle.std.specs.Prelude.{ℕ, ◌==◌, Bool, false, ◌&&◌, List, [], ◌∷◌}
 use Rattle.bx_ucd.specs.Data.{Data}
 use Rattle.bx_view.specs.Standing.{paragraph_at}
 
+-- a separator's bytes are CR (13) and LF (10)
 abbrev pub is_cr_lf : List ℕ → Bool
 is_cr_lf (a ∷ b ∷ []) = (a == 13) && (b == 10)
 is_cr_lf _ = false

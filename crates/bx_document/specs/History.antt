@@ -1,4 +1,4 @@
--- Undo and redo.
+-- Undo and redo: what they make of a text, and the change of its bytes by which index and view follow.
 use Rattle.std.specs.Prelude.{ℕ, Option}
 use Rattle.bx_text.specs.declared.change.Change.{Change}
 use Rattle.bx_text.specs.Edits.{Edited, next_redo, next_undo, redone, undone}
@@ -16,12 +16,12 @@ abbrev pub next_change : HistoryStep → Edited → Option Change
 next_change Undo t = next_undo t
 next_change Redo t = next_redo t
 
--- the text after n steps, or as many as there are
+-- the text after n steps, or after all if there are fewer
 abbrev pub stepped_times : HistoryStep → ℕ → Edited → Edited
 stepped_times Undo n t = undone_times n t
 stepped_times Redo n t = redone_times n t
 
--- the one change that they make; none where none is made
+-- the one change that these steps make together; None if there is no step
 abbrev pub next_changes : HistoryStep → ℕ → Edited → Option Change
 next_changes Undo n t = next_undos n t
 next_changes Redo n t = next_redos n t

@@ -1,10 +1,10 @@
--- Lines: paragraphs with their separators.
+-- Lines: paragraphs with their separators. Cut and Copy take the cursor's line where the region is empty.
 use Rattle.std.specs.Prelude.{ℕ, ◌+◌, List, take}
 use Rattle.bx_ucd.specs.Data.{Data}
 use Rattle.bx_index.specs.Paragraphs.{lengths}
 use Rattle.bx_index.specs.Positions.{paragraph_of, total}
 
--- the offset at which paragraph `number` begins; after the last paragraph, the text's end
+-- the offset at which paragraph `number`, from 0, begins; for a number past the last paragraph, the text's end
 abbrev pub begin_of : Data → List ℕ → ℕ → ℕ
 begin_of says text number = total (take number (lengths says text))
 

@@ -1,4 +1,4 @@
--- The places recorded with the edits of a text's past and future.
+-- The places recorded with the edits of a text's past and future, to which undo and redo lead the cursor.
 use Rattle.std.specs.Prelude.{All}
 use Rattle.bx_ucd.specs.Data.{Data}
 use Rattle.bx_text.specs.Edits.{Edit, Edited}
@@ -9,7 +9,7 @@ pub record HasPlaces (says : Data) (e : Edit) : Type 0 where
   pub before : IsTextPlace says e.before.text e.before.place
   pub after : IsTextPlace says e.after.text e.after.place
 
--- the same for each edit of the past and the future
+-- this holds of each edit of the past and the future
 pub record KeepsPlaces (says : Data) (content : Edited) : Type 0 where
   pub past : All (HasPlaces says) content.past
   pub future : All (HasPlaces says) content.future

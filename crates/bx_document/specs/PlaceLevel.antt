@@ -1,4 +1,5 @@
--- The embedding level of the unit at a place, as a row has it before rule L1 resets trailing blanks.
+-- The embedding level of the unit at a place, which the editor tells of the unit at the cursor: UAX #9's after rule I2, before
+-- rule L1 resets trailing blanks. Rule X9 removes characters: these have no level.
 use Rattle.std.specs.Prelude.{◌≡◌, ℕ, ◌+◌, ◌-◌, ◌==◌, ◌<◌, true, false, List, [], ◌∷◌, ◌++◌, length, take, drop, slice_get, Option, Some, None, chars}
 use Rattle.std.specs.List.{concat}
 use Rattle.bx_ucd.specs.Data.{Data}
@@ -10,9 +11,9 @@ use Rattle.bx_resolve.specs.Levels.{levels_under}
 use Rattle.bx_rows.specs.RowLevels.{first_level}
 use Rattle.bx_view.specs.Standing.{body_at, count, start_at}
 
--- The level of the unit that begins at the offset `at`, among units of which the first begins at the offset `start`, and
--- whose characters have the levels `each`: its first character that X9 keeps gives it. None where X9 keeps none of them, and
--- at an offset at which no unit begins.
+-- The level of the unit that begins at the offset `at`, among units of which the first begins at the offset `start`; `each` has
+-- the level of each of their characters. It is that of the unit's first character that X9 keeps: None if X9 keeps none of the
+-- unit's, and if no unit begins there.
 abbrev pub level_from : ℕ → List (List ℕ) → List (Option ℕ) → ℕ → Option ℕ
 level_from start [] each at = None
 level_from start (u ∷ us) each at =
@@ -21,24 +22,24 @@ level_from start (u ∷ us) each at =
       | false ↦ level_from (start + length u) us (drop (length (chars u)) each) at
     ]
 
--- the level of the unit that begins at an offset of a body, whose characters have the levels `each`
+-- the level of the unit that begins at the offset `at` of a body; `each` has the level of each character of the body
 abbrev pub unit_level : List ℕ → List (Option ℕ) → ℕ → Option ℕ
 unit_level body each at = level_from 0 (graphemes true body) each at
 
--- the level of the unit that begins at a place of a text; none at a separator and at the text's end
+-- the level of the unit that begins at a place of a text; None at a separator and at the text's end
 abbrev pub place_level : Data → Base → List ℕ → ℕ → Option ℕ
 place_level says base text place =
     let number = paragraph_of (lengths says text) place in
     let body = body_at says text number in
     unit_level body (levels_under says base (chars body)) (place - start_at says text number)
 
--- among levels, those from index `k` on, up to index `k + i`, are none, and that one is `level`
+-- the levels at the indexes `k` to `k + i - 1` are None, and the one at `k + i` is `level`
 pub record IsFirstLevel (each : List (Option ℕ)) (k i level : ℕ) : Type 0 where
   pub none_before : (j : ℕ) → j < i → slice_get each (k + j) ≡ Some None
   pub level_is : slice_get each (k + i) ≡ Some (Some level)
 
--- Each unit of each paragraph with a character that has a level has a level at the place where it begins, and its first such
--- character gives it. `front` are the paragraph's units before it, `i` is the number of that character in it.
+-- Each unit with a character that has a level has a level at the place where it begins, and it is that of its first such
+-- character. `number` is the paragraph, from 0, `front` its units before this one, and `i`, from 0, that character in the unit.
 abbrev pub UnitsHaveLevels : Data → Base → List ℕ → Type 0
 UnitsHaveLevels says base text =
     (number : ℕ) → number < count says text → (front rest : List (List ℕ)) (unit : List ℕ)

@@ -1,4 +1,5 @@
--- A status row shows a text, or a text and after it a query or what was typed. It leaves out the glyphs that do not fit.
+-- The columns of a status row. It shows a text, or a text and after it a query or what was typed, and leaves out the glyphs that
+-- do not fit.
 use Rattle.std.specs.Prelude.{◌≡◌, ℕ, ◌-◌, nat_le, true, false, List, [], ◌∷◌, ◌++◌, take, replicate, map, chars, encode_utf8}
 use Rattle.bx_terms.specs.Glyphs.{is_one_glyph, run_width}
 use Rattle.bx_terms.specs.declared.base.Base.TheVariants.{Auto}
@@ -12,11 +13,12 @@ use Rattle.bx_paragraph.specs.BodyRows.{body_rows, row_at}
 use Rattle.bx_paragraph.specs.OwnGlyphs.{row_own_glyphs}
 use Rattle.bx_document.specs.Drawing.{side_by_side}
 
--- the query is wrapped as a text of its own in 500 columns; its first row is shown, from left to right
+-- The glyphs of a query from left to right: those of its first row, as a text of its own in 500 columns, the widest window
+-- (`largest_side`), whatever window shows it.
 abbrev pub query_glyphs : Data → List ℕ → List Glyph
 query_glyphs d query = row_own_glyphs d 500 (row_at (body_rows d Auto 500 query) 0)
 
--- the leftmost glyphs, up to the first one that does not fit into `w` columns
+-- the leftmost glyphs, up to but without the first one that does not fit into `w` columns
 abbrev pub fitting : ℕ → List Glyph → List Glyph
 fitting w [] = []
 fitting w (g ∷ gs) = elim (nat_le g.columns w) [ true ↦ g ∷ fitting (w - g.columns) gs | false ↦ [] ]
@@ -37,9 +39,10 @@ pub record IsWellDrawn (g : Drawn) : Type 0 where
   pub one : is_one_glyph (cow_str_bytes g.text) ≡ true
   pub columns : run_width (cow_str_bytes g.text) ≡ g.columns
 
+-- the glyph of a character of one column, not in negative
 abbrev pub typed_glyph : ℕ → Glyph
 typed_glyph c = glyph (encode_utf8 c) 1 false
 
--- such characters in their order, a column for each
+-- the glyphs of some bytes' characters in the order in which they were typed, a column for each
 abbrev pub typed_glyphs : List ℕ → List Glyph
 typed_glyphs typed = map typed_glyph (chars typed)

@@ -1,5 +1,5 @@
--- A region is a part of the text, from one offset to another. Drawn rows show its columns in the other rendition: negative, or
--- plain if they were negative.
+-- A region is a part of the text, from one offset up to another: a pair. Drawn rows show its columns in the other rendition:
+-- negative, or plain if they were negative.
 use Rattle.std.specs.Prelude.{ℕ, ◌+◌, ◌-◌, ◌*◌, Bool, List, [], ◌∷◌, ◌++◌, flat_map, length, replicate, if◌then◌else◌}
 use Rattle.bx_grid.specs.Columns.{Col, blank}
 use Rattle.bx_grid.specs.Turned.{turned}
@@ -8,7 +8,7 @@ use Rattle.bx_view.specs.TextParts.{is_covered}
 use Rattle.bx_view.specs.TextRows.{TextRow}
 use Rattle.bx_document.specs.Drawing.{row_columns}
 
--- the columns, in the other rendition where their numbers pass; the first column has the number `k`
+-- the columns, those of them in the other rendition whose number passes; the first column has the number `k`
 abbrev pub turned_where : (ℕ → Bool) → ℕ → List Col → List Col
 turned_where passes k [] = []
 turned_where passes k (c ∷ cs) = (if passes k then turned c else c) ∷ turned_where passes (k + 1) cs
@@ -17,6 +17,6 @@ turned_where passes k (c ∷ cs) = (if passes k then turned c else c) ∷ turned
 abbrev pub region_columns : Data → ℕ → ℕ × ℕ → TextRow → List Col
 region_columns d w region r = turned_where (is_covered w region r) 1 (row_columns d w r)
 
--- the columns of `count` rows: the shown rows of text with the region, then blank rows
+-- the columns of `count` rows of the window: the shown rows of text, at most `count`, with the region, then blank rows
 abbrev pub region_rows : Data → ℕ → ℕ × ℕ → ℕ → List TextRow → List Col
 region_rows d w region count shown = flat_map (region_columns d w region) shown ++ replicate ((count - length shown) * w) blank

@@ -5,11 +5,11 @@ use Rattle.bx_grid.specs.Picture.{GridState}
 use Rattle.bx_grid.specs.Turned.{IsBorder, turned_in}
 use Rattle.bx_paragraph.specs.declared.slot.Slot.{Slot}
 
--- a row of a grid
+-- the columns of row `row`, from 0, of a grid
 abbrev pub row_in : GridState → ℕ → List Col
 row_in g row = take g.width (drop (row * g.width) g.columns)
 
--- the slot lies in the row, and no glyph of the row crosses its edges
+-- the slot's columns, which count from 1, lie in a row with these columns, and no glyph of the row crosses their edges
 pub record IsSpan (columns : List Col) (s : Slot) : Type 0 where
   pub low : 1 ≤ s.column
   pub fits : s.column - 1 + s.columns ≤ length columns

@@ -5,12 +5,12 @@ use Rattle.bx_index.specs.Paragraphs.{begins_with_lf, is_separator}
 use Rattle.bx_document.specs.declared.first_separator.Seen.{Seen}
 use Rattle.bx_document.specs.declared.first_separator.Seen.TheVariants.{Cr, Known, Nothing}
 
--- the first separator is a CR with an LF after it
+-- the first separator of some characters is a CR (13) with an LF after it
 abbrev pub crlf_first : Data → List ℕ → Bool
 crlf_first says [] = false
 crlf_first says (c ∷ cs) = elim (is_separator (says.class c)) [ true ↦ (c == 13) && begins_with_lf says cs | false ↦ crlf_first says cs ]
 
--- the same where characters are read, and these are left
+-- the same of a text of which some characters are read, and tell `Seen` (`src/first_separator.rt`), and others are left
 abbrev pub crlf_from : Data → Seen → List ℕ → Bool
 crlf_from says Nothing cs = crlf_first says cs
 crlf_from says Cr cs = begins_with_lf says cs

@@ -7,7 +7,7 @@ use Rattle.bx_ucd.specs.Data.{Data}
 use Rattle.bx_document.specs.Document.{Document, rows}
 use Rattle.bx_document.specs.Region.{region_rows}
 
--- the columns of `count` rows with a region
+-- the columns of `count` rows of the window, with the region turned to the other rendition
 abbrev pub shown_columns : Data → Document → ℕ → ℕ × ℕ → ℕ → List Col
 shown_columns d t top region count = region_rows d t.w region count (shown_rows (rows d t) top count)
 

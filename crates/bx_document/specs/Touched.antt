@@ -1,11 +1,11 @@
--- The paragraphs that an edit touches, as they are after it: they determine the place after the edit.
+-- The paragraphs that an edit touches, as they are after the edit: they determine the place after it, so only they are laid out.
 use Rattle.std.specs.Prelude.{ℕ, ◌+◌, ◌-◌, List, ◌++◌, slice_range}
 use Rattle.bx_ucd.specs.Data.{Data}
 use Rattle.bx_index.specs.Paragraphs.{lengths}
 use Rattle.bx_index.specs.Positions.{paragraph_of}
 use Rattle.bx_view.specs.Standing.{start_at}
 
--- the start of the paragraph that contains the byte before an offset
+-- the start of the paragraph with the byte before an offset (its separator may be a CR that the edit makes CR LF); 0 for offset 0
 abbrev pub touched_start : Data → List ℕ → ℕ → ℕ
 touched_start says text start = start_at says text (paragraph_of (lengths says text) (start - 1))
 

@@ -10,7 +10,8 @@ use bx_terms::OutOfMemory;
 use bx_ucd::BidiData;
 use bx_view::Source;
 
-/// The offsets of the start and the end of the line that an offset falls in. Allocates nothing.
+/// The offsets of the start and the end of the line, the paragraph with its separator, that an offset falls in. Allocates
+/// nothing.
 fn line_at<D: BidiData>(source: &Source<'_, D>, offset: usize) -> (usize, usize)
     requires bounds { IsCharBoundary (bytes source.now) offset }
     ensures line { result ≡ line_of (D.data source.now.tables.now) (bytes source.now) offset }
@@ -32,7 +33,7 @@ impl<D: BidiData + Drop> Document<D> {
         line_at(&source, place)
     }
 
-    /// Copies the bytes from `start` to `stop`.
+    /// A copy of the bytes from `start` to `stop`.
     pub fn copy(&self, start: usize, stop: usize) -> Result<String, OutOfMemory>
         requires range { IsRange self.now.document.content.text start stop }
         ensures { IfOk result (λ copy. string_bytes copy ≡ slice_range self.now.document.content.text start stop) }

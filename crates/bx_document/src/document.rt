@@ -1,4 +1,4 @@
-//! The document.
+//! The document that the editor edits: how it is opened, what it tells of itself, and its base direction and width.
 ghost use Rattle.std.specs.Borrow.{Bor};
 ghost use Rattle.std.specs.Iterator.{Drains};
 ghost use Rattle.bx_text.specs.Slices.{joined, lends};
@@ -21,9 +21,13 @@ use std::marker::Model;
 /// An editable text with its undo history, its paragraph index and its view for a window's width and a base direction.
 #[derive(Drop)]
 pub struct Document<D: BidiData + Drop> {
+    /// The text with its history, its index and the tables.
     pub(crate) own: OwnText<D>,
+    /// The base direction, the width, and cached paragraphs laid out in them.
     pub(crate) view: View,
+    /// Rows that were drawn, by which a row that is shown again is copied.
     pub(crate) row_cache: RowCache,
+    /// The allocator of copies, of the view and of the cache.
     pub(crate) alloc: Global,
 }
 
@@ -46,7 +50,7 @@ impl<D: BidiData + Drop> Model for Document<D> {
 }
 
 impl<D: BidiData + Drop> Document<D> {
-    /// Opens a text with an empty undo history, in `w` columns. An error drops the text and the tables.
+    /// Opens a text with an empty undo history, in a window of `w` columns. An error drops the text and the tables.
     ///
     /// Errors: `TooLong` above 16,777,216 bytes; `OutOfMemory`.
     pub fn open(

@@ -1,4 +1,4 @@
-//! Draws one row of text.
+//! Draws one row of text, or glyphs, as a grid of one row.
 ghost use Rattle.std.specs.Prelude.{◌≡◌, ◌≤◌, ◌++◌, ◌-◌, true, All, IfOk, length, map, replicate, sum_by};
 ghost use Rattle.std.specs.Cow.{cow_str_bytes};
 ghost use Rattle.bx_terms.specs.Glyphs.{is_one_glyph, run_width};

@@ -11,12 +11,12 @@ use bx_terms::OutOfMemory;
 use bx_ucd::BidiData;
 use bx_view::{RowAt, Source, View};
 
-/// The rows to draw.
+/// What `draw_rows` draws.
 #[derive(Clone, Copy)]
 pub(crate) struct Page {
-    /// The number of rows.
+    /// The number of the grid's rows to fill, from its first.
     pub(crate) count: u16,
-    /// The offsets of the region's start and end.
+    /// The offsets, in bytes of the text, of the region's start and end.
     pub(crate) region: (usize, usize),
 }
 

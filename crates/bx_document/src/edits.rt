@@ -17,7 +17,9 @@ use std::alloc::Global;
 /// The end of a region at which the cursor stands.
 #[derive(Clone, Copy, PartialEq, Eq, Debug)]
 pub enum RegionEnd {
+    /// The lower offset, before the region's first unit.
     Start,
+    /// The higher offset, after the region's last unit.
     Stop,
 }
 
@@ -32,7 +34,7 @@ fn wrapped_end(end: RegionEnd, start: usize, stop: usize, front: &str) -> usize
     }
 }
 
-/// A copy of the bytes from `start` to `stop`, with `front` before and `back` after them.
+/// A copy of the bytes from `start` to `stop` of the text, with `front` before and `back` after them.
 fn wrapped(
     alloc: Global,
     text: &Text,
@@ -69,7 +71,7 @@ impl<D: BidiData + Drop> Document<D> {
         Ok(place)
     }
 
-    /// Inserts characters at a place and returns the place after them; none, and no change, if the text would exceed
+    /// Inserts characters at a place and returns the place after them; None, and no change, if the text would exceed
     /// 16,777,216 bytes.
     ///
     /// Errors: `OutOfMemory`, and nothing has changed.
@@ -93,7 +95,7 @@ impl<D: BidiData + Drop> Document<D> {
         Ok(Some(after))
     }
 
-    /// Removes the bytes from `start` to `stop` and returns the new place. Undo restores the cursor to `place`.
+    /// Removes the bytes from `start` to `stop` and returns the new place. The cursor was at `place`, to which undo returns it.
     ///
     /// Errors: `OutOfMemory`, and nothing has changed.
     pub fn remove(&mut self, start: usize, stop: usize, place: usize) -> Result<usize, OutOfMemory>
@@ -113,7 +115,8 @@ impl<D: BidiData + Drop> Document<D> {
         Ok(after)
     }
 
-    /// The place after a pending replacement, of which the removal of the bytes from `start` to `stop` leads to `between`.
+    /// The place after a pending replacement of the bytes from `start` to `stop` by `new`. Their removal alone leads to the place
+    /// `between`, at which `new` is inserted.
     fn place_after_both(
         &mut self,
         start: usize,
@@ -139,8 +142,8 @@ impl<D: BidiData + Drop> Document<D> {
     }
 
     /// Removes the bytes from `start` to `stop`, then inserts `new` at the place after that, and returns the place after both;
-    /// none, and no change, if the text would exceed 16,777,216 bytes. These are two edits, of which undo takes back the
-    /// insertion first; the second one restores the cursor to `place`.
+    /// None, and no change, if the text would exceed 16,777,216 bytes. The cursor was at `place`. These are two edits: a first
+    /// undo takes back the insertion, a second one the removal, and returns the cursor to `place`.
     ///
     /// Errors: `OutOfMemory`, and nothing has changed.
     pub fn replace(
@@ -187,9 +190,9 @@ impl<D: BidiData + Drop> Document<D> {
         new.len() <= LARGEST_TEXT - kept
     }
 
-    /// Removes the bytes from `start` to `stop`, then inserts `new`, if it is not empty, where they stood, and returns the new
-    /// place; none, and no change, if the text would exceed 16,777,216 bytes. These are at most two edits, of which undo takes
-    /// back the insertion first; the removal restores the cursor to `place`.
+    /// Removes the bytes from `start` to `stop`, then inserts `new`, if it is not empty, at `start`, and returns the new place;
+    /// None, and no change, if the text would exceed 16,777,216 bytes. The cursor was at `place`. These are at most two edits:
+    /// undo takes back the insertion first, then the removal, and returns the cursor to `place`.
     ///
     /// Errors: `OutOfMemory`, and nothing has changed.
     pub fn exchange(
@@ -230,8 +233,8 @@ impl<D: BidiData + Drop> Document<D> {
         Ok(Some(after))
     }
 
-    /// The place of an offset at or after `stop` once the bytes from `start` to `stop` have given way to `new`: the last place
-    /// at or before it.
+    /// The place to which an offset of the text, at or after `stop`, leads once the bytes from `start` to `stop` have given way
+    /// to `new`: the last place at or before the offset that it has then.
     pub fn place_behind(
         &mut self,
         start: usize,
@@ -265,7 +268,7 @@ impl<D: BidiData + Drop> Document<D> {
         Ok(place)
     }
 
-    /// The place after a pending wrap.
+    /// The place after a pending `wrap`, for a cursor at the end `end` of the bytes from `start` to `stop`.
     fn place_after_wrap(
         &mut self,
         start: usize,
@@ -295,9 +298,9 @@ impl<D: BidiData + Drop> Document<D> {
         Ok(place)
     }
 
-    /// Inserts `back` after the bytes from `start` to `stop`, then `front` before them, and returns the new place; none, and
+    /// Inserts `back` after the bytes from `start` to `stop`, then `front` before them, and returns the new place; None, and
     /// no change, if the text would exceed 16,777,216 bytes after both. The cursor was at `place`, which was the end `end` of
-    /// those bytes, and stays there. These are two edits, of which undo takes back the second first.
+    /// those bytes, and stays at that end. These are two edits, of which undo takes back that of `front` first.
     ///
     /// Errors: `OutOfMemory`, and nothing has changed.
     pub fn wrap(

@@ -11,7 +11,7 @@ use bx_terms::first_char;
 use bx_text::Text;
 use bx_ucd::BidiData;
 
-/// What the characters so far, at a text's beginning, say of its first separator.
+/// What the characters read so far, from a text's start on, tell of its first separator.
 #[derive(Clone, Copy, PartialEq, Eq, Debug)]
 enum Seen {
     /// There is no separator yet.
@@ -22,7 +22,7 @@ enum Seen {
     Known(bool),
 }
 
-/// Whether the first separator is CR LF where no more is to be read.
+/// Whether the first separator is CR LF, once all characters are read.
 fn is_crlf(seen: Seen) -> bool
     ensures { (says : Data) → result ≡ crlf_from says seen [] }
 {

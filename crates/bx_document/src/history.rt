@@ -1,4 +1,4 @@
-//! Undo and redo.
+//! Undo and redo: text and index change first, then the view follows in the paragraph that it has cached.
 ghost use Rattle.std.specs.Prelude.{◌≡◌, IfOk, IfSome, OnErr, OnOk, length, option_map};
 ghost use Rattle.bx_text.specs.Edits.{IsChange};
 ghost use Rattle.bx_view.specs.Caching.{IsViewBy, Keeps};
@@ -20,7 +20,7 @@ pub enum HistoryStep {
     Redo,
 }
 
-/// The one change that `n` steps make; none if `n` is 0 or there is nothing to undo or redo. Allocates nothing.
+/// The one change that `n` steps make; None if `n` is 0 or there is nothing to undo or redo. Allocates nothing.
 pub(crate) fn next_changes(text: &Text, step: HistoryStep, n: usize) -> Option<Change>
     ensures { result ≡ next_changes step n text.now.edited }
 {
@@ -30,7 +30,8 @@ pub(crate) fn next_changes(text: &Text, step: HistoryStep, n: usize) -> Option<C
     }
 }
 
-/// Undoes or redoes `n` edits of a text, or all if there are fewer; none if none is undone or redone.
+/// Undoes or redoes `n` edits of a text, or all if there are fewer, and returns the one change that this makes; None if no edit
+/// is undone or redone.
 ///
 /// Errors: `OutOfMemory`, and nothing has changed.
 pub(crate) fn step_in(
@@ -49,7 +50,7 @@ pub(crate) fn step_in(
     }
 }
 
-/// The range of a pending change within its cached paragraph; none if the paragraph is not cached or the change exceeds
+/// The range of a pending change within its cached paragraph; None if the paragraph is not cached or the change exceeds
 /// it. Allocates nothing.
 fn cached_change<D: BidiData>(
     view: &mut View,
@@ -62,8 +63,8 @@ fn cached_change<D: BidiData>(
     view.cached_range(source, change.start, stop)
 }
 
-/// Applies a change of the text to its cached paragraph. Running out of memory does no harm: the stale paragraph no
-/// longer matches the text, so it is laid out again.
+/// Applies a change of the text, once it is made, to the cached paragraph with the range `cached`. Running out of memory does no
+/// harm: the stale paragraph no longer matches the text, so it is laid out again.
 fn follow_in_layout<D: BidiData>(
     view: &mut View,
     cached: Option<CachedRange>,
@@ -84,7 +85,7 @@ fn follow_in_layout<D: BidiData>(
 }
 
 impl<D: BidiData + Drop> Document<D> {
-    /// Undoes or redoes an edit, and returns the cursor's place: the place before the edit that is undone, or after the
+    /// Undoes or redoes an edit, and returns the cursor's place: the one recorded before the edit that is undone, or after the
     /// edit that is redone. None if there is nothing to undo or redo.
     ///
     /// Errors: `OutOfMemory`, and nothing has changed.

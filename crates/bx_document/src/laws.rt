@@ -4,8 +4,7 @@ ghost use Rattle.bx_terms.specs.declared.base.Base.{Base};
 ghost use Rattle.bx_ucd.specs.Data.{Data};
 ghost use Rattle.bx_document.specs.PlaceLevel.{UnitsHaveLevels};
 
-/// Each unit with a character that has a level has a level at the place where it begins, and its first such character gives
-/// it.
+/// Each unit with a character that has a level has a level at the place where it begins: that of its first such character.
 pub fn units_have_levels()
     ensures { (says : Data) (base : Base) (text : List ℕ) → IsUtf8 text → UnitsHaveLevels says base text }
 {}

@@ -1,4 +1,4 @@
-//! The embedding level of the unit at a place.
+//! The embedding level of the unit at a place, which the editor tells of the unit at the cursor.
 ghost use Rattle.std.specs.Prelude.{◌≡◌, true, Contains, IfOk, IsCharBoundary};
 ghost use Rattle.unicode_segmentation.specs.Grapheme.{graphemes};
 ghost use Rattle.bx_rows.specs.RowLevels.{first_level};
@@ -12,7 +12,7 @@ use bx_terms::OutOfMemory;
 use bx_ucd::BidiData;
 use unicode_segmentation::UnicodeSegmentation;
 
-/// The first level of some characters' levels; none if X9 removes them all.
+/// The first level of some characters' levels; None if rule X9 of UAX #9 removes all of the characters.
 fn first_level(levels: &[Level]) -> Option<u8>
     ensures { result ≡ first_level levels.now }
 {
@@ -24,8 +24,8 @@ fn first_level(levels: &[Level]) -> Option<u8>
     None
 }
 
-/// The level of the unit that begins at an offset of a body, whose characters have the levels `each`; none if X9 removes all
-/// of its characters, and at the body's end.
+/// The level of the unit that begins at the offset `at` of a body; `each` has the level of each character of the body. None if X9
+/// removes all of the unit's characters, and at the body's end.
 fn unit_level(body: &str, each: &[Level], at: usize) -> Option<u8>
     requires bounds { IsCharBoundary body.now at }
     requires place { Contains (boundaries 0 (graphemes true body.now)) at }

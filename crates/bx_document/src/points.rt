@@ -1,4 +1,4 @@
-//! Points: marks and joiners that are removed one by one.
+//! Points: marks and joiners that are typed after a letter, and that Backspace removes one by one.
 ghost use Rattle.std.specs.Prelude.{◌≡◌, ◌+◌, ◌++◌, ◌∷◌, [], IfOk, MatchOption, chars, encode_utf8, length, slice_range};
 ghost use Rattle.std.specs.Str.{IsCharBoundary, IsUtf8};
 ghost use Rattle.bx_text.specs.Edits.{IsRange};
@@ -8,7 +8,7 @@ use crate::document::Document;
 use bx_terms::OutOfMemory;
 use bx_ucd::{BidiData, Class};
 
-/// Whether a class is NSM, the class of nonspacing marks.
+/// Whether a class is NSM, that of nonspacing marks.
 fn is_mark(class: Class) -> bool
     ensures { result ≡ is_mark class }
 {
@@ -29,14 +29,14 @@ fn is_zero_width_joiner(c: char) -> bool
     c == '\u{200c}' || c == '\u{200d}'
 }
 
-/// Whether a character is a point.
+/// Whether a character is a point: one that is removed alone.
 fn is_point<D: BidiData>(c: char, tables: &D) -> bool
     ensures { result ≡ is_point (D.data tables.now) c }
 {
     (is_mark(tables.class(c)) && !chooses_look(c)) || is_zero_width_joiner(c)
 }
 
-/// The last character of a text, and the text before it.
+/// The last character of a text, and the text before it; None for the empty text.
 fn last_character(text: &str) -> Option<(char, &str)>
     ensures { MatchOption result (length text.now ≡ 0) (λ (c, before).
         (text.now ≡ before.now ++ encode_utf8 c) × (chars text.now ≡ chars before.now ++ c ∷ []) × IsUtf8 before.now) }
@@ -48,7 +48,7 @@ fn last_character(text: &str) -> Option<(char, &str)>
     }
 }
 
-/// The first byte of what is removed from a unit's end: of its last character, if that is a point, else 0, the whole unit.
+/// The offset, in a unit's bytes, from which on the unit is removed: that of its last character, if that is a point, else 0.
 fn point_start<D: BidiData>(unit: &str, tables: &D) -> usize
     ensures start { result ≡ point_start (D.data tables.now) unit.now }
     ensures boundary { IsCharBoundary unit.now result }
@@ -63,8 +63,8 @@ fn point_start<D: BidiData>(unit: &str, tables: &D) -> usize
 }
 
 impl<D: BidiData + Drop> Document<D> {
-    /// Where the removal of a point before a place begins, for the unit from `start` to the place: at the unit's last character,
-    /// if that is a point, else at `start`. If that is the unit's only character, both are the same.
+    /// The offset in the text at which the removal of a point before a place begins, for the unit from `start` to the place: at
+    /// the unit's last character, if that is a point, else at `start`. If it is the unit's only character, both are the same.
     pub fn start_of_point(&self, start: usize, place: usize) -> Result<usize, OutOfMemory>
         requires range { IsRange self.now.document.content.text start place }
         ensures start { IfOk result (λ o. o ≡ start + point_start (D.data self.now.tables) (slice_range self.now.document.content.text start place)) }

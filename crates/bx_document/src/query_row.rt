@@ -19,7 +19,7 @@ use bx_ucd::BidiData;
 use std::alloc::{AllocError, Global};
 use std::borrow::CowStr;
 
-/// The columns in which a query is laid out.
+/// The columns in which a query is laid out, whatever the window's: those of the widest window (`largest_side`).
 const QUERY_WIDTH: u16 = 500;
 
 /// The number of leftmost glyphs that fit into `width` columns.
@@ -53,7 +53,7 @@ fn glyph_row(alloc: Global, picture: &RowPicture<'_>, width: u16) -> Result<Grid
     Ok(row)
 }
 
-/// Lays out a query as a paragraph's body.
+/// Lays out a query as a paragraph's body in `QUERY_WIDTH` columns, with the base direction of its first strong character.
 fn lay_out<D: BidiData>(
     alloc: Global,
     query: &str,
@@ -69,7 +69,8 @@ fn lay_out<D: BidiData>(
     Ok(layout)
 }
 
-/// The glyphs of a text, and of a query after it. The text has only characters from SPACE to TILDE.
+/// The glyphs of a text and, after it, of the first row of a query that is laid out. The text has only characters from SPACE to
+/// TILDE.
 fn text_and_query<'a, D: BidiData>(
     alloc: Global,
     text: &str,

@@ -1,4 +1,4 @@
-//! A cache of drawn rows.
+//! A cache of drawn rows, from which rows that are shown again are copied.
 ghost use Rattle.std.specs.Prelude.{◌≡◌, ◌*◌, ◌<◌, [], length, HoldsAt, IfSome, IsTrue, OnOk};
 ghost use Rattle.bx_ucd.specs.Data.{Data};
 ghost use Rattle.bx_view.specs.Source.{OfRow, Stands};
@@ -13,16 +13,20 @@ use bx_view::{RowAt, Source, View};
 use std::alloc::{AllocError, Global};
 use std::marker::Model;
 
-// In bytes. Each cached row copies its paragraph's body, so rows of a longer body are not cached.
+// The greatest length, in bytes, of a body whose rows are cached. Each entry has a copy of the body, and there are at most two
+// for each row of the window, 1,000 in the largest: 16 MB.
 const LARGEST_BODY: usize = 16_384;
 
-/// An entry of the cache: a drawn row, the only one of a grid, and all that determines its columns except Unicode's tables.
-/// That is the body of its paragraph, the base direction, its number in the body, from 0, and the width, which is the grid's.
+/// An entry of the cache: a drawn row, and all that determines its columns except Unicode's tables.
 #[derive(Drop)]
 struct Entry {
+    /// The body of the row's paragraph.
     body: String,
+    /// The base direction under which the body is laid out.
     base: Base,
+    /// The number of the row in the body, from 0.
     number: usize,
+    /// The row, alone in a grid of the window's width.
     grid: Grid,
 }
 
@@ -35,12 +39,13 @@ impl Model for Entry {
     ghost view = { λ e. record { body = string_bytes e.body; base = e.base; number = e.number; grid = e.grid } };
 }
 
-/// A cache of drawn rows. A row's columns depend only on the rest of its entry and Unicode's tables, so no edit invalidates one.
-/// The rows of the latest page come first, each at its number in the page if all before it could be cached.
+/// A cache of drawn rows. A row's columns depend only on the rest of its entry and Unicode's tables, so no edit invalidates an
+/// entry. The rows of the latest page, those that `draw_rows` fills, come first, each at its number in the page, from 0, if all
+/// before it could be cached. After them come rows of earlier pages, at most as many again.
 #[derive(Drop)]
 pub(crate) struct RowCache {
     entries: Vec<Entry>,
-    // the number of rows of the page
+    // the number of rows of the latest page
     page: usize,
 }
 
@@ -54,7 +59,7 @@ impl Model for RowCache {
 }
 
 impl Entry {
-    /// Whether the row is this one of the body, drawn in `width` columns. Allocates nothing.
+    /// Whether the entry is for row `number` of the body, under this base direction, in `width` columns. Allocates nothing.
     fn is_of(&self, body: &str, base: Base, number: usize, width: u16) -> bool
         ensures { IsTrue result → IsRowOf body.now base number width self.now }
     {
@@ -65,14 +70,14 @@ impl Entry {
     }
 }
 
-/// Whether there is an entry at index `i` and it has this row. Allocates nothing.
+/// Whether there is an entry at index `i` and it is for this row. Allocates nothing.
 fn is_kept(entries: &[Entry], i: usize, body: &str, base: Base, number: usize, width: u16) -> bool
     ensures { IsTrue result → HoldsRow body.now base number width entries.now i }
 {
     i < entries.len() && entries[i].is_of(body, base, number, width)
 }
 
-/// The index of the first entry with this row, from index `start` on. Allocates nothing.
+/// The index of the first entry for this row, from index `start` on. Allocates nothing.
 fn position(
     entries: &[Entry],
     start: usize,
@@ -91,7 +96,7 @@ fn position(
     None
 }
 
-/// Swaps the entries at indexes `i` and `at` if `at` is lower.
+/// Swaps the entries at the indexes `i` and `at` if `at` is lower and there is an entry at `i`.
 fn bring(entries: &mut Vec<Entry>, i: usize, at: usize)
     ensures { (d : Data) → AreDrawnBy d entries.old.items → AreDrawnBy d entries.new.items }
 {
@@ -100,8 +105,8 @@ fn bring(entries: &mut Vec<Entry>, i: usize, at: usize)
     }
 }
 
-/// Stores an entry at index `at`. The one that it displaces moves to index `after`, past the page, and replaces the one
-/// there; or to the end, if the cache is shorter.
+/// Stores an entry at index `at`, or at the end if the cache is shorter. The one that it displaces moves to index `after`, past
+/// the page, and replaces the one there, or to the end if there is none.
 fn put_in(entries: &mut Vec<Entry>, at: usize, after: usize, new: Entry) -> Result<(), AllocError>
     ensures { (d : Data) → AreDrawnBy d entries.old.items → IsDrawnBy d new → AreDrawnBy d entries.new.items }
 {
@@ -135,12 +140,13 @@ impl RowCache {
         self.entries.truncate(2 * usize::from(count));
     }
 
-    /// The allocator of entries.
+    /// The allocator of the entries and of what they own.
     fn allocator(&self) -> Global {
         *self.entries.allocator()
     }
 
-    /// The index of a cached row, searched from its number in the page on. Allocates nothing.
+    /// The index of the entry for a row, searched from `at`, the row's number in the page, on: entries before it are of rows
+    /// above. Allocates nothing.
     fn find(&self, at: u16, body: &str, base: Base, number: usize, width: u16) -> Option<usize>
         ensures { IfSome result (HoldsRow body.now base number width self.now) }
     {
@@ -156,14 +162,14 @@ impl RowCache {
         &entry.grid
     }
 
-    /// Moves the cached row at index `i` to its number in the page. Allocates nothing.
+    /// Moves the cached row at index `i` to index `at`, its number in the page. Allocates nothing.
     fn bring(&mut self, i: usize, at: u16)
         ensures { (d : Data) → AreDrawnBy d self.old → AreDrawnBy d self.new }
     {
         bring(&mut self.entries, i, at as usize);
     }
 
-    /// Caches a row at its number in the page, unless its body is too long or memory runs out.
+    /// Caches a drawn row at index `at`, its number in the page, unless its body is too long or memory runs out.
     fn keep(&mut self, body: &str, base: Base, number: usize, grid: Grid, at: u16)
         ensures { (d : Data) → AreDrawnBy d self.old
             → IsDrawnBy d (record { body = body.now; base = base; number = number; grid = grid }) → AreDrawnBy d self.new }
@@ -185,7 +191,8 @@ impl RowCache {
         let _kept = put_in(&mut self.entries, at, after, new);
     }
 
-    /// Puts a row of the text into row `row` of a grid, from 0. A cached row is copied; any other is drawn and cached.
+    /// Puts the row `at` of the text into row `row`, from 0, of a grid and of the page. A cached row is copied; any other is
+    /// drawn and cached.
     pub(crate) fn put_row<D: BidiData>(
         &mut self,
         view: &View,

@@ -1,4 +1,4 @@
-//! The visible rows and the cursor's position among them.
+//! Draws the visible rows, and tells the cursor's position among them.
 ghost use Rattle.std.specs.Prelude.{◌≡◌, ◌<◌, ◌≤◌, ◌++◌, ◌*◌, IfOk, IsUtf8, drop};
 ghost use Rattle.bx_view.specs.Position.{IsPosition};
 ghost use Rattle.bx_view.specs.Top.{follow};
@@ -13,7 +13,7 @@ use bx_terms::OutOfMemory;
 use bx_ucd::BidiData;
 use bx_view::Position;
 
-/// The visible rows, and a place in them.
+/// Which rows are visible, and where a place is among them.
 #[derive(Clone, Copy)]
 pub struct Shown {
     /// The offset, in bytes, at which the first visible row begins.

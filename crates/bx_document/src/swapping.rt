@@ -1,4 +1,4 @@
-//! All matches of a query from one on, with another text in place of each.
+//! All matches of a query from an offset on, with another text in place of each: the text that replaces them at once.
 ghost use Rattle.std.specs.Prelude.{◌≡◌, ◌-◌, ◌^◌, ◌++◌, ℕ, List, length, min, IfOk, IfSome, MatchOption, IsCharBoundary, slice_range, string_bytes, false, true};
 ghost use Rattle.bx_find.specs.Spans.{spans_from};
 ghost use Rattle.bx_text.specs.Edits.{IsRange, fits};
@@ -9,28 +9,31 @@ use bx_find::{Query, Reading};
 use bx_terms::{LARGEST_TEXT, OutOfMemory};
 use bx_ucd::BidiData;
 
-/// The text of matches that follow one another, with another text in place of each.
+/// What replaces the text from the offset at which a search starts to the end of the last match.
 #[derive(Drop)]
 pub struct Swap {
-    /// Where the last match ends.
+    /// The offset, in bytes of the text, at which the last match ends; that of the start if there is no match.
     pub stop: usize,
-    /// How many matches there are.
+    /// The number of matches.
     pub count: usize,
-    /// The text from the first match on to the end of the last, with the other text in place of each.
+    /// The text from the start to `stop`, with the other text in place of each match.
     pub text: String,
 }
 
-/// What is told of such a text before it is made.
+/// What is found of a `Swap` before its text is made.
 #[derive(Clone, Copy)]
 struct Measure {
+    /// Its `stop`.
     stop: usize,
+    /// Its `count`.
     count: usize,
+    /// The length of its `text` in bytes, at most 2^64 - 1.
     len: usize,
 }
 
 impl<D: BidiData + Drop> Document<D> {
-    /// Where the last of the matches from `start` on ends, how many there are, and how long the text from `start` to there is with
-    /// `other` in place of each. A length past the limit of numbers is told as that limit. Allocates nothing.
+    /// Finds the matches from `start` on, each the first one at or after the end of the one before, and measures their text with
+    /// `other` in place of each. A length above 2^64 - 1 counts as 2^64 - 1. Allocates nothing.
     fn measure(&self, reading: Reading, query: &Query, start: usize, other: &str) -> Measure
         requires bounds { IsCharBoundary self.now.document.content.text start }
         ensures stop { result.stop ≡ last_stop start (spans_from (D.data self.now.tables) reading query.now self.now.document.content.text start) }
@@ -56,7 +59,7 @@ impl<D: BidiData + Drop> Document<D> {
         measure
     }
 
-    /// Appends the bytes from `start` to `stop` to a copy.
+    /// Appends the bytes of the text from `start` to `stop` to `copy`.
     fn push_range(&self, copy: &mut String, start: usize, stop: usize) -> Result<(), OutOfMemory>
         requires range { IsRange self.now.document.content.text start stop }
         ensures { IfOk result (λ _. string_bytes copy.new ≡ string_bytes copy.old ++ slice_range self.now.document.content.text start stop) }
@@ -70,7 +73,7 @@ impl<D: BidiData + Drop> Document<D> {
         Ok(())
     }
 
-    /// The text from `start` to the end of the last match, with `other` in place of each.
+    /// The text from `start` to the end of the last match, with `other` in place of each match: `len` bytes, as measured.
     fn swapped(
         &self,
         reading: Reading,
@@ -93,8 +96,8 @@ impl<D: BidiData + Drop> Document<D> {
         Ok(copy)
     }
 
-    /// The matches of a query from `start` on, with `other` in place of each; none if the text would exceed 16,777,216 bytes by
-    /// that, and then nothing is made.
+    /// The matches of a query from `start` on, with `other` in place of each; None if the whole text would then exceed 16,777,216
+    /// bytes; then no text is made.
     pub fn swap(
         &self,
         reading: Reading,

@@ -17,7 +17,7 @@ use bx_view::{Source, View};
 use std::alloc::Global;
 use std::ops::Range;
 
-/// The start of the paragraph that contains the byte before an offset. Allocates nothing.
+/// The start of the paragraph that contains the byte before an offset; 0 for offset 0. Allocates nothing.
 fn start_before<D: BidiData>(source: &Source<'_, D>, start: usize) -> usize
     requires bounds { IsCharBoundary (bytes source.now) start }
     ensures start { result ≡ touched_start (D.data source.now.tables.now) (bytes source.now) start }
@@ -37,7 +37,8 @@ pub(crate) fn stop_after<D: BidiData>(source: &Source<'_, D>, stop: usize) -> us
     walk.span().1 + walk.separator()
 }
 
-/// The start of the paragraphs that an edit touches, and a copy of their text after it.
+/// The offset at which the paragraphs begin that an edit touches, and a copy of their text as it is after the edit, which
+/// replaces the bytes from `start` to `stop` with `new`.
 fn touched<D: BidiData>(
     source: &Source<'_, D>,
     start: usize,
@@ -63,8 +64,8 @@ fn touched<D: BidiData>(
     Ok((first, characters))
 }
 
-/// The first place at or after an offset, in bytes from 0, of a text that is laid out alone, with `view`'s width and
-/// base direction.
+/// The first place at or after an offset of a text of its own, `characters`, which is laid out with `view`'s width and base
+/// direction. The offset counts the bytes of this text.
 fn place_in<D: BidiData>(
     alloc: Global,
     characters: String,
@@ -86,8 +87,8 @@ fn place_in<D: BidiData>(
     Ok(place)
 }
 
-/// The first place at or after an offset, in `new` or at its end, once `new` has replaced the bytes of a range. A copy of
-/// the touched paragraphs is laid out.
+/// The first place at or after an offset of the text in which `new` has replaced a range of bytes. The offset is in `new`, or at
+/// its start or end. A copy of the touched paragraphs is laid out.
 pub(crate) fn place_inside<D: BidiData>(
     alloc: Global,
     source: &Source<'_, D>,
@@ -114,8 +115,8 @@ pub(crate) fn place_inside<D: BidiData>(
     Ok(first + place)
 }
 
-/// The last place at or before an offset, in bytes from 0, of a text that is laid out alone, with `view`'s width and base
-/// direction.
+/// The last place at or before an offset of a text of its own, `characters`, which is laid out with `view`'s width and base
+/// direction. The offset counts the bytes of this text.
 fn last_place_in<D: BidiData>(
     alloc: Global,
     characters: String,
@@ -137,8 +138,8 @@ fn last_place_in<D: BidiData>(
     Ok(place)
 }
 
-/// The last place at or before an offset of the text in which `new` has replaced a range of bytes. The offset is behind `new`, in
-/// the touched paragraphs, of which a copy is laid out.
+/// The last place at or before an offset of the text in which `new` has replaced a range of bytes. The offset is at or after
+/// the end of `new`, before the end of the touched paragraphs, of which a copy is laid out.
 pub(crate) fn place_at_inside<D: BidiData>(
     alloc: Global,
     source: &Source<'_, D>,

@@ -44,13 +44,13 @@ use Rattle.bx_editor.specs.Wrapping.{cursor_end, spans_lines}
 
 -- ---- a question changes nothing but itself
 
--- a character is typed
+-- a key that types a character into the answer
 abbrev pub types : Key → Bool
 types (Insert c) = true
 types NewLine = true
 types _ = false
 
--- a character of the answer is erased
+-- a key that erases a character of the answer
 abbrev pub erases : Key → Bool
 erases Erase = true
 erases ErasePoint = true
@@ -69,7 +69,7 @@ pub record IsUntouched (e new : Editor) : Type 0 where
   pub held_is : new.held ≡ e.held
   pub mark_is : e.soft ≡ softness.Off → new.mark ≡ e.mark
 
--- A key that types into the answer or erases in it changes question and answer alone, if a question is on behind it; the
+-- A key that types into the answer or erases in it changes question and answer alone, if a question is on after it; the
 -- message, an earlier Quit and a kept column are gone. Whatever is typed while a question is on leaves all else untouched.
 pub record ChangesItself (d : Data) (e : Editor) : Type 0 where
   pub key : (key : Key) (fault : Option StoreFault) → (types key || erases key) ≡ true → let new = after_key d fault e key in
@@ -168,6 +168,7 @@ pub record IsRefusedWith (message : Message) (e new : Editor) : Type 0 where
   pub message_is : new.message ≡ Some message
   pub ask_is : new.ask ≡ Off
 
+-- a region in one line is wrapped if there is room; otherwise a message tells why it is not
 pub record WrapsRegion (d : Data) (e : Editor) (opener closer : ℕ) (new : Editor) : Type 0 where
   pub fits : spans_lines d e ≡ false → length e.content.text + length (encode_utf8 opener) + length (encode_utf8 closer) ≤ largest_text
       → IsWrapped d e opener closer new
@@ -181,7 +182,7 @@ LetterWraps =
     (d : Data) (e : Editor) (letter opener closer : ℕ) → named letter ≡ Some opener → closing letter ≡ Some closer → IsPart e (region e)
     → WrapsRegion d e opener closer (after_keys d None e (Name ∷ Insert letter ∷ []))
 
--- the class of a character that begins a level
+-- the classes of characters that begin a level (X2 to X5c)
 abbrev pub begins_level : Class → Bool
 begins_level LRE = true
 begins_level LRO = true
@@ -197,12 +198,13 @@ abbrev pub IsAbove : ℕ → Option ℕ → Type 0
 IsAbove low None = ⊥
 IsAbove low (Some level) = low < level
 
--- the level at which a character stands, by the rules before W1
+-- the explicit level (X1 to X8) at which character `i`, from 0, of a paragraph's characters stands
 abbrev pub embedding_at : Data → Base → List ℕ → ℕ → ℕ
 embedding_at says base chars i = (entry_at (paragraph_level_under says base chars) (map says.class chars) i).level
 
 -- In a paragraph, the characters between an initiator and its match (BD9) have levels above the one at which the initiator
--- stands, if at most 61 characters before it begin a level. X9 leaves some of them without a level.
+-- stands, if at most 61 characters before it begin a level: each adds 2 at most to a paragraph level of 1 at most, so the
+-- isolate's level is at most 125 (BD2's max_depth). X9 leaves some of the characters without a level.
 abbrev pub IsolatesRaise : Type 0
 IsolatesRaise =
     (says : Data) (base : Base) (front inside back : List ℕ) (opener : ℕ) → let chars = front ++ opener ∷ (inside ++ back) in
@@ -219,8 +221,9 @@ region_chars e = chars (bytes_in e (region e))
 abbrev pub IsWhole : Data → List ℕ → Type 0
 IsWhole says cs = before_pdi 1 (map says.class cs ++ PDI ∷ []) ≡ Some (length cs)
 
--- The region has both characters around it in its paragraph, whose number is counted from 0, and no other paragraph has
--- changed. So the characters of the region have levels above the one at which the opener stands.
+-- The region has both characters around it in its paragraph `number`, from 0, where `front` and `back` are the characters before
+-- and after it; no other paragraph has changed. So the characters of the region have levels above the one at which the opener
+-- stands.
 pub record Isolates (d : Data) (e : Editor) (opener closer : ℕ) (new : Editor) : Type 0 where
   pub number : ℕ
   pub front : List ℕ
@@ -257,7 +260,7 @@ pub record IsShown (g : Glyph) : Type 0 where
   pub one : is_one_glyph g.text ≡ true
   pub columns : run_width g.text ≡ g.columns
 
--- the answer is short, and so are its characters; and all of a prompt is shown
+-- the answer is short, its characters are narrow, and all glyphs of a prompt are shown
 pub record ShowsPrompt (d : Data) (e : Editor) : Type 0 where
   pub answer : IsAnswer e.ask e.answer
   pub glyphs : e.ask ≢ Off → All IsShown (prompt_glyphs d e e.ask)
@@ -270,15 +273,15 @@ PromptsAreShown =
 
 -- ---- what is told
 
--- Some characters are the unit `unit` of paragraph `number`, which begins at the place; `front` are the paragraph's units
--- before it.
+-- `unit` is the unit of paragraph `number`, from 0, that begins at the place; `front` and `rest` are the paragraph's units before
+-- and after it.
 pub record IsUnitAt (d : Data) (e : Editor) (number : ℕ) (front : List (List ℕ)) (unit : List ℕ) (rest : List (List ℕ)) : Type 0 where
   pub there : number < count d e.content.text
   pub units : graphemes true (body_at d e.content.text number) ≡ front ++ unit ∷ rest
   pub place_is : e.place ≡ start_at d e.content.text number + length (concat front)
 
--- Tell shows the codes and classes of the unit's first four characters, and the level of its first character that has one. At
--- the text's end it says so. What it shows is printable ASCII for any text.
+-- Tell shows the codes and classes of the unit's first four characters, and the level of its first character that has one, the
+-- character `i`, from 0, of the unit. At the text's end it says so. What it shows is printable ASCII for any text.
 pub record TellsUnit (d : Data) (e : Editor) : Type 0 where
   pub unit : (number : ℕ) (front : List (List ℕ)) (unit : List ℕ) (rest : List (List ℕ)) → IsUnitAt d e number front unit rest
       → (c : ℕ) (cs : List ℕ) → chars unit ≡ c ∷ cs → (i level : ℕ) → i < length (chars unit)
@@ -290,7 +293,7 @@ pub record TellsUnit (d : Data) (e : Editor) : Type 0 where
 abbrev pub TellsWhatStands : Type 0
 TellsWhatStands = (d : Data) (e : Editor) → HasRows e → TellsUnit d e
 
--- Tell shows it behind the numbers on the status row, and leaves text, place, held text and mark
+-- Tell shows this after the numbers on the status row, and leaves text, place, held text and mark
 abbrev pub TellShows : Type 0
 TellShows =
     (d : Data) (e : Editor) → let new = after_key d None e Tell in

@@ -1,4 +1,5 @@
--- Laws of the editor.
+-- Laws of the editor: the top, undo and redo, the region, the text's ends, and a search. In all files of this folder `d` is the
+-- data of Unicode's tables, `e` the editor before some keys, and `new` the editor after them.
 use Rattle.std.specs.Prelude.{◌≡◌, ◌≢◌, ◌⊎◌, ℕ, ◌+◌, ◌<◌, ◌≤◌, ◌&&◌, Bool, true, false, List, [], ◌∷◌, ◌++◌, length, take, drop, replicate, Option, Some, None, IsUtf8}
 use Rattle.bx_terms.specs.Sizes.{largest_text}
 use Rattle.bx_terms.specs.declared.base.Base.{Base}
@@ -33,7 +34,7 @@ TopStays = (d : Data) (e : Editor) (top : ℕ) → HasRows e → next_top d e (n
 
 -- ---- undo and redo
 
--- keys in sequence, each with its fault if it is a Save that fails
+-- the editor after keys in sequence, each with the fault of its save if it is a Save that fails, else with None
 abbrev pub after_typing : Data → Editor → List (Key × Option StoreFault) → Editor
 after_typing d e [] = e
 after_typing d e (key ∷ typed) = after_typing d (after_key d key.1 e key.0) typed
@@ -47,7 +48,7 @@ abbrev pub oldest_place : ℕ → List Edit → ℕ
 oldest_place place [] = place
 oldest_place place (edit ∷ past) = oldest_place edit.before.place past
 
--- the mark, once there was an edit
+-- the mark that is left once some edits are undone: the given one if there is none, else no mark
 abbrev pub mark_behind : Option ℕ → List Edit → Option ℕ
 mark_behind mark [] = mark
 mark_behind mark (edit ∷ past) = None
@@ -94,11 +95,11 @@ pub record IsPart (e : Editor) (part : ℕ × ℕ) : Type 0 where
   pub some : part.0 < part.1
   pub inside : part.1 ≤ length e.content.text
 
--- the text with a part of it twice
+-- the text with a part of it twice, the copy right after it
 abbrev pub twice : Editor → ℕ × ℕ → List ℕ
 twice e part = take part.0 e.content.text ++ bytes_in e part ++ bytes_in e part ++ drop part.1 e.content.text
 
--- the new editor has this text, and no mark; the cursor is at the first place at or after the offset
+-- the new editor has this text, and no mark; the cursor is at the first place of this text at or after the offset
 pub record HasPut (d : Data) (e : Editor) (text : List ℕ) (offset : ℕ) (new : Editor) : Type 0 where
   pub text_is : new.content.text ≡ text
   pub place_is : new.place ≡ place_after d e text offset
@@ -132,7 +133,7 @@ MarkTwiceIsNothing = (d : Data) (e : Editor) → AreTwoMarks e (after_keys d Non
 
 -- ---- the text's ends
 
--- the mark, unless it is a selection's
+-- the mark, unless a selection set it
 abbrev pub hard_mark : Soft → Option ℕ → Option ℕ
 hard_mark softness.Off mark = mark
 hard_mark soft mark = None
@@ -162,28 +163,28 @@ GoesToBothEnds = (d : Data) (e : Editor) → ReachesBothEnds d e
 
 -- ---- a search
 
--- a search for some letters is on, and nothing else is asked
+-- the query of a search is asked for, it has letters, and there is no question; the text is UTF-8, as in every editor of the code
 pub record Seeks (d : Data) (e : Editor) : Type 0 where
   pub text : IsUtf8 e.content.text
   pub unasked : e.ask ≡ asks.Off
   pub on : is_queried e.seek ≡ true
   pub letters : sought d e ≢ []
 
--- the query has no match at or after x; none before x
+-- no match of the query begins at or after the offset x; none begins before it
 abbrev pub NoneFrom : Data → Editor → ℕ → Type 0
 NoneFrom d e x = (i : ℕ) → x ≤ i → ¬ (MatchesAt d (reading e.aim) (sought d e) e.content.text i)
 
 abbrev pub NoneBefore : Data → Editor → ℕ → Type 0
 NoneBefore d e x = (i : ℕ) → i < x → ¬ (MatchesAt d (reading e.aim) (sought d e) e.content.text i)
 
--- the cursor went to the place of the offset, with the message
+-- the cursor went to the place of the offset, with this message or none; it stayed, with the message that there is no match
 abbrev pub WentTo : Data → Editor → Editor → Option Message → ℕ → Type 0
 WentTo d e new message offset = (new.place ≡ place_at (rows d e) offset) × (new.message ≡ message)
 
 abbrev pub Stayed : Editor → Editor → Type 0
 Stayed e new = (new.place ≡ e.place) × (new.message ≡ Some NotFound)
 
--- Find in a search goes to the first match from the next place on; if there is none, to the first match of the text, with a
+-- Find in a search goes to the first match at or after the next place; if there is none, to the first match of the text, with a
 -- message; without any match the cursor stays
 abbrev pub FindGoesToNext : Type 0
 FindGoesToNext =
@@ -200,20 +201,20 @@ FindBackGoesToPrevious =
     ⊎ ((NoneBefore d e e.place × ((at : ℕ) × IsLast d (reading e.aim) (sought d e) e.content.text end at × WentTo d e new (Some FromEnd) at))
     ⊎ (NoneBefore d e end × Stayed e new))
 
--- the key begins a search outside one; it gives up a search that is on
+-- a key that begins a search where none is on; a key that gives up a search that is on
 abbrev pub BeginsSearch : Key → Type 0
 BeginsSearch key = (key ≡ Find) ⊎ ((key ≡ FindBack) ⊎ (key ≡ Replace))
 
 abbrev pub GivesUp : Key → Type 0
 GivesUp key = (key ≡ Quit) ⊎ ((key ≡ Copy) ⊎ (key ≡ Cancel))
 
--- a search is on, and no match is shown yet
+-- a search is on, and no match is shown to be replaced
 abbrev pub is_on : Seek → Bool
 is_on Off = false
 is_on Replacing = false
 is_on _ = true
 
--- the key begins another search: while the other text is asked for
+-- a key that finds: while the other text is asked for it begins another search
 abbrev pub finds : Key → Bool
 finds Find = true
 finds FindBack = true
@@ -235,7 +236,7 @@ pub record IsGivenUp (e new : Editor) : Type 0 where
   pub mark_is : new.mark ≡ mark_left e.soft e.mark
   pub content_is : new.content ≡ e.content
 
--- giving a search up puts the place back where it was when the search began, whatever was typed in it
+-- giving a search up puts the cursor back where it was when the search began, whatever was typed in the search
 abbrev pub GivingUpGoesBack : Type 0
 GivingUpGoesBack =
     (d : Data) (e : Editor) (begin give : Key) (typed : List (Key × Option StoreFault)) → e.seek ≡ Off → BeginsSearch begin → GivesUp give

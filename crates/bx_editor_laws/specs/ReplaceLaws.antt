@@ -1,4 +1,4 @@
--- Laws of replacing.
+-- Laws of replacing: the match that is shown, and what Enter, Find and Replace make of it and of those after it.
 use Rattle.std.specs.Prelude.{◌≡◌, ◌⊎◌, ℕ, ◌+◌, ◌<◌, ◌≤◌, true, false, List, [], ◌∷◌, ◌++◌, length, take, drop, slice_range, chars, All, Contains, IsUtf8, Option, Some, None}
 use Rattle.bx_terms.specs.Sizes.{largest_text}
 use Rattle.bx_terms.specs.declared.base.Base.{Base}
@@ -27,7 +27,7 @@ use Rattle.bx_editor.specs.Search.{sought}
 
 -- ---- the match that is shown
 
--- letters are read closely, the query stands at the offset that is kept, and the cursor is at its place
+-- letters are read closely, the query stands at the offset `at` of the editor, and the cursor is at the place of that offset
 pub record StandsThere (d : Data) (e : Editor) : Type 0 where
   pub aim_is : e.aim ≡ aims.Replace
   pub here : MatchesAt d Close (sought d e) e.content.text e.at
@@ -55,14 +55,14 @@ pub record IsShowing (d : Data) (e : Editor) : Type 0 where
 
 -- ---- where replacing leads
 
--- The first match at or after an offset of the new text is shown, with the cursor at its place; if there is none, replacing has
--- ended, and the number of the replaced matches is told.
+-- The first match at or after the offset x of the new text is shown, with the cursor at its place; if there is none, replacing
+-- has ended, and the number of the replaced matches is told.
 abbrev pub GoesOn : Data → Editor → ℕ → Type 0
 GoesOn d new x =
     ((new.seek ≡ Replacing) × (IsFirst d Close (sought d new) new.content.text x new.at × (new.place ≡ place_at (rows d new) new.at)))
     ⊎ ((new.seek ≡ Off) × ((new.message ≡ Some (Replaced new.count)) × ((i : ℕ) → x ≤ i → ¬ (MatchesAt d Close (sought d new) new.content.text i))))
 
--- without room text, place and number stay, and the match is shown further
+-- there is no room: text, place and the number of replaced matches stay, and the match is still shown
 pub record IsFull (e new : Editor) : Type 0 where
   pub content_is : new.content ≡ e.content
   pub place_is : new.place ≡ e.place
@@ -77,7 +77,7 @@ pub record IsFull (e new : Editor) : Type 0 where
 abbrev pub with_one : Data → Editor → List ℕ
 with_one d e = take e.at e.content.text ++ e.other ++ drop (match_stop d e) e.content.text
 
--- The match is the query's letters, and gives way to the other text; before it and behind it nothing has changed. Where
+-- The match has the query's letters, and gives way to the other text; before and after it nothing has changed. Where
 -- replacing has ended, the cursor is at the first place at or after the end of the other text.
 pub record HasReplacedOne (d : Data) (e new : Editor) : Type 0 where
   pub letters_are : letters d Close (chars (slice_range e.content.text e.at (match_stop d e))) ≡ sought d e
@@ -86,15 +86,17 @@ pub record HasReplacedOne (d : Data) (e new : Editor) : Type 0 where
   pub goes_on : GoesOn d new (e.at + length e.other)
   pub ended : new.seek ≡ Off → new.place ≡ place_after d e (with_one d e) (e.at + length e.other)
 
+-- the match is replaced if there is room
 pub record ReplacesMatch (d : Data) (e new : Editor) : Type 0 where
   pub fits : length (with_one d e) ≤ largest_text → HasReplacedOne d e new
   pub full : largest_text < length (with_one d e) → IsFull e new
 
--- the end of a line that is typed replaces the match, and shows the next one behind the other text
+-- the end of a line that is typed, not pasted, replaces the match, and shows the next one after the other text
 abbrev pub EnterReplaces : Type 0
 EnterReplaces = (d : Data) (e : Editor) (enter : Key) → IsShowing d e → is_paste e.typing ≡ false → is_enter enter ≡ true → ReplacesMatch d e (after_key d None e enter)
 
--- Find passes the match over: nothing is replaced. Where replacing has ended, the cursor stays.
+-- Find passes over the match: nothing is replaced, and the next match after its first character is shown. Where replacing has
+-- ended, the cursor stays.
 pub record PassesOver (d : Data) (e new : Editor) : Type 0 where
   pub content_is : new.content ≡ e.content
   pub count_is : new.count ≡ e.count
@@ -106,16 +108,16 @@ FindPassesOver = (d : Data) (e : Editor) → IsShowing d e → PassesOver d e (a
 
 -- ---- all are replaced
 
--- matches follow one another from an offset on, none within another
+-- Matches, pairs of the offsets of their start and end, follow one another from an offset on without a common part.
 abbrev pub AreApart : ℕ → List (ℕ × ℕ) → Type 0
 AreApart from [] = Unit {0}
 AreApart from (s ∷ ss) = (from ≤ s.0) × ((s.0 < s.1) × AreApart s.1 ss)
 
--- an offset lies in a match
+-- an offset lies in one of some matches
 abbrev pub LiesIn : ℕ → List (ℕ × ℕ) → Type 0
 LiesIn i spans = (s : ℕ × ℕ) × Contains spans s × (s.0 ≤ i) × (i < s.1)
 
--- an offset and the end of the match there
+-- a pair of offsets is a match and its end
 abbrev pub IsMatch : Data → Editor → ℕ × ℕ → Type 0
 IsMatch d e s = MatchesAt d Close (sought d e) e.content.text s.0 × (s.1 ≡ match_end d Close (sought d e) e.content.text s.0)
 
@@ -127,7 +129,7 @@ pub record AreTheMatches (d : Data) (e : Editor) (spans : List (ℕ × ℕ)) : T
   pub letters_are : All (λ s. letters d Close (chars (slice_range e.content.text s.0 s.1)) ≡ sought d e) spans
   pub all : (i : ℕ) → e.at ≤ i → MatchesAt d Close (sought d e) e.content.text i → LiesIn i spans
 
--- the text with the other one in place of each
+-- the text with the other one in place of each of these matches
 abbrev pub with_all : Editor → List (ℕ × ℕ) → List ℕ
 with_all e spans = take e.at e.content.text ++ swapped e.at e.content.text e.other spans ++ drop (last_stop e.at spans) e.content.text
 
@@ -139,6 +141,7 @@ pub record HasReplacedAll (d : Data) (e : Editor) (spans : List (ℕ × ℕ)) (n
   pub seek_is : new.seek ≡ Off
   pub message_is : new.message ≡ Some (Replaced new.count)
 
+-- all matches from the shown one on, the spans, are replaced if there is room for all; else none is
 pub record ReplacesMatches (d : Data) (e : Editor) (new : Editor) : Type 0 where
   pub spans : List (ℕ × ℕ)
   pub are : AreTheMatches d e spans
@@ -162,7 +165,7 @@ ReplacedComesBack =
 
 -- ---- replacing by the same letters
 
--- where the other text has the letters of the query, the text keeps its letters
+-- if the other text has the letters of the query, the text has the same letters after a key that replaces
 abbrev pub SameLettersStay : Type 0
 SameLettersStay =
     (d : Data) (e : Editor) (key : Key) → IsShowing d e → DoesReplace key → letters d Close (chars e.other) ≡ sought d e

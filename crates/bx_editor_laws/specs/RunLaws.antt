@@ -27,8 +27,8 @@ undos e = length e.content.past - undone e.runs (length e.content.past)
 abbrev pub redos : Editor → ℕ
 redos e = redone e.runs (length e.content.past) (length e.content.future) - length e.content.past
 
--- where there are edits to step over, the key does all but `changed` that `one` does in `n` presses, and at least one is
--- stepped over; where there is none, it does what `one` does
+-- `key` steps over a run, `one` over an edit; `edits` are those that are left to step over. If there are some, `key` does what
+-- `n` presses of `one` do, one at least, except to `changed`; if there are none, it does what `one` does.
 pub record IsManySteps (d : Data) (e : Editor) (key one : Key) (n : ℕ) (edits : List Edit) : Type 0 where
   pub many : edits ≢ [] → let new = after_key d None e key in new ≡ record (after_keys d None e (replicate n one)) { changed = new.changed }
   pub some : edits ≢ [] → 0 < n
@@ -38,13 +38,13 @@ pub record RunsAreSteps (d : Data) (e : Editor) : Type 0 where
   pub undo : IsManySteps d e UndoRun Undo (undos e) e.content.past
   pub redo : IsManySteps d e RedoRun Redo (redos e) e.content.future
 
--- UndoRun does what Undo does that often, RedoRun what Redo does
+-- UndoRun does what so many presses of Undo do, RedoRun what so many presses of Redo do
 abbrev pub RunKeysAreSteps : Type 0
 RunKeysAreSteps = (d : Data) (e : Editor) → RunsAreSteps d e
 
 -- ---- there and back
 
--- how many edits there are, undone or not
+-- the number of all edits, undone or not
 abbrev pub all_edits : Editor → ℕ
 all_edits e = length e.content.past + length e.content.future
 
@@ -72,7 +72,7 @@ pub record IsBackBefore (e new : Editor) : Type 0 where
   pub past_is : new.content.past ≡ e.content.past
   pub unmarked : IsUnmarkedAt e.place new
 
--- characters are pasted
+-- the editor after characters are pasted
 abbrev pub pasted : Data → Editor → List ℕ → Editor
 pasted d e cs = after_keys d None e (PasteStart ∷ (map Insert cs ++ PasteEnd ∷ []))
 
@@ -82,17 +82,18 @@ PasteIsARun =
     (d : Data) (e : Editor) (cs : List ℕ) → e.ask ≡ asks.Off → e.seek ≡ Off → length e.content.past < length (pasted d e cs).content.past
     → IsBackBefore e (after_key d None (pasted d e cs) UndoRun)
 
+-- each character is of a kind, by its class: a letter, or a blank
 abbrev pub AreOfKind : Data → Kind → List ℕ → Type 0
 AreOfKind d kind cs = All (λ c. kind_of (d.class c) ≡ kind) cs
 
--- letters, and the blanks behind them
+-- one letter at least, and the blanks typed after the letters
 pub record IsWord (d : Data) (letters blanks : List ℕ) : Type 0 where
   pub some : letters ≢ []
   pub are_letters : AreOfKind d Letter letters
   pub are_blanks : AreOfKind d Blank blanks
 
--- outside a search and a question, where nothing goes on, one UndoRun takes a typed word and the blanks behind it back, if there
--- was room for them
+-- outside a search and a question, and where the first letter goes on with no run, one UndoRun takes back a typed word and the
+-- blanks after it, if there was room for them
 abbrev pub WordIsARun : Type 0
 WordIsARun =
     (d : Data) (e : Editor) (letters blanks : List ℕ) → e.ask ≡ asks.Off → e.seek ≡ Off → e.typing ≡ typings.Off → IsWord d letters blanks
@@ -101,7 +102,7 @@ WordIsARun =
 
 -- ---- what counts as changed
 
--- the text that was stored last, behind a key
+-- the text that was stored last, after a key: the editor's own if the key is a Save that succeeds, else `text`, the one before
 abbrev pub stored_by : List ℕ → Editor → Key → Option StoreFault → List ℕ
 stored_by text e key fault = if is_save key && is_none fault then e.content.text else text
 

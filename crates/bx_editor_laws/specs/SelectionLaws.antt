@@ -21,6 +21,7 @@ use Rattle.bx_editor_laws.specs.RunLaws.{IsBackBefore}
 
 -- ---- moves
 
+-- keys that only move the cursor
 abbrev pub is_move : Key → Bool
 is_move Back = true
 is_move Forward = true
@@ -42,8 +43,8 @@ is_move TextStart = true
 is_move TextEnd = true
 is_move _ = false
 
--- A move takes an old selection off, and leaves any other mark. After Select there is a mark, the one before or one at the
--- place, and the move leaves it.
+-- A move takes an old selection (`Soft`) off, and leaves any other mark. Right after Select there is a mark, the one before or
+-- one at the place, and the move leaves it.
 pub record LeavesMark (d : Data) (e : Editor) (move : Key) : Type 0 where
   pub old : e.soft ≡ Old → (after_key d None e move).mark ≡ None
   pub other : e.soft ≢ Old → (after_key d None e move).mark ≡ e.mark
@@ -52,7 +53,7 @@ pub record LeavesMark (d : Data) (e : Editor) (move : Key) : Type 0 where
 abbrev pub MoveTakesSelectionOff : Type 0
 MoveTakesSelectionOff = (d : Data) (e : Editor) (move : Key) → is_move move ≡ true → LeavesMark d e move
 
--- a key that seeks
+-- a key that begins a search or goes to the next match
 abbrev pub seeks : Key → Bool
 seeks Find = true
 seeks FindBack = true
@@ -60,7 +61,7 @@ seeks FindNext = true
 seeks Replace = true
 seeks _ = false
 
--- outside a search a key that seeks does so too
+-- outside a search, a key that seeks leaves or removes the mark as a move does
 abbrev pub SeekingTakesSelectionOff : Type 0
 SeekingTakesSelectionOff = (d : Data) (e : Editor) (key : Key) → e.seek ≡ searches.Off → seeks key ≡ true → LeavesMark d e key
 
@@ -77,7 +78,7 @@ pub record HasSelection (e : Editor) : Type 0 where
 abbrev pub rest : Editor → List ℕ
 rest e = take (region e).0 e.content.text ++ drop (region e).1 e.content.text
 
--- the first place of that text at or after the region's start
+-- the first place, in the text without the region, at or after the region's start
 abbrev pub seam : Data → Editor → ℕ
 seam d e = place_after d e (rest e) (region e).0
 
@@ -90,7 +91,7 @@ is_removal EraseWord = true
 is_removal DeleteWord = true
 is_removal _ = false
 
--- the text is the rest, the cursor stands at its seam, and no mark is set
+-- the text is that without the region, the cursor stands at its seam, and no mark is set
 pub record IsRest (d : Data) (e new : Editor) : Type 0 where
   pub text_is : new.content.text ≡ rest e
   pub place_is : new.place ≡ seam d e
@@ -100,14 +101,14 @@ pub record IsRest (d : Data) (e new : Editor) : Type 0 where
 abbrev pub SelectionIsRemoved : Type 0
 SelectionIsRemoved = (d : Data) (e : Editor) (key : Key) → HasSelection e → is_removal key ≡ true → IsRest d e (after_key d None e key)
 
--- the bytes that a key puts in
+-- the bytes that a key puts in; none if it is no key that types or puts
 abbrev pub bytes_put : Data → Editor → Key → List ℕ
 bytes_put d e (Insert c) = if (c == 0xA) && is_paste e.typing then line_end d (rest e) else encode_utf8 c
 bytes_put d e NewLine = line_end d (rest e)
 bytes_put d e Put = e.held
 bytes_put d e _ = []
 
--- the rest, with the bytes at its seam
+-- the text without the region, with the bytes `new` at its seam
 abbrev pub rest_with : Data → Editor → List ℕ → List ℕ
 rest_with d e new = take (seam d e) (rest e) ++ new ++ drop (seam d e) (rest e)
 
@@ -148,6 +149,7 @@ pub record ChangesTypingAlone (d : Data) (e new : Editor) : Type 0 where
   pub rest_is : new ≡ record e { typing = new.typing }
   pub picture_is : (top : ℕ) → picture d new top ≡ picture d e top
 
+-- the keys at the start and the end of a paste do so
 pub record PasteMarksChangeTyping (d : Data) (fault : Option StoreFault) (e : Editor) : Type 0 where
   pub start : ChangesTypingAlone d e (after_key d fault e PasteStart)
   pub end : ChangesTypingAlone d e (after_key d fault e PasteEnd)

@@ -19,13 +19,13 @@ use Rattle.bx_editor.specs.Selecting.{is_selection}
 
 -- ---- a point erased
 
--- the text from the start of the point to the place is gone; it lies in the unit before the place
+-- the text from the start of the point to the place is gone; that start lies in the unit before the place
 pub record ErasesEnd (d : Data) (e new : Editor) : Type 0 where
   pub text_is : new.content.text ≡ take (point_before d e) e.content.text ++ drop e.place e.content.text
   pub in_unit : step_logical (rows d e) Back e.place ≤ point_before d e
   pub before_place : point_before d e ≤ e.place
 
--- outside a search and a question, and without a selection, ErasePoint leaves all before the point, and all behind the place
+-- outside a search and a question, and without a selection, ErasePoint leaves all before the point, and all after the place
 abbrev pub ErasePointLeavesBeginning : Type 0
 ErasePointLeavesBeginning =
     (d : Data) (e : Editor) → HasRows e → e.ask ≡ asks.Off → e.seek ≡ Off → is_selection e ≡ false → IsTextPlace d e.content.text e.place → ErasesEnd d e (after_key d None e ErasePoint)
@@ -52,14 +52,15 @@ pub record IsFullEnd (w : ℕ) (r : TextRow) (place : ℕ) : Type 0 where
   pub at_end : place ≡ r.start + length r.row.body
   pub full : columns_used w r.row.units ≡ w
 
--- a unit of the row begins at the place, and its glyphs cover the column
+-- a unit of the row begins at the place, and its slot covers the column, from 1
 pub record IsCovering (w : ℕ) (r : TextRow) (column place : ℕ) : Type 0 where
   pub slot : Slot
   pub is_slot : Contains (row_slots w r.row) slot
   pub place_is : place ≡ r.start + slot.offset
   pub covered : covers column slot ≡ true
 
--- The cursor is back at its place; but from the end of a paragraph that fills its last row, `n` rows lead to the unit at the edge.
+-- The cursor is back at its place; but from the end of a paragraph that fills its last row, `n` rows lead to the unit at the
+-- edge.
 pub record LeadsBack (d : Data) (e : Editor) (n : ℕ) (new : Editor) : Type 0 where
   pub to_place : ¬ (IsFullEnd e.width (own_row d e) e.place) → new.place ≡ e.place
   pub to_edge : IsFullEnd e.width (own_row d e) e.place → 0 < n
@@ -72,7 +73,7 @@ pub record LineMovesLeadBack (d : Data) (e : Editor) (n : ℕ) : Type 0 where
   pub above : n ≤ row_of (rows d e) e.place
       → LeadsBack d e n (after_keys d None e (replicate n LineUp ++ replicate n LineDown))
 
--- outside a search, where no column is kept
+-- they do so outside a search, where no column is kept
 abbrev pub LineMovesGoBack : Type 0
 LineMovesGoBack =
     (d : Data) (e : Editor) (n : ℕ) → HasRows e → e.seek ≡ Off → e.goal ≡ None → IsTextPlace d e.content.text e.place → LineMovesLeadBack d e n

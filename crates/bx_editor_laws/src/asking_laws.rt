@@ -8,7 +8,7 @@ pub fn questions_change_themselves()
     ensures { QuestionsChangeThemselves }
 {}
 
-/// The numbers that the status row tells are an answer to GoTo that leads to the place where the cursor is.
+/// The numbers that the status row tells are an answer to GoTo that leads to the place where the cursor is already.
 pub fn told_numbers_lead_back()
     ensures { ToldNumbersLeadBack }
 {}
@@ -18,17 +18,17 @@ pub fn answer_is_a_run()
     ensures { AnswerIsARun }
 {}
 
-/// Name and a letter put the letter's character in at the place.
+/// Name and a letter put the character that the letter names in at the place, if there is room and no region to wrap.
 pub fn letter_puts_in()
     ensures { LetterPutsIn }
 {}
 
-/// Name and a character's code put the character in at the place.
+/// Name, a letter that asks for a code, and a character's code put the character in at the place, if there is room.
 pub fn code_puts_in()
     ensures { CodePutsIn }
 {}
 
-/// Name and a letter wrap the region in two characters, and change no other.
+/// Name and a letter wrap the region in two characters, and change no other, if it is in one line and there is room.
 pub fn letter_wraps()
     ensures { LetterWraps }
 {}
@@ -44,7 +44,8 @@ pub fn letter_isolates()
     ensures { LetterIsolates }
 {}
 
-/// Whatever was typed over an opened text: an answer is short, and a terminal shows all of a prompt as it is meant.
+/// Whatever was typed over an opened text: an answer is short, its characters are narrow, and a terminal shows each glyph of a
+/// prompt in the glyph's columns.
 pub fn prompts_are_shown()
     ensures { PromptsAreShown }
 {}
@@ -54,7 +55,7 @@ pub fn tells_what_stands()
     ensures { TellsWhatStands }
 {}
 
-/// Tell shows it on the status row, and leaves text, place, held text and mark.
+/// Tell shows what is told of the unit at the place on the status row, and leaves text, place, held text and mark.
 pub fn tell_shows()
     ensures { TellShows }
 {}

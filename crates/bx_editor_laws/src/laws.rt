@@ -1,4 +1,5 @@
-//! Laws of the editor. The functions are empty: their contracts are the laws.
+//! Laws of the editor: the top, undo and redo, the region, the text's ends, and a search. The functions are empty: their
+//! contracts are the laws.
 
 ghost use Rattle.bx_editor_laws.specs.Laws.{CopyPutsTwice, GoesToBothEnds, MarkTwiceIsNothing, PutRestoresCut, RedoMirrorsUndo, TopStays, UndoGivesBack};
 ghost use Rattle.bx_editor_laws.specs.Laws.{FindBackGoesToPrevious, FindGoesToNext, GivingUpGoesBack};
@@ -19,14 +20,14 @@ pub fn redo_mirrors_undo()
     ensures { RedoMirrorsUndo }
 {}
 
-/// Outside a search and a question, copying a region and putting it back at once leaves the text with the region twice, and
-/// the cursor behind what was put.
+/// Outside a search and a question, copying a region and putting it at once leaves the text with the region twice, if there is
+/// room, and the cursor at the end of what was put.
 pub fn copy_puts_twice()
     ensures { CopyPutsTwice }
 {}
 
-/// Cutting and putting back at once leaves the text as it was, if the cut leaves the cursor where the cut text began, and
-/// the cursor at the end of that text.
+/// If a cut leaves the cursor where the cut text began, then cutting and putting back at once leaves the text as it was, and the
+/// cursor at the end of the cut text.
 pub fn put_restores_cut()
     ensures { PutRestoresCut }
 {}
@@ -41,17 +42,19 @@ pub fn find_back_goes_to_previous()
     ensures { FindBackGoesToPrevious }
 {}
 
-/// Giving a search up puts place and mark back as they were when it began, whatever was typed in it.
+/// Giving a search up puts place and mark back as they were when it began, whatever was typed in it; an old selection is taken
+/// off.
 pub fn giving_up_goes_back()
     ensures { GivingUpGoesBack }
 {}
 
-/// Mark twice at one place changes nothing but the message, unless the mark was elsewhere: then it is gone.
+/// Mark twice at one place changes only the message and what one Mark ends, as a search; but a mark that was elsewhere is gone.
 pub fn mark_twice_is_nothing()
     ensures { MarkTwiceIsNothing }
 {}
 
-/// TextEnd then TextStart leads to the text's start, TextStart then TextEnd to its end, and all else stays.
+/// TextEnd then TextStart leads to the text's start, TextStart then TextEnd to its end; else they change only what any move ends,
+/// as a search or a selection.
 pub fn goes_to_both_ends()
     ensures { GoesToBothEnds }
 {}

@@ -1,4 +1,4 @@
-//! Laws of replacing. The functions are empty: their contracts are the laws.
+//! Laws of replacing matches one by one or all at once. The functions are empty: their contracts are the laws.
 
 ghost use Rattle.bx_editor_laws.specs.ReplaceLaws.{EnterReplaces, FindPassesOver, ReplaceReplacesAll, ReplacedComesBack, SameLettersStay, ShownStands};
 
@@ -12,12 +12,12 @@ pub fn enter_replaces()
     ensures { EnterReplaces }
 {}
 
-/// Find passes the match that is shown over.
+/// Find passes over the match that is shown: nothing is replaced, and the next match is shown.
 pub fn find_passes_over()
     ensures { FindPassesOver }
 {}
 
-/// Replace replaces the match that is shown and all behind it, each once, and nothing else.
+/// Replace replaces the match that is shown and all after it, each once, and nothing else.
 pub fn replace_replaces_all()
     ensures { ReplaceReplacesAll }
 {}
@@ -27,7 +27,7 @@ pub fn replaced_comes_back()
     ensures { ReplacedComesBack }
 {}
 
-/// Where the other text has the letters of the query, the text keeps its letters.
+/// If the other text has the letters of the query, replacing leaves the letters of the text as they were.
 pub fn same_letters_stay()
     ensures { SameLettersStay }
 {}

@@ -20,7 +20,7 @@ pub fn paste_is_a_run()
     ensures { PasteIsARun }
 {}
 
-/// Outside a search and a question, one UndoRun takes back a typed word and the blanks behind it.
+/// Outside a search and a question, one UndoRun takes back a typed word and the blanks typed after it.
 pub fn word_is_a_run()
     ensures { WordIsARun }
 {}

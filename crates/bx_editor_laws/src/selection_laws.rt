@@ -2,12 +2,14 @@
 
 ghost use Rattle.bx_editor_laws.specs.SelectionLaws.{MoveTakesSelectionOff, PasteMarksAreUnseen, SeekingTakesSelectionOff, SelectionComesBack, SelectionGivesWay, SelectionIsRemoved};
 
-/// A move takes an old selection off, and leaves any other mark; after Select it leaves the mark that is then set.
+/// A move takes an old selection off, one after whose Select another key came, and leaves any other mark; right after Select it
+/// leaves the mark that is then set.
 pub fn move_takes_selection_off()
     ensures { MoveTakesSelectionOff }
 {}
 
-/// Outside a search, a key that seeks takes an old selection off, and leaves any other mark, as a move does.
+/// Outside a search, a key that begins one or goes to the next match takes an old selection off, and leaves any other mark, as a
+/// move does.
 pub fn seeking_takes_selection_off()
     ensures { SeekingTakesSelectionOff }
 {}
@@ -28,7 +30,7 @@ pub fn selection_comes_back()
     ensures { SelectionComesBack }
 {}
 
-/// The start and the end of a paste change nothing but what the next edit goes on with, and nothing that can be seen.
+/// The keys at the start and the end of a paste change only what the next edit goes on with, and nothing that can be seen.
 pub fn paste_marks_are_unseen()
     ensures { PasteMarksAreUnseen }
 {}

@@ -2,21 +2,21 @@
 
 ghost use Rattle.bx_editor_laws.specs.WorkLaws.{ErasePointLeavesBeginning, FindNextIsFindTwice, LineMovesGoBack};
 
-/// Outside a search and a question, ErasePoint removes the end of the unit before the place, from the start of its last point
-/// on, and leaves all text before and behind that.
+/// Outside a search and a question, without a selection, ErasePoint removes the end of the unit before the place, from the start
+/// of its last point on, and leaves all text before and after that.
 pub fn erase_point_leaves_beginning()
     ensures { ErasePointLeavesBeginning }
 {}
 
-/// Outside a search, FindNext leads to the place and the message to which Find twice leads, if the query has letters. No
-/// search is on behind it, and the place at which the latest search began stays.
+/// Outside a search, FindNext leads to the place and the message to which Find twice leads, if the query has letters. After it no
+/// search is on, and the place at which the latest search began stays.
 pub fn find_next_is_find_twice()
     ensures { FindNextIsFindTwice }
 {}
 
-/// Outside a search, with no column kept: LineDown some times and LineUp as often leads back to the place, if there are as
-/// many rows below; LineUp and then LineDown likewise, if there are as many above. From the end of a paragraph that fills its
-/// last row they lead to the unit at the window's edge, whose column the cursor has.
+/// Outside a search, with no column kept: LineDown `n` times and then LineUp `n` times lead back to the place, if there are `n`
+/// rows below; LineUp and then LineDown likewise, if there are `n` above. From the end of a paragraph that fills its last row
+/// they lead to the unit at the window's edge, whose column the cursor has.
 pub fn line_moves_go_back()
     ensures { LineMovesGoBack }
 {}

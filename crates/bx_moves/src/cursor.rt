@@ -1,4 +1,4 @@
-//! One call for all of the cursor's moves.
+//! The one public call, which makes any of the cursor's moves.
 ghost use Rattle.std.specs.Prelude.{◌≡◌, true, IfOk};
 ghost use Rattle.std.specs.Str.{IsCharBoundary};
 ghost use Rattle.bx_view.specs.Moves.{is_to_row_end, moved};
@@ -62,7 +62,7 @@ fn led_by<D: BidiData>(
     }
 }
 
-/// The place after a move from `place`.
+/// The place that a move leads to from `place`; `place` itself if there is nowhere to go.
 pub fn moved<D: BidiData>(
     view: &mut View,
     source: &Source<'_, D>,

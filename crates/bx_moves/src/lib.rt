@@ -1,4 +1,4 @@
-//! The cursor's moves.
+//! The cursor's moves, from a place of the text to the place that each leads to.
 //!
 //! Only functions that return a `Result` allocate.
 #![tactic(auto)]

@@ -8,7 +8,7 @@ use crate::placed::{first_place_after, last_place_before};
 use bx_ucd::BidiData;
 use bx_view::{Logical, Source, View, ViewError, last_place};
 
-/// The place after a place; the text's last place itself at the end.
+/// The next place after a place; at the text's end the place itself.
 fn step_forward<D: BidiData>(
     view: &mut View,
     source: &Source<'_, D>,
@@ -28,7 +28,7 @@ fn step_forward<D: BidiData>(
     Ok(view.first_in(source, next))
 }
 
-/// The place before a place; the text's first place itself at the start.
+/// The last place before a place; at the text's start the place itself.
 fn step_back<D: BidiData>(
     view: &mut View,
     source: &Source<'_, D>,
@@ -50,7 +50,7 @@ fn step_back<D: BidiData>(
     Ok(last)
 }
 
-/// The place after or before a place in text order; the place itself at either end of the text.
+/// The next or the previous place in text order; at either end of the text the place itself.
 pub(crate) fn step_logical<D: BidiData>(
     view: &mut View,
     source: &Source<'_, D>,

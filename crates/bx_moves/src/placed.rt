@@ -1,4 +1,5 @@
-//! The places of a row that moves lead to.
+//! The places of one row to which moves lead: beside a place, after or before it, at the row's ends, under a column. Places count
+//! bytes of the text, offsets bytes of the paragraph's body.
 ghost use Rattle.std.specs.Prelude.{◌≡◌, ◌-◌, ◌<◌, ◌≤◌, IfOk, find, nat_lt, reverse};
 ghost use Rattle.bx_paragraph.specs.Slots.{beside, reading_end, reading_start, reads_on};
 ghost use Rattle.bx_view.specs.Moves.{entry_in, place_in};
@@ -9,21 +10,21 @@ use bx_paragraph::{LentRow, Visual, reading_side};
 use bx_ucd::BidiData;
 use bx_view::{ViewError, place_of};
 
-/// The first of `offsets` after an offset.
+/// The first of `offsets`, which are in order, after an offset.
 fn first_after(offsets: &[usize], offset: usize) -> Option<usize>
     ensures { result ≡ find (nat_lt offset) offsets.now }
 {
     offsets.iter().copied().find(|o| offset < *o)
 }
 
-/// The last of `offsets` before an offset.
+/// The last of `offsets`, which are in order, before an offset.
 fn last_before(offsets: &[usize], offset: usize) -> Option<usize>
     ensures { result ≡ find (λ o. nat_lt o offset) (reverse offsets.now) }
 {
     offsets.iter().rev().copied().find(|o| *o < offset)
 }
 
-/// The place of the row's slot next to a place's slot on a side, if there is one.
+/// The place of the slot next to a place's slot on a side; None if the place has the row's last slot on that side.
 pub(crate) fn place_beside<D: BidiData>(
     row: &LentRow<'_, '_, D>,
     side: Visual,
@@ -55,7 +56,7 @@ pub(crate) fn reading_end<D: BidiData>(row: &LentRow<'_, '_, D>) -> Result<Optio
     Ok(place_of(row, offset))
 }
 
-/// The place at which a vertical move enters the row in a column.
+/// The place at which a vertical move enters the row in a column, from 1: that of the unit that covers it, else the reading end.
 pub(crate) fn entry<D: BidiData>(
     row: &LentRow<'_, '_, D>,
     column: u16,
@@ -66,7 +67,7 @@ pub(crate) fn entry<D: BidiData>(
     Ok(place_of(row, offset))
 }
 
-/// Whether a side is the row's reading direction.
+/// Whether the row's paragraph is read toward a side.
 #[tactic(auto, using(bx_paragraph::proofs::LayoutRows::row_level))]
 pub(crate) fn reads_on<D: BidiData>(row: &LentRow<'_, '_, D>, side: Visual) -> bool
     ensures { result ≡ reads_on side (placed row.now).row }
@@ -74,7 +75,7 @@ pub(crate) fn reads_on<D: BidiData>(row: &LentRow<'_, '_, D>, side: Visual) -> b
     side == reading_side(row.paragraph.level())
 }
 
-/// The first place of the row after a place.
+/// The first place of the row after a place; None if the place is the row's last.
 pub(crate) fn first_place_after<D: BidiData>(
     row: &LentRow<'_, '_, D>,
     place: usize,
@@ -87,7 +88,7 @@ pub(crate) fn first_place_after<D: BidiData>(
     Ok(place_of(row, found))
 }
 
-/// The last place of the row before a place.
+/// The last place of the row before a place; None if the place is the row's first.
 pub(crate) fn last_place_before<D: BidiData>(
     row: &LentRow<'_, '_, D>,
     place: usize,

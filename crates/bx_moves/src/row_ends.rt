@@ -1,4 +1,4 @@
-//! Moves to the ends of a row.
+//! Moves to the ends of a row in text order, the keys Home and End.
 ghost use Rattle.std.specs.Prelude.{◌≡◌, IfOk};
 ghost use Rattle.bx_view.specs.Moves.{row_end, row_home};
 ghost use Rattle.bx_view.specs.Source.{IsViewBy, Keeps, rows};
@@ -6,7 +6,7 @@ ghost use Rattle.bx_view.specs.Source.{IsViewBy, Keeps, rows};
 use bx_ucd::BidiData;
 use bx_view::{Source, View, ViewError, last_place};
 
-/// The first offset of the row that a place falls in.
+/// The first place of the row that a place falls in.
 pub(crate) fn row_home<D: BidiData>(
     view: &mut View,
     source: &Source<'_, D>,
@@ -21,7 +21,7 @@ pub(crate) fn row_home<D: BidiData>(
     Ok(at.start + paragraph.first(at.row))
 }
 
-/// The last place of a place's row: the paragraph's end in its last row, else the start of the row's last unit.
+/// The last place of the row that a place falls in: the paragraph's end in its last row, else the start of the row's last unit.
 pub(crate) fn row_end<D: BidiData>(
     view: &mut View,
     source: &Source<'_, D>,

@@ -8,7 +8,7 @@ use crate::placed::entry;
 use bx_ucd::BidiData;
 use bx_view::{RowAt, Source, Vertical, View, ViewError};
 
-/// The row `count` rows above `at`, or the first row.
+/// The row `count` rows above `at`, or the text's first row if there are fewer.
 pub(crate) fn rows_up<D: BidiData>(
     view: &mut View,
     source: &Source<'_, D>,
@@ -32,7 +32,7 @@ pub(crate) fn rows_up<D: BidiData>(
     Ok(here)
 }
 
-/// The row `count` rows below `at`, or the last row.
+/// The row `count` rows below `at`, or the text's last row if there are fewer.
 fn rows_down<D: BidiData>(
     view: &mut View,
     source: &Source<'_, D>,
@@ -57,7 +57,7 @@ fn rows_down<D: BidiData>(
     Ok(here)
 }
 
-/// The row `count` rows above or below `at`, or the first or last row.
+/// The row `count` rows above or below `at`, or the text's first or last row if there are fewer.
 fn row_away<D: BidiData>(
     view: &mut View,
     source: &Source<'_, D>,
@@ -82,8 +82,8 @@ fn row_away<D: BidiData>(
     }
 }
 
-/// The place after a move of `count` rows up or down: the target row is entered in a column, from 1. If it is the
-/// place's own row, the place itself.
+/// The place after a move of `count` rows up or down, at most to the text's first or last row. The row is entered in `column`,
+/// from 1; if it is the place's own, the place stays.
 pub(crate) fn rows_away<D: BidiData>(
     view: &mut View,
     source: &Source<'_, D>,
@@ -97,6 +97,7 @@ pub(crate) fn rows_away<D: BidiData>(
     ensures place { IfOk result (λ o. o ≡ rows_away view.old.w (rows source.now view.old) way count column place) }
 {
     let at = view.row_at(source, place)?;
+    // A row is known by its first offset: no other begins there.
     let own = view.first_in(source, at);
     let there = row_away(view, source, way, count, at)?;
     let first = view.first_in(source, there);
@@ -107,7 +108,7 @@ pub(crate) fn rows_away<D: BidiData>(
     Ok(entry.unwrap_or(place))
 }
 
-/// The place after a move of `count` rows up or down in the column of the place's cell.
+/// The place after a move of `count` rows up or down into the column of the place's cell.
 pub(crate) fn rows_straight<D: BidiData>(
     view: &mut View,
     source: &Source<'_, D>,

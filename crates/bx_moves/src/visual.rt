@@ -1,4 +1,4 @@
-//! Moves to the left and to the right.
+//! Moves to the left and to the right, from slot to slot, and past a row's last slot into the next or the previous row.
 ghost use Rattle.std.specs.Prelude.{◌≡◌, ℕ, IfOk};
 ghost use Rattle.bx_view.specs.Moves.{end_of, past, row_after, row_before, start_of, step_visual};
 ghost use Rattle.bx_view.specs.Source.{IsViewBy, Keeps, Stands, StandsOn, rows};
@@ -44,7 +44,8 @@ fn end_before<D: BidiData>(
     Ok(place)
 }
 
-/// The place after a move past a row's last slot on a side, if there is a row there.
+/// The place after a move past a row's last slot on a side: the reading start of the next row if the paragraph is read toward
+/// that side, else the reading end of the previous row. None if there is no such row.
 fn past<D: BidiData>(
     view: &mut View,
     source: &Source<'_, D>,
@@ -64,8 +65,8 @@ fn past<D: BidiData>(
     Ok(place)
 }
 
-/// The place of the row's next slot on a side; past the last slot, the reading start of the next row or the reading
-/// end of the previous one; if there is no such row, the place itself.
+/// The place after a step to a side: that of the row's next slot on the side, else the one `past` the row's last slot, else
+/// `place` itself.
 pub(crate) fn step_visual<D: BidiData>(
     view: &mut View,
     source: &Source<'_, D>,

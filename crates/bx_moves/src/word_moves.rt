@@ -1,4 +1,5 @@
-//! Moves from word to word.
+//! Moves from word to word: forward to the next start of a word or end of a body, back to the previous start of a word or a
+//! body. `words.rt` finds these in one paragraph; here the move goes on into the next or the previous paragraph.
 ghost use Rattle.std.specs.Prelude.{◌≡◌, ◌+◌, ◌-◌, ◌<◌, ◌≤◌, IfOk, MatchOption, find, length, nat_le, nat_lt, reverse, unwrap_or};
 ghost use Rattle.bx_view.specs.Source.{IsViewBy, Keeps, Stands, body_at, bytes, count, rows, start_at};
 ghost use Rattle.bx_view.specs.Moves.{word_towards, word_way};
@@ -11,7 +12,7 @@ use bx_paragraph::Visual;
 use bx_ucd::BidiData;
 use bx_view::{Logical, RowAt, Source, View, ViewError, current_span};
 
-/// The way by words toward a side, from whether the paragraph is read toward it.
+/// The way in text order that leads toward a side: forward if the paragraph is read toward it.
 fn word_way(is_read_on: bool) -> Logical
     ensures { result ≡ word_way is_read_on }
 {
@@ -22,7 +23,7 @@ fn word_way(is_read_on: bool) -> Logical
     }
 }
 
-/// The first place of the paragraph after that of `at` at which a word begins or the body ends, if there is such a
+/// In the paragraph after that of `at`: the first place at which a word begins or the body ends. None if there is no such
 /// paragraph.
 fn stop_below<D: BidiData>(
     view: &mut View,
@@ -47,8 +48,8 @@ fn stop_below<D: BidiData>(
     Ok(Some(span.start + first))
 }
 
-/// The last place of the paragraph before that of `at`, and before `place`, at which a word or the body begins, if there
-/// is such a paragraph.
+/// In the paragraph before that of `at`: the last place before `place` at which a word or the body begins. None if there is no
+/// such paragraph.
 fn start_above<D: BidiData>(
     view: &mut View,
     source: &Source<'_, D>,
@@ -115,8 +116,7 @@ fn word_back<D: BidiData>(
     Ok(above.unwrap_or(place))
 }
 
-/// The place after a move by a word in text order. A word is a run of units whose first characters are letters, digits,
-/// marks or joiners by their classes.
+/// The place after a move by a word in text order.
 pub(crate) fn step_word<D: BidiData>(
     view: &mut View,
     source: &Source<'_, D>,

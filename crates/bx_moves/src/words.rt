@@ -1,4 +1,6 @@
-//! The words of a paragraph, found from an offset outward.
+//! Where the words of a paragraph begin, found from an offset outward, row by row, so that a move in a long paragraph is fast. A
+//! word is a run of units whose first characters are letters, digits, marks or joiners by their classes. Offsets count bytes of
+//! the paragraph's body.
 ghost use Rattle.std.specs.Prelude.{◌≡◌, ◌+◌, ◌<◌, ◌≤◌, Bool, not, ◌&&◌, true, false, Some, drop, find, length, min, nat_le, nat_lt, reverse, unwrap_or};
 ghost use Rattle.std.specs.Str.{IsCharBoundary};
 ghost use Rattle.unicode_segmentation.specs.Grapheme.{graphemes};
@@ -10,7 +12,7 @@ use bx_terms::is_direction_mark;
 use bx_ucd::{BidiData, Class};
 use unicode_segmentation::UnicodeSegmentation;
 
-/// Whether words have characters of a class.
+/// Whether words have characters of a class: those of letters, digits, marks (NSM), and joiners (BN).
 fn is_word_class(class: Class) -> bool
     ensures { result ≡ is_word_class class }
 {
@@ -21,7 +23,7 @@ fn is_word_class(class: Class) -> bool
     }
 }
 
-/// Whether words have a character.
+/// Whether words have a character. They have no direction marks, whose classes are those of letters.
 fn is_word_character<D: BidiData>(c: char, tables: &D) -> bool
     ensures { result ≡ is_word_character (D.data tables.now) c }
 {
@@ -52,7 +54,8 @@ fn unit_at<D: BidiData>(body: &str, at: usize, tables: &D) -> (bool, usize)
     }
 }
 
-/// Whether a unit begins a word at or after an offset: it is of a word, the unit before it is not.
+/// Whether the unit at the offset `at` begins a word, at or after `from`: it is of a word (`is_in`), the unit before it is not
+/// (`inside`).
 fn begins_from(is_in: bool, inside: bool, from: usize, at: usize) -> bool
     ensures { result ≡ ((is_in && not inside) && nat_le from at) }
 {
@@ -60,7 +63,7 @@ fn begins_from(is_in: bool, inside: bool, from: usize, at: usize) -> bool
 }
 
 /// The first start of a word at or after `from`, among the units from the one at `start` on; the body's end, if there is
-/// none. `is_inside` tells whether the unit before them is of a word.
+/// none. `is_inside` tells whether the unit before the one at `start` is of a word.
 fn first_start<D: BidiData>(
     body: &str,
     start: usize,
@@ -85,7 +88,7 @@ fn first_start<D: BidiData>(
     body.len()
 }
 
-/// The offset of a unit that begins a word, else the one found before it.
+/// The last start of a word found so far: the offset `at` of this unit if it begins a word, else what was found before it.
 fn later(found: Option<usize>, is_in: bool, inside: bool, at: usize) -> Option<usize>
     ensures { result ≡ elim (is_in && not inside) [ true ↦ Some at | false ↦ found ] }
 {
@@ -95,7 +98,8 @@ fn later(found: Option<usize>, is_in: bool, inside: bool, at: usize) -> Option<u
     found
 }
 
-/// The last start of a word before `bound`, among the units after the one at `start`.
+/// The last start of a word before `bound`, among the units after the one at `start`, which may begin a word or not: the unit
+/// before it is not read. None if there is none.
 fn last_start<D: BidiData>(body: &str, start: usize, bound: usize, tables: &D) -> Option<usize>
     requires { IsCharBoundary body.now start }
     ensures { result ≡ find (λ o. nat_lt o bound)
@@ -114,7 +118,7 @@ fn last_start<D: BidiData>(body: &str, start: usize, bound: usize, tables: &D) -
     found
 }
 
-/// The first offset of a paragraph's body after another at which a word begins; the body's end, if there is none.
+/// The first offset after `offset` at which a word begins; the body's end, if there is none.
 pub(crate) fn stop_after<D: BidiData>(
     paragraph: &ParagraphLayout,
     offset: usize,
@@ -128,10 +132,11 @@ pub(crate) fn stop_after<D: BidiData>(
     let body = paragraph.body();
     let row = paragraph.row_of(offset);
     let start = paragraph.first(row);
+    // Whether the row's first unit begins a word is no matter, since it is not after the offset: `true` or `false` is the same.
     first_start(body, start, true, offset + 1, tables)
 }
 
-/// The first offset of a paragraph's body at which a word begins; the body's end, if there is none.
+/// The first offset at which a word begins; the body's end, if there is none.
 pub(crate) fn first_stop<D: BidiData>(paragraph: &ParagraphLayout, tables: &D) -> usize
     ensures { result ≡ unwrap_or (find (nat_le 0) (body_words (D.data tables.now) paragraph.now.body))
         (length paragraph.now.body) }
@@ -140,7 +145,8 @@ pub(crate) fn first_stop<D: BidiData>(paragraph: &ParagraphLayout, tables: &D) -
     first_start(body, 0, false, 0, tables)
 }
 
-/// The lesser of a bound and the offset after a row's first.
+/// The bound for `last_start` in the row above a row that begins at `first`: it may find `first` too, since it has then read the
+/// unit before; but nothing at or after `bound`.
 fn bound_above(bound: usize, first: usize) -> usize
     ensures { result ≡ min bound (first + 1) }
 {
@@ -150,8 +156,8 @@ fn bound_above(bound: usize, first: usize) -> usize
     bound
 }
 
-/// The last offset of a paragraph's body before another at which a word begins; the body's start, if there is none. Reads
-/// the offset's row, and the rows above it as far as the word reaches.
+/// The last offset before `offset` at which a word begins; the body's start, if there is none. Reads the offset's row, and rows
+/// above it until a start is found.
 pub(crate) fn start_before<D: BidiData>(
     paragraph: &ParagraphLayout,
     offset: usize,
@@ -171,5 +177,6 @@ pub(crate) fn start_before<D: BidiData>(
         bound = bound_above(bound, start);
         row -= 1;
     }
+    // `last_start` leaves out 0, which is the answer where it finds no other.
     last_start(body, 0, bound, tables).unwrap_or(0)
 }

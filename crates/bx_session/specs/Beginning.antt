@@ -1,18 +1,23 @@
--- The start of a session.
+-- The start of a session: a text is opened, the cursor goes to an offset, a journal is replayed, and the screen is painted.
 use Rattle.std.specs.Prelude.{ℕ, Bool, true, false, List, [], Option, Some, None}
 use Rattle.bx_terms.specs.declared.base.Base.{Base}
 use Rattle.bx_ucd.specs.Data.{Data}
 use Rattle.bx_session.specs.Session.{Session, at_opening, after_going, as_changed, after_journal, with_painting}
 use Rattle.bx_session.specs.Painting.{QueuesPicture}
 
--- a text in a window, the cursor's first offset, if one is given, whether the text is unsaved, and a journal's bytes, maybe none
+-- what a session starts with
 pub record Beginning : Type 0 where
+  -- the opened text, in UTF-8
   pub text : List ℕ
+  -- the window's rows and columns
   pub height : ℕ
   pub width : ℕ
   pub base : Base
+  -- the offset, in bytes, that the cursor goes to before the journal's keys; None for the text's start
   pub offset : Option ℕ
+  -- the opened text counts as unsaved, as a recovered one does
   pub unsaved : Bool
+  -- the journal's bytes; empty if there is none
   pub journal : List ℕ
 
 -- after the cursor goes to the offset, if one is given

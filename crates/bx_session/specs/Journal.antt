@@ -1,4 +1,5 @@
--- A journal of the input.
+-- A journal of the input, for replay after a crash, and the recorder that appends to it. `contents` gives a journal's bytes, None
+-- if they are not known, and `failures` the number of its calls that failed.
 use Rattle.std.specs.Prelude.{◌≡◌, ◌≢◌, ◌≤◌, ◌<◌, ℕ, zero, suc, Bool, true, false, List, [], ◌++◌, length, take, drop, Option, vec_items, vec_capacity}
 use Rattle.std.specs.Io.KnownBytes.{Appends}
 use Rattle.bx_ucd.specs.Data.{Data}
@@ -9,7 +10,7 @@ use Rattle.bx_session.specs.Session.{Session}
 use Rattle.bx_session.specs.Saving.{StoreState}
 use Rattle.bx_session.specs.Running.{ByteAnswer, HasRun, bytes_of}
 
--- a journal, and the end of the input that it does not have
+-- the value of a `Recorder`: a journal, and the end of the input that it does not have
 pub record RecorderState (J : Type 0) : Type 0 where
   pub journal : J
   pub backlog : Backlog
@@ -32,13 +33,14 @@ room Empty = 0
 room (Waiting bytes) = vec_capacity bytes
 room (Lost bytes) = vec_capacity bytes
 
--- bytes that waited, and new ones: all wait, or there was no room for all in `room`, and the new ones are lost
+-- Of bytes that waited and new ones either all wait, or the new ones are lost: this only if memory for `room` bytes was too
+-- little for all. So the backlog is not empty.
 abbrev pub Holds : ℕ → List ℕ → List ℕ → Backlog → Type 0
 Holds room waited bytes Empty = ⊥
 Holds room waited bytes (Waiting held) = vec_items held ≡ waited ++ bytes
 Holds room waited bytes (Lost held) = (vec_items held ≡ waited) × (room < length (waited ++ bytes))
 
--- bytes where none wait: all are appended, or the journal fails and the others are held
+-- New bytes come where none wait: all are appended, or the journal fails after `count` of them and the others are held.
 abbrev pub AppendsNew : {J : Type 0} → (J → Option (List ℕ)) → (J → ℕ) → J → J → ℕ → Backlog → List ℕ → Type 0
 AppendsNew contents failures old new room Empty bytes = Appends (contents old) (contents new) bytes × (failures new ≡ failures old)
 AppendsNew contents failures old new room held bytes =

@@ -1,4 +1,5 @@
--- What a run does to its device, in order.
+-- What a run does to its device, in order: each part of the input is in the journal's hands before it is obeyed, and a read comes
+-- only after all output has gone out.
 use Rattle.std.specs.Prelude.{◌≡◌, ◌⊎◌, ℕ, List, [], ◌∷◌, ◌++◌, length, map, None, Result, Ok, Err}
 use Rattle.std.specs.List.{concat}
 use Rattle.bx_ucd.specs.Data.{Data}
@@ -28,17 +29,18 @@ abbrev pub read_by : Action → List ℕ
 read_by (Read bytes) = bytes
 read_by _ = []
 
--- the bytes that it handed to the journal
+-- the bytes that an action handed to the journal
 abbrev pub kept_by : Action → List ℕ
 kept_by (Append bytes) = bytes
 kept_by _ = []
 
--- the bytes that it wrote
+-- the bytes that an action wrote
 abbrev pub written_by : Action → List ℕ
 written_by (Write bytes) = bytes
 written_by (WriteFailed bytes) = bytes
 written_by _ = []
 
+-- the bytes of all these actions, one after another
 abbrev pub bytes_by : (Action → List ℕ) → List Action → List ℕ
 bytes_by bytes [] = []
 bytes_by bytes (action ∷ more) = bytes action ++ bytes_by bytes more
@@ -49,7 +51,7 @@ bytes_by bytes (action ∷ more) = bytes action ++ bytes_by bytes more
 pub record LoggedTurn : Type 0 where
   pub turn : Turn
   pub parts : List (List ℕ)
-  -- they are the bytes fed; those dropped behind the session's end are not among them
+  -- the parts are the bytes fed; those dropped after the session's end are not among them
   pub joined : concat parts ≡ bytes_of turn.fed
 
 abbrev pub appends : List (List ℕ) → List Action
@@ -69,23 +71,23 @@ turns_actions (logged ∷ more) = turn_actions logged ++ turns_actions more
 abbrev pub run_actions : List ℕ → List LoggedTurn → List Action
 run_actions first turns = Write first ∷ Flush ∷ turns_actions turns
 
--- the write of these bytes failed behind them, or the flush failed
+-- the write failed after these bytes, or all were written and the flush failed
 abbrev pub IsFailedSending : List ℕ → List Action → Type 0
 IsFailedSending written actions = (actions ≡ WriteFailed written ∷ []) ⊎ (actions ≡ Write written ∷ FlushFailed ∷ [])
 
--- the writing and flushing of these bytes, by its answer
+-- the writing and flushing of these bytes, by its result
 abbrev pub IsSending : {A E : Type 0} → Result A E → List ℕ → List Action → Type 0
 IsSending (Ok _) written actions = actions ≡ Write written ∷ Flush ∷ []
 IsSending (Err _) written actions = IsFailedSending written actions
 
--- a log that is as a run's but for its last sending, which failed
+-- a log like that of a whole run, except that its last write or flush failed
 abbrev pub FailsLast : List Action → List Action → Type 0
 FailsLast log whole =
     (before : List Action) × (written : List ℕ) × (failed : List Action) × (whole ≡ before ++ Write written ∷ Flush ∷ [])
     × (log ≡ before ++ failed) × IsFailedSending written failed
 
--- The log of a run that ended with this answer. At the end of the input a last read gave nothing, and so did a read that failed;
--- the limit of reads is the number of turns.
+-- The log of a run that ended with this result. After the turns, at the end of the input, a read gave nothing, and an append of
+-- no bytes let the journal try those that waited; or a read failed. At the limit of reads there were as many turns.
 abbrev pub IsLog : ℕ → Result End RunFault → List ℕ → List LoggedTurn → List Action → Type 0
 IsLog limit (Ok Quit) first turns log = log ≡ run_actions first turns
 IsLog limit (Ok (InputEnded changed)) first turns log = log ≡ run_actions first turns ++ Read [] ∷ Append [] ∷ []
@@ -93,8 +95,9 @@ IsLog limit (Err ReadFault) first turns log = log ≡ run_actions first turns ++
 IsLog limit (Err ReadLimit) first turns log = (log ≡ run_actions first turns) × (length turns ≡ limit)
 IsLog limit (Err WriteFault) first turns log = FailsLast log (run_actions first turns)
 
--- A run over a device, by its answer. The log has all that was done to the device, in order: it reads the bytes that were
--- answered and dropped, hands those answered to the journal, and writes the output.
+-- A run over a device, by its result. The log has all that was done to the device, in order: it reads the bytes that were
+-- answered and dropped, hands those answered to the journal, and writes the output. Names without a prime are of before the run,
+-- those with one of after it.
 pub record HasLogged {V : Type 0} (did : V → Action → V → Type 0) (d : Data) (limit : ℕ) (result : Result End RunFault) (old new : Session)
     (store store' : StoreState) (device device' : V) : Type 0 where
   pub answered : List ByteAnswer

@@ -29,14 +29,16 @@ pub record Paints (d : Data) (before : List ℕ) (old : Option PictureState) (ne
   -- until the session's end the cursor is on the cell of its place
   pub cursor : new.editor.ended ≡ false → StandsOnItsCell d new.editor new.top (picture d new.editor new.top)
 
+-- bytes that do so were appended, where `known` is the picture that the screen was taken to show, None for unknown content
 abbrev pub QueuesPicture : Data → List ℕ → Option PictureState → Session → Type 0
 QueuesPicture d before known new = (bytes : List ℕ) × Paints d before known new bytes
 
--- a byte that was not refused and is not idle; the end of a Save leaves the screen's content known or unknown as before
+-- A byte that was not refused and is not idle queues its painting. A Save's result changes nothing about the screen's content, so
+-- None stands in its place here.
 abbrev pub FeedPaints : Data → Session → ℕ → Session → Type 0
 FeedPaints d old b new = QueuesPicture d old.pending (unpainted_after_byte d None old b).known new
 
--- a told size that was not refused: the screen's content is unknown
+-- a told size that was not refused queues a whole painting, since the screen's content is unknown
 abbrev pub ToldPaints : Data → Session → Session → Type 0
 ToldPaints d old new = QueuesPicture d old.pending None new
 

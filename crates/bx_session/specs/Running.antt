@@ -1,4 +1,5 @@
--- Runs of a session over a reader, a writer and a store.
+-- Runs of a session over a reader, a writer and a store. Names without a prime are of before, those with one of after. Of a
+-- reader the bytes are given that it has left, of a writer those that it has; None if they are not known.
 use Rattle.std.specs.Prelude.{◌≡◌, ◌≢◌, ◌≤◌, ◌<◌, length, ℕ, true, false, List, [], ◌∷◌, ◌++◌, map, Option, Result, Ok, Err, OnOk}
 use Rattle.std.specs.Io.KnownBytes.{Appends, Consumes, IsAtEnd}
 use Rattle.bx_ucd.specs.Data.{Data}
@@ -39,11 +40,12 @@ pub record Sent (old new : Session) (writer writer' : Option (List ℕ)) (writte
   pub order : old.pending ≡ written ++ new.pending
   pub session : new ≡ record old { pending = new.pending }
 
--- the most bytes that a read of a run asks for
+-- the length of a run's buffer: the most bytes that a read gives
 abbrev pub read_size : ℕ
 read_size = 256
 
--- a turn of a run: the bytes of one read, fed until the session ends and dropped from there on, and the bytes written then
+-- A turn of a run: the bytes of one read, each fed, with its answer, until the session ends, and dropped from there on; and the
+-- bytes written after that.
 pub record Turn : Type 0 where
   pub fed : List ByteAnswer
   pub dropped : List ℕ
@@ -87,8 +89,8 @@ abbrev pub written_in : List Turn → List ℕ
 written_in [] = []
 written_in (turn ∷ more) = turn.written ++ written_in more
 
--- All bytes fed, dropped and written. First a prefix of the pending bytes is written, which leaves the session `begun`; then
--- the turns follow.
+-- A run in turns, with all bytes fed, dropped and written. First a prefix of the pending bytes is written, which leaves the
+-- session `begun`; then the turns follow.
 pub record InTurns (d : Data) (old new : Session) (store store' : StoreState) (answered : List ByteAnswer) (dropped written : List ℕ)
     : Type 0 where
   pub first : List ℕ
@@ -124,7 +126,7 @@ Runs d old new store store' reader reader' writer writer' =
     (answered : List ByteAnswer) × (dropped : List ℕ) × (written : List ℕ) × (all : Session)
     × HasRun d old new store store' reader reader' writer writer' answered dropped written all
 
--- the session and the reader's unread bytes after a run, by its answer
+-- the session, and the bytes that the reader has left, after a run, by its result
 abbrev pub EndsWith : Result End RunFault → Session → Option (List ℕ) → Type 0
 EndsWith (Ok Quit) s left = (s.editor.ended ≡ true) × (s.pending ≡ [])
 EndsWith (Ok (InputEnded changed)) s left = (s.editor.ended ≡ false) × (s.pending ≡ []) × (changed ≡ s.editor.changed) × IsAtEnd left

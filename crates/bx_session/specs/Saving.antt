@@ -12,7 +12,7 @@ use Rattle.bx_session.specs.declared.error.Refused.{Refused}
 use Rattle.bx_session.specs.declared.error.Refused.TheVariants as refused
 use Rattle.bx_session.specs.Session.{Session, key_of_byte, after_spending, after_byte, owing_after_byte, status_of, is_idle, after_told, owing_after_told}
 
--- a store's content, if it is known, and its failed calls
+-- a store's content, None if it is not known, and its failed calls: their number and the latest fault
 pub record StoreState : Type 0 where
   pub contents : Option (List ℕ)
   pub faults : Faults
@@ -24,7 +24,8 @@ store_state contents faults store = record { contents = contents store; faults =
 abbrev pub with_text : List ℕ → StoreState → StoreState
 with_text text store = record store { contents = option_map (λ _. text) store.contents }
 
--- a save that succeeds stores the text; one that fails leaves the content as it was and counts one more failed call, with its fault
+-- a save that succeeds stores the text; one that fails leaves the content as it was and counts one more failed call, with its
+-- fault
 abbrev pub SaveEnds : Option StoreFault → List ℕ → StoreState → StoreState → Type 0
 SaveEnds None text old new = new ≡ with_text text old
 SaveEnds (Some fault) text old new = (new.contents ≡ old.contents) × (new.faults ≡ with_fault fault old.faults)
@@ -58,7 +59,7 @@ abbrev pub Feeds : Data → Session → StoreState → ℕ → Result Status Ref
 Feeds d old store b result new store' =
     (fault : Option StoreFault) × StoreAfter (is_save_byte old b) fault old.editor.content.text store store' × AfterByte d fault old b result new
 
--- the session after a told size, by the answer
+-- the session after it was told the window's size, by the answer
 abbrev pub ToldBy : {A : Type 0} → Data → Session → ℕ → ℕ → Result A Refused → Session → Type 0
 ToldBy d old height width (Ok _) new = (is_size height width ≡ true) × (new ≡ after_told d old height width)
 ToldBy d old height width (Err refused.Size) new = (is_size height width ≡ false) × (new ≡ old)

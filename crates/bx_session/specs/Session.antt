@@ -1,4 +1,4 @@
--- The session's state, and its changes.
+-- The session's state, and its changes: an editor, the input that waits for more, and the bytes queued for the terminal.
 use Rattle.std.specs.Prelude.{ℕ, Bool, true, false, not, ◌&&◌, ◌||◌, is_some, List, [], ◌∷◌, ◌++◌, drop, Option, Some, None, if◌then◌else◌}
 use Rattle.bx_terms.specs.declared.base.Base.{Base}
 use Rattle.bx_keys.specs.declared.key.Key.{Key}
@@ -23,20 +23,20 @@ use Rattle.bx_session.specs.declared.status.Status.TheVariants.{Running, Ended}
 
 pub record Session : Type 0 where
   pub editor : Editor
-  -- the offset that the top row was last shown from
+  -- the offset, in bytes of the text, whose row was last shown first
   pub top : ℕ
-  -- the unfinished input, as far as it can still become a key
+  -- the input bytes that are not a whole key yet (`head_of`: of more than 12 bytes, which can give no key, the first 12)
   pub rest : List ℕ
-  -- the picture last painted; none before the first
+  -- the picture last painted; None before the first
   pub painted : Option PictureState
-  -- the picture that the screen is taken to show once it has read all bytes; none if its content is unknown
+  -- the picture that the screen is taken to show once it has read all bytes; None if its content is unknown
   pub known : Option PictureState
   -- the screen needs a painting that is not queued yet
   pub painting_owed : Bool
   -- bytes for the terminal
   pub pending : List ℕ
 
--- a session and its tables
+-- the value of a `Session` (`src/session.rt`): a session and Unicode's tables
 pub record SessionState (D : Type 0) : Type 0 where
   pub tables : D
   pub session : Session
@@ -47,11 +47,12 @@ pub record SessionState (D : Type 0) : Type 0 where
 abbrev pub known_if : Bool → Option PictureState → Option PictureState
 known_if is_known painted = if is_known then painted else None
 
--- the bytes that paint a picture: its changes from the picture shown, or the whole if none is known to be shown
+-- the bytes that paint a new picture: its changes from the picture shown, or the whole if none is known to be shown
 abbrev pub painting : Option PictureState → PictureState → List ℕ
 painting None new = whole_bytes new
 painting (Some old) new = changes_bytes old new
 
+-- a picture, with the row of the offset `top` first, is painted
 abbrev pub with_picture : Session → ℕ → PictureState → Session
 with_picture s top new = record s {
   top = top;
@@ -87,15 +88,16 @@ at_opening d text height width base = with_painting d (before_painting text heig
 
 -- ---- a byte
 
--- the key that a byte completes; none after the session's end
+-- the key that a byte completes; None if it completes none, and after the session's end
 abbrev pub key_of_byte : Session → ℕ → Option Key
 key_of_byte s b = if s.editor.ended then None else key_after s.rest b
 
--- the byte is consumed
+-- a byte is consumed, whatever it completes
 abbrev pub after_spending : Session → ℕ → Session
 after_spending s b = if s.editor.ended then s else record s { rest = head_of (rest_after s.rest b) }
 
--- the picture known to be shown after a key that leads to this editor: none if the key asks for that, or at the end
+-- the picture known to be shown after a key that leads to the editor `e`: None after Repaint or a size, and at the session's
+-- end, so that the painting is of the whole screen
 abbrev pub known_after : Option PictureState → Key → Editor → Option PictureState
 known_after known key e = if asks_for_whole key || e.ended then None else known
 
@@ -137,7 +139,7 @@ after_replayed d ask seek e Save = after_passed_save e
 after_replayed d asks.Off Off e Quit = after_passed_quit e
 after_replayed d ask seek e key = after_key d None e key
 
--- keys in sequence
+-- the editor after keys of a journal in sequence
 abbrev pub after_all_replayed : Data → Editor → List Key → Editor
 after_all_replayed d e [] = e
 after_all_replayed d e (key ∷ keys) = after_all_replayed d (after_replayed d e.ask e.seek e key) keys

@@ -1,4 +1,4 @@
-//! What a run does to its device.
+//! What a run does to its device, call by call: the entries of a device's log, by which a law tells the order of a run.
 
 ghost use Rattle.std.specs.Prelude.{◌≡◌, IfOk};
 

@@ -1,4 +1,4 @@
-//! A reader, a journal and a writer as one.
+//! What a run reads, journals and writes through: a reader, a journal and a writer as one, so that the order among them is told.
 
 use bx_bytes::WriteFault;
 use thiserror::Error;
@@ -8,7 +8,7 @@ use thiserror::Error;
 #[error("the device failed")]
 pub struct DeviceFault;
 
-/// A source of input, a journal and an output. What is done to it has an order, which a run's law tells.
+/// A source of input, a journal and an output. `run_device` tells in which order a run calls them.
 pub trait Device {
     ghost use Rattle.std.specs.Prelude.{◌≤◌, IfErr, IfOk, OnErr, OnOk, length, take};
     ghost use Rattle.bx_session.specs.declared.action.Action.{Action};
@@ -23,7 +23,7 @@ pub trait Device {
         ensures did { IfOk result (λ count. did self.old (Action.Read (take count buffer.new)) self.new) }
         ensures failed { OnErr result (did self.old Action.ReadFailed self.new) };
 
-    /// Hands bytes to the journal, which may keep them for a later call.
+    /// Hands bytes to the journal, which may hold them back until a later call.
     fn append(&mut self, bytes: &[u8])
         ensures did { did self.old (Action.Append bytes.now) self.new };
 

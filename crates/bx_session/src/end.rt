@@ -5,7 +5,7 @@ use thiserror::Error;
 /// How a run over a reader ended.
 #[derive(Clone, Copy, PartialEq, Eq, Debug)]
 pub enum End {
-    /// The session ended.
+    /// A Quit ended the session.
     Quit,
     /// The input ended before the session. `changed`: there are unsaved changes.
     InputEnded { changed: bool },
@@ -14,9 +14,10 @@ pub enum End {
 /// Why a run over a reader broke off.
 #[derive(Clone, Copy, PartialEq, Eq, Debug, Error)]
 pub enum RunFault {
+    /// A read failed.
     #[error("input failed")]
     ReadFault,
-    /// A prefix of the output was written; the rest is still pending.
+    /// A write or a flush failed: a prefix of the output was written, and the rest is still pending.
     #[error("output failed")]
     WriteFault,
     /// The limit of reads is reached.

@@ -19,7 +19,8 @@ use bx_store::Store;
 use bx_terms::is_side;
 use bx_ucd::BidiData;
 
-/// Whether the screen's content counts as unknown after a key.
+/// Whether the screen's content counts as unknown after a key: after Repaint, and after a size, since a resized terminal may show
+/// anything.
 fn asks_for_whole(key: Key) -> bool
     ensures { result ≡ keys.asks_for_whole key }
 {
@@ -59,7 +60,7 @@ fn apply<D: BidiData + Drop>(editor: &mut Editor<D>, key: Key) -> Result<(), Ref
 }
 
 impl<D: BidiData + Drop> Session<D> {
-    /// Decodes a byte. Returns the key that it completes; none after the session's end.
+    /// Decodes a byte. Returns the key that it completes; None if it completes no key, and after the session's end.
     pub(crate) fn decode(&mut self, byte: u8) -> Option<Key>
         ensures key { result ≡ key_of_byte self.old.session byte }
         ensures rest { self.new ≡ record self.old { session = after_spending self.old.session byte } }

@@ -1,4 +1,4 @@
-//! Settings before the first key: the cursor's offset, and a text that is not saved.
+//! Settings before the first key, of the command line and of a recovery: the cursor's offset, and a text that is not saved.
 
 ghost use Rattle.std.specs.Prelude.{◌≡◌, OnErr, OnOk};
 ghost use Rattle.bx_session.specs.Session.{after_going, as_changed};

@@ -15,21 +15,21 @@ use thiserror::Error;
 #[derive(Clone, Copy, PartialEq, Eq, Debug, Error)]
 #[error("the journal failed after {written} bytes")]
 pub struct JournalFault {
-    /// Number of the call's bytes that were appended.
+    /// The number of the call's bytes that were appended.
     pub written: usize,
 }
 
-/// A store of the input's bytes. Each call that returns a fault adds one to the count of failures, up to the largest u64; no
-/// other call changes the count.
+/// A journal, to which the input's bytes are appended. Each call that returns a fault adds one to the count of failures, up to
+/// the largest u64; no other call changes the count.
 pub trait Journal {
     ghost use Rattle.std.specs.Prelude.{◌≡◌, ◌≤◌, ℕ, List, Option, IfErr, OnErr, OnOk, length, take};
     ghost use Rattle.std.specs.Io.KnownBytes.{Appends};
     ghost use Rattle.bx_store.specs.Stores.{one_more};
 
-    /// The journal's bytes, if they are known.
+    /// The journal's bytes; None if they are not known.
     ghost contents: { Self → Option (List ℕ) };
 
-    /// Number of calls that returned a fault.
+    /// The number of calls that returned a fault.
     ghost failure_count: { Self → ℕ };
 
     /// Appends bytes.
@@ -64,6 +64,7 @@ impl Journal for NoJournal {
 #[derive(Drop)]
 pub struct WrittenJournal<W: Write + Drop> {
     writer: W,
+    // the number of calls that returned a fault
     failures: u64,
 }
 
@@ -95,7 +96,7 @@ impl<W: Write + Drop> Journal for WrittenJournal<W> {
 
 /// Writes all bytes and flushes.
 ///
-/// Errors: `JournalFault` if the writer fails or takes no byte.
+/// Errors: `JournalFault` if the writer fails or takes no byte, or if the flush fails: then all bytes count as appended.
 fn write_out<W: Write>(writer: &mut W, bytes: &[u8]) -> Result<(), JournalFault>
     ensures all { OnOk result (Appends (W.contents writer.old) (W.contents writer.new) bytes.now) }
     ensures count { IfErr result (λ fault. fault.written ≤ length bytes.now) }
@@ -114,14 +115,14 @@ fn write_out<W: Write>(writer: &mut W, bytes: &[u8]) -> Result<(), JournalFault>
     }
 }
 
-/// The input's last bytes, which a journal does not have.
+/// The last bytes of the input so far, which the journal does not have.
 #[derive(Drop)]
 pub enum Backlog {
     /// All bytes were appended.
     Empty,
     /// These bytes wait in memory to be appended.
     Waiting(Vec<u8>),
-    /// These bytes wait too, and all bytes behind them were lost when memory ran out. The journal gets no more than these.
+    /// These bytes wait too; all bytes after them are lost, since memory ran out. The journal gets no more than these.
     Lost(Vec<u8>),
 }
 
@@ -130,6 +131,7 @@ pub enum Backlog {
 /// kept. The session takes the same input in every case.
 #[derive(Drop)]
 pub struct Recorder<J: Journal + Drop> {
+    // the allocator of the waiting bytes
     alloc: Global,
     journal: J,
     backlog: Backlog,
@@ -192,7 +194,7 @@ fn append_to<J: Journal + Drop>(
     }
 }
 
-/// Appends bytes where none wait. Refused bytes wait in `room`.
+/// Appends bytes where none wait. Those that the journal refuses wait in `room`, an empty vector whose memory is used again.
 fn append_new<J: Journal + Drop>(journal: &mut J, room: Vec<u8>, bytes: &[u8]) -> Backlog
     requires { room.items ≡ [] }
     ensures appends { AppendsNew J.contents J.failure_count journal.old journal.new (vec_capacity room) result bytes.now }
@@ -203,7 +205,8 @@ fn append_new<J: Journal + Drop>(journal: &mut J, room: Vec<u8>, bytes: &[u8]) -
     }
 }
 
-/// Appends the waiting bytes, then `bytes`. Refused bytes wait on.
+/// Appends the waiting bytes, then `bytes`. Those that the journal refuses wait. If it refuses a waiting byte, all of `bytes`
+/// wait.
 fn append_waiting<J: Journal + Drop>(journal: &mut J, mut waiting: Vec<u8>, bytes: &[u8]) -> Backlog
     ensures keeps { HasKept J.contents J.failure_count (record { journal = journal.old; backlog = Backlog.Waiting waiting }) (record { journal = journal.new; backlog = result }) bytes.now }
     ensures tries { HasTried J.failure_count (record { journal = journal.old; backlog = Backlog.Waiting waiting }) (record { journal = journal.new; backlog = result }) bytes.now }
@@ -220,7 +223,7 @@ fn append_waiting<J: Journal + Drop>(journal: &mut J, mut waiting: Vec<u8>, byte
     }
 }
 
-/// Appends the last bytes that the journal gets. `bytes` are lost.
+/// Appends the waiting bytes, the last that the journal gets after a loss. `bytes` are lost too.
 fn append_last<J: Journal + Drop>(journal: &mut J, mut waiting: Vec<u8>, bytes: &[u8]) -> Backlog
     ensures keeps { HasKept J.contents J.failure_count (record { journal = journal.old; backlog = Backlog.Lost waiting }) (record { journal = journal.new; backlog = result }) bytes.now }
     ensures tries { HasTried J.failure_count (record { journal = journal.old; backlog = Backlog.Lost waiting }) (record { journal = journal.new; backlog = result }) bytes.now }
@@ -241,7 +244,7 @@ fn append_last<J: Journal + Drop>(journal: &mut J, mut waiting: Vec<u8>, bytes: 
     }
 }
 
-/// Has `bytes` wait behind those that wait. If memory runs out, `bytes` are lost.
+/// Adds `bytes` to the waiting bytes. If memory runs out, `bytes` are lost.
 fn held(mut waiting: Vec<u8>, bytes: &[u8]) -> Backlog
     ensures { Holds (vec_capacity waiting) waiting.items bytes.now result }
 {

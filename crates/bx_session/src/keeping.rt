@@ -1,4 +1,4 @@
-//! Bytes of a read: handed to the journal and fed, up to the session's end.
+//! What a run does with the bytes of a read: it hands them to the journal and feeds them, up to the session's end.
 
 ghost use Rattle.std.specs.Prelude.{◌≡◌, ◌≤◌, ℕ, List, length};
 ghost use Rattle.std.specs.List.{concat};
@@ -15,8 +15,8 @@ use bx_store::Store;
 use bx_ucd::BidiData;
 
 impl<D: BidiData + Drop> Session<D> {
-    /// Number of the bytes up to the first that completes a Quit, that byte included; all bytes if none does. The session cannot
-    /// end before the last of them.
+    /// The number of the bytes up to the first that completes a Quit, that byte included; of all bytes if none does. The session
+    /// cannot end before the last of these, since only a Quit ends it.
     pub(crate) fn part_length(&self, bytes: &[u8]) -> usize
         ensures { result ≡ part_length self.now.session.rest bytes.now }
     {
@@ -32,7 +32,8 @@ impl<D: BidiData + Drop> Session<D> {
     }
 }
 
-/// Feeds bytes until the session ends. A refusal does not stop it. Called with bytes that the journal was handed just before.
+/// Feeds bytes until the session ends. A refused byte does not stop it. The journal was handed the same bytes just before:
+/// `device` is taken only so that the contract can say so.
 fn feed_all<D: BidiData + Drop, V: Device, S: Store>(
     session: &mut Session<D>,
     bytes: &[u8],
@@ -54,8 +55,8 @@ fn feed_all<D: BidiData + Drop, V: Device, S: Store>(
     }
 }
 
-/// Hands bytes to the journal and feeds them, up to the session's end, in parts that each end behind a Quit: so each byte is
-/// handed over before it is fed, and none that follows the end is.
+/// Hands bytes to the journal and feeds them, up to the session's end, in parts that each end with a Quit or with the bytes: so
+/// each byte is handed over before it is fed, and no byte after the session's end is handed over.
 pub(crate) fn keep_and_feed<D: BidiData + Drop, V: Device, S: Store>(
     session: &mut Session<D>,
     bytes: &[u8],

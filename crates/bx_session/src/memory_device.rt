@@ -1,4 +1,4 @@
-//! A device in memory, which logs what is done to it.
+//! A device in memory, which logs what is done to it: for runs without a terminal, in tests and examples.
 
 ghost use Rattle.std.specs.Prelude.{◌≡◌, [], Some, IfSome, option_map, vec_items};
 ghost use Rattle.bx_session.specs.InMemory.{DidLog};
@@ -13,8 +13,11 @@ use std::mem;
 /// A device whose input is in memory. It logs each call; once memory runs out for the log, there is none. Its calls never fail.
 #[derive(Drop)]
 pub struct MemoryDevice {
+    // the allocator of the logged bytes
     alloc: Global,
+    // the bytes that no read gave yet
     input: Vec<u8>,
+    // the calls so far, in order; None once memory ran out for them
     log: Option<Vec<Action>>,
 }
 
@@ -39,7 +42,7 @@ impl MemoryDevice {
         }
     }
 
-    /// The log, unless memory ran out for it.
+    /// The log; None if memory ran out for it.
     pub fn log(&self) -> Option<&[Action]>
         ensures { IfSome result (λ actions. self.now.log ≡ Some actions.now) }
     {
@@ -49,7 +52,7 @@ impl MemoryDevice {
         }
     }
 
-    /// Logs an action, if there was memory for its bytes.
+    /// Logs an action; an error says that memory ran out for its bytes, and there is no log from then on.
     fn note(&mut self, action: Result<Action, AllocError>)
         ensures input { self.new.input ≡ self.old.input }
         ensures log { DidLog self.old.log action self.new.log }
@@ -59,7 +62,7 @@ impl MemoryDevice {
     }
 }
 
-/// The log with one action more; none if memory ran out, now or before.
+/// The log with one action more; None if memory ran out, now or before.
 fn with_action(log: Option<Vec<Action>>, action: Result<Action, AllocError>) -> Option<Vec<Action>>
     ensures { DidLog (option_map vec_items log) action (option_map vec_items result) }
 {

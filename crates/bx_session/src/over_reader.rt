@@ -1,4 +1,4 @@
-//! Runs of a session over a reader, a writer and a store.
+//! Runs of a session over a reader, a writer and a store, with a journal or without: what the programs call.
 
 ghost use Rattle.std.specs.Prelude.{◌≡◌, IsErrOf};
 ghost use Rattle.bx_session.specs.Journal.{RunsRecorded};
@@ -62,7 +62,7 @@ pub fn run_recorded<D: BidiData + Drop, R: Read, J: Journal + Drop, W: Write, S:
     run_wired(limit, &mut device, store, session)
 }
 
-/// Runs a session over a reader, a recorder and a writer, which stay where they are in the device.
+/// Runs a session over the reader, the recorder and the writer of a device, which has the same three afterwards.
 fn run_wired<D: BidiData + Drop, R: Read, J: Journal + Drop, W: Write, S: Store>(
     limit: u64,
     device: &mut Wired<'_, '_, '_, R, J, W>,

@@ -53,7 +53,7 @@ fn page_of(alloc: Global, spare: Option<Grid>, height: u16, width: u16) -> Resul
     }
 }
 
-/// Recovers the page of an old picture for reuse.
+/// The page of an old picture, on which the next picture can be made.
 fn spare_of(picture: Option<Picture>) -> Option<Grid> {
     match picture {
         Some(picture) => Some(picture.into_grid()),

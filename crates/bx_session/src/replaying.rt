@@ -1,4 +1,4 @@
-//! Replay of a journal's bytes: keys are applied again, and nothing is stored.
+//! Replay of a journal's bytes in a session that opened the same text: keys are applied again, and nothing is stored.
 
 ghost use Rattle.std.specs.Prelude.{◌≡◌, ◌↔◌, IsTrue, true, IfErr, OnErr, OnOk};
 ghost use Rattle.bx_session.specs.Saving.{is_edit_or_move_key, store_state, with_text};
@@ -70,7 +70,7 @@ impl<D: BidiData + Drop> Session<D> {
         self.painting_owed = true;
     }
 
-    /// Whether the text is these bytes. Allocates nothing.
+    /// Whether the text is just these bytes. Allocates nothing.
     pub fn has_text(&self, bytes: &[u8]) -> bool
         ensures { IsTrue result ↔ (self.now.session.editor.content.text ≡ bytes.now) }
     {

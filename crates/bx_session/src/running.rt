@@ -1,4 +1,4 @@
-//! Runs of a session over a device and a store.
+//! Runs of a session over a device and a store: the loop of every run, from the first picture to the end.
 
 ghost use Rattle.std.specs.Prelude.{◌≡◌, List, ℕ, None, [], OnOk, OnErr, IsOk};
 ghost use Rattle.bx_session.specs.declared.action.Action.{Action};
@@ -64,6 +64,7 @@ pub fn run_device<D: BidiData + Drop, V: Device, S: Store>(
         };
         let bytes = &buffer[..count];
         if count == 0 {
+            // No bytes: the journal gets a last chance for those that wait.
             device.append(bytes);
             let changed = session.changed();
             return Ok(End::InputEnded { changed });

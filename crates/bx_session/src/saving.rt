@@ -1,4 +1,4 @@
-//! Saving a text to a store.
+//! Saving a text to a store, and comparing one with bytes, piece by piece, without a copy.
 
 ghost use Rattle.std.specs.Prelude.{◌≡◌, ◌≢◌, ◌++◌, ◌↔◌, ℕ, List, IsTrue, MatchOption, true, IfErr, OnErr, OnOk};
 ghost use Rattle.bx_store.specs.Stores.{with_bytes, with_fault};
@@ -37,7 +37,7 @@ pub fn save_pieces<S: Store>(pieces: Slices<'_>, store: &mut S) -> Result<(), St
     Ok(())
 }
 
-/// Strips a prefix; none if the bytes do not begin with it.
+/// The bytes after `beginning`; None if they do not begin with it.
 fn behind<'a>(bytes: &'a [u8], beginning: &[u8]) -> Option<&'a [u8]>
     ensures { MatchOption result ((rest : List ℕ) → beginning.now ++ rest ≢ bytes.now) (λ rest. bytes.now ≡ beginning.now ++ rest.now) }
 {

@@ -1,4 +1,4 @@
-//! The session's state.
+//! The session's state, and what can be read of it.
 
 ghost use Rattle.std.specs.Prelude.{◌≡◌, ◌≤◌, MatchOption, None, Some, length};
 ghost use Rattle.bx_session.specs.Session.{after_sending, key_of_byte, status_of};
@@ -15,18 +15,22 @@ use std::marker::Model;
 #[derive(Drop)]
 pub struct Session<D: BidiData + Drop> {
     pub(crate) editor: Editor<D>,
-    // the offset that the top row was last shown from
+    // the offset, in bytes of the text, whose row was last shown first
     pub(crate) top: usize,
+    // the input bytes that are not a whole key yet
     pub(crate) decoder: Decoder,
-    // the picture last painted; none before the first
+    // the picture last painted; None before the first
     pub(crate) painted: Option<Picture>,
-    // the page of the picture before, reused for the next one
+    // the page of the picture before `painted`, on which the next one is made; None if there is none yet
     pub(crate) spare: Option<Grid>,
-    // the screen is taken to show `painted` once it has read all bytes
+    // whether the terminal, once it has read all bytes, is taken to show `painted`; if not, the next painting is of the whole
+    // screen
     pub(crate) is_known: bool,
+    // whether a painting is needed that is not in the queue yet
     pub(crate) painting_owed: bool,
+    // the bytes for the terminal, sent ones first
     pub(crate) queue: Vec<u8>,
-    // number of queue bytes already sent
+    // the number of the queue's bytes that are sent already
     pub(crate) taken: usize,
 }
 
@@ -105,7 +109,7 @@ impl<D: BidiData + Drop> Session<D> {
         self.editor.place()
     }
 
-    /// The mark's place, if there is a mark. Allocates nothing.
+    /// The mark's place, in bytes from 0; None if there is no mark. Allocates nothing.
     pub fn mark(&self) -> Option<usize>
         ensures { result ≡ self.now.session.editor.mark }
     {
@@ -133,7 +137,7 @@ impl<D: BidiData + Drop> Session<D> {
         self.editor.other()
     }
 
-    /// Whether a search is on. Allocates nothing.
+    /// How far the search is, or that none is on. Allocates nothing.
     pub fn seek(&self) -> Seek
         ensures { result ≡ self.now.session.editor.seek }
     {
@@ -147,7 +151,7 @@ impl<D: BidiData + Drop> Session<D> {
         self.editor.aim()
     }
 
-    /// What the user is asked. Allocates nothing.
+    /// What the user is asked, or that there is no question. Allocates nothing.
     pub fn ask(&self) -> Ask
         ensures { result ≡ self.now.session.editor.ask }
     {
@@ -161,7 +165,7 @@ impl<D: BidiData + Drop> Session<D> {
         self.editor.typed_answer()
     }
 
-    /// The key that a byte would complete now; none after the session's end. Allocates nothing.
+    /// The key that a byte would complete now; None if it would complete none, and after the session's end. Allocates nothing.
     pub fn key_of(&self, byte: u8) -> Option<Key>
         ensures { result ≡ key_of_byte self.now.session byte }
     {
@@ -172,7 +176,7 @@ impl<D: BidiData + Drop> Session<D> {
         decoder.feed(byte)
     }
 
-    /// The picture last painted; none before the first. Allocates nothing.
+    /// The picture last painted; None before the first. Allocates nothing.
     pub fn painted(&self) -> Option<&Picture>
         ensures { MatchOption result (self.now.session.painted ≡ None) (λ p. self.now.session.painted ≡ Some p.now) }
     {

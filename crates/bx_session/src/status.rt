@@ -1,8 +1,9 @@
-//! Whether a session has ended.
+//! Whether a session has ended, as each byte that is fed tells.
 
 /// Whether a session has ended.
 #[derive(Clone, Copy, PartialEq, Eq, Debug)]
 pub enum Status {
+    /// It takes more bytes.
     Running,
     /// Quit has ended it. Further bytes give no key.
     Ended,
