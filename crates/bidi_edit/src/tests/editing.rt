@@ -53,7 +53,7 @@ fn run_over<R: Read, W: Write>(
     )
 }
 
-/// The outcome of a run over a file's bytes and the bytes of keys.
+/// The outcome of a run over a file's bytes and the bytes of keys. In these `\x11` is Quit.
 fn outcome(alloc: Global, file: &[u8], mut keys: &[u8]) -> Result<Changes, ProgramFault<'static>> {
     let file = Vec::from_slice(alloc, file)?;
     run_over(alloc, Some(file), &mut keys, &mut Vec::new(alloc))
@@ -128,7 +128,8 @@ fn a_file_that_is_not_there_is_an_empty_text(rt: HostRuntime) -> Result<(), Fail
     Ok(())
 }
 
-/// What the program says of lines of its tables.
+/// Unicode files of which one has a bad line, with the sentence about the first one that the program tells. A later bad line
+/// stands in some, which must not be told.
 fn refused_lines() -> [(UnicodeFiles<'static>, &'static str); 11] {
     [
         (three("0041", "", ""), "classes line 1: bad line"),

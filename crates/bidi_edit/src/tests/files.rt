@@ -1,4 +1,4 @@
-//! The order in which the program reads its files.
+//! The order in which the program reads its files. A path `not here` leads to no file, and `/` to a folder, which cannot be read.
 
 use crate::fault::ProgramFault;
 use crate::program;
