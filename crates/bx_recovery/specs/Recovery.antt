@@ -1,5 +1,5 @@
--- What an edited file holds, compared with the replay of a journal (`FileText`), and the text that is recovered: by these a
--- text is recovered as FILE, or as a new file where another program changed FILE.
+-- What an edited file holds, compared with the replay of a journal (`FileText`), and the text that is recovered. Where another
+-- program changed FILE, the text is recovered as a new file.
 use Rattle.std.specs.Prelude.{◌≡◌, ◌≢◌, ◌↔◌, ℕ, Bool, true, false, IsTrue, List, [], ◌∷◌, Contains, length}
 use Rattle.bx_ucd.specs.Data.{Data}
 use Rattle.bx_keys.specs.Keys.{keys_from}

@@ -25,8 +25,8 @@ pub record IsEntry (w : ℕ) (r : TextRow) (column place : ℕ) : Type 0 where
   pub place_is : r.start + slot.offset ≡ place
   pub enters : Covers (row_slots w r.row) column slot ⊎ IsNearest (row_slots w r.row) column slot
 
--- A move by rows to another row enters it in the given column; Up, Down and the pages take that of the place's cell, which
--- is one of the window's. A move to the place's own row stays.
+-- A move by rows to another row enters it in the given column; Up, Down and the pages give the column of the place's cell, which
+-- is one of the window's. A move to the place's own row stays at the place.
 pub record RowsGoOn (w : ℕ) (rows : List TextRow) : Type 0 where
   pub own : (place : ℕ) → (1 ≤ cell_of w rows place) × (cell_of w rows place ≤ w)
   pub enters : (way : Vertical) (n column place k : ℕ) → 1 ≤ column → column ≤ w → k ≡ row_away (length rows) way n (row_of rows place)

@@ -5,7 +5,7 @@ use Rattle.bx_session.specs.declared.error.Refused.TheVariants as refused
 use Rattle.bx_world.specs.declared.step.StepFault.{StepFault}
 use Rattle.bx_world.specs.declared.step.StepFault.TheVariants as faults
 
--- the answer of a step in which the session answered so
+-- the answer of a step, from the session's answer to its call
 abbrev pub answer_of : {A : Type 0} → Result A Refused → Result (Unit {0}) StepFault
 answer_of (Ok _) = Ok tt
 answer_of (Err fault) = Err (faults.Session fault)

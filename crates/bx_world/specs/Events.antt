@@ -16,6 +16,7 @@ use Rattle.bx_world.specs.declared.step.Step.TheVariants.{Byte, Window, Told, Se
 use Rattle.bx_world.specs.declared.step.StepFault.{StepFault}
 use Rattle.bx_world.specs.declared.step.StepFault.TheVariants as faults
 
+-- what a schedule's step does to the editor
 pub data Event : Type 0 where
   -- a byte of input before the session's end, with the key that it completes, if any; whether the key was applied, and
   -- why its save failed, if it is a Save that failed, else None
@@ -30,6 +31,7 @@ abbrev pub after_input : Data → Bool → Option StoreFault → Editor → Opti
 after_input d applied fault e None = e
 after_input d applied fault e (Some key) = if applied then after_key d fault e key else e
 
+-- the editor after an event, and after events in order
 abbrev pub after_event : Data → Editor → Event → Editor
 after_event d e (Input byte key applied fault) = after_input d applied fault e key
 after_event d e (Telling height width) = with_size e height width
@@ -43,6 +45,7 @@ abbrev pub after_save_of : List ℕ → Option StoreFault → StoreState → Sto
 after_save_of text None store = with_text text store
 after_save_of text (Some fault) store = record store { faults = with_fault fault store.faults }
 
+-- the store after an event, before which the editor is `e`: only a Save changes it
 abbrev pub stored_after : Editor → StoreState → Event → StoreState
 stored_after e store (Input byte key applied fault) = if is_save_key key then after_save_of e.content.text fault store else store
 stored_after e store (Telling height width) = store
@@ -60,6 +63,7 @@ failed_saves (Telling height width ∷ more) = failed_saves more
 
 -- ---- the input of events, and its keys
 
+-- the bytes of input, and the keys that they complete
 abbrev pub input_of : List Event → List ℕ
 input_of [] = []
 input_of (Input byte key applied fault ∷ more) = byte ∷ input_of more

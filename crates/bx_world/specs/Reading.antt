@@ -33,6 +33,7 @@ is_change (Told height width) answer = false
 is_change (Send count) answer = false
 is_change (Read count) answer = false
 
+-- whether a step of a schedule did
 abbrev pub is_window_changed : {A : Type 0} → List (Step × Result A StepFault) → Bool
 is_window_changed [] = false
 is_window_changed (s ∷ more) = is_change s.0 s.1 || is_window_changed more

@@ -61,6 +61,7 @@ abbrev pub told_after : ℕ → ℕ → Bool → Option Key → Bool
 told_after height width told (Some (Size rows columns)) = (height == rows) && (width == columns)
 told_after height width told _ = told
 
+-- the same in this world
 abbrev pub told_after_key : World → Option Key → Bool
 told_after_key w key = told_after w.height w.width w.told key
 
@@ -74,6 +75,7 @@ with_told_size w height width s = record w { session = s; told = is_window w hei
 
 -- ---- the window, the line and the terminal
 
+-- the window gets a size, which the session is not told yet; the terminal, unless it has failed, resizes
 abbrev pub after_window : World → ℕ → ℕ → World
 after_window w height width = record w {
   height = height;

@@ -21,6 +21,7 @@ use std::marker::Model;
 /// has read all bytes in transit shows the picture last painted, if the session was told the window's last size.
 #[derive(Drop)]
 pub struct World<D: BidiData + Drop> {
+    // the session, whose pending bytes go to the line
     pub(crate) session: Session<D>,
     // the bytes sent to the terminal and not yet read by it
     pub(crate) line: Vec<u8>,
