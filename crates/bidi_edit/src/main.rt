@@ -106,7 +106,8 @@ fn store_of<'a>(
 }
 
 /// Whether FILE may have changed since the opened text was copied from it: then the first save is a fault. Only a text named by
-/// `--text` is compared, and neither one to be recovered nor one that counts as changed from the start.
+/// `--text` is compared, and neither one to be recovered nor one that counts as changed from the start. A FILE that cannot be
+/// read may have changed; one that does not exist has not.
 fn is_changed(
     rt: &HostRuntime,
     options: &Options<'_>,
@@ -130,7 +131,8 @@ fn is_changed(
     }
 }
 
-/// Whether FILE is not a text that the replayed session knows. It is read whole, and the session is opened a second time.
+/// Whether FILE holds no text that the replayed session knows, or cannot be read. FILE is read whole, and the session is opened a
+/// second time, and replayed.
 fn is_unknown(
     rt: &HostRuntime,
     options: &Options<'_>,
@@ -196,7 +198,7 @@ fn run<'a, R: Read + Drop, W: Write>(
     reader: R,
     writer: &mut W,
 ) -> Result<(), ProgramFault<'a>> {
-    // before the files are read, so that the first save notices a change by another program in between
+    // made before the files are read, so that the first save notices a change by another program in between
     let mut store = store_of(rt, options)?;
     let mut files = read_files(rt, options, &mut store)?;
     if let Some(text) = options.before {

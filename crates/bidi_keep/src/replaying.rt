@@ -44,6 +44,7 @@ impl From<FileFault<'_>> for Fault {
     }
 }
 
+// `Unwritten` is of a store in memory, which fails only when memory runs out.
 impl From<RecoveryFault> for Fault {
     fn from(fault: RecoveryFault) -> Self {
         match fault {

@@ -35,6 +35,7 @@ pub struct Replayed {
     pub keys: u64,
 }
 
+// The line that `bidi_edit --to` writes.
 impl fmt::Display for Replayed {
     fn fmt<W: fmt::Write>(&self, f: &mut fmt::Formatter<W>) -> fmt::Result {
         let keys = self.keys;

@@ -124,6 +124,7 @@ fn a_file_that_is_not_there_is_an_empty_text(rt: HostRuntime) -> Result<(), Fail
     let mut written = Vec::new(rt.alloc());
     let outcome = run_over(rt.alloc(), None, &mut b"".as_slice(), &mut written);
     assert_eq!(rt; outcome, Ok(Changes::Saved));
+    // normal rendition, a cleared screen, and the cursor in its first cell
     assert_eq!(rt; written.as_slice(), b"\x1b[0m\x1b[2J\x1b[1;1H".as_slice());
     Ok(())
 }

@@ -158,6 +158,7 @@ fn check_session(rt: &impl Abort, alloc: Global, session: &str) -> Result<(), Fa
 
 #[test]
 fn recorded_sessions(rt: HostRuntime) -> Result<(), Fail> {
+    // all of the sessions are there, a line each
     assert_eq!(rt; SESSIONS.lines().count(), 24);
     for session in SESSIONS.lines() {
         check_session(&rt, rt.alloc(), session)?;
