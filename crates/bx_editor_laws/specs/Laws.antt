@@ -153,7 +153,7 @@ only_at place e = record e {
   goal = None;
 }
 
--- TextEnd then TextStart leads to the text's start, TextStart then TextEnd to its end, and all else stays
+-- TextEnd then TextStart leads to the text's start, TextStart then TextEnd to its end; else they change only what any move ends
 pub record ReachesBothEnds (d : Data) (e : Editor) : Type 0 where
   pub start : after_keys d None e (TextEnd ∷ TextStart ∷ []) ≡ only_at 0 e
   pub end : after_keys d None e (TextStart ∷ TextEnd ∷ []) ≡ only_at (length e.content.text) e
