@@ -1,10 +1,11 @@
-//! A store that keeps nothing.
+//! A store that keeps nothing, so that a measured save is the editor's work alone.
 
 use bx_store::{Store, StoreFault};
 
-/// A store that discards the bytes and counts them, so a save measures the editor alone. Its calls never fail.
+/// A store that discards the bytes and counts them. Its calls never fail.
 #[derive(Drop)]
 pub(crate) struct CountingStore {
+    // the number of bytes put, in all saves
     count: usize,
 }
 
@@ -13,7 +14,7 @@ impl CountingStore {
         CountingStore { count: 0 }
     }
 
-    /// Total number of bytes put.
+    /// The number of bytes put, in all saves.
     pub(crate) fn count(&self) -> usize {
         self.count
     }

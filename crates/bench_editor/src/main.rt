@@ -31,7 +31,7 @@ use table_files::TableFiles;
 use task::Task;
 use texts::Script;
 
-/// Carries out the last four words.
+/// Carries out the last four words: TASK, TEXT, BYTES and TIMES.
 fn measure<R: CpuClock + AllocGlobal>(
     rt: &R,
     files: &TableFiles,
@@ -88,7 +88,7 @@ fn run_task<R: Files + CpuClock + AllocGlobal>(rt: &R, words: &[String]) -> Resu
     }
 }
 
-/// The runs of `each`.
+/// The runs of `each`, as the last four words. Each task is done once at least, in texts that are small enough for a test.
 const EACH: [&str; 11] = [
     "opening hebrew 20000 2",
     "letter hebrew 20000 7",
@@ -103,7 +103,7 @@ const EACH: [&str; 11] = [
     "repaint paragraph 5000 1",
 ];
 
-/// Runs every task once.
+/// Makes the runs of `each`.
 fn each<R: Print + CpuClock + AllocGlobal>(rt: &R) -> Result<()> {
     let files = TableFiles::small(rt.alloc())?;
     for line in EACH {

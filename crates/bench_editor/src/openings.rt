@@ -1,4 +1,4 @@
-//! The task `opening`: a text, with its first picture.
+//! The task `opening`: a text is opened and its first picture is painted.
 
 use crate::outcome::{Measurement, Outcome, Traffic};
 use crate::table_files::TableFiles;
@@ -23,6 +23,7 @@ fn once<R: CpuClock + AllocGlobal>(
     Ok((sent, end?.saturating_sub(start)))
 }
 
+/// Measures the opening of a text, `wanted.times` times, each time in a new session.
 pub(crate) fn run<R: CpuClock + AllocGlobal>(
     rt: &R,
     files: &TableFiles,

@@ -9,25 +9,30 @@ use std::time::Duration;
 pub(crate) const USAGE: &str = "usage: bench_editor [--time] [--tables CLASSES BRACKETS MIRRORING \
     [--joining JOINING CHARACTERS]] TASK TEXT BYTES TIMES";
 
-/// The text's script, its least length in bytes, and the number of rounds.
+/// What is to be measured besides the task.
 #[derive(Clone, Copy)]
 pub(crate) struct Measurement {
+    /// The kind of the text.
     pub(crate) script: Script,
+    /// The least length of the text in bytes.
     pub(crate) bytes: usize,
+    /// The number of rounds.
     pub(crate) times: usize,
 }
 
-/// Number of bytes that all rounds together sent to the terminal and to the store.
+/// The numbers of bytes that all rounds together sent to the terminal and to the store.
 #[derive(Clone, Copy)]
 pub(crate) struct Traffic {
     pub(crate) sent: usize,
     pub(crate) stored: usize,
 }
 
-/// A line that depends on all work done, the processor time of all rounds, and their number.
+/// The result of a measurement.
 #[derive(Drop)]
 pub(crate) struct Outcome {
+    /// The line to print. It depends on all work done, so none of the work can be left out.
     pub(crate) line: String,
+    /// The processor time of all rounds.
     time: Duration,
     rounds: usize,
 }

@@ -1,4 +1,4 @@
-//! Rounds of keys, in the middle of a text.
+//! The tasks done by keys: rounds in the middle of a text, all in one session.
 
 use crate::outcome::{Measurement, Outcome, Traffic};
 use crate::table_files::TableFiles;

@@ -1,4 +1,4 @@
-//! The files of a session's tables.
+//! The files of a session's tables: those that the command line names, or small samples.
 
 use anyhow::{Context, Result};
 use bx_ucd::sample::{BRACKETS, CLASSES, MIRRORING};
@@ -10,16 +10,22 @@ use std::rt::Files;
 /// The bytes of the two files by which letters are joined.
 #[derive(Drop)]
 struct JoiningBytes {
+    // ArabicShaping.txt
     joining: Vec<u8>,
+    // UnicodeData.txt
     characters: Vec<u8>,
 }
 
 /// The bytes of Unicode's files. A session owns its tables, so each session reads new ones.
 #[derive(Drop)]
 pub(crate) struct TableFiles {
+    // DerivedBidiClass.txt
     classes: Vec<u8>,
+    // BidiBrackets.txt
     brackets: Vec<u8>,
+    // BidiMirroring.txt
     mirroring: Vec<u8>,
+    // None if letters are not joined
     joining: Option<JoiningBytes>,
 }
 

@@ -1,4 +1,4 @@
-//! Tasks done by keys.
+//! The tasks done by keys: which keys a round of each presses, as a terminal sends them.
 
 use crate::texts::Script;
 use crate::typist::{PAGE_DOWN, Typist};
@@ -12,10 +12,10 @@ const LEFT: &str = "\u{1b}[D";
 
 const PAGE_UP: &str = "\u{1b}[5~";
 
-/// Control and S.
+/// CTRL and S.
 const SAVE: &str = "\u{13}";
 
-/// Control and L.
+/// CTRL and L.
 const REPAINT: &str = "\u{c}";
 
 /// Tells a window of 79 columns.
@@ -24,10 +24,10 @@ const NARROWER: &str = "\u{1b}[8;24;79t";
 /// Tells a window of 80 columns again.
 const AS_BEFORE: &str = "\u{1b}[8;24;80t";
 
-/// The keys of a round.
+/// A task, by what a round of it does.
 #[derive(Clone, Copy)]
 pub(crate) enum Task {
-    /// Types a letter after the one before.
+    /// Types a letter, behind that of the round before.
     Letter,
     /// Types a letter and erases it.
     Erasure,
@@ -61,7 +61,7 @@ impl Task {
         }
     }
 
-    /// Presses the keys of a round.
+    /// Presses the keys of a round, whose number counts from 0.
     pub(crate) fn press(self, typist: &mut Typist, script: Script, round: usize) -> Result<()> {
         match self {
             Task::Letter => typist.press(script.letter(round)),

@@ -21,7 +21,8 @@ const ENGLISH_WORD: [&str; 5] = ["w", "o", "r", "d", " "];
 /// The same in Hebrew.
 const HEBREW_WORD: [&str; 5] = ["\u{5e9}", "\u{5dc}", "\u{5d5}", "\u{5dd}", " "];
 
-/// Number of characters of a line after which the next blank ends it. Such lines have some 84 characters.
+/// The number of characters of a line after which the next blank ends it. So lines have some 84 characters, and wrap in a
+/// window of 80 columns.
 const LEAST: usize = 81;
 
 impl Script {
@@ -54,7 +55,7 @@ impl Script {
         }
     }
 
-    /// Number of characters of a line after which the next blank ends it.
+    /// The number of characters of a line after which the next blank ends it: in one paragraph no line ends.
     fn least(self) -> usize {
         match self {
             Script::Paragraph => usize::MAX,
@@ -62,7 +63,7 @@ impl Script {
         }
     }
 
-    /// The letter typed in a round.
+    /// The letter typed in a round, whose number counts from 0: that of the word in turn.
     pub(crate) fn letter(self, round: usize) -> &'static str {
         match self {
             Script::Ascii => ENGLISH_WORD[round % 5],
@@ -75,6 +76,7 @@ impl Script {
     pub(crate) fn text(self, alloc: Global, bytes: usize) -> Result<String, AllocError> {
         let mut text = String::with_capacity(alloc, bytes)?;
         let mut length: usize = 0;
+        // Each time the words add a byte at least, so `bytes` times are enough.
         for _ in 0..bytes {
             if text.len() >= bytes {
                 break;

@@ -1,4 +1,4 @@
-//! A session to press keys in.
+//! A session to press keys in, with a terminal that takes all bytes at once.
 
 use crate::counting_store::CountingStore;
 use crate::outcome::Traffic;
@@ -13,19 +13,20 @@ const ROWS: u16 = 24;
 /// The columns of the window.
 const COLUMNS: u16 = 80;
 
-/// The key that moves one character forward in the text.
+/// CTRL and F, the key that moves one place forward in the text.
 const FORWARD: &str = "\u{6}";
 
 pub(crate) const PAGE_DOWN: &str = "\u{1b}[6~";
 
-/// Number of characters from the start of a line to its middle.
+/// The number of characters from the start of a line to its middle: half of some 84.
 const HALF_LINE: usize = 40;
 
-/// A session, its store, and the number of its bytes sent.
+/// A session with its store.
 #[derive(Drop)]
 pub(crate) struct Typist {
     session: Session<Tables>,
     store: CountingStore,
+    // the number of bytes sent to the terminal; those sent on the way to the text's middle do not count
     sent: usize,
 }
 
@@ -74,7 +75,7 @@ impl Typist {
         Ok(())
     }
 
-    /// Number of bytes sent and stored.
+    /// The numbers of bytes sent and stored so far.
     pub(crate) fn traffic(&self) -> Traffic {
         Traffic {
             sent: self.sent,

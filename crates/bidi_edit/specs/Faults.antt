@@ -1,4 +1,4 @@
--- The program's faults.
+-- The faults that end the program with status 1, and which of them a recovery's fault becomes.
 use Rattle.bx_recovery.specs.declared.fault.RecoveryFault.{RecoveryFault}
 use Rattle.bx_recovery.specs.declared.fault.RecoveryFault.TheVariants as recovery
 use Rattle.bidi_edit.specs.declared.fault.ProgramFault.{ProgramFault}

@@ -1,4 +1,5 @@
--- The start, the end and the result of a run of the program.
+-- The start, the end and the result of a run of the program. Names without a prime are of before a run, those with one of after
+-- it.
 use Rattle.std.specs.Prelude.{◌≡◌, ℕ, Bool, true, false, List, Option, Result, Ok, Err}
 use Rattle.bx_ucd.specs.Data.{Data}
 use Rattle.bx_cli.specs.declared.unicode.UnicodeFiles.{UnicodeFiles}
@@ -24,14 +25,15 @@ outcome_of (Ok end) false = Ok Saved
 outcome_of (Ok Quit) true = Ok Dropped
 outcome_of (Ok (InputEnded unsaved)) true = Err fault.Unsaved
 
--- the outside of a run: the store, the reader's unread bytes, the bytes written, and the recorder of the journal
+-- what a run works on besides its session: the store, the bytes that the reader has left and those written (None if they are not
+-- known), and the recorder of the journal
 pub record Outside (J : Type 0) : Type 0 where
   pub store : StoreState
   pub unread : Option (List ℕ)
   pub written : Option (List ℕ)
   pub recorder : RecorderState J
 
--- a run of this session, which ended so
+-- the session `old` was run and became `new`, and the run ended so
 pub record RunsTo {J : Type 0} (contents : J → Option (List ℕ)) (failures : J → ℕ) (d : Data) (old new : Session) (out out' : Outside J)
     (end : Result End RunFault) : Type 0 where
   pub runs : RunsRecorded contents failures d old new out.store out'.store out.unread out'.unread out.written out'.written out.recorder out'.recorder
@@ -47,7 +49,7 @@ pub record Resumes {J : Type 0} (contents : J → Option (List ℕ)) (failures :
   pub runs : RunsTo contents failures d (with_painting d (after_journal d old journal)) session out out' end
   pub tells : result ≡ outcome_of end session.editor.changed
 
--- a run from this start, by the tables of these files, and the result tells how it ended
+-- a session was begun from this start, by tables that agree with these files, and run, and the result tells how that ended
 pub record Edits {J : Type 0} (contents : J → Option (List ℕ)) (failures : J → ℕ) (b : Beginning) (files : UnicodeFiles) (out out' : Outside J)
     (result : Result Changes ProgramFault) : Type 0 where
   pub tables : Data
@@ -58,7 +60,7 @@ pub record Edits {J : Type 0} (contents : J → Option (List ℕ)) (failures : J
   pub runs : RunsTo contents failures tables (begun tables b) session out out' end
   pub tells : result ≡ outcome_of end session.editor.changed
 
--- what holds where the run began, else what holds of a fault before it
+-- `Runs` if the result is of a run that began, `Stays` if a fault came before it
 abbrev pub RunsUnless : Result Changes ProgramFault → Type 0 → Type 0 → Type 0
 RunsUnless (Ok changes) Runs Stays = Runs
 RunsUnless (Err fault.Unsaved) Runs Stays = Runs

@@ -15,7 +15,7 @@ use bx_store::Store;
 use bx_ucd::BidiData;
 use std::io::{Read, Write};
 
-/// Limit of reads in a run.
+/// The limit of reads in a run: a proved loop needs one, and no session of a user reaches this.
 const READS: u64 = 1_000_000_000;
 
 /// The fate of the changes in a session without a fault.
@@ -27,7 +27,7 @@ pub enum Changes {
     Dropped,
 }
 
-/// The fate of the changes, by a run's end and whether there are unsaved changes then.
+/// The fate of the changes, by a run's end and by `changed`: whether there are unsaved changes then.
 ///
 /// Errors: `Run`; `Unsaved` if the input ended with unsaved changes.
 fn outcome_of(end: Result<End, RunFault>, changed: bool) -> Result<Changes, ProgramFault<'static>>
@@ -41,7 +41,7 @@ fn outcome_of(end: Result<End, RunFault>, changed: bool) -> Result<Changes, Prog
     }
 }
 
-/// Replays keys and paints the result.
+/// Replays the bytes `keys` of a journal and paints the result.
 fn begin<D: BidiData + Drop>(
     session: &mut Session<D>,
     keys: &[u8],
@@ -59,7 +59,7 @@ fn begin<D: BidiData + Drop>(
     Ok(())
 }
 
-/// Replays keys, paints the result, and runs until Quit or the input's end.
+/// Replays the bytes `keys` of a journal, paints the result, and runs until Quit or the input's end.
 fn resume<D: BidiData + Drop, R: Read, J: Journal + Drop, W: Write, S: Store>(
     reader: &mut R,
     recorder: &mut Recorder<J>,

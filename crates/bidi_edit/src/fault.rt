@@ -17,15 +17,19 @@ pub enum ProgramFault<'a> {
     /// One of Unicode's files was refused.
     #[error("bidi_edit: {0}")]
     Tables(UcdError),
+    /// An input file could not be read.
     #[error("bidi_edit: {0}")]
     File(FileFault<'a>),
-    /// A file that was only checked cannot be opened.
+    /// A text that was checked, alone or before it is opened, cannot be opened.
     #[error("bidi_edit: {0}")]
     Text(TextFault),
+    /// The text could not be opened.
     #[error("bidi_edit: {0}")]
     Open(OpenError),
+    /// The run broke off.
     #[error("bidi_edit: {0}")]
     Run(RunFault),
+    /// The input ended with unsaved changes.
     #[error("bidi_edit: input ended before saving")]
     Unsaved,
     /// The recovered text could not be stored.

@@ -1,4 +1,4 @@
-//! What the system tells of a file.
+//! What the system tells of a file, for the keeper, which asks whether FILE is still what the program read.
 
 use std::os::unix::fs::MetadataExt;
 use std::{fmt, fs};
@@ -6,11 +6,12 @@ use std::{fmt, fs};
 /// What the system tells of a file, by which another look can tell whether it is the same one, unchanged.
 #[derive(Clone, Copy, PartialEq, Eq)]
 pub struct Look {
+    /// The numbers of its device and of its inode there.
     device: u64,
     inode: u64,
     /// Its size in bytes.
     size: u64,
-    /// When it was last written, in seconds and nanoseconds since 1970.
+    /// When it was last written: seconds since 1970, and the nanoseconds after them.
     seconds: i64,
     nanos: i64,
 }

@@ -1,14 +1,15 @@
 //! A full-screen editor: keys come from standard input, the screen goes to standard output.
 //!
 //! `bidi_edit [--rows N] [--cols N] [--direction auto|ltr|rtl] [--line N] [--text PATH] [--unsaved] [--journal PATH [--in-place
-//! MARK]] [--itself] [--replay PATH [--to PATH]] [--before TEXT] [--words] --classes F --brackets F --mirroring F [--joining F --characters F]
-//! FILE`. With `--check` it only checks that FILE can be opened. Exit status 0: ended by Quit, or the input ended without unsaved
-//! changes, or FILE can be opened; 1: a fault, with a line on standard error; 2: the command line was refused, and standard error
-//! says why.
+//! MARK]] [--itself] [--replay PATH [--to PATH]] [--before TEXT] [--words] --classes F --brackets F --mirroring F [--joining F
+//! --characters F] FILE`. `Options` of `bx_command` says what each option is for. With `--check` it only checks that FILE can
+//! be opened. Exit status 0: ended by Quit, or the input ended without unsaved changes, or FILE can be opened; 1: a fault, with
+//! a line on standard error; 2: the command line was refused, and standard error says why.
 //!
 //! With `--before`, TEXT goes to standard output once FILE is read and can be opened. With `--words`, standard error gets words,
 //! each of which ends with NUL: `o DEVICE INODE SIZE SECONDS NANOS`, or `o -` if FILE does not exist, or `o changed`, once it was
-//! read; `f KIND` or `f KIND VALUE` for a fault; `j lost` and `j kept` for a journal that could not be written, and is kept again.
+//! read; `f KIND` or `f KIND VALUE` for a fault; `j lost` and `j kept` for a journal that could not be written, and is kept
+//! again.
 #![tactic(auto)]
 
 mod edit;
@@ -53,7 +54,7 @@ fn edit_file<'a, R: Read + Drop, W: Write, S: Store>(
     Ok(())
 }
 
-/// Stores the text recovered from a journal, and writes how the edited file relates to it.
+/// Stores the text recovered from a journal, and writes a line: what FILE holds compared with it, and the number of keys.
 fn recover_to<'a, W: Write, S: Store>(
     rt: &HostRuntime,
     options: &Options<'a>,
@@ -69,7 +70,7 @@ fn recover_to<'a, W: Write, S: Store>(
     }
 }
 
-/// The start of a session over these files.
+/// The start of a session over these files, with `text` as the opened text; None if FILE does not exist.
 fn beginning_of<'a>(
     rt: &HostRuntime,
     options: &Options<'_>,
@@ -89,7 +90,7 @@ fn beginning_of<'a>(
     }
 }
 
-/// The store that Saves write to.
+/// The store that Saves write to, or the recovered text with `--to`.
 fn store_of<'a>(
     rt: &'a HostRuntime,
     options: &Options<'_>,
@@ -104,8 +105,9 @@ fn store_of<'a>(
     Ok(store)
 }
 
-/// Whether FILE may have changed since the opened text was copied from it. A text that counts as changed from the start is not
-/// compared.
+/// Whether FILE may have changed since the opened text was copied from it: then the first save is a fault. Only a text named by
+/// `--text` is compared, and neither one to be recovered nor one that counts as changed from the start. A FILE that cannot be
+/// read may have changed; one that does not exist has not.
 fn is_changed(
     rt: &HostRuntime,
     options: &Options<'_>,
@@ -129,7 +131,8 @@ fn is_changed(
     }
 }
 
-/// Whether FILE is not a text that the replayed session knows. It is read whole, and the session is opened a second time.
+/// Whether FILE holds no text that the replayed session knows, or cannot be read. FILE is read whole, and the session is opened a
+/// second time, and replayed.
 fn is_unknown(
     rt: &HostRuntime,
     options: &Options<'_>,
@@ -195,7 +198,7 @@ fn run<'a, R: Read + Drop, W: Write>(
     reader: R,
     writer: &mut W,
 ) -> Result<(), ProgramFault<'a>> {
-    // before the files are read, so that the first save notices a change by another program in between
+    // made before the files are read, so that the first save notices a change by another program in between
     let mut store = store_of(rt, options)?;
     let mut files = read_files(rt, options, &mut store)?;
     if let Some(text) = options.before {

@@ -1,4 +1,4 @@
-//! What goes to standard error: sentences for a reader, or words for another program. A word ends with NUL.
+//! What goes to standard error: sentences for a reader, or with `--words` words for the host, each of which ends with NUL.
 
 use crate::fault::ProgramFault;
 use crate::look::Look;
@@ -20,11 +20,11 @@ const WORDS: JournalNotes<'static> = JournalNotes {
     kept: "j kept\0",
 };
 
-/// The message when a session with an incomplete journal ends. That alone does not end a session.
+/// The message at the end of a session whose journal is incomplete. A journal that cannot be written does not end a session.
 const LOST: &str =
     "bidi_edit: the journal could not be written, so a crash would have lost what was not saved\n";
 
-/// The notes on a journal.
+/// The notes on a journal, in the form that the options ask for.
 pub fn journal_notes(options: &Options<'_>) -> JournalNotes<'static> {
     if options.words { WORDS } else { SENTENCES }
 }
@@ -36,7 +36,7 @@ pub fn tell_lost_journal(rt: &HostRuntime, options: &Options<'_>) {
     let _ = eprint!(rt; "{note}");
 }
 
-/// Tells how FILE looked before and after it was read; None if it does not exist.
+/// Tells how FILE looked before and after it was read, each None if it did not exist: the look, or that it changed meanwhile.
 pub fn tell_look(rt: &HostRuntime, before: Option<Look>, after: Option<Look>) {
     // if standard error fails, nothing can be reported
     let _ = match after {
@@ -71,7 +71,7 @@ impl fmt::Display for Word<'_> {
     }
 }
 
-/// The exit status after a run. Tells the fault, if any.
+/// Tells the fault, if there is one, as a word if `words` is set, and returns the exit status.
 pub fn finish(rt: &HostRuntime, words: bool, outcome: Result<(), ProgramFault<'_>>) -> ExitCode {
     let Err(fault) = outcome else {
         return ExitCode::SUCCESS;

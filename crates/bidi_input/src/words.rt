@@ -1,4 +1,4 @@
-//! The command line.
+//! The command line: it tells the terminal's own erase character.
 
 ghost use Rattle.std.specs.Prelude.{◌≡◌, map, string_bytes};
 ghost use Rattle.bidi_input.specs.Words.{erase_code, told_by};
@@ -32,7 +32,7 @@ mod tests {
     use super::erases_by_delete;
     use std::test::Fail;
 
-    /// Each word's answer.
+    /// Command lines, and what is told by each.
     const ROWS: &[(&[&str], Option<bool>)] = &[
         (&[], Some(false)),
         (&["--erase", "7f"], Some(true)),

@@ -1,7 +1,7 @@
 //! The keeper of sessions: it decides about words, text, files and sessions for the host, which has the terminal.
 //!
 //! The host starts it without words, and speaks with it over standard input and output. It stays as long as the session, holds
-//! the session's lock, and ends with the pipe to it.
+//! the session's lock, and ends once it has said all, or its standard input has ended.
 #![tactic(auto)]
 
 mod replaying;

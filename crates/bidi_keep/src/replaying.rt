@@ -1,4 +1,4 @@
-//! Replays of a session's keys.
+//! Replays of the keys of a session that was left behind, so that the keeper can recover its text.
 
 ghost use Rattle.std.specs.Prelude.{◌≡◌, true, IfSome};
 ghost use Rattle.bx_terms.specs.Sizes.{is_side};
@@ -17,7 +17,7 @@ use std::io::{self, ErrorKind};
 #[derive(Clone, Copy)]
 struct Fault(ReplayFault);
 
-/// A part of a session is missing, or is none of a session.
+/// The fault where a part of a session is missing, or cannot be of a session.
 const UNREADABLE: Fault = Fault(ReplayFault::Unreadable);
 
 impl From<io::Error> for Fault {
@@ -44,6 +44,7 @@ impl From<FileFault<'_>> for Fault {
     }
 }
 
+// `Unwritten` is of a store in memory, which fails only when memory runs out.
 impl From<RecoveryFault> for Fault {
     fn from(fault: RecoveryFault) -> Self {
         match fault {
@@ -66,7 +67,7 @@ fn unicode_of(rt: &HostRuntime, tables: &Tables) -> Result<UnicodeBytes, Fault> 
     Ok(UnicodeBytes::read(rt, paths)?)
 }
 
-/// A side of a window, if it is one.
+/// The rows or columns of a window; None if they are not from 1 to 500.
 fn side_of(side: u32) -> Option<u16>
     ensures { IfSome result (λ n. is_side n ≡ true) }
 {
@@ -78,7 +79,7 @@ fn bytes_in(around: Around<'_>, session: &Session, part: Part) -> Result<Vec<u8>
     session.read(around.rt, part)?.ok_or(UNREADABLE)
 }
 
-/// FILE's bytes; none where it is not a plain file or cannot be read.
+/// FILE's bytes; no bytes where it is not a plain file or cannot be read.
 fn bytes_of_file(around: Around<'_>, file: &str) -> Vec<u8> {
     match read_plain(around.rt, file) {
         Ok(bytes) => bytes,
@@ -86,7 +87,7 @@ fn bytes_of_file(around: Around<'_>, file: &str) -> Vec<u8> {
     }
 }
 
-/// What FILE has, in the keeper's words.
+/// What FILE holds, as a value of the keeper's type.
 fn found_text(content: FileText) -> FoundText {
     match content {
         FileText::Same => FoundText::Same,
@@ -95,7 +96,7 @@ fn found_text(content: FileText) -> FoundText {
     }
 }
 
-/// Replays a session's keys over its text, and compares FILE with the text, with the opened one and with each saved one.
+/// Replays a session's keys over its text, and compares FILE with the replayed text, with the opened one and with each saved one.
 fn replay_keys(around: Around<'_>, session: &Session, file: &str) -> Result<Replay, Fault> {
     let begin = session.begin(around.rt)?.ok_or(UNREADABLE)?;
     let rows = side_of(begin.rows).ok_or(UNREADABLE)?;

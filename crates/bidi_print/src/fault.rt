@@ -12,11 +12,13 @@ pub enum ProgramFault<'a> {
     /// A line of one of Unicode's files was refused.
     #[error("{0}")]
     Tables(UcdError),
+    /// An input file could not be read.
     #[error("{0}")]
     File(FileFault<'a>),
-    /// The file is not UTF-8; the first bad byte has this offset.
+    /// The file is not UTF-8; the first bad byte has this offset, from 0.
     #[error("not UTF-8 at byte {0}")]
     NotUtf8(usize),
+    /// The text could not be printed.
     #[error("{0}")]
     Print(PrintError),
     #[error("out of memory")]

@@ -33,7 +33,7 @@ fn command<'a>(alloc: Global) -> Result<Command<'a>, AllocError> {
     with_tables(style, alloc)?.arg(Arg::new(alloc, "file").value_name("FILE").required(true))
 }
 
-/// Whether marks are printed, by the flag.
+/// How marks are printed, by the flag `--marks`.
 fn marks_of(matches: &ArgMatches<'_>) -> Marks {
     if matches.get_flag("marks") {
         Marks::Bracketed

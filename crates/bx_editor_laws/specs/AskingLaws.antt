@@ -217,7 +217,7 @@ IsolatesRaise =
 abbrev pub region_chars : Editor → List ℕ
 region_chars e = chars (bytes_in e (region e))
 
--- a PDI right behind these characters is the match (BD9) of an initiator right before them
+-- a PDI right after these characters is the match (BD9) of an initiator right before them
 abbrev pub IsWhole : Data → List ℕ → Type 0
 IsWhole says cs = before_pdi 1 (map says.class cs ++ PDI ∷ []) ≡ Some (length cs)
 

@@ -106,7 +106,7 @@ pub record HasPut (d : Data) (e : Editor) (text : List ℕ) (offset : ℕ) (new 
   pub mark_is : new.mark ≡ None
 
 -- outside a search and a question, copying the region and putting it back at once leaves the text with the region twice, if
--- there is room, and the cursor behind what was put
+-- there is room, and the cursor at the end of what was put
 abbrev pub CopyPutsTwice : Type 0
 CopyPutsTwice =
     (d : Data) (e : Editor) → e.ask ≡ asks.Off → e.seek ≡ Off → IsPart e (region e) → length (twice e (region e)) ≤ largest_text
@@ -153,7 +153,7 @@ only_at place e = record e {
   goal = None;
 }
 
--- TextEnd then TextStart leads to the text's start, TextStart then TextEnd to its end, and all else stays
+-- TextEnd then TextStart leads to the text's start, TextStart then TextEnd to its end; else they change only what any move ends
 pub record ReachesBothEnds (d : Data) (e : Editor) : Type 0 where
   pub start : after_keys d None e (TextEnd ∷ TextStart ∷ []) ≡ only_at 0 e
   pub end : after_keys d None e (TextStart ∷ TextEnd ∷ []) ≡ only_at (length e.content.text) e
@@ -214,13 +214,14 @@ is_on Off = false
 is_on Replacing = false
 is_on _ = true
 
--- a key that finds: while the other text is asked for it begins another search
+-- the keys that find
 abbrev pub finds : Key → Bool
 finds Find = true
 finds FindBack = true
 finds FindNext = true
 finds _ = false
 
+-- whether a key begins another search: one that finds, while the other text is asked for
 abbrev pub begins_anew : Seek → Key → Bool
 begins_anew seek key = asks_other seek && finds key
 

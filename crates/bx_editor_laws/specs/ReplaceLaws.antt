@@ -133,7 +133,7 @@ pub record AreTheMatches (d : Data) (e : Editor) (spans : List (ℕ × ℕ)) : T
 abbrev pub with_all : Editor → List (ℕ × ℕ) → List ℕ
 with_all e spans = take e.at e.content.text ++ swapped e.at e.content.text e.other spans ++ drop (last_stop e.at spans) e.content.text
 
--- each match gives way to the other text once, and what is outside them has not changed
+-- each match gives way to the other text once, and the text outside the matches has not changed
 pub record HasReplacedAll (d : Data) (e : Editor) (spans : List (ℕ × ℕ)) (new : Editor) : Type 0 where
   pub text_is : new.content.text ≡ with_all e spans
   pub place_is : new.place ≡ place_after d e (with_all e spans) (e.at + length (swapped e.at e.content.text e.other spans))

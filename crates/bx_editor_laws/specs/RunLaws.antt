@@ -34,11 +34,12 @@ pub record IsManySteps (d : Data) (e : Editor) (key one : Key) (n : ℕ) (edits 
   pub some : edits ≢ [] → 0 < n
   pub none : edits ≡ [] → after_key d None e key ≡ after_key d None e one
 
+-- both keys that step over a run are such
 pub record RunsAreSteps (d : Data) (e : Editor) : Type 0 where
   pub undo : IsManySteps d e UndoRun Undo (undos e) e.content.past
   pub redo : IsManySteps d e RedoRun Redo (redos e) e.content.future
 
--- UndoRun does what so many presses of Undo do, RedoRun what so many presses of Redo do
+-- UndoRun does what `undos` presses of Undo do, RedoRun what `redos` presses of Redo do, but for `changed`
 abbrev pub RunKeysAreSteps : Type 0
 RunKeysAreSteps = (d : Data) (e : Editor) → RunsAreSteps d e
 

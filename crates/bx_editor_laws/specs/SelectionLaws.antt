@@ -101,7 +101,7 @@ pub record IsRest (d : Data) (e new : Editor) : Type 0 where
 abbrev pub SelectionIsRemoved : Type 0
 SelectionIsRemoved = (d : Data) (e : Editor) (key : Key) → HasSelection e → is_removal key ≡ true → IsRest d e (after_key d None e key)
 
--- the bytes that a key puts in; none if it is no key that types or puts
+-- the bytes that a key puts in; empty for a key that neither types nor puts
 abbrev pub bytes_put : Data → Editor → Key → List ℕ
 bytes_put d e (Insert c) = if (c == 0xA) && is_paste e.typing then line_end d (rest e) else encode_utf8 c
 bytes_put d e NewLine = line_end d (rest e)

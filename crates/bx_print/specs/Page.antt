@@ -8,7 +8,7 @@ use Rattle.bx_view.specs.TextRows.{text_row_glyphs, text_rows}
 use Rattle.bx_print.specs.declared.marks.Marks.{Marks}
 use Rattle.bx_print.specs.declared.marks.Marks.TheVariants.{Bracketed, LeftOut}
 
--- the printed bytes of a mark's letter; 91 and 93 are the brackets
+-- the printed bytes of a mark with this letter; 91 and 93 are `[` and `]`
 abbrev pub mark_bytes : Marks → List ℕ → List ℕ
 mark_bytes LeftOut letter = []
 mark_bytes Bracketed letter = 91 ∷ letter ++ 93 ∷ []
@@ -17,7 +17,7 @@ mark_bytes Bracketed letter = 91 ∷ letter ++ 93 ∷ []
 abbrev pub glyph_bytes : Marks → Glyph → List ℕ
 glyph_bytes marks g = elim (g.negative) [ true ↦ mark_bytes marks g.text | false ↦ g.text ]
 
--- a byte before bytes that end without a blank; a blank before nothing is dropped
+-- a byte before bytes that end without a blank (32); a blank before nothing is dropped
 abbrev pub before : ℕ → List ℕ → List ℕ
 before b [] = if b == 32 then [] else b ∷ []
 before b (c ∷ cs) = b ∷ c ∷ cs
@@ -31,7 +31,7 @@ trimmed (b ∷ bs) = before b (trimmed bs)
 abbrev pub line : Marks → List Glyph → List ℕ
 line marks glyphs = trimmed (flat_map (glyph_bytes marks) glyphs)
 
--- the lines of a text's rows, separated by line feeds
+-- the lines of a text's rows in `w` columns, separated by line feeds (10)
 abbrev pub page : Data → Marks → Base → ℕ → List ℕ → List ℕ
 page says marks base w text =
     join_by (λ r. line marks (text_row_glyphs says w r)) (10 ∷ []) (text_rows says base w text)

@@ -1,4 +1,4 @@
-//! The printed line of a row.
+//! The printed line of a row: its glyphs from left to right as plain bytes, without blanks at the end.
 ghost use Rattle.std.specs.Prelude.{◌≡◌, ◌≤◌, ◌++◌, OnOk, flat_map, length, map, take};
 ghost use Rattle.bx_rows.specs.Shown.{glyph_of};
 ghost use Rattle.bx_print.specs.Page.{glyph_bytes, line, trimmed};

@@ -1,4 +1,4 @@
-//! Writing bytes.
+//! Writes of printed bytes, many at a time.
 ghost use Rattle.std.specs.Prelude.{◌≡◌, ℕ, List, OnErr, OnOk};
 ghost use Rattle.std.specs.Io.KnownBytes.{Appends};
 ghost use Rattle.bx_bytes.specs.Writing.{IsWritten, WritesFront};
@@ -7,7 +7,7 @@ use crate::error::PrintError;
 use bx_bytes::write_all;
 use std::io::Write;
 
-/// The number of pending bytes that triggers a write.
+/// The number of pending bytes at which they are written: so a long text takes few writes and little memory.
 const FULL: usize = 65_536;
 
 /// Writes the pending bytes, and clears them, once there are `FULL` of them.

@@ -1,4 +1,4 @@
-//! Printing a text.
+//! Prints a text, paragraph by paragraph, without a view.
 ghost use Rattle.std.specs.Prelude.{◌≡◌, ◌↔◌, ◌<◌, [], IsErrOf, OnOk, length, string_bytes};
 ghost use Rattle.std.specs.Io.KnownBytes.{Appends};
 ghost use Rattle.bx_text.specs.Edits.{largest_text};
@@ -17,7 +17,7 @@ use bx_view::Source;
 use std::alloc::Global;
 use std::io::Write;
 
-/// Prints the paragraphs of a text, buffered in `pending`.
+/// Prints the paragraphs of a text. Lines wait in `pending`, which is empty at first, until there are many.
 fn print_paragraphs<D: BidiData, W: Write>(
     pending: &mut Vec<u8>,
     source: &Source<'_, D>,

@@ -1,4 +1,4 @@
--- The start of a session from its files.
+-- The start of a session from the bytes of its files: Unicode's, the text and the journal.
 use Rattle.std.specs.Global.{Vec}
 use Rattle.std.specs.Prelude.{◌≡◌, ℕ, List, [], Option, Some, None, option_map, vec_items}
 use Rattle.bx_ucd.specs.Reading.{refusal, class_in_file, bracket_in_file, mirror_in_file, form_if_any, joining_if_any, texts_of}
@@ -11,7 +11,7 @@ use Rattle.bx_session.specs.Painting.{QueuesPicture}
 use Rattle.bx_session.specs.Beginning.{Beginning, at_offset}
 use Rattle.bx_recovery.specs.declared.beginning.Beginning as given
 
--- the tables agree with Unicode's files, which have no bad line
+-- the tables say of each character, by its code, what Unicode's files say; the files have no bad line
 pub record AreOfFiles (d : Data) (files : UnicodeFiles) : Type 0 where
   pub accepted : refusal files.classes.now files.brackets.now files.mirroring.now (texts_of files.joining) ≡ None
   pub classes_are : (code : ℕ) → d.class code ≡ class_in_file files.classes.now code
@@ -25,11 +25,11 @@ abbrev pub bytes_of : Option (Vec ℕ) → List ℕ
 bytes_of None = []
 bytes_of (Some bytes) = vec_items bytes
 
--- the cursor is sent to the start of a line if one is asked for, and not sent otherwise
+-- the offset at which a line, counted from 1, starts; None if no line is asked for: then the cursor is not sent anywhere
 abbrev pub offset_of : List ℕ → Option ℕ → Option ℕ
 offset_of text line = option_map (start_of_line text) line
 
--- the start of a session, with the bytes of its journal
+-- a `Beginning` of `src/beginning.rt` as the definitions of sessions have it
 abbrev pub beginning_of : given.Beginning → Beginning
 beginning_of b = record {
   text = bytes_of b.text;

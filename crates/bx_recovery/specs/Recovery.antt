@@ -1,4 +1,5 @@
--- What an edited file holds beside the replay of a journal, and the text that is recovered.
+-- What an edited file holds, compared with the replay of a journal (`FileText`), and the text that is recovered. Where another
+-- program changed FILE, the text is recovered as a new file.
 use Rattle.std.specs.Prelude.{◌≡◌, ◌≢◌, ◌↔◌, ℕ, Bool, true, false, IsTrue, List, [], ◌∷◌, Contains, length}
 use Rattle.bx_ucd.specs.Data.{Data}
 use Rattle.bx_keys.specs.Keys.{keys_from}
@@ -11,6 +12,7 @@ use Rattle.bx_recovery.specs.declared.replaying.FileText.TheVariants.{Same, Know
 use Rattle.bx_recovery.specs.declared.replaying.Replayed.{Replayed}
 use Rattle.bx_recovery.specs.Beginnings.{AreOfFiles}
 
+-- a text in front of others, if a condition holds
 abbrev pub with_text_if : Bool → List ℕ → List (List ℕ) → List (List ℕ)
 with_text_if true text texts = text ∷ texts
 with_text_if false text texts = texts
@@ -28,7 +30,7 @@ known_texts d s journal = s.editor.content.text ∷ texts_at_saves d s journal
 abbrev pub replayed_text : Data → Session → List ℕ → List ℕ
 replayed_text d s journal = (after_journal d s journal).editor.content.text
 
--- what a file of these bytes holds beside a session that replays a journal
+-- what a file of these bytes holds, compared with the session `s` before and after it replays a journal
 abbrev pub HoldsBeside : Data → Session → List ℕ → List ℕ → FileText → Type 0
 HoldsBeside d s journal file Same = file ≡ replayed_text d s journal
 HoldsBeside d s journal file Known = (file ≢ replayed_text d s journal) × Contains (known_texts d s journal) file
@@ -51,7 +53,7 @@ pub record RecoversFrom (d : Data) (s : Session) (journal file : List ℕ) (repl
   pub holds : HoldsBeside d s journal file replayed.held
   pub keys : s.editor.ended ≡ false → replayed.keys ≡ length (keys_from s.rest journal)
 
--- the text recovered from this start and its journal was stored, by the tables of these files
+-- The text recovered from this start and its journal was stored, by tables that agree with these files; `replayed` as above.
 pub record Recovers (b : Beginning) (files : UnicodeFiles) (file : List ℕ) (replayed : Replayed) (store store' : StoreState) : Type 0 where
   pub tables : Data
   pub answers : AreOfFiles tables files

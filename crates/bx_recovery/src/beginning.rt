@@ -1,4 +1,4 @@
-//! Everything that a session starts from.
+//! Everything that a session starts from, read from its files and from the command line.
 
 ghost use Rattle.std.specs.Prelude.{◌≡◌, true};
 ghost use Rattle.bx_terms.specs.Sizes.{is_side};
@@ -14,18 +14,18 @@ pub struct Beginning<'a> {
     pub alloc: Global,
     /// Unicode's files.
     pub unicode: UnicodeFiles<'a>,
-    /// The text's bytes; none if the file does not exist, which is an empty text.
+    /// The text's bytes; None if the file does not exist, which is an empty text.
     pub text: Option<Vec<u8>>,
-    /// The window's rows and columns.
+    /// The window's rows and columns, each from 1 to 500.
     pub rows: u16,
     pub cols: u16,
     /// The base direction of the paragraphs at first.
     pub direction: Base,
-    /// The cursor's line, from 1.
+    /// The line that the cursor is sent to, from 1; None to leave it at the text's start.
     pub line: Option<u64>,
     /// Whether the text counts as changed from the start.
     pub unsaved: bool,
-    /// The bytes of the journal to replay.
+    /// The bytes of the journal to replay; empty if there is none.
     pub keys: &'a [u8],
     pub ghost has_rows: { is_side rows ≡ true },
     pub ghost has_cols: { is_side cols ≡ true },

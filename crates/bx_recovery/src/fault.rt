@@ -18,6 +18,7 @@ pub enum RecoveryFault {
     /// The recovered text could not be stored.
     #[error("cannot write the recovered text")]
     Unwritten,
+    /// Memory ran out while a key of the journal was applied, or the cursor was sent to its line.
     #[error("out of memory")]
     OutOfMemory,
 }

@@ -1,4 +1,4 @@
-//! Detection of a file that another program changed.
+//! Detection of a file that another program changed since the session whose journal is left.
 
 ghost use Rattle.std.specs.Prelude.{◌≡◌, ◌↔◌, IfOk, IsTrue};
 ghost use Rattle.bx_recovery.specs.Beginnings.{beginning_of};
@@ -9,14 +9,15 @@ use crate::fault::RecoveryFault;
 use crate::opening::open;
 use crate::replaying::{FileText, replay_beside};
 
-/// Whether it is another text that the file holds.
+/// Whether the file holds a text that the session does not know.
 fn is_other(held: FileText) -> bool
     ensures { IsTrue result ↔ (held ≡ FileText.Foreign) }
 {
     matches!(held, FileText::Foreign)
 }
 
-/// Whether a file's bytes differ from the opened text, from the text after the keys, and from the text at each Save among them.
+/// Whether the bytes `file` differ from the opened text, from the text after the journal's keys, and from the text at each Save
+/// among these.
 ///
 /// Errors, in this order: `Tables`; `Open`; `OutOfMemory`.
 pub fn is_foreign(beginning: Beginning<'_>, file: &[u8]) -> Result<bool, RecoveryFault>

@@ -1,4 +1,5 @@
-//! Sessions from their files: a text opened again, the keys of its journal replayed, and what the edited file holds beside it.
+//! Sessions from their files: a text opened again, the keys of its journal replayed, and what the edited file holds compared with
+//! this.
 #![tactic(auto)]
 
 mod beginning;

@@ -1,4 +1,4 @@
-//! The opening of a session.
+//! The opening of a session from its files, without its journal's keys.
 
 ghost use Rattle.std.specs.Prelude.{◌≡◌, IfOk, OnOk};
 ghost use Rattle.bx_session.specs.Beginning.{after_going_to, changed_if};
@@ -10,7 +10,7 @@ use bx_command::start_of_line;
 use bx_session::Session;
 use bx_ucd::{BidiData, Tables};
 
-/// The offset to send the cursor to, if a line is asked for.
+/// The offset at which a line, from 1, starts; None if no line is asked for.
 fn offset_of(text: &[u8], line: Option<u64>) -> Option<usize>
     ensures { result ≡ offset_of text.now line }
 {

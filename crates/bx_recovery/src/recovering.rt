@@ -1,4 +1,4 @@
-//! Recovery of a text from a journal, without a terminal.
+//! Recovery of a text from a journal, without a terminal: the replayed text is stored.
 
 ghost use Rattle.std.specs.Prelude.{◌≡◌, IfOk, OnErr};
 ghost use Rattle.bx_session.specs.Saving.{store_state};
@@ -13,7 +13,7 @@ use bx_session::Session;
 use bx_store::Store;
 use bx_ucd::BidiData;
 
-/// Replays keys, comparing with the file's bytes, and stores the text.
+/// Replays keys in an opened session, compares the bytes `file` with its texts, and stores the replayed text.
 fn store_replayed<D: BidiData + Drop, S: Store>(
     store: &mut S,
     session: &mut Session<D>,
@@ -31,8 +31,8 @@ fn store_replayed<D: BidiData + Drop, S: Store>(
     }
 }
 
-/// Reads Unicode's files, opens a text, replays keys and stores the result. Returns what a file of these bytes holds beside
-/// it.
+/// Reads Unicode's files, opens a text, replays keys and stores the replayed text. Returns what the bytes `file` are, compared
+/// with the session's texts, and the number of keys.
 ///
 /// Errors, in this order: `Tables`; `Open`; `OutOfMemory`; `Unwritten` if the store fails. The store's content is unchanged.
 pub fn recover<S: Store>(

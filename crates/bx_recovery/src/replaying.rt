@@ -1,4 +1,4 @@
-//! Replay of a journal's keys, and what the edited file holds beside it.
+//! Replay of a journal's keys, and what the edited file holds, compared with the texts that the replay goes through.
 
 ghost use Rattle.std.specs.Prelude.{◌≡◌, ◌<◌, ◌+◌, ◌-◌, ◌⊎◌, ◌↔◌, ◌^◌, IfOk, OnErr, OnOk, IsTrue, IsFalse, true, false, length};
 ghost use Rattle.std.specs.Prelude.{option_to_list};
@@ -15,24 +15,27 @@ use bx_session::Session;
 use bx_ucd::BidiData;
 use std::fmt;
 
-/// A file's content, compared with a session replayed over an earlier content of it.
+/// A file's content, compared with a session that is replayed over an earlier content of the file.
 #[derive(Clone, Copy, PartialEq, Eq, Debug)]
 pub enum FileText {
     /// The replayed text.
     Same,
     /// The opened text, or the text at a Save in the journal.
     Known,
-    /// Another text.
+    /// Another text, as of another program.
     Foreign,
 }
 
-/// The result of a replay: the file's content, and the number of keys in the journal.
+/// The result of a replay beside a file.
 #[derive(Clone, Copy, PartialEq, Eq, Debug)]
 pub struct Replayed {
+    /// What the file holds.
     pub held: FileText,
+    /// The number of keys in the journal.
     pub keys: u64,
 }
 
+// The line that `bidi_edit --to` writes.
 impl fmt::Display for Replayed {
     fn fmt<W: fmt::Write>(&self, f: &mut fmt::Formatter<W>) -> fmt::Result {
         let keys = self.keys;
@@ -63,12 +66,12 @@ pub fn replay<D: BidiData + Drop>(
     Ok(())
 }
 
-/// What a replay has met.
+/// What a replay has met so far.
 #[derive(Clone, Copy)]
 struct Met {
     /// Whether the file is the text at the start or at a Save.
     is_known: bool,
-    /// Number of keys.
+    /// The number of keys.
     keys: u64,
 }
 
@@ -79,7 +82,7 @@ fn is_save(key: Key) -> bool
     matches!(key, Key::Save)
 }
 
-/// What a replay has met once it takes the next byte.
+/// What a replay has met once it takes the next byte, which `session` has not read yet.
 fn met_with<D: BidiData + Drop>(met: Met, session: &Session<D>, byte: u8, file: &[u8]) -> Met
     requires { met.keys < 2 ^ 64 - 1 }
     ensures known { IsTrue result.is_known ↔ (IsTrue met.is_known
@@ -95,7 +98,7 @@ fn met_with<D: BidiData + Drop>(met: Met, session: &Session<D>, byte: u8, file: 
     }
 }
 
-/// What a file holds, by whether it is the replayed text, and whether it is a text that the session knows.
+/// What a file holds: `is_same` if it is the replayed text, `is_known` if it is the text at the start or at a Save.
 fn held_by(is_same: bool, is_known: bool) -> FileText
     ensures same { IsTrue is_same → result ≡ FileText.Same }
     ensures known { IsFalse is_same → IsTrue is_known → result ≡ FileText.Known }

@@ -54,6 +54,7 @@ pub record LoggedTurn : Type 0 where
   -- the parts are the bytes fed; those dropped after the session's end are not among them
   pub joined : concat parts ≡ bytes_of turn.fed
 
+-- the appends of parts to the journal, one after another
 abbrev pub appends : List (List ℕ) → List Action
 appends [] = []
 appends (part ∷ parts) = Append part ∷ appends parts

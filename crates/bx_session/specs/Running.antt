@@ -17,6 +17,7 @@ use Rattle.bx_session.specs.Painting.{FeedPaints}
 abbrev pub ByteAnswer : Type 0
 ByteAnswer = ℕ × Result Status Refused
 
+-- the bytes without their answers
 abbrev pub bytes_of : List ByteAnswer → List ℕ
 bytes_of answered = map (λ a. a.0) answered
 
@@ -51,6 +52,7 @@ pub record Turn : Type 0 where
   pub dropped : List ℕ
   pub written : List ℕ
 
+-- the bytes of a turn's read
 abbrev pub read_in : Turn → List ℕ
 read_in turn = bytes_of turn.fed ++ turn.dropped
 
@@ -77,6 +79,7 @@ TakesTurns d old store (turn ∷ more) new store' =
     (mid : Session) × (mid_store : StoreState) × (all : Session) × IsRead old turn all × TakesTurn d old store turn mid mid_store all
     × TakesTurns d mid mid_store more new store'
 
+-- the bytes fed, those dropped, and those written in turns
 abbrev pub fed_in : List Turn → List ByteAnswer
 fed_in [] = []
 fed_in (turn ∷ more) = turn.fed ++ fed_in more
@@ -121,6 +124,7 @@ pub record HasRun (d : Data) (old new : Session) (store store' : StoreState) (re
   pub session : new ≡ record all { pending = new.pending }
   pub in_turns : InTurns d old new store store' answered dropped written
 
+-- a run without a journal: the session, the store, the reader's and the writer's bytes, each before and after it
 abbrev pub Runs : Data → Session → Session → StoreState → StoreState → Option (List ℕ) → Option (List ℕ) → Option (List ℕ) → Option (List ℕ) → Type 0
 Runs d old new store store' reader reader' writer writer' =
     (answered : List ByteAnswer) × (dropped : List ℕ) × (written : List ℕ) × (all : Session)

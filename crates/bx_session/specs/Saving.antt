@@ -17,6 +17,7 @@ pub record StoreState : Type 0 where
   pub contents : Option (List ℕ)
   pub faults : Faults
 
+-- the state of a store of any type, of which these functions give content and failed calls
 abbrev pub store_state : {S : Type 0} → (S → Option (List ℕ)) → (S → Faults) → S → StoreState
 store_state contents faults store = record { contents = contents store; faults = faults store }
 
@@ -30,6 +31,7 @@ abbrev pub SaveEnds : Option StoreFault → List ℕ → StoreState → StoreSta
 SaveEnds None text old new = new ≡ with_text text old
 SaveEnds (Some fault) text old new = (new.contents ≡ old.contents) × (new.faults ≡ with_fault fault old.faults)
 
+-- there is a key, and it is Save
 abbrev pub is_save_key : Option Key → Bool
 is_save_key None = false
 is_save_key (Some key) = is_save key
@@ -43,6 +45,7 @@ abbrev pub StoreAfter : Bool → Option StoreFault → List ℕ → StoreState �
 StoreAfter true fault text old new = SaveEnds fault text old new
 StoreAfter false fault text old new = new ≡ old
 
+-- there is a key, and it is one that may be refused for want of memory
 abbrev pub is_edit_or_move_key : Option Key → Bool
 is_edit_or_move_key None = false
 is_edit_or_move_key (Some key) = is_edit_or_move key

@@ -21,6 +21,7 @@ use Rattle.bx_editor.specs.Picture.{picture, next_top}
 use Rattle.bx_session.specs.declared.status.Status.{Status}
 use Rattle.bx_session.specs.declared.status.Status.TheVariants.{Running, Ended}
 
+-- a session, without Unicode's tables
 pub record Session : Type 0 where
   pub editor : Editor
   -- the offset, in bytes of the text, whose row was last shown first
@@ -72,6 +73,7 @@ with_painting_owed s = record s { painting_owed = true }
 
 -- ---- opening
 
+-- a text is opened in a window of `height` rows and `width` columns, and nothing is painted yet
 abbrev pub before_painting : List ℕ → ℕ → ℕ → Base → Session
 before_painting text height width base = record {
   editor = at_start text height width base;
@@ -83,6 +85,7 @@ before_painting text height width base = record {
   pending = [];
 }
 
+-- a text is opened, and its first picture queued
 abbrev pub at_opening : Data → List ℕ → ℕ → ℕ → Base → Session
 at_opening d text height width base = with_painting d (before_painting text height width base)
 
@@ -107,6 +110,7 @@ session_after_key d fault s key =
     let e = after_key d fault s.editor key in
     record s { editor = e; known = known_after s.known key e }
 
+-- the same for a byte's key, if it completes one
 abbrev pub session_after_any : Data → Option StoreFault → Session → Option Key → Session
 session_after_any d fault s None = s
 session_after_any d fault s (Some key) = session_after_key d fault s key
@@ -144,7 +148,7 @@ abbrev pub after_all_replayed : Data → Editor → List Key → Editor
 after_all_replayed d e [] = e
 after_all_replayed d e (key ∷ keys) = after_all_replayed d (after_replayed d e.ask e.seek e key) keys
 
--- the session after such a key
+-- the session after a key of a journal, in these states of question and search
 abbrev pub session_after_replayed : Data → Ask → Seek → Session → Key → Session
 session_after_replayed d ask seek s Save = record s { editor = after_passed_save s.editor }
 session_after_replayed d asks.Off Off s Quit = record s { editor = after_passed_quit s.editor }
@@ -188,6 +192,7 @@ as_changed s = with_painting_owed (record s { editor = record s.editor { stored 
 abbrev pub unpainted_after_told : Session → ℕ → ℕ → Session
 unpainted_after_told s height width = record s { editor = with_size s.editor height width; known = None }
 
+-- the session is told a size and paints; its painting is refused
 abbrev pub after_told : Data → Session → ℕ → ℕ → Session
 after_told d s height width = with_painting d (unpainted_after_told s height width)
 

@@ -1,4 +1,4 @@
-//! A device in memory, which logs what is done to it: for runs without a terminal, in tests and examples.
+//! A device in memory, which logs what is done to it: for runs without a terminal, as in tests.
 
 ghost use Rattle.std.specs.Prelude.{◌≡◌, [], Some, IfSome, option_map, vec_items};
 ghost use Rattle.bx_session.specs.InMemory.{DidLog};

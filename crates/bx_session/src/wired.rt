@@ -1,4 +1,4 @@
-//! A reader, a recorder and a writer as a device: that of `run_recorded`.
+//! A reader, a recorder and a writer as a device: the device of `run_recorded`.
 
 use crate::device::{Device, DeviceFault};
 use crate::journal::{Journal, Recorder};

@@ -1,4 +1,5 @@
--- Recovery: the replay of a session's bytes.
+-- Recovery: what the replay of a session's bytes gives back. `had` and `old` are of the session that was run, `replayed` is the
+-- one that replays its bytes.
 use Rattle.std.specs.Prelude.{◌≡◌, ◌≢◌, ◌⊎◌, ℕ, true, false, List, [], All, Err, Option, Some, None, IfSome}
 use Rattle.bx_terms.specs.declared.base.Base.{Base}
 use Rattle.bx_keys.specs.Keys.{decoding}
@@ -22,9 +23,9 @@ use Rattle.bx_session.specs.Session.{Session, after_all_replayed, after_replay, 
 abbrev pub RefusesNoKey : List ByteAnswer → Type 0
 RefusesNoKey answered = All (λ (a : ByteAnswer). a.1 ≢ Err refused.Edit) answered
 
--- a replayed session has the other's text with its past and future, its runs, cursor's place, mark, softness, held bytes, query
--- with what it was sought for, the text that replaces matches, direction, kept column, window and unfinished input; and it has not
--- ended
+-- A replayed session has, of the session that was run: text with past and future, runs, cursor's place, mark, softness, held
+-- bytes, query with what it was sought for, the text that replaces matches, direction, kept column, window and unfinished
+-- input. It has not ended.
 pub record HasBack (had replayed : Session) : Type 0 where
   pub content : replayed.editor.content ≡ had.editor.content
   pub runs : replayed.editor.runs ≡ had.editor.runs
@@ -42,8 +43,9 @@ pub record HasBack (had replayed : Session) : Type 0 where
   pub rest : replayed.rest ≡ had.rest
   pub goes_on : replayed.editor.ended ≡ false
 
--- in the middle of a replay also the states of search and question, one of which at most is on, the match that is shown and the
--- number of those that were replaced, the answer, and what the next edit may go on with
+-- In the middle of a replay it has also the states of search and question, of which at most one is on, the place at which the
+-- search began, the match that is shown and the number of those that were replaced, the answer, and what the next edit may go on
+-- with.
 pub record HasBackMidway (had replayed : Session) : Type 0 where
   pub parts : HasBack had replayed
   pub seek : replayed.editor.seek ≡ had.editor.seek
@@ -55,8 +57,9 @@ pub record HasBackMidway (had replayed : Session) : Type 0 where
   pub one : HasOnePrompt had.editor
   pub typing : replayed.editor.typing ≡ had.editor.typing
 
--- The end of a replay changes at most which text counts as stored, and only where the text counts as unchanged: no search is on,
--- nothing is asked, the next edit begins a run, and no undo leads from a changed text to a stored one.
+-- The end of a replay would change nothing here but which text counts as stored, and this only where the text counts as
+-- unchanged: no search is on, nothing is asked, the next edit begins a run, and no undo leads from a changed text to a stored
+-- one.
 pub record IsSettled (e : Editor) : Type 0 where
   pub seek : e.seek ≡ Off
   pub ask : e.ask ≡ asks.Off
@@ -65,21 +68,21 @@ pub record IsSettled (e : Editor) : Type 0 where
 
 -- the state after a replay of a session's bytes
 pub record RecoveryGivesBack : Type 0 where
-  -- over the opened text, if no key was refused, they restore the session, wherever it saved and even if it quit
+  -- replayed over the opened text, the bytes restore the session, if no key was refused, wherever it saved and even if it quit
   pub gives_back : (d : Data) (text : List ℕ) (height width : ℕ) (base : Base) (store store' : StoreState) (answered : List ByteAnswer)
       (new : Session) → FeedsAll d (at_opening d text height width base) store answered new store' → RefusesNoKey answered
       → HasBack new (after_journal d (at_opening d text height width base) (bytes_of answered))
-  -- the same from any start at which the two sessions agree, in a search or a question too: such a start comes after the cursor was sent to
-  -- a line, or after a recovery from a journal that leaves the editor settled
+  -- the same from any start at which the two sessions agree, in a search or a question too: such a start comes after the cursor
+  -- was sent to a line, or after a recovery from a journal that leaves the editor settled
   pub keeps_up : (d : Data) (old replayed : Session) (store store' : StoreState) (answered : List ByteAnswer) (new : Session)
       → HasBackMidway old replayed → FeedsAll d old store answered new store' → RefusesNoKey answered
       → HasBackMidway new (after_replaying d replayed (bytes_of answered))
   -- the end of the replay ends a search or a question and changes none of these parts
   pub ends : (new replayed : Session) → HasBackMidway new replayed → HasBack new (at_replay_end replayed)
-  -- before any key of a journal the editor is settled, and so it is behind each Save
+  -- before any key of a journal the editor is settled, and so it is after each Save
   pub settled_first : (d : Data) (b : Beginning) → IsSettled (at_offset d b).editor
   pub save_settles : (d : Data) (s : Session) (byte : ℕ) → key_of_byte s byte ≡ Some Save → IsSettled (after_replay d s byte).editor
-  -- in every case they apply all their keys as a replay does, even those that the session refused
+  -- in every case the replay applies all keys of the bytes, even those that the session refused
   pub applies_all : (d : Data) (text : List ℕ) (height width : ℕ) (base : Base) (bytes : List ℕ)
       → (after_replaying d (at_opening d text height width base) bytes).editor
       ≡ after_all_replayed d (at_start text height width base) (decoding bytes).keys
@@ -95,15 +98,16 @@ pub record HasAll {J : Type 0} (contents : J → Option (List ℕ)) (recorder : 
 abbrev pub IsKnown : List ℕ → StoreState → Editor → Type 0
 IsKnown text store e = e.changed ≡ false → (e.content.text ≡ text) ⊎ IfSome store.contents (λ stored. stored ≡ e.content.text)
 
--- Whether a session counts as changed, and its replay over this text: the replay counts as changed wherever the session does. It
--- counts as unchanged only with the opened text and no past: no key edited, or an undo of a run led back.
+-- A replay of a session over this text counts as changed wherever the session does. It counts as unchanged only with the opened
+-- text and no past: no key edited, or an undo of a run led back.
 pub record TellsChanges (text : List ℕ) (store : StoreState) (had replayed : Session) : Type 0 where
   pub changed : had.editor.changed ≡ true → replayed.editor.changed ≡ true
   pub unchanged : replayed.editor.changed ≡ false → (replayed.editor.content.text ≡ text) × (replayed.editor.content.past ≡ [])
   pub known : IsKnown text store had.editor
 
--- A run from this start, whose journal had the bytes that were replayed and left the editor settled, and then has `bytes`. If none
--- is missing and no key was refused, their replay over the opened text restores the session, whatever was typed behind its end.
+-- A run starts from `b`: its journal had the bytes that were replayed, which left the editor settled; after the run it has
+-- `bytes`. If none is missing and no key was refused, a replay of `bytes` over the opened text restores the session, whatever
+-- was typed after its end.
 abbrev pub JournalsGiveBack : {J : Type 0} → (J → Option (List ℕ)) → (J → ℕ) → Type 0
 JournalsGiveBack {J} contents failures =
     (d : Data) (b : Beginning) (new : Session) (store store' : StoreState) (reader reader' writer writer' : Option (List ℕ))

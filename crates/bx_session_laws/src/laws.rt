@@ -27,15 +27,15 @@ pub fn replays_apply_keys()
     ensures { ReplaysKeys }
 {}
 
-/// A session's bytes, replayed over its opened text, restore text, history, runs, place, mark and its softness, held bytes, query,
-/// direction, window and unfinished input, wherever it saved and even if it quit. A key that the session refused when memory ran
-/// out is applied by the replay.
+/// A session's bytes, replayed over its opened text, restore text, history, runs, place, mark and its softness, held bytes,
+/// query, other text, direction, kept column, window and unfinished input, wherever it saved and even if it quit, unless it
+/// refused a key for want of memory: such a key is applied by the replay.
 pub fn recovery_gives_back()
     ensures { RecoveryGivesBack }
 {}
 
-/// The bytes of a journal that lacks none, replayed over the opened text, restore the session that was run with it, as
-/// [`recovery_gives_back`] says. Keys typed behind the session's end do not come back. The session counts as changed wherever it
+/// The bytes of a journal that has all of the input, replayed over the opened text, restore the session that was run with it, as
+/// [`recovery_gives_back`] says. Keys typed after the session's end do not come back. The session counts as changed wherever it
 /// did before.
 pub fn journals_give_back<J: Journal + Drop>()
     ensures { JournalsGiveBack J.contents J.failure_count }

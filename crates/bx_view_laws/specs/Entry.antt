@@ -1,4 +1,4 @@
--- The slot by which a row is entered in a column, and the place that a move by rows leads to.
+-- The slot by which a row is entered in a column, and the place that a move by rows leads to. Columns count from 1.
 use Rattle.std.specs.Prelude.{◌≡◌, ◌≢◌, ◌⊎◌, ℕ, ◌+◌, ◌<◌, ◌≤◌, true, false, List, length, All, Contains}
 use Rattle.bx_paragraph.specs.declared.slot.Slot.{Slot}
 use Rattle.bx_paragraph.specs.Slots.{covers, row_slots}
@@ -6,12 +6,13 @@ use Rattle.bx_view.specs.declared.moves.Vertical.{Vertical}
 use Rattle.bx_view.specs.Moves.{row_away, rows_away}
 use Rattle.bx_view.specs.TextRows.{TextRow, cell_of, row_at, row_of}
 
--- a slot covers the column, and no other one does
+-- the slot `s` covers the column, and no slot of another place does
 pub record Covers (slots : List Slot) (column : ℕ) (s : Slot) : Type 0 where
   pub is_covered : covers column s ≡ true
   pub alone : All (λ t. covers column t ≡ true → t.offset ≡ s.offset) slots
 
--- No slot covers the column. The slot is the last of those at or before the column, or the first if all are after it.
+-- No slot covers the column. The slot `s` is the rightmost of those at or left of the column, or the leftmost if all are right
+-- of it.
 pub record IsNearest (slots : List Slot) (column : ℕ) (s : Slot) : Type 0 where
   pub uncovered : All (λ t. covers column t ≡ false) slots
   pub last : All (λ t. t.column ≤ column → (t.column ≤ s.column) × (s.column ≤ column)) slots
@@ -24,8 +25,8 @@ pub record IsEntry (w : ℕ) (r : TextRow) (column place : ℕ) : Type 0 where
   pub place_is : r.start + slot.offset ≡ place
   pub enters : Covers (row_slots w r.row) column slot ⊎ IsNearest (row_slots w r.row) column slot
 
--- A move by rows to another row enters it in the given column; Up, Down and the pages take that of the place's cell, which
--- is one of the window's. A move to the place's own row stays.
+-- A move by rows to another row enters it in the given column; Up, Down and the pages give the column of the place's cell, which
+-- is one of the window's. A move to the place's own row stays at the place.
 pub record RowsGoOn (w : ℕ) (rows : List TextRow) : Type 0 where
   pub own : (place : ℕ) → (1 ≤ cell_of w rows place) × (cell_of w rows place ≤ w)
   pub enters : (way : Vertical) (n column place k : ℕ) → 1 ≤ column → column ≤ w → k ≡ row_away (length rows) way n (row_of rows place)

@@ -1,4 +1,4 @@
-//! Laws of places and of scrolling. The functions are empty: their contracts are the laws.
+//! Laws of places, moves and scrolling, for any text in any window. The functions are empty: their contracts are the laws.
 
 ghost use Rattle.std.specs.Prelude.{◌≡◌, ℕ, List, IsUtf8};
 ghost use Rattle.bx_ucd.specs.Data.{Data};
@@ -41,7 +41,7 @@ pub fn rows_go_on()
     ensures { InEachWindow (λ says text w rows. RowsGoOn w rows) }
 {}
 
-/// The numbers that are shown for a place lead back to it, and any two numbers lead to a place.
+/// The numbers of its paragraph and unit that are shown for a place lead back to it, and any two such numbers lead to a place.
 pub fn numbers_lead_back()
     ensures back { InEachWindow LeadBack }
     ensures places { (says : Data) (text : List ℕ) → IsUtf8 text → LeadToPlaces says text }

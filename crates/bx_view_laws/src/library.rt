@@ -1,6 +1,5 @@
-//! The rows of a text by their numbers, the slots of a row, and the top. The editor does not run these,
-//! it goes from row to row by `RowAt`, and asks `locate` once for each picture. With them `bx_view` serves by itself
-//! as a library.
+//! The rows of a text by their numbers, the slots of a row, and the top: with these calls `bx_view` serves by itself as a
+//! library. The editor does not run them: it goes from row to row by `RowAt`, and asks `locate` once for each picture.
 ghost use Rattle.std.specs.Prelude.{◌≡◌, ℕ, ◌+◌, ◌^◌, ◌<◌, ◌≤◌, true, All, IfOk, IsUtf8, length, map, option_map, slice_get, slice_range};
 ghost use Rattle.std.specs.Str.{IsCharBoundary};
 ghost use Rattle.bx_terms.specs.Sizes.{is_side};
@@ -22,7 +21,7 @@ use bx_ucd::BidiData;
 use bx_view::{Source, View, ViewError, current_span};
 use std::alloc::{AllocError, Global};
 
-/// The row starts of the walk's current paragraph, as offsets of its body.
+/// The row starts of the walk's current paragraph in a window of `w` columns, as offsets of its body.
 fn starts_in<D: BidiData>(
     alloc: Global,
     source: &Source<'_, D>,
@@ -41,7 +40,7 @@ fn starts_in<D: BidiData>(
     Ok(starts)
 }
 
-/// The number of rows of the paragraphs before paragraph `number`.
+/// The number of rows of the paragraphs before paragraph `number`, from 0, in a window of `w` columns.
 fn rows_before<D: BidiData>(
     alloc: Global,
     source: &Source<'_, D>,
@@ -64,7 +63,7 @@ fn rows_before<D: BidiData>(
     Ok(ahead)
 }
 
-/// The slots' offsets in the text. Their body begins at the offset `start`.
+/// The offsets of slots in the text, in which their body begins at the offset `start`.
 fn in_text(alloc: Global, start: usize, slots: &[Slot]) -> Result<Vec<usize>, AllocError>
     requires { All (λ s. start + s.offset < 2 ^ 64) slots.now }
     ensures { IfOk result (λ v. v.items ≡ map (λ o. start + o) (map (λ s. s.offset) slots.now)) }
@@ -106,7 +105,7 @@ pub fn row_of<D: BidiData>(
     Ok(ahead + at.row)
 }
 
-/// The first offset of row `row`, from 0, if the text has that row. Wraps the paragraphs up to it.
+/// The first offset of row `row`, from 0; None if the text has fewer rows. Wraps the paragraphs up to it.
 pub fn first<D: BidiData>(
     alloc: Global,
     view: &View,

@@ -16,20 +16,22 @@ use Rattle.bx_world.specs.declared.step.Step.TheVariants.{Byte, Window, Told, Se
 use Rattle.bx_world.specs.declared.step.StepFault.{StepFault}
 use Rattle.bx_world.specs.declared.step.StepFault.TheVariants as faults
 
+-- what a schedule's step does to the editor
 pub data Event : Type 0 where
   -- a byte of input before the session's end, with the key that it completes, if any; whether the key was applied, and
-  -- the fault of its Save, none if that succeeded
+  -- why its save failed, if it is a Save that failed, else None
   Input : (byte : ℕ) (key : Option Key) (applied : Bool) (fault : Option StoreFault) → Event
   -- the session was told a size, in rows and columns
   Telling : (height width : ℕ) → Event
 
 -- ---- the effect of events on an editor and a store
 
--- a key that was refused changes nothing
+-- the editor after a byte of input: a byte that completes no key, and a key that was refused, change nothing
 abbrev pub after_input : Data → Bool → Option StoreFault → Editor → Option Key → Editor
 after_input d applied fault e None = e
 after_input d applied fault e (Some key) = if applied then after_key d fault e key else e
 
+-- the editor after an event, and after events in order
 abbrev pub after_event : Data → Editor → Event → Editor
 after_event d e (Input byte key applied fault) = after_input d applied fault e key
 after_event d e (Telling height width) = with_size e height width
@@ -43,15 +45,17 @@ abbrev pub after_save_of : List ℕ → Option StoreFault → StoreState → Sto
 after_save_of text None store = with_text text store
 after_save_of text (Some fault) store = record store { faults = with_fault fault store.faults }
 
+-- the store after an event, before which the editor is `e`: only a Save changes it
 abbrev pub stored_after : Editor → StoreState → Event → StoreState
 stored_after e store (Input byte key applied fault) = if is_save_key key then after_save_of e.content.text fault store else store
 stored_after e store (Telling height width) = store
 
--- each save with the text at that moment
+-- the store after events in order: each save is of the text at that moment
 abbrev pub stored_after_all : Data → Editor → StoreState → List Event → StoreState
 stored_after_all d e store [] = store
 stored_after_all d e store (event ∷ more) = stored_after_all d (after_event d e event) (stored_after e store event) more
 
+-- the number of saves that failed
 abbrev pub failed_saves : List Event → ℕ
 failed_saves [] = 0
 failed_saves (Input byte key applied fault ∷ more) = if is_save_key key && is_some fault then suc (failed_saves more) else failed_saves more
@@ -59,6 +63,7 @@ failed_saves (Telling height width ∷ more) = failed_saves more
 
 -- ---- the input of events, and its keys
 
+-- the bytes of input, and the keys that they complete
 abbrev pub input_of : List Event → List ℕ
 input_of [] = []
 input_of (Input byte key applied fault ∷ more) = byte ∷ input_of more
@@ -69,7 +74,7 @@ keys_of [] = []
 keys_of (Input byte key applied fault ∷ more) = option_to_list key ++ keys_of more
 keys_of (Telling height width ∷ more) = keys_of more
 
--- the bytes of input of a schedule
+-- the byte of input of a step, if it is one, and those of a schedule
 abbrev pub byte_of : Step → List ℕ
 byte_of (Byte b) = b ∷ []
 byte_of (Told height width) = []
@@ -94,7 +99,7 @@ HasKeysOfAll journal events = (front back : List Event) → events ≡ front ++ 
 
 -- ---- the events of a schedule
 
--- a byte's key was applied, unless there was no memory to apply it
+-- whether a byte's key was applied: unless there was no memory to apply it; a key whose painting was refused is applied
 abbrev pub is_applied : {A : Type 0} → Result A StepFault → Bool
 is_applied (Err (faults.Session refused.Edit)) = false
 is_applied _ = true

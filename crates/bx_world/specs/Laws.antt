@@ -1,4 +1,5 @@
--- A run is a schedule of its session's world. So the contracts of schedules apply to the program.
+-- Laws of runs in a world. A run is a schedule of its session's world, so the contracts of schedules apply to the program. Names
+-- without a prime are of before a run, those with one of after it.
 use Rattle.std.specs.Prelude.{◌≡◌, ℕ, true, List, [], ◌∷◌, ◌++◌, length, Option, Ok}
 use Rattle.bx_keys.specs.Keys.{decoding}
 use Rattle.bx_grid.specs.Picture.{IsIdle, Shows}

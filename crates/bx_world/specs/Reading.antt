@@ -1,4 +1,4 @@
--- The bytes that the terminal reads in a schedule, and when a promised picture is seen.
+-- The bytes that the terminal reads in a schedule, and when a picture that is queued is seen, also in the middle of a schedule.
 use Rattle.std.specs.Prelude.{◌≡◌, ℕ, Bool, true, false, ◌||◌, List, [], ◌∷◌, ◌++◌, length, take, Result, IfSome}
 use Rattle.bx_grid.specs.Picture.{Shows}
 use Rattle.bx_ucd.specs.Data.{Data}
@@ -25,7 +25,7 @@ PlaysReading d old store (s ∷ more) new store' read =
     (mid : World) × (mid_store : StoreState) × (others : List ℕ) × StepsTo d old store s.0 s.1 mid mid_store × (read ≡ read_at old s.0 ++ others)
     × PlaysReading d mid mid_store more new store' others
 
--- the window was resized
+-- whether a step resized the window
 abbrev pub is_change : {A : Type 0} → Step → Result A StepFault → Bool
 is_change (Window height width) answer = is_ok answer
 is_change (Byte b) answer = false
@@ -33,6 +33,7 @@ is_change (Told height width) answer = false
 is_change (Send count) answer = false
 is_change (Read count) answer = false
 
+-- whether a step of a schedule did
 abbrev pub is_window_changed : {A : Type 0} → List (Step × Result A StepFault) → Bool
 is_window_changed [] = false
 is_window_changed (s ∷ more) = is_change s.0 s.1 || is_window_changed more

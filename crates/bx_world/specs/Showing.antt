@@ -41,21 +41,23 @@ CursorStands d s = s.painting_owed ≡ false → s.editor.ended ≡ false → St
 
 -- ---- the invariant of all steps
 
--- a sequence is half read
+-- the bytes begin with ESC, as a control sequence does
 abbrev pub begins_sequence : List ℕ → Bool
 begins_sequence [] = false
 begins_sequence (b ∷ rest) = b == 0x1B
 
--- an escape ends a run, so there is no run while a sequence is half read
+-- ESC ends a terminal's run of characters, so there is none while a sequence is half read
 abbrev pub NoRunInSequence : Terminal → Type 0
 NoRunInSequence t = begins_sequence t.half_read ≡ true → t.run ≡ []
 
+-- the terminal, or the editor, has these rows and columns
 abbrev pub HasSize : ℕ → ℕ → Terminal → Type 0
 HasSize height width t = (t.height ≡ height) × (t.width ≡ width)
 
 abbrev pub FitsWindow : ℕ → ℕ → Editor → Type 0
 FitsWindow height width e = (e.height ≡ height) × (e.width ≡ width)
 
+-- the world, wherever steps led it
 pub record IsInStep (d : Data) (w : World) : Type 0 where
   -- unless a painting is owed, the picture last painted is the state's, and the screen is assumed to show it
   pub state : ShowsState d w.session

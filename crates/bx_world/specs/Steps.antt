@@ -16,7 +16,7 @@ use Rattle.bx_world.specs.World.{World, with_byte, with_told_size, after_window,
 
 -- ---- one step
 
--- a byte; `fault`: that of a Save, none if it succeeded
+-- the world after a byte, by the answer; `fault`: why a Save failed, None if it succeeded
 abbrev pub AfterByteStep : {A : Type 0} → Data → Option StoreFault → World → ℕ → Result A StepFault → World → Type 0
 AfterByteStep d fault old b (Ok _) new = new ≡ with_byte old b (after_byte d fault old.session b)
 AfterByteStep d fault old b (Err (faults.Session refused.Paint)) new =
@@ -27,6 +27,7 @@ AfterByteStep d fault old b (Err (faults.Session refused.Size)) new = ⊥
 AfterByteStep d fault old b (Err (faults.Screen _)) new = ⊥
 AfterByteStep d fault old b (Err faults.Line) new = ⊥
 
+-- the world after the session was told a size, by the answer
 abbrev pub AfterToldStep : {A : Type 0} → Data → World → ℕ → ℕ → Result A StepFault → World → Type 0
 AfterToldStep d old height width (Ok _) new =
     (is_size height width ≡ true) × (new ≡ with_told_size old height width (after_told d old.session height width))
@@ -37,7 +38,7 @@ AfterToldStep d old height width (Err (faults.Session refused.Edit)) new = ⊥
 AfterToldStep d old height width (Err (faults.Screen fault)) new = ⊥
 AfterToldStep d old height width (Err faults.Line) new = ⊥
 
--- a failed terminal answers `OutOfMemory`, whatever the size
+-- the world after the window got a size, by the answer; a failed terminal answers `OutOfMemory`, whatever the size
 abbrev pub AfterWindowStep : {A : Type 0} → World → ℕ → ℕ → Result A StepFault → World → Type 0
 AfterWindowStep old height width (Ok _) new = (is_size height width ≡ true) × IsSome old.screen × (new ≡ after_window old height width)
 AfterWindowStep old height width (Err (faults.Screen grid.SizeOutOfRange)) new =
@@ -47,15 +48,15 @@ AfterWindowStep old height width (Err (faults.Screen grid.OutOfMemory)) new =
 AfterWindowStep old height width (Err (faults.Session fault)) new = ⊥
 AfterWindowStep old height width (Err faults.Line) new = ⊥
 
--- a count beyond the pending bytes sends all of them
+-- the world after pending bytes went to the line, by the answer; a count beyond the pending bytes sends all of them
 abbrev pub AfterSendStep : {A : Type 0} → World → ℕ → Result A StepFault → World → Type 0
 AfterSendStep old count (Ok _) new = new ≡ after_send old count
 AfterSendStep old count (Err faults.Line) new = new ≡ old
 AfterSendStep old count (Err (faults.Session fault)) new = ⊥
 AfterSendStep old count (Err (faults.Screen fault)) new = ⊥
 
--- A count beyond the line reads all of it. A read of no byte is answered Ok, even by a failed terminal. If the terminal
--- runs out of memory, the bytes of the read are off the line.
+-- The world after the terminal read from the line, by the answer. A count beyond the line reads all of it. A read of no byte is
+-- answered Ok, even by a failed terminal. If the terminal runs out of memory, the bytes of the read are off the line.
 abbrev pub AfterReadStep : {A : Type 0} → World → ℕ → Result A StepFault → World → Type 0
 AfterReadStep old count (Ok _) new = (take count old.line ≢ [] → IsSome old.screen) × (new ≡ after_read old count)
 AfterReadStep old count (Err (faults.Screen grid.OutOfMemory)) new =

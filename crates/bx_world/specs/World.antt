@@ -13,17 +13,17 @@ pub record World : Type 0 where
   -- the window's rows and columns
   pub height : ℕ
   pub width : ℕ
-  -- the terminal; none once it has run out of memory
+  -- the terminal; None once it has run out of memory
   pub screen : Option Terminal
   -- the session was told the window's last size
   pub told : Bool
 
--- a world and its session's tables
+-- the value of a `World` (`src/world.rt`): a world and the tables of its session
 pub record WorldState (D : Type 0) : Type 0 where
   pub tables : D
   pub world : World
 
--- a terminal with unknown content
+-- a terminal of this size, in rows and columns, with unknown content
 abbrev pub unknown_terminal : ℕ → ℕ → Terminal
 unknown_terminal height width = record {
   height = height;
@@ -52,6 +52,7 @@ unread w = w.line ++ w.session.pending
 
 -- ---- told sizes
 
+-- the window has these rows and columns
 abbrev pub is_window : World → ℕ → ℕ → Bool
 is_window w height width = (w.height == height) && (w.width == width)
 
@@ -60,6 +61,7 @@ abbrev pub told_after : ℕ → ℕ → Bool → Option Key → Bool
 told_after height width told (Some (Size rows columns)) = (height == rows) && (width == columns)
 told_after height width told _ = told
 
+-- the same in this world
 abbrev pub told_after_key : World → Option Key → Bool
 told_after_key w key = told_after w.height w.width w.told key
 
@@ -73,6 +75,7 @@ with_told_size w height width s = record w { session = s; told = is_window w hei
 
 -- ---- the window, the line and the terminal
 
+-- the window gets a size, which the session is not told yet; the terminal, unless it has failed, resizes
 abbrev pub after_window : World → ℕ → ℕ → World
 after_window w height width = record w {
   height = height;
@@ -81,11 +84,11 @@ after_window w height width = record w {
   told = false;
 }
 
--- the first pending bytes go to the line
+-- the first `count` pending bytes, or all, go to the line
 abbrev pub after_send : World → ℕ → World
 after_send w count = record w { session = after_sending w.session count; line = w.line ++ take count w.session.pending }
 
--- the terminal reads the first bytes of the line
+-- the terminal reads the first `count` bytes of the line, or all
 abbrev pub after_read : World → ℕ → World
 after_read w count = record w { line = drop count w.line; screen = option_map (λ t. reads t (take count w.line)) w.screen }
 

@@ -1,4 +1,4 @@
-//! Laws of runs and worlds. The functions are empty: their contracts are the laws.
+//! Laws that bring runs into worlds, so that the screen of a run is right. The functions are empty: their contracts are the laws.
 
 ghost use Rattle.bx_world.specs.Laws.{BeginsWithKeys, HeadlineInChangingWindows, HeadlineOfRuns, RunsArePlays, TurnsArePlays};
 

@@ -1,4 +1,4 @@
-//! Running a whole schedule.
+//! Playing a whole schedule: the call with the promise that the screen is right.
 
 ghost use Rattle.std.specs.Prelude.{◌≡◌, ◌≤◌, ℕ, List, [], Bool, IfOk, OnErr, length, not, vec_capacity};
 ghost use Rattle.std.specs.List.{zip};

@@ -1,4 +1,4 @@
-//! One step of the world.
+//! One step of the world: a byte, a size of the window or told to the session, a send to the line, a read from it.
 
 ghost use Rattle.std.specs.Prelude.{◌≡◌, ◌≢◌, ◌≤◌, ◌++◌, ◌==◌, ◌&&◌, [], true, false, Option, IsSome, OnErr, OnOk, drop, length, option_map, take};
 ghost use Rattle.bx_grid.specs.Terminal.{reads};
@@ -19,14 +19,14 @@ use bx_store::Store;
 use bx_terminal::Screen;
 use bx_ucd::BidiData;
 
-/// Whether a window has this many rows and columns.
+/// Whether a window of `height` rows and `width` columns has the size `rows` and `columns`.
 fn is_window(height: u16, width: u16, rows: u16, columns: u16) -> bool
     ensures { result ≡ (height == rows) && (width == columns) }
 {
     height == rows && width == columns
 }
 
-/// Whether the session was told the window's last size, after a byte; `told`: before the byte.
+/// Whether the session was told the window's last size, `height` rows and `width` columns, after a byte; `told`: before the byte.
 fn is_told_after<D: BidiData + Drop>(
     session: &Session<D>,
     height: u16,
@@ -42,7 +42,7 @@ fn is_told_after<D: BidiData + Drop>(
     }
 }
 
-/// Sets the flag `told` after a call that was accepted, or that ran out of memory only while painting.
+/// Sets the flag `told` to `after` if a call was accepted, or ran out of memory only while painting.
 fn mark_after<A>(told: &mut bool, after: bool, answer: &Result<A, Refused>)
     ensures { told.new ≡ answers.mark_after told.old after answer.now }
 {

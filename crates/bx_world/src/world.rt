@@ -1,4 +1,4 @@
-//! The world's state.
+//! The world's state, and what can be read of it.
 
 ghost use Rattle.std.specs.Prelude.{◌≡◌, ◌≤◌, ◌↔◌, true, false, IfErr, IfOk, IsTrue, IsUtf8, OnOk, length};
 ghost use Rattle.bx_terms.specs.Sizes.{largest_text};
@@ -21,14 +21,16 @@ use std::marker::Model;
 /// has read all bytes in transit shows the picture last painted, if the session was told the window's last size.
 #[derive(Drop)]
 pub struct World<D: BidiData + Drop> {
+    // the session, whose pending bytes go to the line
     pub(crate) session: Session<D>,
-    // bytes sent and not yet read
+    // the bytes sent to the terminal and not yet read by it
     pub(crate) line: Vec<u8>,
     // the window's rows and columns
     pub(crate) height: u16,
     pub(crate) width: u16,
+    // the terminal, which fails for good once memory runs out for it
     pub(crate) screen: Screen,
-    // the session was told the window's last size
+    // whether the session was told the window's last size
     pub(crate) told: bool,
 }
 
@@ -61,7 +63,8 @@ impl<D: BidiData + Drop> Model for World<D> {
 }
 
 impl<D: BidiData + Drop> World<D> {
-    /// Opens a file's bytes in a window of this size, with an empty line. An error drops the bytes and the tables.
+    /// Opens a file's bytes in a window of `height` rows and `width` columns, with an empty line and a terminal of unknown
+    /// content. An error drops the bytes and the tables.
     ///
     /// Errors, in this order: `TooLong` above 16,777,216 bytes; `NotUtf8` with the length of the longest UTF-8 prefix;
     /// `SizeOutOfRange` if a side is not from 1 to 500; `OutOfMemory`.
@@ -131,7 +134,8 @@ impl<D: BidiData + Drop> World<D> {
         }
     }
 
-    /// The invariant of all steps: the terminal will show the picture last painted.
+    /// The invariant of all steps: the terminal will show the picture last painted. It does nothing: a call brings the invariant
+    /// into a proof.
     pub(crate) fn keep_up(&self)
         ensures in_step { IsInStep (D.data self.now.tables) self.now.world }
     {

@@ -53,7 +53,7 @@ fn run_over<R: Read, W: Write>(
     )
 }
 
-/// The outcome of a run over a file's bytes and the bytes of keys.
+/// The outcome of a run over a file's bytes and the bytes of keys. In these `\x11` is Quit.
 fn outcome(alloc: Global, file: &[u8], mut keys: &[u8]) -> Result<Changes, ProgramFault<'static>> {
     let file = Vec::from_slice(alloc, file)?;
     run_over(alloc, Some(file), &mut keys, &mut Vec::new(alloc))
@@ -124,11 +124,13 @@ fn a_file_that_is_not_there_is_an_empty_text(rt: HostRuntime) -> Result<(), Fail
     let mut written = Vec::new(rt.alloc());
     let outcome = run_over(rt.alloc(), None, &mut b"".as_slice(), &mut written);
     assert_eq!(rt; outcome, Ok(Changes::Saved));
+    // normal rendition, a cleared screen, and the cursor in its first cell
     assert_eq!(rt; written.as_slice(), b"\x1b[0m\x1b[2J\x1b[1;1H".as_slice());
     Ok(())
 }
 
-/// What the program says of lines of its tables.
+/// Unicode files of which one has a bad line, with the sentence about the first one that the program tells. A later bad line
+/// stands in some, which must not be told.
 fn refused_lines() -> [(UnicodeFiles<'static>, &'static str); 11] {
     [
         (three("0041", "", ""), "classes line 1: bad line"),

@@ -1,4 +1,4 @@
-//! Lines and exit statuses of faults.
+//! The lines and the exit statuses of faults.
 
 use crate::fault::ProgramFault;
 use crate::telling::finish;
@@ -9,7 +9,7 @@ use bx_store::StoreFault;
 use std::process::ExitCode;
 use std::test::Fail;
 
-/// The lines of all faults, in the order of the test.
+/// The lines of all kinds of faults, in the order in which the test makes them.
 const LINES: &str = "\
 bidi_edit: cannot read 'a path'\n\
 bidi_edit: out of memory\n\

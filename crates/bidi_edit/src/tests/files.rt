@@ -1,4 +1,4 @@
-//! The order in which the program reads its files.
+//! The order in which the program reads its files. A path `not here` leads to no file, and `/` to a folder, which cannot be read.
 
 use crate::fault::ProgramFault;
 use crate::program;
@@ -161,6 +161,7 @@ fn files_are_read_before_lines_are_refused(rt: HostRuntime) -> Result<(), Fail> 
 
 #[test]
 fn a_file_without_end_is_too_long(rt: HostRuntime) -> Result<(), Fail> {
+    // one byte more than the longest text is read, enough to know that the file is too long
     let text = text_of(&rt, "/dev/zero")?;
     assert_eq!(rt; text.map(|bytes| bytes.len()), Some(16_777_217));
     let outcome = outcome(&rt, three(EMPTY, EMPTY, EMPTY), "/dev/zero");

@@ -11,6 +11,7 @@ use std::alloc::Global;
 use std::io::{self, ErrorKind, Read, Write};
 use std::test::Fail;
 
+/// The start of a session of that text with the bytes of a journal. In these `\x13` is Save, and `\x11` Quit.
 fn beginning<'a>(alloc: Global, keys: &'a [u8]) -> Result<Beginning<'a>, Fail> {
     Ok(Beginning {
         alloc,
@@ -92,7 +93,7 @@ impl Read for Pairs<'_> {
     }
 }
 
-/// A journal that refuses its first `refused` writes, then has room for `room` bytes, and takes at most two at a time.
+/// A journal, `bytes`, that refuses its next `refused` writes, then has room for `room` bytes, and takes at most two at a time.
 #[derive(Drop)]
 struct Small {
     bytes: Vec<u8>,
@@ -117,7 +118,8 @@ impl Write for Small {
     }
 }
 
-/// Runs over the input `abcdef`. Returns whether all of it was typed, and whether the journal has all.
+/// Runs over the input `abcdef`, two bytes a read: the journal is called for each of the three reads and at the input's end. The
+/// limit of 9 reads is not reached. Returns whether all of it was typed, and whether the journal has all.
 fn run_kept(alloc: Global, journal: &mut Small) -> Result<(bool, bool), Fail> {
     let mut session = Session::open(Vec::new(alloc), sample_tables(alloc)?, 1, 9, Base::Auto)?;
     let mut recorder = Recorder::new(alloc, WrittenJournal::new(journal));

@@ -1,4 +1,4 @@
-//! The result of a Save: the keys are `x`, Save and Quit, in a window of one row and five columns.
+//! The result of a Save: the keys are `x`, Save (`\x13`) and Quit (`\x11`), in a window of one row and five columns.
 
 use crate::edit::{Changes, edit};
 use crate::fault::ProgramFault;

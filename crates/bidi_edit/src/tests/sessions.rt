@@ -1,4 +1,4 @@
-//! Recorded sessions, with the small tables.
+//! Recorded sessions, with the small tables: `sessions/vectors.rt` has them, and says what each field of a line is.
 
 ghost use Rattle.std.specs.Prelude.{◌≡◌, true, IfOk};
 ghost use Rattle.bx_terms.specs.Sizes.{is_side};
@@ -26,7 +26,7 @@ fn from_hex(alloc: Global, hex: &str) -> Result<Vec<u8>, Fail> {
     Ok(bytes)
 }
 
-/// Parses a side of the window.
+/// Parses a side of the window, its rows or columns, from 1 to 500.
 fn side_of(field: &str) -> Result<u16, Fail>
     ensures { IfOk result (λ n. is_side n ≡ true) }
 {
@@ -40,10 +40,13 @@ fn side_of(field: &str) -> Result<u16, Fail>
 /// The input of a recorded session.
 #[derive(Drop)]
 struct Given {
+    /// The window's rows and columns.
     rows: u16,
     cols: u16,
     direction: Base,
+    /// The file's bytes; None if there is no file.
     file: Option<Vec<u8>>,
+    /// The bytes of the keys.
     keys: Vec<u8>,
     ghost has_rows: { is_side rows ≡ true },
     ghost has_cols: { is_side cols ≡ true },
@@ -98,7 +101,7 @@ impl Given {
     }
 }
 
-/// The file's bytes; none if there is no file.
+/// The file's bytes; None if there is no file.
 fn file_of(alloc: Global, field: &str) -> Result<Option<Vec<u8>>, Fail> {
     if field == "none" {
         return Ok(None);
@@ -111,7 +114,8 @@ fn are_bytes(alloc: Global, bytes: &[u8], field: &str) -> Result<bool, Fail> {
     Ok(bytes == from_hex(alloc, field)?.as_slice())
 }
 
-/// Whether a store holds the saved bytes of a field; for an empty field, nothing or the file's bytes.
+/// Whether a store holds the saved bytes of the field `field`; if this is empty, nothing, or the file's bytes, the fourth field
+/// of `given`.
 fn is_saved(alloc: Global, contents: &[u8], field: &str, given: &str) -> Result<bool, Fail> {
     if contents.is_empty() || !field.is_empty() {
         return are_bytes(alloc, contents, field);
@@ -120,7 +124,7 @@ fn is_saved(alloc: Global, contents: &[u8], field: &str, given: &str) -> Result<
     Ok(file != "none" && are_bytes(alloc, contents, file)?)
 }
 
-/// The first difference from the recorded session, if any.
+/// The name of the first result that differs from the recorded session's; None if none does.
 fn fault_of(
     alloc: Global,
     written: &mut Vec<u8>,
@@ -154,6 +158,7 @@ fn check_session(rt: &impl Abort, alloc: Global, session: &str) -> Result<(), Fa
 
 #[test]
 fn recorded_sessions(rt: HostRuntime) -> Result<(), Fail> {
+    // all of the sessions are there, a line each
     assert_eq!(rt; SESSIONS.lines().count(), 24);
     for session in SESSIONS.lines() {
         check_session(&rt, rt.alloc(), session)?;
