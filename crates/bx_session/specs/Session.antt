@@ -192,10 +192,11 @@ as_changed s = with_painting_owed (record s { editor = record s.editor { stored 
 abbrev pub unpainted_after_told : Session → ℕ → ℕ → Session
 unpainted_after_told s height width = record s { editor = with_size s.editor height width; known = None }
 
--- the session is told a size and paints; its painting is refused
+-- the session after a told size, with its painting
 abbrev pub after_told : Data → Session → ℕ → ℕ → Session
 after_told d s height width = with_painting d (unpainted_after_told s height width)
 
+-- the same where the painting was refused
 abbrev pub owing_after_told : Session → ℕ → ℕ → Session
 owing_after_told s height width = with_painting_owed (unpainted_after_told s height width)
 
