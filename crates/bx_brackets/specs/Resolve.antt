@@ -23,12 +23,13 @@ is_right _ = false
 abbrev pub counts_as : Class → Class → Bool
 counts_as d t = elim (is_left d) [ true ↦ is_left t | false ↦ is_right t ]
 
--- the first direction in a list, nearest first, or `sos`
+-- the first direction that a type counts as, in a list from the nearest on, or `sos`
 abbrev pub nearest : Class → List Class → Class
 nearest sos [] = sos
 nearest sos (t ∷ ts) = elim (is_left t) [ true ↦ L | false ↦ elim (is_right t) [ true ↦ R | false ↦ nearest sos ts ] ]
 
--- N0, steps b to d: the direction that a pair takes, if any. The context is the nearest direction before the opener
+-- N0, steps b to d: the direction that a pair takes, if any. The context is the nearest direction before the opener, and `inside` has the
+-- types between the brackets
 abbrev pub pair_direction : Class → Class → List Class → Option Class
 pair_direction embedding context inside = elim (list_any (counts_as embedding) inside) [
   -- b: a type inside counts as the embedding direction
@@ -41,13 +42,15 @@ pair_direction embedding context inside = elim (list_any (counts_as embedding) i
   ]
 ]
 
--- N0: characters that were NSM before W1 and directly follow a changed bracket change with it
+-- N0: characters that were NSM before W1 and directly follow a changed bracket change with it. `was` tells of each character whether it
+-- was NSM before W1, `d` is the bracket's direction
 abbrev pub change_marks : Class → List Bool → List Class → List Class
 change_marks d [] ts = ts
 change_marks d (false ∷ was) ts = ts
 change_marks d (true ∷ was) [] = []
 change_marks d (true ∷ was) (t ∷ ts) = d ∷ change_marks d was ts
 
+-- the types after the bracket at index `p` and the marks behind it took the direction `d`
 abbrev pub change_bracket : Class → List Bool → List Class → ℕ → List Class
 change_bracket d was ts p = take p ts ++ d ∷ change_marks d (drop (p + 1) was) (drop (p + 1) ts)
 

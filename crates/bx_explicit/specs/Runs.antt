@@ -1,4 +1,4 @@
--- Level runs, BD7.
+-- Level runs, BD7. Indexes count the characters of the paragraph from 0.
 use Rattle.std.specs.Prelude.{◌≤◌, ◌<◌, ◌==◌, ℕ, ◌+◌, ◌-◌, true, false, List, [], ◌∷◌, Option, Some, None, All, take, drop}
 use Rattle.bx_explicit.specs.declared.entry.ExplicitChar.{ExplicitChar}
 use Rattle.bx_explicit.specs.declared.runs.Run.{Run}

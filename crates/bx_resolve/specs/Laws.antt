@@ -27,7 +27,7 @@ abbrev pub HaveEachOnce : Type 0
 HaveEachOnce = (level : ℕ) (cs : List Class) → level ≤ 1
     → IsPermutation (kept_indexes 0 (explicit_levels level cs)) (all_indexes (sequences level cs (explicit_levels level cs)))
 
--- under the base direction, a text of class L alone has the given paragraph level, and each character the given level
+-- under the base direction, a text of class L alone has the paragraph level `paragraph`, and each character the level `level`
 abbrev pub LeftTextsHave : Base → ℕ → ℕ → Type 0
 LeftTextsHave base paragraph level = (says : Data) (chars : List ℕ) → All (λ c. says.class c ≡ L) chars
     → (paragraph_level_under says base chars ≡ paragraph) × (levels_under says base chars ≡ replicate (length chars) (Some level))

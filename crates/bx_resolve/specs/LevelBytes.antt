@@ -3,7 +3,7 @@ use Rattle.std.specs.Prelude.{◌≡◌, ◌==◌, ℕ, true, false, Option, Som
 use Rattle.std.proofs.Common.{refl, sym, ap, eqb-true}
 use Rattle.bx_resolve.specs.declared.paragraph.Level.TheInside.{Inside}
 
--- 255 is not a level: it encodes none
+-- 255 stores no level (`NONE` of src/paragraph.rt): levels are at most 126 (`max_level`)
 abbrev kept_in : ℕ → Option ℕ
 kept_in byte = elim (byte == 255) [ true ↦ None | false ↦ Some byte ]
 

@@ -46,7 +46,7 @@ pub fn types_at(
     Ok(types)
 }
 
-/// Writes each level at its index.
+/// Writes each level at its index, the first level at the first index; `indexes` and `levels` belong to one sequence.
 pub fn write_levels(each: &mut Vec<Level>, indexes: &[usize], levels: &[u8])
     requires inside { All (λ p. p < length each.old.items) indexes.now }
     requires low { All (λ n. n ≤ max_level) levels.now }
