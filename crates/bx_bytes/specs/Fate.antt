@@ -1,4 +1,4 @@
--- The state of a grammar's reader after the bytes read so far.
+-- What the bytes read so far are to a grammar: an item, the beginning of one, or neither.
 use Rattle.std.specs.Prelude.{ℕ, List, if◌then◌else◌}
 use Rattle.bx_bytes.specs.Pattern.{Piece, matches_any, begins_any}
 use Rattle.bx_bytes.specs.declared.fate.Fate.{Fate}

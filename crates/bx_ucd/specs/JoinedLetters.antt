@@ -1,4 +1,4 @@
--- The stored joining types and forms.
+-- The stored joining types, as they count.
 use Rattle.std.specs.Prelude.{ℕ, Option, Some, None, unwrap_or}
 use Rattle.bx_ucd.specs.CodeMap.{value_in}
 use Rattle.bx_ucd.specs.Joining.{joining_by_class}
