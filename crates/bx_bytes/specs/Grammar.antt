@@ -25,7 +25,7 @@ is_sound [] = true
 is_sound (One low high ∷ ps) = nat_le low high && is_sound ps
 is_sound (Many low high ∷ ps) = (needs_byte ps && excludes low high ps) && is_sound ps
 
--- at some byte before the first `Many` of both the two patterns have disjoint ranges, so that they have no match in common
+-- at some byte, before the first `Many` of either, the two patterns have disjoint ranges, so that they have no match in common
 abbrev pub are_apart : List Piece → List Piece → Bool
 are_apart (One a b ∷ ps) (One c d ∷ qs) = are_disjoint a b c d || are_apart ps qs
 are_apart _ _ = false

@@ -19,7 +19,8 @@ use bx_terms::{Base, OutOfMemory};
 use bx_ucd::BidiData;
 use std::mem;
 
-/// The edit that replaces the bytes `start..stop` of a body. Its near text begins at the row before the edit's row.
+/// The edit that replaces the bytes `start..stop` of a body, whose row starts are `starts`. Its near text begins at the row before
+/// the edit's row, the last of those that begin at or before `start`.
 fn text_edit<'t>(
     body: &'t str,
     starts: &[RowStart],
@@ -57,7 +58,7 @@ fn text_edit<'t>(
     }
 }
 
-/// Whether a body has no formatting characters. Checks them unless it is known.
+/// Whether a body has no formatting characters. Checks each character unless that is known (`is_unformatted`).
 fn has_none<D: BidiData>(is_unformatted: bool, body: &str, tables: &D) -> bool
     requires { is_unformatted ≡ true → HasNoFormatting (D.data tables.now) (chars body.now) }
     ensures { result ≡ true → HasNoFormatting (D.data tables.now) (chars body.now) }
