@@ -32,6 +32,7 @@ pub record Search : Type 0 where
 abbrev pub is_open : List (ℕ × ℕ) → (ℕ × ℕ) → Bool
 is_open pairs o = not (list_any (λ p. nat_le p.0 o.0 && nat_lt o.0 p.1) pairs)
 
+-- the openers that are open, the latest first: the stack of BD16
 abbrev pub open_openers : Search → List (ℕ × ℕ)
 open_openers s = filter (is_open s.pairs) s.openers
 

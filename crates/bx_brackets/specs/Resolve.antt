@@ -4,15 +4,17 @@ use Rattle.std.specs.List.{list_any}
 use Rattle.bx_ucd.specs.declared.class.Class.{Class}
 use Rattle.bx_ucd.specs.declared.class.Class.TheVariants.{L, R, EN, AN}
 
+-- the other of the directions L and R
 abbrev pub opposite : Class → Class
 opposite L = R
 opposite _ = L
 
+-- a type counts as L
 abbrev pub is_left : Class → Bool
 is_left L = true
 is_left _ = false
 
--- N0: EN and AN count as R. W3 leaves no AL; an AL passed in counts as neither direction
+-- a type counts as R (N0): EN and AN do. W3 leaves no AL; an AL passed in counts as neither direction
 abbrev pub is_right : Class → Bool
 is_right R = true
 is_right EN = true
@@ -54,7 +56,7 @@ change_marks d (true ∷ was) (t ∷ ts) = d ∷ change_marks d was ts
 abbrev pub change_bracket : Class → List Bool → List Class → ℕ → List Class
 change_bracket d was ts p = take p ts ++ d ∷ change_marks d (drop (p + 1) was) (drop (p + 1) ts)
 
--- the types after a pair is resolved in a context
+-- the types after a pair, the indexes of its opener and its closer, is resolved in a context
 abbrev pub resolve_in : Class → Class → List Bool → ℕ × ℕ → List Class → List Class
 resolve_in embedding context was pq ts = elim (pair_direction embedding context (take (pq.1 - pq.0 - 1) (drop (pq.0 + 1) ts))) [
   | None ↦ ts
@@ -65,6 +67,7 @@ resolve_in embedding context was pq ts = elim (pair_direction embedding context 
 abbrev pub context_of : Class → List Class → ℕ → Class
 context_of sos ts p = nearest sos (reverse (take p ts))
 
+-- the same in the context of its opener
 abbrev pub resolve_pair : Class → Class → List Bool → ℕ × ℕ → List Class → List Class
 resolve_pair embedding sos was pq ts = resolve_in embedding (context_of sos ts pq.0) was pq ts
 

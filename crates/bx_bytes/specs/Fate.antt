@@ -4,5 +4,6 @@ use Rattle.bx_bytes.specs.Pattern.{Piece, matches_any, begins_any}
 use Rattle.bx_bytes.specs.declared.fate.Fate.{Fate}
 use Rattle.bx_bytes.specs.declared.fate.Fate.TheVariants.{Waits, Ends, Breaks}
 
+-- what the bytes `bs` are to the grammar `patterns`
 abbrev pub fate_in : List (List Piece) → List ℕ → Fate
 fate_in patterns bs = if matches_any patterns bs then Ends else if begins_any patterns bs then Waits else Breaks

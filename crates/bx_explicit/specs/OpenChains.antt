@@ -17,6 +17,7 @@ first_run_of (r ∷ rs) = r
 abbrev pub run_at : List (Option ExplicitChar) → ℕ → Run
 run_at kept p = first_run_of (runs_from p (drop p kept))
 
+-- the last character of a run is an isolate initiator
 abbrev pub ends_in_initiator : List Class → Run → Bool
 ends_in_initiator cs r = starts_with_initiator (drop r.last cs)
 

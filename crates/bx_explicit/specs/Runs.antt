@@ -3,6 +3,7 @@ use Rattle.std.specs.Prelude.{◌≤◌, ◌<◌, ◌==◌, ℕ, ◌+◌, ◌-�
 use Rattle.bx_explicit.specs.declared.entry.ExplicitChar.{ExplicitChar}
 use Rattle.bx_explicit.specs.declared.runs.Run.{Run}
 
+-- the run of a level from the index `first` to the index `last`, both included
 abbrev pub run : ℕ → ℕ → ℕ → Run
 run level first last = record { level = level; first = first; last = last }
 

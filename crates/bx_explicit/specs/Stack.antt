@@ -4,10 +4,11 @@ use Rattle.bx_explicit.specs.declared.entry.Entry.{Entry}
 use Rattle.bx_explicit.specs.declared.entry.Override.{Override}
 use Rattle.bx_explicit.specs.declared.entry.Override.TheVariants.{Neutral}
 
--- BD2: no explicit level exceeds max_depth. X1: the stack has at most max_depth + 2 entries
+-- BD2: no explicit level exceeds max_depth
 abbrev pub max_depth : ℕ
 max_depth = 125
 
+-- the greatest number of entries: max_depth + 2
 abbrev pub stack_room : ℕ
 stack_room = 127
 

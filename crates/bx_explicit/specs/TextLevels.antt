@@ -20,6 +20,7 @@ abbrev pub with_level : ℕ → List ℕ → List ℕ
 with_level n [] = n ∷ []
 with_level n (l ∷ ls) = n ∷ ls
 
+-- the levels of the parts with a character of this class in front of the text
 abbrev pub levels_before : Class → List ℕ → List ℕ
 levels_before PDI ls = 0 ∷ ls
 levels_before LRI ls = rest_levels ls

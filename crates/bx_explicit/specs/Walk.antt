@@ -59,6 +59,7 @@ pub record IsRunOf (kept : List (Option ExplicitChar)) (r : Run) : Type 0 where
   pub own : r ≡ run_at kept r.first
   pub within : IsRunWithin 0 (length kept) r
 
+-- the next run, if there is one, is a run of the text
 abbrev pub IsToCome : List (Option ExplicitChar) → Option Run → Type 0
 IsToCome kept None = Unit {0}
 IsToCome kept (Some r) = IsRunOf kept r

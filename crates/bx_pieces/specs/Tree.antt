@@ -15,6 +15,7 @@ abbrev pub sequence : Option (Box Shape Global) → List Piece
 sequence None = []
 sequence (Some tree) = tree.value.pieces
 
+-- the number of pieces on the longest path down
 abbrev pub depth_of : Option (Box Shape Global) → ℕ
 depth_of None = 0
 depth_of (Some tree) = tree.value.depth

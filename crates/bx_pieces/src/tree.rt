@@ -133,6 +133,7 @@ pub fn last(tree: &Link) -> Option<Piece>
     }
 }
 
+/// `last` of a tree with a piece.
 #[cycle(ending)]
 #[tactic(auto, using(crate::proofs::Ends::last_of_append))]
 fn last_in(tree: &Tree) -> Option<Piece>
@@ -168,6 +169,7 @@ pub fn holding(tree: &Link, at: usize) -> Option<(Piece, usize)>
     }
 }
 
+/// `holding` of a tree with a piece.
 #[cycle(finding)]
 #[tactic(auto, using(crate::proofs::Cuts::holding_first, crate::proofs::Cuts::holding_past))]
 fn holding_in(tree: &Tree, at: usize) -> Option<(Piece, usize)>

@@ -79,6 +79,7 @@ abbrev pub entry_by : Class → State → State → Entry
 entry_by PDI before after = top after
 entry_by c before after = top before
 
+-- that entry for the character at index `i` of a paragraph of the level `level`
 abbrev pub entry_at : ℕ → List Class → ℕ → Entry
 entry_at level cs i = let s : State = start level in
     entry_by (slice_index_or cs i ON) (slice_index_or (states level cs) i s) (slice_index_or (states level cs) (i + 1) s)

@@ -7,9 +7,11 @@ use Rattle.bx_resolve.specs.declared.paragraph.Level.TheInside.{Inside}
 abbrev kept_in : ℕ → Option ℕ
 kept_in byte = elim (byte == 255) [ true ↦ None | false ↦ Some byte ]
 
+-- the level that a stored value has, or none
 abbrev pub level_of : Inside → Option ℕ
 level_of l = kept_in l.byte
 
+-- the byte that stores a level, or none
 abbrev byte_of : Option ℕ → ℕ
 byte_of None = 255
 byte_of (Some level) = level

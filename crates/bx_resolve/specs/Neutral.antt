@@ -60,6 +60,7 @@ rise_odd EN = 1
 rise_odd AN = 1
 rise_odd _ = 0
 
+-- I1 and I2: the level of a character of resolved type `t`, in a sequence at `level`
 abbrev pub implicit_at : ℕ → Class → ℕ
 implicit_at level t = elim (level % 2) [ zero ↦ level + rise_even t | suc n ↦ level + rise_odd t ]
 

@@ -32,7 +32,7 @@ strong_next strong R = Right
 strong_next strong AL = Arabic
 strong_next strong _ = strong
 
--- the type after W2, where the nearest strong type is `strong`
+-- the type of an EN after W2, and of any type, where the nearest strong type before it is `strong`
 abbrev pub number_by : Strong → Class
 number_by Arabic = AN
 number_by _ = EN
@@ -40,7 +40,7 @@ number_by _ = EN
 abbrev pub after_w2 : Strong → Class → Class
 after_w2 strong t = elim (is_en t) [ true ↦ number_by strong | false ↦ t ]
 
--- the types after W3 of the rest, where an NSM becomes `mark` and the nearest strong type is `strong`
+-- the types after W3 of the rest, where an NSM at its start becomes `mark` and the nearest strong type before it is `strong`
 abbrev pub rest_after_w3 : Class → Strong → List Class → List Class
 rest_after_w3 mark strong [] = []
 rest_after_w3 mark strong (t ∷ ts) = w3_at (after_w2 strong (after_w1 mark t)) ∷ rest_after_w3 (mark_next mark t) (strong_next strong (after_w1 mark t)) ts
@@ -84,7 +84,7 @@ terminator_by _ = ON
 abbrev pub after_w6 : Terminators → Class → Class
 after_w6 terminators t = elim (is_et t) [ true ↦ terminator_by terminators | false ↦ w6_at t ]
 
--- the type after W7, where the nearest strong type is `strong`
+-- the type of an EN after W7, and of any type, where the nearest strong type before it is `strong`
 abbrev pub left_number_by : Strong → Class
 left_number_by Left = L
 left_number_by _ = EN

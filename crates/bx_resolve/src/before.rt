@@ -18,7 +18,7 @@ pub enum Strong {
     Arabic,
 }
 
-/// The type after W3 just before a character, as far as a separator asks for it (W4).
+/// The type after W3 just before a character, as far as a separator asks for it (W4): EN, AN or any other.
 #[derive(Clone, Copy)]
 pub enum Neighbour {
     EuropeanNumber,

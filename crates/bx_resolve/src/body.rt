@@ -87,7 +87,7 @@ fn offsets_of(alloc: Global, text: &str) -> Result<Vec<u32>, AllocError>
 #[derive(Drop)]
 pub struct Body<'t> {
     text: &'t str,
-    /// Empty before `read`.
+    /// The byte offsets of the characters at indexes 0, `STEP` and so on. Empty before `read`.
     offsets: Vec<u32>,
 }
 

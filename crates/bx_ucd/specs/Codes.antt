@@ -24,9 +24,11 @@ is_surrogate code = nat_le 0xD800 code && nat_le code 0xDFFF
 abbrev pub character_of : List ℕ → Result ℕ Cause
 character_of field = and_then (code_of field) (λ code. if is_surrogate code then Err BadCode else Ok code)
 
+-- a code is in a range, whose ends are included
 abbrev pub covers : Range → ℕ → Bool
 covers range code = nat_le range.low code && nat_le code range.high
 
+-- the range of two ends; refused if the second is below the first
 abbrev pub range_between : ℕ → ℕ → Result Range Cause
 range_between low high = if nat_lt high low then Err BadRange else Ok (record { low = low; high = high })
 
