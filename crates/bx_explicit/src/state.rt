@@ -164,6 +164,7 @@ impl State {
         ensures next { self.new ≡ state_after (role_of class) first self.old }
         ensures kept { result ≡ kept_by (role_of class) class self.old self.new }
     {
+        // By the last entry before the character (X5a to X5c, X6). A PDI goes by the one after it (X6a).
         let kept = self.kept_under(class);
         let level = self.stack.top().level;
         match role_of(class) {

@@ -100,7 +100,7 @@ reads_on Left r = elim (r.paragraph % 2) [ zero ↦ false | suc _ ↦ true ]
 abbrev pub column_in : List Slot → ℕ → ℕ
 column_in ss offset = unwrap_or (option_map (λ s. s.column) (find (λ s. s.offset == offset) ss)) 1
 
--- likewise in a row
+-- the same in a row
 abbrev pub column_of : ℕ → BodyRow → ℕ → ℕ
 column_of w r offset = column_in (row_slots w r) offset
 

@@ -38,6 +38,7 @@ fn text_edit<'t>(
     let removed = &body[start..stop];
     let behind = &body[stop..];
     let from = starts[starts_up_to(starts, start).saturating_sub(2)];
+    // This holds for the row starts of a body; it is tested, so that it needs no proof.
     if from.offset <= start && body.is_char_boundary(from.offset) {
         return TextEdit {
             front: &body[..from.offset],

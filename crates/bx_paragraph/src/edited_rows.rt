@@ -104,6 +104,7 @@ pub(crate) fn edited_starts<D: BidiData>(
     starts.clear();
     if let Some(row) = well_before(edit.starts, edit.start, edit.w) {
         let first = edit.starts[row];
+        // This always holds; it is tested, so that it needs no proof.
         if first.offset <= edit.start && edit.body.is_char_boundary(first.offset) {
             starts.extend_from_slice(&edit.starts[..row])?;
             push_rest(starts, first, edit, tables)?;

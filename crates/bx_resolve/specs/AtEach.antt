@@ -1,4 +1,4 @@
--- A rule applied at each index, to the types before the rule.
+-- A rule (W1 to W7, N1) applied at each index of a sequence. At each it sees the types as they were before the rule.
 use Rattle.std.specs.Prelude.{List, [], ◌∷◌}
 use Rattle.bx_ucd.specs.declared.class.Class.{Class}
 

@@ -1,4 +1,4 @@
--- The characters of a text and their byte offsets.
+-- The characters of a text and their byte offsets, some of which the code stores (`Body`).
 use Rattle.std.specs.Prelude.{◌≡◌, ℕ, ◌-◌, ◌*◌, ◌<◌, ◌≤◌, List, chars, drop, length, slice_index_or}
 use Rattle.std.specs.Str.{IsCharBoundary}
 

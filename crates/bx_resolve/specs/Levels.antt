@@ -38,7 +38,7 @@ sequence_types says level sos eos chars ts =
 abbrev pub sequence_levels : Data → ℕ → Class → Class → List ℕ → List Class → List ℕ
 sequence_levels says level sos eos chars ts = implicit level (sequence_types says level sos eos chars ts)
 
--- the same for a sequence of a paragraph
+-- the same for a sequence of a paragraph, where `chars` and `kept` are those of the whole paragraph
 abbrev pub levels_in : Data → List ℕ → List (Option ExplicitChar) → RunSequence → List ℕ
 levels_in says chars kept s = sequence_levels says s.level s.sos s.eos (chars_at chars s.indexes) (types_at kept s.indexes)
 
