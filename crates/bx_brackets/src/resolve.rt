@@ -1,5 +1,5 @@
 //! The types of bracket pairs (N0), pair by pair. A range that one pair's search found clear of a direction is not searched again for
-//! the next pair.
+//! the next pair. `embedding` is the direction of the sequence's level, L or R.
 ghost use Rattle.std.specs.Prelude.{◌≡◌, ◌+◌, ◌-◌, ◌<◌, ◌≤◌, length, reverse, take, drop, All};
 ghost use Rattle.std.specs.List.{list_any};
 ghost use Rattle.bx_ucd.specs.Class.{direction};

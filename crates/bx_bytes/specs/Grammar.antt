@@ -30,7 +30,7 @@ abbrev pub are_apart : List Piece → List Piece → Bool
 are_apart (One a b ∷ ps) (One c d ∷ qs) = are_disjoint a b c d || are_apart ps qs
 are_apart _ _ = false
 
--- any two of the patterns are apart, either one first
+-- any two of the patterns are apart, in either order
 abbrev pub all_apart : List (List Piece) → Bool
 all_apart [] = true
 all_apart (p ∷ ps) = list_all (λ q. are_apart p q && are_apart q p) ps && all_apart ps

@@ -30,11 +30,12 @@ abbrev pub rest_of : List Entry → List Entry
 rest_of [] = []
 rest_of (e ∷ es) = es
 
--- each entry has a higher level than the one pushed before it, and none exceeds max_depth
+-- the entry has a higher level than the last one of a stack, if that has one
 abbrev pub IsAbove : Entry → List Entry → Type 0
 IsAbove e [] = Unit {0}
 IsAbove e (f ∷ es) = f.level < e.level
 
+-- each entry has a higher level than the one pushed before it, and none exceeds max_depth
 abbrev pub IsRising : List Entry → Type 0
 IsRising [] = Unit {0}
 IsRising (e ∷ es) = (e.level ≤ max_depth) × IsAbove e es × IsRising es

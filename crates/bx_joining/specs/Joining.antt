@@ -70,7 +70,7 @@ joins_before before c = elim (neighbour before) [ None ↦ false | Some first �
 abbrev pub joins_after : Joiner → List Joiner → Bool
 joins_after c after = elim (neighbour after) [ None ↦ false | Some second ↦ join c (passed_over after) second ]
 
--- the form of a character that joins the one before it, and the one after it
+-- the form of a character, given whether it joins the one before it, and whether it joins the one after it
 abbrev pub form_if : Bool → Bool → Form
 form_if true true = Medial
 form_if true false = Final

@@ -130,7 +130,7 @@ fn join(first: Joiner, lowest: Option<u8>, second: Joiner) -> bool
     could_join(first, second)
 }
 
-/// The form of a letter that joins the one before it, and the one after it.
+/// The form of a letter, given whether it joins the one before it, and whether it joins the one after it.
 fn form_if(joins_before: bool, joins_after: bool) -> Form
     ensures { result ≡ form_if joins_before joins_after }
 {

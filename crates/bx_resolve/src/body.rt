@@ -8,7 +8,7 @@ use std::alloc::{AllocError, Global};
 use std::marker::Model;
 
 /// The number of characters of a text, as the capacity for them: it counts the bytes that are not UTF-8 continuations (10xxxxxx).
-/// Each chunk is counted in one byte, so that the loop vectorizes; 128 fit in it.
+/// Each chunk is counted in one byte, so that the loop vectorizes; 128 fit in it. Sums wrap, as a capacity needs no proof.
 fn count_for_room(text: &str) -> usize {
     let mut count: usize = 0;
     for piece in text.as_bytes().chunks(128) {
