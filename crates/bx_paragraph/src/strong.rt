@@ -13,7 +13,7 @@ use bx_ucd::{BidiData, Class};
 pub(crate) struct Strong {
     /// The number of characters before it.
     pub(crate) index: usize,
-    /// L, R or AL.
+    /// L, R or AL; any class only while a character is tested (`later`).
     pub(crate) class: Class,
     /// The offset of its first byte.
     pub(crate) start: usize,
