@@ -6,7 +6,7 @@ use Rattle.bx_ucd.specs.declared.class.Class.TheVariants.{ON}
 use Rattle.bx_ucd.specs.declared.data.Side.TheVariants.{Opener, Closer}
 use Rattle.bx_brackets.specs.Pairs.{bracket_room, canonical, pairs}
 
--- a pair opens before it closes
+-- a pair, the indexes of its opener and its closer, opens before it closes
 abbrev pub OpensFirst : ℕ × ℕ → Type 0
 OpensFirst p = p.0 < p.1
 

@@ -16,13 +16,13 @@ is_on _ = false
 abbrev pub canonical : ℕ → ℕ
 canonical c = if c == 0x2329 then 0x3008 else (if c == 0x232a then 0x3009 else c)
 
--- BD16: pairs are sorted by opener
+-- BD16: pairs, each the indexes of its opener and its closer, are sorted by opener
 abbrev pub insert_pair : ℕ × ℕ → List (ℕ × ℕ) → List (ℕ × ℕ)
 insert_pair p [] = p ∷ []
 insert_pair p (q ∷ qs) = elim (nat_lt p.0 q.0) [ true ↦ p ∷ q ∷ qs | false ↦ q ∷ insert_pair p qs ]
 
--- the openers so far, the latest first, each its index and its closer; the pairs so far, sorted by opener; and whether the
--- search has ended at a full stack
+-- a search: the openers so far, closed or not, the latest first, each its index and the canonical closer that it waits for; the pairs so
+-- far, sorted by opener; and whether the search has ended at a full stack
 pub record Search : Type 0 where
   pub openers : List (ℕ × ℕ)
   pub pairs : List (ℕ × ℕ)
@@ -32,10 +32,11 @@ pub record Search : Type 0 where
 abbrev pub is_open : List (ℕ × ℕ) → (ℕ × ℕ) → Bool
 is_open pairs o = not (list_any (λ p. nat_le p.0 o.0 && nat_lt o.0 p.1) pairs)
 
+-- the openers that are open, the latest first: the stack of BD16
 abbrev pub open_openers : Search → List (ℕ × ℕ)
 open_openers s = filter (is_open s.pairs) s.openers
 
--- BD16: the capacity of the stack
+-- BD16: the capacity of the stack, which holds the open openers
 abbrev pub bracket_room : ℕ
 bracket_room = 63
 
@@ -53,6 +54,7 @@ meet_closer s j c = elim (find (λ o. o.1 == canonical c) (open_openers s)) [
   | Some o ↦ record s { pairs = insert_pair (o.0, j) s.pairs }
 ]
 
+-- the search after the character `c` at index `j`, which is no bracket, or one of a side with its counterpart `m`
 abbrev pub meet : Search → ℕ → ℕ → Option (Side × ℕ) → Search
 meet s j c None = s
 meet s j c (Some (Opener, m)) = meet_opener s j m
@@ -62,6 +64,7 @@ meet s j c (Some (Closer, m)) = meet_closer s j c
 abbrev pub bracket_at : Data → ℕ → Class → Option (Side × ℕ)
 bracket_at says c t = elim (is_on t) [ true ↦ says.bracket c | false ↦ None ]
 
+-- the search after the rest of a sequence: its characters and their types, from index `j` on
 abbrev pub search_from : Data → Search → ℕ → List ℕ → List Class → Search
 search_from says s j [] ts = s
 search_from says s j (c ∷ cs) [] = s

@@ -4,15 +4,17 @@ use Rattle.std.specs.List.{list_any}
 use Rattle.bx_ucd.specs.declared.class.Class.{Class}
 use Rattle.bx_ucd.specs.declared.class.Class.TheVariants.{L, R, EN, AN}
 
+-- the other of the directions L and R
 abbrev pub opposite : Class → Class
 opposite L = R
 opposite _ = L
 
+-- a type counts as L
 abbrev pub is_left : Class → Bool
 is_left L = true
 is_left _ = false
 
--- N0: EN and AN count as R. W3 leaves no AL; an AL passed in counts as neither direction
+-- a type counts as R (N0): EN and AN do. W3 leaves no AL; an AL passed in counts as neither direction
 abbrev pub is_right : Class → Bool
 is_right R = true
 is_right EN = true
@@ -23,12 +25,13 @@ is_right _ = false
 abbrev pub counts_as : Class → Class → Bool
 counts_as d t = elim (is_left d) [ true ↦ is_left t | false ↦ is_right t ]
 
--- the first direction in a list, nearest first, or `sos`
+-- the first direction that a type counts as, in a list from the nearest on, or `sos`
 abbrev pub nearest : Class → List Class → Class
 nearest sos [] = sos
 nearest sos (t ∷ ts) = elim (is_left t) [ true ↦ L | false ↦ elim (is_right t) [ true ↦ R | false ↦ nearest sos ts ] ]
 
--- N0, steps b to d: the direction that a pair takes, if any. The context is the nearest direction before the opener
+-- N0, steps b to d: the direction that a pair takes, if any. The context is the nearest direction before the opener, and `inside` has the
+-- types between the brackets
 abbrev pub pair_direction : Class → Class → List Class → Option Class
 pair_direction embedding context inside = elim (list_any (counts_as embedding) inside) [
   -- b: a type inside counts as the embedding direction
@@ -41,17 +44,19 @@ pair_direction embedding context inside = elim (list_any (counts_as embedding) i
   ]
 ]
 
--- N0: characters that were NSM before W1 and directly follow a changed bracket change with it
+-- N0: characters that were NSM before W1 and directly follow a changed bracket change with it. `was` tells of each character whether it
+-- was NSM before W1, `d` is the bracket's direction
 abbrev pub change_marks : Class → List Bool → List Class → List Class
 change_marks d [] ts = ts
 change_marks d (false ∷ was) ts = ts
 change_marks d (true ∷ was) [] = []
 change_marks d (true ∷ was) (t ∷ ts) = d ∷ change_marks d was ts
 
+-- the types after the bracket at index `p` and the marks behind it took the direction `d`
 abbrev pub change_bracket : Class → List Bool → List Class → ℕ → List Class
 change_bracket d was ts p = take p ts ++ d ∷ change_marks d (drop (p + 1) was) (drop (p + 1) ts)
 
--- the types after a pair is resolved in a context
+-- the types after a pair, the indexes of its opener and its closer, is resolved in a context
 abbrev pub resolve_in : Class → Class → List Bool → ℕ × ℕ → List Class → List Class
 resolve_in embedding context was pq ts = elim (pair_direction embedding context (take (pq.1 - pq.0 - 1) (drop (pq.0 + 1) ts))) [
   | None ↦ ts
@@ -62,6 +67,7 @@ resolve_in embedding context was pq ts = elim (pair_direction embedding context 
 abbrev pub context_of : Class → List Class → ℕ → Class
 context_of sos ts p = nearest sos (reverse (take p ts))
 
+-- the same in the context of its opener
 abbrev pub resolve_pair : Class → Class → List Bool → ℕ × ℕ → List Class → List Class
 resolve_pair embedding sos was pq ts = resolve_in embedding (context_of sos ts pq.0) was pq ts
 

@@ -1,4 +1,4 @@
--- The search by a stack of unmatched openers, the last one first.
+-- The search for bracket pairs by a stack of unmatched openers, the last one first, as the code does it. It finds the pairs of `Pairs`.
 use Rattle.std.specs.Prelude.{◌≡◌, ℕ, ◌+◌, ◌%◌, ◌==◌, ◌<◌, ◌≤◌, ◌⊎◌, nat_lt, not, find}
 use Rattle.std.specs.Prelude.{Bool, true, false, List, [], ◌∷◌, Option, Some, None, length, slice_set, All}
 use Rattle.std.specs.Prelude.{slice_index_or}
@@ -9,11 +9,12 @@ use Rattle.bx_ucd.specs.declared.class.Class.{Class}
 use Rattle.bx_brackets.specs.Pairs.{bracket_room, canonical, bracket_at, insert_pair}
 use Rattle.bx_brackets.specs.Resolve.{IsPairWithin}
 
--- the openers below the first one that passes
+-- the openers below the first one that passes the test
 abbrev pub below_first : ((ℕ × ℕ) → Bool) → List (ℕ × ℕ) → List (ℕ × ℕ)
 below_first p [] = []
 below_first p (o ∷ os) = elim (p o) [ true ↦ os | false ↦ below_first p os ]
 
+-- the opener waits for the closer `c`
 abbrev pub is_for : ℕ → ℕ × ℕ → Bool
 is_for c o = o.1 == c
 
@@ -22,22 +23,22 @@ abbrev pub opener_at : List (ℕ × ℕ) → Option ℕ → Option (ℕ × ℕ)
 opener_at os None = None
 opener_at os (Some k) = Some (slice_index_or os k (0, 0))
 
--- each noted closer is at its remainder and matches no opener
+-- each closer noted in `missed` is at its remainder (31 is `REMAINDERS` of src/open_stack.rt) and matches no opener
 abbrev pub AreMissed : List (Option ℕ) → List (ℕ × ℕ) → Type 0
 AreMissed missed os = (k c : ℕ) → slice_index_or missed k None ≡ Some c → (c % 31 ≡ k) × (find (is_for c) os ≡ None)
 
--- the index of the opener that a closer matches
+-- the index in the sequence of the opener that a closer matches
 abbrev pub index_of : Option (ℕ × ℕ) → Option ℕ
 index_of None = None
 index_of (Some o) = Some o.0
 
--- the openers left after a closer
+-- the openers left after the closer `c`, given the opener that it matches
 abbrev pub left_by : Option (ℕ × ℕ) → ℕ → List (ℕ × ℕ) → List (ℕ × ℕ)
 left_by None c os = os
 left_by (Some o) c os = below_first (is_for c) os
 
--- the unmatched openers, each its index and its closer; the pairs found so far; and whether the search has ended at a full
--- stack
+-- the unmatched openers, each its index and the canonical closer that it waits for; the pairs found so far; and whether the search has
+-- ended at a full stack
 pub record Progress : Type 0 where
   pub openers : List (ℕ × ℕ)
   pub pairs : List (ℕ × ℕ)
@@ -46,16 +47,17 @@ pub record Progress : Type 0 where
 abbrev pub progress : List (ℕ × ℕ) → List (ℕ × ℕ) → Bool → Progress
 progress os ps over = record { openers = os; pairs = ps; is_over = over }
 
--- the pairs, with a new one for a closer at index `j` that matches an opener
+-- the pairs, with a new one if the closer at index `j` matches an opener
 abbrev pub found_by : Option (ℕ × ℕ) → ℕ → List (ℕ × ℕ) → List (ℕ × ℕ)
 found_by None j ps = ps
 found_by (Some o) j ps = insert_pair (o.0, j) ps
 
--- the openers, with a new one at index `j` if the stack has room
+-- the openers, with a new one at index `j`, whose counterpart is `m`, if the stack has room
 abbrev pub opened : ℕ → ℕ → List (ℕ × ℕ) → List (ℕ × ℕ)
 opened j m os = elim (nat_lt (length os) bracket_room) [ true ↦ (j, canonical m) ∷ os | false ↦ os ]
 
--- the progress after the character at index `j`, unless the search has ended
+-- the progress after the character `c` at index `j`, which is no bracket, or one of a side with its counterpart `m`; `turn` takes the
+-- search not to have ended, `after` changes nothing if it has
 abbrev pub turn : ℕ → ℕ → Option (Side × ℕ) → Progress → Progress
 turn j c None p = p
 turn j c (Some (Opener, m)) p = record p { openers = opened j m p.openers; is_over = not (nat_lt (length p.openers) bracket_room) }
@@ -67,18 +69,18 @@ turn j c (Some (Closer, m)) p = record p {
 abbrev pub after : ℕ → ℕ → Option (Side × ℕ) → Progress → Progress
 after j c b p = elim p.is_over [ true ↦ p | false ↦ turn j c b p ]
 
--- the pairs after the rest of the sequence, from index `j` on
+-- the pairs after the rest of the sequence: its characters and their types, from index `j` on
 abbrev pub pairs_after : Data → Progress → ℕ → List ℕ → List Class → List (ℕ × ℕ)
 pairs_after says p j [] ts = p.pairs
 pairs_after says p j (c ∷ cs) [] = p.pairs
 pairs_after says p j (c ∷ cs) (t ∷ ts) = pairs_after says (after j c (bracket_at says c t) p) (j + 1) cs ts
 
--- each opener is before `j`, and before the openers above it
+-- each opener is at an index before `j`, and before the openers above it
 abbrev pub IsFalling : ℕ → List (ℕ × ℕ) → Type 0
 IsFalling j [] = Unit {0}
 IsFalling j (o ∷ os) = (o.0 < j) × IsFalling o.0 os
 
--- pairs are sorted by opener, from `k` on
+-- pairs are sorted by opener, and no opener is at an index before `k`
 abbrev pub AreSorted : ℕ → List (ℕ × ℕ) → Type 0
 AreSorted k [] = Unit {0}
 AreSorted k (p ∷ ps) = (k ≤ p.0) × AreSorted p.0 ps
@@ -89,16 +91,17 @@ pub record AreFound (j : ℕ) (os ps : List (ℕ × ℕ)) : Type 0 where
   pub sorted : AreSorted 0 ps
   pub within : All (IsPairWithin j) ps
 
--- the pairs in a list of closers: an entry greater than its index is the closer of the opener there
+-- the pairs in a list of closers, whose first entry has index `k`: an entry greater than its index is the closer of the opener there
 abbrev pub pairs_in : ℕ → List ℕ → List (ℕ × ℕ)
 pairs_in k [] = []
 pairs_in k (c ∷ cs) = elim (nat_lt k c) [ true ↦ (k, c) ∷ pairs_in (k + 1) cs | false ↦ pairs_in (k + 1) cs ]
 
+-- the list of closers, with `j` noted as the closer of the opener at index `k`, if there is an opener
 abbrev pub with_closer : Option ℕ → ℕ → List ℕ → List ℕ
 with_closer None j cs = cs
 with_closer (Some k) j cs = slice_set cs k j
 
--- the openers have no closer in the list
+-- the opener at index `k` has no closer in the list `cs`; and none of these openers has one
 pub record IsUnclosed (cs : List ℕ) (k : ℕ) : Type 0 where
   pub inside : k < length cs
   pub none : slice_index_or cs k 0 ≤ k
@@ -107,7 +110,8 @@ abbrev pub AreUnclosed : List ℕ → List (ℕ × ℕ) → Type 0
 AreUnclosed cs [] = Unit {0}
 AreUnclosed cs (o ∷ os) = IsUnclosed cs o.0 × AreUnclosed cs os
 
--- the invariant of the openers and closers of a sequence of `count` characters, taken up to `next`
+-- the invariant of the openers and the list of closers of a sequence of `count` characters, of which those before index `next` are taken.
+-- The list is empty before the first opener
 pub record IsSearched (count next : ℕ) (os : List (ℕ × ℕ)) (cs : List ℕ) : Type 0 where
   pub falling : IsFalling next os
   pub unclosed : AreUnclosed cs os

@@ -7,7 +7,8 @@ pub fn pairs_are_nested()
     ensures { PairsAreNested }
 {}
 
-/// An opener and its closer side by side are a pair, if fewer than 63 characters come before them.
+/// An opener and its closer side by side are a pair, if fewer than 63 characters come before them: then the stack, which has room
+/// for 63 openers (BD16), is not full.
 pub fn neighbours_are_paired()
     ensures { NeighboursArePaired }
 {}

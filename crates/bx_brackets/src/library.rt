@@ -13,7 +13,7 @@ use bx_ucd::class::direction;
 use bx_ucd::{BidiData, Class, Side};
 use std::alloc::{AllocError, Global};
 
-/// The position of a new pair among pairs sorted by opener.
+/// The position in the list `found`, of pairs sorted by opener, at which a new pair is inserted.
 #[tactic(auto, using(crate::proofs::Insert::insert_here, crate::proofs::Insert::insert_start))]
 fn index_for(found: &[(usize, usize)], pair: (usize, usize)) -> usize
     requires sorted { AreSorted 0 found.now }

@@ -7,7 +7,7 @@ use arrayvec::ArrayVec;
 use bx_ucd::{BidiData, Class, Side};
 use std::marker::Model;
 
-/// The character that a bracket is compared as: angle brackets have canonical equivalents (BD16).
+/// The character that a bracket is compared as: U+2329 and U+232A have canonical equivalents (BD16).
 pub fn canonical(c: char) -> char
     ensures { result ≡ canonical c }
 {
@@ -32,10 +32,11 @@ pub fn bracket_at<D: BidiData>(tables: &D, c: char, t: Class) -> Option<(Side, c
 /// The capacity of the stack of openers (BD16).
 const BRACKET_ROOM: usize = 63;
 
-/// The modulus that maps a closer to its slot in `missed`.
+/// The length of `missed`, where a closer is noted at its code's remainder by this number. By 31 the closers `)`, `]`, `}` and
+/// those of U+3009 to U+301B have different remainders. Two closers at one remainder cost time alone.
 const REMAINDERS: usize = 31;
 
-/// The stack of unmatched openers, each an index and the closer that it waits for.
+/// The stack of unmatched openers, each its index in the sequence and the closer that it waits for, as `canonical` gives it.
 #[derive(Drop)]
 pub struct OpenStack {
     openers: ArrayVec<(usize, char), BRACKET_ROOM>,
@@ -52,7 +53,7 @@ impl Model for OpenStack {
     ghost invariant = { λ s. AreMissed s.missed (reverse s.openers.items) };
 }
 
-/// The index in `openers` of the last opener that waits for a closer.
+/// The index in the list `openers` of the last one that waits for this closer.
 #[tactic(auto, using(crate::proofs::Close::find_here, crate::proofs::Close::find_more, crate::proofs::Close::below_here, crate::proofs::Close::below_more, crate::proofs::Close::take_it))]
 fn last_for(openers: &[(usize, char)], closer: char) -> Option<usize>
     ensures within { IfSome result (λ k. k < length openers.now) }
@@ -94,7 +95,7 @@ impl OpenStack {
         self.openers.is_full()
     }
 
-    /// Pushes the opener at `index`, which waits for `closer`.
+    /// Pushes the opener at `index` of the sequence, which waits for `closer`.
     pub fn push(&mut self, index: usize, closer: char)
         requires { length self.old < bracket_room }
         ensures { self.new ≡ (index, closer) ∷ self.old }
@@ -103,7 +104,8 @@ impl OpenStack {
         self.openers.push((index, closer));
     }
 
-    /// Pops the last opener that waits for the closer, and all openers above it. Returns its index in the sequence.
+    /// Pops the last opener that waits for the closer, and all openers above it. Returns its index in the sequence, or `None` if no
+    /// opener waits for the closer.
     #[inline(always)]
     pub fn close(&mut self, closer: char) -> Option<usize>
         ensures index { result ≡ index_of (find (is_for closer) self.old) }

@@ -1,4 +1,5 @@
-//! The types of bracket pairs (N0).
+//! The types of bracket pairs (N0), pair by pair. A range that one pair's search found clear of a direction is not searched again for
+//! the next pair. `embedding` is the direction of the sequence's level, L or R.
 ghost use Rattle.std.specs.Prelude.{◌≡◌, ◌+◌, ◌-◌, ◌<◌, ◌≤◌, length, reverse, take, drop, All};
 ghost use Rattle.std.specs.List.{list_any};
 ghost use Rattle.bx_ucd.specs.Class.{direction};
@@ -44,15 +45,15 @@ struct Clear {
     to: usize,
 }
 
-/// A range clear of the embedding direction, and a range clear of the other.
+/// A range clear of the embedding direction, and a range clear of the other direction.
 #[derive(Clone, Copy, PartialEq, Eq, Debug)]
 struct Clears {
     embedding: Clear,
     other: Clear,
 }
 
-/// Whether a type in `from..to` counts as the direction, and the range then known to be clear of it. Skips indexes that
-/// are known to be clear.
+/// Whether a type at an index in `from..to` counts as the direction `d`, and the range then known to be clear of it. Skips the
+/// indexes of `clear`, which is known to be clear.
 fn has(d: Class, clear: Clear, types: &[Class], from: usize, to: usize) -> (bool, Clear)
     requires within { to ≤ length types.now }
     requires known { IsClear d types.now clear }
@@ -79,7 +80,7 @@ fn between(clear: Clear, from: usize, to: usize) -> Clear
     }
 }
 
-/// The last direction in the list, or `sos`.
+/// The direction of the last type that counts as L or R, or `sos` if there is none.
 #[tactic(auto, using(crate::proofs::Marks::nearest_left, crate::proofs::Marks::nearest_right, crate::proofs::Marks::nearest_none, crate::proofs::Marks::take_it))]
 fn nearest(sos: Class, types: &[Class]) -> Class
     ensures { result ≡ nearest sos (reverse types.now) }
@@ -97,7 +98,8 @@ fn nearest(sos: Class, types: &[Class]) -> Class
     sos
 }
 
-/// The context of an index: the nearest direction before it. A known context of an earlier index shortens the search.
+/// The context of an index: the nearest direction before it. `known`, an index with its context, shortens the search if that index
+/// is not greater.
 #[tactic(auto, using(crate::proofs::Context::context_later))]
 fn context(sos: Class, known: (usize, Class), types: &[Class], index: usize) -> Class
     requires within { index ≤ length types.now }
@@ -149,7 +151,7 @@ fn pair_direction(
     }
 }
 
-/// Sets the type of a bracket and of the marks after it. Returns the end of the changed range.
+/// Sets the type of the bracket at index `p` and of the marks after it to `d`. Returns the index behind the last one changed.
 #[tactic(auto, using(crate::proofs::Marks::marks_more, crate::proofs::Marks::marks_stop, crate::proofs::Marks::marks_all, crate::proofs::Marks::marks_start))]
 fn change_bracket(types: &mut [Class], was_nsm: &[bool], d: Class, p: usize) -> usize
     requires within { p < length types.old }
@@ -167,7 +169,8 @@ fn change_bracket(types: &mut [Class], was_nsm: &[bool], d: Class, p: usize) -> 
     types.len()
 }
 
-/// The ranges that stay clear after the brackets of a pair took a direction.
+/// The ranges that stay clear after the brackets of a pair, with the marks behind them, took the direction `d`: `from..to` is
+/// between them.
 fn clear_after(embedding: Class, d: Class, clears: Clears, from: usize, to: usize) -> Clears
     ensures { result ≡ clear_after embedding d clears from to }
 {
@@ -184,7 +187,7 @@ fn clear_after(embedding: Class, d: Class, clears: Clears, from: usize, to: usiz
     }
 }
 
-/// Gives a pair its direction in a context, and returns the ranges then known to be clear.
+/// Gives a pair, the indexes of its opener and its closer, its direction in a context. Returns the ranges then known to be clear.
 fn resolve_in(
     types: &mut [Class],
     was_nsm: &[bool],
@@ -215,7 +218,9 @@ fn resolve_in(
 /// State that a walk over the pairs carries: the context of an index, and the clear ranges.
 #[derive(Clone, Copy, PartialEq, Eq, Debug)]
 pub(crate) struct Known {
+    /// The index of the last pair's opener, 0 before the first pair.
     index: usize,
+    /// The nearest direction before `index`.
     context: Class,
     clears: Clears,
 }

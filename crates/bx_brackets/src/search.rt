@@ -1,4 +1,4 @@
-//! A search for bracket pairs that takes one character at a time.
+//! A search for bracket pairs (BD16) that takes one character at a time, so that no list of a sequence's characters is needed.
 ghost use Rattle.std.specs.Prelude.{◌≡◌, ℕ, ◌+◌, ◌^◌, ◌<◌, ◌≤◌, ◌⊎◌, IfOk, OnOk, OnErr, IfSome, List, length, [], false, find, replicate, Option, Some};
 ghost use Rattle.bx_ucd.specs.Data.{Data};
 ghost use Rattle.bx_ucd.specs.declared.class.Class.{Class};
@@ -17,7 +17,8 @@ use bx_ucd::{BidiData, Class, Side};
 use std::alloc::{AllocError, Global};
 use std::marker::Model;
 
-/// Fills the list with `count` empty entries. Capacity grows to the need, and by a quarter at least.
+/// Fills the list with `count` entries 0, which are no closers, since an opener comes before its closer. Capacity grows to the
+/// need, and by a quarter at least.
 #[inline(never)]
 fn make_entries(closers: &mut Vec<u32>, count: usize) -> Result<(), AllocError>
     requires none { length closers.old.items ≡ 0 }
@@ -31,7 +32,7 @@ fn make_entries(closers: &mut Vec<u32>, count: usize) -> Result<(), AllocError>
     closers.resize(count, 0)
 }
 
-/// Makes the entries on the first call of a search.
+/// Makes the entries at the first opener of a search; `count` is the number of the sequence's characters.
 fn need_entries(closers: &mut Vec<u32>, count: usize) -> Result<(), AllocError>
     requires long { (length closers.old.items ≡ 0) ⊎ (length closers.old.items ≡ count) }
     ensures long { OnOk result (length closers.new.items ≡ count) }
@@ -45,7 +46,8 @@ fn need_entries(closers: &mut Vec<u32>, count: usize) -> Result<(), AllocError>
     Ok(())
 }
 
-/// Takes the opener at `index`. True if the search ends here because the stack is full.
+/// Takes the opener at `index` of a sequence of `count` characters; `closer` is its counterpart. True if the search ends here
+/// because the stack is full.
 #[inline(always)]
 fn meet_opener(
     open: &mut OpenStack,
@@ -70,7 +72,7 @@ fn meet_opener(
     Ok(false)
 }
 
-/// Records the index of an opener's closer.
+/// Notes the index of a closer at the index of its opener, if it has one.
 fn note_closer(closers: &mut Vec<u32>, opener: Option<usize>, closer: usize)
     requires within { IfSome opener (λ k. k < length closers.old.items) }
     requires small { closer < 2 ^ 32 }
@@ -81,7 +83,7 @@ fn note_closer(closers: &mut Vec<u32>, opener: Option<usize>, closer: usize)
     }
 }
 
-/// Takes the closer at `index`.
+/// Takes the closer at `index`; `closer` is the character that it is compared as.
 #[inline(always)]
 #[tactic(auto, using(crate::proofs::Closers::found_pair))]
 fn meet_closer(
@@ -102,7 +104,8 @@ fn meet_closer(
     note_closer(closers, opener, index);
 }
 
-/// Takes the bracket at `index`. True if the search ends here because the stack is full.
+/// Takes the bracket `c` at `index`; `bracket` is its side and its counterpart. True if the search ends here because the stack is
+/// full.
 #[inline(always)]
 fn meet_bracket(
     open: &mut OpenStack,
@@ -140,6 +143,7 @@ pub struct PairSearch {
     count: usize,
     /// The first index not taken yet.
     next: usize,
+    /// Whether the search has ended at a full stack: later characters give no pair.
     is_over: bool,
 }
 

@@ -1,34 +1,36 @@
--- Grammars, which are lists of patterns with no match in common, and their laws.
+-- Grammars, which are lists of patterns with no match in common, and their laws. An item of a grammar is a match of one of its patterns.
 use Rattle.std.specs.Prelude.{◌≡◌, ◌↔◌, ℕ, Bool, true, false, ◌&&◌, ◌||◌, nat_le, nat_lt, List, [], ◌∷◌, ◌++◌}
 use Rattle.std.specs.List.{list_all}
 use Rattle.bx_bytes.specs.Pattern.{Piece, One, Many, matches_any, begins_any}
 
--- each match of the pattern has a byte
+-- each match of the pattern has at least one byte
 abbrev pub needs_byte : List Piece → Bool
 needs_byte [] = false
 needs_byte (One low high ∷ ps) = true
 needs_byte (Many low high ∷ ps) = needs_byte ps
 
+-- the ranges `a` to `b` and `c` to `d`, ends included, have no byte in common
 abbrev pub are_disjoint : ℕ → ℕ → ℕ → ℕ → Bool
 are_disjoint a b c d = nat_lt b c || nat_lt d a
 
--- no match of the pattern begins with a byte of the range
+-- no match of the pattern begins with a byte of the range `low` to `high`
 abbrev pub excludes : ℕ → ℕ → List Piece → Bool
 excludes low high [] = true
 excludes low high (One a b ∷ ps) = are_disjoint low high a b
 excludes low high (Many a b ∷ ps) = are_disjoint low high a b && excludes low high ps
 
--- the range of a `One` is not empty, and a `Many` is followed by a byte outside its range
+-- the range of each `One` is not empty, and each `Many` is followed by a byte outside its range, so that its end is seen
 abbrev pub is_sound : List Piece → Bool
 is_sound [] = true
 is_sound (One low high ∷ ps) = nat_le low high && is_sound ps
 is_sound (Many low high ∷ ps) = (needs_byte ps && excludes low high ps) && is_sound ps
 
--- the ranges of the patterns are disjoint at some byte
+-- at some byte, before the first `Many` of either, the two patterns have disjoint ranges, so that they have no match in common
 abbrev pub are_apart : List Piece → List Piece → Bool
 are_apart (One a b ∷ ps) (One c d ∷ qs) = are_disjoint a b c d || are_apart ps qs
 are_apart _ _ = false
 
+-- any two of the patterns are apart, in either order
 abbrev pub all_apart : List (List Piece) → Bool
 all_apart [] = true
 all_apart (p ∷ ps) = list_all (λ q. are_apart p q && are_apart q p) ps && all_apart ps

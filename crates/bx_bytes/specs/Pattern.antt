@@ -1,4 +1,4 @@
--- Patterns of bytes: sequences of ranges.
+-- Patterns of bytes: sequences of ranges, each of the bytes from `low` to `high`, both included.
 use Rattle.std.specs.Prelude.{ℕ, Bool, true, false, ◌&&◌, List, [], ◌∷◌, if◌then◌else◌}
 use Rattle.std.specs.List.{list_any}
 pub use Rattle.bx_terms.specs.Characters.{is_within}
@@ -8,7 +8,7 @@ pub data Piece : Type 0 where
   One : (low high : ℕ) → Piece
   Many : (low high : ℕ) → Piece
 
--- the bytes from the first one outside the range
+-- the bytes from the first one outside the range on
 abbrev pub past : ℕ → ℕ → List ℕ → List ℕ
 past low high [] = []
 past low high (b ∷ bs) = if is_within low high b then past low high bs else b ∷ bs

@@ -1,13 +1,14 @@
--- Well-formed UTF-8 byte sequences (the Unicode Standard, table 3-7).
+-- Well-formed UTF-8 byte sequences (the Unicode Standard, table 3-7), as a grammar whose items are the characters.
 use Rattle.std.specs.Prelude.{◌≡◌, ◌↔◌, ℕ, Bool, true, List, [], ◌∷◌}
 use Rattle.std.specs.Char.{IsScalar, encode_utf8}
 use Rattle.bx_bytes.specs.Pattern.{Piece, One, matches_any, begins_any}
 pub use Rattle.bx_terms.specs.Characters.{is_control, is_ascii_printable, are_printable}
 
+-- a byte after the first, where the table has its whole range
 abbrev pub trail : Piece
 trail = One 0x80 0xBF
 
--- the rows of more than one byte
+-- the table's rows of more than one byte
 abbrev pub long_characters : List (List Piece)
 long_characters =
     (One 0xC2 0xDF ∷ trail ∷ [])
@@ -20,6 +21,7 @@ long_characters =
     ∷ (One 0xF4 0xF4 ∷ One 0x80 0x8F ∷ trail ∷ trail ∷ [])
     ∷ []
 
+-- all rows of the table
 abbrev pub characters : List (List Piece)
 characters = (One 0x00 0x7F ∷ []) ∷ long_characters
 

@@ -1,6 +1,6 @@
-//! The state of a grammar's reader after the bytes read so far.
+//! What the bytes read so far are to a grammar.
 
-/// The state of a grammar's reader after some bytes.
+/// What the bytes read so far are to a grammar.
 #[derive(Clone, Copy, PartialEq, Eq, Debug)]
 pub enum Fate {
     /// The bytes begin an item and are not the whole of it: more may follow.

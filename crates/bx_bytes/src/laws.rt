@@ -15,7 +15,7 @@ pub fn none_begins_longer()
     ensures { (patterns : List (List Piece)) → is_grammar patterns ≡ true → NoneBeginsLonger patterns }
 {}
 
-/// The rows of UTF-8 form a grammar, whose items are exactly the encodings of the Unicode scalar values.
+/// The rows of the table of UTF-8 form a grammar, whose items are exactly the encodings of the Unicode scalar values.
 pub fn characters_are_encodings()
     ensures grammar { is_grammar characters ≡ true }
     ensures encodings { AreEncodings }

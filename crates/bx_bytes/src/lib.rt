@@ -1,7 +1,7 @@
 //! Grammars of bytes, the well-formed byte sequences of UTF-8, and a write of all of some bytes.
 //!
 //! A reader of a stream asks after each byte whether the bytes so far wait for more, are a whole item, or begin none.
-//! [`Fate`] is the answer, and [`character_fate`] computes it for characters.
+//! [`Fate`] has these three cases, and [`character_fate`] finds the one of a character's bytes.
 #![tactic(auto)]
 
 mod fate;

@@ -8,7 +8,7 @@ ghost use Rattle.bx_bytes.specs.Utf8.{characters};
 
 use crate::fate::Fate;
 
-/// The state after one more byte, where `read` is empty or begins a character.
+/// What the bytes `read` and then `byte` are to the grammar of characters; `read` is empty or begins a character.
 pub fn character_fate(read: &[u8], byte: u8) -> Fate
     requires { fate_in characters read.now ≡ Fate.Waits }
     ensures { result ≡ fate_in characters (read.now ++ byte ∷ []) }
@@ -27,12 +27,14 @@ pub fn character_fate(read: &[u8], byte: u8) -> Fate
     }
 }
 
+/// Whether a byte is 10xxxxxx in binary, as all after the first are.
 fn is_trail(byte: u8) -> bool
     ensures { result ≡ is_within 0x80 0xBF byte }
 {
     0x80 <= byte && byte <= 0xBF
 }
 
+/// C0, C1 and F5 to FF begin no character, and neither do the bytes 10xxxxxx.
 fn fate_of_first(byte: u8) -> Fate
     ensures { result ≡ fate_in characters (byte ∷ []) }
 {
@@ -43,7 +45,8 @@ fn fate_of_first(byte: u8) -> Fate
     }
 }
 
-/// Refuses overlong forms (after E0 and F0), surrogates (after ED) and codes above U+10FFFF (after F4).
+/// Refuses overlong forms (after E0 and F0), surrogates (after ED) and codes above U+10FFFF (after F4). A second byte is the last
+/// after a lead below E0.
 fn fate_of_second(lead: u8, byte: u8) -> Fate
     requires { fate_in characters (lead ∷ []) ≡ Fate.Waits }
     ensures { result ≡ fate_in characters (lead ∷ byte ∷ []) }
@@ -64,6 +67,7 @@ fn fate_of_second(lead: u8, byte: u8) -> Fate
     }
 }
 
+/// A third byte is the last after a lead below F0.
 fn fate_of_third(lead: u8, second: u8, byte: u8) -> Fate
     requires { fate_in characters (lead ∷ second ∷ []) ≡ Fate.Waits }
     ensures { result ≡ fate_in characters (lead ∷ second ∷ byte ∷ []) }
@@ -77,7 +81,8 @@ fn fate_of_third(lead: u8, second: u8, byte: u8) -> Fate
     }
 }
 
-/// The character whose last byte is `byte`, after the bytes of `read`.
+/// The character whose last byte is `byte`, after the bytes of `read`. Its code has the bits of the lead but for the marker (C0, E0
+/// or F0), and six bits (a factor of 64) of each later byte but for the marker 80.
 pub fn character(read: &[u8], byte: u8) -> char
     requires { fate_in characters (read.now ++ byte ∷ []) ≡ Fate.Ends }
     ensures { chars (read.now ++ byte ∷ []) ≡ result ∷ [] }

@@ -1,4 +1,4 @@
-//! Writing bytes until a writer has all of them.
+//! Writing bytes until a writer has all of them, or fails.
 
 ghost use Rattle.std.specs.Prelude.{◌≤◌, IfErr, OnOk, length, take};
 ghost use Rattle.std.specs.Io.KnownBytes.{Appends, WriteAppends};
@@ -12,7 +12,7 @@ use thiserror::Error;
 #[derive(Clone, Copy, PartialEq, Eq, Debug, Error)]
 #[error("the write failed after {written} bytes")]
 pub struct WriteFault {
-    /// Number of bytes that were written before.
+    /// The number of bytes that were written before the failure.
     pub written: usize,
 }
 

@@ -1,4 +1,5 @@
--- The face of a grapheme cluster in a window of `w` columns. A cluster is given as its bytes.
+-- The face of a grapheme cluster in a window of `w` columns: what the window shows for it. A cluster is given as its bytes; `cs` are its
+-- characters.
 use Rattle.std.specs.Prelude.{ℕ, ◌==◌, nat_lt, Bool, true, false, List, [], ◌∷◌, Option, Some, None, chars}
 use Rattle.std.specs.List.{list_any}
 use Rattle.bx_ucd.specs.Data.{Data}
@@ -19,7 +20,7 @@ abbrev pub is_tab : Option ℕ → Bool
 is_tab None = false
 is_tab (Some c) = c == 9
 
--- the letter of an explicit formatting character: e E o O p for embeddings, i I f P for isolates
+-- the letter, as its ASCII byte, of an explicit formatting character: e E o O p for LRE RLE LRO RLO PDF, i I f P for LRI RLI FSI PDI
 abbrev pub letter_of : Class → Option ℕ
 letter_of LRE = Some 101
 letter_of RLE = Some 69
@@ -37,11 +38,11 @@ abbrev pub format_letter : Data → Option ℕ → Option ℕ
 format_letter says None = None
 format_letter says (Some c) = letter_of (says.class c)
 
--- the columns of a text, with ambiguous characters narrow
+-- the columns of a text, with East Asian ambiguous characters narrow
 abbrev pub columns_of : List ℕ → ℕ
 columns_of cs = str_width false cs
 
--- a text of n columns: the mark `~` for none, the mark `#` for more than the window has, else the text itself
+-- the face of a text of n columns: the mark `~` for none, the mark `#` for more than the window has, else the text itself
 abbrev pub sized_face : ℕ → ℕ → Face
 sized_face w n = elim (n == 0) [ true ↦ Mark 126 | false ↦ elim (nat_lt w n) [ true ↦ Mark 35 | false ↦ Own n ] ]
 

@@ -8,7 +8,7 @@ use Rattle.bx_cells.specs.Simple.{own_columns}
 use Rattle.bx_cells.specs.SimpleFace.{simple_face}
 use Rattle.bx_cells.specs.Units.{units_from}
 
--- `s` is the first cluster of a body from an offset on
+-- `s` is the first cluster of a body from the byte offset `at` on
 pub record IsSimpleAt (body : List ℕ) (at : ℕ) (s : SimpleCluster) : Type 0 where
   pub units : (says : Data) (w : ℕ) → units_from says w body at
       ≡ record { start = at; stop = s.stop; face = simple_face says w s.first s.is_marked } ∷ units_from says w body s.stop

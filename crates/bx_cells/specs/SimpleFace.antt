@@ -6,7 +6,7 @@ use Rattle.bx_cells.specs.declared.unit.Face.TheVariants.{Mark}
 use Rattle.bx_cells.specs.Faces.{format_letter, sized_face}
 use Rattle.bx_cells.specs.Simple.{own_columns}
 
--- a mark follows the first character
+-- there is a mark among those that follow a cluster's first character
 abbrev pub is_some_mark : List ℕ → Bool
 is_some_mark [] = false
 is_some_mark (m ∷ ms) = true

@@ -1,14 +1,14 @@
-//! Runs of printable ASCII.
+//! Runs of printable ASCII in a body: each byte, except maybe the last, which a mark may follow, is a unit of one column.
 ghost use Rattle.std.specs.Prelude.{◌≡◌, ◌≤◌, ◌<◌, ℕ, get_or, length, false, true};
 ghost use Rattle.bx_terms.specs.Characters.{is_ascii_printable};
 
 use crate::fitting::are_ascii_printable;
 use bx_terms::is_ascii_printable;
 
-/// Bytes tested at once.
+/// Bytes tested at once; 16 fill a vector register of 128 bits.
 const BLOCK: usize = 16;
 
-/// The end of the whole blocks of printable ASCII that begin at byte offset `at`.
+/// The byte offset after the whole blocks of printable ASCII that begin at `at`.
 #[inline(always)]
 #[tactic(auto, using(crate::proofs::Blocks::block_more))]
 fn blocks_stop(bytes: &[u8], at: usize) -> usize
@@ -28,7 +28,7 @@ fn blocks_stop(bytes: &[u8], at: usize) -> usize
     stop
 }
 
-/// The end of the printable ASCII that begins at byte offset `at`.
+/// The byte offset after the printable ASCII that begins at `at`.
 pub fn printable_stop(bytes: &[u8], at: usize) -> usize
     requires { at ≤ length bytes.now }
     ensures order { at ≤ result }

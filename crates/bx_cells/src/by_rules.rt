@@ -1,4 +1,4 @@
-//! A unit by the rules on grapheme cluster breaks (`unicode_segmentation`).
+//! A unit by the rules on grapheme cluster breaks (UAX #29, by `unicode_segmentation`), for clusters that are not simple.
 ghost use Rattle.std.specs.Prelude.{◌≡◌, ◌<◌, ◌∷◌, length};
 ghost use Rattle.std.specs.Str.{IsCharBoundary};
 ghost use Rattle.bx_cells.specs.Units.{units_from};
@@ -8,7 +8,7 @@ use crate::unit::Unit;
 use bx_ucd::BidiData;
 use unicode_segmentation::UnicodeSegmentation;
 
-/// The unit that begins at byte offset `at`, by the rules on breaks.
+/// The unit that begins at byte offset `at`, by the rules on breaks, in a window of `w` columns.
 pub fn ruled_unit<D: BidiData>(body: &str, at: usize, tables: &D, w: u16) -> Unit
     requires start { IsCharBoundary body.now at }
     requires some { at < length body.now }

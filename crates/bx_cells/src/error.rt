@@ -1,4 +1,4 @@
-//! The error of the calls that allocate.
+//! The error of this crate's calls that allocate.
 
 use bx_terms::OutOfMemory;
 

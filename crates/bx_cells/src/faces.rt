@@ -1,4 +1,4 @@
-//! The face of a cluster.
+//! The face of a cluster in a window of `w` columns: its own text, a tab, or a mark.
 ghost use Rattle.std.specs.Prelude.{◌≡◌, chars, false, length, None, ◌≤◌};
 ghost use Rattle.std.specs.List.{list_any};
 ghost use Rattle.bx_terms.specs.Characters.{is_control};
@@ -11,7 +11,8 @@ use bx_terms::is_control;
 use bx_ucd::{BidiData, Class};
 use unicode_width::UnicodeWidthStr;
 
-/// The letter that a mark shows for an explicit formatting character.
+/// The letter that a mark shows for an explicit formatting character: small for left to right, large for right to left, except
+/// that `f` is FSI, `p` PDF and `P` PDI.
 fn letter_of(class: Class) -> Option<u8>
     ensures { result ≡ letter_of class }
 {
@@ -71,7 +72,8 @@ fn small_face(w: u16, columns: u8) -> Face
     sized_face(w, usize::from(columns))
 }
 
-/// The face of a text of these columns that is not a tab, control or formatting character.
+/// The face of a text of these columns that is not a tab, control or formatting character: the mark `~` for no column, the mark
+/// `#` for more than the window has.
 fn sized_face(w: u16, columns: usize) -> Face
     ensures { result ≡ sized_face w columns }
 {
@@ -84,7 +86,7 @@ fn sized_face(w: u16, columns: usize) -> Face
     }
 }
 
-/// The face of a cluster whose first character takes `columns` columns; `is_marked` if marks follow it.
+/// The face of a simple cluster whose first character takes `columns` columns; `is_marked` if combining marks follow it.
 #[inline(always)]
 pub fn simple_face<D: BidiData>(
     first: char,

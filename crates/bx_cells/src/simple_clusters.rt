@@ -6,8 +6,8 @@ ghost use Rattle.bx_cells.specs.SimpleAt.{IsSimpleAt};
 use crate::simple::{Simple, simple_kind};
 use bx_terms::first_char;
 
-/// A cluster of simple characters: its first character and columns, whether marks follow, and the byte offset where the
-/// cluster ends.
+/// A cluster of simple characters: its first character and columns, whether combining marks follow, and the byte offset in the
+/// body where the cluster ends.
 #[derive(Clone, Copy, PartialEq, Eq, Debug)]
 pub struct SimpleCluster {
     pub first: char,

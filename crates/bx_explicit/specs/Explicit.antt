@@ -81,7 +81,7 @@ end_embedding s = elim (s.overflow_isolates) [
   ]
 ]
 
--- the state after a character of a role; for an FSI, `first` is the paragraph level of its isolate's text
+-- the state after a character of a role; for an FSI, `first` is the paragraph level of its isolate's text, else it is not used
 abbrev pub state_after : Role → ℕ → State → State
 -- X2
 state_after Rle first s = embed s (odd_above (top s).level) Neutral
@@ -106,12 +106,12 @@ state_after Pdf first s = end_embedding s
 -- X9: it is removed
 state_after Bn first s = s
 
--- the same, with the text `cs` after the character
+-- the same, where `cs` has the classes of the text after the character
 abbrev pub next_state : Role → List Class → State → State
 next_state Fsi cs s = state_after Fsi (isolate_level cs) s
 next_state role cs s = state_after role 0 s
 
--- the result for a character of a role, from the states before and after it
+-- the result for a character of a role and the class `c`, from the states `s` before it and `t` after it; `None` if X9 removes it
 abbrev pub kept_by : Role → Class → State → State → Option ExplicitChar
 -- X2 to X5 and X9: it is removed
 kept_by Rle c s t = None
@@ -129,10 +129,11 @@ kept_by Pdi c s t = kept_under (top t) c
 kept_by Pdf c s t = None
 kept_by Bn c s t = None
 
+-- the results for the characters with the classes `cs`, before which the state is `s`
 abbrev pub explicit_from : State → List Class → List (Option ExplicitChar)
 explicit_from s [] = []
 explicit_from s (c ∷ cs) = let t = next_state (role_of c) cs s in kept_by (role_of c) c s t ∷ explicit_from t cs
 
--- for each character of a paragraph, its level and its type after overrides, or nothing where X9 removes it
+-- for each character of a paragraph, its level and its type after overrides, or `None` where X9 removes it; `level` is the paragraph level
 abbrev pub explicit_levels : ℕ → List Class → List (Option ExplicitChar)
 explicit_levels level cs = explicit_from (start level) cs

@@ -1,4 +1,4 @@
--- A law of the rules for explicit levels.
+-- Laws of the rules for explicit levels: the states give the levels, and their stacks have room.
 use Rattle.std.specs.Prelude.{◌≡◌, ◌≤◌, ℕ, ◌+◌, List, [], ◌∷◌, Option, All, length}
 use Rattle.bx_ucd.specs.declared.class.Class.{Class}
 use Rattle.bx_explicit.specs.declared.entry.ExplicitChar.{ExplicitChar}
@@ -31,6 +31,6 @@ StatesGiveLevels = (level : ℕ) (cs : List Class) → given_between (states lev
 abbrev pub HasRoom : State → Type 0
 HasRoom s = length s.stack ≤ max_depth + 2
 
--- over any text each state keeps to it
+-- over any text, the stack of each state has room
 abbrev pub AlwaysHasRoom : Type 0
 AlwaysHasRoom = (level : ℕ) (cs : List Class) → level ≤ max_depth → All HasRoom (states level cs)

@@ -2,7 +2,7 @@
 use Rattle.std.specs.Prelude.{◌==◌, ℕ, ◌+◌, true, false, List, [], ◌∷◌, ◌++◌, Option, Some, None, drop}
 use Rattle.bx_explicit.specs.declared.entry.ExplicitChar.{ExplicitChar}
 
--- the indexes of the kept characters from `k` on, up to the first of another level
+-- the indexes of the kept characters from index `k` on, whose results are listed, up to the first of another level
 abbrev pub level_indexes : ℕ → ℕ → List (Option ExplicitChar) → List ℕ
 level_indexes level k [] = []
 level_indexes level k (None ∷ cs) = level_indexes level (k + 1) cs

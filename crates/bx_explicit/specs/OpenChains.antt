@@ -9,7 +9,7 @@ use Rattle.bx_explicit.specs.declared.runs.Run.{Run}
 use Rattle.bx_explicit.specs.Runs.{run, runs_from}
 use Rattle.bx_explicit.specs.Sequences.{RunSequence, starts_with_initiator, sequence_of}
 
--- the run that begins at an index
+-- the run at an index: the first of the runs from there on, or an empty value if there is none
 abbrev pub first_run_of : List Run → Run
 first_run_of [] = run 0 0 0
 first_run_of (r ∷ rs) = r
@@ -17,6 +17,7 @@ first_run_of (r ∷ rs) = r
 abbrev pub run_at : List (Option ExplicitChar) → ℕ → Run
 run_at kept p = first_run_of (runs_from p (drop p kept))
 
+-- the last character of a run is an isolate initiator
 abbrev pub ends_in_initiator : List Class → Run → Bool
 ends_in_initiator cs r = starts_with_initiator (drop r.last cs)
 
@@ -25,17 +26,17 @@ abbrev pub all_above : ℕ → List Run → Bool
 all_above level [] = true
 all_above level (r ∷ rs) = nat_lt level r.level && all_above level rs
 
--- `r` ends in an initiator, and `q`, the first run after `r` that is not above it, has its level
+-- `r` ends in an initiator, and `q`, the first run after `r` that is not above it, has its level; `between` are the runs between them
 abbrev pub is_resumed : List Class → Run → List Run → Run → Bool
 is_resumed cs r between q = ends_in_initiator cs r && (q.level == r.level) && all_above r.level between
 
--- the newest chain ends before the run `q` (chains the newest first, each with its newest run first)
+-- the newest chain ends before the run `q`: no later run can join it. Chains are listed the newest first, each with its newest run first
 abbrev pub is_over : List Class → List (List Run) → Run → Bool
 is_over cs [] q = false
 is_over cs ([] ∷ chains) q = true
 is_over cs ((r ∷ rs) ∷ chains) q = nat_lt q.level r.level || not (ends_in_initiator cs r)
 
--- the chains after the run `q`, before which the newest one does not end
+-- the chains with the run `q` taken, before which the newest chain does not end: `q` joins it if it has its level, else begins a chain
 abbrev pub with_run : List (List Run) → Run → List (List Run)
 with_run [] q = (q ∷ []) ∷ []
 with_run ([] ∷ chains) q = (q ∷ []) ∷ [] ∷ chains

@@ -8,7 +8,7 @@ use Rattle.bx_terms.specs.declared.base.Base.{Base}
 use Rattle.bx_terms.specs.declared.base.Base.TheVariants.{Auto, Ltr, Rtl}
 use Rattle.bx_explicit.specs.Matching.{isolated}
 
--- the number of characters skipped after `c`: after an initiator, those of its isolate
+-- the number of characters to skip after `c`: after an initiator, those of its isolate; `cs` is the text after `c`
 abbrev pub skipped : Class → List Class → ℕ
 skipped c cs = elim (is_initiator c) [ true ↦ isolated cs | false ↦ 0 ]
 

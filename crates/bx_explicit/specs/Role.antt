@@ -1,4 +1,4 @@
--- The role of each class in the rules for explicit levels.
+-- The role of each class in the rules for explicit levels: which of X2 to X9 is for it.
 use Rattle.bx_ucd.specs.declared.class.Class.{Class}
 use Rattle.bx_ucd.specs.declared.class.Class.TheVariants.{BN, LRE, LRO, RLE, RLO, PDF, LRI, RLI, FSI, PDI}
 use Rattle.bx_explicit.specs.declared.role.Role.{Role}

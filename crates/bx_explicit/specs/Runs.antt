@@ -1,8 +1,9 @@
--- Level runs, BD7.
+-- Level runs, BD7. Indexes count the characters of the paragraph from 0.
 use Rattle.std.specs.Prelude.{◌≤◌, ◌<◌, ◌==◌, ℕ, ◌+◌, ◌-◌, true, false, List, [], ◌∷◌, Option, Some, None, All, take, drop}
 use Rattle.bx_explicit.specs.declared.entry.ExplicitChar.{ExplicitChar}
 use Rattle.bx_explicit.specs.declared.runs.Run.{Run}
 
+-- the run of a level from the index `first` to the index `last`, both included
 abbrev pub run : ℕ → ℕ → ℕ → Run
 run level first last = record { level = level; first = first; last = last }
 

@@ -82,5 +82,7 @@ sequences_from paragraph cs kept before (r ∷ rs) = elim (follows cs before r) 
   | false ↦ sequence_of paragraph cs kept r (followers cs r rs) ∷ sequences_from paragraph cs kept (before ++ r ∷ []) rs
 ]
 
+-- the isolating run sequences of a paragraph, from its level, its characters' classes and the results of the explicit rules, sorted by
+-- first index
 abbrev pub sequences : ℕ → List Class → List (Option ExplicitChar) → List RunSequence
 sequences paragraph cs kept = sequences_from paragraph cs kept [] (runs_from 0 kept)

@@ -4,21 +4,24 @@ use Rattle.bx_explicit.specs.declared.entry.Entry.{Entry}
 use Rattle.bx_explicit.specs.declared.entry.Override.{Override}
 use Rattle.bx_explicit.specs.declared.entry.Override.TheVariants.{Neutral}
 
--- BD2: no explicit level exceeds max_depth; X1: the stack has at most max_depth + 2 entries
+-- BD2: no explicit level exceeds max_depth
 abbrev pub max_depth : ℕ
 max_depth = 125
 
+-- the greatest number of entries: max_depth + 2
 abbrev pub stack_room : ℕ
 stack_room = 127
 
+-- an entry of a level and an override status, and whether an isolate initiator pushed it
 abbrev pub entry : ℕ → Override → Bool → Entry
 entry l o i = record { level = l; forced = o; isolate = i }
 
--- the last entry
+-- the last entry; an empty stack, which X1 to X7 never leave, counts as one entry of level 0
 abbrev pub top_of : List Entry → Entry
 top_of [] = entry 0 Neutral false
 top_of (e ∷ es) = e
 
+-- what a pop gives, and the stack after it
 abbrev pub first_of : List Entry → Option Entry
 first_of [] = None
 first_of (e ∷ es) = Some e
@@ -27,11 +30,12 @@ abbrev pub rest_of : List Entry → List Entry
 rest_of [] = []
 rest_of (e ∷ es) = es
 
--- each entry has a higher level than the one before it, and none exceeds max_depth
+-- the entry has a higher level than the last one of a stack, if that has one
 abbrev pub IsAbove : Entry → List Entry → Type 0
 IsAbove e [] = Unit {0}
 IsAbove e (f ∷ es) = f.level < e.level
 
+-- each entry has a higher level than the one pushed before it, and none exceeds max_depth
 abbrev pub IsRising : List Entry → Type 0
 IsRising [] = Unit {0}
 IsRising (e ∷ es) = (e.level ≤ max_depth) × IsAbove e es × IsRising es

@@ -23,7 +23,7 @@ abbrev pub sequences_of : ℕ → List Class → List (Option ExplicitChar) → 
 sequences_of paragraph cs kept [] = []
 sequences_of paragraph cs kept (c ∷ chains) = sequence_of_runs paragraph cs kept (reverse c) ∷ sequences_of paragraph cs kept chains
 
--- the sequences of the open chains and the runs to come, in the order in which the chains end
+-- the sequences of the open chains and of the runs to come, in the order in which the chains end
 abbrev pub ending : ℕ → List Class → List (Option ExplicitChar) → List (List Run) → List Run → List RunSequence
 ending paragraph cs kept chains [] = sequences_of paragraph cs kept chains
 ending paragraph cs kept chains (q ∷ rest) = sequences_of paragraph cs kept (over_before cs chains q)
@@ -43,7 +43,7 @@ pub record IsApart (s : RunSequence) (others : List RunSequence) : Type 0 where
   pub inside : All (IsIn low high) s.indexes
   pub outside : All (λ (u : RunSequence). All (IsOut low high) u.indexes) others
 
--- `given` is a permutation of `all`; a sequence that moves ahead of others is apart from each of them
+-- the sequences that a walk gives are a permutation of `all`; one that is given ahead of others is apart from each of them
 abbrev pub AreGiven : List RunSequence → List RunSequence → Type 0
 AreGiven [] all = all ≡ []
 AreGiven (s ∷ given) all = (before : List RunSequence) × (after : List RunSequence) × (all ≡ before ++ s ∷ after) × IsApart s before
@@ -54,16 +54,17 @@ abbrev pub runs_to_come : List (Option ExplicitChar) → Option Run → List Run
 runs_to_come kept None = []
 runs_to_come kept (Some r) = r ∷ runs_from (r.last + 1) (drop (r.last + 1) kept)
 
--- `r` is a run of the text
+-- `r` is a level run of the text
 pub record IsRunOf (kept : List (Option ExplicitChar)) (r : Run) : Type 0 where
   pub own : r ≡ run_at kept r.first
   pub within : IsRunWithin 0 (length kept) r
 
+-- the next run, if there is one, is a run of the text
 abbrev pub IsToCome : List (Option ExplicitChar) → Option Run → Type 0
 IsToCome kept None = Unit {0}
 IsToCome kept (Some r) = IsRunOf kept r
 
--- the value of a walk: whether a sequence is lent, which one, and the sequences left
+-- the value of a walk: whether a sequence is lent, which one, and the sequences left, without the lent one
 pub record SequencesLeft : Type 0 where
   pub explicit : Explicit
   pub has_current : Bool

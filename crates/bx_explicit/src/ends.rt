@@ -1,4 +1,4 @@
-//! The types at the ends of an isolating run sequence (X10).
+//! The types at the ends of an isolating run sequence (X10): sos before its first character, eos after its last.
 ghost use Rattle.std.specs.Prelude.{◌≡◌, ◌<◌, ◌≤◌, length, reverse};
 ghost use Rattle.bx_explicit.specs.Sequences.{direction, level_of_first, start_class, level_after, end_class};
 
@@ -7,7 +7,7 @@ use crate::runs::Run;
 use bx_ucd::Class;
 use bx_ucd::class::{direction, is_initiator};
 
-/// The level of the last kept character, or the paragraph level.
+/// The level of the last kept character of a text, or the paragraph level if there is none.
 #[tactic(auto, using(crate::proofs::Nearest::before_more, crate::proofs::Nearest::before_here))]
 fn level_before(paragraph: u8, kept: &[Option<ExplicitChar>]) -> u8
     ensures { result ≡ level_of_first paragraph (reverse kept.now) }
@@ -22,7 +22,7 @@ fn level_before(paragraph: u8, kept: &[Option<ExplicitChar>]) -> u8
     paragraph
 }
 
-/// The level of the first kept character, or the paragraph level.
+/// The level of the first kept character of a text, or the paragraph level if there is none.
 #[tactic(auto, using(crate::proofs::Nearest::first_more, crate::proofs::Nearest::first_here, crate::proofs::Nearest::first_none))]
 fn level_of_first(paragraph: u8, kept: &[Option<ExplicitChar>]) -> u8
     ensures { result ≡ level_of_first paragraph kept.now }
@@ -44,7 +44,7 @@ pub fn start_class(explicit: &Explicit, run: Run) -> Class
     direction(run.level.max(before))
 }
 
-/// The level after a run whose last character is at index `last` (X10).
+/// The level after a run whose last character is at index `last` (X10); after an initiator it is the paragraph level.
 fn level_after(explicit: &Explicit, last: usize) -> u8
     requires { last < length explicit.now.kept.items }
     ensures { result ≡ level_after explicit.now.level explicit.now.classes.items explicit.now.kept.items last }

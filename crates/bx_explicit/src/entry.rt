@@ -1,4 +1,4 @@
-//! The entries and the results of the rules for explicit levels.
+//! The values of the rules for explicit levels: entries of the stack, and the result for each character.
 ghost use Rattle.std.specs.Prelude.{◌≡◌, ◌≤◌, All, length};
 ghost use Rattle.bx_explicit.specs.Explicit.{explicit_levels};
 ghost use Rattle.bx_explicit.specs.CharLevel.{level_or_0};
@@ -9,17 +9,23 @@ use bx_ucd::Class;
 /// The directional override status of an entry (X1).
 #[derive(Clone, Copy, PartialEq, Eq, Debug, Default)]
 pub enum Override {
+    /// No override.
     #[default]
     Neutral,
+    /// Characters get the type L.
     Left,
+    /// Characters get the type R.
     Right,
 }
 
 /// An entry of the directional status stack (X1).
 #[derive(Clone, Copy, PartialEq, Eq, Debug, Default)]
 pub struct Entry {
+    /// The embedding level.
     pub level: u8,
+    /// The directional override status.
     pub forced: Override,
+    /// The directional isolate status: whether an isolate initiator pushed the entry.
     pub isolate: bool,
 }
 

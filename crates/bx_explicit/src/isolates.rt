@@ -10,8 +10,8 @@ use bx_ucd::Class;
 use std::alloc::{AllocError, Global};
 use std::marker::Model;
 
-/// The text read so far is cut at each PDI that matches no initiator in it. `first` is the paragraph level of the first
-/// part, and `later` has the levels of the others, the nearest last.
+/// The text from the character read last to the end, cut into parts at each PDI that matches no initiator in it. `first` is the
+/// paragraph level of the first part, and `later` has the levels of the other parts, the nearest last.
 #[derive(Drop)]
 struct TextLevels {
     first: u8,
@@ -36,7 +36,7 @@ impl TextLevels {
         }
     }
 
-    /// The level of the first part.
+    /// The level of the first part: an initiator just before the text has this part as its isolate's text.
     fn first(&self) -> u8
         ensures { result ≡ first_level self.now }
     {

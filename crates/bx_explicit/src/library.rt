@@ -72,7 +72,7 @@ impl Sequence {
     }
 }
 
-/// Appends the indexes of the run that begins at `first`.
+/// Appends the indexes of the run of `level` that begins at index `first`.
 fn add_run(
     indexes: &mut Indexes,
     kept: &[Option<ExplicitChar>],
@@ -94,7 +94,7 @@ fn add_run(
     Ok(())
 }
 
-/// The indexes of the runs of one level that begin at `firsts`.
+/// The indexes of the runs of one level that begin at the indexes `firsts`.
 fn indexes_from(
     alloc: Global,
     kept: &[Option<ExplicitChar>],

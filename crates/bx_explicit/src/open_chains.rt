@@ -1,4 +1,5 @@
-//! Open chains: chains of level runs (BD13) that a later run may join, while the runs are met in order.
+//! Open chains: chains of level runs (BD13) that a later run may join, while the runs are met in order. A chain that no run can
+//! join any more is a whole isolating run sequence.
 ghost use Rattle.std.specs.Prelude.{◌≡◌, ◌==◌, ◌<◌, ◌≤◌, ◌-◌, ◌++◌, [], ◌∷◌, OnOk, OnErr, length, reverse, take};
 ghost use Rattle.bx_explicit.specs.LevelIndexes.{indexes_from};
 ghost use Rattle.bx_explicit.specs.OpenChains.{run_at, is_over, with_run, others, OpenRuns, newest_sequence};
@@ -17,10 +18,11 @@ use std::marker::Model;
 /// An open chain.
 #[derive(Clone, Copy, PartialEq, Eq, Debug)]
 pub struct OpenChain {
+    /// The level of all its runs.
     pub level: u8,
-    /// The last index of its newest run.
+    /// The index of the last character of its newest run.
     pub last: usize,
-    /// The index of its first run in `firsts`.
+    /// Where its runs begin in the list `firsts` of `OpenChains`.
     pub begin: usize,
 }
 
@@ -32,7 +34,7 @@ fn newest(chains: &[OpenChain]) -> OpenChain
     chains[chains.len() - 1]
 }
 
-/// Appends a run to the newest chain if that has its level, else pushes a new chain that begins at `begin`.
+/// Appends a run to the newest chain if that has its level, else pushes a new chain, whose runs begin at `begin` in `firsts`.
 #[tactic(auto, using(crate::proofs::LevelRuns::reverse_last, crate::proofs::LevelRuns::reverse_set, crate::proofs::LevelRuns::reverse_one))]
 fn join_chain(chains: &mut Vec<OpenChain>, run: Run, begin: usize) -> Result<(), AllocError>
     ensures ok { OnOk result (reverse chains.new.items ≡ open_with run begin (reverse chains.old.items)) }
@@ -56,7 +58,7 @@ fn join_chain(chains: &mut Vec<OpenChain>, run: Run, begin: usize) -> Result<(),
     Ok(())
 }
 
-/// Does the same, and appends the run's first index.
+/// Takes a run: as `join_chain`, and appends the run's first index to `firsts`.
 fn take_run(
     chains: &mut Vec<OpenChain>,
     firsts: &mut Vec<usize>,
@@ -77,8 +79,9 @@ fn take_run(
 #[derive(Drop)]
 pub struct OpenChains<'e> {
     explicit: &'e Explicit,
-    /// The first index of each run, the oldest first.
+    /// The index of the first character of each run of all chains, the oldest first.
     firsts: Vec<usize>,
+    /// The oldest first. The newest chain has the last runs of `firsts`.
     chains: Vec<OpenChain>,
 }
 
@@ -135,7 +138,7 @@ impl<'e> OpenChains<'e> {
         Ok(())
     }
 
-    /// Drops the newest chain.
+    /// Drops the newest chain, if there is one.
     pub fn drop_newest(&mut self)
         ensures explicit { self.new.explicit ≡ self.old.explicit }
         ensures chains { self.new.chains ≡ others self.old.chains }
@@ -154,7 +157,7 @@ impl<'e> OpenChains<'e> {
         newest(&self.chains).level
     }
 
-    /// The type before the newest chain (X10).
+    /// The type before the newest chain, sos, L or R (X10).
     pub fn sos(&self) -> Class
         requires { 0 < length self.now.chains }
         ensures { result ≡ (newest_sequence self.now).sos }
@@ -168,7 +171,7 @@ impl<'e> OpenChains<'e> {
         start_class(self.explicit, run)
     }
 
-    /// The type after the newest chain (X10).
+    /// The type after the newest chain, eos, L or R (X10).
     pub fn eos(&self) -> Class
         requires { 0 < length self.now.chains }
         ensures { result ≡ (newest_sequence self.now).eos }

@@ -6,7 +6,7 @@ ghost use Rattle.bx_explicit.specs.ParagraphLevel.{paragraph_level, base_level, 
 use bx_terms::Base;
 use bx_ucd::Class;
 
-/// The number of open isolates after a character.
+/// The number of open isolates after a character, given the number before it.
 fn count_after(isolates: usize, class: Class) -> usize
     requires { isolates < usize.MAX }
     ensures { result ≡ count_after isolates class }

@@ -1,10 +1,10 @@
-//! The role of each class in the rules for explicit levels.
+//! The role of each class in the rules for explicit levels: which of X2 to X9 is for it.
 ghost use Rattle.std.specs.Prelude.{◌≡◌};
 ghost use Rattle.bx_explicit.specs.Role.{role_of};
 
 use bx_ucd::Class;
 
-/// The role of a character in the rules, in the order of X2 to X9.
+/// The role of a character in the rules, in the order of X2 to X9. A role has the name of its class.
 #[derive(Clone, Copy, PartialEq, Eq, Debug)]
 pub enum Role {
     Rle,

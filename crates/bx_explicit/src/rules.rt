@@ -9,7 +9,7 @@ use crate::state::State;
 use bx_ucd::Class;
 use std::alloc::{AllocError, Global};
 
-/// The result for each character: `None` where X9 removes it.
+/// The result for each character, `None` where X9 removes it; `level` is the paragraph level.
 #[tactic(auto, using(crate::proofs::Steps::levels_more, crate::proofs::Steps::levels_all, crate::proofs::Steps::total_next))]
 fn kept_of(
     alloc: Global,

@@ -8,7 +8,7 @@ ghost use Rattle.bx_explicit.specs.Runs.{run, join_run, runs_from, IsRunWithin, 
 use crate::entry::ExplicitChar;
 use std::alloc::AllocError;
 
-/// A level run: the kept characters from index `first` to `last`, both included.
+/// A level run: the kept characters from index `first` to `last`, both included. Characters that X9 removes may be between them.
 #[derive(Clone, Copy, PartialEq, Eq, Debug)]
 pub struct Run {
     pub level: u8,
@@ -16,7 +16,7 @@ pub struct Run {
     pub last: usize,
 }
 
-/// Reserves room for one more item, where there is one per run. Capacity grows by a quarter, not by doubling, since a text
+/// Reserves room for one more item, where there is one per run. Capacity grows by a quarter and 8, not by doubling, since a text
 /// may have a run every few characters.
 pub fn make_room<T>(items: &mut Vec<T>) -> Result<(), AllocError>
     ensures same { items.new.items ≡ items.old.items }
@@ -30,7 +30,7 @@ pub fn make_room<T>(items: &mut Vec<T>) -> Result<(), AllocError>
     Ok(())
 }
 
-/// The last index of the run that begins at `first`.
+/// The index of the last character of the run of `level` that begins at index `first`.
 #[tactic(auto, using(crate::proofs::RunsAt::begins_at, crate::proofs::RunsAt::goes_on, crate::proofs::RunsAt::ends_before, crate::proofs::RunsAt::ends_last, crate::proofs::LevelRuns::runs_none))]
 fn last_of_run(kept: &[Option<ExplicitChar>], first: usize, level: u8) -> usize
     requires within { first < length kept.now }
@@ -53,7 +53,7 @@ fn last_of_run(kept: &[Option<ExplicitChar>], first: usize, level: u8) -> usize
     last
 }
 
-/// The first level run at or after index `from`.
+/// The first level run at or after index `from`; `None` if no kept character is there.
 #[tactic(auto, using(crate::proofs::LevelRuns::runs_none, crate::proofs::RunsAt::no_more, crate::proofs::RunsAt::level_of_some))]
 pub fn next_run(kept: &[Option<ExplicitChar>], from: usize) -> Option<Run>
     requires { from ≤ length kept.now }

@@ -14,12 +14,15 @@ use bx_ucd::Class;
 #[derive(Drop)]
 pub struct State {
     pub stack: EntryStack,
+    /// Open isolates that were not pushed, since their level would exceed `MAX_DEPTH` or something had overflowed before.
     pub overflow_isolates: usize,
+    /// Open embeddings and overrides that were not pushed for one of these reasons, while no isolate had overflowed.
     pub overflow_embeddings: usize,
+    /// Open isolates that were pushed.
     pub valid_isolates: usize,
 }
 
-/// The least odd level above a level.
+/// The least odd level above a level (X2, X4, X5a).
 pub fn odd_above(level: u8) -> u8
     requires { level ≤ max_depth }
     ensures { result ≡ odd_above level }
@@ -27,7 +30,7 @@ pub fn odd_above(level: u8) -> u8
     level + 1 + level % 2
 }
 
-/// The least even level above a level.
+/// The least even level above a level (X3, X5, X5b).
 pub fn even_above(level: u8) -> u8
     requires { level ≤ max_depth }
     ensures { result ≡ even_above level }
@@ -46,7 +49,7 @@ pub fn forced_class(forced: Override, class: Class) -> Class
     }
 }
 
-/// The level of an FSI's isolate whose text has the paragraph level `first` (X5c).
+/// The level of an FSI's isolate whose text has the paragraph level `first`, where the last entry has `level` (X5c).
 pub fn first_above(first: u8, level: u8) -> u8
     requires { level ≤ max_depth }
     ensures { result ≡ first_above first level }
@@ -59,7 +62,7 @@ pub fn first_above(first: u8, level: u8) -> u8
 }
 
 impl State {
-    /// The state before the first character (X1).
+    /// The state before the first character, where `level` is the paragraph level (X1).
     pub fn new(level: u8) -> Self
         requires { level ≤ max_depth }
         ensures { result ≡ start level }
@@ -79,7 +82,7 @@ impl State {
         level <= MAX_DEPTH && self.overflow_isolates == 0 && self.overflow_embeddings == 0
     }
 
-    /// Begins an embedding or an override (X2 to X5).
+    /// Begins an embedding or an override of this level (X2 to X5).
     pub fn embed(&mut self, level: u8, forced: Override)
         requires above { (top self.old).level < level }
         requires fits { self.old.overflow_embeddings < usize.MAX }
@@ -96,7 +99,7 @@ impl State {
         }
     }
 
-    /// Begins an isolate (X5a to X5c).
+    /// Begins an isolate of this level (X5a to X5c).
     pub fn isolate(&mut self, level: u8)
         requires above { (top self.old).level < level }
         requires isolates_fit { self.old.overflow_isolates < usize.MAX }
@@ -152,7 +155,8 @@ impl State {
         })
     }
 
-    /// Takes a character and returns its result. For an FSI, `first` is the paragraph level of its isolate's text.
+    /// Takes a character and returns its result, `None` if X9 removes it. For an FSI, `first` is the paragraph level of its
+    /// isolate's text; other classes do not use it.
     pub fn step(&mut self, class: Class, first: u8) -> Option<ExplicitChar>
         requires isolates_fit { self.old.overflow_isolates < usize.MAX }
         requires embeddings_fit { self.old.overflow_embeddings < usize.MAX }
@@ -160,6 +164,7 @@ impl State {
         ensures next { self.new ≡ state_after (role_of class) first self.old }
         ensures kept { result ≡ kept_by (role_of class) class self.old self.new }
     {
+        // By the last entry before the character (X5a to X5c, X6). A PDI goes by the one after it (X6a).
         let kept = self.kept_under(class);
         let level = self.stack.top().level;
         match role_of(class) {

@@ -14,7 +14,7 @@ use bx_ucd::Class;
 use std::alloc::Global;
 use std::marker::Model;
 
-/// Takes runs until the newest chain ends. False if no chain is left.
+/// Takes runs until the newest chain ends; `run` is the next run, `None` after the last. False if no chain is left.
 fn end_newest(
     explicit: &Explicit,
     chains: &mut OpenChains<'_>,
@@ -46,9 +46,9 @@ fn end_newest(
 pub struct SequenceWalk<'e> {
     explicit: &'e Explicit,
     chains: OpenChains<'e>,
-    /// The next level run.
+    /// The next level run; `None` after the last.
     run: Option<Run>,
-    /// Whether the newest chain is lent.
+    /// Whether the newest chain is lent, as a whole sequence. The next `advance` drops it.
     lent: bool,
 }
 

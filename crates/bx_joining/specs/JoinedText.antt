@@ -1,4 +1,4 @@
--- A text in the forms of its letters.
+-- A text shown in the forms of its letters.
 use Rattle.std.specs.Prelude.{◌≡◌, ℕ, All, List, None, ◌∷◌, unwrap_or, chars, encode_utf8_all}
 use Rattle.bx_ucd.specs.Data.{Data}
 use Rattle.bx_ucd.specs.declared.joining.Form.{Form}
@@ -8,7 +8,7 @@ abbrev pub in_forms : Data → List Form → List ℕ → List ℕ → List ℕ
 in_forms says (f ∷ fs) (letter ∷ letters) (c ∷ cs) = unwrap_or (says.form letter f) c ∷ in_forms says fs letters cs
 in_forms says _ _ cs = cs
 
--- a text with the forms of another text's letters
+-- the text `shown`, with the forms `forms` of the letters of `text` in place of its characters
 abbrev pub joined_image : Data → List Form → List ℕ → List ℕ → List ℕ
 joined_image says forms text shown = encode_utf8_all (in_forms says forms (chars text) (chars shown))
 

@@ -29,12 +29,12 @@ joins_on L = true
 joins_on C = true
 joins_on _ = false
 
--- the nearest character that is not transparent, in a list from the nearest on
+-- the nearest character that is not transparent, in a list from the nearest on: letters join across transparent ones (type T)
 abbrev pub neighbour : List Joiner → Option Joiner
 neighbour [] = None
 neighbour (x ∷ xs) = elim (is_transparent x.0) [ true ↦ neighbour xs | false ↦ Some x ]
 
--- the transparent characters nearer than the nearest that is not
+-- the transparent characters nearer than that one
 abbrev pub passed_over : List Joiner → List Joiner
 passed_over [] = []
 passed_over (x ∷ xs) = elim (is_transparent x.0) [ true ↦ x ∷ passed_over xs | false ↦ [] ]
@@ -42,7 +42,7 @@ passed_over (x ∷ xs) = elim (is_transparent x.0) [ true ↦ x ∷ passed_over 
 abbrev pub is_odd : ℕ → Bool
 is_odd level = level % 2 == 1
 
--- the levels of two characters, of those that have one, are odd and equal
+-- the levels of two characters are odd and equal, as far as they have one: joined letters run from right to left, side by side
 abbrev pub are_one_odd : Option ℕ → Option ℕ → Bool
 are_one_odd None None = true
 are_one_odd (Some level) None = is_odd level
@@ -54,11 +54,11 @@ abbrev pub is_lower : Option ℕ → Option ℕ → Bool
 is_lower (Some level) (Some other) = nat_lt level other
 is_lower _ _ = false
 
--- none of the characters between two has a lower level than one of them
+-- none of the characters between two has a lower level than one of these two, so that reordering keeps them side by side
 abbrev pub none_is_lower : List Joiner → Joiner → Joiner → Bool
 none_is_lower between first second = not (list_any (λ x. is_lower x.1 first.1 || is_lower x.1 second.1) between)
 
--- two neighbours join, the first before the second, with these characters between them
+-- two neighbours join, the first before the second, with the characters `between` between them
 abbrev pub join : Joiner → List Joiner → Joiner → Bool
 join first between second = (joins_on first.0 && joins_back second.0) && are_one_odd first.1 second.1 && none_is_lower between first second
 
@@ -70,7 +70,7 @@ joins_before before c = elim (neighbour before) [ None ↦ false | Some first �
 abbrev pub joins_after : Joiner → List Joiner → Bool
 joins_after c after = elim (neighbour after) [ None ↦ false | Some second ↦ join c (passed_over after) second ]
 
--- the form of a character that joins the one before it, and the one after it
+-- the form of a character, given whether it joins the one before it, and whether it joins the one after it
 abbrev pub form_if : Bool → Bool → Form
 form_if true true = Medial
 form_if true false = Final
@@ -82,7 +82,7 @@ abbrev pub forms_behind : List Joiner → List Joiner → List Form
 forms_behind before [] = []
 forms_behind before (c ∷ cs) = form_if (joins_before before c) (joins_after c cs) ∷ forms_behind (c ∷ before) cs
 
--- the joining types of a text's characters, which have the levels `each`
+-- the joining types and the levels of a text's characters, which have the levels `each`
 abbrev pub joiners : Data → List ℕ → List (Option ℕ) → List Joiner
 joiners says text each = zip (map says.joining (chars text)) each
 
@@ -90,12 +90,12 @@ joiners says text each = zip (map says.joining (chars text)) each
 abbrev pub body_forms : Data → List ℕ → List (Option ℕ) → List Form
 body_forms says body each = forms_behind [] (joiners says body each)
 
--- the first `n` of some forms, and isolated ones where there are too few
+-- the first `n` of the forms, followed by isolated ones if there are fewer
 abbrev pub first_forms : ℕ → List Form → List Form
 first_forms zero forms = []
 first_forms (suc n) [] = Isolated ∷ first_forms n []
 first_forms (suc n) (f ∷ fs) = f ∷ first_forms n fs
 
--- the forms of the characters of a text in the body, after `number` characters of the body
+-- the forms of the characters of a text that is in the body after its first `number` characters
 abbrev pub text_forms : Data → List ℕ → List (Option ℕ) → ℕ → List ℕ → List Form
 text_forms says body each number text = first_forms (length (chars text)) (drop number (body_forms says body each))

@@ -1,4 +1,5 @@
--- The nearest character that is not transparent, and the lowest level passed over.
+-- The nearest character that is not transparent, and the lowest level of the characters passed over, which is all that the code needs
+-- of them.
 use Rattle.std.specs.Prelude.{ℕ, min, List, [], ◌∷◌, Option, Some, None}
 use Rattle.bx_joining.specs.Joining.{Joiner, neighbour, passed_over}
 
@@ -13,6 +14,6 @@ abbrev pub lowest_level : List Joiner → Option ℕ
 lowest_level [] = None
 lowest_level (x ∷ xs) = lower_of x.1 (lowest_level xs)
 
--- in a list from the nearest on
+-- that character and that level, in a list from the nearest on; the level is `None` if no character with a level is passed over
 abbrev pub nearest : List Joiner → Option (Joiner × Option ℕ)
 nearest xs = elim (neighbour xs) [ None ↦ None | Some c ↦ Some (c, lowest_level (passed_over xs)) ]

@@ -1,4 +1,4 @@
-//! The forms of a body's letters, by the letters beside them.
+//! The forms in which a body's letters are shown, by the letters beside them.
 ghost use Rattle.std.specs.Prelude.{◌≡◌, ◌<◌, ◌++◌, ◌∷◌, ◌&&◌, ◌||◌, [], IsUtf8, List, MatchOption, None, chars, encode_utf8, false, length, reverse, slice_index_or, take, ℕ};
 ghost use Rattle.std.specs.Str.{IsCharBoundary};
 ghost use Rattle.bx_joining.specs.JoinedText.{AreFormless};
@@ -10,13 +10,14 @@ use bx_resolve::Level;
 use bx_terms::first_char;
 use bx_ucd::{BidiData, Form, Joining};
 
-/// A character's joining type, and its level unless X9 removes it.
+/// A character's joining type, and its level, `None` if X9 removes the character.
 type Joiner = (Joining, Option<u8>);
 
 /// The text of a body, and the level of each of its characters.
 #[derive(Clone, Copy)]
 pub struct LeveledBody<'t, 'e> {
     pub text: &'t str,
+    /// The level of each character of the text.
     pub each: &'e [Level],
 }
 
@@ -29,11 +30,13 @@ impl<'t, 'e> LeveledBody<'t, 'e> {
     }
 }
 
-/// The place of a text in a body: its offset in bytes, and the number of characters before it.
+/// Where a text is in a body.
 #[derive(Clone, Copy)]
 pub struct TextAt<'t, 'e> {
     pub body: LeveledBody<'t, 'e>,
+    /// Its offset in the body, in bytes.
     pub offset: usize,
+    /// The number of the body's characters before it.
     pub number: usize,
 }
 
@@ -70,7 +73,7 @@ fn joins_on(joining: Joining) -> bool
     matches!(joining, Joining::D | Joining::L | Joining::C)
 }
 
-/// Whether the levels of two characters, of those that have one, are odd and equal.
+/// Whether the levels of two characters are odd and equal, as far as they have one.
 fn are_one_odd(first: Option<u8>, second: Option<u8>) -> bool
     ensures { result ≡ are_one_odd first second }
 {
@@ -82,7 +85,7 @@ fn are_one_odd(first: Option<u8>, second: Option<u8>) -> bool
     }
 }
 
-/// Whether a level is lower than another, where there are both.
+/// Whether `level` is lower than `other`; false if one of them is missing.
 fn is_lower(level: Option<u8>, other: Option<u8>) -> bool
     ensures { result ≡ is_lower level other }
 {
@@ -92,7 +95,7 @@ fn is_lower(level: Option<u8>, other: Option<u8>) -> bool
     }
 }
 
-/// The lower of two levels, of those that there are.
+/// The lower of two levels, or the one that is there; `None` if none is.
 fn lower_of(level: Option<u8>, other: Option<u8>) -> Option<u8>
     ensures { result ≡ lower_of level other }
 {
@@ -110,14 +113,14 @@ fn is_lower_than_one(level: Option<u8>, first: Joiner, second: Joiner) -> bool
     is_lower(level, first.1) || is_lower(level, second.1)
 }
 
-/// Whether two neighbours join, the first before the second, where nothing between them has a lower level.
+/// Whether two neighbours join, the first before the second, if nothing between them has a lower level.
 fn could_join(first: Joiner, second: Joiner) -> bool
     ensures { result ≡ ((joins_on first.0 && joins_back second.0) && are_one_odd first.1 second.1) }
 {
     joins_on(first.0) && joins_back(second.0) && are_one_odd(first.1, second.1)
 }
 
-/// Whether two neighbours join, the first before the second, given the lowest level between them.
+/// Whether two neighbours join, the first before the second, given the lowest level between them (`None`: there is no level).
 fn join(first: Joiner, lowest: Option<u8>, second: Joiner) -> bool
     ensures { (between : List Joiner) → lowest_level between ≡ lowest → result ≡ join first between second }
 {
@@ -127,7 +130,7 @@ fn join(first: Joiner, lowest: Option<u8>, second: Joiner) -> bool
     could_join(first, second)
 }
 
-/// The form of a letter that joins the one before it, and the one after it.
+/// The form of a letter, given whether it joins the one before it, and whether it joins the one after it.
 fn form_if(joins_before: bool, joins_after: bool) -> Form
     ensures { result ≡ form_if joins_before joins_after }
 {
@@ -139,7 +142,7 @@ fn form_if(joins_before: bool, joins_after: bool) -> Form
     }
 }
 
-/// The first character of a text that is not transparent, and the lowest level before it.
+/// The first character of a text that is not transparent, and the lowest level of the characters before it.
 fn first_joiner<D: BidiData>(
     text: &str,
     levels: &[Level],
@@ -165,7 +168,7 @@ fn first_joiner<D: BidiData>(
     None
 }
 
-/// The last character of a text that is not transparent, and the lowest level after it.
+/// The last character of a text that is not transparent, and the lowest level of the characters after it.
 fn last_joiner<D: BidiData>(
     text: &str,
     levels: &[Level],
@@ -192,7 +195,7 @@ fn last_joiner<D: BidiData>(
     None
 }
 
-/// Whether a character joins the one before it, which is in the text before it.
+/// Whether the character `own` joins the one before it; `text` is the body before `own`, with its characters' levels.
 fn joins_before<D: BidiData>(own: Joiner, text: &str, levels: &[Level], tables: &D) -> bool
     requires { length levels.now ≡ length (chars text.now) }
     ensures { result ≡ joins_before (reverse (joiners (D.data tables.now) text.now levels.now)) own }
@@ -207,7 +210,7 @@ fn joins_before<D: BidiData>(own: Joiner, text: &str, levels: &[Level], tables: 
     }
 }
 
-/// Whether a character joins the one after it, which is in the text after it.
+/// Whether the character `own` joins the one after it; `text` is the body after `own`, with its characters' levels.
 fn joins_after<D: BidiData>(own: Joiner, text: &str, levels: &[Level], tables: &D) -> bool
     ensures { result ≡ joins_after own (joiners (D.data tables.now) text.now levels.now) }
 {
@@ -220,8 +223,8 @@ fn joins_after<D: BidiData>(own: Joiner, text: &str, levels: &[Level], tables: &
     }
 }
 
-/// The form of the character at a place of its body; isolated if the body has no such character. Where the character may
-/// join on a side, reads the transparent characters on that side and the next character.
+/// The form of the character at an offset of its body; isolated if the body has no character there. On a side where the character
+/// may join, reads the transparent characters and the next one that is not.
 fn form_at<D: BidiData>(at: TextAt<'_, '_>, tables: &D) -> Form
     requires boundary { IsCharBoundary at.body.text.now at.offset }
     requires number { at.number ≡ length (chars (take at.offset at.body.text.now)) }
@@ -254,7 +257,7 @@ fn has_form<D: BidiData>(c: char, tables: &D) -> bool
         || tables.form(c, Form::Final).is_some()
 }
 
-/// The character that shows a letter at a place of its body in its form, if the letter has that form.
+/// The character that shows a letter in the form that it has at this offset of its body, if the letter has that form.
 pub fn shown_form<D: BidiData>(letter: char, at: TextAt<'_, '_>, tables: &D) -> Option<char>
     requires boundary { IsCharBoundary at.body.text.now at.offset }
     requires number { at.number ≡ length (chars (take at.offset at.body.text.now)) }

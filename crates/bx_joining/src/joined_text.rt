@@ -1,4 +1,4 @@
-//! A text in the forms of its letters.
+//! A text shown in the forms of its letters.
 ghost use Rattle.std.specs.Prelude.{◌≡◌, IfOk, chars, length, string_bytes};
 ghost use Rattle.bx_joining.specs.JoinedText.{joined_image};
 ghost use Rattle.bx_joining.specs.Joining.{text_forms};
@@ -9,8 +9,8 @@ use bx_terms::first_char;
 use bx_ucd::BidiData;
 use std::alloc::{AllocError, Global};
 
-/// The text `shown` in the forms of the letters of `text`, a part of the body at a place. `shown` has a character for each of
-/// `text`, and keeps it where the letter has no such form.
+/// The text `shown` with the forms of the letters of `text`, which is the part of the body at `at`. `shown` has one character for
+/// each of `text` (its mirror, mostly itself), which stays where the letter has no such form.
 pub fn joined_image<D: BidiData>(
     alloc: Global,
     text: &str,

@@ -1,4 +1,4 @@
--- An edit of a paragraph's body, and its result.
+-- An edit of a paragraph's body, which puts a text in the place of the bytes `start..stop`, and its result.
 use Rattle.std.specs.Prelude.{◌≤◌, ℕ, List}
 use Rattle.std.specs.List.{splice}
 use Rattle.std.specs.Str.{IsCharBoundary}

@@ -9,8 +9,8 @@ use Rattle.bx_rows.specs.Wrapping.{wrap, row_units, first_offset}
 use Rattle.bx_rows.specs.RowLevels.{row_levels}
 use Rattle.bx_rows.specs.RowPicture.{Glyph, draw}
 
--- a row: its body, the paragraph level, the levels of the body's characters, the row's units with their levels, and whether it
--- is the paragraph's last row
+-- a row: its paragraph's body, the paragraph level, the levels of all characters of the body (`each`), the row's units, the level of each
+-- unit by L1 (`levels`), and whether it is the paragraph's last row
 pub record BodyRow : Type 0 where
   pub body : List ℕ
   pub paragraph : ℕ
@@ -24,7 +24,7 @@ abbrev pub row_with : Data → List ℕ → ℕ → List (Option ℕ) → Bool �
 row_with says body paragraph each is_last us =
     record { body = body; paragraph = paragraph; each = each; units = us; levels = row_levels says body paragraph each us; is_last = is_last }
 
--- rows in order, the last one marked as last
+-- the rows made of the units of each row, in order, the last one marked as last
 abbrev pub with_last : (Bool → List Unit → BodyRow) → List (List Unit) → List BodyRow
 with_last row [] = []
 with_last row (us ∷ []) = row true us ∷ []
@@ -59,7 +59,7 @@ last_offset (p ∷ q ∷ ps) = last_offset (q ∷ ps)
 abbrev pub last_of : BodyRow → ℕ
 last_of r = last_offset (offsets_of r)
 
--- the number of the last of increasing starts that is at or before an offset
+-- the number, from 0, of the last of increasing starts that is at or before an offset
 abbrev pub falls_in : List ℕ → ℕ → ℕ
 falls_in beginnings offset = count_by (λ b. nat_le b offset) beginnings - 1
 
@@ -71,10 +71,10 @@ row_of rows offset = falls_in (map first_of rows) offset
 abbrev pub no_row : BodyRow
 no_row = record { body = []; paragraph = 0; each = []; units = []; levels = []; is_last = true }
 
--- a row by its number
+-- a row by its number, from 0
 abbrev pub row_at : List BodyRow → ℕ → BodyRow
 row_at rows k = slice_index_or rows k no_row
 
--- the glyphs of a row from left to right
+-- the glyphs of a row from left to right, with the blanks that fill it to `w` columns
 abbrev pub row_glyphs : Data → ℕ → BodyRow → List Glyph
 row_glyphs says w r = draw says w r.body r.paragraph r.each r.units r.levels

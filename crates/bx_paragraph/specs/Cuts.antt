@@ -1,4 +1,5 @@
--- Edits cut off by strong characters: the levels of all characters outside these stay.
+-- Edits of a body cut off by two strong characters (L, R or AL), one before and one after: the levels of all characters outside the two
+-- stay, so only the text between them is resolved again. A bracket is a character that the tables list as one.
 use Rattle.std.specs.Prelude.{◌≡◌, ◌⊎◌, ◌<◌, ◌+◌, ◌&&◌, ℕ, Bool, true, not, List, ◌++◌, chars, drop, length, slice_index_or, take}
 use Rattle.std.specs.List.{list_all}
 use Rattle.std.specs.Str.{IsUtf8}
@@ -17,7 +18,7 @@ use Rattle.bx_paragraph.specs.declared.direction.Direction.{Direction}
 use Rattle.bx_paragraph.specs.declared.direction.Direction.TheVariants.{Either, LeftToRight, RightToLeft}
 use Rattle.bx_paragraph.specs.declared.text_edit.TextEdit.{TextEdit}
 
--- a strong character of a text
+-- `s` is a strong character of a text: its index counts characters, its start and its stop count bytes
 pub record IsStrongIn (says : Data) (text : List ℕ) (s : Strong) : Type 0 where
   pub inside : s.index < length (chars text)
   pub class_is : s.class ≡ says.class (slice_index_or (chars text) s.index 0)
@@ -25,13 +26,14 @@ pub record IsStrongIn (says : Data) (text : List ℕ) (s : Strong) : Type 0 wher
   pub start : IsOffset text s.index s.start
   pub stop : IsOffset text (s.index + 1) s.stop
 
--- a class that a text of a direction may have; left-to-right text stays so with its classes, right-to-left text likewise
+-- a class that a text of a direction may have: any but the formatting classes and BN; in left-to-right text also not R, AL or AN, and in
+-- right-to-left text not L, so that it stays of its direction
 abbrev pub is_of_direction : Direction → Class → Bool
 is_of_direction Either c = is_unformatted c
 is_of_direction LeftToRight c = is_plain c
 is_of_direction RightToLeft c = is_from_right c
 
--- the direction between two strong characters: theirs, if they have the same
+-- the direction between two strong characters of these classes: theirs, if they have the same, AL counting as R
 abbrev pub direction_between : Class → Class → Direction
 direction_between L L = LeftToRight
 direction_between L _ = Either
@@ -50,7 +52,7 @@ are_bare says direction text = list_all (is_bare says direction) (chars text)
 abbrev pub are_unformatted : Data → List ℕ → Bool
 are_unformatted says text = list_all (λ c. is_of_direction Either (says.class c)) (chars text)
 
--- an edit between `left` and `right`: no character of the four texts is a bracket or against the direction
+-- an edit between the texts `left` and `right`: no character of the four texts is a bracket or against the direction
 pub record IsBareEdit (says : Data) (direction : Direction) (t : TextEdit) (left right : List ℕ) : Type 0 where
   pub left_is : are_bare says direction left ≡ true
   pub removed_is : are_bare says direction t.removed.now ≡ true
@@ -61,12 +63,13 @@ pub record IsBareEdit (says : Data) (direction : Direction) (t : TextEdit) (left
 abbrev pub has_no_bracket : Data → List ℕ → Bool
 has_no_bracket says text = list_all (λ c. not (is_listed says c)) (chars text)
 
--- an edit with no bracket before the strong character `x` before it, or none after the strong character `y` after it
+-- no bracket is before `x`, the strong character before the edit, or none is after `y`, the strong character after it, so that no pair
+-- encloses both
 abbrev pub IsOpenEdit : Data → TextEdit → Strong → Strong → Type 0
 IsOpenEdit says t x y = ((has_no_bracket says t.front.now ≡ true) × (has_no_bracket says (take x.start t.near.now) ≡ true))
     ⊎ (has_no_bracket says (drop y.stop t.behind.now) ≡ true)
 
--- all characters between these two are of their direction, or of either direction if one side outside them has no brackets
+-- all characters between the strong characters `x` and `y` are of their direction, or of either direction if no bracket pair encloses both
 abbrev pub IsCutOffEdit : Data → TextEdit → Strong → Strong → Type 0
 IsCutOffEdit says t x y = IsBareEdit says (direction_between x.class y.class) t (drop x.stop t.near.now) (take y.start t.behind.now)
     ⊎ (IsBareEdit says Either t (drop x.stop t.near.now) (take y.start t.behind.now) × IsOpenEdit says t x y)

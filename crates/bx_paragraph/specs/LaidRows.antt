@@ -1,4 +1,4 @@
--- A row of a body, from a row that is laid out.
+-- The row of a body that a row laid out by the code (`LaidRow`) is.
 use Rattle.std.specs.Prelude.{Bool}
 use Rattle.bx_ucd.specs.declared.data.BidiData.{Ghosts}
 use Rattle.bx_rows.specs.declared.laid_row.LaidRow.{LaidRow}

@@ -9,8 +9,8 @@ use Rattle.bx_rows.specs.declared.start_search.RowStart.{RowStart}
 use Rattle.bx_rows.specs.RowStarts.{row_starts}
 use Rattle.bx_paragraph.specs.BodyRows.{BodyRow, body_rows, row_at}
 
--- a body, the base direction, the window's columns, the paragraph level, the characters' levels, the row starts, and whether
--- the body is known to have no formatting characters
+-- a body, the base direction, the window's columns (`w`), the paragraph level, the level of each character (`each`), the row starts, and
+-- whether the body is known to have no formatting characters
 pub record LayoutState : Type 0 where
   pub body : List ℕ
   pub base : Base
@@ -36,7 +36,7 @@ pub record IsSound (l : LayoutState) : Type 0 where
 abbrev pub rows_by : Data → LayoutState → List BodyRow
 rows_by says l = body_rows says l.base l.w l.body
 
--- row `k` of the layout
+-- row `k` of the layout, from 0
 abbrev pub row_by : Data → LayoutState → ℕ → BodyRow
 row_by says l k = row_at (rows_by says l) k
 

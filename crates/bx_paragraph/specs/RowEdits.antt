@@ -1,4 +1,5 @@
--- Rows before an edit that stay, and rows after it that meet the old ones.
+-- Rows before an edit that stay, and rows after it that meet the old ones: a row found in the edited text begins where an old row began, as
+-- seen from the edit's end, and from there on all rows are the old ones. Offsets count bytes.
 use Rattle.std.specs.Prelude.{◌≡◌, ◌<◌, ◌≤◌, ◌+◌, ◌-◌, ◌^◌, ℕ, List, length, slice_index_or}
 use Rattle.bx_rows.specs.declared.start_search.RowStart.{RowStart}
 
@@ -6,7 +7,8 @@ use Rattle.bx_rows.specs.declared.start_search.RowStart.{RowStart}
 abbrev pub origin : RowStart
 origin = record { offset = 0; units = 0; chars = 0 }
 
--- row `k` begins more than `w` units before a row that begins before an offset
+-- row `k` begins more than `w` units before a row that begins before `offset`, so what is at `offset` and after it does not change the
+-- starts up to row `k`
 pub record IsWellBefore (w offset : ℕ) (starts : List RowStart) (k : ℕ) : Type 0 where
   pub inside : k < length starts
   pub row : ℕ
@@ -20,7 +22,7 @@ pub record IsSamePlace (shift stop : ℕ) (new old : RowStart) : Type 0 where
   pub behind_stop : stop ≤ old.offset
   pub same : new.offset - shift ≡ old.offset - stop
 
--- the found row `i`, at most `last`, begins at the same place as the old row `k`
+-- the found row `i`, at most row `last`, begins at the same place as the old row `k`
 pub record DoMeet (shift stop : ℕ) (found starts : List RowStart) (last i k : ℕ) : Type 0 where
   pub found_inside : i ≤ last
   pub old_inside : k < length starts

@@ -1,4 +1,5 @@
--- The slots of a row of a body: its places from left to right, each with its columns.
+-- The slots of a row of a body: its places from left to right, each with its columns. Columns count from 1, offsets bytes of the body, and
+-- `w` is the number of the window's columns.
 use Rattle.std.specs.Prelude.{ℕ, zero, suc, ◌+◌, ◌-◌, ◌%◌, ◌==◌, ◌&&◌, nat_le, nat_lt, min, max, true, false}
 use Rattle.std.specs.Prelude.{Bool, List, [], ◌∷◌, ◌++◌, map, length, reverse, find, slice_index_or, Option, Some, None, option_map, unwrap_or}
 use Rattle.std.specs.List.{zip}
@@ -10,6 +11,7 @@ use Rattle.bx_paragraph.specs.declared.moves.Visual.TheVariants.{Left, Right}
 use Rattle.bx_paragraph.specs.declared.slot.Slot.{Slot}
 use Rattle.bx_paragraph.specs.BodyRows.{BodyRow}
 
+-- a slot by its offset, its leftmost column and its number of columns
 abbrev pub slot : ℕ → ℕ → ℕ → Slot
 slot offset column columns = record { offset = offset; column = column; columns = columns }
 
@@ -46,7 +48,7 @@ with_end paragraph end ss = elim (paragraph % 2) [ zero ↦ ss ++ end ∷ [] | s
 abbrev pub row_slots : ℕ → BodyRow → List Slot
 row_slots w r = elim (r.is_last) [ true ↦ with_end r.paragraph (end_slot w r) (unit_slots w r) | false ↦ unit_slots w r ]
 
--- their offsets from left to right
+-- the offsets of a row's slots from left to right
 abbrev pub slot_offsets : ℕ → BodyRow → List ℕ
 slot_offsets w r = map (λ s. s.offset) (row_slots w r)
 
@@ -55,7 +57,7 @@ abbrev pub first_in : List ℕ → Option ℕ
 first_in [] = None
 first_in (p ∷ ps) = Some p
 
--- the offset after a given one in a list
+-- the offset that follows a given one in a list; `None` after the last
 abbrev pub next_in : ℕ → List ℕ → Option ℕ
 next_in offset [] = None
 next_in offset (p ∷ ps) = elim (p == offset) [ true ↦ first_in ps | false ↦ next_in offset ps ]
@@ -69,7 +71,7 @@ toward Left offsets = reverse offsets
 abbrev pub beside : ℕ → BodyRow → Visual → ℕ → Option ℕ
 beside w r side offset = next_in offset (toward side (slot_offsets w r))
 
--- the reading direction of a paragraph of a level: right at level 0, left at level 1
+-- the side toward which a paragraph of this level is read: right at level 0, left at level 1
 abbrev pub reading_side : ℕ → Visual
 reading_side paragraph = elim (paragraph % 2) [ zero ↦ Right | suc _ ↦ Left ]
 
@@ -85,20 +87,20 @@ reading_order w r = toward (reading_side r.paragraph) (slot_offsets w r)
 abbrev pub reading_start : ℕ → BodyRow → Option ℕ
 reading_start w r = first_in (reading_order w r)
 
--- the offset of the slot at its reading end, the first in a move from there
+-- the offset of the slot at a row's reading end: the rightmost at level 0, the leftmost at level 1
 abbrev pub reading_end : ℕ → BodyRow → Option ℕ
 reading_end w r = first_in (toward (opposite (reading_side r.paragraph)) (slot_offsets w r))
 
--- a side is a row's reading direction
+-- a row is read toward this side
 abbrev pub reads_on : Visual → BodyRow → Bool
 reads_on Right r = elim (r.paragraph % 2) [ zero ↦ true | suc _ ↦ false ]
 reads_on Left r = elim (r.paragraph % 2) [ zero ↦ false | suc _ ↦ true ]
 
--- the column, from 1, of the slot at an offset
+-- the leftmost column, from 1, of the slot at an offset; 1 if there is none
 abbrev pub column_in : List Slot → ℕ → ℕ
 column_in ss offset = unwrap_or (option_map (λ s. s.column) (find (λ s. s.offset == offset) ss)) 1
 
--- likewise in a row
+-- the same in a row
 abbrev pub column_of : ℕ → BodyRow → ℕ → ℕ
 column_of w r offset = column_in (row_slots w r) offset
 
@@ -114,7 +116,7 @@ covering_in ss column = option_map (λ s. s.offset) (find (covers column) ss)
 abbrev pub covering : ℕ → BodyRow → ℕ → Option ℕ
 covering w r column = covering_in (row_slots w r) column
 
--- the first of two that is present
+-- the first of two offsets if it is there, else the second
 abbrev pub or_else : Option ℕ → Option ℕ → Option ℕ
 or_else None other = other
 or_else (Some p) other = Some p

@@ -1,4 +1,4 @@
-//! An edit of a body, and its result.
+//! An edit of a paragraph's body, and its result.
 ghost use Rattle.std.specs.Prelude.{◌≡◌, ◌≤◌, IfOk, drop, string_bytes};
 ghost use Rattle.std.specs.Str.{IsCharBoundary};
 ghost use Rattle.bx_paragraph.specs.BodyEdits.{IsEdit, changed};
@@ -7,8 +7,8 @@ use crate::text_edit::joined;
 use bx_rows::RowStart;
 use std::alloc::{AllocError, Global};
 
-/// An edit that replaces the bytes `start..stop` of a body with a text. `starts` are the body's row starts in a window of
-/// `w` columns.
+/// An edit that replaces the bytes `start..stop` of a body with the text `inserted`. `starts` are the body's row starts before the
+/// edit, in a window of `w` columns.
 #[derive(Clone, Copy)]
 pub(crate) struct BodyEdit<'t> {
     pub(crate) body: &'t str,

@@ -43,7 +43,7 @@ impl<'a, 't, D: BidiData> LentRow<'a, 't, D> {
     pub fn offsets(&self) -> Result<Vec<usize>, OutOfMemory>
         ensures { IfOk result (λ v. v.items ≡ offsets_of (row self.now)) }
     {
-        // the places of a row do not depend on its levels
+        // The places of a row do not depend on its levels, so its units are enough.
         let alloc = self.paragraph.allocator();
         let len = self.paragraph.body().len();
         let units = self.paragraph.lines(self.tables).units(alloc, self.number)?;
@@ -68,7 +68,7 @@ impl<'a, 't, D: BidiData> LentRow<'a, 't, D> {
         Ok(offsets)
     }
 
-    /// The offset of the row's slot next to another on a side, if there is one.
+    /// The offset of the row's slot next to the slot at `offset` on a side, if there is one.
     pub fn beside(&self, side: Visual, offset: usize) -> Result<Option<usize>, OutOfMemory>
         ensures { IfOk result (λ o. o ≡ beside self.now.paragraph.now.w (row self.now) side offset) }
     {

@@ -1,4 +1,4 @@
-//! Whether strong characters (UAX #9, table 4: L, R and AL) on either side cut off an edit.
+//! Whether strong characters (UAX #9, table 4: L, R and AL) on both sides cut off an edit, so that the levels outside them stay.
 ghost use Rattle.std.specs.Prelude.{◌≡◌, true, take};
 ghost use Rattle.bx_paragraph.specs.Cuts.{are_bare, has_no_bracket, IsBareEdit, IsCutOffEdit, IsOpenEdit, IsStrongIn};
 
@@ -7,7 +7,7 @@ use crate::strong::Strong;
 use crate::text_edit::TextEdit;
 use bx_ucd::BidiData;
 
-/// Whether the edit's texts and those on either side of it, up to the strong characters, are of one direction and have no
+/// Whether the edit's texts and the texts `left` and `right` of it, up to the strong characters, are of a direction and have no
 /// brackets.
 pub(crate) fn is_bare_edit<D: BidiData>(
     edit: &TextEdit<'_>,
@@ -27,7 +27,7 @@ pub(crate) fn is_bare_edit<D: BidiData>(
     are_bare(edit.inserted, direction, tables)
 }
 
-/// Whether no bracket precedes the strong character before an edit.
+/// Whether no bracket precedes `before`, the strong character before an edit.
 fn is_open_before<D: BidiData>(edit: &TextEdit<'_>, before: Strong, tables: &D) -> bool
     requires { IsStrongIn (D.data tables.now) edit.now.near.now before }
     ensures { result ≡ true → (has_no_bracket (D.data tables.now) edit.now.front.now ≡ true)
@@ -54,8 +54,8 @@ fn is_open<D: BidiData>(edit: &TextEdit<'_>, before: Strong, behind: Strong, tab
     is_open_before(edit, before, tables)
 }
 
-/// Whether the strong characters on its sides cut off an edit: all characters between them are of their direction, or of
-/// either direction if no bracket pair can enclose both.
+/// Whether the strong characters `before` an edit and `behind` it cut it off: all characters between them are of their direction,
+/// or of either direction if no bracket pair can enclose both.
 pub(crate) fn is_cut_off<D: BidiData>(
     edit: &TextEdit<'_>,
     before: Strong,

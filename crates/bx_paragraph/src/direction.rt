@@ -9,12 +9,15 @@ use bx_ucd::{BidiData, Class};
 /// The characters that a text may have: all but formatting characters, or only those that keep a text in one direction.
 #[derive(Clone, Copy, PartialEq, Eq, Debug)]
 pub(crate) enum Direction {
+    /// All but formatting characters and BN.
     Either,
+    /// Of these all but R, AL and AN.
     LeftToRight,
+    /// Of the first all but L.
     RightToLeft,
 }
 
-/// The direction between two strong characters, by their classes.
+/// The direction between two strong characters of these classes: theirs, if they have the same, AL counting as R.
 pub(crate) fn direction_between(before: Class, behind: Class) -> Direction
     ensures { result ≡ direction_between before behind }
 {

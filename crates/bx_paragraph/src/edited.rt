@@ -19,7 +19,8 @@ use bx_terms::{Base, OutOfMemory};
 use bx_ucd::BidiData;
 use std::mem;
 
-/// The edit that replaces the bytes `start..stop` of a body. Its near text begins at the row before the edit's row.
+/// The edit that replaces the bytes `start..stop` of a body, whose row starts are `starts`. Its near text begins at the row before
+/// the edit's row, the last of those that begin at or before `start`.
 fn text_edit<'t>(
     body: &'t str,
     starts: &[RowStart],
@@ -37,6 +38,7 @@ fn text_edit<'t>(
     let removed = &body[start..stop];
     let behind = &body[stop..];
     let from = starts[starts_up_to(starts, start).saturating_sub(2)];
+    // This holds for the row starts of a body; it is tested, so that it needs no proof.
     if from.offset <= start && body.is_char_boundary(from.offset) {
         return TextEdit {
             front: &body[..from.offset],
@@ -57,7 +59,7 @@ fn text_edit<'t>(
     }
 }
 
-/// Whether a body has no formatting characters. Checks them unless it is known.
+/// Whether a body has no formatting characters. Checks each character unless that is known (`is_unformatted`).
 fn has_none<D: BidiData>(is_unformatted: bool, body: &str, tables: &D) -> bool
     requires { is_unformatted ≡ true → HasNoFormatting (D.data tables.now) (chars body.now) }
     ensures { result ≡ true → HasNoFormatting (D.data tables.now) (chars body.now) }

@@ -14,7 +14,8 @@ use bx_rows::{RowStart, row_starts};
 use bx_terms::OutOfMemory;
 use bx_ucd::BidiData;
 
-/// The bytes after an edit that a first search covers, per column of the window.
+/// The bytes after an edit that a first search covers, per column of the window: four rows of characters of 4 bytes and one
+/// column.
 const REACH: usize = 16;
 
 /// The start of a text: `REACH` bytes per column of the window, extended to a character boundary.
@@ -32,8 +33,8 @@ fn near_text(text: &str, w: u16) -> &str
     &text[..at]
 }
 
-/// The indexes of a found row and an old row that begin at the same place after the edit. The found rows are those of the
-/// first `len` bytes of a text in which the edit ends at `shift`, without rows that the bytes after them could change.
+/// The indexes of a found row and an old row that begin at the same place after the edit, if any meet. `found` are the row starts
+/// of a text of `len` bytes in which the edit ends at `shift`; those that the bytes after it could change do not count.
 fn meeting_near(
     found: &[RowStart],
     len: usize,
@@ -88,7 +89,7 @@ fn push_rest<D: BidiData>(
     Ok(())
 }
 
-/// Finds the row starts of the edited body.
+/// Finds the row starts of the edited body, in place of the items of `starts`.
 pub(crate) fn edited_starts<D: BidiData>(
     starts: &mut Vec<RowStart>,
     edit: &BodyEdit<'_>,
@@ -103,6 +104,7 @@ pub(crate) fn edited_starts<D: BidiData>(
     starts.clear();
     if let Some(row) = well_before(edit.starts, edit.start, edit.w) {
         let first = edit.starts[row];
+        // This always holds; it is tested, so that it needs no proof.
         if first.offset <= edit.start && edit.body.is_char_boundary(first.offset) {
             starts.extend_from_slice(&edit.starts[..row])?;
             push_rest(starts, first, edit, tables)?;

@@ -1,4 +1,4 @@
-//! Changing a text in place.
+//! Changing a body in place, in room that is reserved before anything changes.
 ghost use Rattle.std.specs.Prelude.{◌≡◌, ◌≤◌, ◌<◌, ◌+◌, ◌^◌, OnOk, length, string_bytes, string_capacity, string_len};
 ghost use Rattle.std.specs.List.{splice};
 ghost use Rattle.std.specs.Str.{IsCharBoundary};

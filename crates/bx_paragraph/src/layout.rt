@@ -1,4 +1,4 @@
-//! The layout of one paragraph.
+//! The layout of one paragraph: what the view caches, to draw its rows and to move in them.
 ghost use Rattle.std.specs.Prelude.{◌≡◌, ◌≤◌, ◌<◌, ◌^◌, true, IfOk, OnErr, OnOk, count_by, length, nat_le, map, slice_index_or, string_bytes};
 ghost use Rattle.std.specs.List.Sorted.{IsNonDecreasingBy};
 ghost use Rattle.bx_terms.specs.Sizes.{is_side};
@@ -19,8 +19,10 @@ use std::marker::Model;
 pub struct ParagraphLayout {
     pub(crate) body: String,
     pub(crate) base: Base,
+    /// The window's columns.
     pub(crate) w: u16,
     pub(crate) levels: Levels,
+    /// The start of each row, at least one.
     pub(crate) starts: Vec<RowStart>,
     /// Whether the body is known to have no formatting characters.
     pub(crate) is_unformatted: bool,
@@ -186,7 +188,7 @@ impl ParagraphLayout {
     }
 }
 
-/// The number of row starts at or before an offset.
+/// The number of row starts at or before an offset, in bytes of the body.
 pub(crate) fn starts_up_to(starts: &[RowStart], offset: usize) -> usize
     ensures within { result ≤ length starts.now }
     ensures count { IsNonDecreasingBy (λ s. s.offset) starts.now → result ≡ count_by (λ o. nat_le o offset) (map (λ s. s.offset) starts.now) }

@@ -1,4 +1,4 @@
-//! A row that a layout lends.
+//! A row that a layout lends, of which slots, moves and glyphs are asked.
 ghost use Rattle.std.specs.Prelude.{⊤, ◌≡◌, ◌+◌, ◌^◌, ◌<◌, length};
 ghost use Rattle.bx_paragraph.specs.Layout.{IsLayoutBy, IsSound};
 ghost use Rattle.std.proofs.Props.{props};
@@ -8,7 +8,7 @@ use bx_ucd::BidiData;
 use std::alloc::AllocError;
 
 /// A row of a laid out paragraph, with the tables that the paragraph was laid out by. It borrows both, so making one costs
-/// nothing. Offsets of the paragraph's body are places of a text from `start` on.
+/// nothing. An offset of the body is the place `start` + offset in the text.
 pub struct LentRow<'a, 't, D: BidiData> {
     pub paragraph: &'a ParagraphLayout,
     pub tables: &'t D,

@@ -1,4 +1,4 @@
-//! The sides of a row.
+//! The sides of a row, left and right, by which moves in visual order are named.
 ghost use Rattle.std.specs.Prelude.{◌≡◌};
 ghost use Rattle.bx_paragraph.specs.Slots.{opposite, reading_side};
 

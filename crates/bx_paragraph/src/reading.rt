@@ -1,4 +1,4 @@
-//! Look-ups in the slots of a row.
+//! Look-ups in the slots of a row and in their offsets, which count bytes of the body.
 ghost use Rattle.std.specs.Prelude.{◌≡◌, IfOk, map};
 ghost use Rattle.bx_paragraph.specs.BodyRows.{last_offset};
 ghost use Rattle.bx_paragraph.specs.Slots.{column_in, covering_in, covers, first_in, next_in, toward};
@@ -32,7 +32,7 @@ pub(crate) fn offsets_toward(
     }
 }
 
-/// The first offset.
+/// The first offset, if there is one.
 pub(crate) fn first_in(offsets: &[usize]) -> Option<usize>
     ensures { result ≡ first_in offsets.now }
 {
@@ -50,7 +50,7 @@ pub(crate) fn last_offset(offsets: &[usize]) -> usize
     offsets[offsets.len() - 1]
 }
 
-/// The offset after a given one in a list.
+/// The offset that follows a given one in a list; `None` after the last.
 #[tactic(auto, using(crate::proofs::Offsets::next_here, crate::proofs::Offsets::next_behind, crate::proofs::Offsets::next_none))]
 pub(crate) fn next_in(offsets: &[usize], offset: usize) -> Option<usize>
     ensures { result ≡ next_in offset offsets.now }
@@ -65,7 +65,7 @@ pub(crate) fn next_in(offsets: &[usize], offset: usize) -> Option<usize>
     None
 }
 
-/// The column of the slot at an offset, or 1 if there is none.
+/// The leftmost column, from 1, of the slot at an offset, or 1 if there is none.
 pub(crate) fn column_in(slots: &[Slot], offset: usize) -> u16
     ensures { result ≡ column_in slots.now offset }
 {

@@ -1,4 +1,5 @@
-//! Rows before an edit that stay, and rows after it that meet the old ones.
+//! Rows before an edit that stay, and rows after it that meet the old ones: a row found in the edited text begins where an old row
+//! began, as seen from the edit's end, and from there on all rows are the old ones.
 ghost use Rattle.std.specs.Prelude.{◌≡◌, ◌≤◌, ◌<◌, ◌+◌, ◌++◌, All, IfSome, OnOk, length, map, true};
 ghost use Rattle.bx_rows.specs.LaterRows.{behind, moved};
 ghost use Rattle.bx_paragraph.specs.RowEdits.{DoMeet, HasRoom, IsSamePlace, IsWellBefore};
@@ -6,14 +7,14 @@ ghost use Rattle.bx_paragraph.specs.RowEdits.{DoMeet, HasRoom, IsSamePlace, IsWe
 use bx_rows::RowStart;
 use std::alloc::AllocError;
 
-/// Whether a row begins more than `w` units before another.
+/// Whether the row `first` begins more than `w` units before the row `row`.
 fn is_ahead(first: RowStart, row: RowStart, w: u16) -> bool
     ensures { result ≡ true → first.units + w < row.units }
 {
     row.units.saturating_sub(first.units) > usize::from(w)
 }
 
-/// The number of rows that begin before an offset.
+/// The number of rows that begin before an offset, in bytes.
 fn count_before(starts: &[RowStart], offset: usize) -> usize
     ensures { result ≤ length starts.now }
 {
@@ -51,7 +52,8 @@ fn is_same_place(new: RowStart, old: RowStart, shift: usize, stop: usize) -> boo
     new.offset - shift == old.offset - stop
 }
 
-/// The indexes of a found row, at most `last`, and of an old row that begin at the same place after an edit.
+/// The indexes of a found row, at most `last`, and of an old row (of `starts`) that begin at the same place after an edit, if any
+/// do. The edit ends at the byte offset `shift` in the text of the found rows, and at `stop` in the old body.
 pub(crate) fn meeting(
     found: &[RowStart],
     starts: &[RowStart],
@@ -120,7 +122,7 @@ pub(crate) fn push_behind(
     Ok(())
 }
 
-/// Appends rows, moved from after `old` to after `new`.
+/// Appends the rows `rest`, moved so that they begin as far after `new` as they did after `old`.
 pub(crate) fn push_moved(
     starts: &mut Vec<RowStart>,
     old: RowStart,

@@ -1,4 +1,4 @@
-//! A row laid out, its slots and its glyphs.
+//! What is read of a lent row: the row laid out, its slots and its glyphs.
 ghost use Rattle.std.specs.Prelude.{◌≡◌, ◌+◌, ◌==◌, All, IfOk, IsPermutation, length, map, sum_by, true};
 ghost use Rattle.std.specs.Cow.{cow_str_bytes};
 ghost use Rattle.bx_terms.specs.Glyphs.{is_one_glyph, run_width};

@@ -1,4 +1,4 @@
-//! Slots.
+//! Slots, the positions of the cursor in a row.
 
 /// A slot of a row: a position for the cursor.
 #[derive(Clone, Copy, PartialEq, Eq, Debug)]

@@ -12,7 +12,8 @@ use bx_terms::OutOfMemory;
 use bx_ucd::BidiData;
 use std::alloc::{AllocError, Global};
 
-/// Appends the slots of units side by side in a given order, from column `at` on.
+/// Appends the slots of units side by side, from column `at` on: `order` has the indexes of the units from left to right, and
+/// `columns` the number of columns of each unit.
 fn push_units(
     slots: &mut Vec<Slot>,
     units: &[Unit],
@@ -39,7 +40,7 @@ fn push_units(
     Ok(())
 }
 
-/// Appends the slot of the paragraph's end, if the row is the paragraph's last.
+/// Appends the slot of the paragraph's end, which covers no column, if the row is the paragraph's last.
 fn push_end(
     slots: &mut Vec<Slot>,
     is_last: bool,

@@ -1,4 +1,4 @@
-//! The position of a place in its row.
+//! The position of a place in its row, for the cursor and the status row.
 ghost use Rattle.std.specs.Prelude.{◌≡◌, IfOk, count_by, nat_lt};
 ghost use Rattle.bx_paragraph.specs.LentRow.{row};
 ghost use Rattle.bx_paragraph.specs.Slots.{column_of};
@@ -12,7 +12,7 @@ use bx_ucd::BidiData;
 /// The position of a place in its row.
 #[derive(Clone, Copy, PartialEq, Eq, Debug)]
 pub struct Standing {
-    /// The column, from 1, of the slot at the place; 1 if there is none.
+    /// The leftmost column, from 1, of the slot at the place; 1 if there is none.
     pub column: u16,
     /// The number of the row's units that begin before the place.
     pub units_before: usize,

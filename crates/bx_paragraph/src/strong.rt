@@ -8,17 +8,20 @@ use bx_terms::first_char;
 use bx_ucd::class::is_strong;
 use bx_ucd::{BidiData, Class};
 
-/// A strong character of a text: the number of characters before it, its class, and the offsets of its start and end in
-/// bytes.
+/// A strong character of a text.
 #[derive(Clone, Copy)]
 pub(crate) struct Strong {
+    /// The number of characters before it.
     pub(crate) index: usize,
+    /// L, R or AL; any class only while a character is tested (`later`).
     pub(crate) class: Class,
+    /// The offset of its first byte.
     pub(crate) start: usize,
+    /// The offset after its last byte.
     pub(crate) stop: usize,
 }
 
-/// The character at an offset, and the offset after it.
+/// The character at a byte offset, and the offset after it; `None` at the text's end.
 fn next_char(text: &str, at: usize) -> Option<(char, usize)>
     requires { IsCharBoundary text.now at }
     ensures { MatchOption result (length text.now ≡ at) (λ (c, next). (at < next) × IsCharBoundary text.now next
@@ -41,7 +44,7 @@ fn later(found: Option<Strong>, character: Strong) -> Option<Strong>
     }
 }
 
-/// The last strong character of a text.
+/// The last strong character of a text, if it has one.
 pub(crate) fn last_strong<D: BidiData>(text: &str, tables: &D) -> Option<Strong>
     ensures { IfSome result (IsStrongIn (D.data tables.now) text.now) }
 {
@@ -62,7 +65,7 @@ pub(crate) fn last_strong<D: BidiData>(text: &str, tables: &D) -> Option<Strong>
     found
 }
 
-/// The first strong character of a text.
+/// The first strong character of a text, if it has one.
 pub(crate) fn first_strong<D: BidiData>(text: &str, tables: &D) -> Option<Strong>
     ensures { IfSome result (IsStrongIn (D.data tables.now) text.now) }
 {

@@ -1,4 +1,4 @@
-//! Edits of a text, and the update of its levels.
+//! Edits of a body in parts, and the update of its levels by strong characters that cut an edit off.
 ghost use Rattle.std.specs.Prelude.{◌≡◌, ◌≤◌, ◌+◌, ◌++◌, IfOk, OnErr, chars, length, string_bytes, false, true};
 ghost use Rattle.bx_resolve.specs.Edited.{HasNoFormatting};
 ghost use Rattle.bx_paragraph.specs.Cuts.{AreAsBefore, FollowsEdit, IsStrongIn};
@@ -12,12 +12,14 @@ use bx_terms::OutOfMemory;
 use bx_ucd::BidiData;
 use std::alloc::{AllocError, Global};
 
-/// An edit of a text, in parts: the front, of `ahead` characters; the text near, just before the edit; the removed and the
-/// inserted text; and the text after.
+/// An edit of a body, in parts: the old body is `front`, `near`, `removed` and `behind`, and the new one has `inserted` in place of
+/// `removed`.
 #[derive(Clone, Copy)]
 pub(crate) struct TextEdit<'t> {
     pub(crate) front: &'t str,
+    /// The number of characters of `front`.
     pub(crate) ahead: usize,
+    /// The text just before the edit, in which the strong character before it is looked for.
     pub(crate) near: &'t str,
     pub(crate) removed: &'t str,
     pub(crate) inserted: &'t str,
@@ -41,7 +43,8 @@ pub(crate) fn joined(
     Ok(text)
 }
 
-/// Updates levels for an edit between two strong characters. Returns false, and changes nothing, if they do not cut it off.
+/// Updates levels for an edit between the strong characters `before` and `behind`. Returns false, and changes nothing, if they do
+/// not cut it off.
 fn follow_within<D: BidiData>(
     levels: &mut Levels,
     tables: &D,
@@ -72,8 +75,8 @@ fn follow_within<D: BidiData>(
     Ok(true)
 }
 
-/// Updates levels, from a strong character to the text's end, for an edit without a strong character after it. Returns
-/// false, and changes nothing, if the characters there are not bare.
+/// Updates levels, from the strong character `before` to the body's end, for an edit without a strong character after it. Returns
+/// false, and changes nothing, if one of the characters from there on, old or new, is a bracket or a formatting character.
 fn follow_behind<D: BidiData>(
     levels: &mut Levels,
     tables: &D,
@@ -117,6 +120,7 @@ pub(crate) fn follow<D: BidiData>(
     ensures none { IfOk result (λ b. b ≡ false → AreAsBefore levels.old levels.new) }
     ensures err { OnErr result (AreAsBefore levels.old levels.new) }
 {
+    // Never so; it is tested, so that it needs no proof.
     if levels.paragraph > 1 {
         return Ok(false);
     }

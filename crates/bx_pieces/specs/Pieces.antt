@@ -1,4 +1,4 @@
--- Sequences of pieces, split at offsets in bytes.
+-- Sequences of pieces of a text, split at offsets in bytes of that text.
 use Rattle.std.specs.Prelude.{◌^◌, ◌<◌, ◌&&◌, ℕ, ◌+◌, ◌-◌, Bool, true, false, nat_le, ◌==◌, List, [], ◌∷◌, ◌++◌, Option, Some, None, if◌then◌else◌}
 use Rattle.bx_pieces.specs.declared.piece.Buffer.{Buffer}
 use Rattle.bx_pieces.specs.declared.piece.Buffer.TheVariants.{Opened, Added}
@@ -30,16 +30,18 @@ abbrev pub back : List Piece → ℕ → List Piece
 back [] k = []
 back (p ∷ ps) k = if nat_le p.len k then back ps (k - p.len) else if k == 0 then p ∷ ps else rest_of p k ∷ ps
 
--- a piece begins where another one ends, in the same buffer
+-- the two buffers are the same
 abbrev pub are_same : Buffer → Buffer → Bool
 are_same Opened Opened = true
 are_same Opened Added = false
 are_same Added Opened = false
 are_same Added Added = true
 
+-- the piece `q` begins where `p` ends, in the same buffer
 abbrev pub goes_on : Piece → Piece → Bool
 goes_on p q = are_same p.buffer q.buffer && (p.start + p.len == q.start)
 
+-- the last piece, if there is one
 abbrev pub last_of : List Piece → Option Piece
 last_of [] = None
 last_of (p ∷ []) = Some p
@@ -51,7 +53,8 @@ longer [] n = []
 longer (p ∷ []) n = record p { len = p.len + n } ∷ []
 longer (p ∷ x ∷ ps) n = p ∷ longer (x ∷ ps) n
 
--- a piece is appended, or lengthens the last one if it begins where that one ends; an empty piece is ignored
+-- the pieces `ps`, whose last one is given, after a piece `q` is appended: it lengthens the last one if it begins where that one ends.
+-- `pushed` finds the last one itself, and ignores an empty piece
 abbrev pub pushed_after : Option Piece → List Piece → Piece → List Piece
 pushed_after None ps q = ps ++ q ∷ []
 pushed_after (Some p) ps q = if goes_on p q then longer ps q.len else ps ++ q ∷ []
@@ -59,7 +62,7 @@ pushed_after (Some p) ps q = if goes_on p q then longer ps q.len else ps ++ q �
 abbrev pub pushed : List Piece → Piece → List Piece
 pushed ps q = if q.len == 0 then ps else pushed_after (last_of ps) ps q
 
--- each piece ends at an offset below 2^64
+-- each piece ends at an offset of its buffer below 2^64
 abbrev pub IsAddressable : List Piece → Type 0
 IsAddressable [] = Unit {0}
 IsAddressable (p ∷ ps) = (p.start + p.len < 2 ^ 64) × IsAddressable ps

@@ -10,11 +10,12 @@ pub record Shape : Type 0 where
   pub pieces : List Piece
   pub depth : ℕ
 
--- the pieces of a tree, or none
+-- the pieces of a tree, in order; an empty tree has none
 abbrev pub sequence : Option (Box Shape Global) → List Piece
 sequence None = []
 sequence (Some tree) = tree.value.pieces
 
+-- the number of pieces on the longest path down
 abbrev pub depth_of : Option (Box Shape Global) → ℕ
 depth_of None = 0
 depth_of (Some tree) = tree.value.depth
@@ -26,7 +27,7 @@ fork left piece right = record {
   depth = max (depth_of left) (depth_of right) + 1;
 }
 
--- the depths differ by at most this
+-- two depths differ by at most `by`
 abbrev pub DifferByAtMost : ℕ → ℕ → ℕ → Type 0
 DifferByAtMost by left right = (left ≤ right + by) × (right ≤ left + by)
 
@@ -35,7 +36,8 @@ pub record IsShallow (depth : ℕ) (pieces : List Piece) : Type 0 where
   pub logarithmic : 2 ^ (depth / 2) ≤ length pieces + 1
   pub no_more_than_bytes : length pieces ≤ total pieces
 
--- the depths of the two sides differ by at most one, and the stored length and height are right
+-- the invariant of a tree: the depths of the two sides differ by at most one, its piece is not empty, the stored length (in bytes) and
+-- height are right, and so the tree is shallow
 pub record IsBalanced (left : Option (Box Shape Global)) (piece : Piece) (right : Option (Box Shape Global)) (len height : ℕ) : Type 0 where
   pub balanced : DifferByAtMost 1 (depth_of left) (depth_of right)
   pub some : 0 < piece.len

@@ -1,4 +1,4 @@
-//! Splits trees at an offset.
+//! Splits trees at an offset in bytes of the text.
 
 ghost use Rattle.std.specs.Prelude.{◌≡◌, ◌∷◌, ◌++◌, ◌+◌, ◌<◌, ◌≤◌, ◌^◌};
 ghost use Rattle.bx_pieces.specs.Pieces.{total, front, back, first_of, rest_of, IsAddressable};
@@ -27,7 +27,7 @@ fn split_piece(piece: Piece, count: usize) -> (Piece, Piece)
     (first, rest)
 }
 
-/// Splits a tree at an offset in bytes. Allocates nothing.
+/// Splits a tree at an offset in bytes. Takes at most one spare node, where the offset is inside a piece. Allocates nothing.
 #[cycle(cutting)]
 pub fn cut(tree: Link, at: usize, spares: &mut Spares) -> (Link, Link)
     requires spare { 0 < spares.old }
@@ -46,7 +46,7 @@ pub fn cut(tree: Link, at: usize, spares: &mut Spares) -> (Link, Link)
     }
 }
 
-/// The same for a piece and its two sides. Reuses `node`.
+/// Splits the tree of a piece and its two sides at an offset in bytes. Reuses `node`, which held the piece.
 #[cycle(cutting)]
 fn cut_fork(
     node: Box<Tree>,

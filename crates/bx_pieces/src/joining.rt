@@ -1,4 +1,5 @@
-//! Joins trees: the shallower one goes into the deeper one, at a subtree of about its depth.
+//! Joins trees: the shallower one goes into the deeper one, at a subtree of about its depth. `inner` is the side of the deeper tree
+//! that faces the shallower one, `outer` its other side, and `up` the piece between them.
 
 ghost use Rattle.std.specs.Prelude.{◌≡◌, [], ◌∷◌, ◌++◌, ◌+◌, ◌<◌, ◌≤◌, ◌^◌};
 ghost use Rattle.bx_pieces.specs.Pieces.{total};
@@ -7,7 +8,8 @@ ghost use Rattle.bx_pieces.specs.Tree.{sequence, depth_of, DifferByAtMost, IsJoi
 use crate::piece::Piece;
 use crate::tree::{Link, Tree, hang, height, take_apart};
 
-/// Rotates left where the right side is deeper by two: once, or twice if its inner side is the deeper one.
+/// Builds a tree in `node` where the right side is deeper by two, and rotates it left: once, or twice if the inner side is the
+/// deeper one.
 #[tactic(auto, using(crate::proofs::Cuts::total_append))]
 fn lean_left(node: Box<Tree>, left: Link, piece: Piece, mut right: Box<Tree>) -> Box<Tree>
     requires some { 0 < piece.len }
@@ -29,7 +31,7 @@ fn lean_left(node: Box<Tree>, left: Link, piece: Piece, mut right: Box<Tree>) ->
     hang(top, Some(first), highest, Some(rest))
 }
 
-/// Rotates right where the left side is deeper by two.
+/// Likewise where the left side is deeper by two: rotates right.
 #[tactic(auto, using(crate::proofs::Cuts::total_append))]
 fn lean_right(node: Box<Tree>, mut left: Box<Tree>, piece: Piece, right: Link) -> Box<Tree>
     requires some { 0 < piece.len }
@@ -51,7 +53,7 @@ fn lean_right(node: Box<Tree>, mut left: Box<Tree>, piece: Piece, right: Link) -
     hang(top, Some(first), highest, Some(rest))
 }
 
-/// Builds a tree of a piece and two sides, one of which may be deeper by two.
+/// Builds a tree in `node` of a piece and two sides, one of which may be deeper by two.
 fn balance(node: Box<Tree>, left: Link, piece: Piece, right: Link) -> Box<Tree>
     requires some { 0 < piece.len }
     requires differ { DifferByAtMost 2 (depth_of left) (depth_of right) }
@@ -88,6 +90,7 @@ pub fn join(node: Box<Tree>, left: Link, piece: Piece, right: Link) -> Box<Tree>
     hang(node, left, piece, right)
 }
 
+/// `join` where the right side is deeper: joins the left side to its inner side, then balances.
 #[cycle(joining)]
 #[tactic(auto, using(crate::proofs::Cuts::total_append))]
 fn join_into_right(node: Box<Tree>, left: Link, piece: Piece, mut right: Box<Tree>) -> Box<Tree>
@@ -103,6 +106,7 @@ fn join_into_right(node: Box<Tree>, left: Link, piece: Piece, mut right: Box<Tre
     balance(right, Some(inner), up, outer)
 }
 
+/// `join` where the left side is deeper: joins the right side to its inner side, then balances.
 #[cycle(joining)]
 #[tactic(auto, using(crate::proofs::Cuts::total_append))]
 fn join_into_left(node: Box<Tree>, mut left: Box<Tree>, piece: Piece, right: Link) -> Box<Tree>
@@ -118,13 +122,14 @@ fn join_into_left(node: Box<Tree>, mut left: Box<Tree>, piece: Piece, right: Lin
     balance(left, outer, up, Some(inner))
 }
 
-/// A sequence without its last piece, that piece, and a node for reuse.
+/// A sequence without its last piece, that piece, and the node that held it, for reuse.
 struct Last {
     before: Link,
     piece: Piece,
     node: Box<Tree>,
 }
 
+/// Takes the last piece off a tree.
 #[cycle(ending)]
 #[tactic(auto, using(crate::proofs::Cuts::total_append))]
 fn split_last(mut tree: Box<Tree>) -> Last

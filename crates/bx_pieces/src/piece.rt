@@ -1,4 +1,4 @@
-//! One piece of a text: a span of one of the two buffers.
+//! One piece of a text: a span of one of the two buffers in which `bx_text` keeps its bytes.
 
 ghost use Rattle.std.specs.Prelude.{◌≡◌};
 ghost use Rattle.bx_pieces.specs.Pieces.{goes_on};
@@ -12,7 +12,7 @@ pub enum Buffer {
     Added,
 }
 
-/// A span of a buffer.
+/// A span of a buffer, counted in bytes.
 #[derive(Clone, Copy, PartialEq, Eq, Debug)]
 pub struct Piece {
     pub buffer: Buffer,

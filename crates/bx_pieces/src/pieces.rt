@@ -1,4 +1,4 @@
-//! Sequences of pieces.
+//! A sequence of pieces, which is a text: searched, split and joined at offsets in bytes of the text.
 
 ghost use Rattle.std.specs.Prelude.{◌≡◌, [], ◌++◌, ◌+◌, ◌/◌, ◌<◌, ◌≤◌, ◌^◌, length};
 ghost use Rattle.bx_pieces.specs.Pieces.{total, front, back, holding, pushed, IsAddressable};
@@ -35,7 +35,7 @@ impl Pieces {
         Pieces { tree: None }
     }
 
-    /// One piece, in a spare node; none if it is empty. Allocates nothing.
+    /// One piece, in a spare node; no piece if it is empty. Allocates nothing.
     pub fn of(piece: Piece, spares: &mut Spares) -> Pieces
         requires { 0 < spares.old }
         ensures pieces { result ≡ pushed [] piece }
@@ -53,8 +53,8 @@ impl Pieces {
         tree::len(&self.tree)
     }
 
-    /// Height of the tree, which bounds the recursion of each search, split, join and drop. It is at most
-    /// about twice the logarithm of the number of pieces, and below 130. Allocates nothing.
+    /// Height of the tree, which bounds the recursion of each search, split, join and drop. It is at most about twice the binary
+    /// logarithm of the number of pieces, and so below 130, since there are fewer than 2^64 of them. Allocates nothing.
     pub fn depth(&self) -> u8
         ensures logarithmic { 2 ^ (result / 2) ≤ length self.now + 1 }
         ensures no_more_than_bytes { length self.now ≤ total self.now }
@@ -111,6 +111,7 @@ impl Pieces {
         ensures back { result.1 ≡ back self at }
         ensures spares { spares.old ≤ spares.new + 1 }
     {
+        // For the proof: the length in bytes is a `usize`.
         let _len = self.len();
         let (before, after) = cutting::cut(self.tree, at, spares);
         (Pieces { tree: before }, Pieces { tree: after })

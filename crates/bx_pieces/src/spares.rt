@@ -30,6 +30,7 @@ impl Spares {
         }
     }
 
+    /// Allocates one more node.
     fn add(&mut self) -> Result<(), AllocError>
         ensures more { OnOk result (self.new ≡ self.old + 1) }
         ensures err { OnErr result (self.new ≡ self.old) }
@@ -58,7 +59,7 @@ impl Spares {
         Ok(())
     }
 
-    /// Takes a node. Allocates nothing.
+    /// Takes a node, whose content is a placeholder. Allocates nothing.
     pub(crate) fn node(&mut self) -> Box<Tree>
         requires { 0 < self.old }
         ensures { self.new + 1 ≡ self.old }

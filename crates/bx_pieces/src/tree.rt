@@ -1,4 +1,4 @@
-//! An AVL tree of pieces in order.
+//! An AVL tree of pieces in order: the depths of the two sides of each node differ by at most one.
 
 ghost use Rattle.std.specs.Prelude.{◌≡◌, ◌∷◌, ◌++◌, ◌+◌, ◌<◌, ◌≤◌, ◌^◌, length};
 ghost use Rattle.bx_pieces.specs.Pieces.{total, holding, last_of, longer};
@@ -8,7 +8,7 @@ use crate::piece::{Buffer, Piece};
 use std::marker::Model;
 use std::mem;
 
-/// A subtree, or none.
+/// A tree, or `None` for the tree without pieces.
 pub type Link = Option<Box<Tree>>;
 
 /// Pieces in order. Contracts see the pieces and the depth.
@@ -61,7 +61,7 @@ impl Tree {
         }
     }
 
-    /// A placeholder, whose piece is never read.
+    /// A placeholder, whose piece is never read; it has one byte, as the invariant wants.
     pub fn unused() -> Tree {
         let piece = Piece {
             buffer: Buffer::Opened,
@@ -72,7 +72,7 @@ impl Tree {
     }
 }
 
-/// Length of all its pieces, in bytes.
+/// Length of all pieces of a tree, in bytes.
 pub fn len(tree: &Link) -> usize
     ensures { result ≡ total (sequence tree.now) }
 {
@@ -82,12 +82,13 @@ pub fn len(tree: &Link) -> usize
     }
 }
 
-/// Number of pieces on the longest path down.
+/// Number of pieces on the longest path down in a tree.
 pub fn height(tree: &Link) -> u8
     ensures depth { result ≡ depth_of tree.now }
     ensures shallow { IsShallow (depth_of tree.now) (sequence tree.now) }
     ensures small { depth_of tree.now < 130 }
 {
+    // For the proof: the length in bytes is a `usize`, so the tree is shallow.
     let _len = len(tree);
     match tree {
         None => 0,
@@ -95,7 +96,7 @@ pub fn height(tree: &Link) -> u8
     }
 }
 
-/// Moves out the root's piece and its two sides, and leaves a placeholder.
+/// Moves the root's left side, piece and right side out of a tree, and leaves a placeholder.
 pub fn take_apart(tree: &mut Tree) -> (Link, Piece, Link)
     ensures shape { tree.old ≡ fork result.0 result.1 result.2 }
     ensures balanced { DifferByAtMost 1 (depth_of result.0) (depth_of result.2) }
@@ -110,7 +111,7 @@ pub fn take_apart(tree: &mut Tree) -> (Link, Piece, Link)
     (left, piece, right)
 }
 
-/// `Tree::new` in a node that is already allocated.
+/// `Tree::new` in a node that is already allocated, whose content it replaces.
 pub fn hang(mut node: Box<Tree>, left: Link, piece: Piece, right: Link) -> Box<Tree>
     requires balanced { DifferByAtMost 1 (depth_of left) (depth_of right) }
     requires some { 0 < piece.len }
@@ -121,7 +122,7 @@ pub fn hang(mut node: Box<Tree>, left: Link, piece: Piece, right: Link) -> Box<T
     node
 }
 
-/// The last piece. Allocates nothing.
+/// The last piece of a tree, if it has one. Allocates nothing.
 #[cycle(ending)]
 pub fn last(tree: &Link) -> Option<Piece>
     ensures { result ≡ last_of (sequence tree.now) }
@@ -132,6 +133,7 @@ pub fn last(tree: &Link) -> Option<Piece>
     }
 }
 
+/// `last` of a tree with a piece.
 #[cycle(ending)]
 #[tactic(auto, using(crate::proofs::Ends::last_of_append))]
 fn last_in(tree: &Tree) -> Option<Piece>
@@ -167,6 +169,7 @@ pub fn holding(tree: &Link, at: usize) -> Option<(Piece, usize)>
     }
 }
 
+/// `holding` of a tree with a piece.
 #[cycle(finding)]
 #[tactic(auto, using(crate::proofs::Cuts::holding_first, crate::proofs::Cuts::holding_past))]
 fn holding_in(tree: &Tree, at: usize) -> Option<(Piece, usize)>

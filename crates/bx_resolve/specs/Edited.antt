@@ -12,7 +12,8 @@ use Rattle.bx_resolve.specs.declared.paragraph.Levels.{Levels}
 use Rattle.bx_resolve.specs.Levels.{levels_under, paragraph_level_under}
 use Rattle.bx_resolve.specs.Uniform.{is_plain, is_from_right, is_unformatted, all_pass}
 
--- an edit of a text: the text before it, the removed and the inserted text, and the text after it
+-- an edit of a text: the text before it, the removed and the inserted text, and the text after it. Texts are lists of characters, and
+-- indexes count characters from 0
 pub record Edit : Type 0 where
   pub before : List ℕ
   pub removed : List ℕ
@@ -29,7 +30,7 @@ new_text e = e.before ++ (e.inserted ++ e.behind)
 abbrev pub HasNoFormatting : Data → List ℕ → Type 0
 HasNoFormatting says chars = all_pass is_unformatted (map says.class chars) ≡ true
 
--- a character that the tables list as a bracket
+-- the tables list the character as a bracket, whatever its class
 abbrev pub is_listed_as : Option (Side × ℕ) → Bool
 is_listed_as None = false
 is_listed_as (Some b) = true
@@ -37,16 +38,16 @@ is_listed_as (Some b) = true
 abbrev pub is_listed : Data → ℕ → Bool
 is_listed says c = is_listed_as (says.bracket c)
 
--- `m`, between two types of one direction, has no type that is or becomes of the other direction: a number counts as L after
--- L, else as R
+-- `m`, the types between `x` and `y`, adds no direction that `x` and `y` do not have: these have both, or else `m` has no type that is or
+-- becomes of the other direction. An EN becomes L after L; any other number counts as R
 abbrev pub one_way : Class → Class → List Class → Bool
 one_way x y m = elim (is_left x) [
   | true ↦ elim (is_left y) [ true ↦ all_pass is_plain m | false ↦ true ]
   | false ↦ elim (is_left y) [ true ↦ true | false ↦ all_pass is_from_right m ]
 ]
 
--- the text between `x` and `y` has no bracket, and no pair of brackets around it sees it: it is of one direction, or no bracket is before
--- `x`, or none is after `y`
+-- the text `chars` of the types `m`, between `x` and `y`, has no bracket, and no pair of brackets around it depends on it: it adds no
+-- direction to those of `x` and `y`, or no bracket is before `x`, or none is after `y`
 abbrev pub IsCutOff : Data → List ℕ → Class → List ℕ → List Class → Class → List ℕ → Type 0
 IsCutOff says before x chars m y behind = (list_any (is_listed says) chars ≡ false)
     × ((one_way x y m ≡ true) ⊎ ((list_any (is_listed says) before ≡ false) ⊎ (list_any (is_listed says) behind ≡ false)))
@@ -55,7 +56,7 @@ IsCutOff says before x chars m y behind = (list_any (is_listed says) chars ≡ f
 abbrev pub piece : List ℕ → ℕ → List ℕ → List ℕ → ℕ → List ℕ
 piece a i s b j = drop i a ++ (s ++ take (j + 1) b)
 
--- the piece without these two characters
+-- the piece without these two characters, its first and its last
 abbrev pub between : List ℕ → ℕ → List ℕ → List ℕ → ℕ → List ℕ
 between a i s b j = drop (i + 1) a ++ (s ++ take j b)
 
@@ -79,7 +80,8 @@ pub record IsCutBetween (says : Data) (e : Edit) (i j : ℕ) : Type 0 where
   pub old_safe : IsSafe says e.before i e.removed e.behind j
   pub new_safe : IsSafe says e.before i e.inserted e.behind j
 
--- an edit without brackets between the strong character at index `i` before it and the end of the text
+-- an edit with no bracket between the strong character at index `i` of the text before it and the end of the text, neither in the old text
+-- nor in the new one
 pub record IsCutToEnd (says : Data) (e : Edit) (i : ℕ) : Type 0 where
   pub in_before : i < length e.before
   pub strong_before : is_strong (says.class (slice_index_or e.before i 0)) ≡ true
@@ -93,7 +95,7 @@ pub record AreLevelsOf (says : Data) (base : Base) (chars : List ℕ) (levels : 
   pub paragraph_is : levels.paragraph ≡ paragraph_level_under says base chars
   pub each_is : levels.each.items ≡ levels_under says base chars
 
--- the index in the old text after the character at index `j` of the text after the edit
+-- the index in the old text that follows the character at index `j` of `behind`
 abbrev pub old_index : Edit → ℕ → ℕ
 old_index e j = length e.before + length e.removed + (j + 1)
 

@@ -27,7 +27,7 @@ abbrev pub HaveEachOnce : Type 0
 HaveEachOnce = (level : ℕ) (cs : List Class) → level ≤ 1
     → IsPermutation (kept_indexes 0 (explicit_levels level cs)) (all_indexes (sequences level cs (explicit_levels level cs)))
 
--- under the base direction, a text of class L alone has the given paragraph level, and each character the given level
+-- under the base direction, a text of class L alone has the paragraph level `paragraph`, and each character the level `level`
 abbrev pub LeftTextsHave : Base → ℕ → ℕ → Type 0
 LeftTextsHave base paragraph level = (says : Data) (chars : List ℕ) → All (λ c. says.class c ≡ L) chars
     → (paragraph_level_under says base chars ≡ paragraph) × (levels_under says base chars ≡ replicate (length chars) (Some level))
@@ -79,6 +79,7 @@ abbrev pub entry_by : Class → State → State → Entry
 entry_by PDI before after = top after
 entry_by c before after = top before
 
+-- that entry for the character at index `i` of a paragraph of the level `level`
 abbrev pub entry_at : ℕ → List Class → ℕ → Entry
 entry_at level cs i = let s : State = start level in
     entry_by (slice_index_or cs i ON) (slice_index_or (states level cs) i s) (slice_index_or (states level cs) (i + 1) s)

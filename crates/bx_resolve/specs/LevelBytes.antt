@@ -3,13 +3,15 @@ use Rattle.std.specs.Prelude.{◌≡◌, ◌==◌, ℕ, true, false, Option, Som
 use Rattle.std.proofs.Common.{refl, sym, ap, eqb-true}
 use Rattle.bx_resolve.specs.declared.paragraph.Level.TheInside.{Inside}
 
--- 255 is not a level: it encodes none
+-- 255 stores no level (`NONE` of src/paragraph.rt): levels are at most 126 (`max_level`)
 abbrev kept_in : ℕ → Option ℕ
 kept_in byte = elim (byte == 255) [ true ↦ None | false ↦ Some byte ]
 
+-- the level that a stored value has, or none
 abbrev pub level_of : Inside → Option ℕ
 level_of l = kept_in l.byte
 
+-- the byte that stores a level, or none
 abbrev byte_of : Option ℕ → ℕ
 byte_of None = 255
 byte_of (Some level) = level

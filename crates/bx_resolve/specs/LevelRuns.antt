@@ -1,4 +1,4 @@
--- Steps over the indexes of a level run, before the rest of its sequence.
+-- What is left to do for a sequence after one of its level runs: the levels still to write, the characters still to pass to a search.
 use Rattle.std.specs.Prelude.{◌≡◌, ℕ, List, ◌++◌, Option, drop}
 use Rattle.bx_ucd.specs.Data.{Data}
 use Rattle.bx_ucd.specs.declared.class.Class.{Class}
@@ -15,11 +15,12 @@ run_indexes run = level_indexes run.level run.first (drop run.first run.kept.now
 abbrev pub sequence_indexes : LentSequence → List ℕ
 sequence_indexes s = indexes_from s.ends.level s.kept.now s.firsts.now
 
--- after levels are written at the indexes `ps`, the levels left go to the rest of the indexes
+-- `new_each` is `each` with the first of `levels` written at the indexes `ps`, and `left` are the levels for the indexes after these
 abbrev pub WritesRun : List ℕ → List ℕ → List (Option ℕ) → List ℕ → List (Option ℕ) → Type 0
 WritesRun ps levels each left new_each = (rest : List ℕ) → with_levels (ps ++ rest) levels each ≡ with_levels rest left new_each
 
--- after the characters at the indexes `ps` are passed to a search, it continues with the rest
+-- `before` is a search that has met the first `met` characters of a sequence; `after`, the search once it has met those at the indexes
+-- `ps` too, has met the first `new_met`
 abbrev pub MeetsRun : Data → List ℕ → List Class → List ℕ → Progress → ℕ → Progress → ℕ → Type 0
 MeetsRun says chars ts ps before met after new_met = (rest : List ℕ)
     → pairs_after says before met (chars_at chars (ps ++ rest)) (drop met ts) ≡ pairs_after says after new_met (chars_at chars rest) (drop new_met ts)

@@ -14,6 +14,7 @@ use Rattle.bx_brackets.specs.Resolve.{resolve_pairs}
 use Rattle.bx_resolve.specs.Weak.{weak, is_nsm}
 use Rattle.bx_resolve.specs.Neutral.{n1, n2, implicit}
 
+-- the type of a character after overrides; ON where X9 removes it
 abbrev pub type_of : Option ExplicitChar → Class
 type_of None = ON
 type_of (Some k) = k.class
@@ -37,17 +38,17 @@ sequence_types says level sos eos chars ts =
 abbrev pub sequence_levels : Data → ℕ → Class → Class → List ℕ → List Class → List ℕ
 sequence_levels says level sos eos chars ts = implicit level (sequence_types says level sos eos chars ts)
 
--- the same for a sequence of a paragraph
+-- the same for a sequence of a paragraph, where `chars` and `kept` are those of the whole paragraph
 abbrev pub levels_in : Data → List ℕ → List (Option ExplicitChar) → RunSequence → List ℕ
 levels_in says chars kept s = sequence_levels says s.level s.sos s.eos (chars_at chars s.indexes) (types_at kept s.indexes)
 
--- each level written at its index
+-- `each` with the levels written at the indexes, the first level at the first index
 abbrev pub with_levels : List ℕ → List ℕ → List (Option ℕ) → List (Option ℕ)
 with_levels [] ls each = each
 with_levels (p ∷ ps) [] each = each
 with_levels (p ∷ ps) (l ∷ ls) each = with_levels ps ls (slice_set each p (Some l))
 
--- the levels of all sequences written
+-- `each` with the levels of all the sequences written
 abbrev pub with_sequences : Data → List ℕ → List (Option ExplicitChar) → List RunSequence → List (Option ℕ) → List (Option ℕ)
 with_sequences says chars kept [] each = each
 with_sequences says chars kept (s ∷ ss) each = with_sequences says chars kept ss (with_levels s.indexes (levels_in says chars kept s) each)
@@ -66,7 +67,7 @@ paragraph_level_under says base chars = base_level base (map says.class chars)
 abbrev pub levels_under : Data → Base → List ℕ → List (Option ℕ)
 levels_under says base chars = paragraph_levels says (paragraph_level_under says base chars) chars
 
--- X9 keeps characters of the class, which then have a level
+-- X9 keeps characters of the class, so they have a level
 abbrev pub is_kept : Class → Bool
 is_kept RLE = false
 is_kept LRE = false

@@ -1,4 +1,4 @@
--- N1, N2, I1 and I2.
+-- N1, N2, I1 and I2, over the types of a sequence.
 use Rattle.std.specs.Prelude.{ℕ, ◌+◌, ◌%◌, true, false, List, [], ◌∷◌, map, Option, Some, None}
 use Rattle.std.proofs.Common.{zero, suc}
 use Rattle.bx_ucd.specs.declared.class.Class.{Class}
@@ -11,12 +11,13 @@ abbrev pub side_of : Class → Class
 side_of L = L
 side_of _ = R
 
--- the direction next to a run of neutrals, or the sequence's sos or eos
+-- the direction next to a run of neutrals, whose types and the types beyond are listed from the nearest on; at the sequence's end
+-- `end`, which is its sos or eos
 abbrev pub side : Class → List Class → Class
 side end [] = end
 side end (t ∷ ts) = elim (is_neutral t) [ true ↦ side end ts | false ↦ side_of t ]
 
--- the direction of both sides, if they agree
+-- the type of a neutral `t`, given the directions on both sides of its run: their direction if they agree
 abbrev pub agreed : Class → Class → Class → Class
 agreed t L L = L
 agreed t R R = R
@@ -36,7 +37,7 @@ n2_at embedding t = elim (is_neutral t) [ true ↦ embedding | false ↦ t ]
 abbrev pub n2 : Class → List Class → List Class
 n2 embedding ts = map (n2_at embedding) ts
 
--- N2 where an embedding direction is given, of a type and of all
+-- N2 applied to a type, and to all types, if an embedding direction is given; else they stay
 abbrev pub taken : Option Class → Class → Class
 taken None t = t
 taken (Some embedding) t = n2_at embedding t
@@ -59,6 +60,7 @@ rise_odd EN = 1
 rise_odd AN = 1
 rise_odd _ = 0
 
+-- I1 and I2: the level of a character of resolved type `t`, in a sequence at `level`
 abbrev pub implicit_at : ℕ → Class → ℕ
 implicit_at level t = elim (level % 2) [ zero ↦ level + rise_even t | suc n ↦ level + rise_odd t ]
 

@@ -1,4 +1,4 @@
--- Classes of texts that have one level throughout, or no formatting character.
+-- Tests of classes, by which a text is found to have one level throughout, or no formatting character, so that it needs fewer rules.
 use Rattle.std.specs.Prelude.{Bool, true, false, List, [], ◌∷◌}
 use Rattle.bx_ucd.specs.declared.class.Class.{Class}
 use Rattle.bx_ucd.specs.declared.class.Class.TheVariants.{L, R, AL, EN, ES, ET, AN, CS, NSM, B, S, WS, ON}
@@ -48,7 +48,7 @@ is_plain_right WS = true
 is_plain_right ON = true
 is_plain_right _ = false
 
--- the unformatted classes of a right-to-left text without L
+-- the unformatted classes but L: in a right-to-left text of these every neutral becomes R
 abbrev pub is_from_right : Class → Bool
 is_from_right R = true
 is_from_right AL = true

@@ -26,7 +26,7 @@ is_left_or_right L = true
 is_left_or_right R = true
 is_left_or_right _ = false
 
--- the nearest type that passes the test, or `sos`
+-- the first type of a list, nearest first, that passes the test, or `sos`
 abbrev pub nearest_that : (Class → Bool) → Class → List Class → Class
 nearest_that p sos [] = sos
 nearest_that p sos (t ∷ ts) = elim (p t) [ true ↦ t | false ↦ nearest_that p sos ts ]
@@ -65,7 +65,8 @@ abbrev pub beside : List Class → Class
 beside [] = ON
 beside (t ∷ ts) = t
 
--- W4: a single ES between two EN changes to EN; a single CS between two numbers of the same type changes to that type
+-- W4: a single ES between two EN changes to EN; a single CS between two numbers of the same type changes to that type. `b` is the type
+-- before, `a` the type after
 abbrev pub separator : Class → Class → Class → Class
 separator b ES a = elim (is_en b && is_en a) [ true ↦ EN | false ↦ ES ]
 separator b CS a = elim (is_en b && is_en a) [ true ↦ EN | false ↦ elim (is_an b && is_an a) [ true ↦ AN | false ↦ CS ] ]
@@ -74,12 +75,12 @@ separator b t a = t
 abbrev pub w4_at : List Class → Class → List Class → Class
 w4_at before t after = separator (beside before) t (beside after)
 
--- the nearest type other than ET is EN
+-- the first type other than ET, in a list from the nearest on, is EN
 abbrev pub is_en_past : List Class → Bool
 is_en_past [] = false
 is_en_past (t ∷ ts) = elim (is_et t) [ true ↦ is_en_past ts | false ↦ is_en t ]
 
--- W5: a sequence of ET adjacent to an EN changes to EN
+-- W5: a run of ET adjacent to an EN changes to EN; whether one is before the run, and whether one is after it
 abbrev pub terminator_of : Bool → Bool → Class
 terminator_of true _ = EN
 terminator_of false true = EN

@@ -1,4 +1,4 @@
-//! Characters, types and levels at the indexes of a sequence.
+//! Characters, types and levels at the indexes of a sequence, for `levels_by_rules`.
 ghost use Rattle.std.specs.Prelude.{◌≡◌, ◌<◌, ◌≤◌, IfOk, All, None, length, slice_index_or};
 ghost use Rattle.bx_resolve.specs.Levels.{type_of, chars_at, max_level, types_at, with_levels};
 
@@ -46,7 +46,7 @@ pub fn types_at(
     Ok(types)
 }
 
-/// Writes each level at its index.
+/// Writes each level at its index, the first level at the first index; `indexes` and `levels` belong to one sequence.
 pub fn write_levels(each: &mut Vec<Level>, indexes: &[usize], levels: &[u8])
     requires inside { All (λ p. p < length each.old.items) indexes.now }
     requires low { All (λ n. n ≤ max_level) levels.now }

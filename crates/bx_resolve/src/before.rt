@@ -1,4 +1,5 @@
-//! What the types before a character decide for it by W1 to W7.
+//! The step of W1 to W7 in one pass (`one_pass.rt`): what the types before a character decide for it, and the type that it becomes.
+//! `after_wN` is a type after rule WN; `third` and `fourth` are the type after W3 and W4.
 ghost use Rattle.std.specs.Prelude.{◌≡◌, List, true};
 ghost use Rattle.bx_ucd.specs.declared.class.Class.{Class};
 ghost use Rattle.bx_resolve.specs.Weak.{beside, is_en_past, w3_at};
@@ -9,7 +10,7 @@ ghost use Rattle.bx_resolve.specs.Turns.{written, written_fourth, written_third}
 use crate::weak::mark_after;
 use bx_ucd::Class;
 
-/// The nearest strong type (W2, W7).
+/// The nearest strong type before a character (W2, W7): L, R or AL.
 #[derive(Clone, Copy)]
 pub enum Strong {
     Left,
@@ -17,7 +18,7 @@ pub enum Strong {
     Arabic,
 }
 
-/// The type just before, as far as a separator asks for it (W4).
+/// The type after W3 just before a character, as far as a separator asks for it (W4): EN, AN or any other.
 #[derive(Clone, Copy)]
 pub enum Neighbour {
     EuropeanNumber,
@@ -25,7 +26,7 @@ pub enum Neighbour {
     Other,
 }
 
-/// What the ET of a run become (W5, W6).
+/// What the ET of a run become, the run at a character or directly behind it (W5, W6).
 #[derive(Clone, Copy)]
 pub enum Terminators {
     /// EN: one is beside the run.
@@ -36,7 +37,7 @@ pub enum Terminators {
     Undecided,
 }
 
-/// What the types before a character decide for it.
+/// The state before a character: what the types before it decide for it.
 #[derive(Clone, Copy)]
 pub struct Before {
     /// The type that an NSM takes (W1).
@@ -68,7 +69,7 @@ fn strong_of(sos: Class) -> Strong
     }
 }
 
-/// The nearest strong type behind `t`.
+/// The nearest strong type before the character behind `t`; `strong` is the nearest one before `t`.
 fn strong_next(strong: Strong, t: Class) -> Strong
     ensures { result ≡ strong_next strong t }
 {
@@ -80,7 +81,7 @@ fn strong_next(strong: Strong, t: Class) -> Strong
     }
 }
 
-/// The type after W1.
+/// The type after W1, where an NSM takes the type `mark`.
 fn after_w1(mark: Class, t: Class) -> Class
     ensures { result ≡ after_w1 mark t }
 {
@@ -90,7 +91,7 @@ fn after_w1(mark: Class, t: Class) -> Class
     }
 }
 
-/// The type of an NSM behind `t`.
+/// The type that an NSM behind `t` takes; at `t` it would take `mark`.
 fn mark_next(mark: Class, t: Class) -> Class
     ensures { result ≡ mark_next mark t }
 {
@@ -110,7 +111,7 @@ fn number_by(strong: Strong) -> Class
     }
 }
 
-/// The type after W2.
+/// The type after W2, where `strong` is the nearest strong type before it.
 fn after_w2(strong: Strong, t: Class) -> Class
     ensures { result ≡ after_w2 strong t }
 {
@@ -151,7 +152,8 @@ fn is_separator(t: Class) -> bool
     }
 }
 
-/// The type after W3 of the first character of the rest, or ON at the end.
+/// The type after W3 of the first of the types `rest`, which no rule has changed yet, or ON at the end. `mark` and `strong` are
+/// those of the state before it.
 fn beside_ahead(mark: Class, strong: Strong, rest: &[Class]) -> Class
     ensures { result ≡ beside (rest_after_w3 mark strong rest.now) }
 {
@@ -161,7 +163,8 @@ fn beside_ahead(mark: Class, strong: Strong, rest: &[Class]) -> Class
     }
 }
 
-/// The type after W4. Only a separator beside a number looks ahead.
+/// The type after W4 of a type after W3. Only a separator behind a number looks ahead, into `rest`, before which the state has
+/// `mark` and `strong`.
 fn after_w4(t: Class, neighbour: Neighbour, mark: Class, strong: Strong, rest: &[Class]) -> Class
     ensures { result ≡ after_w4 t neighbour (beside (rest_after_w3 mark strong rest.now)) }
 {
@@ -180,8 +183,8 @@ fn after_w4(t: Class, neighbour: Neighbour, mark: Class, strong: Strong, rest: &
     }
 }
 
-/// Whether the first type other than ET is EN, by the types after W3. `strong` stays the same over the run, since no type
-/// before that one is strong.
+/// Whether the first of `types` that is not ET after W3 is EN after W3. `mark` and `strong` are those of the state before
+/// `types`; `strong` stays the same over the run, since no type before that one is strong.
 #[tactic(auto, using(crate::proofs::Fused::past_et, crate::proofs::Fused::past_other, crate::proofs::Fused::past_end))]
 fn is_en_ahead(mark: Class, strong: Strong, types: &[Class]) -> bool
     ensures { result ≡ is_en_past (rest_after_w3 mark strong types.now) }
@@ -197,7 +200,7 @@ fn is_en_ahead(mark: Class, strong: Strong, types: &[Class]) -> bool
     false
 }
 
-/// What the ET of a run become. Only where that is open does it look ahead.
+/// What the ET of a run become. Only where that is undecided are the types behind (`rest`) looked at.
 fn decided(terminators: Terminators, mark: Class, strong: Strong, rest: &[Class]) -> Terminators
     ensures { result ≡ decided terminators (is_en_past (rest_after_w3 mark strong rest.now)) }
 {
@@ -223,7 +226,7 @@ fn terminator_by(terminators: Terminators) -> Class
     }
 }
 
-/// The type after W7.
+/// The type after W7, where `strong` is the nearest strong type before it.
 fn after_w7(strong: Strong, t: Class) -> Class
     ensures { result ≡ after_w7 strong t }
 {
@@ -234,7 +237,7 @@ fn after_w7(strong: Strong, t: Class) -> Class
 }
 
 impl Before {
-    /// Before the first character: `sos` is the type before it.
+    /// The state before the first character, where `sos` counts as the type before it.
     pub fn new(sos: Class) -> Self
         ensures { result ≡ begin sos }
     {
@@ -246,7 +249,7 @@ impl Before {
         }
     }
 
-    /// Takes a settled type, whatever follows it.
+    /// Takes a settled type, which stays as it is, whatever follows it.
     #[inline(always)]
     pub fn pass(&mut self, t: Class)
         requires { is_settled t ≡ true }
@@ -258,7 +261,8 @@ impl Before {
         self.terminators = Terminators::Undecided;
     }
 
-    /// Takes a type after W4. Returns the type after W7.
+    /// Takes a type after W4, with `rest` behind it, where `mark` and `strong` are already those of the next step. Returns the type
+    /// after W7.
     #[inline(always)]
     fn take_fourth(&mut self, t: Class, rest: &[Class]) -> Class
         ensures written { result ≡ written_fourth self.old t (thirds self.old rest.now) }
@@ -284,7 +288,7 @@ impl Before {
         }
     }
 
-    /// Takes a type after W3. Returns the type after W7.
+    /// Takes a type after W3, likewise. Returns the type after W7.
     #[inline(always)]
     fn take_separator(&mut self, t: Class, rest: &[Class]) -> Class
         ensures written { result ≡ written_third self.old t (thirds self.old rest.now) }
@@ -295,7 +299,7 @@ impl Before {
         self.take_fourth(fourth, rest)
     }
 
-    /// The same, with a shorter way for types that are no separators.
+    /// The same, with a shorter way for types that are not separators.
     #[inline(always)]
     fn take_third(&mut self, t: Class, rest: &[Class]) -> Class
         ensures written { result ≡ written_third self.old t (thirds self.old rest.now) }
@@ -308,7 +312,7 @@ impl Before {
         self.take_fourth(t, rest)
     }
 
-    /// Takes a type, with `rest` behind it. Returns the type after W7.
+    /// Takes the next type, with the types `rest` behind it, none of them changed by a rule yet. Returns the type after W7.
     #[inline(always)]
     pub fn take(&mut self, t: Class, rest: &[Class]) -> Class
         ensures written { result ≡ written self.old t rest.now }

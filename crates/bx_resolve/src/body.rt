@@ -1,4 +1,4 @@
-//! The characters of a paragraph body, and their classes.
+//! The characters of a paragraph body, and their classes; `Body` reads characters from any index without a list of all.
 ghost use Rattle.std.specs.Prelude.{◌≡◌, ℕ, ◌<◌, ◌^◌, IfOk, List, chars, drop, length, map};
 ghost use Rattle.bx_resolve.specs.Body.{IsEndOf, AreOffsets};
 
@@ -7,8 +7,8 @@ use bx_ucd::{BidiData, Class};
 use std::alloc::{AllocError, Global};
 use std::marker::Model;
 
-/// The number of characters of a text, as the capacity for them: it counts bytes that are not UTF-8 continuations. Chunks of
-/// 128 bytes are counted in a byte, so that the loop vectorizes.
+/// The number of characters of a text, as the capacity for them: it counts the bytes that are not UTF-8 continuations (10xxxxxx).
+/// Each chunk is counted in one byte, so that the loop vectorizes; 128 fit in it. Sums wrap, as a capacity needs no proof.
 fn count_for_room(text: &str) -> usize {
     let mut count: usize = 0;
     for piece in text.as_bytes().chunks(128) {
@@ -66,7 +66,7 @@ fn skip(text: &str, count: usize) -> &str
     rest
 }
 
-/// Every 8th character has its offset stored.
+/// Every 8th character has its offset stored: half a byte per character, and a read from any index skips at most 7.
 const STEP: usize = 8;
 
 /// The byte offset of every 8th character of a text.
@@ -87,7 +87,7 @@ fn offsets_of(alloc: Global, text: &str) -> Result<Vec<u32>, AllocError>
 #[derive(Drop)]
 pub struct Body<'t> {
     text: &'t str,
-    /// Empty before `read`.
+    /// The byte offsets of the characters at indexes 0, `STEP` and so on. Empty before `read`.
     offsets: Vec<u32>,
 }
 

@@ -1,4 +1,4 @@
-//! N0 for a sequence whose characters are read from the body.
+//! N0 for a sequence: its bracket pairs are searched in the body itself, so that no list of the sequence's characters is made.
 ghost use Rattle.std.specs.Prelude.{◌≡◌, ℕ, ◌≤◌, ◌^◌, IfOk, OnOk, chars, length};
 ghost use Rattle.bx_ucd.specs.Class.{direction};
 ghost use Rattle.bx_brackets.specs.Pairs.{pairs};
@@ -39,8 +39,8 @@ fn meet_text<D: BidiData>(
     Ok(())
 }
 
-/// Passes the characters of a run to a search, each with its type, after the `met` characters of the sequence's earlier
-/// runs. Returns the new count.
+/// Passes the characters of a run to a search, each with its type. `types` are those of the whole sequence, and `met` characters
+/// of its earlier runs were passed before. Returns the new count.
 fn meet_run<D: BidiData>(
     search: &mut PairSearch,
     body: &Body<'_>,

@@ -13,7 +13,7 @@ use bx_terms::Base;
 use bx_ucd::BidiData;
 use std::alloc::Global;
 
-/// The levels of a piece of text resolved alone, under a paragraph level.
+/// The levels of a piece of text resolved alone, under a paragraph level, 0 or 1.
 fn piece_levels<D: BidiData>(
     alloc: Global,
     piece: &str,
@@ -32,7 +32,7 @@ fn piece_levels<D: BidiData>(
 }
 
 /// Updates the levels of a text after an edit between two strong characters (L, R or AL). `piece` is the new text from the
-/// first of them through the second, and `span` has the old indexes of that text.
+/// first of them through the second, and `span` has the indexes in the old text from the first through the second.
 ///
 /// Errors: `OutOfMemory`; the levels are unchanged.
 pub fn follow_between<D: BidiData>(

@@ -17,8 +17,8 @@ use bx_explicit::{Explicit, ExplicitChar, SequenceWalk, explicit};
 use bx_ucd::{BidiData, Class};
 use std::alloc::{AllocError, Global};
 
-/// Reserves room for one more type, of at most `left` to come. Capacity grows by a quarter: doubling may leave half of it
-/// unused.
+/// Reserves room for one more type, of at most `left` to come. Capacity grows by a quarter and 8, since doubling may leave half
+/// of it unused.
 fn make_room(types: &mut Vec<Class>, left: usize) -> Result<(), AllocError>
     ensures { types.new.items ≡ types.old.items }
 {
@@ -59,8 +59,8 @@ fn sequence_types(types: &mut Vec<Class>, sequence: LentSequence<'_>) -> Result<
     Ok(())
 }
 
-/// Writes the levels of a run from the resolved types of its sequence, after the `written` types of earlier runs. Returns the
-/// new count.
+/// Writes the levels of a run from the resolved types of its whole sequence, of which earlier runs used the first `written`.
+/// Returns the new count.
 fn write_run(each: &mut Vec<Level>, run: LevelRun<'_>, types: &[Class], written: usize) -> usize
     requires low { run.level ≤ max_depth }
     requires all { length each.old.items ≡ length run.kept.now }
@@ -121,7 +121,7 @@ fn write_sequence<D: BidiData>(
     Ok(())
 }
 
-/// Buffers reused from sequence to sequence.
+/// Buffers reused from sequence to sequence: the body with its offsets, the sequence's types, and what the rules need.
 #[derive(Drop)]
 struct Buffers<'t> {
     body: Body<'t>,

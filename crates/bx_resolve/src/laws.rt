@@ -9,7 +9,7 @@ pub fn each_in_one_sequence()
     ensures { HaveEachOnce }
 {}
 
-/// A text of class L alone has level 0 throughout, or level 2 in a right-to-left paragraph.
+/// A text of class L alone has level 0 throughout, or level 2 in a right-to-left paragraph, whose level 1 I2 raises.
 pub fn left_texts_are_flat()
     ensures auto { LeftTextsHave Auto 0 0 }
     ensures ltr { LeftTextsHave Ltr 0 0 }

@@ -11,6 +11,7 @@ pub(crate) struct LentSequence<'w> {
     pub(crate) kept: &'w [Option<ExplicitChar>],
     /// The first index of each run of the sequence, in text order.
     pub(crate) firsts: &'w [usize],
+    /// Its level, sos and eos.
     pub(crate) ends: Ends,
 }
 
@@ -19,6 +20,7 @@ pub(crate) struct LentSequence<'w> {
 pub(crate) struct LevelRun<'w> {
     /// The explicit rules' result for each character of the paragraph.
     pub(crate) kept: &'w [Option<ExplicitChar>],
+    /// The index of its first character in the paragraph.
     pub(crate) first: usize,
     pub(crate) level: u8,
 }

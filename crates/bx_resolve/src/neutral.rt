@@ -10,7 +10,7 @@ use bx_ucd::Class;
 use bx_ucd::class::is_neutral;
 use std::alloc::{AllocError, Global};
 
-/// The direction that a class counts as beside neutrals: numbers count as R.
+/// The direction that a type counts as beside neutrals: numbers count as R.
 fn side_of(t: Class) -> Class
     ensures { result ≡ side_of t }
 {
@@ -20,7 +20,7 @@ fn side_of(t: Class) -> Class
     }
 }
 
-/// The direction of the first class that is not neutral, or `end`.
+/// The direction of the first type that is not neutral, or `end`, which is sos or eos.
 fn side(end: Class, types: &[Class]) -> Class
     ensures { result ≡ side end types.now }
 {
@@ -78,6 +78,7 @@ fn neutral_at(t: Class, before: Class, after: Class, embedding: Option<Class>) -
 fn resolve_neutrals(types: &mut [Class], sos: Class, eos: Class, embedding: Option<Class>)
     ensures { types.new ≡ all_taken embedding (n1 sos eos types.old) }
 {
+    // The direction before the run of neutrals, and the one behind it, which only the run's first neutral looks for.
     let mut before = sos;
     let mut known: Option<Class> = None;
     for i in 0..types.len() {
@@ -120,7 +121,7 @@ fn is_en_or_an(t: Class) -> bool
     is_european | is_arabic
 }
 
-/// The rise of an even level (I1). This and `rise_odd` have no branch, so that the loop over types vectorizes.
+/// How far a type raises an even level (I1). This and `rise_odd` have no branch, so that the loop over types vectorizes.
 #[inline(always)]
 fn rise_even(t: Class) -> u8
     ensures { result ≡ rise_even t }
@@ -129,7 +130,7 @@ fn rise_even(t: Class) -> u8
     u8::from(is_right) + 2 * u8::from(is_en_or_an(t))
 }
 
-/// The rise of an odd level (I2).
+/// How far a type raises an odd level (I2).
 #[inline(always)]
 fn rise_odd(t: Class) -> u8
     ensures { result ≡ rise_odd t }
@@ -138,7 +139,7 @@ fn rise_odd(t: Class) -> u8
     u8::from(is_left | is_en_or_an(t))
 }
 
-/// I1 and I2: the level of a character.
+/// I1 and I2: the level of a character of resolved type `t`, in a sequence at `level`.
 #[inline(always)]
 pub fn implicit_at(level: u8, t: Class) -> u8
     requires { level ≤ max_depth }

@@ -5,8 +5,8 @@ ghost use Rattle.bx_resolve.specs.Weak.{weak};
 use crate::before::{Before, is_settled};
 use bx_ucd::Class;
 
-/// W1 to W7 in one pass. An inner loop skips settled types, and numbers have a call of their own, which is compiled for them
-/// alone.
+/// W1 to W7 in one pass. An inner loop passes over settled types. EN has a branch of its own, so that its inlined call of `take`
+/// is compiled for this type alone.
 #[tactic(auto, using(crate::proofs::Fused::go_write, crate::proofs::Fused::weak_run, crate::proofs::Fused::settled_keep))]
 pub fn weak_in_one_pass(types: &mut [Class], sos: Class)
     ensures { types.new ≡ weak sos types.old }

@@ -1,10 +1,10 @@
-//! The levels of a paragraph.
+//! The result of this crate: a level, stored in one byte, and the levels of a paragraph.
 ghost use Rattle.std.specs.Prelude.{◌≡◌, ◌≤◌, None, Some};
 ghost use Rattle.bx_resolve.specs.Levels.{max_level};
 
 use std::marker::Model;
 
-/// The byte of no level.
+/// The byte of no level. Levels are at most 126.
 const NONE: u8 = 255;
 
 /// The level of a character, or none where X9 removes it, in one byte.
@@ -34,7 +34,7 @@ impl Level {
         Level { byte: NONE }
     }
 
-    /// A level, at most 126.
+    /// A level, at most 126: I1 and I2 raise the greatest explicit level, 125, to this.
     #[inline(always)]
     pub fn of(level: u8) -> Level
         requires { level ≤ max_level }
@@ -60,6 +60,6 @@ impl Level {
 pub struct Levels {
     /// The paragraph level, 0 or 1.
     pub paragraph: u8,
-    /// The level of each character.
+    /// The level of each character, in text order.
     pub each: Vec<Level>,
 }

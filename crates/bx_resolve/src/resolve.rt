@@ -1,4 +1,4 @@
-//! The levels of a paragraph.
+//! The levels of a paragraph body: `levels` takes the shortest way that its classes allow.
 ghost use Rattle.std.specs.Prelude.{◌≡◌, ◌≤◌, ◌<◌, ◌^◌, All, IfNone, IfOk, IfSome, Some, chars, is_some, length, map, true};
 ghost use Rattle.bx_explicit.specs.Stack.{max_depth};
 ghost use Rattle.bx_resolve.specs.Weak.{weak};

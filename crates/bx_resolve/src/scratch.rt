@@ -14,7 +14,7 @@ use bx_ucd::Class;
 use bx_ucd::class::direction;
 use std::alloc::{AllocError, Global};
 
-/// The level of a sequence, and its sos and eos.
+/// The level of a sequence, and the types before its first character (sos) and after its last (eos), L or R (X10).
 #[derive(Clone, Copy, PartialEq, Eq, Debug)]
 pub struct Ends {
     pub level: u8,
@@ -22,9 +22,10 @@ pub struct Ends {
     pub eos: Class,
 }
 
-/// Buffers of a sequence: which characters were NSM before W1, and the search for bracket pairs.
+/// Buffers of a sequence: the search for its bracket pairs, and what N0 needs beside that.
 #[derive(Drop)]
 pub struct Scratch {
+    /// Of each character, whether it was an NSM before W1.
     pub marks: Vec<bool>,
     pub search: PairSearch,
 }

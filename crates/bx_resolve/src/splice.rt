@@ -1,11 +1,11 @@
-//! Replaces a span of levels.
+//! Replaces a span of levels, for an edit of the text.
 ghost use Rattle.std.specs.Prelude.{◌≡◌, ◌≤◌, OnErr, OnOk, length};
 ghost use Rattle.std.specs.List.{splice};
 
 use crate::paragraph::Level;
 use std::alloc::AllocError;
 
-/// A span of indexes, `first..last`.
+/// A span of character indexes, `first..last`.
 #[derive(Clone, Copy, PartialEq, Eq, Debug)]
 pub struct Span {
     pub first: usize,

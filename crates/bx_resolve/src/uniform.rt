@@ -1,4 +1,4 @@
-//! Tests of classes: whether a text of them has one level throughout, or no formatting character.
+//! Tests of classes, by which `levels` finds that a text has one level throughout, or no formatting character, and needs fewer rules.
 ghost use Rattle.std.specs.Prelude.{◌≡◌};
 ghost use Rattle.bx_resolve.specs.Uniform.{is_plain, is_plain_right, is_from_right, is_unformatted, all_pass};
 
@@ -26,7 +26,7 @@ fn is_plain_right(class: Class) -> bool
     }
 }
 
-/// Whether a class is not L, BN or a formatting class.
+/// Whether a class is none of L, BN and the formatting classes.
 fn is_from_right(class: Class) -> bool
     ensures { result ≡ is_from_right class }
 {
@@ -38,8 +38,8 @@ fn is_from_right(class: Class) -> bool
     }
 }
 
-/// Whether no explicit rule applies to a class. Each `matches!` is one range test, so that the loop over classes
-/// vectorizes.
+/// Whether no explicit rule applies to a class. BN is apart from the formatting classes in `Class`, so two `matches!` are each one
+/// range test, and the loop over classes vectorizes.
 fn is_unformatted(class: Class) -> bool
     ensures { result ≡ is_unformatted class }
 {

@@ -1,4 +1,4 @@
-//! The rules for weak types (W1 to W7), each as a pass over a sequence.
+//! The rules for weak types (W1 to W7), each as a pass over a sequence, for `levels_by_rules`. The editor runs `one_pass.rt`.
 ghost use Rattle.std.specs.Prelude.{◌≡◌, IfOk, map};
 ghost use Rattle.bx_resolve.specs.Weak.{is_nsm, mark_after, number_after, separator, is_en_past, terminator_of, left_number, w1, w2, w3, w4, w5, w6, w7};
 
@@ -36,7 +36,7 @@ fn separator(before: Class, t: Class, after: Class) -> Class
     }
 }
 
-/// Whether the first type other than ET is EN.
+/// Whether the first type other than ET is EN; false if there is none.
 fn is_en_past(types: &[Class]) -> bool
     ensures { result ≡ is_en_past types.now }
 {
@@ -50,7 +50,7 @@ fn is_en_past(types: &[Class]) -> bool
     false
 }
 
-/// A mark for each type that is NSM.
+/// Of each type, whether it is NSM.
 pub fn marks(alloc: Global, types: &[Class]) -> Result<Vec<bool>, AllocError>
     ensures { IfOk result (λ v. v.items ≡ map is_nsm types.now) }
 {
@@ -145,6 +145,7 @@ fn left_number(strong: Class) -> Class
 pub fn w5(types: &mut [Class])
     ensures { types.new ≡ w5 types.old }
 {
+    // Whether an EN is before the run of ET, and whether one is behind it, which only the run's first ET looks for.
     let mut before = false;
     let mut known: Option<bool> = None;
     for i in 0..types.len() {

@@ -1,15 +1,16 @@
--- Kinds of characters that several layers use.
+-- Kinds of characters that several layers use. Characters are given by their codes, texts by their UTF-8 bytes.
 use Rattle.std.specs.Prelude.{ℕ, Bool, not, ◌&&◌, ◌||◌, ◌==◌, nat_le, List, [], ◌∷◌, false, chars}
 use Rattle.std.specs.List.{list_all}
 
+-- the number lies from `low` to `high`, both included
 abbrev pub is_within : ℕ → ℕ → ℕ → Bool
 is_within low high c = nat_le low c && nat_le c high
 
--- a control character of C0 or C1, DELETE, LINE SEPARATOR or PARAGRAPH SEPARATOR
+-- a control character of C0 or C1 (ECMA-48), DELETE, LINE SEPARATOR or PARAGRAPH SEPARATOR: no glyph has one
 abbrev pub is_control : ℕ → Bool
 is_control c = (is_within 0x00 0x1F c || is_within 0x7F 0x9F c) || is_within 0x2028 0x2029 c
 
--- ARABIC LETTER MARK, LEFT-TO-RIGHT MARK or RIGHT-TO-LEFT MARK
+-- ARABIC LETTER MARK, LEFT-TO-RIGHT MARK or RIGHT-TO-LEFT MARK, the implicit directional marks of UAX #9
 abbrev pub is_direction_mark : ℕ → Bool
 is_direction_mark c = (c == 0x61C) || ((c == 0x200E) || (c == 0x200F))
 

@@ -1,10 +1,10 @@
--- The texts that a terminal shows as one glyph, and the columns of a run of characters.
+-- The texts that a terminal shows as one glyph, and the columns that a run of characters takes there.
 use Rattle.std.specs.Prelude.{ℕ, Bool, false, not, ◌&&◌, ◌||◌, nat_le, if◌then◌else◌, List, length, chars}
 use Rattle.unicode_width.specs.Width.{str_width}
 use Rattle.bx_terms.specs.Characters.{are_ascii_printable, are_printable, is_ascii_glyph}
 
 -- the columns of a run of printable characters: one per character where all are printable ASCII, else the run's width with
--- ambiguous characters narrow
+-- East Asian ambiguous characters narrow
 abbrev pub run_width : List ℕ → ℕ
 run_width run = if are_ascii_printable run then length run else str_width false (chars run)
 

@@ -1,16 +1,16 @@
-//! Kinds of characters.
+//! Kinds of characters that several layers use.
 
 ghost use Rattle.std.specs.Prelude.{◌≡◌, [], ◌∷◌, MatchOption, true, false};
 ghost use Rattle.bx_terms.specs.Characters.{are_ascii_printable, are_printable, is_ascii_glyph, is_ascii_printable, is_control, is_direction_mark};
 
-/// Whether a character is a control of C0 or C1, DELETE, LINE SEPARATOR or PARAGRAPH SEPARATOR.
+/// Whether a character is a control of C0 or C1 (ECMA-48), DELETE, LINE SEPARATOR or PARAGRAPH SEPARATOR.
 pub fn is_control(c: char) -> bool
     ensures { result ≡ is_control c }
 {
     c <= '\u{1F}' || ('\u{7F}' <= c && c <= '\u{9F}') || ('\u{2028}' <= c && c <= '\u{2029}')
 }
 
-/// Whether a character is ARABIC LETTER MARK, LEFT-TO-RIGHT MARK or RIGHT-TO-LEFT MARK.
+/// Whether a character is ARABIC LETTER MARK, LEFT-TO-RIGHT MARK or RIGHT-TO-LEFT MARK, the implicit directional marks of UAX #9.
 #[inline(always)]
 pub fn is_direction_mark(c: char) -> bool
     ensures { result ≡ is_direction_mark c }

@@ -1,4 +1,4 @@
-//! Equality of byte slices.
+//! Equality of byte slices, with a contract on their contents.
 
 ghost use Rattle.std.specs.Prelude.{◌≡◌, ◌↔◌, IsTrue};
 

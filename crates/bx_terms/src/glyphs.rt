@@ -1,4 +1,4 @@
-//! Glyphs: the texts that a terminal shows as one, and their columns.
+//! Glyphs: the texts that a terminal shows as a whole, and their columns.
 
 ghost use Rattle.std.specs.Prelude.{◌≡◌};
 ghost use Rattle.bx_terms.specs.Glyphs.{is_one_glyph, run_width};
@@ -6,7 +6,7 @@ ghost use Rattle.bx_terms.specs.Glyphs.{is_one_glyph, run_width};
 use crate::characters::{are_ascii_printable, are_printable, is_ascii_printable};
 use unicode_width::UnicodeWidthStr;
 
-/// The columns of a run of printable characters, by `unicode_width` with ambiguous characters narrow.
+/// The columns of a run of printable characters, by `unicode_width` with East Asian ambiguous characters narrow.
 pub fn run_width(run: &str) -> usize
     ensures { result ≡ run_width run.now }
 {

@@ -3,10 +3,10 @@
 ghost use Rattle.std.specs.Prelude.{◌≡◌};
 ghost use Rattle.bx_terms.specs.Sizes.{is_side};
 
-/// The largest number of rows or columns of a window.
+/// The largest number of rows or columns of a window, a chosen limit.
 pub const LARGEST_SIDE: u16 = 500;
 
-/// The largest size of a text, in bytes (16 MiB).
+/// The largest size of a text, in bytes (16 MiB), a chosen limit.
 pub const LARGEST_TEXT: usize = 16_777_216;
 
 /// Whether a window may have `side` rows or columns: 1 to 500.

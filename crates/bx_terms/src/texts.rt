@@ -2,7 +2,7 @@
 
 ghost use Rattle.std.specs.Prelude.{◌≡◌, ◌<◌, ◌∷◌, ◌++◌, MatchOption, chars, encode_utf8, length};
 
-/// The first character of a text, and the rest.
+/// The first character of a text, and the rest; `None` if the text is empty.
 #[inline(always)]
 pub fn first_char(text: &str) -> Option<(char, &str)>
     ensures { MatchOption result (length text.now ≡ 0)

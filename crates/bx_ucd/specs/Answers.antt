@@ -29,7 +29,7 @@ default (Default r) = Some r
 abbrev pub class_by_ranges : List ClassRange → ℕ → Option Class
 class_by_ranges ranges code = option_map (λ r. r.class) (find_last (λ r. covers r.range code) ranges)
 
--- the class of the last data line that covers the code, else of the last default that does, else L
+-- the class of the last data line that covers the code, else of the last default (`@missing` line) that does, else L
 abbrev pub class_by_lines : List ClassEntry → ℕ → Class
 class_by_lines entries code = unwrap_or (option_or (class_by_ranges (filter_map given entries) code) (class_by_ranges (filter_map default entries) code)) L
 

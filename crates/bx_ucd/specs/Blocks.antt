@@ -1,4 +1,4 @@
--- Classes kept in blocks of 256 codes.
+-- Classes kept in blocks of 256 codes (`BLOCK_SIZE` of src/blocks.rt).
 use Rattle.std.specs.Prelude.{ℕ, ◌/◌, ◌%◌, List, slice_index_or, [], Some, None}
 use Rattle.bx_ucd.specs.declared.class.Class.{Class}
 use Rattle.bx_ucd.specs.declared.class.Class.TheVariants.{L}
@@ -8,7 +8,7 @@ use Rattle.bx_ucd.specs.declared.blocks.Block.{Block}
 abbrev pub class_in : Block → ℕ → Class
 class_in block index = elim block.whole [ None ↦ slice_index_or block.each index L | (Some class) ↦ class ]
 
--- the block read past the last one
+-- what is read where no block has the number
 abbrev pub empty_block : Block
 empty_block = record { whole = None; each = [] }
 

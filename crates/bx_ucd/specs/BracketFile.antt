@@ -1,4 +1,4 @@
--- BidiBrackets.txt, the file of paired brackets.
+-- BidiBrackets.txt, the file of paired brackets: what its lines say, and which are refused.
 use Rattle.std.specs.Prelude.{ℕ, List, [], ◌∷◌, codes, bytes_eq, if◌then◌else◌, Result, Ok, Err}
 use Rattle.bx_ucd.specs.Lines.{Line, and_then, plain, line_by, lines_by}
 use Rattle.bx_ucd.specs.Codes.{character_of}
@@ -8,7 +8,7 @@ use Rattle.bx_ucd.specs.declared.data.Side.{Side}
 use Rattle.bx_ucd.specs.declared.data.Side.TheVariants.{Opener, Closer}
 use Rattle.bx_ucd.specs.declared.bracket_file.BracketEntry.{BracketEntry}
 
--- `o` or `c`
+-- the side named `o`, an opener, or `c`, a closer
 abbrev pub side_of : List ℕ → Result Side Cause
 side_of name = if bytes_eq name (codes "o") then Ok Opener else if bytes_eq name (codes "c") then Ok Closer else Err UnknownValue
 

@@ -1,4 +1,4 @@
--- UnicodeData.txt, the file of characters, of which the forms of letters are read.
+-- UnicodeData.txt, the file of characters, from which only the forms of letters are read (its fields are those of UAX #44).
 use Rattle.std.specs.Prelude.{ℕ, ◌==◌, ◌||◌, nat_lt, List, [], ◌∷◌, length, filter, slice_index_or, codes, bytes_eq, if◌then◌else◌, Option, Some, None, Ok, Err}
 use Rattle.std.specs.List.{slice_split, list_all}
 use Rattle.bx_ucd.specs.Lines.{Line, is_blank, before_comment, fields, and_then, lines_by}
@@ -23,12 +23,12 @@ form_tagged tag = if bytes_eq tag (codes "<isolated>") then Some Isolated else
     (if bytes_eq tag (codes "<initial>") then Some Initial else
     (if bytes_eq tag (codes "<medial>") then Some Medial else (if bytes_eq tag (codes "<final>") then Some Final else None)))
 
--- a letter and a form of it, neither of which may be a control
+-- the entry of a letter and of the character `shown`, which is this form of it; neither may be a control
 abbrev pub form_between : Form → ℕ → ℕ → Line FormEntry
 form_between form shown letter = if is_control shown || is_control letter then Err ControlInMirror else Ok
     (Some (record { letter = letter; form = form; shown = shown }))
 
--- the character is this form of the letter
+-- the same from the codes of the character and of the letter; without a form there is no entry
 abbrev pub form_entry : Option Form → List ℕ → List ℕ → Line FormEntry
 form_entry None character letter = Ok None
 form_entry (Some form) character letter = and_then (character_of character) (λ s. and_then (character_of letter) (λ l. form_between form s l))

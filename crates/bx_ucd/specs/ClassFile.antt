@@ -1,4 +1,4 @@
--- DerivedBidiClass.txt, the file of classes.
+-- DerivedBidiClass.txt, the file of classes: what its lines say, and which are refused.
 use Rattle.std.specs.Prelude.{ℕ, ◌||◌, List, [], ◌∷◌, length, drop, find, codes, bytes_eq, nat_eq, if◌then◌else◌, Option, Some, None, option_map}
 use Rattle.std.specs.Prelude.{option_and_then, ok_or, Result, Ok, Err}
 use Rattle.std.specs.List.{starts_with}
@@ -14,7 +14,7 @@ use Rattle.bx_ucd.specs.declared.class_file.ClassRange.{ClassRange}
 use Rattle.bx_ucd.specs.declared.class_file.ClassEntry.{ClassEntry}
 use Rattle.bx_ucd.specs.declared.class_file.ClassEntry.TheVariants.{Given, Default}
 
--- the short and the long name of a class
+-- the short and the long name of a class, and the class
 abbrev pub Named : Type 0
 Named = List ℕ × List ℕ × Class
 

@@ -1,4 +1,4 @@
--- The two-stage table of classes.
+-- The two-stage table of classes: a code's block of 256 has a number, and the numbered blocks have the classes.
 use Rattle.std.specs.Prelude.{ℕ, ◌/◌, ◌%◌, [], slice_index_or, nat_lt, if◌then◌else◌}
 use Rattle.bx_ucd.specs.declared.class.Class.{Class}
 use Rattle.bx_ucd.specs.declared.class.Class.TheVariants.{L}

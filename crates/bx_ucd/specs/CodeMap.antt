@@ -1,4 +1,4 @@
--- A map from characters to values.
+-- A map from characters to values, as the brackets, the mirrors and the forms are kept.
 use Rattle.std.specs.Prelude.{ℕ, Option}
 use Rattle.std.specs.Ordering.{nat_cmp}
 use Rattle.std.specs.BTreeMap.{get}

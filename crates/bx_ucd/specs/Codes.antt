@@ -16,6 +16,7 @@ is_code field = (nat_le 4 (length field) && nat_le (length field) 6) && (list_al
 abbrev pub code_of : List ℕ → Result ℕ Cause
 code_of field = if is_code field then Ok (digits_value 16 field) else Err BadCode
 
+-- a surrogate code point, which is not a character
 abbrev pub is_surrogate : ℕ → Bool
 is_surrogate code = nat_le 0xD800 code && nat_le code 0xDFFF
 
@@ -23,13 +24,15 @@ is_surrogate code = nat_le 0xD800 code && nat_le code 0xDFFF
 abbrev pub character_of : List ℕ → Result ℕ Cause
 character_of field = and_then (code_of field) (λ code. if is_surrogate code then Err BadCode else Ok code)
 
+-- a code is in a range, whose ends are included
 abbrev pub covers : Range → ℕ → Bool
 covers range code = nat_le range.low code && nat_le code range.high
 
+-- the range of two ends; refused if the second is below the first
 abbrev pub range_between : ℕ → ℕ → Result Range Cause
 range_between low high = if nat_lt high low then Err BadRange else Ok (record { low = low; high = high })
 
--- a range split at its dots: one code, or two codes with an empty part between
+-- a range split at its dots: one code, or two codes with an empty part between, the one between the two dots
 abbrev pub range_of_codes : List (List ℕ) → Result Range Cause
 range_of_codes (code ∷ []) = and_then (code_of code) (λ c. Ok (record { low = c; high = c }))
 range_of_codes (low ∷ [] ∷ high ∷ []) = and_then (code_of low) (λ l. and_then (code_of high) (λ h. range_between l h))

@@ -1,4 +1,4 @@
--- The stored joining types and forms.
+-- The stored joining types, as they count.
 use Rattle.std.specs.Prelude.{ℕ, Option, Some, None, unwrap_or}
 use Rattle.bx_ucd.specs.CodeMap.{value_in}
 use Rattle.bx_ucd.specs.Joining.{joining_by_class}
@@ -13,5 +13,6 @@ abbrev pub type_by : Option (CodeMap Joining) → Class → ℕ → Joining
 type_by None class c = U
 type_by (Some types) class c = unwrap_or (value_in types c) (joining_by_class class c)
 
+-- the same by what is stored of both files
 abbrev pub type_in : JoinedLetters → Class → ℕ → Joining
 type_in joined class c = type_by joined.types class c

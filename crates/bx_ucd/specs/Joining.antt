@@ -49,17 +49,17 @@ joining_by_class class c = if is_direction_mark c || is_joined_across class c th
 abbrev pub joining_by_lines : List JoiningEntry → ℕ → Option Joining
 joining_by_lines entries c = option_map (λ e. e.joining) (find_last (λ e. e.character == c) entries)
 
--- a letter of the type joins only where it has a form
+-- a letter of the type joins only if it has a form
 abbrev pub needs_form : Joining → Bool
 needs_form R = true
 needs_form L = true
 needs_form D = true
 needs_form _ = false
 
--- the type as which a letter's own type counts
+-- the joining type that counts for a character whose own type is `joining`: U, if the type needs a form and the character has none
 abbrev pub counted : Joining → Bool → Joining
 counted joining has_form = if needs_form joining && not has_form then U else joining
 
--- the type as which the last line's type for a character counts, given the forms of letters
+-- the joining type that counts for a character with a line, the last one for it deciding, given the forms of letters
 abbrev pub counted_by_lines : List JoiningEntry → (ℕ → Form → Option ℕ) → ℕ → Option Joining
 counted_by_lines entries forms c = option_map (λ e. counted e.joining (has_form (forms c))) (find_last (λ e. e.character == c) entries)

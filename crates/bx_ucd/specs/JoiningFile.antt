@@ -1,4 +1,4 @@
--- ArabicShaping.txt, the file of joining types.
+-- ArabicShaping.txt, the file of joining types: what its lines say, and which are refused.
 use Rattle.std.specs.Prelude.{ℕ, List, [], ◌∷◌, codes, bytes_eq, if◌then◌else◌, Result, Ok, Err}
 use Rattle.bx_ucd.specs.Lines.{Line, and_then, plain, line_by, lines_by}
 use Rattle.bx_ucd.specs.Codes.{character_of}
@@ -8,7 +8,7 @@ use Rattle.bx_ucd.specs.declared.joining.Joining.{Joining}
 use Rattle.bx_ucd.specs.declared.joining.Joining.TheVariants.{R, L, D, C, U, T}
 use Rattle.bx_ucd.specs.declared.joining_file.JoiningEntry.{JoiningEntry}
 
--- one of `R`, `L`, `D`, `C`, `U`, `T`
+-- the joining type with the short name `R`, `L`, `D`, `C`, `U` or `T`
 abbrev pub joining_named : List ℕ → Result Joining Cause
 joining_named name = if bytes_eq name (codes "R") then Ok R else
     (if bytes_eq name (codes "L") then Ok L else
@@ -16,7 +16,7 @@ joining_named name = if bytes_eq name (codes "R") then Ok R else
     (if bytes_eq name (codes "C") then Ok C else
     (if bytes_eq name (codes "U") then Ok U else (if bytes_eq name (codes "T") then Ok T else Err UnknownValue)))))
 
--- four fields, of which the first is the character and the third its joining type
+-- four fields: the character, its name, its joining type, its joining group
 abbrev pub joining_entry : List (List ℕ) → Result JoiningEntry Cause
 joining_entry (character ∷ name ∷ joining ∷ group ∷ []) =
     and_then (character_of character) (λ c. and_then (joining_named joining) (λ j. Ok (record { character = c; joining = j })))

@@ -36,7 +36,7 @@ fields text = map trimmed (slice_split (λ b. b == 0x3B) text)
 
 -- ---- the entry of a line
 
--- an entry, none, or the cause of the refusal
+-- what a line gives: an entry, no entry, or the cause why it is refused
 abbrev pub Line : Type 0 → Type 0
 Line A = Result (Option A) Cause
 
@@ -50,7 +50,7 @@ abbrev pub line_by : {A : Type 0} → (List ℕ → Option A) → (List (List �
 line_by comment entry line =
     if list_all is_blank (before_comment line) then Ok (comment line) else and_then (entry (fields (before_comment line))) (λ a. Ok (Some a))
 
--- a comment has no entry
+-- no comment has an entry, for files other than that of classes
 abbrev pub plain : {A : Type 0} → List ℕ → Option A
 plain line = None
 

@@ -1,4 +1,4 @@
--- BidiMirroring.txt, the file of mirrored characters.
+-- BidiMirroring.txt, the file of mirrored characters: what its lines say, and which are refused.
 use Rattle.std.specs.Prelude.{ℕ, ◌||◌, List, [], ◌∷◌, if◌then◌else◌, Result, Ok, Err}
 use Rattle.bx_ucd.specs.Lines.{Line, and_then, plain, line_by, lines_by}
 use Rattle.bx_ucd.specs.Codes.{character_of}

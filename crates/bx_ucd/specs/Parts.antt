@@ -1,4 +1,4 @@
--- The value `Parts` of the code, for a text split at a separator.
+-- The parts of a text split at a separator, as the code's type `Parts` holds them.
 use Rattle.std.specs.Prelude.{◌≡◌, ℕ, ◌<◌, List, [], ◌∷◌, length}
 use Rattle.bx_ucd.specs.declared.parts.Parts.{Parts}
 use Rattle.bx_ucd.specs.declared.parts.Parts.TheVariants.{One, Two, Three, Four, More}

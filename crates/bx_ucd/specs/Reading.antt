@@ -1,4 +1,4 @@
--- The files read in their order.
+-- What the files give, read in the order of `UcdFile`: the first refused line, or else the properties of each code.
 use Rattle.std.specs.Prelude.{◌≡◌, ◌⊎◌, ℕ, List, Option, Some, None, unwrap_or}
 use Rattle.std.specs.Option.{option_or}
 use Rattle.bx_ucd.specs.Lines.{entries, first_refusal, no_memory_in, TellsRefusal}
@@ -51,7 +51,7 @@ refusal classes brackets mirroring texts = option_or (bidi_refusal classes brack
 
 -- ---- failed allocations
 
--- no line is refused in the files read before this one, which is given
+-- no line is refused in the files read before this one, and this one is given
 abbrev pub AcceptedBefore : UcdFile → List ℕ → List ℕ → List ℕ → Option JoiningTexts → Type 0
 AcceptedBefore Classes classes brackets mirroring texts = Unit {0}
 AcceptedBefore Brackets classes brackets mirroring texts = first_refusal Classes (class_lines classes) ≡ None

@@ -1,4 +1,5 @@
-//! The classes of all code points, in blocks of 256, while ranges are painted over them.
+//! The classes of all code points, in blocks of 256, while the table of classes is built: the entries' ranges are painted over them
+//! in file order, so that later lines win.
 
 ghost use Rattle.std.specs.Prelude.{◌≡◌, ℕ, ◌*◌, ◌<◌, ◌≤◌, length, slice_index_or, unwrap_or, filter_map, IfOk, vec_len, if◌then◌else◌};
 ghost use Rattle.bx_ucd.specs.Codes.{covers};
@@ -12,12 +13,13 @@ use std::alloc::{AllocError, Global};
 /// Code points per block.
 pub const BLOCK_SIZE: usize = 256;
 
-/// Blocks that cover 0 to 10FFFF.
+/// The number of blocks for the codes 0 to 10FFFF (hexadecimal): 110000 / 256.
 pub const BLOCK_COUNT: usize = 4352;
 
 /// The classes of a block: one for all its codes, or one for each.
 #[derive(Clone, Copy)]
 pub struct Block {
+    /// The class of all its codes, if they have one.
     whole: Option<Class>,
     /// Read only where `whole` is `None`.
     each: [Class; BLOCK_SIZE],

@@ -1,4 +1,4 @@
-//! BidiBrackets.txt, the file of paired brackets.
+//! Reads the lines of BidiBrackets.txt, the file of paired brackets.
 
 ghost use Rattle.std.specs.Prelude.{◌≡◌};
 ghost use Rattle.bx_ucd.specs.Lines.{fields};

@@ -1,4 +1,4 @@
-//! UnicodeData.txt, the file of characters, of which the forms of letters are read.
+//! Reads the lines of UnicodeData.txt, the file of characters, from which only the forms of letters are taken.
 
 ghost use Rattle.std.specs.Prelude.{◌≡◌, ◌≢◌, length, slice_index_or, MatchOption, [], ◌∷◌};
 ghost use Rattle.std.specs.List.{slice_split};
@@ -22,7 +22,7 @@ pub struct FormEntry {
     pub shown: char,
 }
 
-/// The form that a tag names.
+/// The form that the tag of a decomposition names, if it names one.
 fn form_tagged(tag: &[u8]) -> Option<Form>
     ensures { result ≡ form_tagged tag.now }
 {
@@ -39,7 +39,8 @@ fn form_tagged(tag: &[u8]) -> Option<Form>
     }
 }
 
-/// The first and the sixth of fifteen fields, with their blanks.
+/// The first and the sixth of fifteen fields, with their blanks: the code and the decomposition (UAX #44). Four fields are between
+/// the two, and nine after the sixth, with eight separators; `None` for another number of fields.
 fn first_and_sixth(text: &[u8]) -> Option<(&[u8], &[u8])>
     ensures { MatchOption result (length (semicolon_parts text.now) ≢ 15) (λ p. (length (semicolon_parts text.now) ≡ 15)
         × (slice_index_or (semicolon_parts text.now) 0 [] ≡ p.0.now) × (slice_index_or (semicolon_parts text.now) 5 [] ≡ p.1.now)) }

@@ -1,4 +1,4 @@
-//! DerivedBidiClass.txt, the file of classes.
+//! Reads the lines of DerivedBidiClass.txt, the file of classes.
 
 ghost use Rattle.std.specs.Prelude.{◌≡◌, ◌||◌, bytes_eq};
 ghost use Rattle.std.specs.Option.{option_copied};
@@ -27,6 +27,7 @@ pub enum ClassEntry {
     Default(ClassRange),
 }
 
+/// Whether a name is the short or the long name of a class.
 fn is_either(name: &[u8], short: &[u8], long: &[u8]) -> bool
     ensures { result ≡ (bytes_eq name.now short.now || bytes_eq name.now long.now) }
 {

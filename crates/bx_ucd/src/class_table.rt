@@ -15,6 +15,7 @@ type Classes = [Class; BLOCK_SIZE];
 pub struct ClassTable {
     /// For each 256 codes, the index of their block in `stored`.
     numbers: Vec<u16>,
+    /// The different blocks, in the order in which they were first met.
     stored: Vec<Classes>,
     ghost complete: { vec_len numbers ≡ 4352 },
     ghost in_range: { All (λ n. n < vec_len stored) numbers.items },

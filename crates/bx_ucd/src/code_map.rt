@@ -1,4 +1,4 @@
-//! A map from characters to values.
+//! A map from characters to values, for look-ups of each character of a text.
 
 ghost use Rattle.std.specs.Prelude.{◌≡◌, ℕ, ◌%◌, cond, None, Some, IfOk, OnOk, length, slice_index_or, vec_len};
 ghost use Rattle.std.specs.Option.{ForSome};
@@ -9,14 +9,16 @@ ghost use Rattle.std.specs.BTreeMap.{get};
 use std::alloc::{AllocError, Global};
 use std::collections::BTreeMap;
 
-/// The number of slots. Two characters share a slot if their codes differ by a multiple of this number; characters in use rarely do.
+/// The number of slots. Two characters share a slot if their codes differ by a multiple of this number; those below U+2000 never
+/// share one with each other.
 const SLOTS: usize = 8192;
 
 /// The values of some characters. One look at a slot mostly gives the value, or rules out that there is one.
 #[derive(Drop)]
 pub struct CodeMap<V: Copy> {
+    /// All characters with a value.
     each: BTreeMap<char, V>,
-    /// For each remainder of codes, the last character with it that was inserted, and its value.
+    /// For each remainder of codes by `SLOTS`, the last character with it that was inserted, and its value.
     slots: Vec<Option<(char, V)>>,
     ghost complete: { vec_len slots ≡ 8192 },
     ghost noted: { (code : ℕ) → slice_index_or slots.items (code % 8192) None ≡ None → get nat_cmp each code ≡ None },

@@ -1,4 +1,4 @@
-//! The properties that the bidirectional algorithm looks up.
+//! The properties of characters that the crates above look up, for the bidirectional algorithm and for joined letters.
 
 ghost use Rattle.std.specs.Prelude.{◌≡◌, ℕ, IfSome, false};
 ghost use Rattle.bx_ucd.specs.Control.{is_control};
@@ -11,7 +11,9 @@ use crate::joining::{Form, Joining};
 /// The side of a paired bracket (the property Bidi_Paired_Bracket_Type).
 #[derive(Clone, Copy, PartialEq, Eq, Debug)]
 pub enum Side {
+    /// `o` in the file, as `(`.
     Opener,
+    /// `c` in the file, as `)`.
     Closer,
 }
 
@@ -32,7 +34,7 @@ pub trait BidiData {
     fn mirror(&self, c: char) -> Option<char>
         ensures { result ≡ («data» self.now).mirror c };
 
-    /// The character's joining type (the property Joining_Type), as it counts: a letter that joins on a side has a form.
+    /// The joining type that counts for the character (the property Joining_Type): U in place of R, L and D if it has no form.
     fn joining(&self, c: char) -> Joining
         ensures { result ≡ («data» self.now).joining c };
 

@@ -1,4 +1,4 @@
-//! Reading a data file line by line.
+//! Reading a data file line by line, as all files of Unicode are read: each line gives an entry, none, or a refusal.
 
 ghost use Rattle.std.specs.Prelude.{◌≡◌, ℕ, List, Option, Result, IfOk, IfErr, None};
 ghost use Rattle.bx_ucd.specs.Lines.{Line, lines_by, entries, first_refusal, TellsRefusal};

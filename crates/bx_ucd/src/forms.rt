@@ -1,4 +1,4 @@
-//! The forms of letters.
+//! The forms of letters, as they are stored: for each letter the characters that are its forms.
 
 ghost use Rattle.std.specs.Prelude.{◌≡◌, ℕ, IfOk, OnOk, Some, None, if◌then◌else◌};
 ghost use Rattle.bx_ucd.specs.Forms.{form_in, form_in_map};
@@ -16,6 +16,7 @@ pub struct Forms {
     isolated: Option<char>,
     initial: Option<char>,
     medial: Option<char>,
+    /// The final form.
     last: Option<char>,
 }
 

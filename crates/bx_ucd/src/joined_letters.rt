@@ -36,7 +36,7 @@ pub struct JoiningFiles<'a> {
 /// of a form asks nothing else first.
 #[derive(Drop)]
 pub struct JoinedLetters {
-    /// The types of the characters with a line, as they count.
+    /// The types of the characters with a line, as they count (`counted`); `None` without the two files.
     types: Option<CodeMap<Joining>>,
     forms: CodeMap<Forms>,
     ghost no_control: { (letter : ℕ) (form : Form) → ForSome (form_in_map forms letter form) (λ m. is_control m ≡ false) },

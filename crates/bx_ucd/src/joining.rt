@@ -64,7 +64,7 @@ fn needs_form(joining: Joining) -> bool
     matches!(joining, Joining::R | Joining::L | Joining::D)
 }
 
-/// The type as which a letter's own type counts.
+/// The joining type that counts for a character whose own type is `joining`: U, if the type needs a form and it has none.
 pub(crate) fn counted(joining: Joining, has_form: bool) -> Joining
     ensures { result ≡ counted joining has_form }
 {

@@ -1,4 +1,4 @@
-//! ArabicShaping.txt, the file of joining types.
+//! Reads the lines of ArabicShaping.txt, the file of joining types.
 
 ghost use Rattle.std.specs.Prelude.{◌≡◌};
 ghost use Rattle.bx_ucd.specs.Lines.{fields};
@@ -18,7 +18,7 @@ pub struct JoiningEntry {
     pub joining: Joining,
 }
 
-/// The joining type with this name.
+/// The joining type with this short name.
 fn joining_named(name: &[u8]) -> Result<Joining, Cause>
     ensures { result ≡ joining_named name.now }
 {

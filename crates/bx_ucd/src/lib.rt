@@ -1,4 +1,5 @@
-//! Unicode's data for the bidirectional algorithm: the class, the bracket and the mirror of each character.
+//! Unicode's data for the bidirectional algorithm and for joined letters, read from its files: of each character the class, the
+//! counterpart of a bracket, the mirror, the joining type and the forms.
 #![tactic(auto)]
 
 mod blocks;

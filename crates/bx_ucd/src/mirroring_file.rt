@@ -1,4 +1,4 @@
-//! BidiMirroring.txt, the file of mirrored characters.
+//! Reads the lines of BidiMirroring.txt, the file of mirrored characters.
 
 ghost use Rattle.std.specs.Prelude.{◌≡◌};
 ghost use Rattle.bx_ucd.specs.Lines.{fields};

@@ -1,4 +1,4 @@
-//! Splits a text at a separator.
+//! Splits a line into its fields at a separator, without an allocation.
 
 ghost use Rattle.std.specs.Prelude.{◌≡◌, ◌≤◌, ◌==◌, [], ◌∷◌, MatchOption, count_by, drop, length};
 ghost use Rattle.std.specs.List.{slice_split};
@@ -6,7 +6,7 @@ ghost use Rattle.bx_ucd.specs.Parts.{IsCut};
 
 use crate::lines::position_or_len;
 
-/// The parts of a text between separators, in order; `More` for five or more.
+/// The parts of a text between separators, in order; `More` for five or more, which every caller refuses.
 #[derive(Clone, Copy)]
 pub enum Parts<'a> {
     One(&'a [u8]),

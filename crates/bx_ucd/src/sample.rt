@@ -1,5 +1,5 @@
-//! Small samples of the three files, for tests and measurements: letters of three scripts, digits, round and square
-//! brackets, and the formatting characters.
+//! Small samples of the files of classes, brackets and mirrors, for tests and measurements: letters of three scripts, digits,
+//! round and square brackets, and the formatting characters.
 ghost use Rattle.std.specs.Prelude.{◌≡◌, ℕ, IfOk, IfErr};
 ghost use Rattle.bx_ucd.specs.Lines.{no_memory_in};
 ghost use Rattle.bx_ucd.specs.Reading.{class_in_file, bracket_in_file, mirror_in_file};

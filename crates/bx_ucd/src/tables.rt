@@ -1,4 +1,4 @@
-//! The tables built from Unicode's files.
+//! The tables built from Unicode's files: what the programs look properties up in.
 
 ghost use Rattle.std.specs.Prelude.{◌≡◌, ℕ, ◌<◌, ◌⊎◌, false, None, Some, IfOk, IfErr, MatchOption};
 ghost use Rattle.std.specs.Option.{ForSome};
@@ -35,7 +35,9 @@ use std::alloc::{AllocError, Global};
 #[derive(Drop)]
 pub struct Tables {
     classes: ClassTable,
+    /// Of each bracket its side and its counterpart.
     brackets: CodeMap<(Side, char)>,
+    /// Of each mirrored character its mirror.
     mirrors: CodeMap<char>,
     joined: JoinedLetters,
     ghost no_control: { (code : ℕ) → ForSome (value_in mirrors code) (λ m. is_control m ≡ false) },
@@ -110,8 +112,8 @@ fn read_mirrors(alloc: Global, bytes: &[u8]) -> Result<CodeMap<char>, UcdError>
     }
 }
 
-/// Reads ArabicShaping.txt and UnicodeData.txt, if they are given. Where they are not, a failed allocation counts as one of
-/// the file read before.
+/// Reads ArabicShaping.txt and UnicodeData.txt, if they are given. If they are not, the error of a failed allocation names the
+/// file read before, BidiMirroring.txt.
 fn read_joined(alloc: Global, files: Option<JoiningFiles<'_>>) -> Result<JoinedLetters, UcdError>
     ensures accepted { IfOk result (λ _. joining_refusal_if_any (texts_of files.entry) ≡ None) }
     ensures joining { IfOk result (λ j. (class : Class) (c : ℕ) → type_in j class c ≡ joining_if_any (texts_of files.entry) class c) }

@@ -1,4 +1,4 @@
-//! The words of a field.
+//! The words of a field, which blanks separate: the tag and the letter of a decomposition.
 
 ghost use Rattle.std.specs.Prelude.{◌≡◌, ◌≢◌, ◌≤◌, [], ◌∷◌, length, MatchOption};
 ghost use Rattle.std.specs.List.{position_or_len};
