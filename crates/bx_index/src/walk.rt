@@ -18,9 +18,11 @@ pub struct ParagraphWalk<'a> {
     blocks: &'a Blocks,
     // length in bytes of the text's last paragraph
     last: u32,
+    // where the paragraph is stored that the walk is at
     spot: Spot,
     // offset of the paragraph's start
     start: usize,
+    // the paragraph's lengths
     here: Lengths,
 }
 

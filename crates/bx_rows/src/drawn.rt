@@ -13,8 +13,9 @@ pub struct Drawn<'a> {
     pub negative: bool,
 }
 
-/// A row's glyphs from left to right, blanks included.
+/// The picture of a row, or of a text alone.
 #[derive(Drop)]
 pub struct RowPicture<'a> {
+    /// The glyphs from left to right, with the row's blanks where the call that made them says so.
     pub glyphs: Vec<Drawn<'a>>,
 }

@@ -12,7 +12,9 @@ use std::marker::Model;
 #[derive(Drop)]
 pub struct Slices<'a> {
     text: &'a Text,
+    /// The offset up to which the text was lent.
     at: usize,
+    /// The offset up to which it is to be lent.
     stop: usize,
 }
 
