@@ -28,7 +28,7 @@ fn count_up_to(numbers: &[usize], n: usize) -> usize
 /// The lengths of the past at which runs of edits begin. A length counts edits.
 #[derive(Drop)]
 pub struct Runs {
-    // each above the one before
+    // lengths of the past, each above the one before
     numbers: Vec<usize>,
     // whether the next edit allocates nothing
     room: bool,
