@@ -24,6 +24,7 @@ is_divider c = (c == 0x3A) || (c == 0x2C)
 abbrev pub is_line_letter : ℕ → Bool
 is_line_letter c = is_digit c || is_divider c
 
+-- an answer has a digit
 abbrev pub has_digit : List ℕ → Bool
 has_digit answer = list_any is_digit answer
 

@@ -1,12 +1,12 @@
--- The borders of a query's beginnings. A search that has read the first k letters keeps as many of them as their border after
--- a letter that does not go on, so that it reads no letter twice.
+-- The borders of a query's beginnings. The border of the first k letters is the longest of their beginnings, but for all k, that
+-- is also their end: a search that has read these letters keeps it where the next letter does not go on with them.
 use Rattle.std.specs.Prelude.{◌≡◌, ℕ, ◌<◌, ◌-◌, ◌+◌, ◌≤◌, List, length, take, slice_range, get_or}
 
 -- the first i letters are the last i of the first k
 abbrev pub Ends : List ℕ → ℕ → ℕ → Type 0
 Ends ls k i = take i ls ≡ slice_range ls (k - i) k
 
--- the border of the first k letters has f: the greatest i below k for which `Ends` holds
+-- the border of the first k letters has f letters: the greatest i below k for which `Ends` holds
 pub record IsBorder (ls : List ℕ) (k f : ℕ) : Type 0 where
   pub below : f < k
   pub ends : Ends ls k f

@@ -10,7 +10,7 @@ begins [] cs = true
 begins (q ∷ qs) [] = false
 begins (q ∷ qs) (c ∷ cs) = (q == c) && begins qs cs
 
--- the same, and the first is not empty
+-- the second list begins with the first, which is not empty
 abbrev pub begins_some : List ℕ → List ℕ → Bool
 begins_some [] cs = false
 begins_some (q ∷ qs) cs = begins (q ∷ qs) cs

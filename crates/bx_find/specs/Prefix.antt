@@ -31,7 +31,7 @@ with_letters [] ls = []
 with_letters (o ∷ os) [] = []
 with_letters (o ∷ os) (l ∷ ls) = (o, l) ∷ with_letters os ls
 
--- the same in a prefix of the sought letters, given by its places, and the letters `ps` that follow it
+-- such places in a prefix of the sought letters, given by its places, and the letters `ps` that follow it
 abbrev pub found_after : List ℕ → List (Option ℕ) → List Placed → List (Option ℕ)
 found_after sought prefix ps = found sought (with_letters prefix sought ++ ps)
 
@@ -43,6 +43,6 @@ offsets_of places = flat_map option_to_list places
 abbrev pub matches_after : List ℕ → List (Option ℕ) → List Placed → List ℕ
 matches_after sought prefix ps = offsets_of (found_after sought prefix ps)
 
--- the same for characters that follow, the first at the offset `at`
+-- the matches once characters follow a prefix, the first at the offset `at`
 abbrev pub to_come : Data → Reading → List ℕ → List (Option ℕ) → ℕ → List ℕ → List ℕ
 to_come says reading sought prefix at cs = matches_after sought prefix (placed says reading at cs)

@@ -31,7 +31,7 @@ pub fn is_passed_over<D: BidiData>(tables: &D, c: char) -> bool
     is_unlettered(tables.class(c)) || is_stroke_or_mark(c)
 }
 
-/// Of letters that readers take for one another, the one that stands for all; specs/Letters.antt names them.
+/// Of letters that readers take for one another, the one that is compared; specs/Letters.antt names them.
 #[inline(always)]
 fn main_letter(c: char) -> char
     ensures { result ≡ main_letter c }

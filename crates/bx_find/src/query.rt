@@ -22,7 +22,7 @@ const BORDER_ROOM: usize = 257;
 #[derive(Drop)]
 pub struct Query {
     letters: ArrayVec<char, ROOM>,
-    /// For each number of letters, from 0, the length of the border of the beginning with so many.
+    /// The number of letters in the border of the query's first k letters, at the index k from 0.
     borders: ArrayVec<usize, BORDER_ROOM>,
 }
 

@@ -4,6 +4,7 @@ use Rattle.bx_index.specs.declared.blocks.Blocks.TheInside.{Inside}
 use Rattle.bx_index.specs.Positions.{total}
 use Rattle.bx_index.specs.Flat.{flat, BlocksState}
 
+-- the value of a `Blocks` of the code
 abbrev pub blocks_of : Inside → BlocksState
 blocks_of b = record { blocks = b.blocks.items; spares = vec_len b.spares }
 

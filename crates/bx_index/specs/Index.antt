@@ -15,6 +15,7 @@ pub record IndexState : Type 0 where
   -- if it is Some n, the next edit allocates nothing if the added text has at most n separators; None: no room was made
   pub room : Option ℕ
 
+-- the value of the code's index: the paragraphs in blocks, and the last, which has no separator
 abbrev pub index_of : Inside → IndexState
 index_of i = record { paragraphs = flat i.front.blocks ++ record { body = i.last; separator = 0 } ∷ []; room = i.room }
 

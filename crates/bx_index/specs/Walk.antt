@@ -15,6 +15,7 @@ pub record WalkState : Type 0 where
 abbrev pub all_of : Inside → List Lengths
 all_of w = closed w.blocks.now.blocks w.last
 
+-- the value of the code's walk
 abbrev pub walk_of : Inside → WalkState
 walk_of w = record { paragraphs = all_of w; number = w.spot.number }
 

@@ -31,8 +31,8 @@ fn lead_byte(code: u32) -> u8
     }
 }
 
-/// The code below which characters are looked up before a scan of `bytes` bytes. A longer scan looks up more, so that the
-/// look-ups take less time than it does: none, the characters of one and two bytes in UTF-8, or those of up to three.
+/// The code below which characters are looked up before a scan of `bytes` bytes: none, those of one and two bytes in UTF-8, or
+/// those of up to three. The look-ups are fewer than the bytes, half of them at most.
 fn asked_below(bytes: usize) -> u32
     ensures { result < 0x110000 }
 {

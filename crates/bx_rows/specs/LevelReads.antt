@@ -13,7 +13,7 @@ settled paragraph waiting [] = []
 settled paragraph zero (l ∷ ls) = paragraph ∷ settled paragraph zero ls
 settled paragraph (suc waiting) (l ∷ ls) = l ∷ settled paragraph waiting ls
 
--- the same if `trailing`, that is, if the unread characters trail; else the levels as read
+-- settled levels if `trailing`, that is, if the unread characters trail; else the levels as read
 abbrev pub settled_if : Bool → ℕ → ℕ → List ℕ → List ℕ
 settled_if trailing paragraph waiting found = cond trailing (settled paragraph waiting found) found
 
@@ -31,7 +31,7 @@ abbrev pub levels_from : ℕ → List ℕ → ℕ → ℕ → List ℕ → List 
 levels_from paragraph found waiting n counts cs =
     with_levels_behind paragraph (settled_if (only_trailing cs) paragraph waiting found) (unit_levels counts (drop n (l1 paragraph cs)))
 
--- the same while a unit is read that has `n` unread characters; true: its level is known, as the last of `found`
+-- the levels of all units while a unit is read that has `n` unread characters; true: its level is known, the last of `found`
 abbrev pub unit_from : Bool → ℕ → List ℕ → ℕ → ℕ → List ℕ → List CharLevel → List ℕ
 unit_from true paragraph found waiting n counts cs = levels_from paragraph found waiting n counts cs
 unit_from false paragraph found waiting n counts cs = levels_from paragraph found waiting 0 (n ∷ counts) cs
@@ -41,7 +41,8 @@ abbrev pub Reads : ℕ → Class → List ℕ → ℕ → List ℕ → ℕ → T
 Reads paragraph class old waiting new next =
     (l : ℕ) (b : Bool) → settled_if b paragraph next new ≡ settled_if (trails (class, Some l) b) paragraph waiting old
 
--- the same for any character of a unit: `level` is None if X9 removes it; `is_known`: the unit's level was found before
+-- what reading any character of a unit makes of them: `level` is None if X9 removes it; `is_known`: the unit's level was found
+-- before
 abbrev pub ReadsChar : ℕ → Class → Bool → Option ℕ → List ℕ → ℕ → List ℕ → ℕ → Type 0
 ReadsChar paragraph class is_known level old waiting new next =
     (n : ℕ) (counts : List ℕ) (cs : List CharLevel) → unit_from is_known paragraph old waiting (suc n) counts ((class, level) ∷ cs)

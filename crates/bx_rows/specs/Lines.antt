@@ -27,6 +27,6 @@ module _ {D : Type 0} {g : Ghosts D} (s : Lines D g) where
   abbrev pub glyphs_at : ℕ → List Glyph
   glyphs_at k = draw_numbered (g.data s.tables.now) s.w s.body.now s.levels.now.paragraph s.levels.now.each.items k
 
-  -- the same without the row's blanks
+  -- the glyphs of row `k` without the row's blanks
   abbrev pub own_glyphs_at : ℕ → List Glyph
   own_glyphs_at k = let us = units_at k in own_glyphs (g.data s.tables.now) s.w s.body.now s.levels.now.each.items us (levels_of us)

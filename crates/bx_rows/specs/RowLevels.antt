@@ -57,7 +57,7 @@ abbrev pub unit_levels : List ℕ → List (Option ℕ) → List (Option ℕ)
 unit_levels [] ls = []
 unit_levels (n ∷ ns) ls = first_level (take n ls) ∷ unit_levels ns (drop n ls)
 
--- a unit without a level takes the level of the unit before it; `before` is that of the first one's
+-- a unit without a level takes the level of the unit before it; the first takes `before`
 abbrev pub levels_or_before : ℕ → List (Option ℕ) → List ℕ
 levels_or_before before [] = []
 levels_or_before before (l ∷ ls) = let level = unwrap_or l before in level ∷ levels_or_before level ls

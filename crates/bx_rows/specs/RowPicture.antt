@@ -22,6 +22,7 @@ pub record Glyph : Type 0 where
   pub columns : ℕ
   pub negative : Bool
 
+-- the glyph with these parts
 abbrev pub glyph : List ℕ → ℕ → Bool → Glyph
 glyph text columns negative = record { text = text; columns = columns; negative = negative }
 

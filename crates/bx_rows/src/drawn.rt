@@ -16,6 +16,6 @@ pub struct Drawn<'a> {
 /// The picture of a row, or of a text alone.
 #[derive(Drop)]
 pub struct RowPicture<'a> {
-    /// The glyphs from left to right, with the row's blanks where the call that made them says so.
+    /// The glyphs from left to right; the row's blanks are among them in `picture`, and not in `own_glyphs`.
     pub glyphs: Vec<Drawn<'a>>,
 }

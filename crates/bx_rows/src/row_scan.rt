@@ -26,7 +26,7 @@ pub(crate) struct Extent {
     pub(crate) is_break: bool,
 }
 
-/// The current row: the units read since its start. Its last break is after the last of them after which a row may end.
+/// The current row: the units read since its start. A break follows each unit after which a row may end.
 #[derive(Clone, Copy)]
 pub(crate) struct Scan {
     pub(crate) start: RowStart,
@@ -165,7 +165,7 @@ fn pass(
     Ok(new_scan(start))
 }
 
-/// Adds a unit to a row without a break. A unit that does not fit begins the next row; the row so ended joins `starts`.
+/// Adds a unit to a row without a break. A unit that does not fit begins the next row; the start of the row before is pushed.
 fn take_unbroken(
     starts: &mut Vec<RowStart>,
     scan: Scan,

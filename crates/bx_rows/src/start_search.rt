@@ -150,7 +150,7 @@ pub fn row_starts<D: BidiData>(
         scan = next;
         at = stop;
     }
-    // The last unit was wider than the window, and its empty row is among the starts: no row begins behind it.
+    // The last unit was wider than the window, and its empty row is among the starts: no row begins after it.
     if scan.last + scan.count == 0 {
         return Ok(starts);
     }

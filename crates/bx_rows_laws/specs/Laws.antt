@@ -53,7 +53,7 @@ pub record EndsWell (says : Data) (w : ℕ) (body : List ℕ) (us : List Unit) (
   pub longest : (last : ℕ) → r.stop ≤ last → last < length us
       → (last + 1 ≡ length us) ⊎ HoldsAt (λ u. is_break says body u ≡ true) us last → IsFull w us (record { start = r.start; stop = last })
 
--- each row of units that each fit in the window ends so
+-- each row of units that each fit in the window ends well
 abbrev pub RowsEndWell : Type 0
 RowsEndWell = (says : Data) (w : ℕ) (body : List ℕ) (us : List Unit) → 1 ≤ w → All (λ u. FitsWindow w u.face) us
     → All (EndsWell says w body us) (wrap says w body us)

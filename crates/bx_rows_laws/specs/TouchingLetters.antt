@@ -70,7 +70,7 @@ pub record BeginsWithLetter (says : Data) (body : List ℕ) (each : List (Option
   pub no_separator : is_segment_separator (says.class letter) ≡ false
   pub no_blank : is_trailing (says.class letter) ≡ false
 
--- a row has a unit that begins so at the letter's level
+-- a row has a unit that begins with such a letter at the letter's level
 abbrev pub LettersKeepLevels : Type 0
 LettersKeepLevels = (says : Data) (body : List ℕ) (paragraph : ℕ) (each : List (Option ℕ)) (us : List Unit) (start stop i n : ℕ)
     → IsUtf8 body → All (StandsIn body) us → StandInTurn start (map (λ u. (u.start, u.stop)) us) stop → i < length us

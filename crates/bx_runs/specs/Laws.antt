@@ -22,7 +22,7 @@ abbrev pub undone : List ℕ → ℕ → ℕ
 undone numbers zero = 0
 undone numbers (suc n) = if begins_at numbers n then n else undone numbers n
 
--- the undo of a run does so
+-- the undo of a run goes to this length
 abbrev pub UndoEndsWithARun : Type 0
 UndoEndsWithARun = (numbers : List ℕ) (n : ℕ) → run_start numbers n ≡ undone numbers n
 
@@ -31,7 +31,7 @@ abbrev pub redone : List ℕ → ℕ → ℕ → ℕ
 redone numbers n zero = n
 redone numbers n (suc left) = if begins_at numbers (n + 1) then n + 1 else redone numbers (n + 1) left
 
--- the redo of a run does so
+-- the redo of a run goes to this length
 abbrev pub RedoEndsWithARun : Type 0
 RedoEndsWithARun = (numbers : List ℕ) (n left : ℕ) → run_end numbers n (n + left) ≡ redone numbers n left
 

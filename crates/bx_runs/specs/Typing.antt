@@ -18,7 +18,7 @@ kind_of _ = Letter
 
 -- ---- insertions
 
--- all of a paste but its first character goes on; so do letters and blanks behind a letter, and blanks behind blanks
+-- all of a paste but its first character goes on; so do letters and blanks after a letter, and blanks after blanks
 abbrev pub goes_on : Typing → Kind → Bool
 goes_on Pasting _ = true
 goes_on Word Separator = false

@@ -13,7 +13,7 @@ pub enum Typing {
     Off,
     /// A letter: letters and blanks go on with it.
     Word,
-    /// A blank, maybe behind a word: blanks go on with it, and a letter begins a run.
+    /// A blank, maybe after a word: blanks go on with it, and a letter begins a run.
     Blanks,
     /// Characters erased backward.
     Erasing,

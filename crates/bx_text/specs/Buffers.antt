@@ -11,10 +11,12 @@ pub record Buffers : Type 0 where
   pub opened : List ℕ
   pub added : List ℕ
 
+-- the bytes of the buffer that a piece names
 abbrev pub buffer_bytes : Buffers → Buffer → List ℕ
 buffer_bytes b Opened = b.opened
 buffer_bytes b Added = b.added
 
+-- the bytes of a piece: `len` bytes of its buffer from `start` on
 abbrev pub piece_bytes : Buffers → Piece → List ℕ
 piece_bytes b p = take p.len (drop p.start (buffer_bytes b p.buffer))
 
@@ -28,6 +30,7 @@ pub record IsInBuffer (b : Buffers) (p : Piece) : Type 0 where
   pub inside : p.start + p.len ≤ length (buffer_bytes b p.buffer)
   pub utf8 : IsUtf8 (piece_bytes b p)
 
+-- each of the pieces lies so in its buffer
 abbrev pub AreInBuffers : Buffers → List Piece → Type 0
 AreInBuffers b [] = Unit {0}
 AreInBuffers b (p ∷ ps) = IsInBuffer b p × AreInBuffers b ps

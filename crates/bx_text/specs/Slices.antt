@@ -8,7 +8,7 @@ use Rattle.bx_text.specs.Edits.{IsRange}
 abbrev pub bytes_left : Inside → List ℕ
 bytes_left s = slice_range s.text.now.edited.text s.at s.stop
 
--- what holds between calls
+-- what always holds: the two offsets are character boundaries, in order
 abbrev pub AreSlices : Inside → Type 0
 AreSlices s = IsRange s.text.now.edited.text s.at s.stop
 

@@ -54,7 +54,7 @@ IsShort ps steps = (s : Step) (rest : List Step) → steps ≡ rest ++ s ∷ [] 
 abbrev pub turned_pieces : List Piece → Step → List Piece
 turned_pieces ps s = front ps s.start ++ (s.span ++ back (back ps s.start) s.len)
 
--- its span are the pieces that were replaced
+-- (its span is the pieces that were replaced)
 abbrev pub turned_step : List Piece → Step → Step
 turned_step ps s = record { start = s.start; span = front (back ps s.start) s.len; len = total s.span; before = s.before; after = s.after }
 
@@ -124,5 +124,6 @@ pub record HasTurned (b : Buffers) (n : ℕ) (old new : Turning) : Type 0 where
   pub redone : in_redo b new ≡ redone_times n (in_redo b old)
   pub left : length new.from + n ≡ length old.from
 
+-- n steps were turned, whatever the buffers in which they can be
 abbrev pub HaveTurned : ℕ → Turning → Turning → Type 0
 HaveTurned n old new = (b : Buffers) → IsTurning b old → HasTurned b n old new

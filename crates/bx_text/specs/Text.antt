@@ -10,6 +10,7 @@ pub record TextState : Type 0 where
   -- if it is Some n, the next edit that inserts at most n bytes allocates nothing; None: no room was made
   pub room : Option ℕ
 
+-- the buffers of a `Text`
 abbrev pub buffers_of : Inside → Buffers
 buffers_of t = record { opened = string_bytes t.opened; added = string_bytes t.added }
 
@@ -17,6 +18,7 @@ buffers_of t = record { opened = string_bytes t.opened; added = string_bytes t.a
 abbrev pub bytes_in : Inside → List ℕ
 bytes_in t = bytes_of (buffers_of t) t.pieces
 
+-- the value; the code keeps the latest step of the past and the next of the future last, so both are read in reverse
 abbrev pub text_of : Inside → TextState
 text_of t = record {
   edited = record {
