@@ -1,5 +1,5 @@
--- The borders of a query's beginnings. The border of the first k letters is the longest of their beginnings, but for all k, that
--- is also their end: a search that has read these letters keeps it where the next letter does not go on with them.
+-- The borders of a query's beginnings. The border of the first k letters is their longest beginning, of fewer than k, that is
+-- also their end. A search that has read these letters keeps the border where the next letter does not go on with them.
 use Rattle.std.specs.Prelude.{◌≡◌, ℕ, ◌<◌, ◌-◌, ◌+◌, ◌≤◌, List, length, take, slice_range, get_or}
 
 -- the first i letters are the last i of the first k

@@ -1,4 +1,4 @@
-//! The letters that a search compares.
+//! The letters that a search compares in place of characters.
 ghost use Rattle.std.specs.Prelude.{◌≡◌, ◌+◌, ◌≤◌, ◌++◌, ◌∷◌, [], length, true};
 ghost use Rattle.bx_find.specs.Letters.{is_stroke_or_mark, is_passed_over, main_letter, folded, letters_of_parts, letters_of};
 ghost use Rattle.bx_find.specs.Short.{is_short, is_simple, simple_letter};

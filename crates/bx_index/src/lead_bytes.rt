@@ -15,7 +15,7 @@ pub struct LeadBytes {
     pub may_separate: [bool; 256],
 }
 
-/// The first byte of a character in UTF-8.
+/// The first byte of a character in UTF-8: of one byte below 0x80, of two below 0x800, of three below 0x10000, else of four.
 fn lead_byte(code: u32) -> u8
     requires { code < 0x110000 }
     ensures { result ≡ lead_of code }

@@ -1,4 +1,4 @@
-//! The part of a text that a scan for paragraphs reads.
+//! The part of a text that a scan for paragraphs reads, so that after an edit it reads little more than the added text.
 
 ghost use Rattle.std.specs.Prelude.{ℕ, IsCharBoundary};
 ghost use Rattle.bx_ucd.specs.Data.{Data};

@@ -1,4 +1,4 @@
-//! A walk over the paragraphs of a text.
+//! A walk over the paragraphs of a text, from one to its neighbours, with no search.
 
 ghost use Rattle.std.specs.Prelude.{◌≡◌, ℕ, ◌+◌, ◌-◌, ◌<◌, ◌≤◌, Some, length, nat_lt, slice_get, take, if◌then◌else◌};
 ghost use Rattle.bx_text.specs.Edits.{largest_text};

@@ -1,4 +1,4 @@
--- Runs reversed in place, while the levels stay in place.
+-- Runs reversed in place, while the levels stay in place, as the code does L2.
 use Rattle.std.specs.Prelude.{◌≡◌, ℕ, List, ◌++◌, drop, map, min, reverse, take}
 use Rattle.std.specs.List.{between}
 

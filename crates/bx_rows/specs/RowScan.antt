@@ -14,9 +14,10 @@ use Rattle.bx_rows.specs.Wrapping.{columns_at, fit_count_from, is_break, rows_fr
 abbrev pub Fits : ℕ → ℕ → Unit → Type 0
 Fits w c u = (c < w) × (c + columns_at w c u.face ≤ w)
 
--- A row read up to the units `rest`. `here` are the units from its start on: `last` units up to its last break (0: it has
--- none), then `count` units, with which `behind` begins. Together they have `columns` columns; the last `count` would have
--- `since` columns in a row of their own, where a tab may differ.
+-- A row read up to the units `rest`; `p` tells after which units there is a break, where a row may end. `here` are the units
+-- from the row's start on: `last` units up to its last break (0: it has none), then `count` units, with which `behind` begins.
+-- Together they have `columns` columns; the last `count` would have `since` columns in a row of their own, where a tab may
+-- differ.
 pub record IsScan (p : Unit → Bool) (w : ℕ) (here behind rest : List Unit) (columns last count since : ℕ) : Type 0 where
   pub front : List Unit
   pub back : List Unit

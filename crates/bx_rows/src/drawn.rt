@@ -1,4 +1,4 @@
-//! The glyphs of a row's picture.
+//! The glyphs of a row's picture, as the window, the status row and the printed page take them.
 use std::alloc::Global;
 use std::borrow::CowStr;
 

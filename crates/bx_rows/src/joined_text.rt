@@ -1,4 +1,4 @@
-//! Texts in the forms of their letters.
+//! Texts in the forms of their letters, so that letters at odd levels are shown joined.
 ghost use Rattle.std.specs.Prelude.{◌≡◌, ◌∷◌, ◌++◌, [], ℕ, IfOk, IsUtf8, List, MatchOption, None, OnOk, chars, drop, encode_utf8, false, length, map, slice_index_or, string_bytes, take};
 ghost use Rattle.std.specs.Prelude.{encode_utf8_all};
 ghost use Rattle.std.specs.Cow.{cow_str_bytes};

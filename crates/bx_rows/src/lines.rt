@@ -1,4 +1,4 @@
-//! A body's rows, read by their numbers.
+//! A body's rows, read by their numbers: units, levels and pictures of a row are calls of `Lines`.
 ghost use Rattle.std.specs.Prelude.{◌≡◌, ◌<◌, ⊤, IsUtf8, chars, length, slice_index_or};
 ghost use Rattle.bx_resolve.specs.Levels.{levels_under, paragraph_level_under};
 ghost use Rattle.bx_rows.specs.declared.start_search.RowStart.{RowStart};

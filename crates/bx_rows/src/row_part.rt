@@ -1,4 +1,4 @@
-//! The units of one row, read from its start.
+//! The units of one row, read from its start, with no other row read.
 ghost use Rattle.std.specs.Prelude.{◌≡◌, ◌≤◌, ◌<◌, All, IfOk, IfSome, length, slice_get};
 ghost use Rattle.bx_cells.specs.Units.{StandsIn};
 ghost use Rattle.bx_rows.specs.Lines.{ShowsFace, units_at};

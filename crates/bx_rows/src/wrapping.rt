@@ -1,4 +1,4 @@
-//! The columns of a face in its row, and where a row may end.
+//! The columns of a face in its row, and where a row may end: the two questions of wrapping.
 ghost use Rattle.std.specs.Prelude.{◌≡◌, ◌≤◌};
 ghost use Rattle.bx_cells.specs.Units.{StandsIn};
 ghost use Rattle.bx_rows.specs.Wrapping.{columns_at, is_blank, is_break};

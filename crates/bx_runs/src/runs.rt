@@ -1,4 +1,4 @@
-//! The lengths of the past at which runs of edits begin.
+//! The lengths of the past at which runs of edits begin: an undo or a redo of a run ends at one, or where no edit is left.
 
 ghost use Rattle.std.specs.Prelude.{◌≡◌, ◌+◌, ◌-◌, ◌≤◌, [], true, false, take, drop, length, OnOk, OnErr};
 ghost use Rattle.bx_runs.specs.Runs.{above, below, edited, run_end, run_start, Rise};

@@ -1,4 +1,4 @@
-//! An iterator over the pieces of a text.
+//! An iterator over the pieces of a text, which lends them for a save or a copy.
 
 ghost use Rattle.std.specs.Prelude.{◌≡◌, length, slice_range};
 ghost use Rattle.std.specs.Iterator.{at_most};
