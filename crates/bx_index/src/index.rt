@@ -138,6 +138,7 @@ impl Index {
     {
         let len = text.len();
         let mut front = Blocks::new(alloc);
+        // The position among the blocks after the last paragraph, and the offset of the next.
         let mut position = 0;
         let mut at = 0;
         let mut range = range_to_end(text, at);
@@ -204,6 +205,7 @@ impl Index {
         };
         let (first, last) = reached;
         if let Some(end) = last.end {
+            // The end of the last touched paragraph in the new text.
             let behind = end - change.removed + change.added;
             replace(
                 &mut self.front,
@@ -216,6 +218,7 @@ impl Index {
             self.room = None;
             return;
         }
+        // The text's last paragraph is touched: what follows the last separator is the new last one.
         let at = replace(&mut self.front, &scanned, first, last.number, len, range);
         self.last = (len - at) as u32;
         self.room = None;

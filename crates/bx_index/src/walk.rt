@@ -107,6 +107,7 @@ impl<'a> ParagraphWalk<'a> {
         match previous_spot(self.blocks, self.spot) {
             None => false,
             Some(spot) => {
+                // First the lengths: the start goes back by the new paragraph's.
                 self.here = paragraph_at(self.blocks, self.last, spot);
                 self.start -= self.here.bytes();
                 self.spot = spot;

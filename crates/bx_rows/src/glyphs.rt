@@ -152,7 +152,7 @@ pub(crate) fn is_own(face: Face, n: u16) -> bool
     }
 }
 
-/// A text mirrored, or itself where its mirror image is not shown as itself in as many columns.
+/// A text mirrored, or itself where its mirror image is not shown as itself in `columns` columns, those of the text.
 fn mirrored_or_own<'a, D: BidiData>(
     alloc: Global,
     text: &'a str,

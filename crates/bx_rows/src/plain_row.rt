@@ -1,4 +1,5 @@
-//! The units and levels of a plain row, in which each unit is one character of one column, read in one pass.
+//! The units and levels of a plain row, in which each unit is one character of one column, read in one pass. `found` and
+//! `waiting` are as in `level_read.rt`.
 ghost use Rattle.std.specs.Prelude.{◌≡◌, ◌≤◌, ◌<◌, ◌++◌, ◌∷◌, [], IfOk, IfSome, List, MatchOption, encode_utf8, length, take, true, false};
 ghost use Rattle.std.specs.Str.{IsCharBoundary};
 ghost use Rattle.bx_cells.specs.declared.unit.Face.TheVariants.{Own};
