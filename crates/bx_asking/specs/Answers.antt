@@ -1,4 +1,4 @@
--- An answer while it is typed.
+-- An answer while it is typed: a text in UTF-8 with a greatest number of characters.
 use Rattle.std.specs.Prelude.{ℕ, ◌-◌, nat_lt, List, ◌++◌, length, take, chars, encode_utf8, encode_utf8_all, if◌then◌else◌}
 
 -- the answer with one more character, if it has fewer than `limit`

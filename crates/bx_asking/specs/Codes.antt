@@ -1,4 +1,4 @@
--- A character by its code.
+-- The answer to the question for a character by its code.
 use Rattle.std.specs.Prelude.{ℕ, ◌&&◌, not, nat_le, nat_lt, Bool, List, length, Option, Some, None, if◌then◌else◌}
 use Rattle.std.specs.List.{list_all}
 use Rattle.std.specs.Char.{is_digit}
@@ -17,6 +17,6 @@ is_scalar code = nat_le code 0x10FFFF && not (is_surrogate code)
 abbrev pub is_code : List ℕ → Bool
 is_code answer = nat_lt 0 (length answer) && list_all is_code_letter answer
 
--- the character whose code an answer writes
+-- the character whose code an answer writes; None if there is none
 abbrev pub coded : List ℕ → Option ℕ
 coded answer = if is_code answer && is_scalar (digits_value 16 answer) then Some (digits_value 16 answer) else None

@@ -1,4 +1,4 @@
--- To which paragraph and unit an answer goes.
+-- To which paragraph and unit the answer to the question for a line goes.
 use Rattle.std.specs.Prelude.{ℕ, ◌+◌, ◌-◌, ◌*◌, ◌==◌, ◌||◌, Bool, max, is_some, List, fold, Option, Some, None, unwrap_or, if◌then◌else◌}
 use Rattle.std.specs.List.{after_first, before_first, list_any}
 use Rattle.std.specs.Option.{option_map}
@@ -12,6 +12,7 @@ digit_of c =
     else (if is_within 0x660 0x669 c then Some (c - 0x660)
     else (if is_within 0x6F0 0x6F9 c then Some (c - 0x6F0) else None))
 
+-- a digit of these scripts
 abbrev pub is_digit : ℕ → Bool
 is_digit c = is_some (digit_of c)
 
@@ -23,10 +24,11 @@ is_divider c = (c == 0x3A) || (c == 0x2C)
 abbrev pub is_line_letter : ℕ → Bool
 is_line_letter c = is_digit c || is_divider c
 
+-- an answer has a digit
 abbrev pub has_digit : List ℕ → Bool
 has_digit answer = list_any is_digit answer
 
--- a number with one more digit behind it
+-- a number with one more digit after it, None where no digit was read yet; other characters are ignored
 abbrev pub with_digit : Option ℕ → ℕ → Option ℕ
 with_digit number c = elim (digit_of c) [ None ↦ number | Some digit ↦ Some (unwrap_or number 0 * 10 + digit) ]
 
@@ -34,7 +36,8 @@ with_digit number c = elim (digit_of c) [ None ↦ number | Some digit ↦ Some 
 abbrev pub number : List ℕ → Option ℕ
 number cs = option_map (max 1) (fold with_digit None cs)
 
--- the first number names a paragraph, the second a unit in it; without a second, the first unit
+-- the first number names a paragraph, the second a unit in it, both from 1; without a first, the cursor's paragraph, without a
+-- second, the first unit
 abbrev pub asked : List ℕ → Option Target
 asked answer =
     if has_digit answer

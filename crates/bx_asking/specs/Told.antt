@@ -1,4 +1,4 @@
--- What is told of a unit: its first characters with their classes, and its level.
+-- What is told of a unit in the status row: its first four characters with their classes, and its level.
 use Rattle.std.specs.Prelude.{ℕ, ◌+◌, ◌/◌, ◌%◌, nat_lt, List, [], ◌∷◌, ◌++◌, length, take, codes, decimal, Option, Some, None, if◌then◌else◌}
 use Rattle.std.specs.List.{flat_map}
 use Rattle.bx_ucd.specs.Data.{Data}
@@ -7,14 +7,15 @@ use Rattle.bx_ucd.specs.declared.class.Class.TheVariants.{L, R, AL, EN, ES, ET, 
 
 -- ---- a character
 
--- 0 to 9, A to F
+-- a hexadecimal digit, 0 to 9 or A to F: A, 0x41, is 10
 abbrev pub hex_digit : ℕ → ℕ
 hex_digit digit = if nat_lt digit 10 then 0x30 + digit else 0x37 + digit
 
--- the digit of a code at a power of 16
+-- the hexadecimal digit of a code at a power of 16
 abbrev pub digit_at : ℕ → ℕ → ℕ
 digit_at code power = hex_digit (code / power % 16)
 
+-- the last four digits of a code
 abbrev pub last_four : ℕ → List ℕ
 last_four code = digit_at code 0x1000 ∷ digit_at code 0x100 ∷ digit_at code 0x10 ∷ digit_at code 1 ∷ []
 
@@ -57,12 +58,12 @@ character_text says c = codes "U+" ++ code_text c ++ codes " " ++ class_name (sa
 
 -- ---- a unit
 
--- a character behind a blank, if there is one
+-- a blank and a character after it, if there is one
 abbrev pub behind : Data → Option ℕ → List ℕ
 behind says None = []
 behind says (Some c) = codes " " ++ character_text says c
 
--- the characters behind the first: three at most, and a sign that there are more
+-- the characters after the first: three at most, and a sign if there are more
 abbrev pub others_text : Data → List ℕ → List ℕ
 others_text says cs = flat_map (λ c. behind says (Some c)) (take 3 cs) ++ (if nat_lt 3 (length cs) then codes " ..." else [])
 

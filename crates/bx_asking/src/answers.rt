@@ -1,4 +1,4 @@
-//! An answer while it is typed: a text with a greatest number of characters.
+//! An answer while it is typed: a text with a greatest number of characters, `limit`.
 ghost use Rattle.std.specs.Prelude.{◌≡◌, ◌≤◌, IfOk, chars, length, string_bytes};
 ghost use Rattle.bx_asking.specs.Answers.{lengthened, shortened};
 

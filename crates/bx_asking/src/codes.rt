@@ -1,4 +1,4 @@
-//! A character by its code.
+//! The answer to the question for a character by its code.
 ghost use Rattle.std.specs.Prelude.{◌≡◌};
 ghost use Rattle.std.specs.List.{list_all};
 ghost use Rattle.bx_asking.specs.Codes.{coded, is_code_letter};
@@ -10,7 +10,7 @@ pub fn is_code_letter(c: char) -> bool
     c.is_digit(16)
 }
 
-/// Whether a text has no other characters.
+/// Whether a text has no characters but such digits.
 fn are_code_letters(text: &str) -> bool
     ensures { result ≡ list_all is_code_letter text.now }
 {
@@ -24,6 +24,7 @@ fn are_code_letters(text: &str) -> bool
 pub fn coded(answer: &str) -> Option<char>
     ensures { result ≡ coded answer.now }
 {
+    // `from_str_radix` would take a sign too.
     if !are_code_letters(answer) {
         return None;
     }

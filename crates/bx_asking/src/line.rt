@@ -1,4 +1,4 @@
-//! To which paragraph and unit an answer goes.
+//! To which paragraph and unit the answer to the question for a line goes.
 ghost use Rattle.std.specs.Prelude.{◌≡◌, ◌≤◌, ◌<◌, ◌^◌, None, max, chars, fold, length, unwrap_or};
 ghost use Rattle.std.specs.List.{after_first, before_first, list_any};
 ghost use Rattle.std.specs.Option.{option_map};
@@ -28,6 +28,7 @@ fn digit_of(c: char) -> Option<usize>
     Some((u32::from(c) - zero) as usize)
 }
 
+/// Whether a character is a digit of these scripts.
 fn is_digit(c: char) -> bool
     ensures { result ≡ is_digit c }
 {
@@ -48,13 +49,15 @@ pub fn is_line_letter(c: char) -> bool
     is_digit(c) || is_divider(c)
 }
 
+/// Whether an answer has a digit.
 fn has_digit(answer: &str) -> bool
     ensures { result ≡ has_digit (chars answer.now) }
 {
     answer.chars().any(is_digit)
 }
 
-/// A number with one more digit behind it.
+/// A number, None where no digit was read yet, with one more digit after it; other characters are ignored. With a number below
+/// 10^18 the result is below 2^64.
 fn with_digit(number: Option<usize>, c: char) -> Option<usize>
     requires small { unwrap_or number 0 < 1000000000000000000 }
     ensures { result ≡ with_digit number c }
@@ -65,7 +68,8 @@ fn with_digit(number: Option<usize>, c: char) -> Option<usize>
     }
 }
 
-/// The number before the first divider, if it has a digit, and the text after the divider.
+/// The number before the first divider, None if it has no digit, and the text after the divider. An answer of 16 characters
+/// writes less than 10^18.
 fn read_number(answer: &str) -> (Option<usize>, &str)
     requires few { length (chars answer.now) ≤ 16 }
     ensures number { result.0 ≡ fold with_digit None (before_first is_divider (chars answer.now)) }

@@ -1,4 +1,4 @@
-//! Characters by a letter that names them.
+//! The answer to the question for a character by a letter that names it.
 ghost use Rattle.std.specs.Prelude.{◌≡◌};
 ghost use Rattle.bx_asking.specs.Names.{asks_code, closing, named};
 

@@ -1,4 +1,4 @@
-//! What is asked.
+//! The questions that the status row asks.
 
 /// What the user is asked.
 #[derive(Clone, Copy, PartialEq, Eq, Debug, Default)]

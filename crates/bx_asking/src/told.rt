@@ -1,4 +1,4 @@
-//! What is told of a unit: its first characters with their classes, and its level.
+//! What is told of a unit in the status row: its first four characters with their classes, and its level.
 ghost use Rattle.std.specs.Prelude.{◌≡◌, ◌++◌, ◌∷◌, [], ◌<◌, IfOk, chars, drop, slice_get, string_bytes, Some, true};
 ghost use Rattle.bx_terms.specs.Characters.{are_ascii_printable};
 ghost use Rattle.bx_asking.specs.Told.{behind, character_text, class_name, code_text, digit_at, hex_digit, last_four, level_text, others_text, told_text};
@@ -19,7 +19,7 @@ fn hex_digit(digit: u32) -> char
     char::from(b'A' + (digit - 10) as u8)
 }
 
-/// Writes the digit of a code at a power of 16.
+/// Writes the hexadecimal digit of a code at a power of 16.
 fn push_digit(line: &mut String, code: u32, power: u32) -> Result<(), AllocError>
     requires { 0 < power }
     ensures { IfOk result (λ _. string_bytes line.new ≡ string_bytes line.old ++ digit_at code power ∷ []) }
@@ -39,7 +39,7 @@ fn push_last_four(line: &mut String, code: u32) -> Result<(), AllocError>
     Ok(())
 }
 
-/// Writes a code of four to six digits.
+/// Writes a code with four to six digits, as many as it needs.
 fn push_code(line: &mut String, code: u32) -> Result<(), AllocError>
     ensures { IfOk result (λ _. string_bytes line.new ≡ string_bytes line.old ++ code_text code) }
 {
@@ -100,7 +100,7 @@ fn push_character<D: BidiData>(line: &mut String, tables: &D, c: char) -> Result
     Ok(())
 }
 
-/// Writes a character behind a blank, if there is one.
+/// Writes a blank and a character after it, if there is one.
 fn push_behind<D: BidiData>(
     line: &mut String,
     tables: &D,

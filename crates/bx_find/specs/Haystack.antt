@@ -1,4 +1,4 @@
--- A text that is searched, lent piece by piece.
+-- A text that is searched, lent piece by piece, since it is stored in pieces.
 use Rattle.std.specs.Prelude.{◌≡◌, ℕ, ◌+◌, ◌<◌, List, length, take, drop, IsCharBoundary}
 
 -- the text continues with this piece at an offset, and the piece ends between characters

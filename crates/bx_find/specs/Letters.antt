@@ -1,4 +1,4 @@
--- The letters that a search compares.
+-- The letters that a search compares in place of characters: those that a reading gives each character.
 use Rattle.std.specs.Prelude.{ℕ, Bool, not, ◌||◌, ◌==◌, List, [], ◌∷◌, map, filter, flat_map, if◌then◌else◌}
 use Rattle.std.specs.Char.{to_ascii_lowercase}
 use Rattle.ucd_case.specs.CaseFolding.{full_fold}
@@ -17,7 +17,7 @@ is_stroke_or_mark c = (c == 0x640) || is_direction_mark c
 abbrev pub is_passed_over : Data → ℕ → Bool
 is_passed_over says c = is_unlettered (says.class c) || is_stroke_or_mark c
 
--- Of letters that readers take for one another, the one that stands for all: HEBREW KAF, MEM, NUN, PE and TSADI for their final
+-- Of letters that readers take for one another, the one that is compared: HEBREW KAF, MEM, NUN, PE and TSADI for their final
 -- forms, ARABIC ALEF for ALEF WASLA, YEH for ALEF MAKSURA and FARSI YEH, KAF for KEHEH, HEH for TEH MARBUTA and HEH GOAL.
 abbrev pub main_letter : ℕ → ℕ
 main_letter c =

@@ -10,11 +10,12 @@ begins [] cs = true
 begins (q ∷ qs) [] = false
 begins (q ∷ qs) (c ∷ cs) = (q == c) && begins qs cs
 
--- the same, and the first is not empty
+-- the second list begins with the first, which is not empty
 abbrev pub begins_some : List ℕ → List ℕ → Bool
 begins_some [] cs = false
 begins_some (q ∷ qs) cs = begins (q ∷ qs) cs
 
+-- a list is not empty
 abbrev pub is_some : List ℕ → Bool
 is_some [] = false
 is_some (l ∷ ls) = true
@@ -24,7 +25,7 @@ abbrev pub is_match : Data → Reading → List ℕ → List ℕ → Bool
 is_match says reading sought [] = false
 is_match says reading sought (c ∷ cs) = is_some (letters_of says reading c) && begins_some sought (letters says reading (c ∷ cs))
 
--- the byte offsets at which they match, where the first character is at the offset `at`
+-- the byte offsets at which the sought letters match, in order; the first character is at the offset `at`
 abbrev pub matches : Data → Reading → List ℕ → ℕ → List ℕ → List ℕ
 matches says reading sought at [] = []
 matches says reading sought at (c ∷ cs) = elim (is_match says reading sought (c ∷ cs)) [

@@ -1,15 +1,16 @@
--- The prefix of the sought letters that a search has read, as the places of its letters, and the matches still to come.
+-- The prefix of the sought letters that a search has read last, as the places of its letters, and the matches still to come.
+-- The place of a letter is the offset of the character that begins with it, in bytes; a character's later letters have None.
 use Rattle.std.specs.Prelude.{ℕ, ◌+◌, true, false, List, [], ◌∷◌, ◌++◌, length, map, flat_map, Option, Some, None, option_to_list, encode_utf8}
 use Rattle.bx_ucd.specs.Data.{Data}
 use Rattle.bx_find.specs.Letters.{letters_of}
 use Rattle.bx_find.specs.Matches.{begins_some}
 use Rattle.bx_find.specs.declared.reading.Reading.{Reading}
 
--- A letter with the offset of the character that begins with it; a character's later letters have none.
+-- a letter with its place
 abbrev pub Placed : Type 0
 Placed = Option ℕ × ℕ
 
--- letters of which only the first has a place
+-- the letters of a character: the first has the place, the others None
 abbrev pub placed_first : Option ℕ → List ℕ → List Placed
 placed_first place [] = []
 placed_first place (l ∷ ls) = (place, l) ∷ placed_first None ls
@@ -30,7 +31,7 @@ with_letters [] ls = []
 with_letters (o ∷ os) [] = []
 with_letters (o ∷ os) (l ∷ ls) = (o, l) ∷ with_letters os ls
 
--- the same once the letters `ps` follow a prefix of the sought ones
+-- such places in a prefix of the sought letters, given by its places, and the letters `ps` that follow it
 abbrev pub found_after : List ℕ → List (Option ℕ) → List Placed → List (Option ℕ)
 found_after sought prefix ps = found sought (with_letters prefix sought ++ ps)
 
@@ -42,6 +43,6 @@ offsets_of places = flat_map option_to_list places
 abbrev pub matches_after : List ℕ → List (Option ℕ) → List Placed → List ℕ
 matches_after sought prefix ps = offsets_of (found_after sought prefix ps)
 
--- the same for characters that follow, the first at the offset `at`
+-- the matches once characters follow a prefix, the first at the offset `at`
 abbrev pub to_come : Data → Reading → List ℕ → List (Option ℕ) → ℕ → List ℕ → List ℕ
 to_come says reading sought prefix at cs = matches_after sought prefix (placed says reading at cs)

@@ -7,6 +7,7 @@ use Rattle.bx_find.specs.Letters.{letters_of}
 use Rattle.bx_find.specs.Matches.{is_match}
 use Rattle.bx_find.specs.declared.reading.Reading.{Reading}
 
+-- the class of marks that go with the letter before
 abbrev pub is_nonspacing : Class → Bool
 is_nonspacing NSM = true
 is_nonspacing _ = false
@@ -15,12 +16,13 @@ is_nonspacing _ = false
 abbrev pub is_attached : Data → ℕ → Bool
 is_attached says c = is_nonspacing (says.class c) || (c == 0x640)
 
--- the offset behind the attached characters with which a text begins; its first character is at the offset `at`
+-- the offset after the attached characters with which a text begins; its first character is at the offset `at`
 abbrev pub behind_attached : Data → ℕ → List ℕ → ℕ
 behind_attached says at [] = at
 behind_attached says at (c ∷ cs) = elim (is_attached says c) [ true ↦ behind_attached says (at + length (encode_utf8 c)) cs | false ↦ at ]
 
--- the offset behind the character that gives the n-th letter, and behind what is attached to it
+-- the offset after the character that gives the n-th letter, from 1, and after what is attached to it; the first character is at
+-- the offset `at`
 abbrev pub behind_letters : Data → Reading → ℕ → ℕ → List ℕ → ℕ
 behind_letters says reading zero at cs = behind_attached says at cs
 behind_letters says reading (suc n) at [] = at
@@ -41,6 +43,6 @@ spans_of says reading sought x at (c ∷ cs) = elim (nat_le x at && is_match say
   | false ↦ spans_of says reading sought x (at + length (encode_utf8 c)) cs
 ]
 
--- those of a text
+-- these matches in a text
 abbrev pub spans_from : Data → Reading → List ℕ → List ℕ → ℕ → List (ℕ × ℕ)
 spans_from says reading sought text x = spans_of says reading sought x 0 (chars text)

@@ -1,4 +1,4 @@
-//! Reading on for the last match below a bound.
+//! Reading a text from piece to piece for the last match before an offset.
 ghost use Rattle.std.specs.Prelude.{◌≡◌, ℕ, ◌+◌, ◌<◌, ◌^◌, ◌++◌, ◌∷◌, List, Some, length, chars, encode_utf8, option_to_list};
 ghost use Rattle.bx_find.specs.Prefix.{Placed, placed_first, matches_after, to_come};
 ghost use Rattle.bx_find.specs.Matches.{last_below};
@@ -10,10 +10,12 @@ use crate::sought::Sought;
 use bx_terms::first_char;
 use bx_ucd::BidiData;
 
-/// The last match below a bound, of those found so far.
+/// The last match before an offset, of those found so far.
 #[derive(Drop)]
 pub struct Latest {
+    /// The offset: only matches that begin before it count.
     pub before: usize,
+    /// The offset at which the match begins; None if none is found yet.
     pub found: Option<usize>,
 }
 
@@ -74,7 +76,8 @@ fn last_at<D: BidiData>(
     last_of(sought.query, prefix, latest, &letters, at);
 }
 
-/// Reads a piece that begins at the offset `start`, and takes each match. Stops once all later matches are past the bound.
+/// Reads a piece that begins at the offset `start`, and takes each match. Stops once no later match begins before
+/// `latest.before`.
 pub fn last_in<D: BidiData>(
     sought: &Sought<'_, D>,
     prefix: &mut Ring,

@@ -1,4 +1,4 @@
-//! The borders of a list of letters: the beginnings that are also ends.
+//! The borders of a list of letters: the beginnings that are also ends. They are tried from the longest down, once for a query.
 ghost use Rattle.std.specs.Prelude.{◌≤◌, ◌<◌, ◌↔◌, IsTrue, length};
 ghost use Rattle.bx_find.specs.Borders.{Ends, IsBorder};
 

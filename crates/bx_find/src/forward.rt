@@ -1,4 +1,4 @@
-//! Reading on up to the first match.
+//! Reading a text from piece to piece up to the first match.
 ghost use Rattle.std.specs.Prelude.{◌≡◌, ℕ, ◌+◌, ◌<◌, ◌^◌, ◌++◌, ◌∷◌, List, Some, length, chars, encode_utf8, slice_get, MatchOption};
 ghost use Rattle.bx_find.specs.Prefix.{Placed, placed_first, matches_after, to_come};
 

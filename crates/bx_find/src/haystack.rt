@@ -1,4 +1,4 @@
-//! A text that is searched, lent piece by piece.
+//! A text that is searched, lent piece by piece, since it is stored in pieces.
 ghost use Rattle.std.specs.Prelude.{◌≡◌, ℕ, ◌+◌, ◌-◌, ◌<◌, List, length, take, IsUtf8, IsCharBoundary};
 ghost use Rattle.bx_find.specs.Haystack.{IsPieceAt};
 
@@ -20,7 +20,8 @@ pub trait Haystack {
         ensures { IsPieceAt (text self.now) offset result.now };
 }
 
-/// The part of a piece at the offset `at` up to the offset `x`; from `x` on, the piece's first character.
+/// The part of a piece at the offset `at` up to the offset `x`; from `x` on, the piece's first character, so that a search for
+/// matches before `x` can stop after each.
 pub(crate) fn upto(piece: &str, at: usize, x: usize) -> &str
     requires { at < x → x < at + length piece.now → IsCharBoundary piece.now (x - at) }
     ensures front { take (length result.now) piece.now ≡ result.now }

@@ -1,4 +1,4 @@
-//! The letters that a search compares.
+//! The letters that a search compares in place of characters.
 ghost use Rattle.std.specs.Prelude.{◌≡◌, ◌+◌, ◌≤◌, ◌++◌, ◌∷◌, [], length, true};
 ghost use Rattle.bx_find.specs.Letters.{is_stroke_or_mark, is_passed_over, main_letter, folded, letters_of_parts, letters_of};
 ghost use Rattle.bx_find.specs.Short.{is_short, is_simple, simple_letter};
@@ -12,7 +12,7 @@ use ucd_case::full_folding;
 use ucd_normal::Form;
 use unicode_normalization::char::decomposition;
 
-/// No character has more letters.
+/// No character has more letters: those of a decomposition, each folded in full, are four at most in Unicode's data.
 pub const MOST_LETTERS: usize = 4;
 
 /// Whether a character is the tatweel or a directional mark: ALM, LRM or RLM.
@@ -23,7 +23,7 @@ fn is_stroke_or_mark(c: char) -> bool
     c == '\u{640}' || is_direction_mark(c)
 }
 
-/// Whether a search passes over a character: a point, a joiner, a formatting character or a longer stroke.
+/// Whether a search passes over a character: a point, a joiner, a formatting character, a directional mark or the tatweel.
 #[inline(always)]
 pub fn is_passed_over<D: BidiData>(tables: &D, c: char) -> bool
     ensures { result ≡ is_passed_over (D.data tables.now) c }
@@ -31,7 +31,7 @@ pub fn is_passed_over<D: BidiData>(tables: &D, c: char) -> bool
     is_unlettered(tables.class(c)) || is_stroke_or_mark(c)
 }
 
-/// Of letters that readers take for one another, the one that stands for all.
+/// Of letters that readers take for one another, the one that is compared; specs/Letters.antt names them.
 #[inline(always)]
 fn main_letter(c: char) -> char
     ensures { result ≡ main_letter c }
@@ -52,7 +52,7 @@ fn main_letter(c: char) -> char
     }
 }
 
-/// Whether a character is of ASCII, or has no decomposition and is of Hebrew or Arabic.
+/// Whether a character is of ASCII, or of Hebrew or Arabic without a decomposition; specs/Short.antt names the gaps.
 #[inline(always)]
 fn is_short(c: char) -> bool
     ensures { result ≡ is_short c }
@@ -63,7 +63,7 @@ fn is_short(c: char) -> bool
         | matches!(c, '\u{6c3}'..='\u{6d2}')
 }
 
-/// Whether a reading gives a character its simple letter, or none.
+/// Whether a reading gives a character its simple letter, or none if it is passed over.
 #[inline(always)]
 pub fn is_simple(reading: Reading, c: char) -> bool
     ensures { result ≡ is_simple reading c }
@@ -117,6 +117,7 @@ fn wide_letters<D: BidiData>(tables: &D, c: char) -> ArrayVec<char, MOST_LETTERS
     ensures { result.items ≡ letters_of (D.data tables.now) Reading.Wide c }
 {
     let mut letters = ArrayVec::new();
+    // A Hangul syllable's parts, three at most, are written into `room`; other decompositions are lent from a table.
     let mut room = [c; 3];
     for part in decomposition(c, Form::Nfd, &mut room) {
         push_part(tables, &mut letters, *part);

@@ -1,6 +1,6 @@
 //! Searches a text for the letters of a query. It needs only characters and their classes.
 //!
-//! Nothing allocates: a search keeps the places of at most 256 letters.
+//! Nothing allocates: a search keeps the places of at most 256 letters, the most that a query has.
 #![tactic(auto)]
 
 mod backward;

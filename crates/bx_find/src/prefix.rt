@@ -1,5 +1,5 @@
-//! The prefix of a query that a search has read: the longest end of the letters read that begins the query. It is a ring of
-//! the places of its letters.
+//! The prefix of a query that a search has read: the longest end of the letters read that begins the query, kept as a ring of
+//! the places of its letters. The search reads each letter once (the algorithm of Knuth, Morris and Pratt).
 ghost use Rattle.std.specs.Prelude.{◌≡◌, ◌≢◌, true, ℕ, ◌<◌, ◌++◌, List, ◌∷◌, Option, get_or, length, option_to_list};
 ghost use Rattle.bx_find.specs.Prefix.{Placed, matches_after};
 ghost use Rattle.bx_find.specs.Short.{is_simple, simple_letter};
@@ -10,7 +10,7 @@ use crate::ring::Ring;
 use crate::sought::Sought;
 use bx_ucd::BidiData;
 
-/// Shortens the prefix, from its oldest letter on, until the next letter continues it, or it is empty.
+/// Shortens the prefix, from its oldest letter on, until `letter`, the next, continues it, or it is empty.
 fn fall_back(query: &Query, prefix: &mut Ring, letter: char)
     requires { length prefix.old < length query.now }
     ensures fewer { length prefix.new < length query.now }
@@ -23,8 +23,8 @@ fn fall_back(query: &Query, prefix: &mut Ring, letter: char)
     }
 }
 
-/// Lengthens the prefix by a letter. Returns the match's offset if this letter is the query's last and the match begins with a
-/// character.
+/// Lengthens the prefix by the query's next letter, which was read at `place`. Returns the match's offset if this letter is the
+/// query's last and the match begins with a character's first letter.
 fn lengthen(query: &Query, prefix: &mut Ring, place: Option<usize>) -> Option<usize>
     requires { length prefix.old < length query.now }
     ensures fewer { length prefix.new < length query.now }
@@ -41,7 +41,8 @@ fn lengthen(query: &Query, prefix: &mut Ring, place: Option<usize>) -> Option<us
     found
 }
 
-/// Reads a letter with its place. Returns the match's offset if the letter ends a match that begins with a character.
+/// Reads a letter with its place: the offset of its character, None if this is not the character's first letter. Returns the
+/// match's offset if the letter ends a match that begins with a character's first letter.
 #[inline(always)]
 pub fn read_letter(
     query: &Query,

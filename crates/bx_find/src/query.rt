@@ -12,7 +12,7 @@ use bx_terms::first_char;
 use bx_ucd::BidiData;
 use std::marker::Model;
 
-/// The greatest number of letters: four for each of 64 characters.
+/// The greatest number of letters: `MOST_LETTERS`, four, for each of the 64 characters that a query's text may have.
 const ROOM: usize = 256;
 
 /// One border for each beginning of the letters, the empty one too.
@@ -22,6 +22,7 @@ const BORDER_ROOM: usize = 257;
 #[derive(Drop)]
 pub struct Query {
     letters: ArrayVec<char, ROOM>,
+    /// The number of letters in the border of the query's first k letters, at the index k from 0.
     borders: ArrayVec<usize, BORDER_ROOM>,
 }
 
@@ -61,7 +62,7 @@ fn letters_in<D: BidiData>(tables: &D, reading: Reading, text: &str) -> ArrayVec
     letters
 }
 
-/// The border of each beginning of some letters, the shortest first. The empty beginning has 0.
+/// The length of the border of each beginning of some letters, the shortest first. The empty beginning has 0.
 fn borders_of(letters: &[char]) -> ArrayVec<usize, BORDER_ROOM>
     requires { length letters.now ≤ 256 }
     ensures count { length result.items ≡ length letters.now + 1 }

@@ -1,4 +1,4 @@
-//! The two ways to read a text's letters.
+//! The two ways to read a text's letters: `letters_of` of specs/Letters.antt says what each makes of a character.
 
 /// How a search reads letters.
 #[derive(Clone, Copy, PartialEq, Eq, Debug)]

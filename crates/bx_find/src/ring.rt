@@ -1,17 +1,19 @@
-//! A queue of at most 256 places.
+//! The places of the letters that a search has read as the beginning of a query (`prefix.rt`): a queue in a ring.
 ghost use Rattle.std.specs.Prelude.{◌≡◌, ◌≤◌, ◌<◌, ◌-◌, ◌++◌, ◌∷◌, [], None, get_or, length, drop};
 
 use std::marker::Model;
 
-/// The greatest number of places.
+/// The greatest number of places: the greatest number of letters of a query (`ROOM` of `query.rt`).
 const ROOM: usize = 256;
 
-/// A queue in a ring of slots.
+/// A queue of places in a ring of slots. A place is the offset, in bytes of the text, of the character whose first letter it is
+/// of; a character's later letters have None.
 #[derive(Drop)]
 pub struct Ring {
     slots: [Option<usize>; ROOM],
-    // the slot of the oldest place
+    // the number of the slot, from 0, that has the oldest place
     first: usize,
+    // the number of places
     count: usize,
 }
 

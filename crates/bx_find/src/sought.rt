@@ -1,4 +1,4 @@
-//! What is sought in a text.
+//! What is sought in a text: the query, and how the text's letters are read.
 ghost use Rattle.std.specs.Prelude.{◌≡◌};
 ghost use Rattle.bx_find.specs.Letters.{letters_of};
 
@@ -13,6 +13,7 @@ use bx_ucd::BidiData;
 pub struct Sought<'a, D: BidiData> {
     pub query: &'a Query,
     pub tables: &'a D,
+    /// How the text's letters are read.
     pub reading: Reading,
 }
 

@@ -55,6 +55,7 @@ fn nearest(tables: &Tables, text: &str, query: &str, x: usize) -> (Option<usize>
 #[test]
 fn passes_over_marks_and_strokes(rt: HostRuntime) -> Result<(), Fail> {
     let tables = sample_tables(rt.alloc())?;
+    // text, query, an offset; the first match from it on, the last before it
     let cases = [
         ("xa\u{200f}b\u{200e}c\u{61c}d", "abcd", 0, Some(1), None),
         ("x\u{628}\u{640}\u{628}", "\u{628}\u{628}", 0, Some(1), None),
@@ -77,6 +78,7 @@ fn passes_over_marks_and_strokes(rt: HostRuntime) -> Result<(), Fail> {
 #[test]
 fn finds_the_nearest(rt: HostRuntime) -> Result<(), Fail> {
     let tables = sample_tables(rt.alloc())?;
+    // text, query, an offset; the first match from it on, the last before it
     let cases = [
         ("aaa", "aa", 0, Some(0), None),
         ("aaa", "aa", 1, Some(1), Some(0)),
@@ -120,6 +122,7 @@ fn wide(
 #[test]
 fn finds_by_letters(rt: HostRuntime) -> Result<(), Fail> {
     let tables = sample_tables(rt.alloc())?;
+    // text, query, an offset; the first match from it on, the first before it, the last from it on
     let cases = [
         (
             "x_CAF\u{c9}_cafe\u{301}",
@@ -187,6 +190,7 @@ fn span(tables: &Tables, text: &str, query: &str, x: usize) -> Option<(usize, us
 #[test]
 fn ends_behind_points(rt: HostRuntime) -> Result<(), Fail> {
     let tables = sample_tables(rt.alloc())?;
+    // text, query, an offset; the start and end of the first match from it on
     let cases = [
         ("aaaaa", "aa", 0, Some((0, 2))),
         ("aaaaa", "aa", 2, Some((2, 4))),

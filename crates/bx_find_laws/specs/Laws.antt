@@ -6,6 +6,7 @@ use Rattle.bx_find.specs.Spans.{match_end, spans_from}
 use Rattle.bx_find.specs.declared.reading.Reading.{Reading}
 use Rattle.bx_find.specs.Nearest.{IsFirst, IsLast, MatchesAt}
 
+-- `first_from` is the first match at or after x, None if there is none
 abbrev pub FirstFromIsFirst : Type 0
 FirstFromIsFirst = (says : Data) (reading : Reading) (sought text : List ℕ) (x : ℕ) → IsUtf8 text
     → MatchOption (first_from says reading sought text x) ((i : ℕ) → x ≤ i → ¬ (MatchesAt says reading sought text i))
@@ -17,11 +18,13 @@ pub record IsFirstBefore (says : Data) (reading : Reading) (sought text : List �
   pub before : at < x
   pub least : (i : ℕ) → MatchesAt says reading sought text i → at ≤ i
 
+-- `first_before` is the first match before x, None if there is none
 abbrev pub FirstBeforeIsFirst : Type 0
 FirstBeforeIsFirst = (says : Data) (reading : Reading) (sought text : List ℕ) (x : ℕ) → IsUtf8 text
     → MatchOption (first_before says reading sought text x) ((i : ℕ) → i < x → ¬ (MatchesAt says reading sought text i))
     (IsFirstBefore says reading sought text x)
 
+-- `last_before` is the last match before x, None if there is none
 abbrev pub LastBeforeIsLast : Type 0
 LastBeforeIsLast = (says : Data) (reading : Reading) (sought text : List ℕ) (x : ℕ) → IsUtf8 text
     → MatchOption (last_before says reading sought text x) ((i : ℕ) → i < x → ¬ (MatchesAt says reading sought text i))
@@ -29,12 +32,14 @@ LastBeforeIsLast = (says : Data) (reading : Reading) (sought text : List ℕ) (x
 
 -- ---- matches that follow one another
 
--- each of the spans is the first match at or after the end of the one before, the first of them at or after x; behind them is none
+-- each of the spans, a match's start and end, is the first match at or after the end of the one before, the first of them at or
+-- after x; there is none after the last
 abbrev pub AreSpans : Data → Reading → List ℕ → List ℕ → ℕ → List (ℕ × ℕ) → Type 0
 AreSpans says reading sought text x [] = (i : ℕ) → x ≤ i → ¬ (MatchesAt says reading sought text i)
 AreSpans says reading sought text x (s ∷ ss) =
     IsFirst says reading sought text x s.0 × (s.1 ≡ match_end says reading sought text s.0) × AreSpans says reading sought text s.1 ss
 
+-- `spans_from` has these spans
 abbrev pub SpansFollow : Type 0
 SpansFollow = (says : Data) (reading : Reading) (sought text : List ℕ) (x : ℕ) → IsUtf8 text
     → AreSpans says reading sought text x (spans_from says reading sought text x)

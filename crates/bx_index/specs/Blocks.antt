@@ -1,12 +1,14 @@
--- The invariant of a text's blocks.
+-- What always holds of a text's blocks.
 use Rattle.std.specs.Prelude.{◌<◌, ◌≤◌, ◌^◌, ◌+◌, length, vec_len, vec_capacity}
 use Rattle.bx_index.specs.declared.blocks.Blocks.TheInside.{Inside}
 use Rattle.bx_index.specs.Positions.{total}
 use Rattle.bx_index.specs.Flat.{flat, BlocksState}
 
+-- the value of a `Blocks` of the code
 abbrev pub blocks_of : Inside → BlocksState
 blocks_of b = record { blocks = b.blocks.items; spares = vec_len b.spares }
 
+-- bytes and paragraphs are counted by `usize`, and the list of blocks has memory for all spare ones
 pub record AreBlocks (b : Inside) : Type 0 where
   pub short : total (flat b.blocks.items) < 2 ^ 64
   pub few : length (flat b.blocks.items) < 2 ^ 64

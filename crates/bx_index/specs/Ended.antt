@@ -1,4 +1,4 @@
--- The paragraphs that end in the first bytes of a text.
+-- The paragraphs that end in the first bytes of a text: those that a scan up to an offset finds.
 use Rattle.std.specs.Prelude.{ℕ, ◌+◌, ◌-◌, ◌==◌, nat_le, List, drop, [], ◌∷◌, if◌then◌else◌}
 use Rattle.bx_ucd.specs.Data.{Data}
 use Rattle.bx_index.specs.declared.lengths.Lengths.{Lengths}
@@ -14,7 +14,7 @@ ended_within k (p ∷ ps) = if p.separator == 0 then [] else if nat_le (bytes_of
 abbrev pub ended_between : Data → List ℕ → ℕ → ℕ → List Lengths
 ended_between says text start stop = ended_within (stop - start) (lengths says (drop start text))
 
--- the first of some paragraphs
+-- the first of some paragraphs; an empty one if there is none
 abbrev pub first : List Lengths → Lengths
 first [] = record { body = 0; separator = 0 }
 first (p ∷ ps) = p

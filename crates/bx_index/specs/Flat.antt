@@ -1,4 +1,4 @@
--- Paragraphs in blocks, and positions among them.
+-- Paragraphs in blocks, and positions among the blocks: a position is the number of blocks before it.
 use Rattle.std.specs.Prelude.{◌≡◌, ◌<◌, ◌≤◌, ℕ, ◌+◌, ◌-◌, ◌*◌, ◌==◌, List, [], ◌∷◌, ◌++◌, length, take, get_or, if◌then◌else◌, MatchOption}
 use Rattle.bx_index.specs.declared.lengths.Lengths.{Lengths}
 use Rattle.bx_index.specs.declared.paragraph_span.ParagraphSpan.{ParagraphSpan}
@@ -27,7 +27,8 @@ room_at s at = free_before s.blocks at + block_capacity * s.spares
 abbrev pub separator_of : List Lengths → ℕ → ℕ
 separator_of ps n = (get_or ps n (record { body = 0; separator = 0 })).separator
 
--- the paragraph that an offset falls in: it ends past the offset, or it is the text's last, which is not in a block
+-- the span of the paragraph that an offset falls in: it is one of `ps`, those in blocks, and ends past the offset; or it is
+-- the text's last, which is not in a block
 pub record IsSpanAround (ps : List Lengths) (offset : ℕ) (p : ParagraphSpan) : Type 0 where
   pub number : p.number ≤ length ps
   pub start : p.start ≡ total (take p.number ps)

@@ -1,4 +1,4 @@
--- The model of an index: the lengths of each paragraph in bytes, and the room made for the next edit.
+-- The value of an `Index` of the code: the lengths of each paragraph in bytes, and the room made for the next edit.
 use Rattle.std.specs.Prelude.{ℕ, ◌+◌, ◌*◌, ◌≤◌, min, List, [], ◌∷◌, ◌++◌, length, Option, IfSome, IsUtf8}
 use Rattle.bx_ucd.specs.Data.{Data}
 use Rattle.bx_text.specs.Edits.{largest_text}
@@ -12,16 +12,19 @@ use Rattle.bx_index.specs.Positions.{total}
 
 pub record IndexState : Type 0 where
   pub paragraphs : List Lengths
-  -- if it is Some n, the next edit allocates nothing if the added text has at most n separators
+  -- if it is Some n, the next edit allocates nothing if the added text has at most n separators; None: no room was made
   pub room : Option ℕ
 
+-- the value of the code's index: the paragraphs in blocks, and the last, which has no separator
 abbrev pub index_of : Inside → IndexState
 index_of i = record { paragraphs = flat i.front.blocks ++ record { body = i.last; separator = 0 } ∷ []; room = i.room }
 
--- enough spare blocks for the blocks that an edit splits and fills: no text has more separators than bytes
+-- Enough spare blocks for the added separators (no text has more of them than bytes), two more paragraphs at the edges of the
+-- edit, and the two blocks that it splits.
 abbrev pub HasSpares : ℕ → ℕ → Type 0
 HasSpares spares separators = min separators largest_text + 2 * block_capacity + 2 ≤ block_capacity * spares
 
+-- what always holds of an `Index`
 pub record IsIndex (i : Inside) : Type 0 where
   pub short : total (flat i.front.blocks ++ record { body = i.last; separator = 0 } ∷ []) ≤ largest_text
   pub few : length (flat i.front.blocks) ≤ largest_text

@@ -38,6 +38,7 @@ EachEnds says [] = ⊥
 EachEnds says (p ∷ []) = p.separator ≡ []
 EachEnds says (p ∷ q ∷ ps) = IsSeparator says p.separator × EachEnds says (q ∷ ps)
 
+-- the paragraphs of each text end so
 abbrev pub EndWithSeparators : Type 0
 EndWithSeparators = (says : Data) (text : List ℕ) → EachEnds says (paragraphs says text)
 
@@ -47,5 +48,6 @@ KeepCrLf [] = Unit {0}
 KeepCrLf (p ∷ []) = Unit {0}
 KeepCrLf (p ∷ q ∷ ps) = (p.separator ≡ encode_utf8 13 → q.body ≡ [] → q.separator ≡ encode_utf8 10 → ⊥) × KeepCrLf (q ∷ ps)
 
+-- no CR LF of any text is split
 abbrev pub KeepEachCrLf : Type 0
 KeepEachCrLf = (says : Data) (text : List ℕ) → IsUtf8 text → KeepCrLf (paragraphs says text)

@@ -1,4 +1,4 @@
--- The invariant of a block of paragraphs.
+-- What always holds of a block of paragraphs.
 use Rattle.std.specs.Prelude.{◌≡◌, ◌≤◌, vec_len, vec_capacity}
 use Rattle.bx_index.specs.declared.block.Block.TheInside.{Inside}
 use Rattle.bx_index.specs.Capacity.{block_capacity}

@@ -1,4 +1,4 @@
--- The paragraphs of a text: the text cut at each paragraph separator (P1). CR LF is one separator.
+-- The paragraphs of a text: the text cut at each paragraph separator (UAX #9, P1). CR LF, 13 and 10, is one separator.
 use Rattle.std.specs.Prelude.{ℕ, ◌-◌, ◌==◌, ◌&&◌, Bool, true, false, List, [], ◌∷◌, ◌++◌, map, length, chars, encode_utf8}
 use Rattle.bx_ucd.specs.Data.{Data}
 use Rattle.bx_ucd.specs.declared.class.Class.{Class}
@@ -10,7 +10,7 @@ pub record Paragraph : Type 0 where
   pub body : List ℕ
   pub separator : List ℕ
 
--- a paragraph separator
+-- the class of paragraph separators
 abbrev pub is_separator : Class → Bool
 is_separator B = true
 is_separator _ = false
@@ -30,7 +30,7 @@ abbrev pub after_cr : List Paragraph → List Paragraph
 after_cr [] = []
 after_cr (p ∷ ps) = record p { separator = encode_utf8 13 ++ p.separator } ∷ ps
 
--- a paragraph with no body
+-- a paragraph with an empty body
 abbrev pub bare : List ℕ → Paragraph
 bare separator = record { body = []; separator = separator }
 
@@ -57,6 +57,6 @@ lengths_of p = record { body = length p.body; separator = length p.separator }
 abbrev pub lengths : Data → List ℕ → List Lengths
 lengths says text = map lengths_of (paragraphs says text)
 
--- the number of paragraphs of a text that end with a separator
+-- the number of paragraphs of a text that end with a separator: all but the last
 abbrev pub separator_count : Data → List ℕ → ℕ
 separator_count says text = length (lengths says text) - 1

@@ -1,4 +1,4 @@
--- The first separator of some characters.
+-- The first separator of some characters, and that there is none: what a scan finds in a piece of a text.
 use Rattle.std.specs.Prelude.{◌≡◌, ◌<◌, ℕ, true, false, List, [], ◌∷◌, ◌++◌, length, drop, chars, encode_utf8_all, IsCharBoundary}
 use Rattle.bx_ucd.specs.Data.{Data}
 use Rattle.bx_index.specs.Paragraphs.{is_separator}
@@ -8,7 +8,7 @@ abbrev pub HasNone : Data → List ℕ → Type 0
 HasNone says [] = Unit {0}
 HasNone says (c ∷ cs) = (is_separator (says.class c) ≡ false) × HasNone says cs
 
--- the first separator of the characters is c, with a number of bytes before it
+-- the first separator of the characters is `c`, with `before` bytes before it
 pub record IsAt (says : Data) (cs : List ℕ) (before c : ℕ) : Type 0 where
   pub front : List ℕ
   pub rest : List ℕ
@@ -22,12 +22,12 @@ abbrev pub NoneAt : Data → List ℕ → ℕ → Type 0
 NoneAt says text at =
     (front : List ℕ) (c : ℕ) (rest : List ℕ) → chars text ≡ front ++ c ∷ rest → length (encode_utf8_all front) ≡ at → is_separator (says.class c) ≡ false
 
--- no separator begins before an offset
+-- no separator begins before the offset `n`
 abbrev pub NoneBefore : Data → List ℕ → ℕ → Type 0
 NoneBefore says text n =
     (front : List ℕ) (c : ℕ) (rest : List ℕ) → chars text ≡ front ++ c ∷ rest → length (encode_utf8_all front) < n → is_separator (says.class c) ≡ false
 
--- the separator c begins at an offset
+-- the separator `c` begins at an offset of a text
 pub record BeginsAt (says : Data) (text : List ℕ) (at c : ℕ) : Type 0 where
   pub bounds : IsCharBoundary text at
   pub rest : List ℕ

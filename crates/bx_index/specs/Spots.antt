@@ -1,4 +1,4 @@
--- Where a paragraph is stored in the blocks.
+-- Where a paragraph is stored in the blocks, for a walk.
 use Rattle.std.specs.Prelude.{◌≡◌, ℕ, ◌+◌, ◌<◌, ◌≤◌, List, [], ◌∷◌, ◌++◌, length, take, get_or}
 use Rattle.bx_index.specs.declared.lengths.Lengths.{Lengths}
 use Rattle.bx_index.specs.declared.spot.Spot.{Spot}

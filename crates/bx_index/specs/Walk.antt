@@ -1,4 +1,4 @@
--- A walk over the paragraphs of a text: the paragraphs, and the number of the one that it is at.
+-- The value of a walk over the paragraphs of a text: the paragraphs, and the number of the one that it is at.
 use Rattle.std.specs.Prelude.{◌≡◌, ℕ, ◌≤◌, List, take, get_or}
 use Rattle.bx_text.specs.Edits.{largest_text}
 use Rattle.bx_index.specs.declared.lengths.Lengths.{Lengths}
@@ -11,12 +11,15 @@ pub record WalkState : Type 0 where
   -- from 0, below the number of paragraphs
   pub number : ℕ
 
+-- all paragraphs of the text, the last included
 abbrev pub all_of : Inside → List Lengths
 all_of w = closed w.blocks.now.blocks w.last
 
+-- the value of the code's walk
 abbrev pub walk_of : Inside → WalkState
 walk_of w = record { paragraphs = all_of w; number = w.spot.number }
 
+-- what always holds of a walk: its spot, start and lengths are those of one paragraph
 pub record IsWalk (w : Inside) : Type 0 where
   pub stands : IsSpot w.blocks.now.blocks w.spot
   pub begins : w.start ≡ total (take w.spot.number (all_of w))

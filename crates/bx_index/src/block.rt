@@ -1,4 +1,4 @@
-//! A block of paragraphs.
+//! A block of consecutive paragraphs, by their lengths: what an edit has to move.
 
 ghost use Rattle.std.specs.Prelude.{◌≡◌, [], ◌∷◌, ◌++◌, ◌+◌, ◌<◌, ◌≤◌, ◌^◌, length, take, drop, nat_lt, IfOk};
 ghost use Rattle.bx_index.specs.Capacity.{block_capacity};
@@ -8,13 +8,14 @@ use crate::lengths::Lengths;
 use std::alloc::{AllocError, Global};
 use std::marker::Model;
 
-/// Capacity of a block, in paragraphs.
+/// Capacity of a block, in paragraphs; specs/Capacity.antt says why.
 pub const BLOCK_CAPACITY: usize = 512;
 
 /// At most `BLOCK_CAPACITY` consecutive paragraphs, and their total length in bytes.
 #[derive(Drop)]
 pub struct Block {
     lengths: Vec<Lengths>,
+    // the total length
     bytes: usize,
 }
 
@@ -87,7 +88,7 @@ impl Block {
         self.lengths.push(paragraph).unwrap();
     }
 
-    /// Moves the paragraphs from the index `at` on into another block, and drops that block's own.
+    /// Moves the paragraphs from the index `at` on into the block `rest`, whose own it drops, and returns this block.
     #[tactic(auto, using(crate::proofs::Totals::total_rest))]
     pub fn cut(&mut self, at: usize, mut rest: Block) -> Block
         requires { at ≤ length self.old }

@@ -1,4 +1,5 @@
-//! Paragraphs in blocks.
+//! Paragraphs in blocks, found by number or offset, and put in and taken out. A position among the blocks is the number of
+//! blocks before it.
 
 ghost use Rattle.std.specs.Prelude.{◌≡◌, ℕ, [], ◌∷◌, ◌++◌, ◌+◌, ◌-◌, ◌<◌, ◌≤◌, ◌^◌, ◌⊎◌, length, take, drop, get_or, IfOk, OnOk, OnErr, MatchOption, vec_len};
 ghost use Rattle.bx_index.specs.Positions.{bytes_of, total};
@@ -11,7 +12,7 @@ use crate::splices::{cut_at, join_at, push_at, remove_blocks};
 use std::alloc::{AllocError, Global};
 use std::marker::Model;
 
-/// Number of spare blocks to keep: enough for an edit that adds few paragraphs.
+/// Number of spare blocks to keep: what `Index::ready` asks for an edit that adds fewer than `BLOCK_CAPACITY` separators.
 const SPARES_KEPT: usize = 4;
 
 /// Paragraphs that end with a separator, in blocks, and spare blocks.
@@ -128,7 +129,7 @@ impl Blocks {
         (count, bytes)
     }
 
-    /// The offset of a paragraph's start, and the paragraph; none if there are fewer.
+    /// The offset of the start of paragraph `number`, from 0, and its lengths; none if there are fewer.
     #[tactic(auto, using(crate::proofs::Flats::total_flat_more, crate::proofs::Flats::length_flat_more, crate::proofs::Flats::total_flat_front, crate::proofs::Flats::length_flat_front))]
     pub fn get(&self, number: usize) -> Option<(usize, Lengths)>
         ensures { MatchOption result (length (flat self.now.blocks) ≤ number)
@@ -149,7 +150,7 @@ impl Blocks {
         None
     }
 
-    /// The paragraphs of a block; none if there are fewer blocks.
+    /// The paragraphs of block `at`, from 0; none if there are fewer blocks.
     pub fn block(&self, at: usize) -> Option<&[Lengths]>
         ensures lent { MatchOption result (length self.now.blocks ≤ at) (λ ls. (at < length self.now.blocks) × (ls.now ≡ get_or self.now.blocks at [])) }
         ensures few { length self.now.blocks < 2 ^ 64 }
@@ -158,8 +159,8 @@ impl Blocks {
         Some(self.blocks.get(at)?.lengths())
     }
 
-    /// The block of a paragraph, and the paragraph's index in it. After the last paragraph, the number of blocks
-    /// and 0.
+    /// The block of paragraph `number`, and the paragraph's index in it, all from 0. After the last paragraph, the number of
+    /// blocks and 0.
     #[tactic(auto, using(crate::proofs::Flats::length_flat_more, crate::proofs::Flats::length_flat_front))]
     pub fn seek(&self, number: usize) -> (usize, usize)
         requires { number ≤ length (flat self.now.blocks) }
@@ -238,8 +239,8 @@ impl Blocks {
         self.blocks.shrink_to(self.blocks.len() + self.spares.len());
     }
 
-    /// Splits the block of a paragraph, so that the paragraph begins a block, and returns this block's number. After the
-    /// last paragraph it returns the number of blocks.
+    /// Splits the block of paragraph `number`, from 0, so that the paragraph begins a block, and returns this block's number.
+    /// After the last paragraph it returns the number of blocks.
     fn cut(&mut self, number: usize) -> usize
         requires spare { 0 < self.old.spares }
         requires inside { number ≤ length (flat self.old.blocks) }

@@ -1,4 +1,4 @@
-//! The index of a text's paragraphs.
+//! The index of a text's paragraphs, which follows edits.
 
 ghost use Rattle.std.specs.Prelude.{◌≡◌, ℕ, ◌+◌, ◌-◌, ◌<◌, ◌≤◌, ◌++◌, ◌∷◌, List, [], None, Some, length};
 ghost use Rattle.std.specs.Prelude.{take, drop, slice_get, min, IsUtf8, IfOk, OnOk, OnErr, MatchOption};
@@ -35,6 +35,7 @@ pub struct Index {
     front: Blocks,
     // length in bytes of the last paragraph, which has no separator
     last: u32,
+    // the separators that the next edit can add with no allocation; None: no room was made
     room: Option<usize>,
 }
 
@@ -49,6 +50,7 @@ impl Model for Index {
 }
 
 /// The old paragraphs at the edges of a change: the one with the byte before it, and the one that the text after it begins in.
+/// `front` and `last` are the paragraphs of the old text, `text` is the new one.
 fn touched<D: BidiData>(
     front: &Blocks,
     last: u32,
@@ -73,7 +75,8 @@ fn touched<D: BidiData>(
     (first, last)
 }
 
-/// The offset up to which the paragraph before a change has no separator, at most the start of the change.
+/// The offset up to which the paragraph `first`, the one with the byte before a change, has no separator, at most the start of
+/// the change.
 fn quiet_until(first: ParagraphSpan, change: &Change) -> usize
     ensures { MatchOption first.end (result ≡ change.now.start) (λ e. result ≡ min change.now.start (e - first.separator)) }
 {
@@ -83,8 +86,8 @@ fn quiet_until(first: ParagraphSpan, change: &Change) -> usize
     }
 }
 
-/// Lengths of the rest of the paragraph after a change: of its body, and of its separator. The change ended at `offset`
-/// in the old text, and `left` bytes follow it.
+/// Lengths of the rest of the paragraph `last`, in which the text after a change begins: of its body, and of its separator.
+/// The change ended at `offset` in the old text, and `left` bytes follow it.
 fn rest_behind(last: ParagraphSpan, offset: usize, left: usize) -> (usize, usize)
     ensures { MatchOption last.end (result ≡ (left, 0)) (λ e. result ≡ (e - last.separator - offset, min last.separator (e - offset))) }
 {
@@ -98,7 +101,7 @@ fn rest_behind(last: ParagraphSpan, offset: usize, left: usize) -> (usize, usize
     }
 }
 
-/// The range to scan after a change.
+/// The range to scan after a change; `reached` are the paragraphs of `touched`.
 fn range_after<D: BidiData>(
     front: &Blocks,
     last: u32,
@@ -135,6 +138,7 @@ impl Index {
     {
         let len = text.len();
         let mut front = Blocks::new(alloc);
+        // The position among the blocks after the last paragraph, and the offset of the next.
         let mut position = 0;
         let mut at = 0;
         let mut range = range_to_end(text, at);
@@ -171,6 +175,7 @@ impl Index {
         ensures bytes { OnOk result (CoversBytes self.new.room separators) }
         ensures err { OnErr result (self.new ≡ self.old) }
     {
+        // Four more: two for the blocks that an edit splits, two for what the quotient drops and for two more paragraphs.
         let blocks = separators.min(LARGEST_TEXT) / BLOCK_CAPACITY + 4;
         self.front.make_spares(blocks)?;
         self.room = Some(separators);
@@ -200,6 +205,7 @@ impl Index {
         };
         let (first, last) = reached;
         if let Some(end) = last.end {
+            // The end of the last touched paragraph in the new text.
             let behind = end - change.removed + change.added;
             replace(
                 &mut self.front,
@@ -212,6 +218,7 @@ impl Index {
             self.room = None;
             return;
         }
+        // The text's last paragraph is touched: what follows the last separator is the new last one.
         let at = replace(&mut self.front, &scanned, first, last.number, len, range);
         self.last = (len - at) as u32;
         self.room = None;
@@ -246,7 +253,7 @@ impl Index {
         (span.number, (start, end - span.separator))
     }
 
-    /// Offsets of the start and the end of a paragraph's body, in bytes.
+    /// Offsets of the start and the end of the body of paragraph `number`, from 0, in bytes.
     pub fn span(&self, number: usize) -> (usize, usize)
         requires { number < length self.now.paragraphs }
         ensures { slice_get (spans self.now.paragraphs) number ≡ Some result }
@@ -260,7 +267,7 @@ impl Index {
         }
     }
 
-    /// Length in bytes of the separator that ends a paragraph, 0 for the last.
+    /// Length in bytes of the separator that ends paragraph `number`, from 0; 0 for the last.
     pub fn separator(&self, number: usize) -> usize
         requires { number < length self.now.paragraphs }
         ensures { slice_get (separators self.now.paragraphs) number ≡ Some result }
@@ -271,7 +278,7 @@ impl Index {
         }
     }
 
-    /// A walk at the paragraph `number`, which begins at the offset `start`.
+    /// A walk at the paragraph `number`, from 0, which begins at the offset `start`.
     pub fn walk_at(&self, number: usize, start: usize) -> ParagraphWalk<'_>
         requires inside { number < length self.now.paragraphs }
         requires begins { start ≡ total (take number self.now.paragraphs) }

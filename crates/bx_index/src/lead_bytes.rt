@@ -1,4 +1,4 @@
-//! The possible first bytes of paragraph separators in UTF-8.
+//! The possible first bytes of paragraph separators in UTF-8, so that a scan skips all other bytes.
 
 ghost use Rattle.std.specs.Prelude.{◌≡◌, ◌<◌, ℕ, true, false, length, get_or};
 ghost use Rattle.std.specs.Char.{IsScalar};
@@ -15,7 +15,7 @@ pub struct LeadBytes {
     pub may_separate: [bool; 256],
 }
 
-/// The first byte of a character in UTF-8.
+/// The first byte of a character in UTF-8: of one byte below 0x80, of two below 0x800, of three below 0x10000, else of four.
 fn lead_byte(code: u32) -> u8
     requires { code < 0x110000 }
     ensures { result ≡ lead_of code }
@@ -31,7 +31,8 @@ fn lead_byte(code: u32) -> u8
     }
 }
 
-/// The code below which characters are looked up before a scan of `bytes` bytes. A longer scan looks up more.
+/// The code below which characters are looked up before a scan of `bytes` bytes: none, those of one and two bytes in UTF-8, or
+/// those of up to three. The look-ups are fewer than the bytes, half of them at most.
 fn asked_below(bytes: usize) -> u32
     ensures { result < 0x110000 }
 {
@@ -58,7 +59,8 @@ fn mark<D: BidiData>(flags: &mut [bool; 256], tables: &D, code: u32)
     }
 }
 
-/// The possible first bytes of separators, for a scan of `bytes` bytes.
+/// The possible first bytes of separators, for a scan of `bytes` bytes. The first bytes of characters that are not looked up
+/// are all possible.
 pub fn lead_bytes_of<D: BidiData>(tables: &D, bytes: usize) -> LeadBytes
     ensures { CoversSeparators (D.data tables.now) result.may_separate }
 {

@@ -1,4 +1,4 @@
-//! Lengths of paragraphs.
+//! The lengths of a paragraph, all that the index keeps of it.
 
 ghost use Rattle.std.specs.Prelude.{◌≡◌};
 ghost use Rattle.bx_index.specs.Positions.{bytes_of};

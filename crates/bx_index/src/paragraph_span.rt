@@ -1,6 +1,6 @@
-//! Where paragraphs are in the text.
+//! Where a paragraph is in the text, as a search of the blocks finds it.
 
-/// A paragraph's number and bytes in the text.
+/// A paragraph's number, and its offsets in the text, in bytes.
 #[derive(Clone, Copy, PartialEq, Eq, Debug)]
 pub struct ParagraphSpan {
     /// Its number, from 0.

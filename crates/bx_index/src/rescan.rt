@@ -1,4 +1,4 @@
-//! Replaces paragraphs by those scanned from a text.
+//! Replaces the paragraphs that an edit touched by those scanned from the new text.
 
 ghost use Rattle.std.specs.Prelude.{◌≡◌, ◌++◌, ◌+◌, ◌*◌, ◌<◌, ◌≤◌, ◌^◌, length, take, drop, IsCharBoundary};
 ghost use Rattle.bx_index.specs.Capacity.{block_capacity};
@@ -51,7 +51,7 @@ fn insert_scanned<D: BidiData>(
     (position, at)
 }
 
-/// Replaces the paragraphs from `from` up to the number `to` by those scanned from the text, which begin at `from.start` and
+/// Replaces the paragraphs from `from` to before the number `to` by those scanned from the text, which begin at `from.start` and
 /// end with a separator at or before `stop`. Returns the offset where the last of them ends. Frees spare blocks.
 pub(crate) fn replace<D: BidiData>(
     blocks: &mut Blocks,

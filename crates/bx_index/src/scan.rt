@@ -1,4 +1,4 @@
-//! The paragraph that begins at an offset of a text.
+//! The paragraph that begins at an offset of a text: the scan for its separator.
 
 ghost use Rattle.std.specs.Prelude.{◌≡◌, ℕ, ◌<◌, ◌≤◌, ◌+◌, ◌==◌, ◌&&◌, chars, take, drop, false};
 ghost use Rattle.std.specs.Prelude.{get_or, length, slice_get, encode_utf8, if◌then◌else◌, IsCharBoundary, IsUtf8, MatchOption};
@@ -87,7 +87,8 @@ fn goes_on_with_lf<D: BidiData>(text: &Text, tables: &D, at: usize) -> bool
     }
 }
 
-/// Length in bytes of the separator that begins with a character: two if that is CR and an LF follows.
+/// Length in bytes of the separator that begins with the character `c`, which ends at the offset `after`: two if `c` is CR and
+/// an LF that is a separator follows.
 fn separator_bytes<D: BidiData>(text: &Text, tables: &D, c: char, after: usize) -> u32
     requires { IsCharBoundary text.now.edited.text after }
     ensures { result ≡ (if (c == 13) && begins_with_lf (D.data tables.now) (chars (drop after text.now.edited.text)) then 2 else length (encode_utf8 c)) }
@@ -115,7 +116,7 @@ fn part_before(text: &Text, at: usize, stop: usize) -> &str
     text.part_at(at, text.len())
 }
 
-/// The lengths of the paragraph that begins at an offset, or of its rest if the offset is within it. Reads only the
+/// The lengths of the paragraph that begins at the offset `start`, or of its rest if the offset is within it. Reads only the
 /// range, and an LF after a CR.
 pub fn paragraph_from<D: BidiData>(
     text: &Text,

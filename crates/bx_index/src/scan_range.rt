@@ -1,4 +1,4 @@
-//! The part of a text that a scan for paragraphs reads.
+//! The part of a text that a scan for paragraphs reads, so that after an edit it reads little more than the added text.
 
 ghost use Rattle.std.specs.Prelude.{ℕ, IsCharBoundary};
 ghost use Rattle.bx_ucd.specs.Data.{Data};
@@ -10,11 +10,11 @@ use bx_text::Text;
 /// The part of a text that a scan for paragraphs has to read. All numbers count bytes.
 #[derive(Clone, Copy, PartialEq, Eq, Debug)]
 pub struct ScanRange {
-    /// Offset of its start. The paragraph has no separator before it.
+    /// Offset of its start. The paragraph that is scanned begins at or before it, and has no separator before it.
     pub start: usize,
     /// Offset of its end.
     pub stop: usize,
-    /// Length of the rest of a paragraph's body after the range.
+    /// Length of the rest of a paragraph's body after the range, which is known and not read.
     pub body: usize,
     /// Length of the rest of its separator after that, 0 if none is left.
     pub separator: usize,

@@ -1,4 +1,4 @@
-//! Splits, extends, joins and removes blocks of a list.
+//! Splits, extends, joins and removes blocks of a list. `at` is the number of a block in it, from 0.
 
 ghost use Rattle.std.specs.Prelude.{◌≡◌, [], ◌∷◌, ◌++◌, ◌+◌, ◌<◌, ◌≤◌, ◌^◌, length, take, drop, get_or, vec_len, vec_capacity};
 ghost use Rattle.bx_index.specs.Capacity.{block_capacity};
@@ -7,7 +7,7 @@ ghost use Rattle.bx_index.specs.Positions.{bytes_of, total};
 use crate::block::Block;
 use crate::lengths::Lengths;
 
-/// Splits a block. Its second part goes into a spare block.
+/// Splits a block before the paragraph with the index `within`. Its second part goes into a spare block.
 pub fn cut_at(blocks: &mut Vec<Block>, at: usize, within: usize, spare: Block)
     requires position { at < vec_len blocks.old }
     requires inside { within ≤ length (get_or blocks.old.items at []) }

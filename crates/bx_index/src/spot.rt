@@ -1,4 +1,4 @@
-//! Where paragraphs are stored in the blocks.
+//! Where paragraphs are stored in the blocks: the spots that a walk goes through.
 
 ghost use Rattle.std.specs.Prelude.{◌≡◌, ◌+◌, ◌-◌, ◌<◌, ◌≤◌, [], length, take, get_or, MatchOption};
 ghost use Rattle.bx_index.specs.Flat.{flat};
@@ -12,7 +12,7 @@ use crate::lengths::Lengths;
 pub struct Spot {
     /// The paragraph's number, from 0.
     pub number: usize,
-    /// The number of its block, from 0.
+    /// The number of its block, from 0; for the text's last paragraph, the number of blocks.
     pub block: usize,
     /// Its index in the block, from 0.
     pub within: usize,

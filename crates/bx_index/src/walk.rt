@@ -1,4 +1,4 @@
-//! A walk over the paragraphs of a text.
+//! A walk over the paragraphs of a text, from one to its neighbours, with no search.
 
 ghost use Rattle.std.specs.Prelude.{◌≡◌, ℕ, ◌+◌, ◌-◌, ◌<◌, ◌≤◌, Some, length, nat_lt, slice_get, take, if◌then◌else◌};
 ghost use Rattle.bx_text.specs.Edits.{largest_text};
@@ -18,9 +18,11 @@ pub struct ParagraphWalk<'a> {
     blocks: &'a Blocks,
     // length in bytes of the text's last paragraph
     last: u32,
+    // where the paragraph is stored that the walk is at
     spot: Spot,
     // offset of the paragraph's start
     start: usize,
+    // the paragraph's lengths
     here: Lengths,
 }
 
@@ -105,6 +107,7 @@ impl<'a> ParagraphWalk<'a> {
         match previous_spot(self.blocks, self.spot) {
             None => false,
             Some(spot) => {
+                // First the lengths: the start goes back by the new paragraph's.
                 self.here = paragraph_at(self.blocks, self.last, spot);
                 self.start -= self.here.bytes();
                 self.spot = spot;

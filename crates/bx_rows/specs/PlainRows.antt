@@ -1,4 +1,4 @@
--- Rows in which each unit is one character of one column, shown as itself.
+-- Plain rows, in which each unit is one character of one column, shown as itself. Their pictures have a short way in the code.
 use Rattle.std.specs.Prelude.{◌≡◌, ◌⊎◌, ℕ, zero, suc, ◌+◌, ◌%◌, true, false, List, [], ◌∷◌, ◌++◌, map, length, take, drop, encode_utf8, encode_utf8_all, Option, None, Some}
 use Rattle.std.specs.List.{zip}
 use Rattle.bx_ucd.specs.Data.{Data}
@@ -13,7 +13,7 @@ use Rattle.bx_rows.specs.declared.drawn.Drawn.{Drawn}
 use Rattle.bx_rows.specs.RowPicture.{Glyph, glyph, is_own, mirrored_text, shown_text}
 use Rattle.bx_rows.specs.Shown.{glyph_of}
 
--- one unit per character, from an offset on
+-- one unit per character, the first at the offset `at`
 abbrev pub single_units : ℕ → List ℕ → List Unit
 single_units at [] = []
 single_units at (c ∷ cs) =
@@ -28,7 +28,7 @@ IsClusterEnd text = (length text ≡ 0) ⊎ ((d : ℕ) × (more : List ℕ) × (
 abbrev pub single_glyph : ℕ → Glyph
 single_glyph c = glyph (encode_utf8 c) 1 false
 
--- the glyph of a character at a level, mirrored and joined at an odd one
+-- the glyph of a character at a level, mirrored and in its joining form at an odd one
 abbrev pub leveled_glyph : Data → ℕ → ℕ → ℕ → Form → Glyph
 leveled_glyph says w c level form = glyph (shown_text says w 1 level (form ∷ []) (encode_utf8 c)) 1 false
 
@@ -36,14 +36,15 @@ leveled_glyph says w c level form = glyph (shown_text says w 1 level (form ∷ [
 abbrev pub leveled_glyphs : Data → ℕ → List ℕ → List ℕ → List Form → List Glyph
 leveled_glyphs says w cs levels forms = map (λ (c, at). leveled_glyph says w c at.0 at.1) (zip cs (zip levels forms))
 
--- the glyphs of characters at their levels, mirrored but not joined
+-- the glyph of a character at a level, mirrored but not joined at an odd one
 abbrev pub mirrored_glyph : Data → ℕ → ℕ → ℕ → Glyph
 mirrored_glyph says w c level = glyph (mirrored_text says w 1 level (encode_utf8 c)) 1 false
 
+-- such glyphs of characters at their levels, in text order
 abbrev pub mirrored_glyphs : Data → ℕ → List ℕ → List ℕ → List Glyph
 mirrored_glyphs says w cs levels = map (λ (c, level). mirrored_glyph says w c level) (zip cs levels)
 
--- a glyph in the form of its letter, if there is one and it is shown as itself in one column
+-- a glyph with the text `c`, its letter's form, if that is shown as itself in one column; None: the letter has no such form
 abbrev pub formed_glyph : Data → ℕ → Glyph → Option ℕ → Glyph
 formed_glyph says w g None = g
 formed_glyph says w g (Some c) = elim (is_own 1 (face says w (encode_utf8 c))) [ true ↦ glyph (encode_utf8 c) g.columns g.negative | false ↦ g ]
@@ -52,15 +53,16 @@ formed_glyph says w g (Some c) = elim (is_own 1 (face says w (encode_utf8 c))) [
 abbrev pub joined_glyph : Data → ℕ → Glyph → ℕ × (ℕ × Form) → Glyph
 joined_glyph says w g (level, at) = elim (level % 2) [ zero ↦ g | suc _ ↦ formed_glyph says w g (says.form at.0 at.1) ]
 
--- at this level no form of its letter changes the text: it is only mirrored
+-- at this level no joining form changes a text of one letter: it is only mirrored
 abbrev pub IsFormless : Data → ℕ → ℕ → List ℕ → Type 0
 IsFormless says w level text = (form : Form) → shown_text says w 1 level (form ∷ []) text ≡ mirrored_text says w 1 level text
 
--- the forms of a body's characters from number `number` on, one for each of `cs`
+-- the forms of a body's characters from character `number`, from 0, on: one for each of `cs`
 abbrev pub char_forms : Data → List ℕ → List (Option ℕ) → ℕ → List ℕ → List Form
 char_forms says body each number cs = first_forms (length cs) (drop number (body_forms says body each))
 
--- the glyphs are those of the first `count` units of a body, or all, from an offset on
+-- from the offset `at` of a body on, each of the first `count` units, or of all if there are fewer, is one character of one
+-- column; the glyphs are those of these characters, not mirrored or joined
 pub record AreSingle (says : Data) (w : ℕ) (body : List ℕ) (at count : ℕ) (glyphs : List Drawn) : Type 0 where
   pub cs : List ℕ
   pub rest : List ℕ

@@ -1,4 +1,5 @@
--- The levels of a row's units: L1 on the row's characters, and then one level for each unit.
+-- The levels of a row's units: L1 on the row's characters, and then one level for each unit. `each` has the level of each of
+-- the body's characters, None for one that X9 removes; the others are kept.
 use Rattle.std.specs.Prelude.{ℕ, ◌&&◌, Bool, true, false, List, [], ◌∷◌, map, flat_map, length, take, drop, Option, Some, None, unwrap_or, chars}
 use Rattle.std.specs.List.{zip}
 use Rattle.bx_ucd.specs.Data.{Data}
@@ -12,7 +13,7 @@ abbrev pub is_segment_separator : Class → Bool
 is_segment_separator S = true
 is_segment_separator _ = false
 
--- whitespace or an isolate formatting character
+-- whitespace or an isolate formatting character, which L1 resets before a segment separator or at a row's end
 abbrev pub is_trailing : Class → Bool
 is_trailing WS = true
 is_trailing FSI = true
@@ -51,12 +52,12 @@ first_level [] = None
 first_level (None ∷ ls) = first_level ls
 first_level (Some level ∷ ls) = Some level
 
--- the level of the first kept character of each unit, given the units' character counts
+-- the level of the first kept character of each unit, None if it has none, given the units' character counts
 abbrev pub unit_levels : List ℕ → List (Option ℕ) → List (Option ℕ)
 unit_levels [] ls = []
 unit_levels (n ∷ ns) ls = first_level (take n ls) ∷ unit_levels ns (drop n ls)
 
--- a unit without a level takes the level of the unit before it
+-- a unit without a level takes the level of the unit before it; the first takes `before`
 abbrev pub levels_or_before : ℕ → List (Option ℕ) → List ℕ
 levels_or_before before [] = []
 levels_or_before before (l ∷ ls) = let level = unwrap_or l before in level ∷ levels_or_before level ls

@@ -1,4 +1,5 @@
--- The picture of a row: the glyphs of its units in visual order, mirrored (L4) and joined at odd levels, and blanks up to the edge.
+-- The picture of a row: the glyphs of its units in visual order, mirrored (L4) and joined at odd levels, and blanks up to the
+-- window's edge. `w` is the window's columns.
 use Rattle.std.specs.Prelude.{ℕ, zero, suc, ◌+◌, ◌-◌, ◌%◌, ◌==◌, Bool, true, false, List, [], ◌∷◌, ◌++◌, map, length, take, sum, flat_map, replicate, slice_index_or, Option}
 use Rattle.std.specs.Prelude.{unwrap_or, chars, encode_utf8_all}
 use Rattle.std.specs.List.{zip}
@@ -21,9 +22,11 @@ pub record Glyph : Type 0 where
   pub columns : ℕ
   pub negative : Bool
 
+-- the glyph with these parts
 abbrev pub glyph : List ℕ → ℕ → Bool → Glyph
 glyph text columns negative = record { text = text; columns = columns; negative = negative }
 
+-- SPACE, in one column
 abbrev pub blank : Glyph
 blank = glyph (32 ∷ []) 1 false
 
@@ -75,7 +78,7 @@ mirrored_text says w n level text = elim (level % 2) [ zero ↦ text | suc _ ↦
 abbrev pub shown_text : Data → ℕ → ℕ → ℕ → List Form → List ℕ → List ℕ
 shown_text says w n level forms text = elim (level % 2) [ zero ↦ text | suc _ ↦ joined_image_within says w n forms text ]
 
--- the glyphs of a face, with the unit's own text at a level
+-- the glyphs of a unit with this text and face at a level; `columns`, those that it takes in its row, matter for a tab alone
 abbrev pub face_glyphs : Data → ℕ → List ℕ → Face → ℕ → ℕ → List Form → List Glyph
 face_glyphs says w text Tab columns level forms = replicate columns blank
 face_glyphs says w text (Mark letter) columns level forms = glyph (letter ∷ []) 1 true ∷ []
@@ -85,7 +88,7 @@ face_glyphs says w text (Own n) columns level forms = text_glyphs n (shown_text 
 abbrev pub unit_forms : Data → List ℕ → List (Option ℕ) → Unit → List Form
 unit_forms says body each u = text_forms says body each (length (chars (take u.start body))) (unit_text body u)
 
--- the columns of each unit of a row with `c` columns taken
+-- the columns of each unit of the rest of a row, of which `c` columns are taken
 abbrev pub unit_columns : ℕ → ℕ → List Unit → List ℕ
 unit_columns w c [] = []
 unit_columns w c (u ∷ us) = let n = columns_at w c u.face in n ∷ unit_columns w (c + n) us
@@ -99,7 +102,7 @@ abbrev pub unit_glyphs : Data → ℕ → List ℕ → List (Option ℕ) → Lis
 unit_glyphs says w body each us columns levels =
     map (λ (u, at). face_glyphs says w (unit_text body u) u.face at.0 at.1 (unit_forms says body each u)) (zip us (zip columns levels))
 
--- the blanks of a row are at its end: right in a paragraph of even level, left in one of odd level
+-- glyphs with a row's `n` blanks: at the right in a paragraph of even level, at the left in one of odd level
 abbrev pub with_blanks : ℕ → ℕ → List Glyph → List Glyph
 with_blanks paragraph n glyphs = elim (paragraph % 2) [ zero ↦ glyphs ++ replicate n blank | suc _ ↦ replicate n blank ++ glyphs ]
 

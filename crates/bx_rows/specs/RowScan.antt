@@ -14,35 +14,39 @@ use Rattle.bx_rows.specs.Wrapping.{columns_at, fit_count_from, is_break, rows_fr
 abbrev pub Fits : ℕ → ℕ → Unit → Type 0
 Fits w c u = (c < w) × (c + columns_at w c u.face ≤ w)
 
--- A row read up to `rest`. `here` are the units from its start on: `last` units up to its last break, then `count` units,
--- with which `behind` begins. Together they have `columns` columns; the last `count` would have `since` columns in a row
--- of their own.
+-- A row read up to the units `rest`; `p` tells after which units there is a break, where a row may end. `here` are the units
+-- from the row's start on: `last` units up to its last break (0: it has none), then `count` units, with which `behind` begins.
+-- Together they have `columns` columns; the last `count` would have `since` columns in a row of their own, where a tab may
+-- differ.
 pub record IsScan (p : Unit → Bool) (w : ℕ) (here behind rest : List Unit) (columns last count since : ℕ) : Type 0 where
   pub front : List Unit
   pub back : List Unit
   pub here_is : here ≡ front ++ (back ++ rest)
   pub behind_is : behind ≡ back ++ rest
+  -- the `front` ends with a break, if it is not empty; the `back` has none
   pub ends : up_to_last p front ≡ length front
   pub none : up_to_last p back ≡ 0
   pub last_is : last ≡ length front
   pub count_is : count ≡ length back
+  -- the units read fit, in this row and from `behind` on in a row of their own
   pub fits : fit_count_from w 0 here ≡ last + count + fit_count_from w columns rest
   pub fits_behind : fit_count_from w 0 behind ≡ count + fit_count_from w since rest
   pub within : columns ≤ w
   pub less : since ≤ columns
 
--- the numbers of the current row are in order, and the characters before it are counted
+-- the current row, read up to the offset `at`: its offsets are in order, its columns fit, the characters before it are counted
 pub record IsInOrder (w : ℕ) (body : List ℕ) (s : Scan) (at : ℕ) : Type 0 where
   pub start : IsCharBoundary body s.start.offset
   pub next : IsCharBoundary body s.next
   pub order : s.start.offset ≤ s.next
   pub behind : s.next ≤ at
+  -- each unit has at least one byte
   pub bound : s.start.units + s.last + s.count ≤ at
   pub within : s.columns ≤ w
   pub less : s.since ≤ s.columns
   pub chars : s.start.chars ≡ length (chars (take s.start.offset body))
 
--- the starts so far and those from the current row on are the starts of all rows
+-- the units before `rest` are read: `starts`, and the starts from the current row on, are the starts of all rows
 pub record IsRead (says : Data) (w : ℕ) (body : List ℕ) (starts : List RowStart) (s : Scan) (rest : List Unit) : Type 0 where
   pub scan : IsScan (is_break says body) w (units_from says w body s.start.offset) (units_from says w body s.next) rest s.columns s.last s.count s.since
   pub number : drop s.start.units (units says w body) ≡ units_from says w body s.start.offset
@@ -54,21 +58,21 @@ pub record IsRead (says : Data) (w : ℕ) (body : List ℕ) (starts : List RowSt
 abbrev pub new_scan : RowStart → Scan
 new_scan start = record { start = start; next = start.offset; columns = 0; last = 0; count = 0; since = 0 }
 
--- a row with `n` more units of one column each, `m` of them up to their last break, which ends at `next`
+-- a row with `n` more units of one column each; `m` of them, up to the last after which a row may end, end at `next` (0: none)
 abbrev pub with_run : Scan → ℕ → ℕ → ℕ → Scan
 with_run s n zero next =
     record { start = s.start; next = s.next; columns = s.columns + n; last = s.last; count = s.count + n; since = s.since + n }
 with_run s n (suc m) next =
     record { start = s.start; next = next; columns = s.columns + n; last = s.last + s.count + suc m; count = n - suc m; since = n - suc m }
 
--- the unit has the extent, and is the first unit of a body from there on
+-- the unit has the extent's columns and break, and is a body's unit there, before `rest`
 pub record HasExtent (says : Data) (w : ℕ) (body : List ℕ) (e : Extent) (u : Unit) (rest : List Unit) : Type 0 where
   pub columns : (c : ℕ) → columns_at w c u.face ≡ columns_at w c e.face
   pub breaks : is_break says body u ≡ e.is_break
   pub here : units_from says w body e.start ≡ u ∷ rest
   pub behind : units_from says w body e.stop ≡ rest
 
--- the starts and the current row, before and after a unit of this extent
+-- reading a unit of this extent makes of `starts` and the current row `s` the starts `new` and the current row `t`
 abbrev pub Takes : ℕ → List ℕ → Extent → List RowStart → Scan → List RowStart → Scan → Type 0
 Takes w body e starts s new t =
     (says : Data) (u : Unit) (rest : List Unit) → HasExtent says w body e u rest → IsRead says w body starts s (u ∷ rest)

@@ -1,4 +1,4 @@
--- The starts of a body's rows.
+-- The starts of a body's rows, by which a row is read without those before it.
 use Rattle.std.specs.Prelude.{◌≡◌, ℕ, zero, suc, ◌-◌, List, [], map, length, take, drop, chars, slice_get, Option, Some, None}
 use Rattle.std.specs.Str.{IsCharBoundary}
 use Rattle.bx_ucd.specs.Data.{Data}
@@ -19,7 +19,7 @@ start_of body us r =
 abbrev pub row_starts : Data → ℕ → List ℕ → List RowStart
 row_starts says w body = let us = units says w body in map (start_of body us) (wrap says w body us)
 
--- the units of a row, if there is one
+-- the units of a row; none if there is no row
 abbrev pub units_in : List Unit → Option Row → List Unit
 units_in us None = []
 units_in us (Some r) = row_units us r

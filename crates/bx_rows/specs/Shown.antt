@@ -1,4 +1,4 @@
--- The glyphs of a row's picture, and the conditions of drawing.
+-- The glyph that a `Drawn` of the code is, and what marks and rows must be for a picture to be drawn.
 use Rattle.std.specs.Prelude.{◌≡◌, ◌≤◌, ℕ, true, ⊤, List, length}
 use Rattle.std.specs.Cow.{cow_str_bytes}
 use Rattle.bx_terms.specs.Characters.{is_ascii_printable}
@@ -10,7 +10,7 @@ use Rattle.bx_rows.specs.declared.row.Row.{Row}
 use Rattle.bx_rows.specs.RowPicture.{Glyph, glyph, columns_used}
 use Rattle.bx_rows.specs.Wrapping.{row_units}
 
--- the glyph that a `Drawn` stands for
+-- the glyph that a `Drawn` is
 abbrev pub glyph_of : Drawn → Glyph
 glyph_of d = glyph (cow_str_bytes d.text) d.columns d.negative
 

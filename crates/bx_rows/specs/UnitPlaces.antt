@@ -1,9 +1,10 @@
--- The places of a row's units in its body.
+-- A place in a body with the number of characters before it, by which the characters' levels and forms are found.
 use Rattle.std.specs.Prelude.{◌≡◌, ℕ, List, Option, chars, length, take}
 use Rattle.std.specs.Str.{IsCharBoundary}
 use Rattle.bx_joining.specs.declared.forms.TextAt.{TextAt}
 
--- a place of a body that was counted
+-- The place is at a character boundary of this body, whose characters have the levels `each`, and its `number` counts the
+-- characters before it. It is near the next place that is counted, which is reckoned from it.
 pub record IsNear (body : List ℕ) (each : List (Option ℕ)) (p : TextAt) : Type 0 where
   pub text : p.body.text.now ≡ body
   pub levels : p.body.each.now ≡ each

@@ -1,9 +1,8 @@
--- The visual order of a row's units, L2.
+-- The visual order of a row's units, L2. A unit is a pair of its number in the row, from 0, and its level.
 use Rattle.std.specs.Prelude.{ℕ, zero, suc, ◌+◌, ◌-◌, ◌%◌, nat_le, max, min, true, false, List, [], ◌∷◌, ◌++◌, map, Option, Some, None}
 use Rattle.std.specs.List.{enumerate_from}
 
--- Units, each by its number and level, with each maximal run at level `n` or higher reversed. `run` is the current run so
--- far, the latest unit first.
+-- Units, with each maximal run at level `n` or higher reversed. `run` is the current run so far, the latest unit first.
 abbrev pub reverse_runs : ℕ → List (ℕ × ℕ) → List (ℕ × ℕ) → List (ℕ × ℕ)
 reverse_runs n run [] = run
 reverse_runs n run (u ∷ us) = elim (nat_le n u.1) [ true ↦ reverse_runs n (u ∷ run) us | false ↦ run ++ u ∷ reverse_runs n [] us ]
@@ -13,6 +12,7 @@ abbrev pub reverse_down : ℕ → ℕ → List (ℕ × ℕ) → List (ℕ × ℕ
 reverse_down low zero us = us
 reverse_down low (suc count) us = reverse_down low count (reverse_runs (low + count) [] us)
 
+-- the highest level, 0 if there is none
 abbrev pub highest : List ℕ → ℕ
 highest [] = 0
 highest (l ∷ ls) = max l (highest ls)
@@ -22,10 +22,11 @@ abbrev pub lower : ℕ → Option ℕ → ℕ
 lower a None = a
 lower a (Some b) = min a b
 
--- the lowest odd level of a level and an optional odd one
+-- the lowest odd level of a level and an optional odd one, None if there is none
 abbrev pub lower_odd : ℕ → Option ℕ → Option ℕ
 lower_odd l lowest = elim (l % 2) [ zero ↦ lowest | suc n ↦ Some (lower l lowest) ]
 
+-- the lowest odd level, None if there is none
 abbrev pub lowest_odd : List ℕ → Option ℕ
 lowest_odd [] = None
 lowest_odd (l ∷ ls) = lower_odd l (lowest_odd ls)

@@ -1,4 +1,4 @@
-//! Runs of printable ASCII, where each byte is a unit of one column.
+//! Runs of printable ASCII, where each byte is a unit of one column: the fast part of wrapping.
 ghost use Rattle.std.specs.Prelude.{◌≡◌, ◌≤◌, ◌<◌, ◌+◌, get_or, length, ℕ, false, true};
 ghost use Rattle.std.specs.Str.{IsCharBoundary};
 ghost use Rattle.bx_rows.specs.NarrowRuns.{IsNarrowRun, IsRunIn};
@@ -29,8 +29,8 @@ fn break_behind<D: BidiData>(bytes: &[u8], at: usize, stop: usize, tables: &D) -
     next
 }
 
-/// The run of printable ASCII at an offset, one unit a byte, at most `most`, without its last byte: a combining mark may
-/// follow that one. Looks up classes from the end back to the last break only.
+/// The run of printable ASCII at an offset, one unit a byte: of at most `most` + 1 bytes all but the last, since a combining
+/// mark may follow that one. Looks up classes from the end back to the last break only.
 #[inline(always)]
 pub(crate) fn ascii_run<D: BidiData>(body: &str, at: usize, most: u16, tables: &D) -> NarrowRun
     requires { IsCharBoundary body.now at }

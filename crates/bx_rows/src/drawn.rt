@@ -1,4 +1,4 @@
-//! The glyphs of a row's picture.
+//! The glyphs of a row's picture, as the window, the status row and the printed page take them.
 use std::alloc::Global;
 use std::borrow::CowStr;
 
@@ -13,8 +13,9 @@ pub struct Drawn<'a> {
     pub negative: bool,
 }
 
-/// A row's glyphs from left to right, blanks included.
+/// The picture of a row, or of a text alone.
 #[derive(Drop)]
 pub struct RowPicture<'a> {
+    /// The glyphs from left to right; the row's blanks are among them in `picture`, and not in `own_glyphs`.
     pub glyphs: Vec<Drawn<'a>>,
 }

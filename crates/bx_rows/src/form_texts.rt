@@ -2,7 +2,7 @@
 ghost use Rattle.std.specs.Prelude.{◌≡◌, ◌+◌, ◌≤◌, IfSome, encode_utf8, encode_utf8_all};
 ghost use Rattle.std.specs.List.{range_with_len};
 
-/// The characters from U+FB50 to U+FBFF.
+/// The characters from U+FB50 to U+FBFF, among which the block Arabic Presentation Forms-A has its forms of single letters.
 const FORMS_A: &str = "\u{fb50}\u{fb51}\u{fb52}\u{fb53}\u{fb54}\u{fb55}\u{fb56}\u{fb57}\
     \u{fb58}\u{fb59}\u{fb5a}\u{fb5b}\u{fb5c}\u{fb5d}\u{fb5e}\u{fb5f}\
     \u{fb60}\u{fb61}\u{fb62}\u{fb63}\u{fb64}\u{fb65}\u{fb66}\u{fb67}\
@@ -26,7 +26,7 @@ const FORMS_A: &str = "\u{fb50}\u{fb51}\u{fb52}\u{fb53}\u{fb54}\u{fb55}\u{fb56}\
     \u{fbf0}\u{fbf1}\u{fbf2}\u{fbf3}\u{fbf4}\u{fbf5}\u{fbf6}\u{fbf7}\
     \u{fbf8}\u{fbf9}\u{fbfa}\u{fbfb}\u{fbfc}\u{fbfd}\u{fbfe}\u{fbff}";
 
-/// The characters from U+FE80 to U+FEFC.
+/// The characters from U+FE80 to U+FEFC, the letters and ligatures of the block Arabic Presentation Forms-B.
 const FORMS_B: &str = "\u{fe80}\u{fe81}\u{fe82}\u{fe83}\u{fe84}\u{fe85}\u{fe86}\u{fe87}\
     \u{fe88}\u{fe89}\u{fe8a}\u{fe8b}\u{fe8c}\u{fe8d}\u{fe8e}\u{fe8f}\
     \u{fe90}\u{fe91}\u{fe92}\u{fe93}\u{fe94}\u{fe95}\u{fe96}\u{fe97}\
@@ -44,7 +44,8 @@ const FORMS_B: &str = "\u{fe80}\u{fe81}\u{fe82}\u{fe83}\u{fe84}\u{fe85}\u{fe86}\
     \u{fef0}\u{fef1}\u{fef2}\u{fef3}\u{fef4}\u{fef5}\u{fef6}\u{fef7}\
     \u{fef8}\u{fef9}\u{fefa}\u{fefb}\u{fefc}";
 
-/// The text of a character in a list of `count` characters from `first` on, of three bytes each.
+/// The text of the character `c` in a list of the `count` characters from the code `first` on, of three bytes each; None if it
+/// is not in the list.
 fn text_in<'a>(texts: &'a str, first: u32, count: u32, c: char) -> Option<&'a str>
     requires texts { texts.now ≡ encode_utf8_all (range_with_len first count) }
     requires low { 0xE000 ≤ first }
@@ -59,7 +60,7 @@ fn text_in<'a>(texts: &'a str, first: u32, count: u32, c: char) -> Option<&'a st
     Some(&texts[at..at + 3])
 }
 
-/// The text of a letter in a form: of a character from U+FB50 to U+FBFF or from U+FE80 to U+FEFC.
+/// The fixed text of a character of `FORMS_A`, which has 176, or of `FORMS_B`, which has 125; None for any other.
 pub(crate) fn form_text<'a>(c: char) -> Option<&'a str>
     ensures { IfSome result (λ t. t.now ≡ encode_utf8 c) }
 {

@@ -1,4 +1,4 @@
-//! The glyphs of a unit.
+//! The glyphs of a unit by its face and level, and the blanks of a row.
 ghost use Rattle.std.specs.Prelude.{◌≡◌, ◌<◌, ◌++◌, ◌∷◌, [], All, IfOk, OnOk, length, map, replicate, slice_index_or, false, true};
 ghost use Rattle.std.specs.List.{range_with_len};
 ghost use Rattle.std.specs.Cow.{cow_str_bytes};
@@ -27,7 +27,7 @@ use std::borrow::CowStr;
 const LETTERS: &str =
     " !\"#$%&'()*+,-./0123456789:;<=>?@ABCDEFGHIJKLMNOPQRSTUVWXYZ[\\]^_`abcdefghijklmnopqrstuvwxyz{|}~";
 
-/// The text of one letter.
+/// The text of one character of `letters`, which are those from SPACE to TILDE.
 fn letter_of<'a>(letters: &'a str, byte: u8) -> &'a str
     requires letters { letters.now ≡ range_with_len 32 95 }
     requires byte { is_ascii_printable byte ≡ true }
@@ -58,7 +58,7 @@ fn push_letter<'a>(glyphs: &mut Vec<Drawn<'a>>, byte: u8, negative: bool) -> Res
     Ok(())
 }
 
-/// Appends blanks.
+/// Appends `count` blanks of one column.
 fn push_blanks<'a>(glyphs: &mut Vec<Drawn<'a>>, count: u16) -> Result<(), AllocError>
     ensures { OnOk result (map glyph_of glyphs.new.items ≡ map glyph_of glyphs.old.items ++ replicate count blank) }
 {
@@ -152,7 +152,7 @@ pub(crate) fn is_own(face: Face, n: u16) -> bool
     }
 }
 
-/// A text mirrored, or itself where its mirror image is not shown as itself in as many columns.
+/// A text mirrored, or itself where its mirror image is not shown as itself in `columns` columns, those of the text.
 fn mirrored_or_own<'a, D: BidiData>(
     alloc: Global,
     text: &'a str,
@@ -170,7 +170,8 @@ fn mirrored_or_own<'a, D: BidiData>(
     }
 }
 
-/// The text shown at a level: mirrored and then joined if the level is odd.
+/// The text shown at a level: mirrored and then joined if the level is odd. `at`: the text's place in its body; `columns`:
+/// those of its face, which what is shown takes too.
 fn shown_text<'a, D: BidiData>(
     alloc: Global,
     text: &'a str,
@@ -197,7 +198,7 @@ fn shown_text<'a, D: BidiData>(
     }
 }
 
-/// Appends the glyphs of a row's unit, by its number in the row and its place in the body.
+/// Appends the glyphs of unit `number` of a row, from 0, whose place in the body is `at`. `columns`: those of each unit.
 pub(crate) fn push_unit<'a, D: BidiData>(
     glyphs: &mut Vec<Drawn<'a>>,
     alloc: Global,

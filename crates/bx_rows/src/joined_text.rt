@@ -1,4 +1,4 @@
-//! Texts in the forms of their letters.
+//! Texts in the forms of their letters, so that letters at odd levels are shown joined.
 ghost use Rattle.std.specs.Prelude.{◌≡◌, ◌∷◌, ◌++◌, [], ℕ, IfOk, IsUtf8, List, MatchOption, None, OnOk, chars, drop, encode_utf8, false, length, map, slice_index_or, string_bytes, take};
 ghost use Rattle.std.specs.Prelude.{encode_utf8_all};
 ghost use Rattle.std.specs.Cow.{cow_str_bytes};
@@ -25,7 +25,7 @@ use std::alloc::{AllocError, Global};
 use std::borrow::CowStr;
 
 /// A text in the forms of its letters, if that is shown as itself in `columns` columns; else none. `shown`: the text mirrored,
-/// or itself.
+/// or itself; `at`: the text's place in its body.
 pub(crate) fn joined<D: BidiData>(
     alloc: Global,
     text: &str,
@@ -51,7 +51,8 @@ pub(crate) fn joined<D: BidiData>(
     Ok(Some(other))
 }
 
-/// Shows the glyph of a letter at an odd level in the letter's form, if that is shown as itself in one column.
+/// Shows the glyph of a letter at an odd level in the letter's form, if that is shown as itself in one column. `at`: the
+/// letter's place in its body.
 fn join_at<D: BidiData>(
     drawn: &mut Drawn<'_>,
     alloc: Global,

@@ -1,4 +1,4 @@
-//! A row laid out.
+//! A row laid out, from which its picture and its slots are read.
 ghost use Rattle.std.specs.Prelude.{◌≡◌, ◌≤◌, ◌<◌, All, length};
 ghost use Rattle.bx_cells.specs.Units.{StandsIn};
 ghost use Rattle.bx_rows.specs.Lines.{ShowsFace, levels_of, units_at};
@@ -9,13 +9,16 @@ use crate::lines::Lines;
 use bx_cells::Unit;
 use bx_ucd::BidiData;
 
-/// A row laid out in a lent body: its units, and the level of each by L1. Pictures and slots are read from it.
+/// A row laid out in a lent body: its units, and the level of each by L1.
 #[derive(Drop)]
 pub struct LaidRow<'a, 't, D: BidiData> {
+    /// The body with its row starts, levels and tables.
     pub lines: Lines<'a, 't, D>,
     /// The row's number in the body, from 0.
     pub number: usize,
+    /// The row's units in text order.
     pub units: Vec<Unit>,
+    /// The level of each of these units.
     pub levels: Vec<u8>,
     pub ghost within: { number < length lines.starts.now },
     pub ghost cut: { units.items ≡ units_at lines number },

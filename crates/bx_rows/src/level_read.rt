@@ -1,7 +1,8 @@
 //! The levels of a row's units, read character by character in text order.
 //!
 //! By L1 a whitespace or isolate character gets the paragraph level if only such characters follow it, up to a segment
-//! separator or the row's end. So units whose first kept character is one wait until a later character decides.
+//! separator or the row's end. So units whose first kept character is one wait until a later character decides. `found` has
+//! the levels of the units that are read; `waiting` is the index in it of the first unit that waits, its length if none does.
 ghost use Rattle.std.specs.Prelude.{◌≡◌, ◌≤◌, ◌<◌, ◌++◌, ◌∷◌, [], Bool, IfOk, List, None, chars, drop, get_or, length, map, ℕ};
 ghost use Rattle.std.specs.List.{zip};
 ghost use Rattle.bx_rows.specs.RowLevels.{is_segment_separator, is_trailing};
@@ -101,14 +102,14 @@ fn read_more<D: BidiData>(
     read_class(found, waiting, tables.class(c), paragraph)
 }
 
-/// A character and its level, if X9 keeps it.
+/// A character, and its level; None if X9 removes it.
 #[derive(Clone, Copy)]
 struct LeveledChar {
     c: char,
     level: Option<u8>,
 }
 
-/// Reads a character of a unit. `is_known`: the unit's level is found already.
+/// Reads a character of a unit. `is_known`: the unit's level is found already. Returns the new index of the first waiting unit.
 #[inline(always)]
 fn read_char<D: BidiData>(
     found: &mut Vec<u8>,
@@ -142,7 +143,8 @@ fn level_before(found: &[u8], paragraph: u8) -> u8
     found[found.len() - 1]
 }
 
-/// Appends a unit without a kept character. It waits if the unit before it does.
+/// Appends a unit without a kept character. It waits if the unit before it does. Returns the new index of the first waiting
+/// unit.
 #[inline(never)]
 #[tactic(auto, using(crate::proofs::LevelSteps::before_waits, crate::proofs::LevelSteps::before_settled))]
 fn push_before(found: &mut Vec<u8>, waiting: usize, paragraph: u8) -> Result<usize, AllocError>
@@ -160,7 +162,7 @@ fn push_before(found: &mut Vec<u8>, waiting: usize, paragraph: u8) -> Result<usi
     Ok(found.len())
 }
 
-/// The first level and the levels after it; no level if the list is empty.
+/// The first character's level, None if X9 removes it or the list is empty, and the levels after it.
 #[inline(always)]
 pub(crate) fn first_level(levels: &[Level]) -> (Option<u8>, &[Level])
     ensures first { result.0 ≡ get_or levels.now 0 None }
@@ -172,7 +174,8 @@ pub(crate) fn first_level(levels: &[Level]) -> (Option<u8>, &[Level])
     (levels[0].get(), &levels[1..])
 }
 
-/// Reads a unit. Returns the new index of the first waiting unit, and the levels after the unit's characters.
+/// Reads a unit. `levels`: those of its characters and of the characters after it. Returns the new index of the first waiting
+/// unit, and the levels after the unit's characters.
 #[inline(always)]
 pub(crate) fn read_unit<'a, D: BidiData>(
     found: &mut Vec<u8>,

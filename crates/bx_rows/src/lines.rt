@@ -1,4 +1,4 @@
-//! A body's rows, read by their numbers.
+//! A body's rows, read by their numbers: units, levels and pictures of a row are calls of `Lines`.
 ghost use Rattle.std.specs.Prelude.{◌≡◌, ◌<◌, ⊤, IsUtf8, chars, length, slice_index_or};
 ghost use Rattle.bx_resolve.specs.Levels.{levels_under, paragraph_level_under};
 ghost use Rattle.bx_rows.specs.declared.start_search.RowStart.{RowStart};
@@ -12,14 +12,18 @@ use bx_terms::Base;
 use bx_ucd::BidiData;
 use std::alloc::AllocError;
 
-/// A paragraph's body with its row starts in a window of `w` columns, its levels under a base direction, and the tables
-/// that both are computed from. It borrows them, so making one for a single row costs nothing.
+/// A paragraph's body with its rows and levels, lent, so that making one for a single row costs nothing.
 pub struct Lines<'a, 't, D: BidiData> {
     pub body: &'a str,
+    /// The start of each row in a window of `w` columns.
     pub starts: &'a [RowStart],
+    /// The paragraph level and the levels of the characters, before L1.
     pub levels: &'a Levels,
+    /// The tables that rows and levels are computed from.
     pub tables: &'t D,
+    /// The base direction that the levels are resolved under.
     pub base: Base,
+    /// The window's columns.
     pub w: u16,
     pub ghost utf8: { IsUtf8 body.now } by { Prim.hlevel props },
     pub ghost rows: { starts.now ≡ row_starts (D.data tables.now) w body.now },
@@ -48,7 +52,7 @@ impl<'a, 't, D: BidiData> Lines<'a, 't, D> {
         self.starts[number]
     }
 
-    /// The place of a row's start.
+    /// The place of a row's start in the body, whose characters' levels go with it.
     pub(crate) fn place(&self, start: RowStart) -> TextAt<'a, 'a>
         ensures offset { result.offset ≡ start.offset }
         ensures number { result.number ≡ start.chars }

@@ -19,7 +19,7 @@ use bx_ucd::BidiData;
 use std::alloc::{AllocError, Global};
 use std::borrow::CowStr;
 
-/// The character of a text of exactly one.
+/// The character of a text of exactly one; None for any other text.
 #[inline(always)]
 fn single_char(text: &str) -> Option<char>
     ensures { IfSome result (λ c. chars text.now ≡ c ∷ []) }
@@ -65,7 +65,7 @@ fn mirror_image<D: BidiData>(alloc: Global, text: &str, tables: &D) -> Result<St
     Ok(other)
 }
 
-/// The fixed text of a character from SPACE to TILDE, or of an Arabic letter in a form.
+/// The fixed text of a character from SPACE to TILDE, or of an Arabic letter in a form (`form_text`); None for any other.
 fn text_of<'a>(c: char) -> Option<&'a str>
     ensures { IfSome result (λ t. t.now ≡ encode_utf8 c) }
 {
@@ -75,7 +75,7 @@ fn text_of<'a>(c: char) -> Option<&'a str>
     Some(letter(c as u8))
 }
 
-/// The fixed text of such a character that is shown as itself in one column.
+/// The text of `text_of`, if the character is shown as itself in one column of a window of `w` columns.
 pub(crate) fn fixed_text<'a, D: BidiData>(c: char, tables: &D, w: u16) -> Option<&'a str>
     ensures bytes { IfSome result (λ t. t.now ≡ encode_utf8 c) }
     ensures face { IfSome result (λ t. face (D.data tables.now) w t.now ≡ Own 1) }
@@ -86,7 +86,7 @@ pub(crate) fn fixed_text<'a, D: BidiData>(c: char, tables: &D, w: u16) -> Option
     text_of(c)
 }
 
-/// The mirror of a text of one character, if it has a fixed text, so that nothing is allocated.
+/// The mirror image of a text of one character, if that has a fixed text, so that nothing is allocated.
 fn fixed_mirror<'a, D: BidiData>(text: &str, tables: &D, w: u16) -> Option<&'a str>
     ensures { IfSome result (λ t. t.now ≡ mirror_image_within (D.data tables.now) w 1 text.now) }
 {
@@ -138,8 +138,8 @@ fn mirror_text<D: BidiData>(
     Ok(())
 }
 
-/// Mirrors an odd-level glyph; returns whether it may join. The slow path is out of line, since a function's locals cost on
-/// each call.
+/// Mirrors a glyph at an odd level, and returns whether it may join; leaves one at an even level. The slow path is out of line,
+/// since a function's locals cost on each call.
 #[inline(always)]
 fn mirror_at<D: BidiData>(
     drawn: &mut Drawn<'_>,

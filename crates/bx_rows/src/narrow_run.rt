@@ -1,4 +1,4 @@
-//! Runs of units of one column each.
+//! Runs of units of one column each, which wrapping adds to a row at once.
 ghost use Rattle.std.specs.Prelude.{◌≡◌, ◌≤◌, ◌<◌, ◌+◌, None, Some, cond, ℕ};
 ghost use Rattle.std.specs.Str.{IsCharBoundary};
 ghost use Rattle.bx_rows.specs.NarrowRuns.{IsNarrowRun, IsRunIn, grown};
@@ -10,17 +10,20 @@ use bx_cells::simple::{Simple, common_kind, simple_kind};
 use bx_terms::first_char;
 use bx_ucd::BidiData;
 
-/// A run of units of one column each: the offset after it, its unit count, the count up to its last break, and the offset
-/// after that break, or the run's start if there is none.
+/// A run of units of one column each.
 #[derive(Clone, Copy)]
 pub(crate) struct NarrowRun {
+    /// The offset after the run.
     pub(crate) stop: usize,
+    /// The number of all its units (in a `Scan`: of those after the last break).
     pub(crate) count: u16,
+    /// The number of its units up to its last break, the unit after which a row may end included; 0 if there is none.
     pub(crate) last: u16,
+    /// The offset after that break, or the run's start if there is none.
     pub(crate) next: usize,
 }
 
-/// Whether a row may end after a cluster of simple characters.
+/// Whether a row may end after a cluster of simple characters, of which `first` is the first; `is_marked`: it has others.
 #[inline(always)]
 pub(crate) fn is_blank_cluster<D: BidiData>(first: char, is_marked: bool, tables: &D) -> bool
     ensures { result ≡ is_one_blank (D.data tables.now) (cond is_marked None (Some first)) }
@@ -31,7 +34,7 @@ pub(crate) fn is_blank_cluster<D: BidiData>(first: char, is_marked: bool, tables
     is_blank(tables.class(first))
 }
 
-/// A run with one more unit.
+/// A run with one more unit, which ends at `stop`; `is_break`: a row may end after it.
 #[inline(always)]
 fn grown(run: NarrowRun, stop: usize, is_break: bool) -> NarrowRun
     requires { run.count < 65535 }
@@ -76,6 +79,7 @@ pub(crate) fn narrow_run<D: BidiData>(body: &str, at: usize, most: u16, tables: 
     if columns != 1 {
         return run;
     }
+    // The unit that begins here joins the run once the next one begins: `is_break` changes if a mark follows.
     let mut is_break = is_blank(tables.class(c));
     let mut rest = behind;
     'chars: while let Some((c, behind)) = first_char(rest) {

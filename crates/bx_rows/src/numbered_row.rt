@@ -1,4 +1,4 @@
-//! The levels and the picture of one row.
+//! The levels and the picture of one row, by its number in the body.
 ghost use Rattle.std.specs.Prelude.{◌≡◌, ◌<◌, All, IfOk, length, map, sum_by, true};
 ghost use Rattle.std.specs.Cow.{cow_str_bytes};
 ghost use Rattle.bx_terms.specs.Glyphs.{is_one_glyph, run_width};
@@ -16,7 +16,7 @@ use bx_ucd::BidiData;
 use std::alloc::Global;
 
 impl<'a, 't, D: BidiData> Lines<'a, 't, D> {
-    /// The levels of the units of row `number`, from 0, by L1.
+    /// The levels of the units of row `number`, from 0, by L1. `units`: the row's, as `units` returns them.
     #[tactic(auto, using(crate::proofs::Resets::one_each))]
     pub fn levels(
         &self,

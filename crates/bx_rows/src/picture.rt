@@ -1,4 +1,4 @@
-//! The picture of a row laid out.
+//! The picture of a row laid out: the way of any row that `plain_picture` does not serve.
 ghost use Rattle.std.specs.Prelude.{◌≡◌, ◌≤◌, ◌<◌, ◌++◌, [], All, IfOk, OnOk, length, map, flat_map, slice_index_or, sum_by, true};
 ghost use Rattle.std.specs.Cow.{cow_str_bytes};
 ghost use Rattle.bx_terms.specs.Glyphs.{is_one_glyph, run_width};
@@ -34,7 +34,7 @@ pub fn unit_columns(alloc: Global, units: &[Unit], w: u16) -> Result<(Vec<u16>, 
     Ok((columns, c))
 }
 
-/// Appends the glyphs of a row's units, each with its columns, in a given order.
+/// Appends the glyphs of a row's units in the given order of their numbers. `columns`: those of each unit, in text order.
 fn push_units<'a, D: BidiData>(
     glyphs: &mut Vec<Drawn<'a>>,
     alloc: Global,
@@ -50,6 +50,7 @@ fn push_units<'a, D: BidiData>(
 {
     let units = row.units.as_slice();
     let first = row.lines.start(row.number);
+    // The place of each unit is counted from that of the unit before it in this order, which is mostly its neighbour.
     let mut near = row.lines.place(first);
     for number in order {
         near = moved(near, units[*number].start);

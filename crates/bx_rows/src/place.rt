@@ -1,11 +1,11 @@
-//! Places of a body.
+//! Places of a body with the number of characters before each, counted from a place nearby.
 ghost use Rattle.std.specs.Prelude.{◌≡◌, chars, length, take};
 ghost use Rattle.std.specs.Str.{IsCharBoundary};
 
 use crate::unit_levels::char_count;
 use bx_joining::{LeveledBody, TextAt};
 
-/// The number of characters before an offset of a text, counted from a place before or after it.
+/// The number of characters before `offset` in a text, counted from the offset `near`, which has `number` characters before it.
 fn number_at(text: &str, near: usize, number: usize, offset: usize) -> usize
     requires near { IsCharBoundary text.now near }
     requires number { number ≡ length (chars (take near text.now)) }
@@ -18,7 +18,7 @@ fn number_at(text: &str, near: usize, number: usize, offset: usize) -> usize
     number - char_count(&text[offset..near])
 }
 
-/// The place at another offset of a body. Only the text between both places is read.
+/// The place at another offset of the body of `near`. Only the text between both places is read.
 pub(crate) fn moved<'t, 'e>(near: TextAt<'t, 'e>, offset: usize) -> TextAt<'t, 'e>
     requires from { IsCharBoundary near.body.text.now near.offset }
     requires number { near.number ≡ length (chars (take near.offset near.body.text.now)) }

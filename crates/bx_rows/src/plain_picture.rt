@@ -1,4 +1,4 @@
-//! The picture of a row in which each unit is one character of one column.
+//! The picture of a plain row, in which each unit is one character of one column: the fast way of most rows.
 ghost use Rattle.std.specs.Prelude.{◌≡◌, ◌≤◌, ◌<◌, ◌-◌, ◌++◌, All, IfOk, IfSome, List, OnOk, ℕ, drop, encode_utf8_all, length, map, slice_index_or, sum_by, true};
 ghost use Rattle.std.specs.Cow.{cow_str_bytes};
 ghost use Rattle.bx_terms.specs.Glyphs.{is_one_glyph, run_width};

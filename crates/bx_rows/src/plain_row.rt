@@ -1,4 +1,5 @@
-//! The units and levels of a plain row, in which each unit is one character of one column, read in one pass.
+//! The units and levels of a plain row, in which each unit is one character of one column, read in one pass. `found` and
+//! `waiting` are as in `level_read.rt`.
 ghost use Rattle.std.specs.Prelude.{◌≡◌, ◌≤◌, ◌<◌, ◌++◌, ◌∷◌, [], IfOk, IfSome, List, MatchOption, encode_utf8, length, take, true, false};
 ghost use Rattle.std.specs.Str.{IsCharBoundary};
 ghost use Rattle.bx_cells.specs.declared.unit.Face.TheVariants.{Own};
@@ -24,7 +25,8 @@ use bx_ucd::{BidiData, Class};
 use std::alloc::{AllocError, Global};
 use std::borrow::CowStr;
 
-/// The number of units to allocate room for at first.
+/// The number of units to allocate room for at first: most rows have fewer. The last row's `count` is the body's length, which
+/// may be far more than its units.
 const FIRST_ROOM: usize = 256;
 
 /// Whether a character of a kind is a unit of one column with its own text, provided that a unit begins after it.
@@ -40,7 +42,7 @@ fn is_single<D: BidiData>(c: char, kind: Simple, tables: &D, w: u16) -> bool
     is_own(simple_face(c, columns, false, tables, w), 1)
 }
 
-/// Whether a common character is such a unit; false for all others.
+/// Whether a common character is a unit of one column with its own text, like `is_single`; false for all others.
 #[inline(always)]
 pub(crate) fn is_plain<D: BidiData>(c: char, tables: &D, w: u16) -> bool
     ensures begin { result ≡ true → begins c ≡ true }
@@ -49,7 +51,7 @@ pub(crate) fn is_plain<D: BidiData>(c: char, tables: &D, w: u16) -> bool
     is_single(c, common_kind(c), tables, w)
 }
 
-/// Whether a simple character is such a unit; false for all others.
+/// Whether a simple character is a unit of one column with its own text, like `is_single`; false for all others.
 pub(crate) fn is_narrow<D: BidiData>(c: char, tables: &D, w: u16) -> bool
     ensures begin { result ≡ true → begins c ≡ true }
     ensures face { result ≡ true → simple_face (D.data tables.now) w c false ≡ Own 1 }
@@ -57,7 +59,7 @@ pub(crate) fn is_narrow<D: BidiData>(c: char, tables: &D, w: u16) -> bool
     is_single(c, simple_kind(c), tables, w)
 }
 
-/// The class of a plain character; none for any other.
+/// The class of a character that `is_plain` takes; none for any other.
 #[inline(always)]
 fn plain_class<D: BidiData>(c: char, tables: &D, w: u16) -> Option<Class>
     ensures begin { IfSome result (λ k. begins c ≡ true) }

@@ -1,4 +1,4 @@
-//! The units of one row, read from its start.
+//! The units of one row, read from its start, with no other row read.
 ghost use Rattle.std.specs.Prelude.{◌≡◌, ◌≤◌, ◌<◌, All, IfOk, IfSome, length, slice_get};
 ghost use Rattle.bx_cells.specs.Units.{StandsIn};
 ghost use Rattle.bx_rows.specs.Lines.{ShowsFace, units_at};
@@ -19,7 +19,7 @@ pub(crate) fn start_of(starts: &[RowStart], number: usize) -> Option<RowStart>
     starts.get(number).copied()
 }
 
-/// An upper bound of a row's unit count.
+/// An upper bound of the unit count of the row from `start` to `next`, which is None for the last row.
 pub(crate) fn most_units(start: RowStart, next: Option<RowStart>, body: &str, w: u16) -> usize
     requires { IfSome next (λ n. start.units ≤ n.units) }
     ensures { result ≡ most_units w body.now start next }

@@ -1,4 +1,4 @@
-//! The current row of a scan over units.
+//! The current row of a scan over a body's units, which finds the row starts.
 ghost use Rattle.std.specs.Prelude.{◌≡◌, ◌≤◌, ◌<◌, ◌&&◌, ◌+◌, IfOk, List, chars, length, nat_le, nat_lt, false, take, true};
 ghost use Rattle.std.specs.Str.{IsCharBoundary};
 ghost use Rattle.bx_rows.specs.declared.start_search.RowStart.{RowStart};
@@ -13,24 +13,32 @@ use crate::wrapping::columns_at;
 use bx_cells::Face;
 use std::alloc::AllocError;
 
-/// The parts of a unit that wrapping needs: its offsets, a face of its width, and whether a row may end after it.
+/// The parts of a unit that wrapping needs.
 #[derive(Clone, Copy)]
 pub(crate) struct Extent {
+    /// The offset of the unit, in bytes of the body.
     pub(crate) start: usize,
+    /// The offset after it.
     pub(crate) stop: usize,
+    /// A face of as many columns as the unit's, at any column.
     pub(crate) face: Face,
+    /// Whether a row may end after the unit.
     pub(crate) is_break: bool,
 }
 
-/// The current row: its start, the offset after its last break, its columns, its unit counts up to that break and after
-/// it, and the columns of the units after it in a row of their own.
+/// The current row: the units read since its start. A break follows each unit after which a row may end.
 #[derive(Clone, Copy)]
 pub(crate) struct Scan {
     pub(crate) start: RowStart,
+    /// The offset after the last break, or the row's start if it has none.
     pub(crate) next: usize,
+    /// The columns of all units of the row.
     pub(crate) columns: u16,
+    /// The number of units up to the last break; 0 if there is none.
     pub(crate) last: usize,
+    /// The number of units after the last break (in a `NarrowRun`: of all its units).
     pub(crate) count: usize,
+    /// The columns that the units after the last break would have in a row of their own.
     pub(crate) since: u16,
 }
 
@@ -57,7 +65,8 @@ fn fits(columns: u16, face: Face, w: u16) -> bool
     columns < w && columns_at(w, columns, face) <= w - columns
 }
 
-/// The start of the next row.
+/// The start of a row at `offset` with `units` units of the body before it. Its characters are counted from `before`, an
+/// earlier start.
 fn start_behind(body: &str, before: RowStart, offset: usize, units: usize) -> RowStart
     requires from { IsCharBoundary body.now before.offset }
     requires to { IsCharBoundary body.now offset }
@@ -103,7 +112,7 @@ fn advance(scan: Scan, unit: Extent, body: &str, w: u16) -> Scan
     }
 }
 
-/// Adds a run of units, which fit.
+/// Adds a run of units at the offset `at`, which all fit.
 #[inline(always)]
 pub(crate) fn take_run(scan: Scan, run: NarrowRun, body: &str, at: usize, w: u16) -> Scan
     requires in_turn { IsInOrder w body.now scan at }
@@ -156,7 +165,7 @@ fn pass(
     Ok(new_scan(start))
 }
 
-/// Adds a unit to a row without a break. A unit that does not fit begins the next row.
+/// Adds a unit to a row without a break. A unit that does not fit begins the next row; the start of the row before is pushed.
 fn take_unbroken(
     starts: &mut Vec<RowStart>,
     scan: Scan,

@@ -18,12 +18,14 @@ use bx_terms::{OutOfMemory, first_char};
 use bx_ucd::BidiData;
 use std::alloc::{AllocError, Global};
 
-/// The start of a row: the offset in bytes of its first unit in the body, and the numbers of units and characters of the
-/// body before it.
+/// The start of a row.
 #[derive(Clone, Copy, PartialEq, Eq, Debug)]
 pub struct RowStart {
+    /// The offset in the body, in bytes, of the row's first unit.
     pub offset: usize,
+    /// The number of units of the body before it.
     pub units: usize,
+    /// The number of characters of the body before it.
     pub chars: usize,
 }
 
@@ -39,7 +41,7 @@ fn sized_as<D: BidiData>(cluster: SimpleCluster, tables: &D, w: u16) -> Face
     simple_face(cluster.first, cluster.columns, cluster.is_marked, tables, w)
 }
 
-/// The extent of the unit at an offset.
+/// The extent of the unit at an offset. A simple cluster needs no rules on breaks.
 #[inline(always)]
 fn extent<D: BidiData>(body: &str, at: usize, tables: &D, w: u16) -> Extent
     requires start { IsCharBoundary body.now at }
@@ -148,6 +150,7 @@ pub fn row_starts<D: BidiData>(
         scan = next;
         at = stop;
     }
+    // The last unit was wider than the window, and its empty row is among the starts: no row begins after it.
     if scan.last + scan.count == 0 {
         return Ok(starts);
     }

@@ -20,7 +20,7 @@ fn highest(levels: &[u8]) -> u8
     top
 }
 
-/// The level if it is odd, else 255.
+/// The level if it is odd, else 255, which stands for none.
 #[inline(always)]
 fn odd_or_last(level: u8) -> u8
     ensures { result ≡ unwrap_or (lower_odd level None) 255 }
@@ -31,7 +31,7 @@ fn odd_or_last(level: u8) -> u8
     level
 }
 
-/// The lowest odd level, the last at which runs are reversed; if there is none, 255, which is above all levels then.
+/// The lowest odd level, the last at which runs are reversed; 255 if there is none, since all levels are even and lower then.
 fn lowest_odd(levels: &[u8]) -> u8
     ensures { result ≡ unwrap_or (lowest_odd levels.now) 255 }
 {
@@ -87,7 +87,8 @@ fn reverse_runs<T>(items: &mut [T], levels: &[u8], level: u8)
     turn_run(items, start, levels.len());
 }
 
-/// Moves the items of a row's units from text order into visual order, by the units' levels.
+/// Moves the items of a row's units from text order into visual order, by the units' levels. The lowest odd level is at least
+/// 1, so `level` does not pass 0.
 pub(crate) fn reorder<T>(items: &mut [T], levels: &[u8])
     requires { length items.old ≡ length levels.now }
     ensures count { length items.new ≡ length items.old }

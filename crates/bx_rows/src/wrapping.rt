@@ -1,4 +1,4 @@
-//! The columns of a face in its row, and where a row may end.
+//! The columns of a face in its row, and where a row may end: the two questions of wrapping.
 ghost use Rattle.std.specs.Prelude.{◌≡◌, ◌≤◌};
 ghost use Rattle.bx_cells.specs.Units.{StandsIn};
 ghost use Rattle.bx_rows.specs.Wrapping.{columns_at, is_blank, is_break};
@@ -6,7 +6,8 @@ ghost use Rattle.bx_rows.specs.Wrapping.{columns_at, is_blank, is_break};
 use bx_cells::{Face, Unit, only_char};
 use bx_ucd::{BidiData, Class};
 
-/// The columns of a face that begins at column `c`, counted from 0.
+/// The columns of a face that begins at column `c`, counted from 0, in a window of `w` columns. A tab goes on to the next
+/// multiple of 8, the usual tab stops of terminals, or to the edge.
 #[inline]
 pub fn columns_at(w: u16, c: u16, face: Face) -> u16
     requires { c ≤ w }

@@ -1,4 +1,5 @@
--- Laws of pictures with joined letters.
+-- Laws of pictures with joined letters: beside the picture without them, and by what each letter joins. `each` has the level of
+-- each of the body's characters, None for one that X9 removes; `w` is the window's columns.
 use Rattle.std.specs.Prelude.{◌≡◌, ◌⊎◌, ◌+◌, ◌%◌, ◌<◌, ℕ, Bool, false, true, All, HoldsAt, List, [], ◌∷◌, ◌++◌, Option, None, Some, chars, encode_utf8_all, flat_map}
 use Rattle.std.specs.Prelude.{length, map, replicate, reverse, slice_index_or, take, unwrap_or}
 use Rattle.std.specs.Str.{IsUtf8}
@@ -17,11 +18,11 @@ use Rattle.bx_rows.specs.RowPicture.{Glyph, draw, is_own, mirrored_chars, unit_c
 abbrev pub unjoined : Data → Data
 unjoined says = record says { joining = λ _. U; form = λ _ _. None }
 
--- the columns of glyphs from left to right, each in negative image or not
+-- for each column of glyphs, from left to right, whether it is in negative image
 abbrev pub columns_shown : List Glyph → List Bool
 columns_shown glyphs = flat_map (λ g. replicate g.columns g.negative) glyphs
 
--- joined letters change the texts of a picture's glyphs alone: each column is taken by the same kind of glyph
+-- joined letters change the texts of a picture's glyphs alone: each column is in negative image or not as without them
 abbrev pub FormsChangeTextsAlone : Type 0
 FormsChangeTextsAlone = (says : Data) (w : ℕ) (body : List ℕ) (paragraph : ℕ) (each : List (Option ℕ)) (us : List Unit) (levels : List ℕ)
     → All (HasFace says w body) us
@@ -41,7 +42,7 @@ plain says = record says { mirror = λ _. None; joining = λ _. U; form = λ _ _
 abbrev pub text_shown : List Glyph → List ℕ
 text_shown glyphs = flat_map (λ g. g.text) glyphs
 
--- one place of a row: the letter of the body, the character shown without joined letters, and the character shown with them
+-- a letter of a row: as it is in the body, the character shown without joined letters, and the character shown with them
 pub record ShownLetter : Type 0 where
   pub letter : ℕ
   pub unjoined : ℕ
@@ -51,7 +52,7 @@ pub record ShownLetter : Type 0 where
 abbrev pub IsSameOrForm : Data → ShownLetter → Type 0
 IsSameOrForm says p = (p.shown ≡ p.unjoined) ⊎ ((f : Form) × (says.form p.letter f ≡ Some p.shown))
 
--- three texts of the same places: the letters, the characters without joined letters, and the characters shown
+-- three texts of the same letters (`places`): the letters, the characters without joined letters, and the characters shown
 pub record ShowsForms (says : Data) (letters unjoined shown : List ℕ) : Type 0 where
   pub places : List ShownLetter
   pub letters_are : letters ≡ encode_utf8_all (map (λ p. p.letter) places)
@@ -59,7 +60,7 @@ pub record ShowsForms (says : Data) (letters unjoined shown : List ℕ) : Type 0
   pub shown_are : shown ≡ encode_utf8_all (map (λ p. p.shown) places)
   pub each : All (IsSameOrForm says) places
 
--- in each place a row shows the character shown there without joined letters, or a form of the letter shown there with neither
+-- character by character a row shows what it shows without joined letters, or a form of the letter that it shows with neither
 -- mirrors nor joined letters
 abbrev pub LettersShowTheirForms : Type 0
 LettersShowTheirForms = (says : Data) (w : ℕ) (body : List ℕ) (paragraph : ℕ) (each : List (Option ℕ)) (us : List Unit) (levels : List ℕ)
@@ -67,8 +68,8 @@ LettersShowTheirForms = (says : Data) (w : ℕ) (body : List ℕ) (paragraph : �
     → ShowsForms says (text_shown (draw (plain says) w body paragraph each us levels))
     (text_shown (draw (unjoined says) w body paragraph each us levels)) (text_shown (draw says w body paragraph each us levels))
 
--- after `number` characters of the body a letter is shown in the form that goes by what it joins; a letter without that form is
--- shown as without joined letters
+-- the letter after `number` characters of the body is shown in the form that goes by what it joins; if it has no such form, as
+-- without joined letters
 pub record GoesByJoining (says : Data) (body : List ℕ) (each : List (Option ℕ)) (number : ℕ) (p : ShownLetter) : Type 0 where
   pub before : List Joiner
   pub own : Joiner
@@ -77,18 +78,18 @@ pub record GoesByJoining (says : Data) (body : List ℕ) (each : List (Option �
   pub number_is : length before ≡ number
   pub shown_is : p.shown ≡ unwrap_or (says.form p.letter (form_if (joins_before (reverse before) own) (joins_after own after))) p.unjoined
 
--- the places of a unit of `n` columns, each shown so
+-- the letters of a unit of `n` columns, each shown by what it joins
 pub record AreByJoining (says : Data) (w n : ℕ) (body : List ℕ) (each : List (Option ℕ)) (u : Unit) (places : List ShownLetter) : Type 0 where
   pub letters_are : unit_chars body u ≡ map (λ p. p.letter) places
   pub unjoined_are : mirrored_chars says w n (unit_chars body u) ≡ map (λ p. p.unjoined) places
   pub each_is : (k : ℕ) → k < length places → HoldsAt (GoesByJoining says body each (length (chars (take u.start body)) + k)) places k
 
--- the text of the joined letters is shown if it shows itself in `n` columns, else the one without joined letters
+-- the text of the joined letters is shown if it is shown as itself in `n` columns, else the text without joined letters
 pub record ShowsIfOwn (says : Data) (w n : ℕ) (joined unjoined shown : List ℕ) : Type 0 where
   pub fits : is_own n (face says w joined) ≡ true → shown ≡ joined
   pub differs : is_own n (face says w joined) ≡ false → shown ≡ unjoined
 
--- the unit `i` of a row, which shows its own text in `n` columns, at an odd level
+-- `u` is the unit `i` of a row, from 0, shows its own text in `n` columns, and is at an odd level
 pub record IsOwnAtOdd (us : List Unit) (levels : List ℕ) (i n : ℕ) (u : Unit) : Type 0 where
   pub count : length levels ≡ length us
   pub within : i < length us

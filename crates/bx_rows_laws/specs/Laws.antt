@@ -1,4 +1,4 @@
--- Laws of units and rows of every body.
+-- Laws of units and rows of every body. `says` is what any tables say, `w` the window's columns, `us` are units.
 use Rattle.std.specs.Prelude.{◌≡◌, ◌⊎◌, ◌+◌, ◌-◌, ◌<◌, ◌≤◌, ℕ, true, All, HoldsAt, IsUtf8, List, [], ◌∷◌, Some, drop, flat_map, length, map, slice_get}
 use Rattle.bx_ucd.specs.Data.{Data}
 use Rattle.bx_cells.specs.declared.unit.Unit.{Unit}
@@ -15,7 +15,7 @@ use Rattle.bx_rows.specs.LaterRows.{behind, moved}
 abbrev pub UnitsMakeBody : Type 0
 UnitsMakeBody = (says : Data) (w : ℕ) (body : List ℕ) → IsUtf8 body → flat_map (unit_text body) (units says w body) ≡ body
 
--- spans are adjacent from `start` to `stop`, and none is empty
+-- spans, each a start and a stop, are adjacent from `start` to `stop`, and none is empty
 abbrev pub StandInTurn : ℕ → List (ℕ × ℕ) → ℕ → Type 0
 StandInTurn start [] stop = start ≡ stop
 StandInTurn start (s ∷ ss) stop = (s.0 ≡ start) × (start < s.1) × StandInTurn s.1 ss stop
@@ -53,7 +53,7 @@ pub record EndsWell (says : Data) (w : ℕ) (body : List ℕ) (us : List Unit) (
   pub longest : (last : ℕ) → r.stop ≤ last → last < length us
       → (last + 1 ≡ length us) ⊎ HoldsAt (λ u. is_break says body u ≡ true) us last → IsFull w us (record { start = r.start; stop = last })
 
--- each row of units that each fit in the window ends so
+-- each row of units that each fit in the window ends well
 abbrev pub RowsEndWell : Type 0
 RowsEndWell = (says : Data) (w : ℕ) (body : List ℕ) (us : List Unit) → 1 ≤ w → All (λ u. FitsWindow w u.face) us
     → All (EndsWell says w body us) (wrap says w body us)

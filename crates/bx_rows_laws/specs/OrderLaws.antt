@@ -1,4 +1,4 @@
--- Laws of the visual order and the picture of every row.
+-- Laws of the visual order and the picture of every row. An order lists the numbers of a row's units, from 0, from left to right.
 use Rattle.std.specs.Prelude.{◌≡◌, ◌⊎◌, ◌+◌, ◌-◌, ◌%◌, ◌<◌, ◌≤◌, ℕ, All, Contains, HoldsAt, IsPermutation, List, ◌∷◌, ◌++◌, [], Option, flat_map, length, replicate, slice_index_or}
 use Rattle.std.specs.List.{between, range_with_len}
 use Rattle.bx_ucd.specs.Data.{Data}
@@ -10,7 +10,7 @@ use Rattle.bx_rows.specs.VisualOrder.{visual}
 abbrev pub OrdersArePermutations : Type 0
 OrdersArePermutations = (levels : List ℕ) → IsPermutation (range_with_len 0 (length levels)) (visual levels)
 
--- `a` is left of `b`
+-- in an order, `a` is left of `b`
 pub record StandsLeft (order : List ℕ) (a b : ℕ) : Type 0 where
   pub front : List ℕ
   pub middle : List ℕ
@@ -42,11 +42,11 @@ pub record AreAtLevel (n : ℕ) (levels : List ℕ) (i j : ℕ) : Type 0 where
 abbrev pub EqualLevelsOrder : Type 0
 EqualLevelsOrder = (levels : List ℕ) (i j n : ℕ) → i < j → j < length levels → AreAtLevel n levels i j → IsOrderAt n (visual levels) i j
 
--- `k` is between `a` and `b`
+-- in an order, `k` is between `a` and `b`
 abbrev pub StandsBetween : List ℕ → ℕ → ℕ → ℕ → Type 0
 StandsBetween order a k b = (StandsLeft order a k × StandsLeft order k b) ⊎ (StandsLeft order b k × StandsLeft order k a)
 
--- units between such units in the text are between them in the row
+-- units between two units of one level in the text, with no lower level between these, are between them in the row
 abbrev pub StaysBetween : Type 0
 StaysBetween = (levels : List ℕ) (i k j n : ℕ) → i < k → k < j → j < length levels → AreAtLevel n levels i j → StandsBetween (visual levels) i k j
 
@@ -55,7 +55,7 @@ abbrev pub LowestStaysBetween : Type 0
 LowestStaysBetween = (levels : List ℕ) (i k j n : ℕ) → i < k → k < j → j < length levels → HoldsAt (λ l. l ≡ n) levels k
     → All (λ l. n ≤ l) (between i (j + 1) levels) → StandsBetween (visual levels) i k j
 
--- the glyphs `a` are together, left of the glyphs `b`
+-- in a row of glyphs, the glyphs `a` are together, and left of the glyphs `b`, which are together too
 pub record ShowsLeft (row a b : List Glyph) : Type 0 where
   pub front : List Glyph
   pub middle : List Glyph

@@ -11,7 +11,7 @@ use Rattle.bx_rows.specs.RowLevels.{is_segment_separator, is_trailing, row_level
 use Rattle.bx_rows.specs.RowPicture.{Glyph, draw, unit_columns, unit_glyphs}
 use Rattle.bx_rows.specs.VisualOrder.{visual}
 
--- the unit `j` is left of `i`, and only units between them in the text are between them
+-- in an order of units from left to right, unit `j` is left of `i`, and only units between them in the text are between them
 pub record Touch (order : List ℕ) (i j : ℕ) : Type 0 where
   pub front : List ℕ
   pub middle : List ℕ
@@ -70,13 +70,14 @@ pub record BeginsWithLetter (says : Data) (body : List ℕ) (each : List (Option
   pub no_separator : is_segment_separator (says.class letter) ≡ false
   pub no_blank : is_trailing (says.class letter) ≡ false
 
--- a row has such a unit at the letter's level
+-- a row has a unit that begins with such a letter at the letter's level
 abbrev pub LettersKeepLevels : Type 0
 LettersKeepLevels = (says : Data) (body : List ℕ) (paragraph : ℕ) (each : List (Option ℕ)) (us : List Unit) (start stop i n : ℕ)
     → IsUtf8 body → All (StandsIn body) us → StandInTurn start (map (λ u. (u.start, u.stop)) us) stop → i < length us
     → BeginsWithLetter says body each us i n → HoldsAt (λ l. l ≡ n) (row_levels says body paragraph each us) i
 
--- the glyphs of unit `j` are left of those of `i`, and only glyphs of units between them in the text are between them
+-- in a row of glyphs, `pieces` by units, the glyphs of unit `j` are left of those of `i`, and only glyphs of units between them
+-- in the text are between them
 pub record ShowTouch (row : List Glyph) (pieces : List (List Glyph)) (i j : ℕ) : Type 0 where
   pub front : List Glyph
   pub middle : List ℕ
@@ -84,7 +85,7 @@ pub record ShowTouch (row : List Glyph) (pieces : List (List Glyph)) (i j : ℕ)
   pub row_is : row ≡ front ++ (slice_index_or pieces j [] ++ (flat_map (λ k. slice_index_or pieces k []) middle ++ (slice_index_or pieces i [] ++ back)))
   pub inside : All (λ k. (i < k) × (k < j)) middle
 
--- units that touch do so in a row's picture
+-- the glyphs of units that touch in the visual order touch in a row's picture
 abbrev pub PicturesShowTouch : Type 0
 PicturesShowTouch = (says : Data) (w : ℕ) (body : List ℕ) (paragraph : ℕ) (each : List (Option ℕ)) (us : List Unit) (levels : List ℕ) (i j : ℕ)
     → Touch (visual levels) i j

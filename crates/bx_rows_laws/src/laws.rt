@@ -73,7 +73,7 @@ pub fn rows_are_of_rest()
     ensures { RowsAreOfRest }
 {}
 
-/// Two bodies with a common end have the same rows in it, once a row of each begins at the same place of that end.
+/// Two bodies that are equal from a row's start in each on have equal rows from there on.
 pub fn rows_meet_again()
     ensures { RowsMeetAgain }
 {}

@@ -1,6 +1,5 @@
-//! Calls on units in hand, one step at a time: wrapping them into rows, and finding their levels. The editor does not run
-//! these, it reads rows through `Lines`. With them, `visual` and `draw`
-//! the rows serve by themselves as a library.
+//! Calls on units in hand, one step at a time: wrapping them into rows, and finding their levels. With these and `visual` the
+//! rows serve as a library. The editor does not run them: it reads rows through `Lines`.
 ghost use Rattle.std.specs.Prelude.{◌≡◌, ◌≤◌, ◌∷◌, [], All, IfOk, length, true};
 ghost use Rattle.bx_ucd.specs.Data.{Data};
 ghost use Rattle.bx_cells.specs.Units.{HasFace, StandsIn, units};
@@ -148,7 +147,8 @@ pub fn row_levels<D: BidiData>(
     Ok(found)
 }
 
-/// Whether a body is known to have a single row, from its characters alone. False says nothing. Makes no units.
+/// Whether a body is known to have a single row in a window of `w` columns, from its characters alone: true is sure, false
+/// leaves it open. Makes no units.
 pub fn has_one_row(body: &str, w: u16) -> bool
     ensures { result ≡ true → (says : Data) → wrap says w body.now (units says w body.now)
         ≡ record { start = 0; stop = length (units says w body.now) } ∷ [] }

@@ -1,9 +1,10 @@
--- The model of the runs: the numbers, and whether room was made for one more.
+-- The value of `Runs` of the code: the numbers, and whether room was made for one more.
 use Rattle.std.specs.Prelude.{◌≡◌, ℕ, ◌<◌, Bool, true, List, vec_len, vec_capacity}
 use Rattle.bx_runs.specs.declared.runs.Runs.TheInside.{Inside}
 use Rattle.bx_runs.specs.Runs.{Rise}
 
 pub record RunsState : Type 0 where
+  -- the lengths of the past, in edits, at which runs begin
   pub numbers : List ℕ
   -- if it is true, the next edit allocates nothing
   pub room : Bool
@@ -11,6 +12,8 @@ pub record RunsState : Type 0 where
 abbrev pub runs_of : Inside → RunsState
 runs_of r = record { numbers = r.numbers.items; room = r.room }
 
+-- what always holds of `Runs`
+-- what always holds of `Runs`
 pub record AreRuns (r : Inside) : Type 0 where
   pub rise : Rise r.numbers.items
   pub has_room : r.room ≡ true → vec_len r.numbers < vec_capacity r.numbers

@@ -18,7 +18,7 @@ kind_of _ = Letter
 
 -- ---- insertions
 
--- all that is pasted goes on, a word goes on up to a separator, blanks go on with blanks
+-- all of a paste but its first character goes on; so do letters and blanks after a letter, and blanks after blanks
 abbrev pub goes_on : Typing → Kind → Bool
 goes_on Pasting _ = true
 goes_on Word Separator = false
@@ -26,7 +26,7 @@ goes_on Word _ = true
 goes_on Blanks Blank = true
 goes_on _ _ = false
 
--- what the next edit may go on with
+-- what the next edit may go on with after an insertion of this kind
 abbrev pub after_insertion : Typing → Kind → Typing
 after_insertion Paste _ = Pasting
 after_insertion Pasting _ = Pasting
@@ -42,6 +42,7 @@ goes_on_removing Erasing Erase = true
 goes_on_removing Deleting Delete = true
 goes_on_removing _ _ = false
 
+-- what the next edit may go on with after a removal
 abbrev pub after_removal : Removal → Typing
 after_removal Erase = Erasing
 after_removal Delete = Deleting

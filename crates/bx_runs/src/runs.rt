@@ -1,4 +1,4 @@
-//! The lengths of the past at which runs of edits begin.
+//! The lengths of the past at which runs of edits begin: an undo or a redo of a run ends at one, or where no edit is left.
 
 ghost use Rattle.std.specs.Prelude.{◌≡◌, ◌+◌, ◌-◌, ◌≤◌, [], true, false, take, drop, length, OnOk, OnErr};
 ghost use Rattle.bx_runs.specs.Runs.{above, below, edited, run_end, run_start, Rise};
@@ -28,7 +28,7 @@ fn count_up_to(numbers: &[usize], n: usize) -> usize
 /// The lengths of the past at which runs of edits begin. A length counts edits.
 #[derive(Drop)]
 pub struct Runs {
-    // each above the one before
+    // lengths of the past, each above the one before
     numbers: Vec<usize>,
     // whether the next edit allocates nothing
     room: bool,

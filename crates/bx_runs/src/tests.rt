@@ -17,6 +17,7 @@ fn words_are_undone_and_redone(rt: HostRuntime) -> Result<(), Fail> {
         runs.edited(n, typing.goes_on(kind));
         typing = typing.after_insertion(kind);
     }
+    // The first run has three edits, `ab` and the blank; the second has two.
     assert_eq!(rt; typing, Typing::Word);
     assert_eq!(rt; (runs.start_before(5), runs.start_before(3)), (3, 0));
     assert_eq!(rt; (runs.redo_count(0, 5), runs.redo_count(3, 2)), (3, 2));

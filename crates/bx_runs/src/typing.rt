@@ -1,25 +1,25 @@
-//! What the next edit may go on with.
+//! What the next edit may go on with, so that both are of one run.
 
 ghost use Rattle.std.specs.Prelude.{◌≡◌};
 ghost use Rattle.bx_runs.specs.Typing.{after_insertion, after_removal, goes_on, goes_on_removing, kind_of};
 
 use bx_ucd::Class;
 
-/// What the next edit may go on with: the latest key and edit.
+/// What the next edit may go on with, as the latest key and edit left it.
 #[derive(Clone, Copy, PartialEq, Eq, Debug, Default)]
 pub enum Typing {
     /// Nothing: the next edit begins a run.
     #[default]
     Off,
-    /// A word, and the blanks after it.
+    /// A letter: letters and blanks go on with it.
     Word,
-    /// Blanks before a word.
+    /// A blank, maybe after a word: blanks go on with it, and a letter begins a run.
     Blanks,
     /// Characters erased backward.
     Erasing,
     /// Characters deleted forward.
     Deleting,
-    /// A paste of which nothing is in the text yet.
+    /// A paste of which nothing is in the text yet: its first character begins a run.
     Paste,
     /// A paste of which something is in the text.
     Pasting,

@@ -1,12 +1,14 @@
--- An iterator over the pieces of a text.
+-- An iterator over the pieces of a text between two offsets, which lends their bytes.
 use Rattle.std.specs.Prelude.{◌≡◌, ℕ, ◌<◌, List, [], ◌∷◌, ◌++◌, length, slice_range, Option, MatchOption}
 use Rattle.std.specs.Borrow.{Bor}
 use Rattle.bx_text.specs.declared.slices.Slices.TheInside.{Inside}
 use Rattle.bx_text.specs.Edits.{IsRange}
 
+-- the bytes that it has not lent yet
 abbrev pub bytes_left : Inside → List ℕ
 bytes_left s = slice_range s.text.now.edited.text s.at s.stop
 
+-- what always holds: the two offsets are character boundaries, in order
 abbrev pub AreSlices : Inside → Type 0
 AreSlices s = IsRange s.text.now.edited.text s.at s.stop
 

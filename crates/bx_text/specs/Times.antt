@@ -12,7 +12,7 @@ undone_times n t = iterate undone n t
 abbrev pub redone_times : ℕ → Edited → Edited
 redone_times n t = iterate redone n t
 
--- where two changes, the second made after the first, begin and end in the text between them
+-- where two changes, `next` made after `first`, begin and end in the text after the first, and the bytes between
 abbrev pub both_start : Change → Change → ℕ
 both_start first next = min first.start next.start
 

@@ -1,10 +1,11 @@
-//! Reads the two buffers of the pieces.
+//! Reads the text of pieces in their two buffers: `opened`, the text as opened, and `added`, all text inserted since.
 
 ghost use Rattle.std.specs.Prelude.{◌≡◌, ◌<◌, ◌↔◌, IsSome, IfSome, length, IsCharBoundary};
 ghost use Rattle.bx_text.specs.Buffers.{Buffers, buffer_bytes, bytes_of, AreInBuffers, IsRest};
 
 use bx_pieces::{Buffer, Pieces};
 
+/// The buffer that a piece names.
 fn buffer_of<'a>(opened: &'a str, added: &'a str, buffer: Buffer) -> &'a str
     ensures { result.now ≡ buffer_bytes (record { opened = opened.now; added = added.now }) buffer }
 {

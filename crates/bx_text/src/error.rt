@@ -9,7 +9,7 @@ pub enum TextError {
     /// An offset is inside a character or past the end, or a range's start is past its end.
     #[error("not a boundary of characters")]
     NotABoundary,
-    /// The text would have more than 16,777,216 bytes.
+    /// The text would have more than 16,777,216 bytes, `LARGEST_TEXT`.
     #[error("text too long")]
     TooLong,
     #[error("out of memory")]

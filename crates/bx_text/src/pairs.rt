@@ -1,4 +1,4 @@
-//! Two edits made together, which are two entries of the past.
+//! Two edits made together, both or neither, which are two entries of the past.
 
 ghost use Rattle.std.specs.Prelude.{◌≡◌, [], ◌∷◌, ◌++◌, ◌+◌, ◌-◌, ◌≤◌, ◌<◌, ◌^◌, ◌↔◌, false, IfOk, IsErrOf, IsTrue, OnErr, OnOk, length, vec_len, vec_capacity, string_len, string_capacity, string_bytes};
 ghost use Rattle.std.specs.Str.{IsCharBoundary, IsUtf8};
@@ -26,7 +26,7 @@ pub struct EditPlaces {
     pub after: usize,
 }
 
-/// An edit to make: `text` replaces `len` bytes from `start` on. `before` and `after` are the places.
+/// An edit to make: `text` replaces `len` bytes from `start` on. `before` and `after` are the cursor's places, in bytes.
 #[derive(Clone, Copy)]
 pub struct Replacement<'a> {
     pub start: usize,
@@ -37,7 +37,7 @@ pub struct Replacement<'a> {
 }
 
 impl<'a> Replacement<'a> {
-    /// The change that it makes.
+    /// The change that the edit makes.
     fn change(&self) -> Change
         ensures { result ≡ change_made self.now }
     {
@@ -89,7 +89,8 @@ fn make(
     past.push(step).unwrap();
 }
 
-/// Makes room for two edits that put in `bytes` bytes together. If memory runs out, only room is gained.
+/// Makes room for two edits that put in `bytes` bytes together, each with at most three nodes (`put`). If memory runs out, only
+/// room is gained.
 fn make_room(
     added: &mut String,
     past: &mut Vec<Step>,
@@ -114,7 +115,7 @@ fn make_room(
 }
 
 impl Text {
-    /// Makes two edits, one after the other.
+    /// Makes two edits, one after the other; the offsets of `second` are those of the text after `first`.
     fn replace_twice(
         &mut self,
         first: &Replacement<'_>,
@@ -152,7 +153,7 @@ impl Text {
         Ok(merge(first.change(), second.change()))
     }
 
-    /// Whether an offset is a character boundary of the text without the bytes from `start` to `stop`.
+    /// Whether `at` is a character boundary of the text without the bytes from `start` to `stop`; `at` counts without them.
     fn is_boundary_without(&self, start: usize, stop: usize, at: usize) -> bool
         requires range { IsRange self.now.edited.text start stop }
         ensures { IsTrue result ↔ IsCharBoundary (splice self.now.edited.text start stop []) at }

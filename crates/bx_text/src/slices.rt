@@ -1,4 +1,4 @@
-//! An iterator over the pieces of a text.
+//! An iterator over the pieces of a text, which lends them for a save or a copy.
 
 ghost use Rattle.std.specs.Prelude.{◌≡◌, length, slice_range};
 ghost use Rattle.std.specs.Iterator.{at_most};
@@ -12,7 +12,9 @@ use std::marker::Model;
 #[derive(Drop)]
 pub struct Slices<'a> {
     text: &'a Text,
+    /// The offset up to which the text was lent.
     at: usize,
+    /// The offset up to which it is to be lent.
     stop: usize,
 }
 

@@ -1,4 +1,4 @@
-//! An edit to undo or redo.
+//! A step: an edit to undo or redo, as the past and the future keep it.
 
 ghost use Rattle.std.specs.Prelude.{◌≡◌};
 ghost use Rattle.bx_text.specs.Steps.{step_change};
@@ -13,7 +13,7 @@ pub enum Way {
     Again,
 }
 
-/// An edit to undo or redo: its position and its replacement.
+/// An edit to undo or redo: its position and its replacement. In the past it undoes, in the future it redoes.
 #[derive(Drop)]
 pub struct Step {
     /// Offset of the first byte to replace.

@@ -1,4 +1,5 @@
-//! Replaces pieces by others.
+//! The changes to a text's pieces: a span or new text put in, a step turned. `spares` are nodes of the pieces' tree made before:
+//! each cut and each new piece takes at most one.
 
 ghost use Rattle.std.specs.Prelude.{◌≡◌, ◌++◌, ◌+◌, ◌<◌, ◌≤◌, ◌^◌, OnOk, OnErr, length, vec_len, vec_capacity, string_len, string_capacity, string_bytes};
 ghost use Rattle.bx_text.specs.Buffers.{with_added};
@@ -9,7 +10,7 @@ use crate::step::Step;
 use bx_pieces::{Buffer, Piece, Pieces, Spares};
 use std::mem;
 
-/// Replaces `len` bytes by a span, and returns the pieces replaced.
+/// Replaces `len` bytes from the offset `start` on by a span, and returns the pieces replaced.
 pub fn swap(
     pieces: &mut Pieces,
     start: usize,
@@ -50,7 +51,7 @@ fn add(pieces: &mut Pieces, added: &mut String, text: &str, spares: &mut Spares)
     pieces.push(piece, spares);
 }
 
-/// Replaces `len` bytes by text, and returns the pieces replaced.
+/// Replaces `len` bytes from the offset `start` on by text, and returns the pieces replaced.
 pub fn put(
     pieces: &mut Pieces,
     start: usize,
@@ -76,7 +77,8 @@ pub fn put(
     old
 }
 
-/// Applies the last step of `from`, and pushes its inverse to `to`, in room made before. Allocates nothing.
+/// Turns a step: applies the last of `from`, and pushes the step that reverses it to `to`, in room made before. Allocates
+/// nothing.
 pub fn turn(pieces: &mut Pieces, from: &mut Vec<Step>, to: &mut Vec<Step>, spares: &mut Spares)
     requires some { 0 < length from.old.items }
     requires fits { IsAddressable pieces.old }

@@ -1,4 +1,4 @@
-//! The text.
+//! The text, its edits, undo and redo: a table of pieces of two buffers.
 
 ghost use Rattle.std.specs.Prelude.{◌≡◌, ℕ, List, slice_range, ◌+◌, ◌-◌, IsSome, ◌<◌, ◌≤◌, ◌^◌, ◌↔◌, [], None, Some, true, false, IfSome, take, drop, length};
 ghost use Rattle.std.specs.Prelude.{IsOk, string_bytes, IsTrue, IsCharBoundary, IfOk, OnOk, OnErr, IsErrOf};
@@ -27,12 +27,15 @@ pub struct Text {
     pub(crate) opened: String,
     // all text inserted since
     pub(crate) added: String,
+    // the parts of both that are the text, in order
     pub(crate) pieces: Pieces,
-    // the latest last
+    // the steps to undo, the latest edit last
     pub(crate) past: Vec<Step>,
-    // the next last
+    // the steps to redo, the next edit last
     pub(crate) future: Vec<Step>,
+    // nodes of the pieces' tree for the next edits
     pub(crate) spares: Spares,
+    // the bytes that the next edit can insert with no allocation; None: no room was made
     pub(crate) room: Option<usize>,
 }
 
@@ -106,7 +109,7 @@ impl Text {
         self.next_redos(1)
     }
 
-    /// Reserves memory for an edit that inserts `bytes` bytes. The text is unchanged.
+    /// Reserves memory for an edit that inserts `bytes` bytes, with three nodes (`put`). The text is unchanged.
     fn grow(&mut self, bytes: usize) -> Result<(), AllocError>
         ensures edited { self.new.edited ≡ self.old.edited }
         ensures ok { OnOk result (self.new.room ≡ Some bytes) }
@@ -143,7 +146,8 @@ impl Text {
         }
     }
 
-    /// Replaces `len` bytes by text, as one edit.
+    /// Replaces `len` bytes from the offset `start` on by text, as one edit. `before` and `after` are the places before and
+    /// after it.
     fn replace(
         &mut self,
         start: usize,
@@ -210,7 +214,7 @@ impl Text {
         ensures range { IsTrue result ↔ IsRange self.now.edited.text start stop }
         ensures short { length self.now.edited.text ≤ largest_text }
     {
-        // Past the end there is no piece to look for.
+        // `stop <= len` comes first, so that no piece is looked for past the end.
         let len = self.len();
         start <= stop && stop <= len && self.is_boundary(start) && self.is_boundary(stop)
     }

@@ -1,4 +1,4 @@
-//! Many steps of the history turned at once.
+//! Many steps of the past or the future turned at once, that is, undone or redone.
 
 ghost use Rattle.std.specs.List.{reduce};
 ghost use Rattle.std.specs.Prelude.{◌≡◌, ◌+◌, ◌*◌, ◌<◌, ◌≤◌, ◌^◌, OnErr, OnOk, length, map, reverse, take, vec_len, vec_capacity};
@@ -29,7 +29,8 @@ pub fn merge(first: Change, next: Change) -> Change
     }
 }
 
-/// The one change that the last `n` steps make, of which the last comes first; none where there is none. Allocates nothing.
+/// The one change that the last `n` steps make, or all if there are fewer, applied from the last one back; None if `n` is 0 or
+/// there are no steps. Allocates nothing.
 pub fn change_of_last(steps: &[Step], n: usize, way: Way) -> Option<Change>
     requires { Apply steps.now }
     ensures { result ≡ reduce merged (map (step_change way) (take n (reverse steps.now))) }
@@ -49,7 +50,8 @@ pub fn change_of_last(steps: &[Step], n: usize, way: Way) -> Option<Change>
     Some(whole)
 }
 
-/// Makes room to turn `n` steps. If memory runs out, the steps are unchanged, and no room is lost.
+/// Makes room to turn `n` steps, each with at most two nodes (`swap`). If memory runs out, the steps are unchanged, and no room
+/// is lost.
 pub fn make_room_to_turn(
     to: &mut Vec<Step>,
     spares: &mut Spares,
@@ -68,8 +70,8 @@ pub fn make_room_to_turn(
     Ok(())
 }
 
-/// Applies the last `n` steps of `from`, one after another, and pushes their inverses to `to`, in room made before.
-/// Allocates nothing.
+/// Applies the last `n` steps of `from`, one after another, and pushes the steps that reverse them to `to`, in room made
+/// before. Allocates nothing.
 pub fn turn_times(
     pieces: &mut Pieces,
     from: &mut Vec<Step>,
