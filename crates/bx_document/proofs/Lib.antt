@@ -17,7 +17,6 @@ pub mod PlaceBehind
 pub mod PlacesKept
 pub mod SameState
 pub mod ShownTop
-pub mod FoundOffsets
 pub mod NextCharacters
 pub mod LastPoints
 pub mod FirstSeparators

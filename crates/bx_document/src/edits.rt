@@ -71,6 +71,19 @@ impl<D: BidiData + Drop> Document<D> {
         Ok(place)
     }
 
+    /// The place after a pending removal of the bytes from `start` to `stop`.
+    fn place_after_removal(&mut self, start: usize, stop: usize) -> Result<usize, OutOfMemory>
+        requires range { IsRange self.old.document.content.text start stop }
+        ensures same { self.new ≡ self.old }
+        ensures place { IfOk result (λ o. o ≡ place_after (D.data self.old.tables) self.old.document start stop []) }
+        ensures text_place { IfOk result (IsTextPlace (D.data self.old.tables) (splice self.old.document.content.text start stop [])) }
+        ensures order { IfOk result (λ o. start ≤ o) }
+    {
+        let source = self.own.source();
+        let place = place_after(self.alloc, &source, &mut self.view, start..stop, "")?;
+        Ok(place)
+    }
+
     /// Inserts characters at a place and returns the place after them; None, and no change, if the text would exceed
     /// 16,777,216 bytes.
     ///
@@ -108,9 +121,7 @@ impl<D: BidiData + Drop> Document<D> {
         ensures text_place { IfOk result (IsTextPlace (D.data self.new.tables) self.new.document.content.text) }
         ensures err { OnErr result (self.new ≡ self.old) }
     {
-        // proof only: the text is within its limit
-        let _short = self.own.len();
-        let after = self.place_after(start, stop, "")?;
+        let after = self.place_after_removal(start, stop)?;
         self.own.remove(start..stop, place, after)?;
         Ok(after)
     }
@@ -169,7 +180,7 @@ impl<D: BidiData + Drop> Document<D> {
         if new.len() > LARGEST_TEXT - kept {
             return Ok(None);
         }
-        let between = self.place_after(start, stop, "")?;
+        let between = self.place_after_removal(start, stop)?;
         let after = self.place_after_both(start, stop, between, new)?;
         let places = EditPlaces {
             before: place,
@@ -222,7 +233,7 @@ impl<D: BidiData + Drop> Document<D> {
         if new.len() > LARGEST_TEXT - kept {
             return Ok(None);
         }
-        let between = self.place_after(start, stop, "")?;
+        let between = self.place_after_removal(start, stop)?;
         let after = self.place_after(start, stop, new)?;
         let places = EditPlaces {
             before: place,

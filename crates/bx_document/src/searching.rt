@@ -35,9 +35,8 @@ impl<D: BidiData + Drop> Document<D> {
         ensures short { length self.now.document.content.text ≤ largest_text }
         ensures utf8 { IsUtf8 self.now.document.content.text }
     {
-        // proof only: the text is UTF-8
-        let _utf8 = self.own.len();
-        bx_find::first_from(&self.own, self.own.tables(), reading, query, x)
+        let source = self.own.source();
+        bx_find::first_from(&self.own, source.tables, reading, query, x)
     }
 
     /// The byte offset of a query's first match, where there is none at or after `x`. Allocates nothing.
@@ -47,8 +46,6 @@ impl<D: BidiData + Drop> Document<D> {
         ensures found { result ≡ first_from (D.data self.now.tables) reading query.now self.now.document.content.text 0 }
         ensures boundary { IfSome result (IsCharBoundary self.now.document.content.text) }
     {
-        // proof only: the text is UTF-8
-        let _utf8 = self.own.len();
         bx_find::first_before(&self.own, self.own.tables(), reading, query, x)
     }
 
@@ -57,8 +54,6 @@ impl<D: BidiData + Drop> Document<D> {
         ensures found { result ≡ last_before (D.data self.now.tables) reading query.now self.now.document.content.text x }
         ensures boundary { IfSome result (IsCharBoundary self.now.document.content.text) }
     {
-        // proof only: the text is UTF-8
-        let _utf8 = self.own.len();
         bx_find::last_before(&self.own, self.own.tables(), reading, query, x)
     }
 
@@ -70,8 +65,6 @@ impl<D: BidiData + Drop> Document<D> {
             (length self.now.document.content.text) }
         ensures boundary { IfSome result (IsCharBoundary self.now.document.content.text) }
     {
-        // proof only: the text is UTF-8
-        let _utf8 = self.own.len();
         bx_find::last_from(&self.own, self.own.tables(), reading, query, x)
     }
 
@@ -82,8 +75,6 @@ impl<D: BidiData + Drop> Document<D> {
         ensures boundary { IsCharBoundary self.now.document.content.text result }
         ensures order { at ≤ result }
     {
-        // proof only: the text is UTF-8
-        let _utf8 = self.own.len();
         bx_find::match_end(&self.own, self.own.tables(), reading, query, at)
     }
 
@@ -102,8 +93,6 @@ impl<D: BidiData + Drop> Document<D> {
         ensures range { IfSome result (λ s. IsRange self.now.document.content.text s.0 s.1) }
         ensures onward { IfSome result (λ s. (x ≤ s.0) × (s.0 < s.1)) }
     {
-        // proof only: the text is UTF-8
-        let _utf8 = self.own.len();
         bx_find::first_span(&self.own, self.own.tables(), reading, query, x)
     }
 

@@ -17,11 +17,11 @@ invariant_of-self-2 g c =
     let new = c.args.new.now in
     let after = c.in_ok-after-2.after in
     let one = subst (λ s. IsTextPlace (g.D.BidiData.data s.tables) (splice s.document.content.text start c.args.stop new) after)
-    c.place_after.ensures.same c.in_ok-after-2.ensures.text_place in
+    c.place_after_removal.ensures.same c.in_ok-after-2.ensures.text_place in
     let is = subst (λ bs. IsTextPlace (g.D.BidiData.data now.tables) bs after)
     (sym (exchanged_text text start c.args.stop new c.requires.range.start_bounds.0)) one in
     let keeps = keeps_exchanged g.D.BidiData.data _ now _ start c.args.stop start new c.args.place
-    c.in_ok-between.between after (c.self-2.view_is ∙ c.place_after-2.ensures.same ∙ c.place_after.ensures.same)
+    c.in_ok-between.between after (c.self-2.view_is ∙ c.place_after.ensures.same ∙ c.place_after_removal.ensures.same)
     refl c.self-2.invariant.1
     c.requires.text_place c.in_ok-between.ensures.text_place is in
     let i = c.self-2.inside in
@@ -38,11 +38,11 @@ returns-clause-ok g c =
     let short : fits text start c.args.stop new ≡ true = first_of (search rules, grind (arith, nat_tests)) in
     let some : 0 < length new = omega (arith, eqb-false (length new) 0 (sym c.if-is_empty.ensures)) in
     let place = subst (λ s. after ≡ place_after (g.D.BidiData.data s.tables) s.document start c.args.stop new)
-    c.place_after.ensures.same c.in_ok-after-2.ensures.place in (
+    c.place_after_removal.ensures.same c.in_ok-after-2.ensures.place in (
       short,
       ap (λ o. state_of o.tables o.content i.view.base i.view.w) c.in_ok-exchange.ensures.ok
           ∙ exchanged_state g.D.BidiData.data _ now _ start c.args.stop new c.args.place
-          c.in_ok-between.between after (c.self-2.view_is ∙ c.place_after-2.ensures.same ∙ c.place_after.ensures.same)
+          c.in_ok-between.between after (c.self-2.view_is ∙ c.place_after.ensures.same ∙ c.place_after_removal.ensures.same)
           refl some c.requires.range.start_bounds.0
           c.in_ok-between.ensures.place place,
       place,

@@ -1,10 +1,15 @@
-use Rattle.std.proofs.Common.{IsCharBoundary, subst}
+use Rattle.std.proofs.Common.{◌≡◌, IsCharBoundary, refl, subst}
 use Rattle.std.specs.Prelude.{IfSome}
-use Rattle.bx_document.proofs.FoundOffsets.{first-bound}
+use Rattle.bx_find.specs.Matches.{first_from}
+use Rattle.bx_document.proofs.SameState.{lent}
 use Rattle.bx_document.proofs.document.Document.first_from.Goals as goal
+
+pub returns-clause-found : goal.returns-clause-found
+returns-clause-found g c =
+    subst (λ s. c.first_from.result
+    ≡ first_from (g.D.BidiData.data s.tables) c.args.reading c.args.query.now s.document.content.text c.args.x)
+    (lent c.source-source.ensures.tables refl c.self.view_is) c.first_from.ensures.found
 
 pub returns-clause-boundary : goal.returns-clause-boundary
 returns-clause-boundary g c =
-    subst (λ s. IfSome c.first_from.result (IsCharBoundary s.document.content.text)) c.self.view_is
-    (first-bound (g.D.BidiData.data c.tables.result.now) c.args.reading c.args.query.now c.self.inside.own.content.text
-    c.args.x c.len-utf8.ensures.utf8 c.first_from.result c.first_from.ensures)
+    subst (λ s. IfSome c.first_from.result (IsCharBoundary s.document.content.text)) c.self.view_is c.first_from.ensures.boundary

@@ -12,23 +12,23 @@ use Rattle.bx_document.proofs.document.Document.replace.Goals as goal
 
 pub place_after_both-requires-clause-range : goal.place_after_both-requires-clause-range
 place_after_both-requires-clause-range g c =
-    subst (λ s. IsRange s.document.content.text c.args.start c.args.stop) (sym c.place_after.ensures.same) c.requires.range
+    subst (λ s. IsRange s.document.content.text c.args.start c.args.stop) (sym c.place_after_removal.ensures.same) c.requires.range
 
 pub place_after_both-requires-clause-fits : goal.place_after_both-requires-clause-fits
 place_after_both-requires-clause-fits g c =
     let short : fits c.args.self.now.document.content.text c.args.start c.args.stop c.args.new.now ≡ true =
     first_of (search rules, grind (arith, nat_tests)) in
-    subst (λ s. fits s.document.content.text c.args.start c.args.stop c.args.new.now ≡ true) (sym c.place_after.ensures.same) short
+    subst (λ s. fits s.document.content.text c.args.start c.args.stop c.args.new.now ≡ true) (sym c.place_after_removal.ensures.same) short
 
 pub place_after_both-requires-clause-between : goal.place_after_both-requires-clause-between
 place_after_both-requires-clause-between g c =
-    subst (λ s. c.in_ok-between.between ≡ place_after (g.D.BidiData.data s.tables) s.document c.args.start c.args.stop []) (sym c.place_after.ensures.same)
+    subst (λ s. c.in_ok-between.between ≡ place_after (g.D.BidiData.data s.tables) s.document c.args.start c.args.stop []) (sym c.place_after_removal.ensures.same)
     c.in_ok-between.ensures.place
 
 pub place_after_both-requires-clause-place : goal.place_after_both-requires-clause-place
 place_after_both-requires-clause-place g c =
     subst (λ s. IsTextPlace (g.D.BidiData.data s.tables) (splice s.document.content.text c.args.start c.args.stop []) c.in_ok-between.between)
-    (sym c.place_after.ensures.same) c.in_ok-between.ensures.text_place
+    (sym c.place_after_removal.ensures.same) c.in_ok-between.ensures.text_place
 
 pub invariant_of-self-2 : goal.invariant_of-self-2
 invariant_of-self-2 g c =
@@ -37,11 +37,11 @@ invariant_of-self-2 g c =
     let after = c.in_ok-after.after in
     let both = subst (λ s. IsTextPlace (g.D.BidiData.data s.tables)
     (replaced_text (g.D.BidiData.data s.tables) s.document c.args.start c.args.stop c.args.new.now) after)
-    c.place_after.ensures.same c.in_ok-after.ensures.text_place in
+    c.place_after_removal.ensures.same c.in_ok-after.ensures.text_place in
     let is = subst (λ b. IsTextPlace (g.D.BidiData.data now.tables)
     (splice (splice now.document.content.text c.args.start c.args.stop []) b b c.args.new.now) after) (sym c.in_ok-between.ensures.place) both in
     let keeps = keeps_exchanged g.D.BidiData.data _ now _ c.args.start c.args.stop between c.args.new.now c.args.place
-    between after (c.self-2.view_is ∙ c.place_after_both.ensures.same ∙ c.place_after.ensures.same)
+    between after (c.self-2.view_is ∙ c.place_after_both.ensures.same ∙ c.place_after_removal.ensures.same)
     refl c.self-2.invariant.1
     c.requires.text_place c.in_ok-between.ensures.text_place is in
     let i = c.self-2.inside in
