@@ -1,4 +1,4 @@
--- The stored text of a glyph.
+-- The stored text of a glyph (`Stored` of `src/glyph_text.rt`).
 use Rattle.std.specs.Prelude.{ℕ, ◌<◌, List, length, string_bytes}
 use Rattle.bx_grid.specs.declared.glyph_text.Stored.{Stored}
 use Rattle.bx_grid.specs.declared.glyph_text.Stored.TheVariants.{Short, Long}

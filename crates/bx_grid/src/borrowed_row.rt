@@ -14,6 +14,7 @@ use std::marker::Model;
 #[derive(Drop)]
 pub struct BorrowedRow<'g> {
     columns: &'g [Column],
+    /// The code of each column.
     codes: &'g [u64],
 }
 

@@ -7,6 +7,7 @@ ghost use Rattle.bx_grid.specs.Columns.{run_width};
 #[derive(Clone, Copy)]
 pub struct GlyphRun<'t> {
     pub text: &'t str,
+    /// In columns, from 1.
     pub width: u16,
     /// Whether it is in reverse video.
     pub negative: bool,

@@ -22,9 +22,13 @@ use std::marker::Model;
 /// A grid of columns, row by row. Each row consists of whole glyphs.
 #[derive(Drop)]
 pub struct Grid {
+    /// Number of rows, from 1 to 500.
     pub(crate) height: u16,
+    /// Number of columns of a row, from 1 to 500.
     pub(crate) width: u16,
+    /// Row by row.
     pub(crate) columns: Vec<Column>,
+    /// The code of each column.
     pub(crate) codes: Vec<u64>,
 }
 

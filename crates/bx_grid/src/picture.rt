@@ -9,6 +9,7 @@ use std::marker::Model;
 
 /// A grid and the cell of the cursor.
 #[derive(Drop)]
+/// The columns.
 pub struct Picture {
     grid: Grid,
     cursor: Cell,

@@ -18,7 +18,7 @@ fn turn_all(columns: &mut [Column])
     }
 }
 
-/// Turns the columns from an index up to another to the other rendition.
+/// Turns the columns from the index `from` up to `to`, without it, to the other rendition.
 fn turn_columns(columns: &mut [Column], from: usize, to: usize)
     requires order { from ≤ to }
     requires inside { to ≤ length columns.old }

@@ -14,6 +14,7 @@ use std::marker::Model;
 /// A filter between a terminal and the editor.
 #[derive(Drop, Debug)]
 pub struct Filter {
+    /// Whether the terminal's own erase character is DELETE, 7F.
     erases_by_delete: bool,
     state: FilterState,
 }

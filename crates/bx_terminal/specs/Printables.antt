@@ -16,7 +16,7 @@ pub record IsBeforeEscape (text bytes : List ℕ) : Type 0 where
   pub printable : IsPrintable text
   pub escape : get_or bytes (length text) 0 ≡ 0x1B
 
--- the second byte of a character of three bytes, by its first
+-- the second byte of a character of three bytes, by its first (Unicode, table 3-7): no overlong form (E0), no surrogate (ED)
 abbrev pub is_second : ℕ → ℕ → Bool
 is_second lead second =
     if lead == 0xE0 then is_within 0xA0 0xBF second

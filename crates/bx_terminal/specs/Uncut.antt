@@ -2,11 +2,13 @@
 use Rattle.std.specs.Prelude.{◌≡◌, ◌+◌, ◌⊎◌, ℕ, zero, suc, List, [], ◌∷◌, take, drop}
 use Rattle.bx_grid.specs.Columns.{Col, columns_after, columns_before}
 
--- two adjacent columns: a glyph that extends past the first continues in the second, and one that began before the second is in the first
+-- two adjacent columns: a glyph that extends past the first continues in the second, and one that began before the second is
+-- in the first
 pub record Meet (x y : Col) : Type 0 where
   pub onward : (columns_after x ≡ 0) ⊎ (columns_after x ≡ columns_after y + 1)
   pub back : (columns_before y ≡ 0) ⊎ (columns_before y ≡ columns_before x + 1)
 
+-- a column beside the first of a list, which may be empty
 abbrev pub MeetFirst : Col → List Col → Type 0
 MeetFirst x [] = Unit {0}
 MeetFirst x (y ∷ ys) = Meet x y
