@@ -1,4 +1,4 @@
--- Names and texts in messages.
+-- Names and texts in messages (`src/shown.rt`).
 use Rattle.std.specs.Prelude.{ℕ, Bool, ◌==◌, ◌&&◌, ◌||◌, nat_lt, if◌then◌else◌, List, [], ◌∷◌, length}
 use Rattle.std.specs.Char.{is_ascii_alphanumeric}
 use Rattle.std.specs.List.{list_all, list_any}
@@ -27,6 +27,7 @@ hidden_ranges =
     ∷ (0xE0000, 0xE0FFF)
     ∷ []
 
+-- the character is one of these
 abbrev pub is_hidden : ℕ → Bool
 is_hidden c = in_ranges hidden_ranges c
 

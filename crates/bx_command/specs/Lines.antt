@@ -1,6 +1,7 @@
 -- The lines of a text, each of which but the last ends with LF.
 use Rattle.std.specs.Prelude.{ℕ, ◌+◌, ◌==◌, Bool, true, false, List, [], ◌∷◌, take}
 
+-- `start` before the others, if the bool says so
 abbrev pub with_start : Bool → ℕ → List ℕ → List ℕ
 with_start true start starts = start ∷ starts
 with_start false start starts = starts

@@ -1,6 +1,7 @@
 //! The filter's output for a byte.
 
-/// The output for one byte of input: first bytes, then the sequences of keys, then one more byte. Each of the three may be missing.
+/// The output for one byte of input: first bytes, then the sequences of keys, then one more byte. Each of the three may be
+/// missing.
 #[derive(Clone, Copy, Debug)]
 pub struct Output {
     /// The waiting bytes that go out unchanged, at most five (CSI 200).

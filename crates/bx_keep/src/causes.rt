@@ -34,7 +34,9 @@ pub fn cause_of(kind: ErrorKind) -> &'static str {
 /// Why unsaved text is not kept.
 #[derive(Drop)]
 pub struct Unkept {
+    /// What messages say, behind "since".
     pub why: String,
+    /// What the last row shows.
     pub notice: Notice,
 }
 

@@ -17,7 +17,9 @@ pub enum FoundText {
 /// A session's text after its keys, and what FILE has beside it.
 #[derive(Drop)]
 pub struct Replay {
+    /// What FILE has beside it.
     pub found: FoundText,
+    /// The text after the keys.
     pub text: Vec<u8>,
 }
 

@@ -1,4 +1,4 @@
-//! The session while the program runs.
+//! The session while the program runs: what the program says, and what is done each second.
 
 use crate::around::Around;
 use crate::beginning::Begun;
@@ -15,7 +15,7 @@ use std::alloc::Global;
 use std::fs::File;
 use std::io::{Read, Write};
 
-/// The room at which the program tries its journal again, in bytes.
+/// The room at which the program tries its journal again, in bytes: more than a second's keys.
 const ROOM_FOR_KEYS: u64 = 8192;
 
 /// A session while the program runs.
@@ -38,9 +38,9 @@ pub struct Running<'a> {
     pub signal: Option<u64>,
     /// Why no copy of what is typed is kept, as the user has read.
     pub trouble: Option<Notice>,
-    /// There was room for keys a second ago.
+    /// There was room for keys a second ago, while the journal was lost already; else false.
     pub had_room: bool,
-    /// The size of the journal on the disk.
+    /// The size of the journal on the disk, in bytes.
     pub synced: u64,
 }
 

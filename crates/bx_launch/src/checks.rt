@@ -8,13 +8,13 @@ use std::alloc::{AllocError, Global};
 use std::fs;
 use std::rt::Files;
 
-/// How many bytes longer than a file's name the name of its draft is.
+/// How many bytes longer than a file's name the name of its draft is: FILE.bx.
 const DRAFT: u64 = 3;
 
 /// The longest name that most file systems take, where the system does not tell.
 const USUAL_NAME: u64 = 255;
 
-/// Whether a path names what a caller handed over.
+/// Whether a path names a descriptor that a caller handed over, as a shell does for `<(..)`.
 fn is_handed_over(file: &str) -> bool {
     file.starts_with("/dev/std")
         || file.starts_with("/dev/fd/")

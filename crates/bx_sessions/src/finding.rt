@@ -1,4 +1,4 @@
-//! The sessions of a file.
+//! The sessions of a file, and the state of each.
 
 use crate::belongs::{Belonging, Target};
 use crate::machine::{Machine, may_go_on_elsewhere};

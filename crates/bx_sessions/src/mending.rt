@@ -1,4 +1,4 @@
-//! A file after a save into it that was cut off.
+//! The repair of a file after a save into it that was cut off, by the mark of the session that saved.
 
 use crate::belongs::Target;
 use crate::finding::{State, state_of};

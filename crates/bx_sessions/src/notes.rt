@@ -18,7 +18,7 @@ const LONGEST_WITHOUT_KEYS: u64 = 4096;
 /// The bits of a mode that a recovered file gets: no set-ID and sticky bits.
 const PERMISSIONS: u32 = 0o777;
 
-/// The number that octal digits name, of at most seven bits that are wanted.
+/// The number that octal digits name; None if they are none.
 fn octal(digits: &str) -> Option<u32> {
     u32::from_str_radix(digits, 8).ok()
 }

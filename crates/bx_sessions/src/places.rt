@@ -71,7 +71,7 @@ fn own_folder_in(rt: &HostRuntime, folder: &str, user: u32) -> Result<String, Al
     format!(in rt.alloc(); "{folder}/bidi_edit.{user}")
 }
 
-/// How long a folder stays that is in one of these.
+/// `Temporary`, if a path without links is in this folder of temporary files; None if it is not, or the folder is not there.
 fn stay_in(rt: &HostRuntime, path: &str, folder: &str) -> Result<Option<Stay>, AllocError> {
     let real = match Path::new(folder).canonicalize(rt) {
         Ok(real) => real.into_string(),

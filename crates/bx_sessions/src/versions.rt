@@ -1,4 +1,4 @@
-//! What a replay of a session's keys depends on.
+//! What a replay of a session's keys depends on: the editor's version, programs and tables.
 
 use crate::part::Part;
 use crate::session::Session;
@@ -10,6 +10,7 @@ use std::rt::Files;
 /// Joined letters change no text and no place, so their tables are not among them.
 #[derive(Drop)]
 pub struct Versions {
+    /// As in a session's file: a line for the version, and one for each file.
     words: String,
 }
 

@@ -44,7 +44,7 @@ pub enum Heard {
     ProgramWord,
     /// The signal that ended the host, in decimal.
     Signal,
-    /// The program's exit status, in decimal; 128 and the signal's number where a signal ended it.
+    /// The program's exit status, in decimal; 128 plus the signal's number where a signal ended it.
     Status,
 }
 
@@ -117,6 +117,7 @@ impl Heard {
 /// A message of the host.
 #[derive(Drop, Debug)]
 pub struct Message {
+    /// What it says.
     pub heard: Heard,
     /// The text, without NUL; not always UTF-8.
     pub text: Vec<u8>,

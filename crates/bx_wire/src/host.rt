@@ -1,4 +1,4 @@
-//! What the keeper may ask of its host before the screen changes.
+//! What the keeper may ask of its host before the program starts: the trait that tests play.
 
 use crate::facts::Facts;
 use crate::fault::HostFault;
