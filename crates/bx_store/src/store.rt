@@ -10,6 +10,7 @@ use thiserror::Error;
 #[derive(Clone, Copy, PartialEq, Eq, Debug, Error)]
 #[error("the store failed")]
 pub struct StoreFault {
+    /// None if the store does not know it.
     pub cause: Option<SaveCause>,
 }
 

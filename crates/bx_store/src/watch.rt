@@ -16,7 +16,9 @@ use std::rt::Files;
 /// A path and the file that it leads to, which is looked at again at each save.
 #[derive(Drop)]
 pub struct Watch<'a, R: Files> {
+    /// The file system.
     pub files: &'a R,
+    /// The path as it was given; links on it are followed at each look.
     path: String,
     /// The path without links that saves go to; None if it could not be resolved yet.
     target: Option<String>,

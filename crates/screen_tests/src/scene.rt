@@ -12,7 +12,9 @@ use std::test::Fail;
 #[derive(Drop)]
 pub(crate) struct Scene {
     alloc: Global,
+    /// The picture before the last.
     before: Picture,
+    /// The last picture.
     picture: Picture,
     screen: Screen,
 }
