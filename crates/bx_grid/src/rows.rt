@@ -72,7 +72,6 @@ impl Grid {
 
 /// Copies the columns `others[at..]` over `columns`, where `others[0]` belongs at the index `from`, up to the first where
 /// the old or the new one has a text on the heap or is unknown. Returns that one's index in `others`.
-/// Returns that index.
 #[inline(never)]
 fn copy_short(columns: &mut [Column], from: usize, others: &[Column], at: usize) -> usize
     requires inside { from + length others.now ≤ length columns.old }

@@ -9,7 +9,6 @@ use Rattle.bx_input.specs.Paste.{pasted_byte, pasted_part, paste_fate}
 
 -- The waiting bytes begin a sequence that the filter knows. Outside a paste, a sequence that went out unchanged may still be
 -- open (`is_open`): its last byte is not read yet. Within a paste, the last byte may have been a CR (`after_return`).
--- open: its last byte is not read yet. Within a paste, the last byte may have been a CR.
 pub data State : Type 0 where
   Outside : (waiting : List ℕ) (is_open : Bool) → State
   Within : (waiting : List ℕ) (after_return : Bool) → State

@@ -55,6 +55,7 @@ struct Pen {
 /// Puts a glyph, `_` for a blank, and moves the pen behind it.
 fn put_glyph(grid: &mut Grid, pen: &mut Pen, glyph: &str) -> Result<(), RowFault> {
     let text = if glyph == "_" { " " } else { glyph };
+    // no row has more columns
     let columns = run_width(text).min(500) as u16;
     if pen.negative || text != " " {
         put(grid, pen.cell, text, pen.negative)?;
