@@ -70,7 +70,6 @@ module _ (erases_by_delete : Bool) where
 
   -- The log of a run that ended with this answer, after these reads, of at most `limit`. The last read, at the input's end
   -- or before a fault, comes behind them.
-  -- behind them.
   abbrev pub IsLog : {A : Type 0} → ℕ → Result A FilterFault → List (List ℕ) → List Action → Type 0
   IsLog limit (Err ReadFault) turns log = log ≡ turns_actions start turns ++ ReadFailed ∷ []
   IsLog limit (Err ReadLimit) turns log = (log ≡ turns_actions start turns) × (length turns ≡ limit)

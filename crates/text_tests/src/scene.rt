@@ -17,8 +17,10 @@ use std::test::Fail;
 #[derive(Drop)]
 pub(crate) struct Scene {
     alloc: Global,
+    /// What the edits change.
     text: Text,
     index: Index,
+    /// Counts the questions for a class.
     tables: Counting,
     // the result of the last edit
     answer: Result<Option<Change>, TextError>,
@@ -230,10 +232,12 @@ impl Scene {
         Ok(number == self.index.count())
     }
 
+    /// The text, to be read.
     pub(crate) fn text(&self) -> &Text {
         &self.text
     }
 
+    /// The index, to be read.
     pub(crate) fn index(&self) -> &Index {
         &self.index
     }
