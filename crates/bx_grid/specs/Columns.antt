@@ -31,8 +31,8 @@ abbrev pub cut_before : List Col → List Col
 cut_before [] = []
 cut_before (x ∷ xs) = (if nat_lt (length xs) (columns_after x) then Unknown else x) ∷ cut_before xs
 
--- the columns of a row after those that are put, the first of them `d` columns behind these: a glyph that begins before the
--- first becomes unknown
+-- the columns of a row after the ones that are put, where `d` columns lie between these and the first: a glyph that begins
+-- before the first becomes unknown
 abbrev pub cut_after : ℕ → List Col → List Col
 cut_after d [] = []
 cut_after d (x ∷ xs) = (if nat_lt d (columns_before x) then Unknown else x) ∷ cut_after (d + 1) xs

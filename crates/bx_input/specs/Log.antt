@@ -24,7 +24,7 @@ DidAll {V} did old (action ∷ more) new = (mid : V) × did old action mid × Di
 
 -- ---- the log of a run
 
--- output is written and flushed; nothing is done where there is none
+-- output is written and flushed; without output nothing is done
 abbrev pub sending : List ℕ → List Action
 sending [] = []
 sending (b ∷ bs) = Write (b ∷ bs) ∷ Flush ∷ []
@@ -55,7 +55,7 @@ module _ (erases_by_delete : Bool) where
   output_of s [] = at_end s
   output_of s (b ∷ bs) = (run erases_by_delete s (b ∷ bs)).output
 
-  -- a turn: one read, and right behind it all output of its bytes
+  -- a turn: one read, and right after it all output of its bytes
   abbrev pub turn_actions : State → List ℕ → List Action
   turn_actions s bytes = Read bytes ∷ sending (output_of s bytes)
 
@@ -69,7 +69,7 @@ module _ (erases_by_delete : Bool) where
   state_after turns = (run erases_by_delete start (concat turns)).state
 
   -- The log of a run that ended with this answer, after these reads, of at most `limit`. The last read, at the input's end
-  -- or before a fault, comes behind them.
+  -- or before a fault, follows them.
   abbrev pub IsLog : {A : Type 0} → ℕ → Result A FilterFault → List (List ℕ) → List Action → Type 0
   IsLog limit (Err ReadFault) turns log = log ≡ turns_actions start turns ++ ReadFailed ∷ []
   IsLog limit (Err ReadLimit) turns log = (log ≡ turns_actions start turns) × (length turns ≡ limit)

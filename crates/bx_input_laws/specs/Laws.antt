@@ -84,8 +84,8 @@ module _ (erases_by_delete : Bool) where
   abbrev pub longer_row : List ℕ → Row → Option Row
   longer_row waiting r = longer_by waiting (row_of erases_by_delete (0x1B ∷ r.sequence))
 
-  -- the output for input and then the sequence of `r`: that of the longer row, if there is one, takes the place of the ESC
-  -- that waits
+  -- the output for input and then the sequence of `r`: if there is a longer row, its output takes the place of the ESC that
+  -- waits
   abbrev pub became : List ℕ → List ℕ → Bool → Row → Option Row → List ℕ
   became bs waiting is_open r None = filtered bs ++ apart_from (is_open || not (is_empty waiting)) r.becomes
   became bs waiting is_open r (Some longer) = (run start bs).output ++ apart_from is_open longer.becomes

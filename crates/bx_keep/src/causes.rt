@@ -34,7 +34,7 @@ pub fn cause_of(kind: ErrorKind) -> &'static str {
 /// Why unsaved text is not kept.
 #[derive(Drop)]
 pub struct Unkept {
-    /// What messages say, behind "since".
+    /// What messages say after the word "since".
     pub why: String,
     /// What the last row shows.
     pub notice: Notice,

@@ -26,7 +26,7 @@ pub struct Replay {
 /// Why a session's keys cannot be replayed.
 #[derive(Clone, Copy, PartialEq, Eq, Debug)]
 pub enum ReplayFault {
-    /// A part of it is missing, or is none of a session.
+    /// A part of it is missing, or has another form than a session's.
     Unreadable,
     OutOfMemory,
 }

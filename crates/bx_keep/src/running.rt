@@ -125,7 +125,7 @@ impl<'a> Running<'a> {
         }
     }
 
-    /// Takes a word of the program in. One that is none is passed over.
+    /// Takes a word of the program in. Other words than the program's are passed over.
     fn take_word(&mut self, word: &[u8]) -> Result<(), Stop> {
         match read_program_word(word) {
             Some(ProgramWord::Opened(look)) => self.take_look(look),
@@ -204,7 +204,7 @@ impl<'a> Running<'a> {
         }
     }
 
-    /// The journal's size in bytes; 0 if there is none.
+    /// The journal's size in bytes; 0 if it is not there.
     pub fn journal_size(&self, kept: &Kept) -> u64 {
         match kept.session.look(self.around.rt, Part::Journal) {
             Ok(Some(found)) => found.len(),

@@ -14,7 +14,7 @@ pub struct Window {
     pub cols: u32,
 }
 
-/// The window where the host tells none: that of a VT100.
+/// The window where the host tells none: as large as a VT100's.
 const USUAL_WINDOW: Window = Window { rows: 24, cols: 80 };
 
 /// What the host says at the start. A variable that is not UTF-8 counts as not set.

@@ -133,7 +133,7 @@ pub record Decoding : Type 0 where
   pub keys : List Key
   pub rest : List ℕ
 
--- the key, if there is one, before those of the rest
+-- the key, if there is one, before the keys of the rest
 abbrev pub with_key : Option Key → Decoding → Decoding
 with_key key d = record { keys = option_to_list key ++ d.keys; rest = d.rest }
 

@@ -23,7 +23,7 @@ ComesInPieces = (bs more : List ℕ) →
 -- ---- the parts of input
 
 -- A part is a whole item, the beginning of one that the byte after it breaks, or one byte that begins none. `after` is the
--- bytes behind it.
+-- bytes that follow it.
 abbrev pub IsPartBy : Fate → List ℕ → List ℕ → Type 0
 IsPartBy Ends part after = Unit {0}
 IsPartBy Waits part after = (1 ≤ length part) × (fate (part ++ take 1 after) ≡ Breaks)

@@ -220,7 +220,7 @@ fn sides_key(sides: &[u8]) -> Option<Key>
     Some(Key::Size(side(&sides[..rows])?, side(&sides[rows + 1..])?))
 }
 
-/// The index of the first semicolon; None if there is none.
+/// The index of the first semicolon; None without one.
 fn first_semicolon(bytes: &[u8]) -> Option<usize>
     ensures { result ≡ position (λ b. b == 0x3B) bytes.now }
 {

@@ -44,7 +44,7 @@ fn fate_after_escape(byte: u8) -> Fate
     }
 }
 
-/// After CSI, and after parameter and intermediate bytes behind it.
+/// After CSI, and after the parameter and intermediate bytes that follow it.
 fn fate_after_csi(byte: u8) -> Fate
     ensures { result ≡ fate (0x1B ∷ 0x5B ∷ byte ∷ []) }
 {

@@ -39,7 +39,7 @@ enum Word<'a> {
     Unjoined,
     /// `--`, the end of the options.
     End,
-    /// It begins as an option, and is none of these.
+    /// It begins with `-`, and is not one of these options.
     Unknown,
     /// FILE.
     Name,

@@ -38,7 +38,7 @@ enum Word<'a> {
     Help,
     /// `--version`
     Version,
-    /// `--print`: the words behind it are read by `print_reading.rt`.
+    /// `--print`: the words that follow are read by `print_reading.rt`.
     Print,
     /// An option whose value is the next word.
     Wants(Valued),
@@ -68,7 +68,7 @@ enum Setting<'a> {
     Plus(&'a [u8]),
     /// An option of other editors: no new window, wait for the end.
     Ignored,
-    /// It begins as an option, and is none of these.
+    /// It begins with `-`, and is not one of these options.
     Unknown(&'a [u8]),
 }
 

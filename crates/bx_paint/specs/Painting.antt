@@ -33,7 +33,7 @@ pub record Sent : Type 0 where
   pub bytes : List ℕ
   pub negative : Bool
 
--- bytes before those of the rest
+-- bytes before the bytes of the rest
 abbrev pub then_sent : List ℕ → Sent → Sent
 then_sent bytes s = record { bytes = bytes ++ s.bytes; negative = s.negative }
 

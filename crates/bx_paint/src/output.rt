@@ -7,7 +7,7 @@ ghost use Rattle.bx_paint.specs.Painting.{is_none};
 use std::alloc::AllocError;
 use std::marker::Model;
 
-/// A painting behind other bytes.
+/// A painting after other bytes.
 #[derive(Drop)]
 pub struct Output {
     /// The bytes before, and then the painting.

@@ -16,7 +16,7 @@ pub struct FileId {
     pub birth: Option<Duration>,
 }
 
-/// A number in decimal; None if the word is missing or is none.
+/// A number in decimal; None if the word is missing or is not a number.
 pub fn number_of(word: Option<&str>) -> Option<u64> {
     word?.parse().ok()
 }

@@ -12,7 +12,7 @@ use thiserror::Error;
 /// The permissions of a lock's file: for the user alone.
 const FOR_USER_ALONE: u32 = 0o600;
 
-/// Number of tries for a lock, with `PAUSE` behind each: a second in all.
+/// Number of tries for a lock, with `PAUSE` after each: a second in all.
 const TRIES: u32 = 20;
 
 /// Milliseconds.

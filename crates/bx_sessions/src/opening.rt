@@ -114,7 +114,7 @@ pub fn open_plain(rt: &HostRuntime, path: &str) -> io::Result<File> {
 
 /// All bytes of a plain file.
 ///
-/// Errors: `InvalidInput` if it is none; `Io`.
+/// Errors: `InvalidInput` if it is not a plain file; `Io`.
 pub fn read_plain(rt: &HostRuntime, path: &str) -> io::Result<Vec<u8>> {
     let mut bytes = Vec::new(rt.alloc());
     open_plain(rt, path)?.read_to_end(&mut bytes)?;

@@ -57,7 +57,7 @@ fn without_end(path: &str) -> &str {
     path.trim_end_matches('/')
 }
 
-/// Whether a path is that of a folder or below it.
+/// Whether a path is the folder's or below the folder.
 fn is_in(path: &str, folder: &str) -> bool {
     match path.strip_prefix(without_end(folder)) {
         Some(rest) => rest.is_empty() || rest.starts_with('/'),
@@ -153,7 +153,7 @@ fn memory_folder<H: Host>(
 /// Picks the folder of sessions for a file: the state folder, unless the file is more short-lived than that. None if there is
 /// no folder for it. The path of the file's folder is without links.
 ///
-/// Errors: that of the host; out of memory.
+/// Errors: `Host`, as the host answers; `OutOfMemory`.
 pub fn sessions_folder<H: Host>(
     rt: &HostRuntime,
     host: &mut H,

@@ -61,14 +61,14 @@ fn random_letters(rt: &HostRuntime) -> io::Result<String> {
     Ok(letters)
 }
 
-/// Whether a name in the folder is that of a session.
+/// Whether a name in the folder is a session's: it begins with a digit.
 fn is_session(name: &str) -> bool {
     name.as_bytes()
         .first()
         .is_some_and(|byte| byte.is_ascii_digit())
 }
 
-/// Whether a name in the folder is that of a folder into which an older editor replayed keys.
+/// Whether a name in the folder belongs to a folder into which an older editor replayed keys.
 fn is_replay(name: &str) -> bool {
     name.starts_with(REPLAY)
 }

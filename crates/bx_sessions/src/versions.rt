@@ -41,8 +41,8 @@ impl Versions {
         self.words.as_str()
     }
 
-    /// Whether the last of the files that were looked at, which are these, are as they were then. What cannot be looked at
-    /// is not.
+    /// Whether these files, the last ones that were looked at, are as they were then. A file that cannot be looked at counts
+    /// as changed.
     pub fn still_has(&self, rt: &HostRuntime, files: &[&str]) -> bool {
         match lines_of(rt, files) {
             Ok(lines) => self.words().ends_with(lines.as_str()),

@@ -10,7 +10,7 @@ use std::{fs, io};
 /// The folder of time zones that TZ names.
 const ZONES: &str = "/usr/share/zoneinfo";
 
-/// The user's time zone: that of TZ, else of the system, else UTC.
+/// The user's time zone: the one that TZ names, else the system's, else UTC.
 #[derive(Drop)]
 pub struct LocalClock {
     /// That of the system, or the name that TZ gives.

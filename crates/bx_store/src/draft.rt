@@ -97,7 +97,8 @@ impl<F: Read + Write + Seek + OpenFile + AsFd + Drop> Draft<F> {
         Ok(draft)
     }
 
-    /// Creates an empty draft beside `place` that replaces no file, with these permissions and then those of `old`, if any.
+    /// Creates an empty draft beside `place` that replaces no file, with these permissions, and then with the permissions of
+    /// `old`, if it is given.
     pub fn only_beside<R: Files<File = F>>(
         files: &R,
         alloc: Global,

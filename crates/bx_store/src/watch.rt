@@ -28,8 +28,8 @@ pub struct Watch<'a, R: Files> {
     seen: Option<Metadata>,
     /// Whether the next look is a fault, if the file is there.
     is_distrusted: bool,
-    /// The metadata of a file of which a rename loses at most other names: that of the file as first seen, or as last replaced by
-    /// a save. An access list and the like cannot be seen, but to give a file one changes its time of change.
+    /// The metadata of a file of which a rename loses at most other names: the file as first seen, or as last replaced by a
+    /// save. An access list and the like cannot be seen, but to give a file one changes its time of change.
     plain: Option<Metadata>,
 }
 
@@ -58,7 +58,7 @@ fn seen_at<R: Files>(files: &R, target: &Option<String>) -> Result<Option<Metada
     Ok(if_answered(find(files, target.as_str()))?.unwrap_or(None))
 }
 
-/// The file at a path without links, if one is there. A link, which another program put there, is none.
+/// The file at a path without links, if one is there. A link, which another program put there, counts as no file.
 ///
 /// Errors: `NotPlain` if it is a folder, a device, a pipe or a socket.
 fn file_at<R: Files>(files: &R, target: &str) -> Result<Option<Metadata>, StoreFault> {

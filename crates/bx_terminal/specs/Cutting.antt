@@ -50,7 +50,7 @@ pub record Cut : Type 0 where
   pub tokens : List Token
   pub rest : List ℕ
 
--- the token before those of the rest
+-- the token before the tokens of the rest
 abbrev pub with_token : Token → Cut → Cut
 with_token token c = record { tokens = token ∷ c.tokens; rest = c.rest }
 
@@ -77,7 +77,7 @@ abbrev pub run_token : List ℕ → List Token
 run_token [] = []
 run_token (b ∷ bs) = Run (b ∷ bs) ∷ []
 
--- tokens before those of the rest
+-- tokens before the tokens of the rest
 abbrev pub with_tokens : List Token → Cutting → Cutting
 with_tokens tokens c = record { tokens = tokens ++ c.tokens; run = c.run; rest = c.rest }
 

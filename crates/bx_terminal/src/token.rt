@@ -85,7 +85,7 @@ pub fn fate_of(half_read: &[u8], byte: u8) -> Fate
     }
 }
 
-/// The state after ESC, the bytes `rest` behind it, and one more byte.
+/// The state after ESC, the bytes `rest` after it, and one more byte.
 fn fate_after_escape(rest: &[u8], byte: u8) -> Fate
     requires { escape_fate rest.now ≡ Fate.Waits }
     ensures { result ≡ escape_fate (rest.now ++ byte ∷ []) }
@@ -161,7 +161,7 @@ pub fn first_digits(bytes: &[u8]) -> Digits
     Digits { number, len }
 }
 
-/// The number that all these bytes are, at most 1000; 1 if there are none, None if one is no digit.
+/// The number that all these bytes are, at most 1000; 1 if there is no byte, None if a byte is not a digit.
 fn number_of(bytes: &[u8]) -> Option<u16>
     ensures { result ≡ option_map (λ n. min 1000 n) (number bytes.now) }
 {

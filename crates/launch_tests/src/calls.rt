@@ -4,7 +4,7 @@ use bx_launch::{Call, CallFault, Options, PrintCall, direction_word, read_words}
 use std::alloc::{AllocError, Global};
 use std::test::Fail;
 
-/// Each line: the words of a command line, and behind the bar what they ask for (the call, its file, direction, line or
+/// Each line: the words of a command line, and after the bar what they ask for (the call, its file, direction, line or
 /// columns, and each option that is on), or of a refusal the exit status and the cause. 16777217 is the last line of the
 /// longest text.
 const ROWS: &str = "\

@@ -30,7 +30,7 @@ pub enum Outcome {
 #[derive(Drop)]
 pub struct Player {
     alloc: Global,
-    /// The answers of the scene's MODE, with `both` those of `step`.
+    /// The answers of the scene's MODE; of `step` if that is `both`.
     answers: Answers,
     // The answers of `play`, for comparison.
     play: Answers,

@@ -1,4 +1,4 @@
-//! The tables of scenes: those of the program's files, with the lines that a scene adds to them.
+//! The tables of scenes: the program's files, with the lines that a scene adds to them.
 
 use crate::fault::Fault;
 use crate::words::WordFault;

@@ -54,8 +54,8 @@ impl Read for Watcher<'_> {
     }
 }
 
-/// Painting `ab` whole in a row of five columns takes 22 bytes, and an `x` before it 15 more. A Quit with unsaved changes shows nothing
-/// in a window of one row, and the next one ends the run.
+/// Painting `ab` whole in a row of five columns takes 22 bytes, and an `x` before it 15 more. A Quit with unsaved changes
+/// shows nothing in a window of one row, and the next one ends the run.
 #[test]
 fn what_a_turn_queued_is_flushed_before_the_next_read(rt: HostRuntime) -> Result<(), Fail> {
     let alloc = rt.alloc();

@@ -163,7 +163,7 @@ fn account_of_picture<D: BidiData>(
 #[test]
 fn a_picture_of_a_row(rt: HostRuntime) -> Result<(), Fail> {
     let tables = sample_tables(rt.alloc())?;
-    // an offset behind the text is of its last row
+    // an offset past the text is in its last row
     let line = account_of_picture(rt.alloc(), &tables, 99)?;
     assert_eq!(rt; line.as_str(), "9 1 5 true:     b) \u{5d0}|b) \u{5d0}");
     Ok(())
