@@ -32,8 +32,8 @@ pub struct JournalFile<'a> {
     /// Files, clock and standard error of the system.
     rt: HostRuntime,
     /// None if no journal is kept.
-    /// What is written to standard error.
     path: Option<&'a str>,
+    /// What is written to standard error.
     notes: JournalNotes<'a>,
     /// None until it is opened.
     file: Option<File>,

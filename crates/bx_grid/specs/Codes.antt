@@ -20,6 +20,7 @@ packed (b ∷ bs) = packed bs * 256 + b
 abbrev pub no_code : ℕ
 no_code = 0x8000_0000_0000_0000
 
+-- a code of one column alone, not the common one
 abbrev pub is_code : ℕ → Bool
 is_code code = nat_lt code no_code
 

@@ -60,6 +60,7 @@ put width columns row column new =
     take (row * width) columns
     ++ (put_in_row (take width (drop (row * width) columns)) column new ++ drop width (drop (row * width) columns))
 
+-- the column is a blank
 abbrev pub is_blank : Col → Bool
 is_blank Unknown = false
 is_blank (Glyph text columns offset negative) = is_only 0x20 text && (columns == 1) && (offset == 0) && not negative

@@ -1,5 +1,5 @@
--- The effects of reading on a terminal's columns: each glyph that it puts, and each erasure. `bx_world` compares paintings
--- by them.
+-- The effects of reading on a terminal's columns: each glyph that it puts, and each erasure. `bx_paint` says by them what a
+-- painting sends.
 use Rattle.std.specs.Prelude.{ℕ, drop, ◌+◌, ◌*◌, Bool, true, false, ◌&&◌, nat_le, ◌==◌, List, [], ◌∷◌, ◌++◌, length, Option, Some, None, if◌then◌else◌}
 use Rattle.bx_grid.specs.Columns.{Col, Unknown, Glyph, run_columns}
 use Rattle.bx_grid.specs.Tokens.{fate, command}
@@ -16,7 +16,6 @@ pub data Effect : Type 0 where
   Puts : (index : ℕ) (text : List ℕ) (negative : Bool) → Effect
   -- from an index to the row's end
   Erases : (index : ℕ) → Effect
-  -- all columns
   -- all columns become blanks
   Clears : Effect
   -- all columns become unknown
@@ -52,11 +51,13 @@ erase_effects t (Some p) (Some true) = Forgets ∷ []
 erase_effects t (Some p) None = Forgets ∷ []
 erase_effects t None negative = Forgets ∷ []
 
+-- an erasure of the screen, in this rendition
 abbrev pub clear_effects : Option Bool → List Effect
 clear_effects (Some false) = Clears ∷ []
 clear_effects (Some true) = Forgets ∷ []
 clear_effects None = Forgets ∷ []
 
+-- a move to a line and a column, counted from 1: only one out of the window has an effect
 abbrev pub move_effects : Terminal → ℕ → ℕ → List Effect
 move_effects t line column =
     if nat_le 1 line && nat_le line t.height && nat_le 1 column && nat_le column t.width then [] else Forgets ∷ []

@@ -9,6 +9,7 @@ use Rattle.bx_grid.specs.declared.command.Command.{Command}
 use Rattle.bx_grid.specs.declared.command.Command.TheVariants.{Move, Clear, Erase, Render, Other}
 use Rattle.bx_grid.specs.Tokens.{fate, command}
 
+-- the state of a terminal, as far as it is known
 pub record Terminal : Type 0 where
   -- the number of rows
   pub height : ℕ
@@ -105,6 +106,7 @@ abbrev pub token_read : Terminal → List ℕ → Terminal
 token_read t [] = t
 token_read t (b ∷ rest) = if b == 0x1B then after_command (record t { half_read = [] }) (command (drop 1 rest)) else character_read t (b ∷ rest)
 
+-- a byte other than ESC where no token is half read, by the fate of the byte alone
 abbrev pub after_first_byte_as : Terminal → ℕ → Fate → Terminal
 after_first_byte_as t b Waits = record t { half_read = b ∷ [] }
 after_first_byte_as t b Ends = token_read t (b ∷ [])
@@ -125,6 +127,7 @@ abbrev pub read_after : Terminal → ℕ → List ℕ → Terminal
 read_after t b [] = after_first_byte t b
 read_after t b (h ∷ half_read) = after_next_byte t b (fate (h ∷ half_read ++ b ∷ []))
 
+-- the terminal after one more byte
 abbrev pub byte_read : Terminal → ℕ → Terminal
 byte_read t b = read_after t b t.half_read
 

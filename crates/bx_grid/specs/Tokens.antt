@@ -68,11 +68,13 @@ move_to (Some line) (Some column) = Move line column
 move_to (Some line) None = Other
 move_to None column = Other
 
+-- the bytes are this one byte
 abbrev pub is_only : ℕ → List ℕ → Bool
 is_only b [] = false
 is_only b (c ∷ []) = b == c
 is_only b (c ∷ d ∷ rest) = false
 
+-- there is no byte, or the digit 0 alone
 abbrev pub is_absent_or_zero : List ℕ → Bool
 is_absent_or_zero [] = true
 is_absent_or_zero (b ∷ bs) = is_only 0x30 (b ∷ bs)

@@ -77,7 +77,9 @@ pub fn note_codes(codes: &mut [u64], columns: &[Column], from: usize, to: usize)
 /// The bits in which two lists of codes differ, and those set in any code of the first list.
 #[derive(Clone, Copy)]
 struct Bits {
+    /// Bits that differ between two codes at the same index.
     differing: u64,
+    /// Bits that some code of the first list has.
     any: u64,
 }
 

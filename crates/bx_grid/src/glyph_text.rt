@@ -78,7 +78,9 @@ impl ShortText {
 /// A short text is stored inline, any other on the heap.
 #[derive(Drop)]
 enum Stored {
+    /// At most seven bytes.
     Short(ShortText),
+    /// More than seven bytes.
     Long(String),
 }
 

@@ -1,4 +1,4 @@
-//! A grid of columns, all of them known.
+//! A grid of columns, all of them known: what the editor draws on.
 
 ghost use Rattle.std.specs.Prelude.{◌≡◌, ℕ, ◌*◌, ◌+◌, ◌-◌, ◌<◌, ◌≤◌, ◌↔◌, List, ◌++◌, length, replicate, take, drop, IfOk, OnOk, OnErr, IfErr, IsErrOf, IsOk};
 ghost use Rattle.std.specs.Prelude.{IsTrue, true, false};

@@ -1,4 +1,5 @@
-//! Whole rows of a grid: puts one from another grid, and blanks some.
+//! Whole rows of a grid: puts one from another grid, and blanks some, where a new picture is made on the page of an older
+//! one.
 
 ghost use Rattle.std.specs.Prelude.{List, ◌≡◌, ◌+◌, ◌-◌, ◌*◌, ◌≤◌, ◌<◌, ◌++◌, length, take, drop, replicate, OnOk, OnErr};
 ghost use Rattle.bx_grid.specs.Columns.{Col, blank, paste, AreSameAround};

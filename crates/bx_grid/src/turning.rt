@@ -1,4 +1,4 @@
-//! Turns columns of a grid to the other rendition.
+//! Turns columns of a grid to the other rendition, for the region or a shown match.
 
 ghost use Rattle.std.specs.Prelude.{◌≡◌, ◌+◌, ◌-◌, ◌*◌, ◌≤◌, ◌<◌, length, map, take, drop};
 ghost use Rattle.bx_grid.specs.Columns.{paste};

@@ -13,6 +13,7 @@ pub data State : Type 0 where
   Outside : (waiting : List ℕ) (is_open : Bool) → State
   Within : (waiting : List ℕ) (after_return : Bool) → State
 
+-- outside a paste, with nothing waiting
 abbrev pub start : State
 start = Outside [] false
 
@@ -21,6 +22,7 @@ pub record Filtering : Type 0 where
   pub erases_by_delete : Bool
   pub state : State
 
+-- a filter in this state
 abbrev pub filtering : Bool → State → Filtering
 filtering erases_by_delete state = record { erases_by_delete = erases_by_delete; state = state }
 
@@ -29,6 +31,7 @@ pub record Step : Type 0 where
   pub state : State
   pub output : List ℕ
 
+-- a step to this state, with this output
 abbrev pub step_to : State → List ℕ → Step
 step_to state output = record { state = state; output = output }
 

@@ -258,6 +258,6 @@ sequences = exact paste_start ∷ map (λ (r : Row). exact r.sequence) (rows fal
 abbrev pub fate : List ℕ → Fate
 fate bs = fate_in sequences bs
 
--- the row of a whole sequence; None of a paste's start
+-- the row with this sequence; None if no row has it, as for a paste's start
 abbrev pub row_of : Bool → List ℕ → Option Row
 row_of erases_by_delete bs = find (λ (r : Row). bytes_eq r.sequence bs) (rows erases_by_delete)

@@ -6,6 +6,7 @@ ghost use Rattle.bx_input.specs.Models.{begun};
 /// The bytes that wait outside a paste.
 #[derive(Clone, Copy, PartialEq, Eq, Debug)]
 pub enum Beginning {
+    /// No byte waits.
     Nothing,
     /// ESC
     Escape,

@@ -1,4 +1,4 @@
-//! The filter, byte by byte.
+//! The filter, byte by byte; `running.rt` runs it.
 
 ghost use Rattle.std.specs.Prelude.{◌≡◌};
 ghost use Rattle.bx_input.specs.Filter as spec;
@@ -16,6 +16,7 @@ use std::marker::Model;
 pub struct Filter {
     /// Whether the terminal's own erase character is DELETE, 7F.
     erases_by_delete: bool,
+    /// What waits, outside a paste or within one.
     state: FilterState,
 }
 

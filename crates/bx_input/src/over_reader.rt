@@ -1,4 +1,4 @@
-//! Runs the filter from a reader to a writer.
+//! Runs the filter from a reader to a writer, for the program `bidi_input`.
 
 ghost use Rattle.std.specs.Prelude.{◌≡◌, ◌⊎◌, List, ℕ, IsErrOf, OnOk, OnErr};
 ghost use Rattle.bx_input.specs.Filter as spec;

@@ -1,4 +1,4 @@
-//! Runs the filter over a pipe.
+//! Runs the filter over a pipe, whose contract tells the order of reads and writes.
 
 ghost use Rattle.std.specs.Prelude.{◌≡◌, ◌++◌, List, OnOk, OnErr};
 ghost use Rattle.bx_input.specs.Filter as spec;

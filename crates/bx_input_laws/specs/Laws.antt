@@ -38,6 +38,7 @@ PastesKeepCharacters = (text : List ℕ) → IsUtf8 text → IsUtf8 (pasted text
 abbrev pub is_text_byte : ℕ → Bool
 is_text_byte b = (b == 0x09 || b == 0x0A) || not (is_control_byte b)
 
+-- no byte is a control byte except TAB and LF
 abbrev pub IsText : List ℕ → Type 0
 IsText bs = list_all is_text_byte bs ≡ true
 
@@ -58,6 +59,7 @@ abbrev pub has_short : Option Row → Bool
 has_short None = false
 has_short (Some r) = is_short r
 
+-- the key inserts a character
 abbrev pub is_insert : Key → Bool
 is_insert (Insert c) = true
 is_insert _ = false

@@ -1,4 +1,4 @@
-//! Why nothing can be kept or stored.
+//! Why nothing can be kept or stored, as messages and the last row say it.
 
 ghost use Rattle.std.specs.Prelude.{◌≡◌};
 ghost use Rattle.bx_keep.specs.Causes.{notice_of};

@@ -10,7 +10,9 @@ use std::alloc::{AllocError, Global};
 pub enum Ended {
     /// The line, from 1, with the first invalid byte.
     NotUtf8(u64),
+    /// FILE is longer than an editor's text may be.
     TooLong,
+    /// FILE cannot be read.
     Unreadable,
     /// Memory ran out.
     Memory,

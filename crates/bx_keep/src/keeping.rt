@@ -1,4 +1,4 @@
-//! The text of a session as it was opened, which is copied beside the first painting.
+//! The text of a session as it was opened: copied into the session once the program has read FILE.
 
 use crate::around::Around;
 use crate::beginning::Begun;
@@ -38,7 +38,9 @@ pub enum Text {
 /// FILE as the program read it.
 #[derive(Clone, Copy)]
 struct AsRead<'a> {
+    /// The system's files.
     rt: &'a HostRuntime,
+    /// FILE's path.
     path: &'a str,
     /// FILE, opened before the program started: a save that replaces FILE leaves its bytes in it.
     handle: Option<&'a File>,

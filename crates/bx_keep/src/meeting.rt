@@ -1,4 +1,4 @@
-//! FILE's other sessions, before FILE is opened.
+//! The questions about FILE's other sessions, before FILE is opened.
 
 use crate::around::Around;
 use crate::asking::{Choice, ask_choice, ask_to_go_on};
@@ -23,6 +23,7 @@ pub struct Met {
 
 /// What came of one try.
 enum Try {
+    /// It is settled which session goes on, if any.
     Met(Met),
     /// Another start of the editor has the session by now.
     Again,

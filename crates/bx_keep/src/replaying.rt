@@ -1,4 +1,4 @@
-//! Replays of a session's keys.
+//! Replays of a session's keys, which the keeper has done for it through a trait.
 
 use crate::around::Around;
 use bx_sessions::Session;

@@ -21,8 +21,11 @@ const ROOM_FOR_KEYS: u64 = 8192;
 /// A session while the program runs.
 #[derive(Drop)]
 pub struct Running<'a> {
+    /// What all steps know.
     pub around: Around<'a>,
+    /// FILE, and the folder of its sessions.
     pub edited: &'a Edited,
+    /// The session, as the program started.
     pub begun: Begun,
     /// The text as it was opened.
     pub text: Text,

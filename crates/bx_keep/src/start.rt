@@ -63,6 +63,7 @@ fn window_of(message: &Message) -> Option<Window> {
 }
 
 impl Start {
+    /// A start of which the host has said nothing.
     fn new(alloc: Global) -> Self {
         Start {
             words: Vec::new(alloc),

@@ -1,4 +1,4 @@
-//! What keeps a running session from being kept.
+//! Why a running session is not kept at the moment.
 
 use crate::causes::notice_of;
 use crate::keeping::Text;

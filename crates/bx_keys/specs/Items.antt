@@ -31,9 +31,11 @@ short_escapes =
     ∷ (escape ∷ One 0x5C 0x7E ∷ [])
     ∷ []
 
+-- all items
 abbrev pub items : List (List Piece)
 items = single_bytes ++ long_characters ++ (control_sequence ∷ single_shift ∷ long_escape ∷ short_escapes)
 
+-- the bytes are one whole item
 abbrev pub is_item : List ℕ → Bool
 is_item bs = matches_any items bs
 

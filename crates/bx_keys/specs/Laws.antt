@@ -29,6 +29,7 @@ IsPartBy Ends part after = Unit {0}
 IsPartBy Waits part after = (1 ≤ length part) × (fate (part ++ take 1 after) ≡ Breaks)
 IsPartBy Breaks part after = length part ≡ 1
 
+-- a part of input, by the bytes that follow it
 abbrev pub IsPart : List ℕ → List ℕ → Type 0
 IsPart part after = IsPartBy (fate part) part after
 

@@ -45,6 +45,7 @@ pub struct Options {
 pub struct EditCall {
     /// Its path.
     pub file: String,
+    /// How it is edited.
     pub options: Options,
 }
 
@@ -55,6 +56,7 @@ pub struct RecoverCall {
     pub file: String,
     /// Where the recovered text is stored; None to go on with the session.
     pub to: Option<String>,
+    /// How it is edited, where the session goes on.
     pub options: Options,
 }
 

@@ -74,10 +74,13 @@ fn word_of(word: &[u8]) -> Word<'_> {
 struct Before<'a> {
     /// The word that names FILE; None as long as none does.
     file: Option<&'a [u8]>,
+    /// The direction of all paragraphs.
     direction: Base,
     /// None where no option tells.
     columns: Option<u16>,
+    /// Whether marks are printed.
     has_marks: bool,
+    /// Whether letters are not joined.
     is_unjoined: bool,
 }
 

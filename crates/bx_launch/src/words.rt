@@ -110,6 +110,7 @@ fn word_of(word: &[u8]) -> Word<'_> {
 /// What the options before FILE say.
 #[derive(Drop)]
 struct Before<'a> {
+    /// How FILE is edited.
     options: Options,
     /// `--recover` was given.
     is_recovery: bool,
@@ -120,6 +121,7 @@ struct Before<'a> {
 }
 
 impl<'a> Before<'a> {
+    /// No option.
     fn new() -> Self {
         Before {
             options: Options {

@@ -66,6 +66,7 @@ pub record Step : Type 0 where
   pub near : Bool
   pub negative : Bool
 
+-- a column for which nothing is sent, in this rendition
 abbrev pub nothing_sent : Bool → Step
 nothing_sent negative = record { bytes = []; near = false; negative = negative }
 
@@ -127,6 +128,7 @@ ended p s = s.bytes ++ (render_change s.negative false ++ move_bytes p.row p.col
 abbrev pub is_at_cursor_of : PictureState → PictureState → Bool
 is_at_cursor_of p q = (p.row == q.row) && (p.column == q.column)
 
+-- there are no bytes
 abbrev pub is_none : List ℕ → Bool
 is_none [] = true
 is_none (b ∷ bs) = false

@@ -1,5 +1,6 @@
 //! Writes the bytes of a painting: what of two grids differs. Rows and columns count from 0, and are below 65535, so that
-//! the numbers of a move, counted from 1, fit in 16 bits. `negative` is the rendition before; a returned bool that after.
+//! the numbers of a move, counted from 1, fit in 16 bits. `negative` is the rendition before; a returned bool is the
+//! rendition after.
 
 ghost use Rattle.std.specs.Prelude.{◌≡◌, ℕ, ◌+◌, ◌*◌, ◌<◌, ◌≤◌, ◌^◌, [], ◌∷◌, ◌++◌, length, true};
 ghost use Rattle.std.specs.Prelude.{false, IfOk, OnOk, OnErr, string_bytes, take, drop, replicate};

@@ -3,9 +3,10 @@
 use std::alloc::{AllocError, Global};
 use std::fs;
 
-/// The files by which the kernel tells the machine's name, and a name of its own for each boot.
+/// The file by which the kernel tells the machine's name.
 const HOST_NAME: &str = "/proc/sys/kernel/hostname";
 
+/// The file by which the kernel tells a name of this boot.
 const BOOT: &str = "/proc/sys/kernel/random/boot_id";
 
 /// What is written for a boot that is not known.

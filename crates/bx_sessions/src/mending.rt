@@ -27,6 +27,7 @@ pub enum Mended {
 /// What became of a file by one session's mark.
 #[derive(Drop, PartialEq, Eq, Debug)]
 pub struct Outcome {
+    /// What became of the file.
     pub mended: Mended,
     /// The path of the mark. It is there as long as the file is torn.
     pub mark: String,

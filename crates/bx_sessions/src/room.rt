@@ -1,4 +1,4 @@
-//! Room on the disk.
+//! Room on the disk, as the host tells it.
 
 use bx_wire::{Host, HostFault};
 

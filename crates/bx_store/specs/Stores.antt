@@ -49,6 +49,7 @@ fails_next s = is_call s.fail_call (one_more s.calls)
 abbrev pub after_failure : StoreFault → MemoryState → MemoryState
 after_failure fault s = record s { has_draft = false; calls = one_more s.calls; faults = with_fault fault s.faults }
 
+-- after a call of begin, of put and of commit that succeeded
 abbrev pub after_begin : MemoryState → MemoryState
 after_begin s = record s { draft = []; has_draft = true; calls = one_more s.calls }
 

@@ -1,4 +1,4 @@
-//! The trait of stores.
+//! The trait of stores: what the editor asks of a place to save a text.
 ghost use Rattle.std.specs.Prelude.{◌≡◌};
 
 use crate::cause::SaveCause;

@@ -1,4 +1,4 @@
-//! The file of a store, as last seen.
+//! The file of a store, as last seen, by which changes of other programs are noticed.
 ghost use Rattle.std.specs.Prelude.{◌≡◌, Some, Err, OnErr};
 ghost use Rattle.bx_store.specs.Causes.{fault};
 ghost use Rattle.bx_store.specs.declared.cause.SaveCause.TheVariants.{OutOfMemory};

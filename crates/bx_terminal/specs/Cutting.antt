@@ -14,6 +14,7 @@ control_sequence = One 0x1B 0x1B ∷ One 0x5B 0x5B ∷ Many 0x30 0x3F ∷ Many 0
 abbrev pub items : List (List Piece)
 items = (One 0x00 0x1A ∷ []) ∷ (One 0x1C 0x7F ∷ []) ∷ control_sequence ∷ long_characters
 
+-- the bytes are one whole item
 abbrev pub is_item : List ℕ → Bool
 is_item bs = matches_any items bs
 
@@ -32,6 +33,7 @@ beginning bs = beginning_up_to (length bs) bs
 
 -- ---- tokens
 
+-- what a terminal reads as one piece
 pub data Token : Type 0 where
   -- printable characters
   Run : (text : List ℕ) → Token

@@ -1,9 +1,10 @@
--- Texts without controls.
+-- Texts without controls, which the code shows at once (`src/text.rt`).
 use Rattle.std.specs.Prelude.{◌≡◌, ◌≤◌, ◌<◌, ◌==◌, List, ℕ, Bool, true, length, take, get_or, if◌then◌else◌}
 use Rattle.std.specs.Str.{IsUtf8}
 use Rattle.bx_bytes.specs.Utf8.{are_printable}
 use Rattle.bx_bytes.specs.Pattern.{is_within}
 
+-- the bytes are a text without controls
 pub record IsPrintable (bytes : List ℕ) : Type 0 where
   pub utf8 : IsUtf8 bytes
   pub printed : are_printable bytes ≡ true

@@ -1,4 +1,5 @@
--- Columns in which no glyph is cut, some of them unknown. Each row of a terminal is such a list.
+-- Columns in which no glyph is cut, some of them unknown. Each row of a terminal is such a list, so the rest of an
+-- overwritten glyph is found beside it (`src/columns.rt`).
 use Rattle.std.specs.Prelude.{◌≡◌, ◌+◌, ◌⊎◌, ℕ, zero, suc, List, [], ◌∷◌, take, drop}
 use Rattle.bx_grid.specs.Columns.{Col, columns_after, columns_before}
 
@@ -13,6 +14,7 @@ abbrev pub MeetFirst : Col → List Col → Type 0
 MeetFirst x [] = Unit {0}
 MeetFirst x (y ∷ ys) = Meet x y
 
+-- no glyph is cut between two of these columns; one may continue beyond the first or the last
 abbrev pub AreUncut : List Col → Type 0
 AreUncut [] = Unit {0}
 AreUncut (x ∷ xs) = MeetFirst x xs × AreUncut xs

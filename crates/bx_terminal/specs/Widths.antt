@@ -1,4 +1,4 @@
--- Texts that are as wide as their first character.
+-- Texts that are as wide as their first character, so that one look-up gives their width (`src/width.rt`).
 use Rattle.std.specs.Prelude.{◌≡◌, ℕ, ◌<◌, Bool, true, false, ◌&&◌, ◌||◌, ◌==◌, nat_lt, List, ◌∷◌, drop, Option, Some, None}
 use Rattle.std.specs.List.{list_all}
 use Rattle.std.specs.Str.{chars}
@@ -11,7 +11,7 @@ takes_none (Some columns) = columns == 0
 takes_none None = false
 
 -- it takes no column, and is below the variation selectors (U+FE00), which change the width of the character before them; up
--- to U+00A0 are ASCII and controls
+-- to U+00A0 are ASCII, controls and the no-break space
 abbrev pub is_still : ℕ → Bool
 is_still c = (nat_lt 0xA0 c && nat_lt c 0xFE00) && takes_none (char_width false c)
 

@@ -144,6 +144,7 @@ impl Live {
     }
 
     #[inline(always)]
+    /// Obeys a command.
     fn obey(&mut self, command: Command)
         ensures { self.new ≡ after_command self.old command }
     {
@@ -309,6 +310,7 @@ impl Live {
         Ok(())
     }
 
+    /// Reads a byte.
     fn read_byte(&mut self, byte: u8) -> Result<(), AllocError>
         ensures { OnOk result (self.new ≡ byte_read self.old byte) }
     {
@@ -319,6 +321,7 @@ impl Live {
         }
     }
 
+    /// Takes another size, which makes the content unknown. Half-read bytes stay.
     pub fn resize(&mut self, height: u16, width: u16) -> Result<(), AllocError>
         requires tall { (1 ≤ height) × (height ≤ largest_side) }
         requires wide { (1 ≤ width) × (width ≤ largest_side) }

@@ -12,6 +12,7 @@ ghost use Rattle.bx_terminal.specs.Capped.{capped};
 use bx_bytes::{Fate, character_fate};
 use bx_grid::Command;
 
+/// The byte ESC.
 pub const ESCAPE: u8 = 0x1B;
 
 /// Whether the byte is a parameter byte of a control sequence (ECMA-48, 5.4).
@@ -138,7 +139,9 @@ fn semicolon(params: &[u8]) -> usize
 /// count.
 #[derive(Clone, Copy)]
 pub struct Digits {
+    /// At most 1000.
     pub number: u16,
+    /// How many digits they are.
     pub len: usize,
 }
 

@@ -26,7 +26,7 @@ pub enum Heard {
     Columns,
     /// The rows and columns of the window to edit in, in decimal.
     Window,
-    /// The end of several messages that belong together; also the answer of a second that has nothing to say.
+    /// The end of several messages that belong together: those at the start, or the facts about a path.
     End,
     /// An answer: the user's line, or the letters of the facts about a path.
     Answer,

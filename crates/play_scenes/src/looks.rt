@@ -9,7 +9,6 @@ use std::alloc::{AllocError, Global};
 
 /// A session that is looked at, its store, and the file that was opened.
 #[derive(Drop)]
-/// What the looks are at.
 pub struct Seen<'a, D: BidiData + Drop> {
     pub alloc: Global,
     pub session: &'a Session<D>,

@@ -7,7 +7,6 @@ use std::alloc::{AllocError, AllocFailed, Global};
 #[derive(Clone, Copy, Debug)]
 pub enum WordFault {
     /// The text says what was expected.
-    /// A copy could not be allocated.
     Bad(&'static str),
     OutOfMemory,
 }

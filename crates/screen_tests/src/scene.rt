@@ -16,6 +16,7 @@ pub(crate) struct Scene {
     before: Picture,
     /// The last picture.
     picture: Picture,
+    /// What reads the paintings.
     screen: Screen,
 }
 
