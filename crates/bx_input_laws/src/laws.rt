@@ -1,4 +1,5 @@
-//! Laws of the filter, for any input and either erase character of the terminal. Each function's contract is a law; its body is empty.
+//! Laws of the filter, for any input and either erase character of the terminal. Each function's contract is a law; its body
+//! is empty.
 
 ghost use Rattle.std.specs.Prelude.{Bool};
 ghost use Rattle.std.specs.List.{AllByRecursion};

@@ -29,7 +29,8 @@ enum Try {
     Again,
 }
 
-/// Tells that another window of the user's may have FILE open, and asks whether to go on. All sessions that are found are his own.
+/// Tells that another window of the user's may have FILE open, and asks whether to go on. Only the user's own sessions are
+/// found.
 pub fn ask_beside<H: Host>(
     around: Around<'_>,
     host: &mut H,

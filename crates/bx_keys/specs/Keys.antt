@@ -28,7 +28,8 @@ abbrev pub single_key : ℕ → Option Key
 single_key b = if is_ascii_printable b then Some (Insert b) else option_map (λ k. k.1) (find (λ k. k.0 == b) control_keys)
 
 -- the bytes after CSI, with their keys. Those up to 6~ are as terminals send them; 9~ and 70~ to 99~ are the numbers that
--- the filter (`bx_input`) writes in place of what terminals send; those with > are the notices of the host.
+-- the filter (`bx_input`), and for 93~ the host, write in place of what terminals send; those with > are the notices of the
+-- host.
 abbrev pub sequence_keys : List (List ℕ × Key)
 sequence_keys =
     (codes "A", Up) ∷ (codes "B", Down) ∷ (codes "C", Right) ∷ (codes "D", Left) ∷ (codes "H", RowHome) ∷ (codes "F", RowEnd)

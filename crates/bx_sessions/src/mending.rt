@@ -50,7 +50,7 @@ impl Session {
     }
 }
 
-/// Whether another session that may be running saves into the file.
+/// Whether another session than `but` that may be running saves into the file.
 fn is_being_saved(
     rt: &HostRuntime,
     sessions: &Sessions,

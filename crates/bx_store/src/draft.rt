@@ -122,8 +122,8 @@ impl<F: Read + Write + Seek + OpenFile + AsFd + Drop> Draft<F> {
         }
     }
 
-    /// Creates an empty draft of a file that belongs to the program, readable by its owner alone. First removes a draft left by
-    /// an interrupted save.
+    /// Creates an empty draft of a file of the program's own, as a session's mark, readable by its owner alone. First
+    /// removes a draft left by an interrupted save.
     pub fn of_own<R: Files<File = F>>(files: &R, alloc: Global, target: &str) -> io::Result<Self> {
         let target = String::from_str(alloc, target)?;
         let path = format!(in alloc; "{target}.bx")?;

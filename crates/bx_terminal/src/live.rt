@@ -143,8 +143,8 @@ impl Live {
         }
     }
 
-    #[inline(always)]
     /// Obeys a command.
+    #[inline(always)]
     fn obey(&mut self, command: Command)
         ensures { self.new ≡ after_command self.old command }
     {
