@@ -7,9 +7,7 @@ use std::io::{Read, Write};
 /// A pipe of a reader and a writer.
 #[derive(Drop)]
 pub(crate) struct Wired<'r, 'w, R: Read, W: Write> {
-    /// The input.
     pub(crate) reader: &'r mut R,
-    /// The output.
     pub(crate) writer: &'w mut W,
 }
 

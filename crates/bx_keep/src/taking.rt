@@ -74,7 +74,7 @@ impl<P: Replayer> Taking<'_, P> {
         Ok(Stop::fault(alloc, line.as_str()))
     }
 
-    /// The stop of a failed write in the session's folder.
+    /// Turns a failed write in the session's folder into the stop that reports it.
     fn written(&self, answer: io::Result<()>) -> Result<(), Stop> {
         match answer {
             Ok(()) => Ok(()),

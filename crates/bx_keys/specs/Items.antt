@@ -31,7 +31,6 @@ short_escapes =
     ∷ (escape ∷ One 0x5C 0x7E ∷ [])
     ∷ []
 
--- all items
 abbrev pub items : List (List Piece)
 items = single_bytes ++ long_characters ++ (control_sequence ∷ single_shift ∷ long_escape ∷ short_escapes)
 

@@ -45,7 +45,6 @@ pub struct Options {
 pub struct EditCall {
     /// Its path.
     pub file: String,
-    /// How it is edited.
     pub options: Options,
 }
 

@@ -125,8 +125,8 @@ fn mend_by(rt: &HostRuntime, session: &Session, target: &Target<'_>) -> io::Resu
     Ok(put_back(rt, target.path, text.as_slice()).unwrap_or(Mended::StillTorn))
 }
 
-/// Repairs a file after a save of a locked session was cut off. The mark is kept as the text of the last one that was left,
-/// unless the file is still torn.
+/// Repairs a file after a save of a locked session was cut off. Unless the file is still torn, the mark then becomes the
+/// session's `Part::Save`.
 ///
 /// Errors: `Io` if the session cannot be read or written; the mark stays.
 pub fn mend(

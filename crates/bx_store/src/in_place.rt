@@ -90,7 +90,7 @@ impl<F: Read + Write + Seek + OpenFile + AsFd + Drop> InPlace<F> {
         file.sync_all()
     }
 
-    /// Removes the draft, or the mark unless it is `torn`: that one a torn file needs, which may lack its bytes.
+    /// Removes the draft or the mark, but not the mark at the path `torn`, whose bytes a torn file may lack.
     pub fn remove<R: Files<File = F>>(self, files: &R, torn: Option<&str>) {
         let InPlace {
             draft,

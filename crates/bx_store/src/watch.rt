@@ -116,7 +116,8 @@ impl<'a, R: Files> Watch<'a, R> {
         self.seen = written.ok();
     }
 
-    /// Notes the file that replaced it, by two looks. A change between them shows as one of something that a rename loses.
+    /// Notes the file that replaced the old one, by two looks. Where it changed between them, it counts as a file of which a
+    /// rename loses something.
     pub fn note_replaced(&mut self, first: io::Result<Metadata>, second: io::Result<Metadata>) {
         self.plain = first.ok();
         self.seen = second.ok();

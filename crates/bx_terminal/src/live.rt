@@ -143,7 +143,6 @@ impl Live {
         }
     }
 
-    /// Obeys a command.
     #[inline(always)]
     fn obey(&mut self, command: Command)
         ensures { self.new ≡ after_command self.old command }
@@ -310,7 +309,6 @@ impl Live {
         Ok(())
     }
 
-    /// Reads a byte.
     fn read_byte(&mut self, byte: u8) -> Result<(), AllocError>
         ensures { OnOk result (self.new ≡ byte_read self.old byte) }
     {

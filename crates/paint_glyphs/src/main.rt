@@ -17,7 +17,6 @@ use std::alloc::Global;
 use std::rt::Env;
 use std::{env, str};
 
-/// Parses a number.
 fn number(word: &String) -> Result<u16> {
     word.as_str().parse::<u16>().context("a number is wanted")
 }

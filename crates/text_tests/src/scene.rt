@@ -232,12 +232,10 @@ impl Scene {
         Ok(number == self.index.count())
     }
 
-    /// The text, to be read.
     pub(crate) fn text(&self) -> &Text {
         &self.text
     }
 
-    /// The index, to be read.
     pub(crate) fn index(&self) -> &Index {
         &self.index
     }
