@@ -15,7 +15,7 @@ use std::alloc::Global;
 use std::fs::File;
 use std::io::{Read, Write};
 
-/// The room at which the program tries its journal again, in bytes: more than a second's keys.
+/// The room at which the program tries its journal again, in bytes: more than a second of typing takes.
 const ROOM_FOR_KEYS: u64 = 8192;
 
 /// A session while the program runs.

@@ -1,4 +1,4 @@
-//! Two pictures, and a screen.
+//! Two pictures, and a screen, and what the lines of `steps.rt` do to them and ask of them.
 
 use crate::pictures::picture_of;
 use bx_grid::{GridError, Picture};

@@ -1,4 +1,4 @@
-//! A text with its paragraphs.
+//! A text with its paragraphs, and what the lines of `steps.rt` do to it and ask of it.
 
 ghost use Rattle.std.specs.Prelude.{◌≡◌, ℕ, List, Some, IsUtf8};
 ghost use Rattle.bx_index.specs.Paragraphs.{lengths};

@@ -1,4 +1,4 @@
-//! A text in a window, and the moves of its cursor.
+//! A text in a window, and the moves of its cursor, for the other modules.
 ghost use Rattle.std.specs.Prelude.{◌≡◌, IfOk};
 
 use bx_document::Document;
